@@ -13,7 +13,7 @@ use Rattle.lrc_trace.specs.declared.act.Deed.{Deed}
 use Rattle.lrc_trace.specs.declared.act.Deed.TheVariants.{Quiet, Print, Read, Write, Acquire, Release, Arrive, Depart, Trap, End}
 use Rattle.lrc_text.specs.ActText.{act_line, act_text, cause_number, deed_text}
 use Rattle.lrc_text.specs.Lines.{lines_of}
-use Rattle.lrc_acts.specs.ActsText.{IsNumber, SayActs, SaysAct, SaysDeed, empty, more, none, is_blank, words_in, words_of}
+use Rattle.lrc_acts.specs.ActsText.{IsNumber, SayActs, SaysAct, SaysDeed, empty, more, none, is_blank, words_between, words_on}
 use Rattle.lrc_acts.proofs.WordLemmas.{is_some_word, some_word, take_one}
 use Rattle.lrc_acts.specs.Printed.{IsPrinted, nothing, line_more, IsRanged, IsRangedDeed, IsValue, numbers_from}
 
@@ -46,7 +46,7 @@ kept : (p : ℕ → Bool) (w : List ℕ) (y : ℕ) (ys : List ℕ) → IsFree p 
 kept p [] y ys f e = rw e refl
 kept p (x ∷ w) y ys f e = rw f.0 (take_one _ x (w ++ y ∷ ys) ∙ ap (λ (r : List ℕ). x ∷ r) (kept p w y ys f.1 e))
 
-word_first : (w rest : List ℕ) → IsFree is_blank w → is_some_word w ≡ true → words_in (w ++ 32 ∷ rest) ≡ w ∷ words_in rest
+word_first : (w rest : List ℕ) → IsFree is_blank w → is_some_word w ≡ true → words_between (w ++ 32 ∷ rest) ≡ w ∷ words_between rest
 word_first w rest f k = ap (filter is_some_word) (first_part is_blank w 32 rest f refl) ∙ rw k refl
 
 -- ---- numbers
@@ -93,26 +93,26 @@ space = refl
 
 -- a name with a space behind it, and a number
 one_number : (name spaced : List ℕ) → spaced ≡ name ++ 32 ∷ [] → IsFree is_blank name → is_some_word name ≡ true → (v : ℕ) → IsValue v
-    → words_in ((spaced ++ decimal v) ++ 32 ∷ []) ≡ name ∷ decimal v ∷ []
+    → words_between ((spaced ++ decimal v) ++ 32 ∷ []) ≡ name ∷ decimal v ∷ []
 one_number name spaced e f h v k =
-    ap (λ (s : List ℕ). words_in ((s ++ decimal v) ++ 32 ∷ [])) e
-    ∙ ap (λ (t : List ℕ). words_in (t ++ 32 ∷ [])) (append_assoc name (32 ∷ []) (decimal v))
-    ∙ ap words_in (append_assoc name (32 ∷ decimal v) (32 ∷ []))
+    ap (λ (s : List ℕ). words_between ((s ++ decimal v) ++ 32 ∷ [])) e
+    ∙ ap (λ (t : List ℕ). words_between (t ++ 32 ∷ [])) (append_assoc name (32 ∷ []) (decimal v))
+    ∙ ap words_between (append_assoc name (32 ∷ decimal v) (32 ∷ []))
     ∙ word_first name (decimal v ++ 32 ∷ []) f h
     ∙ ap (λ (t : List (List ℕ)). name ∷ t) (word_first (decimal v) [] (free_number v k) (number_some v k))
 
 -- a name with a space behind it, and two numbers
 two_numbers : (name spaced : List ℕ) → spaced ≡ name ++ 32 ∷ [] → IsFree is_blank name → is_some_word name ≡ true → (v w : ℕ) → IsValue v → IsValue w
-    → words_in ((spaced ++ decimal v ++ codes " " ++ decimal w) ++ 32 ∷ []) ≡ name ∷ decimal v ∷ decimal w ∷ []
+    → words_between ((spaced ++ decimal v ++ codes " " ++ decimal w) ++ 32 ∷ []) ≡ name ∷ decimal v ∷ decimal w ∷ []
 two_numbers name spaced e f h v w k l =
     let front = name ++ 32 ∷ [] ++ decimal v in
     let behind = 32 ∷ (decimal w ++ 32 ∷ []) in
-    ap (λ (s : List ℕ). words_in (s ++ decimal v ++ codes " " ++ decimal w ++ 32 ∷ [])) e
-    ∙ ap (λ (s : List ℕ). words_in (front ++ s ++ decimal w ++ 32 ∷ [])) space
-    ∙ ap (λ (t : List ℕ). words_in (t ++ 32 ∷ [])) (append_assoc front (32 ∷ []) (decimal w))
-    ∙ ap words_in (append_assoc front (32 ∷ decimal w) (32 ∷ []))
-    ∙ ap (λ (t : List ℕ). words_in (t ++ behind)) (append_assoc name (32 ∷ []) (decimal v))
-    ∙ ap words_in (append_assoc name (32 ∷ decimal v) behind)
+    ap (λ (s : List ℕ). words_between (s ++ decimal v ++ codes " " ++ decimal w ++ 32 ∷ [])) e
+    ∙ ap (λ (s : List ℕ). words_between (front ++ s ++ decimal w ++ 32 ∷ [])) space
+    ∙ ap (λ (t : List ℕ). words_between (t ++ 32 ∷ [])) (append_assoc front (32 ∷ []) (decimal w))
+    ∙ ap words_between (append_assoc front (32 ∷ decimal w) (32 ∷ []))
+    ∙ ap (λ (t : List ℕ). words_between (t ++ behind)) (append_assoc name (32 ∷ []) (decimal v))
+    ∙ ap words_between (append_assoc name (32 ∷ decimal v) behind)
     ∙ word_first name (decimal v ++ behind) f h
     ∙ ap (λ (t : List (List ℕ)). name ∷ t) (
     word_first (decimal v) (decimal w ++ 32 ∷ []) (free_number v k) (number_some v k)
@@ -126,7 +126,7 @@ cause_value LockOutOfRange = omega arith
 cause_value LockHeld = omega arith
 cause_value LockNotHeld = omega arith
 
-deed_said : (deed : Deed) → IsRangedDeed deed → SaysDeed (words_in (deed_text deed ++ 32 ∷ [])) deed
+deed_said : (deed : Deed) → IsRangedDeed deed → SaysDeed (words_between (deed_text deed ++ 32 ∷ [])) deed
 deed_said Quiet h = word_first (codes "quiet") [] (free_of is_blank (codes "quiet") refl) refl
 deed_said (Print v) h = record {
   digits = decimal v;
@@ -221,7 +221,7 @@ after_sign = 32 ∷ 108 ∷ 105 ∷ 110 ∷ 101 ∷ 32 ∷ []
 between : codes " # line " ≡ 32 ∷ 35 ∷ after_sign
 between = refl
 
-words_said : (act : Act) (line : ℕ) → IsRanged act → words_of (line_body act line) ≡ decimal act.node ∷ words_in (deed_text act.deed ++ 32 ∷ [])
+words_said : (act : Act) (line : ℕ) → IsRanged act → words_on (line_body act line) ≡ decimal act.node ∷ words_between (deed_text act.deed ++ 32 ∷ [])
 words_said act line h =
     let front = act_text act ++ 32 ∷ [] in
     let rest = after_sign ++ decimal line in
@@ -230,17 +230,17 @@ words_said act line h =
     ∙ sym (append_assoc (act_text act) (32 ∷ []) (35 ∷ rest)) in
     let signless = free_append is_sign (act_text act) (32 ∷ []) (act_signless act h) (free_of is_sign (32 ∷ []) refl) in
     let uncommented = kept (λ byte. byte == 35) front 35 rest (free_mono is_sign (λ byte. byte == 35) no_comment front signless) refl in
-    ap words_of whole ∙ ap words_in uncommented
-    ∙ ap (λ (s : List ℕ). words_in (decimal act.node ++ s ++ deed_text act.deed ++ 32 ∷ [])) space
-    ∙ ap (λ (t : List ℕ). words_in (t ++ 32 ∷ [])) (append_assoc (decimal act.node) (32 ∷ []) (deed_text act.deed))
-    ∙ ap words_in (append_assoc (decimal act.node) (32 ∷ deed_text act.deed) (32 ∷ []))
+    ap words_on whole ∙ ap words_between uncommented
+    ∙ ap (λ (s : List ℕ). words_between (decimal act.node ++ s ++ deed_text act.deed ++ 32 ∷ [])) space
+    ∙ ap (λ (t : List ℕ). words_between (t ++ 32 ∷ [])) (append_assoc (decimal act.node) (32 ∷ []) (deed_text act.deed))
+    ∙ ap words_between (append_assoc (decimal act.node) (32 ∷ deed_text act.deed) (32 ∷ []))
     ∙ word_first (decimal act.node) (deed_text act.deed ++ 32 ∷ []) (free_number act.node (omega (arith, h.node)))
     (number_some act.node (omega (arith, h.node)))
 
-act_said : (act : Act) (line : ℕ) → IsRanged act → SaysAct None (words_of (line_body act line)) act
+act_said : (act : Act) (line : ℕ) → IsRanged act → SaysAct None (words_on (line_body act line)) act
 act_said act line h = record {
   digits = decimal act.node;
-  rest = words_in (deed_text act.deed ++ 32 ∷ []);
+  rest = words_between (deed_text act.deed ++ 32 ∷ []);
   whole = words_said act line h;
   node = is_number act.node 15 h.node (omega arith);
   among = tt;

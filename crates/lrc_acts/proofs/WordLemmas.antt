@@ -4,7 +4,7 @@ use Rattle.std.proofs.Common.{refl, sym, ap, ap₂, subst, cond, unwrap_or, arit
 use Rattle.std.specs.Prelude.{filter}
 use Rattle.std.specs.List.{slice_split, position_or_len}
 use Rattle.std.proofs.lemmas.List.Splits.{slice_split-cons_yes, slice_split-cons_no}
-use Rattle.lrc_acts.specs.ActsText.{is_blank, words_in}
+use Rattle.lrc_acts.specs.ActsText.{is_blank, words_between}
 
 pub position-le : {A : Type 0} (p : A → Bool) (xs : List A) → position_or_len p xs ≤ length xs
 position-le p [] = omega arith
@@ -45,7 +45,7 @@ abbrev pub is_letter : ℕ → Bool
 is_letter byte = not (is_blank byte)
 
 -- a blank at the front is no part of a word
-blank_first : (x : ℕ) (xs : List ℕ) → is_blank x ≡ true → words_in (x ∷ xs) ≡ words_in xs
+blank_first : (x : ℕ) (xs : List ℕ) → is_blank x ≡ true → words_between (x ∷ xs) ≡ words_between xs
 blank_first x xs e = ap (filter is_some_word) (slice_split-cons_yes is_blank x xs e)
 
 -- where the first letter of a text is, by its first byte
@@ -55,14 +55,14 @@ letter_place x xs true e = ap (λ (b : Bool). drop (cond (not (not b)) (1 + posi
 letter_place x xs false e = ap (λ (b : Bool). drop (cond (not (not b)) (1 + position_or_len is_letter xs) 0) (x ∷ xs)) e
 
 -- blanks at the front are no part of a word
-pub skip : (text : List ℕ) → words_in text ≡ words_in (drop (position_or_len is_letter text) text)
+pub skip : (text : List ℕ) → words_between text ≡ words_between (drop (position_or_len is_letter text) text)
 skip [] = refl
 skip (x ∷ xs) = go (is_blank x) refl (skip xs)
   where
-    go : (b : Bool) → is_blank x ≡ b → words_in xs ≡ words_in (drop (position_or_len is_letter xs) xs)
-        → words_in (x ∷ xs) ≡ words_in (drop (position_or_len is_letter (x ∷ xs)) (x ∷ xs))
-    go true e h = blank_first x xs e ∙ h ∙ ap words_in (sym (letter_place x xs true e))
-    go false e h = ap words_in (sym (letter_place x xs false e))
+    go : (b : Bool) → is_blank x ≡ b → words_between xs ≡ words_between (drop (position_or_len is_letter xs) xs)
+        → words_between (x ∷ xs) ≡ words_between (drop (position_or_len is_letter (x ∷ xs)) (x ∷ xs))
+    go true e h = blank_first x xs e ∙ h ∙ ap words_between (sym (letter_place x xs true e))
+    go false e h = ap words_between (sym (letter_place x xs false e))
 
 -- the first byte that is left is no blank
 starts : (text : List ℕ) → 0 < length (drop (position_or_len is_letter text) text)
@@ -86,7 +86,7 @@ starts (x ∷ xs) h = go (is_blank x) refl (starts xs) h
 record AreParts (text : List ℕ) : Type 0 where
   tail : List (List ℕ)
   split : slice_split is_blank text ≡ take (position_or_len is_blank text) text ∷ tail
-  rest : filter is_some_word tail ≡ words_in (drop (position_or_len is_blank text) text)
+  rest : filter is_some_word tail ≡ words_between (drop (position_or_len is_blank text) text)
 
 blank_place : (x : ℕ) (xs : List ℕ) (b : Bool) → is_blank x ≡ b → position_or_len is_blank (x ∷ xs) ≡ cond (not b) (1 + position_or_len is_blank xs) 0
 blank_place x xs b e = ap (λ (b : Bool). cond (not b) (1 + position_or_len is_blank xs) 0) e
@@ -100,18 +100,18 @@ parts (x ∷ xs) = go (is_blank x) refl (parts xs)
       tail = slice_split is_blank xs;
       split = slice_split-cons_yes is_blank x xs e
           ∙ ap (λ (n : ℕ). take n (x ∷ xs) ∷ slice_split is_blank xs) (sym (blank_place x xs true e));
-      rest = sym (ap (λ (n : ℕ). words_in (drop n (x ∷ xs))) (blank_place x xs true e) ∙ blank_first x xs e);
+      rest = sym (ap (λ (n : ℕ). words_between (drop n (x ∷ xs))) (blank_place x xs true e) ∙ blank_first x xs e);
     }
     go false e more = record {
       tail = more.tail;
       split = slice_split-cons_no is_blank x xs e ∙ rw more.split (ap (λ (w : List ℕ). w ∷ more.tail)
           (sym (ap (λ (n : ℕ). take n (x ∷ xs)) (blank_place x xs false e) ∙ take_one _ x xs)));
-      rest = more.rest ∙ ap words_in (sym (ap (λ (n : ℕ). drop n (x ∷ xs)) (blank_place x xs false e) ∙ drop_one _ x xs));
+      rest = more.rest ∙ ap words_between (sym (ap (λ (n : ℕ). drop n (x ∷ xs)) (blank_place x xs false e) ∙ drop_one _ x xs));
     }
 
 -- after the blanks nothing is left
-pub none_left : (text rest : List ℕ) (n : ℕ) → n ≡ position_or_len is_letter text → rest ≡ drop n text → rest ≡ [] → words_in text ≡ []
-none_left text rest n e d none = skip text ∙ ap (λ m. words_in (drop m text)) (sym e) ∙ ap words_in (sym d ∙ none)
+pub none_left : (text rest : List ℕ) (n : ℕ) → n ≡ position_or_len is_letter text → rest ≡ drop n text → rest ≡ [] → words_between text ≡ []
+none_left text rest n e d none = skip text ∙ ap (λ m. words_between (drop m text)) (sym e) ∙ ap words_between (sym d ∙ none)
 
 front_some : (rest : List ℕ) (n : ℕ) → 0 < n → 0 < length rest → 0 < length (take n rest)
 front_some [] n h k = absurd (omega (arith, k))
@@ -119,7 +119,7 @@ front_some (x ∷ xs) zero h k = absurd (omega (arith, h))
 front_some (x ∷ xs) (suc n) h k = omega arith
 
 one_word : (rest : List ℕ) → 0 < length rest → 0 < position_or_len is_blank rest
-    → words_in rest ≡ take (position_or_len is_blank rest) rest ∷ words_in (drop (position_or_len is_blank rest) rest)
+    → words_between rest ≡ take (position_or_len is_blank rest) rest ∷ words_between (drop (position_or_len is_blank rest) rest)
 one_word rest some word =
     let p = parts rest in
     let kept = some_word (take (position_or_len is_blank rest) rest) (front_some rest _ word some) in
@@ -127,11 +127,11 @@ one_word rest some word =
 
 -- the first word, and what stands behind it
 pub one_more : (text rest word after : List ℕ) (n m : ℕ) → n ≡ position_or_len is_letter text → rest ≡ drop n text → 0 < length rest
-    → m ≡ position_or_len is_blank rest → word ≡ take m rest → after ≡ drop m rest → words_in text ≡ word ∷ words_in after
+    → m ≡ position_or_len is_blank rest → word ≡ take m rest → after ≡ drop m rest → words_between text ≡ word ∷ words_between after
 one_more text rest word after n m e d some f g h =
     let whole : rest ≡ drop (position_or_len is_letter text) text = d ∙ ap (λ (k : ℕ). drop k text) e in
     let starting = starts text (subst (λ (r : List ℕ). 0 < length r) whole some) in
     let first = one_word rest some (subst (λ (r : List ℕ). 0 < position_or_len is_blank r) (sym whole) starting) in
     let front : word ≡ take (position_or_len is_blank rest) rest = g ∙ ap (λ (k : ℕ). take k rest) f in
     let behind : after ≡ drop (position_or_len is_blank rest) rest = h ∙ ap (λ (k : ℕ). drop k rest) f in
-    skip text ∙ ap words_in (sym whole) ∙ first ∙ ap₂ (λ (w t : List ℕ). w ∷ words_in t) (sym front) (sym behind)
+    skip text ∙ ap words_between (sym whole) ∙ first ∙ ap₂ (λ (w t : List ℕ). w ∷ words_between t) (sym front) (sym behind)

@@ -17,12 +17,12 @@ abbrev pub is_blank : ℕ → Bool
 is_blank byte = byte == 32 || (byte == 9 || byte == 13)
 
 -- what blanks part, where it is not empty
-abbrev pub words_in : List ℕ → List (List ℕ)
-words_in text = filter (λ word. not (length word == 0)) (slice_split is_blank text)
+abbrev pub words_between : List ℕ → List (List ℕ)
+words_between text = filter (λ word. not (length word == 0)) (slice_split is_blank text)
 
 -- the words of a line: those before the sign # that begins its comment
-abbrev pub words_of : List ℕ → List (List ℕ)
-words_of line = words_in (before_first (λ byte. byte == 35) line)
+abbrev pub words_on : List ℕ → List (List ℕ)
+words_on line = words_between (before_first (λ byte. byte == 35) line)
 
 -- one or more decimal digits, and nothing else, write this number, which is no greater than the greatest of its kind
 pub record IsNumber (digits : List ℕ) (greatest number : ℕ) : Type 0 where
@@ -74,15 +74,15 @@ pub record SaysAct (nodes : Option ℕ) (words : List (List ℕ)) (act : Act) : 
 -- The lines from the one with this number on say these acts in order, on the lines with these numbers. A line without a word says none.
 pub data SayActs (nodes : Option ℕ) : ℕ → List (List ℕ) → List Act → List ℕ → Type 0 where
   none : {number : ℕ} → SayActs nodes number [] [] []
-  empty : {number : ℕ} {line : List ℕ} {lines : List (List ℕ)} {acts : List Act} {numbers : List ℕ} → words_of line ≡ []
+  empty : {number : ℕ} {line : List ℕ} {lines : List (List ℕ)} {acts : List Act} {numbers : List ℕ} → words_on line ≡ []
       → SayActs nodes (number + 1) lines acts numbers → SayActs nodes number (line ∷ lines) acts numbers
-  more : {number : ℕ} {line : List ℕ} {lines : List (List ℕ)} {act : Act} {acts : List Act} {numbers : List ℕ} → SaysAct nodes (words_of line) act
+  more : {number : ℕ} {line : List ℕ} {lines : List (List ℕ)} {act : Act} {acts : List Act} {numbers : List ℕ} → SaysAct nodes (words_on line) act
       → SayActs nodes (number + 1) lines acts numbers → SayActs nodes number (line ∷ lines) (act ∷ acts) (number ∷ numbers)
 
 -- the line has a word, and says no act
 pub record IsBad (nodes : Option ℕ) (line : List ℕ) : Type 0 where
-  pub some : ¬ (words_of line ≡ [])
-  pub nameless : (act : Act) → ¬ SaysAct nodes (words_of line) act
+  pub some : ¬ (words_on line ≡ [])
+  pub nameless : (act : Act) → ¬ SaysAct nodes (words_on line) act
 
 -- of the lines, the first bad one has this number, counted from 1
 pub record IsFirstBad (nodes : Option ℕ) (lines : List (List ℕ)) (number : ℕ) : Type 0 where
@@ -101,7 +101,7 @@ pub record SaysSome (nodes : Option ℕ) (lines : List (List ℕ)) : Type 0 wher
   pub after : List (List ℕ)
   pub whole : lines ≡ before ++ line ∷ after
   pub good : (acts : List Act) × (numbers : List ℕ) × SayActs nodes 1 before acts numbers
-  pub says : (act : Act) × SaysAct nodes (words_of line) act
+  pub says : (act : Act) × SaysAct nodes (words_on line) act
 
 -- the longest text, in bytes
 abbrev pub most_bytes : ℕ
@@ -109,8 +109,8 @@ most_bytes = 67108864
 
 -- What a text of acts comes to: the acts that its lines say, each with its line, or the first line that is bad, where a text that is too long
 -- is wrong in its first line. Memory may run out at any text.
-abbrev pub Reads : Option ℕ → List ℕ → Result LinedActs ActsFault → Type 0
-Reads nodes text (Ok lined) = (length text ≤ most_bytes) × SayActs nodes 1 (lines_of text) lined.acts.items lined.lines.items
-Reads nodes text (Err (BadAct line)) = ((most_bytes < length text) × (line ≡ 1))
+abbrev pub ReadsActs : Option ℕ → List ℕ → Result LinedActs ActsFault → Type 0
+ReadsActs nodes text (Ok lined) = (length text ≤ most_bytes) × SayActs nodes 1 (lines_of text) lined.acts.items lined.lines.items
+ReadsActs nodes text (Err (BadAct line)) = ((most_bytes < length text) × (line ≡ 1))
     ⊎ ((length text ≤ most_bytes) × IsFirstBad nodes (lines_of text) line)
-Reads nodes text (Err NoMemory) = Unit {0}
+ReadsActs nodes text (Err NoMemory) = Unit {0}

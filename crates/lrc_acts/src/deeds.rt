@@ -4,7 +4,7 @@ ghost use Rattle.std.specs.Prelude.{◌≡◌, MatchBool, MatchOption, [], ◌�
 ghost use Rattle.lrc_trace.specs.declared.act.Cause.{Cause as AnyCause};
 ghost use Rattle.lrc_trace.specs.declared.act.Deed.{Deed as AnyDeed};
 ghost use Rattle.lrc_text.specs.ActText.{cause_number};
-ghost use Rattle.lrc_acts.specs.ActsText.{SaysDeed, words_in};
+ghost use Rattle.lrc_acts.specs.ActsText.{SaysDeed, words_between};
 
 use crate::numbers::number_in;
 use crate::words::first_word;
@@ -18,7 +18,7 @@ const GREATEST_CAUSE: u64 = 5;
 
 // The deed that the words of a text say.
 pub(crate) fn deed_in(text: &[u8]) -> Option<Deed>
-    ensures { MatchOption result ((deed : AnyDeed) → ¬ SaysDeed (words_in text.now) deed) (λ deed. SaysDeed (words_in text.now) deed) }
+    ensures { MatchOption result ((deed : AnyDeed) → ¬ SaysDeed (words_between text.now) deed) (λ deed. SaysDeed (words_between text.now) deed) }
 {
     let (name, rest) = first_word(text)?;
     let Some((first, rest)) = first_word(rest) else {

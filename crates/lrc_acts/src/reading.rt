@@ -3,7 +3,7 @@
 ghost use Rattle.std.specs.Prelude.{◌≡◌, ◌≤◌, ◌++◌, ◌∷◌, [], IfErr, IfOk, MatchBool, MatchOption, OnOk, Err, Ok, length};
 ghost use Rattle.lrc_trace.specs.declared.act.Act.{Act as AnyAct};
 ghost use Rattle.lrc_text.specs.Lines.{lines_of};
-ghost use Rattle.lrc_acts.specs.ActsText.{IsAmong, Reads, SaysAct, SaysSome, most_bytes, words_of};
+ghost use Rattle.lrc_acts.specs.ActsText.{IsAmong, ReadsActs, SaysAct, SaysSome, most_bytes, words_on};
 ghost use Rattle.lrc_acts.specs.declared.reading.ActsFault.TheVariants.{NoMemory};
 
 use crate::deeds::deed_in;
@@ -55,8 +55,8 @@ impl From<AllocError> for ActsFault {
 /// does. Words are parted by blanks (spaces, tabs, carriage returns), the sign # begins a comment, and a line without a word
 /// says no act. A text of more than 67,108,864 bytes is wrong in its first line. Memory runs out only where there is an act to be kept.
 pub fn acts_of(alloc: Global, text: &[u8], nodes: Option<u32>) -> Result<LinedActs, ActsFault>
-    ensures ok { IfOk result (λ lined. Reads nodes text.now (Ok lined)) }
-    ensures err { IfErr result (λ fault. Reads nodes text.now (Err fault)) }
+    ensures ok { IfOk result (λ lined. ReadsActs nodes text.now (Ok lined)) }
+    ensures err { IfErr result (λ fault. ReadsActs nodes text.now (Err fault)) }
     ensures memory { IfErr result (λ fault. fault ≡ NoMemory → (length text.now ≤ most_bytes) × SaysSome nodes (lines_of text.now)) }
 {
     if text.len() > MOST_BYTES {
@@ -92,14 +92,14 @@ fn push_act(lined: &mut LinedActs, act: Act, line: u32) -> Result<(), AllocError
 
 // Whether a line has no word.
 fn is_wordless(line: &[u8]) -> bool
-    ensures { MatchBool result (words_of line.now ≡ []) (¬ (words_of line.now ≡ [])) }
+    ensures { MatchBool result (words_on line.now ≡ []) (¬ (words_on line.now ≡ [])) }
 {
     first_word(before_comment(line)).is_none()
 }
 
 // The act that a line says.
 fn act_on(line: &[u8], nodes: Option<u32>) -> Option<Act>
-    ensures { MatchOption result ((act : AnyAct) → ¬ SaysAct nodes (words_of line.now) act) (λ act. SaysAct nodes (words_of line.now) act) }
+    ensures { MatchOption result ((act : AnyAct) → ¬ SaysAct nodes (words_on line.now) act) (λ act. SaysAct nodes (words_on line.now) act) }
 {
     let (digits, rest) = first_word(before_comment(line))?;
     let node = number_in(digits, GREATEST_NODE)?;

@@ -2,7 +2,7 @@
 
 ghost use Rattle.std.specs.Prelude.{◌≡◌, ◌==◌, ◌≤◌, MatchOption, [], ◌∷◌, length, not};
 ghost use Rattle.std.specs.List.{before_first, position_or_len};
-ghost use Rattle.lrc_acts.specs.ActsText.{is_blank, words_in};
+ghost use Rattle.lrc_acts.specs.ActsText.{is_blank, words_between};
 
 fn is_blank(byte: u8) -> bool
     ensures { result ≡ is_blank byte }
@@ -28,7 +28,7 @@ fn place_of_comment(text: &[u8]) -> usize
 
 // The first word of a text, and what stands behind it.
 pub(crate) fn first_word(text: &[u8]) -> Option<(&[u8], &[u8])>
-    ensures { MatchOption result (words_in text.now ≡ []) (λ parts. words_in text.now ≡ parts.0.now ∷ words_in parts.1.now) }
+    ensures { MatchOption result (words_between text.now ≡ []) (λ parts. words_between text.now ≡ parts.0.now ∷ words_between parts.1.now) }
 {
     let (_blanks, rest) = text.split_at(place_of_word(text));
     if rest.is_empty() {

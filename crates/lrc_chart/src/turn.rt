@@ -1,7 +1,7 @@
 // The turns of a run in the order in which its nodes made them.
 
 ghost use Rattle.std.specs.Prelude.{◌≡◌, ◌<◌, ◌++◌, IfOk, MatchOption, None, OnOk, OnSome, Some, map};
-ghost use Rattle.lrc_turns.specs.Turns.{log_entry, next, turns_of};
+ghost use Rattle.lrc_turns.specs.Turns.{log_entry, next, turns_told};
 ghost use Rattle.lrc_chart.specs.Counts.{Counts};
 
 use crate::counts::Made;
@@ -57,7 +57,7 @@ pub fn turns_of<'a>(
     logs: &'a [Vec<Entry>],
     order: &[u8],
 ) -> Result<Vec<TurnOf<'a>>, AllocError>
-    ensures { IfOk result (λ turns. turns.items ≡ turns_of (map (λ log. log.items) logs.now) order.now) }
+    ensures { IfOk result (λ turns. turns.items ≡ turns_told (map (λ log. log.items) logs.now) order.now) }
 {
     let mut turns = Vec::new(alloc);
     let mut made = Made::new();

@@ -11,7 +11,7 @@ use Rattle.lrc_protocol.specs.declared.event.Event.{Event}
 use Rattle.lrc_world.specs.declared.report.Brief.{Brief}
 use Rattle.lrc_cli.specs.Answer.{Answers, IsFault, IsTextFault, IsTextOf, Prints}
 use Rattle.lrc_cli.specs.FaultLine.{fault_of_kind, fault_of_text}
-use Rattle.lrc_cli.specs.Runs.{Account, IsBriefRun, IsRunOf, account_with}
+use Rattle.lrc_cli.specs.Runs.{Account, IsBriefRun, IsRunOfWay, account_with}
 use Rattle.lrc_cli.specs.Shown.{IsShowFault, IsShown, shown_status}
 use Rattle.lrc_text.specs.Parts.{whole_text}
 use Rattle.lrc_cli.specs.declared.answer.Printout.{Printout}
@@ -67,7 +67,7 @@ faulty_for r choice other text events same h =
 
 -- what is shown of a run of the program that the text is of is what is printed
 pub printed_of : (run : RunChoice) (shape : Shape) (text : List ℕ) (events_text : Option (List ℕ)) (program : Program) (events : List Event)
-    (account : Account) (r : Result Printout Fault) → IsTextOf text program → IsRunOf run.way program run.options events_text events account
+    (account : Account) (r : Result Printout Fault) → IsTextOf text program → IsRunOfWay run.way program run.options events_text events account
     → IfOk r (λ printout. IsShown shape run text program events account (whole_text printout.parts.items))
     → IfOk r (λ printout. printout.status ≡ shown_status shape account.first_race account.ends)
     → IfOk r (λ printout. Prints (Show run shape) text events_text (whole_text printout.parts.items) printout.status)
@@ -89,7 +89,7 @@ told_of run shape text events_text program brief (Err fault) is ran shown ended 
 
 -- and why it is not shown is the fault
 pub unshown_of : (run : RunChoice) (shape : Shape) (text : List ℕ) (events_text : Option (List ℕ)) (program : Program) (events : List Event)
-    (account : Account) (r : Result Printout Fault) → IsTextOf text program → IsRunOf run.way program run.options events_text events account
+    (account : Account) (r : Result Printout Fault) → IsTextOf text program → IsRunOfWay run.way program run.options events_text events account
     → IfErr r (IsShowFault shape run text program events account) → IfErr r (IsFault (Show run shape) text events_text)
 unshown_of run shape text events_text program events account (Ok printout) is ran unshown = tt
 unshown_of run shape text events_text program events account (Err fault) is ran unshown =

@@ -7,7 +7,7 @@ use Rattle.lrc_lang.specs.declared.program.Program.{Program}
 use Rattle.lrc_portrait.specs.Course.{CourseRecord}
 use Rattle.lrc_protocol.specs.declared.event.Event.{Event}
 use Rattle.lrc_trace.specs.declared.act.Act.{Act}
-use Rattle.lrc_turns.specs.Turns.{Made, turns_of}
+use Rattle.lrc_turns.specs.Turns.{Made, turns_told}
 use Rattle.lrc_words.specs.declared.choice.Charting.{Charting}
 use Rattle.lrc_words.specs.declared.choice.RunChoice.{RunChoice}
 use Rattle.lrc_words.specs.declared.choice.RunOptions.{RunOptions}
@@ -22,7 +22,7 @@ use Rattle.lrc_cli.specs.declared.fault.Fault.TheVariants.{Text, Events, Acts, W
 -- what was found of a run's acts is known of the run
 pub course_of_run : (text : List ℕ) (program : Program) (options : RunOptions) (events : List Event) (account : Account)
     (turns : List Made) (acts : List Act) (lines : List ℕ) (times : List (List ℕ)) (pairs : List Pair)
-    → turns ≡ turns_of account.logs (map (λ turn. turn.node) (turns_in program options events)) → acts ≡ account.acts
+    → turns ≡ turns_told account.logs (map (λ turn. turn.node) (turns_in program options events)) → acts ≡ account.acts
     → AreLinesIn text program options.nodes.count acts lines → KeepsTime options.nodes.count acts times → AreFirstPairs acts pairs
     → IsCourse text program options events account (record { turns = turns; acts = acts; lines = lines; times = times; pairs = pairs })
 course_of_run text program options events account turns acts lines times pairs made same lined timed paired = record {

@@ -18,7 +18,7 @@ use Rattle.lrc_world.specs.Report.{AreAll, IsBriefOf}
 use Rattle.lrc_world.specs.Rounds.{AreRounds}
 use Rattle.lrc_world.specs.declared.report.Brief.{Brief}
 use Rattle.lrc_world.specs.Turned.{HaveLogs}
-use Rattle.lrc_cli.specs.Runs.{Account, AreEventsOf, AreToEnd, IsBriefRun, IsReported, account_with, options_of}
+use Rattle.lrc_cli.specs.Runs.{Account, AreEventsOfWay, AreToEnd, IsBriefRun, IsReported, account_with, options_of}
 
 -- a value stays as it is where an error would have been replaced
 pub value_stays : {T E F : Type 0} (r : Result T E) (s : Result T F) (Q : E → Type 0) (x : T) → MatchResult r (λ y. s ≡ Ok y) Q
@@ -37,7 +37,7 @@ module _ (program : Program) (options : RunOptions) (setting : OptionsRecord) (e
     over = subst (λ (o : OptionsRecord). length events < 100000000 → AreAll program options.nodes.count o events) same over;
   }
 
-  brief_run : (way : Way) → ((logs : List (List EntryRecord)) → AreEventsOf way program options events_text (account_with brief logs) events)
+  brief_run : (way : Way) → ((logs : List (List EntryRecord)) → AreEventsOfWay way program options events_text (account_with brief logs) events)
       → IsBriefRun way program options events_text brief
   brief_run way come =
       let is' : IsBriefOf program options.nodes.count (options_of options) events brief =

@@ -1,6 +1,6 @@
 -- What the program answers to a choice: a text that it prints and its status, or the first fault.
 use Rattle.std.specs.Prelude.{◌≡◌, ◌⊎◌, ℕ, List, Option, Result, Ok, Err, codes, option_map}
-use Rattle.lrc_acts.specs.ActsText.{Reads}
+use Rattle.lrc_acts.specs.ActsText.{ReadsActs}
 use Rattle.lrc_acts.specs.declared.reading.ActsFault.TheVariants.{BadAct}
 use Rattle.lrc_exec.specs.Rounds.{AreActsOfRounds}
 use Rattle.lrc_lang.specs.Faults.{HasFirstFault, IsText}
@@ -14,7 +14,7 @@ use Rattle.lrc_protocol.specs.declared.event.Event.{Event}
 use Rattle.lrc_verdict.specs.Judgement.{Judges}
 use Rattle.lrc_world.specs.Ends.{ends_of}
 use Rattle.lrc_report.specs.ReportText.{report_text, status_of}
-use Rattle.lrc_cli.specs.Runs.{Account, IsRunFault, IsRunOf}
+use Rattle.lrc_cli.specs.Runs.{Account, IsRunFault, IsRunOfWay}
 use Rattle.lrc_cli.specs.Shown.{IsShowFault, IsShown, shown_status}
 use Rattle.lrc_cli.specs.declared.answer.Printout.{Printout}
 use Rattle.lrc_words.specs.declared.choice.Choice.{Choice}
@@ -49,13 +49,13 @@ pub record IsShowing (run : RunChoice) (shape : Shape) (text : List ℕ) (events
     (out : List ℕ) (status : ℕ) : Type 0 where
   pub events : List Event
   pub account : Account
-  pub ran : IsRunOf run.way program run.options events_text events account
+  pub ran : IsRunOfWay run.way program run.options events_text events account
   pub shown : IsShown shape run text program events account out
   pub ended : status ≡ shown_status shape account.first_race account.ends
 
 -- how many nodes the acts are of, where that is said
-abbrev pub nodes_of : Judging → Option ℕ
-nodes_of judging = option_map (λ nodes. nodes.count) judging.nodes
+abbrev pub judged_nodes : Judging → Option ℕ
+judged_nodes judging = option_map (λ nodes. nodes.count) judging.nodes
 
 -- the text and the status are what is said of every order of the program that this text is of
 abbrev pub IsExploration : Exploring → List ℕ → Program → List ℕ → ℕ → Type 0
@@ -71,7 +71,7 @@ Prints (Plain run) text events_text out status =
     × IsPrintoutOfRounds program run.nodes.count run.steps.count out status
 Prints (Show run shape) text events_text out status =
     (program : Program) × IsTextOf text program × IsShowing run shape text events_text program out status
-Prints (Judge judging) text events_text out status = Judges (nodes_of judging) judging.pairs text out status
+Prints (Judge judging) text events_text out status = Judges (judged_nodes judging) judging.pairs text out status
 Prints (Explore exploring) text events_text out status =
     (program : Program) × IsTextOf text program × IsExploration exploring text program out status
 
@@ -83,7 +83,7 @@ IsTextFault text _ = ⊥
 
 -- the fault of a text of acts
 abbrev pub IsActsFault : Option ℕ → List ℕ → Fault → Type 0
-IsActsFault nodes text (Acts line) = Reads nodes text (Err (BadAct line))
+IsActsFault nodes text (Acts line) = ReadsActs nodes text (Err (BadAct line))
 IsActsFault nodes text NoMemory = Unit {0}
 IsActsFault nodes text _ = ⊥
 
@@ -99,7 +99,7 @@ pub record IsUnshown (run : RunChoice) (shape : Shape) (text : List ℕ) (events
     (fault : Fault) : Type 0 where
   pub events : List Event
   pub account : Account
-  pub ran : IsRunOf run.way program run.options events_text events account
+  pub ran : IsRunOfWay run.way program run.options events_text events account
   pub unshown : IsShowFault shape run text program events account fault
 
 -- The first fault: of the text, then of the events, then of the run or the search, then of what is shown of the run. Memory may run out at any time.
@@ -109,7 +109,7 @@ IsFault (Plain run) text events_text fault = IsTextFault text fault
 IsFault (Show run shape) text events_text fault = IsTextFault text fault
     ⊎ ((program : Program) × IsTextOf text program
     × (IsRunFault run.way program run.options events_text fault ⊎ IsUnshown run shape text events_text program fault))
-IsFault (Judge judging) text events_text fault = IsActsFault (nodes_of judging) text fault
+IsFault (Judge judging) text events_text fault = IsActsFault (judged_nodes judging) text fault
 IsFault (Explore exploring) text events_text fault = IsTextFault text fault
     ⊎ ((program : Program) × IsTextOf text program × IsSearchFault exploring program fault)
 

@@ -1,7 +1,7 @@
 -- A run as a picture.
 use Rattle.std.specs.Prelude.{◌≡◌, ◌<◌, ◌≤◌, ℕ, Bool, false, true, List, codes, length, map}
 use Rattle.lrc_clock.specs.Keeping.{KeepsTime}
-use Rattle.lrc_drawing.specs.Marks.{all_marks, is_space, named_once, value_of}
+use Rattle.lrc_drawing.specs.Marks.{all_marks, is_space, named_once, attribute_value}
 use Rattle.lrc_drawing.specs.Shown.{picture_marks}
 use Rattle.lrc_judge.specs.FirstPairs.{AreFirstPairs}
 use Rattle.lrc_lang.specs.declared.program.Program.{Program}
@@ -14,7 +14,7 @@ use Rattle.lrc_sketch.specs.Sketch.{sketch_text}
 use Rattle.lrc_svg.specs.Texts.{document_text}
 use Rattle.lrc_svg.specs.declared.element.Document.{Document}
 use Rattle.lrc_title.specs.Title.{title_text}
-use Rattle.lrc_turns.specs.Turns.{turns_of}
+use Rattle.lrc_turns.specs.Turns.{turns_told}
 use Rattle.lrc_words.specs.declared.choice.Charting.{Charting}
 use Rattle.lrc_words.specs.declared.choice.RunChoice.{RunChoice}
 use Rattle.lrc_words.specs.declared.choice.RunOptions.{RunOptions}
@@ -27,7 +27,7 @@ use Rattle.lrc_cli.specs.declared.fault.Fault.TheVariants.{NoMemory, TooLong}
 -- and their times, and the first pairs of its races.
 pub record IsCourse (text : List ℕ) (program : Program) (options : RunOptions) (events : List Event) (account : Account)
     (course : CourseRecord) : Type 0 where
-  pub turns : course.turns ≡ turns_of account.logs (map (λ turn. turn.node) (turns_in program options events))
+  pub turns : course.turns ≡ turns_told account.logs (map (λ turn. turn.node) (turns_in program options events))
   pub acts : course.acts ≡ account.acts
   pub lines : AreLinesIn text program options.nodes.count account.acts course.lines
   pub times : KeepsTime options.nodes.count account.acts course.times
@@ -41,7 +41,7 @@ part_of charting = record { from = charting.from; to = charting.to }
 pub record IsShownBy (picture : Picture) (document : Document) : Type 0 where
   pub marks : all_marks document.inside.items ≡ picture_marks picture
   pub once : named_once document.attributes.items ≡ true
-  pub space : value_of is_space document.attributes.items ≡ codes "http://www.w3.org/2000/svg"
+  pub space : attribute_value is_space document.attributes.items ≡ codes "http://www.w3.org/2000/svg"
 
 -- a picture for a terminal, or as an SVG document
 abbrev pub IsDrawn : (terminal : Bool) → Picture → List ℕ → Type 0

@@ -18,8 +18,8 @@ use Rattle.lrc_world.specs.Turned.{turned_of}
 use Rattle.lrc_world.specs.declared.report.Brief.{Brief}
 use Rattle.lrc_world.specs.declared.report.Report.{Report}
 use Rattle.lrc_world.specs.declared.turned.Turned.{Turned}
-use Rattle.lrc_run.specs.Run.{AreWiresOf, IsWovenReport, WearsOutSoon, turns_of}
-use Rattle.lrc_events.specs.EventsText.{Reads}
+use Rattle.lrc_run.specs.Run.{AreWiresOf, IsWovenReport, WearsOutSoon, turns_of_nodes}
+use Rattle.lrc_events.specs.EventsText.{ReadsEvents}
 use Rattle.lrc_events.specs.declared.events.EventsFault.TheVariants.{BadEvent}
 use Rattle.lrc_words.specs.declared.choice.RunOptions.{RunOptions}
 use Rattle.lrc_words.specs.declared.choice.Way.{Way}
@@ -46,7 +46,7 @@ account_of report = record {
   acts = report.acts.items;
   ends = report.ends.items;
   races = report.races.items;
-  logs = turns_of report;
+  logs = turns_of_nodes report;
   first_race = report.first_race;
 }
 
@@ -91,20 +91,20 @@ pub record AreThreaded (program : Program) (options : RunOptions) (order : Picke
 
 -- The events of a run that goes on in some way: those that a text names, those of its rounds, those of its random order, or those that
 -- its nodes on threads made.
-abbrev pub AreEventsOf : Way → Program → RunOptions → Option (List ℕ) → Account → List Event → Type 0
-AreEventsOf (ways.Events file) program options None account events = ⊥
-AreEventsOf (ways.Events file) program options (Some events_text) account events = Reads events_text (Ok events)
-AreEventsOf (ways.Rounds order) program options events_text account events =
+abbrev pub AreEventsOfWay : Way → Program → RunOptions → Option (List ℕ) → Account → List Event → Type 0
+AreEventsOfWay (ways.Events file) program options None account events = ⊥
+AreEventsOfWay (ways.Events file) program options (Some events_text) account events = ReadsEvents events_text (Ok events)
+AreEventsOfWay (ways.Rounds order) program options events_text account events =
     AreRounds program options.nodes.count (options_of options) order events × AreToEnd program options events
-AreEventsOf (ways.Random seed) program options events_text account events =
+AreEventsOfWay (ways.Random seed) program options events_text account events =
     IsWandering program options.nodes.count (options_of options) seed events × AreToEnd program options events
-AreEventsOf (ways.Threads order) program options events_text account events =
+AreEventsOfWay (ways.Threads order) program options events_text account events =
     (report : Report) × (account ≡ account_of report) × AreThreaded program options order report events
 
 -- what came of a run of the program that goes on in some way, and the events that it is made of
-abbrev pub IsRunOf : Way → Program → RunOptions → Option (List ℕ) → List Event → Account → Type 0
-IsRunOf way program options events_text events account =
-    AreEventsOf way program options events_text account events × IsReported program options events account
+abbrev pub IsRunOfWay : Way → Program → RunOptions → Option (List ℕ) → List Event → Account → Type 0
+IsRunOfWay way program options events_text events account =
+    AreEventsOfWay way program options events_text account events × IsReported program options events account
 
 -- the run goes on in rounds or in a random order
 abbrev pub is_led : Way → Bool
@@ -117,7 +117,7 @@ is_led (ways.Threads order) = false
 pub record IsBriefRun (way : Way) (program : Program) (options : RunOptions) (events_text : Option (List ℕ)) (brief : Brief) : Type 0 where
   pub events : List Event
   pub logs : List (List EntryRecord)
-  pub come : AreEventsOf way program options events_text (account_with brief logs) events
+  pub come : AreEventsOfWay way program options events_text (account_with brief logs) events
   pub reported : IsReported program options events (account_with brief logs)
 
 -- ---- faults
@@ -125,9 +125,9 @@ pub record IsBriefRun (way : Way) (program : Program) (options : RunOptions) (ev
 -- Why a run by the events of a text answers no report: a bad line of the text; or a number or a message becomes too large at one of
 -- the events.
 abbrev pub IsPlayedFault : Program → RunOptions → List ℕ → Fault → Type 0
-IsPlayedFault program options events_text (Events line) = Reads events_text (Err (BadEvent line))
+IsPlayedFault program options events_text (Events line) = ReadsEvents events_text (Err (BadEvent line))
 IsPlayedFault program options events_text Worn =
-    (events : List Event) × Reads events_text (Ok events) × IsWornBy program options.nodes.count (options_of options) events
+    (events : List Event) × ReadsEvents events_text (Ok events) × IsWornBy program options.nodes.count (options_of options) events
 IsPlayedFault program options events_text NoMemory = Unit {0}
 IsPlayedFault program options events_text _ = ⊥
 

@@ -44,8 +44,8 @@ IsWrittenAs Rapid program options events account lines out =
     out ≡ rapid_text program.locks options.nodes.count account.acts lines
 
 -- a trace of a run of the program that this text is of
-abbrev pub IsTraced : Form → List ℕ → Program → RunOptions → List Event → Account → List ℕ → Type 0
-IsTraced form text program options events account out =
+abbrev pub IsTraceShown : Form → List ℕ → Program → RunOptions → List Event → Account → List ℕ → Type 0
+IsTraceShown form text program options events account out =
     (lines : List ℕ) × AreLinesIn text program options.nodes.count account.acts lines
     × IsWrittenAs form program options events account lines out
 
@@ -58,7 +58,7 @@ IsExplained text program options acts first_race out = (places : List ℕ) × Ha
 -- what is shown of a run of that program
 abbrev pub IsShown : Shape → RunChoice → List ℕ → Program → List Event → Account → List ℕ → Type 0
 IsShown shapes.Report run text program events account out = out ≡ run_text account.acts account.ends account.races account.first_race
-IsShown (Trace form) run text program events account out = IsTraced form text program run.options events account out
+IsShown (Trace form) run text program events account out = IsTraceShown form text program run.options events account out
 IsShown Explain run text program events account out = IsExplained text program run.options account.acts account.first_race out
 IsShown Stats run text program events account out = out ≡ stats_text (length events) account.logs
 IsShown (Chart charting) run text program events account out = IsCharted charting run text program events account out

@@ -1,8 +1,8 @@
 // The run that a choice asks for, by the way in which it goes on.
 
 ghost use Rattle.std.specs.Prelude.{◌≡◌, ℕ, IfErr, IfOk, List, Ok as Was, Option, false, is_some, option_map, true};
-ghost use Rattle.lrc_cli.specs.Runs.{AreToEnd, IsBriefRun, IsLedFault, IsPlayedFault, IsReported, IsRunFault, IsRunOf, account_of, is_led, options_of};
-ghost use Rattle.lrc_events.specs.EventsText.{Reads};
+ghost use Rattle.lrc_cli.specs.Runs.{AreToEnd, IsBriefRun, IsLedFault, IsPlayedFault, IsReported, IsRunFault, IsRunOfWay, account_of, is_led, options_of};
+ghost use Rattle.lrc_events.specs.EventsText.{ReadsEvents};
 ghost use Rattle.lrc_words.specs.Files.{events_along, is_on_threads};
 ghost use Rattle.lrc_words.specs.declared.choice.Way.TheVariants.{Random as AtRandom, Rounds as InRounds};
 ghost use Rattle.lrc_world.specs.Random.{IsWandering, WanderingWearsOut};
@@ -36,7 +36,7 @@ pub(crate) fn run_of(
 ) -> Result<Run, Fault>
     requires threadless { is_on_threads choice.now.way ≡ false }
     requires events { is_some events ≡ is_some (events_along choice.now.way) }
-    ensures ok { IfOk result (λ run. IsRunOf choice.now.way program.now choice.now.options (option_map (λ e. e.now) events.entry)
+    ensures ok { IfOk result (λ run. IsRunOfWay choice.now.way program.now choice.now.options (option_map (λ e. e.now) events.entry)
         run.events.items (account_of run.report)) }
     ensures err { IfErr result (IsRunFault choice.now.way program.now choice.now.options (option_map (λ e. e.now) events.entry)) }
 {
@@ -89,7 +89,7 @@ fn played(
     program: &Program,
     text: &[u8],
 ) -> Result<Run, Fault>
-    ensures events { IfOk result (λ run. Reads text.now (Was run.events.items)) }
+    ensures events { IfOk result (λ run. ReadsEvents text.now (Was run.events.items)) }
     ensures reported { IfOk result (λ run. IsReported program.now options.now run.events.items (account_of run.report)) }
     ensures err { IfErr result (IsPlayedFault program.now options.now text.now) }
 {

@@ -6,7 +6,7 @@ ghost use Rattle.lrc_cli.specs.Runs.{IsReported, account_of, account_with};
 ghost use Rattle.lrc_cli.specs.Shown.{IsExplained, IsShowFault, IsShown, is_brief, shown_status};
 ghost use Rattle.lrc_protocol.specs.Run.{EntryRecord};
 ghost use Rattle.lrc_protocol.specs.declared.event.Event.{Event as AnyEvent};
-ghost use Rattle.lrc_run.specs.Run.{turns_of};
+ghost use Rattle.lrc_run.specs.Run.{turns_of_nodes};
 ghost use Rattle.lrc_stats.specs.StatsText.{stats_text};
 ghost use Rattle.lrc_text.specs.Parts.{whole_text};
 ghost use Rattle.lrc_words.specs.Files.{names_events, starts_threads};
@@ -236,7 +236,7 @@ fn explained(
 
 // The counts of a run.
 fn counted(alloc: Global, run: &Run) -> Result<Vec<Vec<u8>>, AllocError>
-    ensures { IfOk result (λ parts. whole_text parts.items ≡ stats_text (length run.now.events.items) (turns_of run.now.report)) }
+    ensures { IfOk result (λ parts. whole_text parts.items ≡ stats_text (length run.now.events.items) (turns_of_nodes run.now.report)) }
 {
     let part = stats_part(alloc, run.events.len() as u64, &run.report.logs)?;
     in_one(alloc, part)

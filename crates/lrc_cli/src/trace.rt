@@ -4,7 +4,7 @@ ghost use Rattle.std.specs.Prelude.{◌≡◌, ◌≤◌, ◌<◌, ℕ, All, IfO
 ghost use Rattle.lrc_cli.specs.Answer.{IsTextOf};
 ghost use Rattle.lrc_cli.specs.Lines.{AreLinesIn};
 ghost use Rattle.lrc_cli.specs.Runs.{IsReported, account_of};
-ghost use Rattle.lrc_cli.specs.Shown.{IsTraced, IsWrittenAs};
+ghost use Rattle.lrc_cli.specs.Shown.{IsTraceShown, IsWrittenAs};
 ghost use Rattle.lrc_clock.specs.Keeping.{KeepsTime};
 ghost use Rattle.lrc_events.specs.Writing.{events_text};
 ghost use Rattle.lrc_show.specs.Json.{json_of_acts};
@@ -39,7 +39,7 @@ pub(crate) fn trace_parts(
 ) -> Result<Vec<Vec<u8>>, AllocError>
     requires text { IsTextOf text.now program.now }
     requires reported { IsReported program.now options.now run.now.events.items (account_of run.now.report) }
-    ensures { IfOk result (λ parts. IsTraced form text.now program.now options.now run.now.events.items (account_of run.now.report)
+    ensures { IfOk result (λ parts. IsTraceShown form text.now program.now options.now run.now.events.items (account_of run.now.report)
         (whole_text parts.items)) }
 {
     let nodes = options.nodes.count as u8;

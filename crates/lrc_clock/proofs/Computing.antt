@@ -16,7 +16,7 @@ use Rattle.lrc_trace.proofs.Positions.{Does-within, Does-read, Does-one_node, Do
 use Rattle.lrc_trace.proofs.Intervals.{act_at}
 use Rattle.lrc_time.specs.Time.{entry, joined}
 use Rattle.lrc_clock.specs.Times.{time_at, releases_at, arrives_at, time_before, released_time, arrived_time}
-use Rattle.lrc_clock.specs.Keeping.{KeepsTime, next_time}
+use Rattle.lrc_clock.specs.Keeping.{KeepsTime, next_act_time}
 use Rattle.lrc_clock.proofs.Passing.{releases_at-act, arrives_at-true, arrives_at-act}
 use Rattle.lrc_clock.proofs.Lasting.{last-length, join-length}
 use Rattle.lrc_clock.proofs.Rules.{long}
@@ -98,10 +98,10 @@ keeps-none nodes = record {
 -- an act more is timed
 pub keeps-step : (nodes : ℕ) (run : List Act) (times seen all : List (List ℕ)) (position : ℕ) (d : Act) (time : List ℕ) → position < length run
     → (get_or run position d).node < nodes → KeepsTime nodes (take position run) times → seen ≡ times
-    → time ≡ next_time nodes (take position run) seen (get_or run position d).node (get_or run position d).deed → all ≡ times ++ time ∷ []
+    → time ≡ next_act_time nodes (take position run) seen (get_or run position d).node (get_or run position d).deed → all ≡ times ++ time ∷ []
     → KeepsTime nodes (take (position + 1) run) all
 keeps-step nodes run times seen all position d time lt in_range keeps same is grown =
     let act = get_or run position d in
-    let is' : time ≡ next_time nodes (take position run) times act.node act.deed = is
-    ∙ ap (λ ts. next_time nodes (take position run) ts act.node act.deed) same in
+    let is' : time ≡ next_act_time nodes (take position run) times act.node act.deed = is
+    ∙ ap (λ ts. next_act_time nodes (take position run) ts act.node act.deed) same in
     rw (take_more run position d lt, grown) (keeps-more nodes (take position run) times act time keeps in_range is')

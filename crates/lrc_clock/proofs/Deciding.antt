@@ -11,7 +11,7 @@ use Rattle.lrc_trace.proofs.Positions.{Does-read, Does-one_node, Does-within}
 use Rattle.lrc_trace.proofs.Intervals.{act_at}
 use Rattle.lrc_time.specs.Time.{joined}
 use Rattle.lrc_clock.specs.Times.{time_at, raised, acts_at, releases_at, arrives_at, time_before, stamp_at, released_time, arrived_time}
-use Rattle.lrc_clock.specs.Keeping.{KeepsTime, next_time}
+use Rattle.lrc_clock.specs.Keeping.{KeepsTime, next_act_time}
 use Rattle.lrc_clock.proofs.Prefixes.{last-same, join-same, keeps-more}
 use Rattle.lrc_clock.proofs.Computing.{keeps-none}
 
@@ -21,7 +21,7 @@ module _ (nodes : ℕ) (run : List Act) (in_range : (j node : ℕ) (deed : Deed)
   exist_to (suc n) le =
       let (times, keeps) = exist_to n (omega arith) in
       let (act, does) = act_at run n (omega arith) in
-      let time = next_time nodes (take n run) times (get_or run n act).node (get_or run n act).deed in
+      let time = next_act_time nodes (take n run) times (get_or run n act).node (get_or run n act).deed in
       let lt : (get_or run n act).node < nodes = in_range n (get_or run n act).node (get_or run n act).deed (Does-read run n act (omega arith)) in
       let more = keeps-more nodes (take n run) times (get_or run n act) time keeps lt refl in
       let grown : take (suc n) run ≡ take n run ++ get_or run n act ∷ [] = ap (λ k. take k run) (sym (add-one n)) ∙ take_more run n act (omega arith) in

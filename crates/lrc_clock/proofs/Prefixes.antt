@@ -10,7 +10,7 @@ use Rattle.lrc_trace.proofs.Positions.{slice_get-front, Does-within, Does-longer
 use Rattle.lrc_time.specs.Time.{joined}
 use Rattle.lrc_clock.specs.Times.{time_at, raised, last_time, joined_times, is_act, is_release, acts_at, releases_at}
 use Rattle.lrc_clock.specs.Times.{arrives_at, time_before, stamp_at, released_time, arrived_time}
-use Rattle.lrc_clock.specs.Keeping.{KeepsTime, leaves_time, next_time}
+use Rattle.lrc_clock.specs.Keeping.{KeepsTime, leaves_time, next_act_time}
 
 -- the last of the times, and their join, depend on what passes before j and the times there alone
 module _ (nodes : ℕ) (passes passes' : ℕ → Bool) (times times' : List (List ℕ)) where
@@ -108,7 +108,7 @@ module _ (run more : List Act) (times later : List (List ℕ)) (timed : length t
 
 -- the rule gives every act the next time of its node
 module _ (nodes : ℕ) (run : List Act) (times : List (List ℕ)) where
-  still-next : (node : ℕ) (d : Deed) → leaves_time d ≡ true → next_time nodes run times node d ≡ time_before nodes run times node (length run)
+  still-next : (node : ℕ) (d : Deed) → leaves_time d ≡ true → next_act_time nodes run times node d ≡ time_before nodes run times node (length run)
   still-next node (Acquire l) h = let never : ⊥ = cc in absurd never
   still-next node (Release l) h = let never : ⊥ = cc in absurd never
   still-next node Arrive h = let never : ⊥ = cc in absurd never
@@ -134,7 +134,7 @@ module _ (nodes : ℕ) (run : List Act) (times : List (List ℕ)) (act : Act) (t
         | inr (here, own, is) ↦ ap (λ k. time_at (times ++ later) k) here ∙ last-at ∙ last own is ∙ ap given (sym here)
       ]
 
-  pub keeps-more : act.node < nodes → time ≡ next_time nodes run times act.node act.deed → KeepsTime nodes (run ++ more) (times ++ later)
+  pub keeps-more : act.node < nodes → time ≡ next_act_time nodes run times act.node act.deed → KeepsTime nodes (run ++ more) (times ++ later)
   keeps-more in_range is = record {
     timed = let a = length_push run act in let b = length_push times time in let c = keeps.timed in omega arith;
     in_range = λ j node d h.
@@ -173,16 +173,16 @@ module _ (nodes : ℕ) (run : List Act) (times : List (List ℕ)) (act : Act) (t
         h;
   }
     where
-      given : (node : ℕ) (d : Deed) → act.node ≡ node → act.deed ≡ d → time ≡ next_time nodes run times node d
-      given node d own same = is ∙ ap (λ p. next_time nodes run times p act.deed) own ∙ ap (λ (x : Deed). next_time nodes run times node x) same
+      given : (node : ℕ) (d : Deed) → act.node ≡ node → act.deed ≡ d → time ≡ next_act_time nodes run times node d
+      given node d own same = is ∙ ap (λ p. next_act_time nodes run times p act.deed) own ∙ ap (λ (x : Deed). next_act_time nodes run times node x) same
 
-  pub keeps-last : KeepsTime nodes (run ++ more) (times ++ later) → (act.node < nodes) × (time ≡ next_time nodes run times act.node act.deed)
+  pub keeps-last : KeepsTime nodes (run ++ more) (times ++ later) → (act.node < nodes) × (time ≡ next_act_time nodes run times act.node act.deed)
   keeps-last all = (all.in_range (length run) act.node act.deed last, sym last-at ∙ go act.deed last)
     where
       last : Does (run ++ more) (length run) act.node act.deed
       last = Does-last run act
 
-      go : (d : Deed) → Does (run ++ more) (length run) act.node d → time_at (times ++ later) (length run) ≡ next_time nodes run times act.node d
+      go : (d : Deed) → Does (run ++ more) (length run) act.node d → time_at (times ++ later) (length run) ≡ next_act_time nodes run times act.node d
       go (Acquire l) h = all.acquire (length run) act.node l h ∙ acquired-prefix run more times later keeps.timed nodes act.node l (length run) (omega arith)
       go (Release l) h = all.release (length run) act.node l h ∙ stamp_at-prefix run more times later keeps.timed nodes act.node (length run) (omega arith)
       go Arrive h = all.arrive (length run) act.node h ∙ stamp_at-prefix run more times later keeps.timed nodes act.node (length run) (omega arith)

@@ -18,7 +18,7 @@ use Rattle.lrc_time.specs.Time.{entry}
 use Rattle.lrc_time.proofs.Times.{entry-set_other}
 use Rattle.lrc_clock.specs.Times.{time_at, raised, stamp_at}
 use Rattle.lrc_clock.specs.Keeping.{KeepsTime, leaves_time}
-use Rattle.lrc_clock.specs.Races.{AreUnknown, NamesUnknown, IsSegment, IsRaceOfSegments}
+use Rattle.lrc_clock.specs.Races.{AreUnknown, NamesUnknown, IsSegmentOf, IsRaceOfSegments}
 use Rattle.lrc_clock.proofs.Ordering.{order_to_cover, cover_to_order}
 use Rattle.lrc_clock.proofs.Epochs.{same_interval_same_time, stamp_of_interval}
 
@@ -104,7 +104,7 @@ module _ {nodes : ℕ} {run : List Act} {times : List (List ℕ)} (keeps : Keeps
         },
       )
 
-  segment_of : (i p word index : ℕ) → Accesses run i p word → index ≡ interval_at run p i → IsSegment run times p index (raised (time_at times i) p)
+  segment_of : (i p word index : ℕ) → Accesses run i p word → index ≡ interval_at run p i → IsSegmentOf run times p index (raised (time_at times i) p)
   segment_of i p word index a same = record { position = i; word = word; access = a; interval = sym same; stamp = refl }
 
   pub named_of_segments : (race : Race) → IsNamedRace run race → IsRaceOfSegments run times race
@@ -136,7 +136,7 @@ module _ {nodes : ℕ} {run : List Act} {times : List (List ℕ)} (keeps : Keeps
 
   module _ (waits : WaitsAtBarriers run) where
     -- the time of a segment is that at each access of its interval, with the own entry one greater
-    pub segment_time : (node index i word : ℕ) (time : List ℕ) → IsSegment run times node index time → Accesses run i node word
+    pub segment_time : (node index i word : ℕ) (time : List ℕ) → IsSegmentOf run times node index time → Accesses run i node word
         → interval_at run node i ≡ index → time ≡ raised (time_at times i) node
     segment_time node index i word time s a same =
         let (d, first, still) = access-does s.access in

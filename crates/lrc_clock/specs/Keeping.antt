@@ -35,12 +35,12 @@ pub record KeepsTime (nodes : ℕ) (run : List Act) (times : List (List ℕ)) : 
       ≡ joined (time_before nodes run times node j) (arrived_time nodes run times (departs_before run node j) j)
 
 -- the time that the rule gives to a node's next act, at the end of the run
-abbrev pub next_time : ℕ → List Act → List (List ℕ) → ℕ → Deed → List ℕ
-next_time nodes run times node (Acquire l) =
+abbrev pub next_act_time : ℕ → List Act → List (List ℕ) → ℕ → Deed → List ℕ
+next_act_time nodes run times node (Acquire l) =
     joined (stamp_at nodes run times node (length run)) (released_time nodes run times l (length run))
-next_time nodes run times node (Release l) = stamp_at nodes run times node (length run)
-next_time nodes run times node Arrive = stamp_at nodes run times node (length run)
-next_time nodes run times node Depart =
+next_act_time nodes run times node (Release l) = stamp_at nodes run times node (length run)
+next_act_time nodes run times node Arrive = stamp_at nodes run times node (length run)
+next_act_time nodes run times node Depart =
     joined (time_before nodes run times node (length run))
     (arrived_time nodes run times (departs_before run node (length run)) (length run))
-next_time nodes run times node _ = time_before nodes run times node (length run)
+next_act_time nodes run times node _ = time_before nodes run times node (length run)

@@ -11,9 +11,9 @@ use Rattle.lrc_trace.specs.Interval.{closes, interval_at, IsNamedRace}
 use Rattle.lrc_trace.specs.Synchronization.{IsWellSynchronized, WaitsAtBarriers}
 use Rattle.lrc_time.specs.Time.{zeros, entry, Covers, joined, weight_of}
 use Rattle.lrc_clock.specs.Times.{time_at, raised, time_before, stamp_at, released_time, arrived_time}
-use Rattle.lrc_clock.specs.Keeping.{KeepsTime, leaves_time, next_time}
+use Rattle.lrc_clock.specs.Keeping.{KeepsTime, leaves_time, next_act_time}
 use Rattle.lrc_clock.specs.Cover.{ClosesAt, IsClosedBy, IsClosedBefore, IsClosedAtRelease, IsClosedAtArrive}
-use Rattle.lrc_clock.specs.Races.{AreUnknown, NamesUnknown, IsSegment, IsRaceOfSegments}
+use Rattle.lrc_clock.specs.Races.{AreUnknown, NamesUnknown, IsSegmentOf, IsRaceOfSegments}
 
 -- for every timed run that keeps time,
 abbrev pub OfTimedRuns : (ℕ → List Act → List (List ℕ) → Type 0) → Type 0
@@ -205,7 +205,7 @@ NamedRaceIsOfSegments = OfOrderlyRuns (λ nodes run times. (race : Race) → IsN
 
 -- A segment has one time, that of each of its accesses with the own entry one greater.
 abbrev pub SegmentTime : Type 0
-SegmentTime = OfOrderlyRuns (λ nodes run times. (node index i word : ℕ) (time : List ℕ) → IsSegment run times node index time
+SegmentTime = OfOrderlyRuns (λ nodes run times. (node index i word : ℕ) (time : List ℕ) → IsSegmentOf run times node index time
     → Accesses run i node word → interval_at run node i ≡ index → time ≡ raised (time_at times i) node)
 
 -- Behind an access, the node's time stands still until it closes the interval,
@@ -272,7 +272,7 @@ KeepsOnPrefix = (nodes : ℕ) (run more : List Act) (times later : List (List �
 abbrev pub KeepsByOneMore : Type 0
 KeepsByOneMore = (nodes : ℕ) (run : List Act) (times : List (List ℕ)) (act : Act) (time : List ℕ) → KeepsTime nodes run times
     → KeepsTime nodes (run ++ act ∷ []) (times ++ time ∷ [])
-    ↔ ((act.node < nodes) × (time ≡ next_time nodes run times act.node act.deed))
+    ↔ ((act.node < nodes) × (time ≡ next_act_time nodes run times act.node act.deed))
 
 -- ---- the rule determines the times
 

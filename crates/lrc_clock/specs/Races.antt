@@ -28,7 +28,7 @@ abbrev pub AccessesIn : List Act → ℕ → ℕ → ℕ → Type 0
 AccessesIn run node index word = (i : ℕ) × Accesses run i node word × (interval_at run node i ≡ index)
 
 -- A segment: an interval of a node with an access, and the node's time in it with the own entry one greater.
-pub record IsSegment (run : List Act) (times : List (List ℕ)) (node index : ℕ) (time : List ℕ) : Type 0 where
+pub record IsSegmentOf (run : List Act) (times : List (List ℕ)) (node index : ℕ) (time : List ℕ) : Type 0 where
   pub position : ℕ
   pub word : ℕ
   pub access : Accesses run position node word
@@ -41,8 +41,8 @@ pub record IsRaceOfSegments (run : List Act) (times : List (List ℕ)) (race : R
   pub ascending : race.node_a < race.node_b
   pub time_a : List ℕ
   pub time_b : List ℕ
-  pub segment_a : IsSegment run times race.node_a race.interval_a time_a
-  pub segment_b : IsSegment run times race.node_b race.interval_b time_b
+  pub segment_a : IsSegmentOf run times race.node_a race.interval_a time_a
+  pub segment_b : IsSegmentOf run times race.node_b race.interval_b time_b
   pub accesses : (WritesIn run race.node_a race.interval_a race.word × AccessesIn run race.node_b race.interval_b race.word)
       ⊎ (AccessesIn run race.node_a race.interval_a race.word × WritesIn run race.node_b race.interval_b race.word)
   pub unknown_a : entry time_b race.node_a < race.interval_a

@@ -3,7 +3,7 @@ ghost use Rattle.std.specs.Prelude.{◌≡◌, ◌+◌, ◌<◌, ◌≤◌, ◌^
 ghost use Rattle.lrc_trace.specs.Run.{departs_before};
 ghost use Rattle.lrc_trace.specs.Synchronization.{IsWellSynchronized};
 ghost use Rattle.lrc_clock.specs.Times.{time_before, released_time, arrived_time, time_or_zeros};
-ghost use Rattle.lrc_clock.specs.Keeping.{KeepsTime, next_time};
+ghost use Rattle.lrc_clock.specs.Keeping.{KeepsTime, next_act_time};
 
 use lrc_judge::synchronization::first_fault_of_synchronization;
 use lrc_time::{MOST_NODES, Time};
@@ -95,7 +95,7 @@ fn time_after(acts: &[Act], times: &[Time], act: Act, nodes: u8) -> Time
     requires node { act.node < nodes }
     requires short { length acts.now + 1 < 2 ^ 32 }
     requires keeps { KeepsTime nodes acts.now times.now }
-    ensures { result ≡ next_time nodes acts.now times.now act.node act.deed }
+    ensures { result ≡ next_act_time nodes acts.now times.now act.node act.deed }
 {
     let mut time = time_of_node(acts, times, act.node, nodes);
     match act.deed {

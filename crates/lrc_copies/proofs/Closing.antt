@@ -4,7 +4,7 @@ use Rattle.std.specs.Prelude.{Contains, unwrap_or}
 use Rattle.std.proofs.lemmas.Bool.{cases_eq, eq-eqb, ne_eqb}
 use Rattle.std.proofs.lemmas.List.Elements.{Contains-append_left, Contains-push_cases}
 use Rattle.lrc_copies.specs.Word.{WordHistory, Fits, AgreeOn}
-use Rattle.lrc_copies.specs.Sound.{those_below, IsLighterBelow, IsSound, IsAddedLast, difference, IsClosed}
+use Rattle.lrc_copies.specs.Sound.{those_below, IsLighterBelow, IsSoundList, IsAddedLast, difference, IsClosedFrom}
 use Rattle.lrc_copies.proofs.Members.{Contains-filter, Contains-from_filter}
 use Rattle.lrc_copies.proofs.Fitting.{option_cases, same_members, fits_writers, fits_agreed}
 
@@ -42,8 +42,8 @@ module _ {A : Type 0} (w : WordHistory A) (all : List A) (x : A) (added : IsAdde
       absurd (added.newest b b_in above))
       (Contains-push_cases all x a a_in)
 
-  pub sound_added : IsSound w all → ((v : ℕ) → w.change x ≡ Some v → w.wrote x ≡ Some v)
-      → ((v : ℕ) → w.wrote x ≡ Some v → w.change x ≡ None → Fits w v (those_below w all x)) → IsSound w (all ++ x ∷ [])
+  pub sound_added : IsSoundList w all → ((v : ℕ) → w.change x ≡ Some v → w.wrote x ≡ Some v)
+      → ((v : ℕ) → w.wrote x ≡ Some v → w.change x ≡ None → Fits w v (those_below w all x)) → IsSoundList w (all ++ x ∷ [])
   sound_added sound new_change new_silent = record {
     lighter = lighter sound.lighter;
     change = λ a v a_in given. ⊎_elim
@@ -57,7 +57,7 @@ module _ {A : Type 0} (w : WordHistory A) (all : List A) (x : A) (added : IsAdde
         (Contains-push_cases all x a a_in));
   }
 
-  pub sound_unwritten : IsSound w all → w.wrote x ≡ None → w.change x ≡ None → IsSound w (all ++ x ∷ [])
+  pub sound_unwritten : IsSoundList w all → w.wrote x ≡ None → w.change x ≡ None → IsSoundList w (all ++ x ∷ [])
   sound_unwritten sound unwritten unchanged = sound_added sound (λ v given. absurd (cc)) (λ v wrote none. absurd (cc))
 
 -- ---- closing
@@ -69,7 +69,7 @@ difference-same twin value same = rw (eq-eqb twin value same) refl
 pub difference-differs : (twin value : ℕ) → (twin ≡ value → ⊥) → difference twin value ≡ Some value
 difference-differs twin value differ = rw (ne_eqb twin value differ) refl
 
-module _ {A : Type 0} (w : WordHistory A) (all : List A) (x : A) (twin value : ℕ) (closed : IsClosed w all x twin value) where
+module _ {A : Type 0} (w : WordHistory A) (all : List A) (x : A) (twin value : ℕ) (closed : IsClosedFrom w all x twin value) where
   -- the new one's change is what it wrote last
   new_change : (v : ℕ) → w.change x ≡ Some v → w.wrote x ≡ Some v
   new_change v given =
@@ -101,7 +101,7 @@ module _ {A : Type 0} (w : WordHistory A) (all : List A) (x : A) (twin value : �
       absurd (cc))
       (cases_eq twin value)
 
-  pub sound_closed : IsAddedLast w.weight w.below all x → IsSound w all → IsSound w (all ++ x ∷ [])
+  pub sound_closed : IsAddedLast w.weight w.below all x → IsSoundList w all → IsSoundList w (all ++ x ∷ [])
   sound_closed added sound =
       sound_added w all x added sound new_change
       (λ v wrote none. subst (λ u. Fits w u (those_below w all x)) (new_silent v wrote none) closed.fits)
@@ -127,7 +127,7 @@ module _ {A : Type 0} (w w' : WordHistory A) (all : List A) (agree : AgreeOn all
     below = λ b c b_in c_in. agree.below b c (Contains-from_filter (λ d. w.below d a) all b b_in).0 (Contains-from_filter (λ d. w.below d a) all c c_in).0;
   }
 
-  pub sound_agreed : IsSound w all → IsSound w' all
+  pub sound_agreed : IsSoundList w all → IsSoundList w' all
   sound_agreed sound = record {
     lighter = λ a b a_in b_in under.
         let less = sound.lighter a b a_in b_in (agree.below a b a_in b_in ∙ under) in

@@ -5,7 +5,7 @@ use Rattle.std.specs.Prelude.{Contains, is_some}
 use Rattle.std.specs.List.{list_all, list_any}
 use Rattle.std.proofs.lemmas.Bool.{and_parts, and_from, or_cases, eqb-true, eq-eqb, not-true, false≢true, cases_Bool}
 use Rattle.lrc_copies.specs.Word.{WordHistory, IsWriter, AreWritersOrdered, IsLastWriter, IsLastValue, Fits}
-use Rattle.lrc_copies.specs.Decided.{writers, is_value, are_ordered, is_last, is_written, fits}
+use Rattle.lrc_copies.specs.Decided.{writers, is_value, are_ordered, is_last, has_writer, fits_list}
 use Rattle.lrc_copies.proofs.Members.{Contains-first, Contains-later, cases_Contains, none_Contains, Contains-filter, Contains-from_filter}
 
 -- ---- tests of all members, or of some
@@ -120,16 +120,16 @@ module _ (w : WordHistory ℕ) (xs : List ℕ) where
 
   -- ---- the value
 
-  latest_true : (value : ℕ) → (is_written w xs || (eqb value 0)) ≡ true
+  latest_true : (value : ℕ) → (has_writer w xs || (eqb value 0)) ≡ true
       → list_all (λ a. not (is_last w xs a) || is_value value (w.wrote a)) (writers w xs) ≡ true → IsLastValue w xs value
   latest_true value first rest = record {
     none = λ none. ⊎_elim
-        (λ (written : is_written w xs ≡ true).
+        (λ (written : has_writer w xs ≡ true).
         let found = any_some (λ a. is_some (w.wrote a)) xs written in
         let v = value_of_some (w.wrote found.0) found.2 in
         absurd (none found.0 v.0 (record { member = found.1; wrote = v.1 })))
         (λ (zero : eqb value 0 ≡ true). eqb-true value 0 zero)
-        (or_cases (is_written w xs) (eqb value 0) first);
+        (or_cases (has_writer w xs) (eqb value 0) first);
     last = λ a v last. ⊎_elim
         (λ (not_last : not (is_last w xs a) ≡ true). absurd (false≢true (sym (not-true (is_last w xs a) not_last) ∙ last_from a v last)))
         (λ (has : is_value value (w.wrote a) ≡ true).
@@ -141,14 +141,14 @@ module _ (w : WordHistory ℕ) (xs : List ℕ) where
   }
 
   latest_from : (value : ℕ) → IsLastValue w xs value
-      → ((is_written w xs || (eqb value 0)) ≡ true) × (list_all (λ a. not (is_last w xs a) || is_value value (w.wrote a)) (writers w xs) ≡ true)
+      → ((has_writer w xs || (eqb value 0)) ≡ true) × (list_all (λ a. not (is_last w xs a) || is_value value (w.wrote a)) (writers w xs) ≡ true)
   latest_from value latest = (
     ⊎_elim
-        (λ (written : is_written w xs ≡ true). or_left (is_written w xs) (eqb value 0) written)
-        (λ (unwritten : is_written w xs ≡ false).
-        or_right (is_written w xs) (eqb value 0) (eq-eqb value 0 (latest.none (λ a v h.
+        (λ (written : has_writer w xs ≡ true). or_left (has_writer w xs) (eqb value 0) written)
+        (λ (unwritten : has_writer w xs ≡ false).
+        or_right (has_writer w xs) (eqb value 0) (eq-eqb value 0 (latest.none (λ a v h.
         false≢true (sym unwritten ∙ any_from (λ b. is_some (w.wrote b)) xs a h.member (some_from (w.wrote a) v h.wrote))))))
-        (cases_Bool (is_written w xs)),
+        (cases_Bool (has_writer w xs)),
     all_from (λ a. not (is_last w xs a) || is_value value (w.wrote a)) (writers w xs)
         (λ a a_in.
         let g = from_writers a a_in in
@@ -160,7 +160,7 @@ module _ (w : WordHistory ℕ) (xs : List ℕ) where
         (cases_Bool (is_last w xs a))),
   )
 
-  pub fits_true : (value : ℕ) → fits w value xs ≡ true → Fits w value xs
+  pub fits_true : (value : ℕ) → fits_list w value xs ≡ true → Fits w value xs
   fits_true value holds =
       let parts = and_parts ((eqb value 0) || list_any (λ a. is_value value (w.wrote a)) xs) _ holds in record {
         weak = ⊎_elim
@@ -173,12 +173,12 @@ module _ (w : WordHistory ℕ) (xs : List ℕ) where
             (λ (unordered : not (are_ordered w xs) ≡ true).
             absurd (false≢true (sym (not-true (are_ordered w xs) unordered) ∙ ordered_from ordered)))
             (λ latest.
-            let halves = and_parts (is_written w xs || (eqb value 0)) _ latest in
+            let halves = and_parts (has_writer w xs || (eqb value 0)) _ latest in
             latest_true value halves.0 halves.1)
             (or_cases (not (are_ordered w xs)) _ parts.1);
       }
 
-  pub fits_from : (value : ℕ) → Fits w value xs → fits w value xs ≡ true
+  pub fits_from : (value : ℕ) → Fits w value xs → fits_list w value xs ≡ true
   fits_from value h =
       and_from _ _
       (⊎_elim
@@ -194,5 +194,5 @@ module _ (w : WordHistory ℕ) (xs : List ℕ) where
       (λ (unordered : are_ordered w xs ≡ false). or_left (not (are_ordered w xs)) _ (ap not unordered))
       (cases_Bool (are_ordered w xs)))
 
-pub decided : (w : WordHistory ℕ) (value : ℕ) (xs : List ℕ) → IsTrue (fits w value xs) ↔ Fits w value xs
+pub decided : (w : WordHistory ℕ) (value : ℕ) (xs : List ℕ) → IsTrue (fits_list w value xs) ↔ Fits w value xs
 decided w value xs = (fits_true w xs value, fits_from w xs value)

@@ -15,7 +15,7 @@ use Rattle.lrc_time.specs.Time.{entry}
 use Rattle.lrc_page.specs.declared.changes.Change.{Change}
 use Rattle.lrc_copies.specs.Word.{WordHistory, IsWriter, AreWritersOrdered, IsLastWriter, Fits}
 use Rattle.lrc_copies.specs.Page.{at_word, PageFits}
-use Rattle.lrc_copies.specs.Stamps.{Stamps, index_of, is_covered, page_of_stamps}
+use Rattle.lrc_copies.specs.Stamps.{Stamps, stamp_index, stamps_covered, page_of_stamps}
 use Rattle.lrc_copies.specs.Reading.{IsLastOf, HasWritesBefore, ListsWrites}
 use Rattle.lrc_copies.proofs.Fitting.{option_cases}
 use Rattle.lrc_copies.proofs.Stamping.{covered-le, le-covered, below-from}
@@ -90,7 +90,7 @@ module _ {A : Type 0} (run : List Act) (j node word : ℕ) (s : Stamps A) (wrote
 
   -- a position is in an interval where its node acts there, in its interval with that index
   abbrev inside : A → ℕ → Type 0
-  inside a i = (value : ℕ) × Does run i (s.node a) (Write word value) × (interval_at run (s.node a) i ≡ index_of s a)
+  inside a i = (value : ℕ) × Does run i (s.node a) (Write word value) × (interval_at run (s.node a) i ≡ stamp_index s a)
 
   -- a write that happens before j is in a member
   in_member : (i value : ℕ) → WrittenBefore run j word i value → (a : A) × Contains xs a × inside a i
@@ -112,29 +112,29 @@ module _ {A : Type 0} (run : List Act) (j node word : ℕ) (s : Stamps A) (wrote
 
   -- what is written in a member before j happens before j
   before_read : (a : A) (i value : ℕ) → Contains xs a → i < j → Does run i (s.node a) (Write word value)
-      → interval_at run (s.node a) i ≡ index_of s a → HappensBefore run i j
+      → interval_at run (s.node a) i ≡ stamp_index s a → HappensBefore run i j
   before_read a i value a_in earlier does inside =
       ⊎_elim
       (λ (own : s.node a ≡ node).
       base (program earlier does (subst (λ m. Does run j m lists.deed) (sym own) lists.acts)))
       (λ (apart : s.node a ≡ node → ⊥). ⊎_elim
       (λ (own : s.node a ≡ node). absurd (apart own))
-      (λ (known : IsTrue (is_covered s time a)).
+      (λ (known : IsTrue (stamps_covered s time a)).
       let most = covered-le s time a known in
       (lists.cover i (s.node a) (Write word value) apart does).1 (omega arith))
       (lists.known a a_in))
       (cases_eq (s.node a) node)
 
-  below_by_index : (a b : A) → Contains xs a → Contains xs b → s.node a ≡ s.node b → index_of s a ≤ index_of s b
+  below_by_index : (a b : A) → Contains xs a → Contains xs b → s.node a ≡ s.node b → stamp_index s a ≤ stamp_index s b
       → (a ≡ b) ⊎ IsTrue (w.below a b)
   below_by_index a b a_in b_in nodes le =
       ⊎_elim
-      (λ (same : index_of s a ≡ index_of s b). inl (lists.one a b a_in b_in nodes same))
-      (λ (differ : index_of s a ≡ index_of s b → ⊥).
+      (λ (same : stamp_index s a ≡ stamp_index s b). inl (lists.one a b a_in b_in nodes same))
+      (λ (differ : stamp_index s a ≡ stamp_index s b → ⊥).
       let entries : entry (s.stamp b) (s.node a) ≡ entry (s.stamp b) (s.node b) = ap (entry (s.stamp b)) nodes in
       inr (below-from s a b (le-covered s (s.stamp b) a (omega arith))
-      (λ same. differ (eqb-true (index_of s a) (index_of s b) (and_parts (eqb (s.node a) (s.node b)) (eqb (index_of s a) (index_of s b)) same).1))))
-      (cases_eq (index_of s a) (index_of s b))
+      (λ same. differ (eqb-true (stamp_index s a) (stamp_index s b) (and_parts (eqb (s.node a) (s.node b)) (eqb (stamp_index s a) (stamp_index s b)) same).1))))
+      (cases_eq (stamp_index s a) (stamp_index s b))
 
   has_writes : HasWritesBefore run j word w inside xs
   has_writes = record {
@@ -175,7 +175,7 @@ module _ {A : Type 0} (run : List Act) (j node word : ℕ) (s : Stamps A) (wrote
         (λ (apart : s.node a ≡ s.node b → ⊥).
         inr (below-from s a b
         (lists.stamped a b i k in_a.0 in_b.0 g.member h.member apart in_a.1 in_a.2 in_b.1 in_b.2 order)
-        (λ same. apart (eqb-true (s.node a) (s.node b) (and_parts (eqb (s.node a) (s.node b)) (eqb (index_of s a) (index_of s b)) same).0))))
+        (λ same. apart (eqb-true (s.node a) (s.node b) (and_parts (eqb (s.node a) (s.node b)) (eqb (stamp_index s a) (stamp_index s b)) same).0))))
         (cases_eq (s.node a) (s.node b));
   }
 

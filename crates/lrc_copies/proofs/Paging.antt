@@ -10,7 +10,7 @@ use Rattle.lrc_page.specs.Page.{words_of, zero_page}
 use Rattle.lrc_page.specs.Changes.{applied, change_at, changes_between}
 use Rattle.lrc_page.proofs.ChangeLists.{length-fold-applied, get_or-fold-applied, change_at-between_same, change_at-between_differs}
 use Rattle.lrc_copies.specs.Word.{IsWriter, Fits, AgreeOn}
-use Rattle.lrc_copies.specs.Sound.{IsAddedLast, difference, AreNext, repaired_value}
+use Rattle.lrc_copies.specs.Sound.{IsAddedLast, difference, AreAddable, repaired_value}
 use Rattle.lrc_copies.specs.Page.{PageHistory, AgreeOnPage, AgreeOnChanges, at_word, PageFits, IsPageSound, IsUntouchedBy}
 use Rattle.lrc_copies.specs.Page.{IsMoreUntouched, IsWrittenOnce, IsMadeOf, IsClosedWith, page_below, ArePageNext}
 use Rattle.lrc_copies.proofs.Members.{Contains-first}
@@ -92,7 +92,7 @@ module _ {A : Type 0} (h : PageHistory A) where
   page_repaired all xs more copy sound within next fits offset below =
       let inside : offset < length copy = omega (arith, length-fold-applied copy (map h.changes more)) in
       let w = at_word h offset in
-      let words : AreNext w all xs more = record {
+      let words : AreAddable w all xs more = record {
         members = next.members;
         complete = λ x a v x_in g under. ⊎_elim inl
             (λ (either : Contains more a ⊎ IsUntouchedBy h (length copy) a).

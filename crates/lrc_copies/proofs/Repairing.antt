@@ -3,14 +3,14 @@ use Rattle.std.proofs.Common.{◌≡◌, ℕ, ◌<◌, ◌≤◌, ◌⊎◌, ◌
 use Rattle.std.specs.Prelude.{Contains, unwrap_or}
 use Rattle.std.proofs.lemmas.List.Elements.{Contains-append_left, Contains-append_right, Contains-append_cases}
 use Rattle.lrc_copies.specs.Word.{WordHistory, IsWriter, IsUnwritten, AreWritersOrdered, IsLastWriter, IsLastValue, Fits}
-use Rattle.lrc_copies.specs.Sound.{those_below, IsLighterBelow, IsSound, IsNext, AreNext, repaired_value}
+use Rattle.lrc_copies.specs.Sound.{those_below, IsLighterBelow, IsSoundList, IsAddable, AreAddable, repaired_value}
 use Rattle.lrc_copies.proofs.Members.{Contains-first, Contains-later, cases_Contains, none_Contains}
 use Rattle.lrc_copies.proofs.Members.{Contains-filter, Contains-from_filter, AllPairs-first, AllPairs-rest}
 use Rattle.lrc_copies.proofs.Fitting.{option_cases, writer_in, ordered_in, fits_writers, same_members, fits_silent, newest_fits}
 use Rattle.lrc_copies.proofs.Heaviest.{found_last}
 
-module _ {A : Type 0} (w : WordHistory A) (all xs : List A) (x : A) (sound : IsSound w all)
-    (within : (a : A) → Contains xs a → Contains all a) (next : IsNext w all xs x) where
+module _ {A : Type 0} (w : WordHistory A) (all xs : List A) (x : A) (sound : IsSoundList w all)
+    (within : (a : A) → Contains xs a → Contains all a) (next : IsAddable w all xs x) where
   -- the members of the list that are below a member of all
   lighter_in : IsLighterBelow w xs
   lighter_in a b a_in b_in = sound.lighter a b (within a a_in) (within b b_in)
@@ -81,8 +81,8 @@ module _ {A : Type 0} (w : WordHistory A) (all xs : List A) (x : A) (sound : IsS
 
 -- ---- several
 
-module _ {A : Type 0} (w : WordHistory A) (all : List A) (sound : IsSound w all) where
-  first_next : (xs : List A) (x : A) (more : List A) → AreNext w all xs (x ∷ more) → IsNext w all xs x
+module _ {A : Type 0} (w : WordHistory A) (all : List A) (sound : IsSoundList w all) where
+  first_next : (xs : List A) (x : A) (more : List A) → AreAddable w all xs (x ∷ more) → IsAddable w all xs x
   first_next xs x more next = record {
     member = next.members x (Contains-first x more);
     complete = λ a v h under.
@@ -99,7 +99,7 @@ module _ {A : Type 0} (w : WordHistory A) (all : List A) (sound : IsSound w all)
     newer = next.newer x (Contains-first x more);
   }
 
-  rest_next : (xs : List A) (x : A) (more : List A) → AreNext w all xs (x ∷ more) → AreNext w all (x ∷ xs) more
+  rest_next : (xs : List A) (x : A) (more : List A) → AreAddable w all xs (x ∷ more) → AreAddable w all (x ∷ xs) more
   rest_next xs x more next = record {
     members = λ a h. next.members a (Contains-later x more a h);
     complete = λ y a v h g under. ⊎_elim
@@ -153,7 +153,7 @@ module _ {A : Type 0} (w : WordHistory A) (all : List A) (sound : IsSound w all)
   none_less : (xs : List A) (a : A) → Contains (xs ++ []) a → Contains xs a
   none_less xs a h = ⊎_elim (λ front. front) (λ back. absurd (none_Contains a back)) (Contains-append_cases xs [] a h)
 
-  pub fits_all_next : (xs more : List A) (v : ℕ) → ((a : A) → Contains xs a → Contains all a) → AreNext w all xs more
+  pub fits_all_next : (xs more : List A) (v : ℕ) → ((a : A) → Contains xs a → Contains all a) → AreAddable w all xs more
       → Fits w v xs → Fits w (repaired_value w v more) (xs ++ more)
   fits_all_next xs [] v within next fits =
       fits_writers w v xs (xs ++ []) (same_members w xs (xs ++ []) (none_more xs) (none_less xs)) fits

@@ -22,13 +22,13 @@ abbrev pub is_last : WordHistory ℕ → List ℕ → ℕ → Bool
 is_last w xs a = list_all (λ b. (b == a) || w.below b a) (writers w xs)
 
 -- whether there is a writer
-abbrev pub is_written : WordHistory ℕ → List ℕ → Bool
-is_written w xs = list_any (λ a. is_some (w.wrote a)) xs
+abbrev pub has_writer : WordHistory ℕ → List ℕ → Bool
+has_writer w xs = list_any (λ a. is_some (w.wrote a)) xs
 
 -- whether the value fits the list
-abbrev pub fits : WordHistory ℕ → ℕ → List ℕ → Bool
-fits w value xs =
+abbrev pub fits_list : WordHistory ℕ → ℕ → List ℕ → Bool
+fits_list w value xs =
     ((value == 0) || list_any (λ a. is_value value (w.wrote a)) xs)
     && (not (are_ordered w xs)
-    || ((is_written w xs || (value == 0))
+    || ((has_writer w xs || (value == 0))
     && list_all (λ a. not (is_last w xs a) || is_value value (w.wrote a)) (writers w xs)))

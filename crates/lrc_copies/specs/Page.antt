@@ -4,7 +4,7 @@ use Rattle.std.specs.Prelude.{List, ◌∷◌, length, filter, slice_index, Cont
 use Rattle.lrc_page.specs.declared.changes.Change.{Change}
 use Rattle.lrc_page.specs.Changes.{change_at, changes_between}
 use Rattle.lrc_copies.specs.Word.{WordHistory, Fits}
-use Rattle.lrc_copies.specs.Sound.{IsSound}
+use Rattle.lrc_copies.specs.Sound.{IsSoundList}
 
 -- What each interval did to the page, and how the intervals stand to one another.
 pub record PageHistory (A : Type 0) : Type 0 where
@@ -31,7 +31,7 @@ PageFits h copy xs = (offset : ℕ) → offset < length copy → Fits (at_word h
 
 -- the list is sound for each of so many words
 abbrev pub IsPageSound : {A : Type 0} → PageHistory A → ℕ → List A → Type 0
-IsPageSound h words all = (offset : ℕ) → offset < words → IsSound (at_word h offset) all
+IsPageSound h words all = (offset : ℕ) → offset < words → IsSoundList (at_word h offset) all
 
 -- the interval wrote no word of a page of so many words
 abbrev pub IsUntouchedBy : {A : Type 0} → PageHistory A → ℕ → A → Type 0

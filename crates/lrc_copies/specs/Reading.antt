@@ -9,7 +9,7 @@ use Rattle.lrc_trace.specs.Interval.{interval_at}
 use Rattle.lrc_trace.specs.Reading.{WrittenBefore}
 use Rattle.lrc_time.specs.Time.{entry}
 use Rattle.lrc_copies.specs.Word.{WordHistory, IsWriter}
-use Rattle.lrc_copies.specs.Stamps.{Stamps, index_of, is_covered}
+use Rattle.lrc_copies.specs.Stamps.{Stamps, stamp_index, stamps_covered}
 
 -- ---- in any intervals
 
@@ -52,17 +52,17 @@ pub record ListsWrites {A : Type 0} (run : List Act) (j node word : ℕ) (s : St
   -- every earlier write of the node itself or in an interval that the time covers is in a member,
   pub listed : (i other value : ℕ) → i < j → Does run i other (Write word value)
       → (other ≡ node) ⊎ (interval_at run other i ≤ entry time other)
-      → (a : A) × Contains xs a × (s.node a ≡ other) × (index_of s a ≡ interval_at run other i)
+      → (a : A) × Contains xs a × (s.node a ≡ other) × (stamp_index s a ≡ interval_at run other i)
   -- and the members are intervals of the node or such as the time covers, each there as one alone;
-  pub known : (a : A) → Contains xs a → (s.node a ≡ node) ⊎ IsTrue (is_covered s time a)
-  pub one : (a b : A) → Contains xs a → Contains xs b → s.node a ≡ s.node b → index_of s a ≡ index_of s b → a ≡ b
+  pub known : (a : A) → Contains xs a → (s.node a ≡ node) ⊎ IsTrue (stamps_covered s time a)
+  pub one : (a b : A) → Contains xs a → Contains xs b → s.node a ≡ s.node b → stamp_index s a ≡ stamp_index s b → a ≡ b
   -- what a member wrote is its last write, and where it wrote nothing it has none;
   pub wrote_last : (a : A) (value : ℕ) → Contains xs a → wrote a ≡ Some value
-      → (i : ℕ) × IsLastWriteIn run j word (s.node a) (index_of s a) i value
+      → (i : ℕ) × IsLastWriteIn run j word (s.node a) (stamp_index s a) i value
   pub wrote_none : (a : A) → Contains xs a → wrote a ≡ None
-      → (i value : ℕ) → i < j → Does run i (s.node a) (Write word value) → interval_at run (s.node a) i ≢ index_of s a
+      → (i value : ℕ) → i < j → Does run i (s.node a) (Write word value) → interval_at run (s.node a) i ≢ stamp_index s a
   -- and a member's stamp covers another node's member where a write in that one happens before a write in it.
   pub stamped : (a b : A) (i k u v : ℕ) → Contains xs a → Contains xs b → s.node a ≢ s.node b
-      → Does run i (s.node a) (Write word u) → interval_at run (s.node a) i ≡ index_of s a
-      → Does run k (s.node b) (Write word v) → interval_at run (s.node b) k ≡ index_of s b
-      → HappensBefore run i k → IsTrue (is_covered s (s.stamp b) a)
+      → Does run i (s.node a) (Write word u) → interval_at run (s.node a) i ≡ stamp_index s a
+      → Does run k (s.node b) (Write word v) → interval_at run (s.node b) k ≡ stamp_index s b
+      → HappensBefore run i k → IsTrue (stamps_covered s (s.stamp b) a)

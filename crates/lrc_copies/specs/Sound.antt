@@ -12,7 +12,7 @@ abbrev pub IsLighterBelow : {A : Type 0} → WordHistory A → List A → Type 0
 IsLighterBelow {A} w all = (a b : A) → Contains all a → Contains all b → IsTrue (w.below a b) → w.weight a < w.weight b
 
 -- The list is sound:
-pub record IsSound {A : Type 0} (w : WordHistory A) (all : List A) : Type 0 where
+pub record IsSoundList {A : Type 0} (w : WordHistory A) (all : List A) : Type 0 where
   -- what is below weighs less,
   pub lighter : IsLighterBelow w all
   -- what a member's changes give is what it wrote last,
@@ -35,7 +35,7 @@ abbrev pub difference : ℕ → ℕ → Option ℕ
 difference twin value = if twin == value then None else Some value
 
 -- An interval is closed, whose twin had one value at the word and whose copy has another:
-pub record IsClosed {A : Type 0} (w : WordHistory A) (all : List A) (x : A) (twin value : ℕ) : Type 0 where
+pub record IsClosedFrom {A : Type 0} (w : WordHistory A) (all : List A) (x : A) (twin value : ℕ) : Type 0 where
   -- the twin fits what is below it,
   pub fits : Fits w twin (those_below w all x)
   -- the copy has what it wrote last, or else what the twin has,
@@ -50,7 +50,7 @@ abbrev pub repaired_value : {A : Type 0} → WordHistory A → ℕ → List A �
 repaired_value w value xs = fold (λ v a. unwrap_or (w.change a) v) value xs
 
 -- One interval can be added to a list:
-pub record IsNext {A : Type 0} (w : WordHistory A) (all xs : List A) (x : A) : Type 0 where
+pub record IsAddable {A : Type 0} (w : WordHistory A) (all xs : List A) (x : A) : Type 0 where
   -- it is one of all,
   pub member : Contains all x
   -- all writers below it are in,
@@ -59,7 +59,7 @@ pub record IsNext {A : Type 0} (w : WordHistory A) (all xs : List A) (x : A) : T
   pub newer : IsBelowNone w x xs
 
 -- Several can, one after another:
-pub record AreNext {A : Type 0} (w : WordHistory A) (all xs more : List A) : Type 0 where
+pub record AreAddable {A : Type 0} (w : WordHistory A) (all xs more : List A) : Type 0 where
   -- they are some of all,
   pub members : (x : A) → Contains more x → Contains all x
   -- all writers below one of them are in, or among them,

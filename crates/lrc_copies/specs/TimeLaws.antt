@@ -5,13 +5,13 @@ use Rattle.lrc_page.specs.declared.changes.Change.{Change}
 use Rattle.lrc_page.specs.Changes.{applied}
 use Rattle.lrc_copies.specs.Sound.{IsAddedLast}
 use Rattle.lrc_copies.specs.Page.{PageFits, IsPageSound, IsUntouchedBy, IsClosedWith}
-use Rattle.lrc_copies.specs.Stamps.{Stamps, stamp_weight, is_covered, covered, is_below, comes_before}
-use Rattle.lrc_copies.specs.Stamps.{page_of_stamps, IsCut, AreStamped, IsClosedAt, IsBetween, AreLacking}
+use Rattle.lrc_copies.specs.Stamps.{Stamps, stamp_weight, stamps_covered, covered, stamps_below, comes_before}
+use Rattle.lrc_copies.specs.Stamps.{page_of_stamps, IsCut, AreStamped, IsClosedAt, StandsBetween, AreLacking}
 
 -- An interval that is below another weighs less.
 abbrev pub StampsBelowWeighLess : Type 0 → Type 0
 StampsBelowWeighLess A = (s : Stamps A) (nodes : ℕ) (all : List A) (a b : A) → AreStamped s nodes all → Contains all a → Contains all b
-    → IsTrue (is_below s a b) → stamp_weight s a < stamp_weight s b
+    → IsTrue (stamps_below s a b) → stamp_weight s a < stamp_weight s b
 
 -- The interval that a node closes next keeps the list stamped; it is added last; and what was a cut without covering it
 -- still is.
@@ -21,10 +21,10 @@ ClosingKeepsStamps A = (s : Stamps A) (nodes : ℕ) (all : List A) (time : List 
 
 abbrev pub ClosingAddsLast : Type 0 → Type 0
 ClosingAddsLast A = (s : Stamps A) (nodes : ℕ) (all : List A) (time : List ℕ) (x : A) → IsClosedAt s nodes all time x
-    → IsAddedLast (stamp_weight s) (is_below s) all x
+    → IsAddedLast (stamp_weight s) (stamps_below s) all x
 
 abbrev pub ClosingKeepsCuts : Type 0 → Type 0
-ClosingKeepsCuts A = (s : Stamps A) (all : List A) (time : List ℕ) (x : A) → IsCut s all time → ¬ IsTrue (is_covered s time x)
+ClosingKeepsCuts A = (s : Stamps A) (all : List A) (time : List ℕ) (x : A) → IsCut s all time → ¬ IsTrue (stamps_covered s time x)
     → IsCut s (all ++ x ∷ []) time
 
 -- The time that covers nothing is a cut, and so is the join of two cuts, which covers what one of the two does.
@@ -35,8 +35,8 @@ abbrev pub JoinsAreCuts : Type 0 → Type 0
 JoinsAreCuts A = (s : Stamps A) (all : List A) (t u : List ℕ) → IsCut s all t → IsCut s all u → IsCut s all (joined t u)
 
 abbrev pub JoinsCoverEither : Type 0 → Type 0
-JoinsCoverEither A = (s : Stamps A) (t u : List ℕ) (a : A) → IsTrue (is_covered s (joined t u) a)
-    ↔ (IsTrue (is_covered s t a) ⊎ IsTrue (is_covered s u a))
+JoinsCoverEither A = (s : Stamps A) (t u : List ℕ) (a : A) → IsTrue (stamps_covered s (joined t u) a)
+    ↔ (IsTrue (stamps_covered s t a) ⊎ IsTrue (stamps_covered s u a))
 
 -- Where a node closes an interval at a time that its twin fits, the interval is sound with the changes between twin and
 -- copy, and the copy fits the interval's stamp.
@@ -73,7 +73,7 @@ ClosingUntouchedKeepsThePageFitting A = (s : Stamps A) (wrote : A → ℕ → Op
 -- What a time does not cover makes no difference to a copy that fits the time.
 abbrev pub UncoveredIntervalsMakeNoDifference : Type 0 → Type 0
 UncoveredIntervalsMakeNoDifference A = (s : Stamps A) (wrote : A → ℕ → Option ℕ) (changes : A → List Change) (all : List A)
-    (time : List ℕ) (x : A) (copy : List ℕ) → ¬ IsTrue (is_covered s time x)
+    (time : List ℕ) (x : A) (copy : List ℕ) → ¬ IsTrue (stamps_covered s time x)
     → PageFits (page_of_stamps s wrote changes) copy (covered s time all)
     → PageFits (page_of_stamps s wrote changes) copy (covered s time (all ++ x ∷ []))
 
@@ -81,7 +81,7 @@ UncoveredIntervalsMakeNoDifference A = (s : Stamps A) (wrote : A → ℕ → Opt
 abbrev pub UntouchedPageFitsALaterTime : Type 0 → Type 0
 UntouchedPageFitsALaterTime A = (s : Stamps A) (wrote : A → ℕ → Option ℕ) (changes : A → List Change) (all : List A)
     (since upto copy : List ℕ) → Covers upto since
-    → ((a : A) → IsBetween s all since upto a → IsUntouchedBy (page_of_stamps s wrote changes) (length copy) a)
+    → ((a : A) → StandsBetween s all since upto a → IsUntouchedBy (page_of_stamps s wrote changes) (length copy) a)
     → PageFits (page_of_stamps s wrote changes) copy (covered s since all)
     → PageFits (page_of_stamps s wrote changes) copy (covered s upto all)
 
@@ -101,8 +101,8 @@ RepairingReachesALaterTime A = (s : Stamps A) (wrote : A → ℕ → Option ℕ)
 -- and that the earlier time does not cover, in order.
 abbrev pub MissingIntervalsAreLacking : Type 0 → Type 0
 MissingIntervalsAreLacking A = (s : Stamps A) (wrote : A → ℕ → Option ℕ) (words : ℕ) (all stored : List A) (since upto : List ℕ) (names : A → Bool)
-    (part : List A) → ((a : A) → IsBetween s all since upto a → Contains stored a)
-    → ((a : A) → Contains stored a → Contains all a × IsTrue (is_covered s upto a))
+    (part : List A) → ((a : A) → StandsBetween s all since upto a → Contains stored a)
+    → ((a : A) → Contains stored a → Contains all a × IsTrue (stamps_covered s upto a))
     → ((a : A) → Contains all a → ¬ IsTrue (names a) → (offset : ℕ) → offset < words → wrote a offset ≡ None)
-    → ((a : A) → Contains part a ↔ (Contains stored a × IsTrue (names a && not (is_covered s since a))))
+    → ((a : A) → Contains part a ↔ (Contains stored a × IsTrue (names a && not (stamps_covered s since a))))
     → AllPairs (λ a b. IsTrue (comes_before s a b)) part → AreLacking s wrote words all since upto part

@@ -1,8 +1,8 @@
 -- What holds of one word.
 use Rattle.std.specs.Prelude.{◌≡◌, ℕ, ◌⊎◌, ◌↔◌, IsTrue, None, unwrap_or, List, [], ◌∷◌, ◌++◌, Contains}
 use Rattle.lrc_copies.specs.Word.{WordHistory, IsUnwritten, AreWritersOrdered, IsLastWriter, Fits, HaveSameWriters, AgreeOn, IsBelowNone}
-use Rattle.lrc_copies.specs.Sound.{IsLighterBelow, IsSound, IsAddedLast, IsClosed, IsNext, AreNext, repaired_value}
-use Rattle.lrc_copies.specs.Decided.{fits}
+use Rattle.lrc_copies.specs.Sound.{IsLighterBelow, IsSoundList, IsAddedLast, IsClosedFrom, IsAddable, AreAddable, repaired_value}
+use Rattle.lrc_copies.specs.Decided.{fits_list}
 
 -- Before the first write a word is zero.
 abbrev pub ZeroFitsNothing : Type 0 → Type 0
@@ -35,26 +35,26 @@ OrderedWritersHaveALast A = (w : WordHistory A) (xs : List A) → IsLighterBelow
 
 -- What is closed after all others is sound, also where it wrote what the word had before.
 abbrev pub ClosingStaysSound : Type 0 → Type 0
-ClosingStaysSound A = (w : WordHistory A) (all : List A) (x : A) (twin value : ℕ) → IsSound w all
-    → IsAddedLast w.weight w.below all x → IsClosed w all x twin value → IsSound w (all ++ x ∷ [])
+ClosingStaysSound A = (w : WordHistory A) (all : List A) (x : A) (twin value : ℕ) → IsSoundList w all
+    → IsAddedLast w.weight w.below all x → IsClosedFrom w all x twin value → IsSoundList w (all ++ x ∷ [])
 
 -- So is what is closed without writing the word and without a change of it.
 abbrev pub ClosingWithoutAWriteStaysSound : Type 0 → Type 0
-ClosingWithoutAWriteStaysSound A = (w : WordHistory A) (all : List A) (x : A) → IsSound w all → IsAddedLast w.weight w.below all x
-    → w.wrote x ≡ None → w.change x ≡ None → IsSound w (all ++ x ∷ [])
+ClosingWithoutAWriteStaysSound A = (w : WordHistory A) (all : List A) (x : A) → IsSoundList w all → IsAddedLast w.weight w.below all x
+    → w.wrote x ≡ None → w.change x ≡ None → IsSoundList w (all ++ x ∷ [])
 
 -- To apply the changes of one interval keeps the fit, where all below it are in and it is below none that is in.
 abbrev pub AddingOneKeepsTheFit : Type 0 → Type 0
-AddingOneKeepsTheFit A = (w : WordHistory A) (all xs : List A) (x : A) (value : ℕ) → IsSound w all
-    → ((a : A) → Contains xs a → Contains all a) → IsNext w all xs x → Fits w value xs
+AddingOneKeepsTheFit A = (w : WordHistory A) (all xs : List A) (x : A) (value : ℕ) → IsSoundList w all
+    → ((a : A) → Contains xs a → Contains all a) → IsAddable w all xs x → Fits w value xs
     → Fits w (unwrap_or (w.change x) value) (x ∷ xs)
 
 -- To apply the changes of several keeps it, by rising weight.
 abbrev pub RepairingKeepsTheFit : Type 0 → Type 0
-RepairingKeepsTheFit A = (w : WordHistory A) (all xs more : List A) (value : ℕ) → IsSound w all
-    → ((a : A) → Contains xs a → Contains all a) → AreNext w all xs more → Fits w value xs
+RepairingKeepsTheFit A = (w : WordHistory A) (all xs more : List A) (value : ℕ) → IsSoundList w all
+    → ((a : A) → Contains xs a → Contains all a) → AreAddable w all xs more → Fits w value xs
     → Fits w (repaired_value w value more) (xs ++ more)
 
 -- Where intervals are named by numbers, a test tells whether a value fits.
 abbrev pub FittingIsDecided : Type 0
-FittingIsDecided = (w : WordHistory ℕ) (value : ℕ) (xs : List ℕ) → IsTrue (fits w value xs) ↔ Fits w value xs
+FittingIsDecided = (w : WordHistory ℕ) (value : ℕ) (xs : List ℕ) → IsTrue (fits_list w value xs) ↔ Fits w value xs

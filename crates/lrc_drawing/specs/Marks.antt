@@ -71,14 +71,14 @@ is_to keys.ToY = true
 is_to other = false
 
 -- the value of the first attribute of such a name
-abbrev pub value_of : (Key → Bool) → List Attribute → List ℕ
-value_of is [] = []
-value_of is (first ∷ more) = cond (is first.key) first.value.items (value_of is more)
+abbrev pub attribute_value : (Key → Bool) → List Attribute → List ℕ
+attribute_value is [] = []
+attribute_value is (first ∷ more) = cond (is first.key) first.value.items (attribute_value is more)
 
 -- what an element shows by itself, with these words in it
 abbrev pub own : Tag → List Attribute → (words : List ℕ) → List Mark
-own tags.Label attributes words = word (value_of is_foot attributes) words ∷ []
-own tags.Line attributes words = stroke (value_of is_from attributes) (value_of is_to attributes) ∷ []
+own tags.Label attributes words = word (attribute_value is_foot attributes) words ∷ []
+own tags.Line attributes words = stroke (attribute_value is_from attributes) (attribute_value is_to attributes) ∷ []
 own tags.Hint attributes words = hint words ∷ []
 own tags.Box attributes words = box ∷ []
 own tags.Path attributes words = path ∷ []

@@ -1,7 +1,7 @@
 // A picture as a document.
 
 ghost use Rattle.std.specs.Prelude.{◌≡◌, ◌++◌, IfOk, OnOk, codes, true};
-ghost use Rattle.lrc_drawing.specs.Marks.{all_marks, is_space, named_once, value_of};
+ghost use Rattle.lrc_drawing.specs.Marks.{all_marks, is_space, named_once, attribute_value};
 ghost use Rattle.lrc_drawing.specs.Shown.{ground_marks, kind_marks, picture_marks, run_marks};
 
 use crate::arrows::{push_all_lost, push_arrow_labels, push_arrows, push_lost_labels};
@@ -39,7 +39,7 @@ impl Size {
 // The attributes of the whole.
 fn attributes_of(alloc: Global, size: Point) -> Result<Vec<Attribute>, AllocError>
     ensures once { IfOk result (λ attributes. named_once attributes.items ≡ true) }
-    ensures space { IfOk result (λ attributes. value_of is_space attributes.items ≡ codes "http://www.w3.org/2000/svg") }
+    ensures space { IfOk result (λ attributes. attribute_value is_space attributes.items ≡ codes "http://www.w3.org/2000/svg") }
 {
     let mut view = Vec::from_slice(alloc, b"0 0 ")?;
     push_number(&mut view, size.x)?;
@@ -154,7 +154,7 @@ fn push_picture(
 pub fn document_of(alloc: Global, picture: &Picture) -> Result<Document, AllocError>
     ensures shown { IfOk result (λ document. all_marks document.inside.items ≡ picture_marks picture.now) }
     ensures once { IfOk result (λ document. named_once document.attributes.items ≡ true) }
-    ensures space { IfOk result (λ document. value_of is_space document.attributes.items ≡ codes "http://www.w3.org/2000/svg") }
+    ensures space { IfOk result (λ document. attribute_value is_space document.attributes.items ≡ codes "http://www.w3.org/2000/svg") }
 {
     let layout = Layout::of(picture);
     let size = Size::of(layout, picture);

@@ -3,7 +3,7 @@
 ghost use Rattle.std.specs.Prelude.{◌≡◌, ◌≤◌, ℕ, IfErr, IfOk, MatchOption, Err, Ok, length};
 ghost use Rattle.lrc_text.specs.Lines.{lines_of};
 ghost use Rattle.lrc_protocol.specs.declared.event.Event.{Event};
-ghost use Rattle.lrc_events.specs.EventsText.{IsPlace, Names, NamesSome, Reads, most_bytes};
+ghost use Rattle.lrc_events.specs.EventsText.{IsPlaceNumber, NamesEvent, NamesSome, ReadsEvents, most_events_bytes};
 ghost use Rattle.lrc_events.specs.declared.events.EventsFault.TheVariants.{NoMemory};
 
 use lrc_protocol::Event;
@@ -33,9 +33,9 @@ impl<T: Drop> From<AllocFailed<T>> for EventsFault {
 /// decimal digits. An empty line names none. A text of more than 16,777,216 bytes is wrong in its first line. Memory runs out only where
 /// there is an event to be kept.
 pub fn events_of(alloc: Global, text: &[u8]) -> Result<Vec<Event>, EventsFault>
-    ensures ok { IfOk result (λ events. Reads text.now (Ok events.items)) }
-    ensures err { IfErr result (λ fault. Reads text.now (Err fault)) }
-    ensures memory { IfErr result (λ fault. fault ≡ NoMemory → (length text.now ≤ most_bytes) × NamesSome (lines_of text.now)) }
+    ensures ok { IfOk result (λ events. ReadsEvents text.now (Ok events.items)) }
+    ensures err { IfErr result (λ fault. ReadsEvents text.now (Err fault)) }
+    ensures memory { IfErr result (λ fault. fault ≡ NoMemory → (length text.now ≤ most_events_bytes) × NamesSome (lines_of text.now)) }
 {
     if text.len() > MOST_BYTES {
         return Err(EventsFault::BadEvent(1));
@@ -56,7 +56,7 @@ pub fn events_of(alloc: Global, text: &[u8]) -> Result<Vec<Event>, EventsFault>
 }
 
 fn event_on(line: &[u8]) -> Option<Event>
-    ensures { MatchOption result ((event : Event) → ¬ Names line.now event) (λ event. Names line.now event) }
+    ensures { MatchOption result ((event : Event) → ¬ NamesEvent line.now event) (λ event. NamesEvent line.now event) }
 {
     if let Some(digits) = line.strip_prefix(b"run ") {
         return Some(Event::Run(place_in(digits)?));
@@ -69,7 +69,7 @@ fn event_on(line: &[u8]) -> Option<Event>
 }
 
 fn place_in(digits: &[u8]) -> Option<u32>
-    ensures { MatchOption result ((place : ℕ) → ¬ IsPlace digits.now place) (λ place. IsPlace digits.now place) }
+    ensures { MatchOption result ((place : ℕ) → ¬ IsPlaceNumber digits.now place) (λ place. IsPlaceNumber digits.now place) }
 {
     if digits.is_empty() {
         return None;

@@ -15,7 +15,7 @@ use Rattle.lrc_lang.specs.declared.program.Statement.TheVariants.{Assign, Read, 
 use Rattle.lrc_lang.specs.declared.program.Statement.TheVariants.{While, outs-If', outs-While', rolls-If, rolls-While}
 use Rattle.lrc_exec.specs.declared.code.Instruction.{Instruction}
 use Rattle.lrc_exec.specs.Meaning.{block}
-use Rattle.lrc_exec.specs.Flat.{rests_from, rest_at, where_it_holds, where_it_fails, IsSound, IsSoundFrom, IsGrown, IsCodeOf}
+use Rattle.lrc_exec.specs.Flat.{rests_from, rest_at, where_it_holds, where_it_fails, IsSoundAt, IsSoundFrom, IsGrown, IsCodeOf}
 use Rattle.lrc_exec.proofs.Privates.{HasFew, HaveFew, few_of_one, few_front, few_behind, few_first, few_second, few_inside}
 
 -- the rows of a block are the items of its vector
@@ -96,7 +96,7 @@ rest_at-instruction code k i is below =
     ∙ rest_at-append before (i ∷ []) i.next next_within))
 
 -- sound instructions stay so as the code grows
-pub IsSound-append : (a b : List Instruction) (k : ℕ) (i : Instruction) → k < length a → IsSound a k i → IsSound (a ++ b) k i
+pub IsSound-append : (a b : List Instruction) (k : ℕ) (i : Instruction) → k < length a → IsSoundAt a k i → IsSoundAt (a ++ b) k i
 IsSound-append a b k i inside sound =
     let next_within : i.next ≤ length a = omega (arith, sound.next_below) in
     let next_same = rest_at-append a b i.next next_within in
@@ -115,7 +115,7 @@ slice_get_left a b k i inside is =
 
 sound_both : (mid new more : List Instruction) (from : ℕ) → new ≡ mid ++ more → IsSoundFrom from mid → IsSoundFrom (length mid) new → IsSoundFrom from new
 sound_both mid new more from grown before after k i past is =
-    ⊎_elim (λ inside. subst (λ c. IsSound c k i) (sym grown)
+    ⊎_elim (λ inside. subst (λ c. IsSoundAt c k i) (sym grown)
     (IsSound-append mid more k i inside (before k i past (slice_get_left mid more k i inside (sym (ap (λ c. slice_get c k) grown) ∙ is)))))
     (λ behind. after k i behind is)
     (cases_lt k (length mid))
@@ -169,7 +169,7 @@ pub grown_one : (code : List Instruction) (i : Instruction) → i.next ≤ lengt
 grown_one code i next_within then_within otherwise_within then_leads otherwise_leads =
     let long = length-append code (i ∷ []) in
     let same_next = rest_at-append code (i ∷ []) i.next next_within in
-    let sound : HasFew i.statement.now → IsSound (code ++ i ∷ []) (length code) i =
+    let sound : HasFew i.statement.now → IsSoundAt (code ++ i ∷ []) (length code) i =
     λ few. record {
       next_below = next_within;
       then_within = omega arith;
@@ -188,8 +188,8 @@ grown_one code i next_within then_within otherwise_within then_leads otherwise_l
           let here : k ≡ length code = omega (arith, slice_get_within (code ++ i ∷ []) k j is) in
           let same : i ≡ j = sym (get_or-append_seam code i [] j) ∙ ap (λ n. get_or (code ++ i ∷ []) n j) (sym here)
           ∙ get_or_from_slice_get (code ++ i ∷ []) k j j is in
-          subst (λ n. IsSound (code ++ i ∷ []) n j) (sym here)
-          (subst (λ x. IsSound (code ++ i ∷ []) (length code) x) same (sound (few_of_one i.statement.now few)));
+          subst (λ n. IsSoundAt (code ++ i ∷ []) n j) (sym here)
+          (subst (λ x. IsSoundAt (code ++ i ∷ []) (length code) x) same (sound (few_of_one i.statement.now few)));
     }
 
 -- a block that a vector holds
@@ -285,8 +285,8 @@ module _ (old more : List Instruction) (s : Bor Statement) (next then otherwise 
       ∙ sym (ap (λ l. get_or l place []) (rests_from-append ([] ∷ []) old (leading s next after otherwise ∷ more)))
 
   -- the other instructions stay sound
-  pub IsSound-written : (k : ℕ) (i : Instruction) → IsSound (old ++ leading s next then otherwise ∷ more) k i
-      → IsSound (old ++ leading s next after otherwise ∷ more) k i
+  pub IsSound-written : (k : ℕ) (i : Instruction) → IsSoundAt (old ++ leading s next then otherwise ∷ more) k i
+      → IsSoundAt (old ++ leading s next after otherwise ∷ more) k i
   IsSound-written k i sound =
       let long = length-append old (leading s next then otherwise ∷ more) in
       let long' = length-append old (leading s next after otherwise ∷ more) in
@@ -336,7 +336,7 @@ grown_loop old c2 s e a next then is_s within g =
     ∙ ap (λ n. a.items ++ rest_at c2 n) long
     ∙ ap (λ l. a.items ++ l) (same (length old + 1) ∙ at_end)
     ∙ ap (λ l. l ++ While e a ∷ rest_at code next) (sym (block-items a)) in
-    let first : HasFew (While e a) → IsSound code (length old) after =
+    let first : HasFew (While e a) → IsSoundAt code (length old) after =
     λ few. record {
       next_below = within;
       then_within = omega (arith, g.within);
@@ -350,12 +350,12 @@ grown_loop old c2 s e a next then is_s within g =
     ⊎_elim
     (λ behind.
     let at_before : slice_get c2 k ≡ Some i = ap (λ c. slice_get c k) grown ∙ slice_get-behind old g.more before after k behind ∙ is in
-    IsSound-written old g.more s next next next then k i (subst (λ c. IsSound c k i) grown (g.sound (few_inside e a few) k i (omega arith) at_before)))
+    IsSound-written old g.more s next next next then k i (subst (λ c. IsSoundAt c k i) grown (g.sound (few_inside e a few) k i (omega arith) at_before)))
     (λ not_behind.
     let k_is : k ≡ length old = omega arith in
     let i_is : Some after ≡ Some i = sym (slice_get-seam old g.more after) ∙ ap (slice_get code) (sym k_is) ∙ is in
     let same_i : after ≡ i = cc in
-    subst (λ n. IsSound code n i) (sym k_is) (subst (λ x. IsSound code (length old) x) same_i (first few)))
+    subst (λ n. IsSoundAt code n i) (sym k_is) (subst (λ x. IsSoundAt code (length old) x) same_i (first few)))
     (cases_lt (length old) k)
     in
     subst (λ c. IsGrown old c (While e a ∷ []) next (length (old ++ before ∷ []))) (sym whole)

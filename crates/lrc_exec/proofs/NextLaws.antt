@@ -7,7 +7,7 @@ use Rattle.lrc_lang.specs.declared.program.Statement.TheVariants.{Assign, Read, 
 use Rattle.lrc_trace.specs.declared.act.Cause.{Cause}
 use Rattle.lrc_trace.specs.declared.act.Cause.TheVariants.{WordOutOfRange, LockOutOfRange, LockHeld, LockNotHeld}
 use Rattle.lrc_exec.specs.Meaning.{Thread, Next, quiet, prints, reads, writes, acquires, releases, arrives, departs, traps}
-use Rattle.lrc_exec.specs.Meaning.{ends, or_trap, value_in, if_below, holds, act_of, first_act, next_of}
+use Rattle.lrc_exec.specs.Meaning.{ends, or_trap, value_in, if_below, holds, next_of_statement, first_act, next_of}
 
 -- the thread after has the same setting, holds these locks, and has arrived or not
 pub record Leads (before after : Thread) (locks : List Bool) (waits : Bool) : Type 0 where
@@ -60,7 +60,7 @@ module _ (thread : Thread) (stays : thread.arrived ≡ false) where
   keeps : (after : Thread) → after.setting ≡ thread.setting → after.held ≡ thread.held → after.arrived ≡ thread.arrived → Stays thread after
   keeps after setting held arrived = (stays, leads after thread.held setting held arrived)
 
-  act_fine : (s : Statement) (rest : List Statement) → IsFine thread (act_of thread s rest)
+  act_fine : (s : Statement) (rest : List Statement) → IsFine thread (next_of_statement thread s rest)
   act_fine (Assign name e) rest = or_trap_fine (value_in thread e) _ (λ v. keeps _ refl refl refl)
   act_fine (Read name e) rest =
       or_trap_fine (value_in thread e) _ (λ w. below_fine w _ WordOutOfRange _ (λ below. (below, (λ v. keeps _ refl refl refl))))

@@ -8,7 +8,7 @@ use Rattle.lrc_trace.specs.declared.act.Act.{Act}
 use Rattle.lrc_trace.specs.declared.act.Deed.{Deed}
 use Rattle.lrc_exec.proofs.PlainParts.{where_true}
 use Rattle.lrc_exec.specs.Meaning.{Thread, Next, quiet, prints, reads, writes, acquires, releases, arrives, departs, traps, ends, next_of}
-use Rattle.lrc_exec.specs.Plain.{Plain, plain_start, is_free, all_arrived, deed_of, thread_in, plain_step, plain_from, plain}
+use Rattle.lrc_exec.specs.Plain.{Plain, plain_start, nobody_holds, all_arrived, deed_done, thread_in, plain_step, plain_from, plain}
 
 -- the acts of one order and then of another
 abbrev pub then_from : Option (List Act × Plain) → List ℕ → Option (List Act × Plain)
@@ -91,7 +91,7 @@ counted (n ∷ counts) (suc node) (suc k) = counted counts node k
 abbrev HasGrown : Plain → Deed × Plain → Type 0
 HasGrown old step = Grows old step.1
 
-deed_grows : (machine : Plain) (node : ℕ) (next : Next) (s : Deed × Plain) → deed_of machine node next ≡ Some s → Grows machine s.1
+deed_grows : (machine : Plain) (node : ℕ) (next : Next) (s : Deed × Plain) → deed_done machine node next ≡ Some s → Grows machine s.1
 deed_grows machine node (quiet after) s e = where_true (HasGrown machine) true (grows machine machine.memory machine.holders node (Some after)) e
 deed_grows machine node (prints value after) s e = where_true (HasGrown machine) true (grows machine machine.memory machine.holders node (Some after)) e
 deed_grows machine node (reads word after) s e =
@@ -99,7 +99,7 @@ deed_grows machine node (reads word after) s e =
 deed_grows machine node (writes word value after) s e =
     where_true (HasGrown machine) true (grows machine (set machine.memory word value) machine.holders node (Some after)) e
 deed_grows machine node (acquires lock after) s e =
-    where_true (HasGrown machine) (is_free machine lock) (grows machine machine.memory (set machine.holders lock (Some node)) node (Some after)) e
+    where_true (HasGrown machine) (nobody_holds machine lock) (grows machine machine.memory (set machine.holders lock (Some node)) node (Some after)) e
 deed_grows machine node (releases lock after) s e =
     where_true (HasGrown machine) true (grows machine machine.memory (set machine.holders lock None) node (Some after)) e
 deed_grows machine node (arrives after) s e =
@@ -109,7 +109,7 @@ deed_grows machine node (departs after) s e =
 deed_grows machine node (traps cause) s e = where_true (HasGrown machine) true (grows machine machine.memory machine.holders node None) e
 deed_grows machine node ends s e = where_true (HasGrown machine) true (grows machine machine.memory machine.holders node None) e
 
-step_grows : (machine : Plain) (node : ℕ) (o : Option Thread) (s : Deed × Plain) → option_and_then (λ thread. deed_of machine node (next_of thread)) o ≡ Some s
+step_grows : (machine : Plain) (node : ℕ) (o : Option Thread) (s : Deed × Plain) → option_and_then (λ thread. deed_done machine node (next_of thread)) o ≡ Some s
     → Grows machine s.1
 step_grows machine node None s e = cc
 step_grows machine node (Some thread) s e = deed_grows machine node (next_of thread) s e

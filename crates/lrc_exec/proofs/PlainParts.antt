@@ -10,7 +10,7 @@ use Rattle.lrc_exec.specs.declared.plain.Runner.{Runner}
 use Rattle.lrc_exec.specs.declared.plain.PlainMachine.TheInside.{Inside}
 use Rattle.lrc_exec.specs.Meaning.{Thread, Setting, Next, quiet, prints, reads, writes, acquires, releases, arrives, departs, traps, ends, next_of}
 use Rattle.lrc_exec.specs.Ask.{ask_of, TakesAnswer, done, answered}
-use Rattle.lrc_exec.specs.Plain.{Plain, thread_in, with_thread, is_free, all_arrived, deed_of, plain_step}
+use Rattle.lrc_exec.specs.Plain.{Plain, thread_in, with_thread, nobody_holds, all_arrived, deed_done, plain_step}
 use Rattle.lrc_trace.specs.declared.act.Deed.{Deed}
 use Rattle.lrc_trace.specs.declared.act.Deed.TheVariants.{Quiet, Print, Read, Write, Acquire, Release, Arrive, Depart, Trap, End}
 use Rattle.lrc_exec.specs.PlainCode.{runner_thread, plain_of, resumed, IsResumable, IsRunner, IsPlain}
@@ -115,12 +115,12 @@ deed_if true a b d e = cc
 deed_if false a b d e = cc
 
 deed_fits : (machine : Plain) (node : ℕ) (thread : Thread) (next : Next) → IsFine thread next → (d : Deed)
-    → option_map (λ step. step.0) (deed_of machine node next) ≡ Some d → Fits thread d
+    → option_map (λ step. step.0) (deed_done machine node next) ≡ Some d → Fits thread d
 deed_fits machine node thread (quiet after) fine d e = let is : Quiet ≡ d = cc in subst (Fits thread) is tt
 deed_fits machine node thread (prints value after) fine d e = let is : Print value ≡ d = cc in subst (Fits thread) is tt
 deed_fits machine node thread (reads word after) fine d e = let is : Read word (slice_index machine.memory word) ≡ d = cc in subst (Fits thread) is tt
 deed_fits machine node thread (writes word value after) fine d e = let is : Write word value ≡ d = cc in subst (Fits thread) is fine.0
-deed_fits machine node thread (acquires lock after) fine d e = subst (Fits thread) (deed_if (is_free machine lock) (Acquire lock) _ d e) fine.0
+deed_fits machine node thread (acquires lock after) fine d e = subst (Fits thread) (deed_if (nobody_holds machine lock) (Acquire lock) _ d e) fine.0
 deed_fits machine node thread (releases lock after) fine d e = let is : Release lock ≡ d = cc in subst (Fits thread) is fine.0
 deed_fits machine node thread (arrives after) fine d e = let is : Arrive ≡ d = cc in subst (Fits thread) is tt
 deed_fits machine node thread (departs after) fine d e = subst (Fits thread) (deed_if (all_arrived machine node) Depart _ d e) tt
@@ -128,7 +128,7 @@ deed_fits machine node thread (traps cause) fine d e = let is : Trap cause ≡ d
 deed_fits machine node thread ends fine d e = let is : End ≡ d = cc in subst (Fits thread) is tt
 
 step_fits : (machine : Plain) (node : ℕ) (o : Option Thread) (d : Deed)
-    → option_map (λ step. step.0) (option_and_then (λ thread. deed_of machine node (next_of thread)) o) ≡ Some d → (thread : Thread) × (o ≡ Some thread)
+    → option_map (λ step. step.0) (option_and_then (λ thread. deed_done machine node (next_of thread)) o) ≡ Some d → (thread : Thread) × (o ≡ Some thread)
     × Fits thread d
 step_fits machine node None d e = cc
 step_fits machine node (Some thread) d e = (thread, refl, deed_fits machine node thread (next_of thread) (next_of-fine thread) d e)

@@ -11,7 +11,7 @@ use Rattle.lrc_trace.specs.declared.act.Act.{Act}
 use Rattle.lrc_trace.specs.declared.act.Deed.{Deed}
 use Rattle.lrc_exec.specs.Meaning.{Thread, Next, quiet, prints, reads, writes, acquires, releases, arrives, departs, traps, ends, next_of}
 use Rattle.lrc_lang.specs.declared.program.Program.{Program}
-use Rattle.lrc_exec.specs.Plain.{Plain, plain_start, is_free, all_arrived, deed_of, thread_in, plain_step, plain_from, plain}
+use Rattle.lrc_exec.specs.Plain.{Plain, plain_start, nobody_holds, all_arrived, deed_done, thread_in, plain_step, plain_from, plain}
 use Rattle.lrc_exec.specs.Ask.{steps_of}
 use Rattle.lrc_exec.specs.Rounds.{Paced, turn, turns, round, rounds, paced_start, AreActsOfRounds}
 use Rattle.lrc_exec.specs.RoundsCode.{MakesRound}
@@ -118,7 +118,7 @@ counted : (machine : Plain) (node : ℕ) (thread after : Thread) (not_arrived : 
 counted machine node thread after not_arrived d new one threads =
     record { after = Some after; threads = threads; lighter = omega (arith, weight_most after, weight_of thread false not_arrived, one) }
 
-deed_leaves : (machine : Plain) (node : ℕ) (thread : Thread) (next : Next) (s : Deed × Plain) → IsFine thread next → deed_of machine node next ≡ Some s
+deed_leaves : (machine : Plain) (node : ℕ) (thread : Thread) (next : Next) (s : Deed × Plain) → IsFine thread next → deed_done machine node next ≡ Some s
     → Leaves machine node thread s
 deed_leaves machine node thread (quiet after) s fine e =
     where_true (Leaves machine node thread) true (counted machine node thread after fine.0 _ _ refl refl) e
@@ -130,7 +130,7 @@ deed_leaves machine node thread (reads word after) s fine e =
 deed_leaves machine node thread (writes word value after) s fine e =
     where_true (Leaves machine node thread) true (counted machine node thread after fine.1.0 _ _ refl refl) e
 deed_leaves machine node thread (acquires lock after) s fine e =
-    where_true (Leaves machine node thread) (is_free machine lock) (counted machine node thread after fine.2 _ _ refl refl) e
+    where_true (Leaves machine node thread) (nobody_holds machine lock) (counted machine node thread after fine.2 _ _ refl refl) e
 deed_leaves machine node thread (releases lock after) s fine e =
     where_true (Leaves machine node thread) true (counted machine node thread after fine.2 _ _ refl refl) e
 deed_leaves machine node thread (arrives after) s fine e =
@@ -147,7 +147,7 @@ deed_leaves machine node thread (traps cause) s fine e =
 deed_leaves machine node thread ends s fine e =
     where_true (Leaves machine node thread) true (record { after = None; threads = refl; lighter = omega (arith, weight_of thread false fine) }) e
 
-step_leaves : (machine : Plain) (node : ℕ) (o : Option Thread) (s : Deed × Plain) → option_and_then (λ thread. deed_of machine node (next_of thread)) o ≡ Some s
+step_leaves : (machine : Plain) (node : ℕ) (o : Option Thread) (s : Deed × Plain) → option_and_then (λ thread. deed_done machine node (next_of thread)) o ≡ Some s
     → (thread : Thread) × (o ≡ Some thread) × Leaves machine node thread s
 step_leaves machine node None s e = cc
 step_leaves machine node (Some thread) s e = (thread, refl, deed_leaves machine node thread (next_of thread) s (next_of-fine thread) e)

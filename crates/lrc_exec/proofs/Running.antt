@@ -13,11 +13,11 @@ use Rattle.lrc_trace.specs.declared.act.Cause.TheVariants.{WordOutOfRange, LockO
 use Rattle.lrc_exec.specs.declared.code.Instruction.{Instruction}
 use Rattle.lrc_exec.specs.declared.cursor.Cursor.TheInside.{Inside}
 use Rattle.lrc_exec.specs.Meaning.{Thread, Next, or_trap, if_below, value_in, traps, block, holds, then_does}
-use Rattle.lrc_exec.specs.Meaning.{then_keeps, then_holds, chosen, act_of, first_act, next_of, ends}
+use Rattle.lrc_exec.specs.Meaning.{then_keeps, then_holds, chosen, next_of_statement, first_act, next_of, ends}
 use Rattle.lrc_exec.specs.Ask.{TakesAnswer, ask_of, done, answered}
 use Rattle.lrc_exec.specs.Condition.{first_is_met, condition_holds}
-use Rattle.lrc_exec.specs.Flat.{rest_at, where_it_holds, where_it_fails, IsSound}
-use Rattle.lrc_exec.specs.Running.{thread_of, IsRunning}
+use Rattle.lrc_exec.specs.Flat.{rest_at, where_it_holds, where_it_fails, IsSoundAt}
+use Rattle.lrc_exec.specs.Running.{machine_thread, IsRunning}
 use Rattle.lrc_exec.specs.Wish.{Completes}
 use Rattle.lrc_exec.proofs.Flat.{if_made, while_made, rest_at-end, rest_at-instruction}
 
@@ -26,14 +26,14 @@ abbrev pub GoesOn : Next → Type 0
 GoesOn next = TakesAnswer (ask_of next)
 
 -- at place 0 the thread is at the end
-pub next_of-end : (m : Inside) (thread : Thread) → thread_of m ≡ thread → m.place ≡ 0 → next_of thread ≡ ends
+pub next_of-end : (m : Inside) (thread : Thread) → machine_thread m ≡ thread → m.place ≡ 0 → next_of thread ≡ ends
 next_of-end m thread view at_end =
-    ap next_of (sym view) ∙ ap (first_act (thread_of m)) (ap (rest_at m.code.now) at_end ∙ rest_at-end m.code.now)
+    ap next_of (sym view) ∙ ap (first_act (machine_thread m)) (ap (rest_at m.code.now) at_end ∙ rest_at-end m.code.now)
 
 -- and has no condition to evaluate
-pub condition_holds-end : (m : Inside) (thread : Thread) → thread_of m ≡ thread → m.place ≡ 0 → condition_holds thread ≡ false
+pub condition_holds-end : (m : Inside) (thread : Thread) → machine_thread m ≡ thread → m.place ≡ 0 → condition_holds thread ≡ false
 condition_holds-end m thread view at_end =
-    ap condition_holds (sym view) ∙ ap (first_is_met (thread_of m)) (ap (rest_at m.code.now) at_end ∙ rest_at-end m.code.now)
+    ap condition_holds (sym view) ∙ ap (first_is_met (machine_thread m)) (ap (rest_at m.code.now) at_end ∙ rest_at-end m.code.now)
 
 -- where a thread goes on, there was a value
 or_trap_done : (value : ℕ) (thread : Thread) (o : Option ℕ) (go : ℕ → Next) (after : ℕ → Thread)
@@ -85,14 +85,14 @@ lock_in (Release e) = Some e
 lock_in _ = None
 
 -- where a thread goes on, the value that its statement needs first is there
-has_value : (thread : Thread) (rest : List Statement) (s : Statement) (e : Expression) → needed_by s ≡ Some e → GoesOn (act_of thread s rest)
+has_value : (thread : Thread) (rest : List Statement) (s : Statement) (e : Expression) → needed_by s ≡ Some e → GoesOn (next_of_statement thread s rest)
     → IsSome (value_in thread e)
 has_value thread rest s e is goes = by_kind s is goes
   where
     at_own : (own : Expression) → Some own ≡ Some e → IsSome (value_in thread own) → IsSome (value_in thread e)
     at_own own is h = subst (λ x. IsSome (value_in thread x)) (same_Some own e is) h
 
-    by_kind : (s : Statement) → needed_by s ≡ Some e → GoesOn (act_of thread s rest) → IsSome (value_in thread e)
+    by_kind : (s : Statement) → needed_by s ≡ Some e → GoesOn (next_of_statement thread s rest) → IsSome (value_in thread e)
     by_kind (Assign name x) is goes = at_own x is (there_is (value_in thread x) _ goes)
     by_kind (Read name x) is goes = at_own x is (there_is (value_in thread x) _ goes)
     by_kind (Write x value) is goes = at_own x is (there_is (value_in thread x) _ goes)
@@ -105,13 +105,13 @@ has_value thread rest s e is goes = by_kind s is goes
 
 -- and the lock that it takes or gives back is one of the program's
 is_lock : (thread : Thread) (rest : List Statement) (s : Statement) (e : Expression) (number : ℕ) → lock_in s ≡ Some e
-    → value_in thread e ≡ Some number → GoesOn (act_of thread s rest) → number < thread.setting.locks
+    → value_in thread e ≡ Some number → GoesOn (next_of_statement thread s rest) → number < thread.setting.locks
 is_lock thread rest s e number is value_is goes = by_kind s is goes
   where
     value_of-own : (own : Expression) → Some own ≡ Some e → value_in thread own ≡ Some number
     value_of-own own is = ap (value_in thread) (same_Some own e is) ∙ value_is
 
-    by_kind : (s : Statement) → lock_in s ≡ Some e → GoesOn (act_of thread s rest) → number < thread.setting.locks
+    by_kind : (s : Statement) → lock_in s ≡ Some e → GoesOn (next_of_statement thread s rest) → number < thread.setting.locks
     by_kind (Acquire x) is goes = below_limit (value_in thread x) thread.setting.locks number LockOutOfRange _ goes (value_of-own x is)
     by_kind (Release x) is goes = below_limit (value_in thread x) thread.setting.locks number LockOutOfRange _ goes (value_of-own x is)
     by_kind (Assign name x) is goes = cc
@@ -124,59 +124,59 @@ is_lock thread rest s e number is value_is goes = by_kind s is goes
 
 module _ (value : ℕ) (thread : Thread) (rest : List Statement) where
   -- the thread once an assignment is done
-  pub assign_done : (name : ℕ) (e : Expression) → GoesOn (act_of thread (Assign name e) rest)
-      → done value thread (act_of thread (Assign name e) rest) ≡ then_keeps thread rest name (unwrap_or (value_in thread e) 0)
+  pub assign_done : (name : ℕ) (e : Expression) → GoesOn (next_of_statement thread (Assign name e) rest)
+      → done value thread (next_of_statement thread (Assign name e) rest) ≡ then_keeps thread rest name (unwrap_or (value_in thread e) 0)
   assign_done name e = or_trap_done value thread (value_in thread e) _ (then_keeps thread rest name) (λ v g. refl)
 
   -- the thread once a shared read has got its value
-  pub read_done : (name : ℕ) (e : Expression) → GoesOn (act_of thread (Read name e) rest)
-      → done value thread (act_of thread (Read name e) rest) ≡ then_keeps thread rest name value
+  pub read_done : (name : ℕ) (e : Expression) → GoesOn (next_of_statement thread (Read name e) rest)
+      → done value thread (next_of_statement thread (Read name e) rest) ≡ then_keeps thread rest name value
   read_done name e =
       or_trap_done value thread (value_in thread e) _ (λ v. then_keeps thread rest name value)
       (λ w. then_done value thread (nat_lt w thread.setting.words) _ WordOutOfRange _ (λ g. refl))
 
   -- the thread once it has got a lock
-  pub acquire_done : (e : Expression) → GoesOn (act_of thread (Acquire e) rest)
-      → done value thread (act_of thread (Acquire e) rest) ≡ then_holds thread rest (unwrap_or (value_in thread e) 0) true
+  pub acquire_done : (e : Expression) → GoesOn (next_of_statement thread (Acquire e) rest)
+      → done value thread (next_of_statement thread (Acquire e) rest) ≡ then_holds thread rest (unwrap_or (value_in thread e) 0) true
   acquire_done e =
       or_trap_done value thread (value_in thread e) _ (λ l. then_holds thread rest l true)
       (λ l. then_done value thread (nat_lt l thread.setting.locks) _ LockOutOfRange _
       (else_done value thread (holds thread l) _ LockHeld _ (λ g. refl)))
 
   -- the thread once it has given a lock back
-  pub release_done : (e : Expression) → GoesOn (act_of thread (Release e) rest)
-      → done value thread (act_of thread (Release e) rest) ≡ then_holds thread rest (unwrap_or (value_in thread e) 0) false
+  pub release_done : (e : Expression) → GoesOn (next_of_statement thread (Release e) rest)
+      → done value thread (next_of_statement thread (Release e) rest) ≡ then_holds thread rest (unwrap_or (value_in thread e) 0) false
   release_done e =
       or_trap_done value thread (value_in thread e) _ (λ l. then_holds thread rest l false)
       (λ l. then_done value thread (nat_lt l thread.setting.locks) _ LockOutOfRange _
       (then_done value thread (holds thread l) _ LockNotHeld _ (λ g. refl)))
 
   -- the thread once the condition of a choice was evaluated
-  pub if_done : (e : Expression) (p : _) (a : _) (q : _) (b : _) → GoesOn (act_of thread (If' e p a q b) rest)
-      → done value thread (act_of thread (If' e p a q b) rest) ≡ then_does thread (chosen (unwrap_or (value_in thread e) 0) (block a ++ rest) (block b ++ rest))
+  pub if_done : (e : Expression) (p : _) (a : _) (q : _) (b : _) → GoesOn (next_of_statement thread (If' e p a q b) rest)
+      → done value thread (next_of_statement thread (If' e p a q b) rest) ≡ then_does thread (chosen (unwrap_or (value_in thread e) 0) (block a ++ rest) (block b ++ rest))
   if_done e p a q b =
       or_trap_done value thread (value_in thread e) _ (λ v. then_does thread (chosen v (block a ++ rest) (block b ++ rest))) (λ v g. refl)
 
   -- the thread once the condition of a loop was evaluated
-  pub while_done : (e : Expression) (p : _) (a : _) → GoesOn (act_of thread (While' e p a) rest)
-      → done value thread (act_of thread (While' e p a) rest) ≡ then_does thread (chosen (unwrap_or (value_in thread e) 0) (block a
+  pub while_done : (e : Expression) (p : _) (a : _) → GoesOn (next_of_statement thread (While' e p a) rest)
+      → done value thread (next_of_statement thread (While' e p a) rest) ≡ then_does thread (chosen (unwrap_or (value_in thread e) 0) (block a
       ++ While' e p a ∷ rest) rest)
   while_done e p a =
       or_trap_done value thread (value_in thread e) _ (λ v. then_does thread (chosen v (block a ++ While' e p a ∷ rest) rest)) (λ v g. refl)
 
-  write_done : (w e : Expression) → GoesOn (act_of thread (Write w e) rest) → done value thread (act_of thread (Write w e) rest) ≡ then_does thread rest
+  write_done : (w e : Expression) → GoesOn (next_of_statement thread (Write w e) rest) → done value thread (next_of_statement thread (Write w e) rest) ≡ then_does thread rest
   write_done w e =
       or_trap_done value thread (value_in thread w) _ (λ n. then_does thread rest)
       (λ n. or_trap_done value thread (value_in thread e) _ (λ v. then_does thread rest)
       (λ v. then_done value thread (nat_lt n thread.setting.words) _ WordOutOfRange _ (λ g. refl)))
 
-  print_done : (e : Expression) → GoesOn (act_of thread (Print e) rest) → done value thread (act_of thread (Print e) rest) ≡ then_does thread rest
+  print_done : (e : Expression) → GoesOn (next_of_statement thread (Print e) rest) → done value thread (next_of_statement thread (Print e) rest) ≡ then_does thread rest
   print_done e = or_trap_done value thread (value_in thread e) _ (λ v. then_does thread rest) (λ v g. refl)
 
   -- the thread once any other statement is done
   pub other_done : (s : Statement) → thread.arrived ≡ false → ((n : _) (e : _) → s ≡ Assign n e → ⊥) → ((n : _) (e : _) → s ≡ Read n e → ⊥)
       → ((e : _) → s ≡ Acquire e → ⊥) → ((e : _) → s ≡ Release e → ⊥) → ((e : _) (a b : _) → s ≡ If e a b → ⊥) → ((e : _) (a : _) → s ≡ While e a → ⊥)
-      → GoesOn (act_of thread s rest) → done value thread (act_of thread s rest) ≡ then_does thread rest
+      → GoesOn (next_of_statement thread s rest) → done value thread (next_of_statement thread s rest) ≡ then_does thread rest
   other_done (Assign n e) stays not_assign not_read not_acquire not_release not_if not_while goes = absurd (not_assign n e refl)
   other_done (Read n e) stays not_assign not_read not_acquire not_release not_if not_while goes = absurd (not_read n e refl)
   other_done (Write w e) stays not_assign not_read not_acquire not_release not_if not_while goes = write_done w e goes
@@ -192,23 +192,23 @@ abbrev pub moved : Inside → (place : ℕ) → List ℕ → List Bool → Insid
 moved m place privates held = record m { place = place; privates = privates; held = held }
 
 -- a machine that stands at its k-th instruction
-module _ (m : Inside) (thread : Thread) (d : Instruction) (k : ℕ) (view : thread_of m ≡ thread) (running : IsRunning m) (from : 1 ≤ m.place)
+module _ (m : Inside) (thread : Thread) (d : Instruction) (k : ℕ) (view : machine_thread m ≡ thread) (running : IsRunning m) (from : 1 ≤ m.place)
     (here : k ≡ m.place - 1) where
   at_index : slice_get m.code.now k ≡ Some (get_or m.code.now k d)
   at_index = slice_get-get_or m.code.now k d (omega (arith, running.within))
 
-  pub sound_at : IsSound m.code.now k (get_or m.code.now k d)
+  pub sound_at : IsSoundAt m.code.now k (get_or m.code.now k d)
   sound_at = running.sound k (get_or m.code.now k d) (omega arith) at_index
 
   -- its thread's next act is that of the instruction's statement
-  pub next_of-at : next_of thread ≡ act_of thread (get_or m.code.now k d).statement.now (rest_at m.code.now (get_or m.code.now k d).next)
+  pub next_of-at : next_of thread ≡ next_of_statement thread (get_or m.code.now k d).statement.now (rest_at m.code.now (get_or m.code.now k d).next)
   next_of-at =
       let place_is : m.place ≡ k + 1 = omega arith in
       let s = (get_or m.code.now k d).statement.now in
       let rest = rest_at m.code.now (get_or m.code.now k d).next in
       ap next_of (sym view)
-      ∙ ap (first_act (thread_of m)) (ap (rest_at m.code.now) place_is ∙ rest_at-instruction m.code.now k (get_or m.code.now k d) at_index sound_at.next_below)
-      ∙ ap (λ t. act_of t s rest) view
+      ∙ ap (first_act (machine_thread m)) (ap (rest_at m.code.now) place_is ∙ rest_at-instruction m.code.now k (get_or m.code.now k d) at_index sound_at.next_below)
+      ∙ ap (λ t. next_of_statement t s rest) view
 
   -- what its thread has still to do begins with the instruction's statement
   pub rest-at : thread.rest ≡ (get_or m.code.now k d).statement.now ∷ rest_at m.code.now (get_or m.code.now k d).next
@@ -232,17 +232,17 @@ module _ (m : Inside) (thread : Thread) (d : Instruction) (k : ℕ) (view : thre
       let place_is : m.place ≡ k + 1 = omega arith in
       let all = (get_or m.code.now k d).statement.now ∷ rest_at m.code.now (get_or m.code.now k d).next in
       ap condition_holds (sym view)
-      ∙ ap (first_is_met (thread_of m)) (ap (rest_at m.code.now) place_is
+      ∙ ap (first_is_met (machine_thread m)) (ap (rest_at m.code.now) place_is
       ∙ rest_at-instruction m.code.now k (get_or m.code.now k d) at_index sound_at.next_below)
       ∙ ap (λ t. first_is_met t all) view
 
   -- where the answer leads
   pub answered-at : (value : ℕ) (s : Statement) (after : Thread) → (get_or m.code.now k d).statement.now ≡ s → GoesOn (next_of thread)
-      → (GoesOn (act_of thread s (rest_at m.code.now (get_or m.code.now k d).next))
-      → done value thread (act_of thread s (rest_at m.code.now (get_or m.code.now k d).next)) ≡ after) → answered value thread ≡ after
+      → (GoesOn (next_of_statement thread s (rest_at m.code.now (get_or m.code.now k d).next))
+      → done value thread (next_of_statement thread s (rest_at m.code.now (get_or m.code.now k d).next)) ≡ after) → answered value thread ≡ after
   answered-at value s after is_s goes leads =
-      let act_is : next_of thread ≡ act_of thread s (rest_at m.code.now (get_or m.code.now k d).next) =
-      next_of-at ∙ ap (λ x. act_of thread x (rest_at m.code.now (get_or m.code.now k d).next)) is_s in
+      let act_is : next_of thread ≡ next_of_statement thread s (rest_at m.code.now (get_or m.code.now k d).next) =
+      next_of-at ∙ ap (λ x. next_of_statement thread x (rest_at m.code.now (get_or m.code.now k d).next)) is_s in
       ap (done value thread) act_is ∙ leads (subst GoesOn act_is goes)
 
   -- the machine at another place
@@ -265,9 +265,9 @@ module _ (m : Inside) (thread : Thread) (d : Instruction) (k : ℕ) (view : thre
 
   -- what the instruction's statement needs first has a value, and its lock is among the 64 that the machine knows
   goes_at : (s : Statement) → (get_or m.code.now k d).statement.now ≡ s → GoesOn (next_of thread)
-      → GoesOn (act_of thread s (rest_at m.code.now (get_or m.code.now k d).next))
+      → GoesOn (next_of_statement thread s (rest_at m.code.now (get_or m.code.now k d).next))
   goes_at s is_s goes =
-      subst GoesOn (next_of-at ∙ ap (λ x. act_of thread x (rest_at m.code.now (get_or m.code.now k d).next)) is_s) goes
+      subst GoesOn (next_of-at ∙ ap (λ x. next_of_statement thread x (rest_at m.code.now (get_or m.code.now k d).next)) is_s) goes
 
   pub value_there : (s : Statement) (e : Expression) → (get_or m.code.now k d).statement.now ≡ s → needed_by s ≡ Some e → GoesOn (next_of thread)
       → IsSome (value_in thread e)
@@ -287,43 +287,43 @@ module _ (m : Inside) (thread : Thread) (d : Instruction) (k : ℕ) (view : thre
   -- the thread once each statement is answered
   pub assign_answered : (value name number : ℕ) (e : Expression) (privates : List ℕ) → (get_or m.code.now k d).statement.now ≡ Assign name e
       → value_in thread e ≡ Some number → privates ≡ slice_set m.privates name number → GoesOn (next_of thread)
-      → thread_of (moved m (get_or m.code.now k d).next privates m.held) ≡ answered value thread
+      → machine_thread (moved m (get_or m.code.now k d).next privates m.held) ≡ answered value thread
   assign_answered value name number e privates is_s number_is privates_is goes =
       let next = (get_or m.code.now k d).next in
       let rest = rest_at m.code.now next in
-      ap (λ p. thread_of (moved m next p m.held)) privates_is
+      ap (λ p. machine_thread (moved m next p m.held)) privates_is
       ∙ ap (λ t. then_keeps t rest name number) view
       ∙ ap (then_keeps thread rest name) (number_of e number number_is)
       ∙ sym (answered-at value (Assign name e) _ is_s goes (assign_done value thread rest name e))
 
   pub read_answered : (value name : ℕ) (e : Expression) (privates : List ℕ) → (get_or m.code.now k d).statement.now ≡ Read name e
       → privates ≡ slice_set m.privates name value → GoesOn (next_of thread)
-      → thread_of (moved m (get_or m.code.now k d).next privates m.held) ≡ answered value thread
+      → machine_thread (moved m (get_or m.code.now k d).next privates m.held) ≡ answered value thread
   read_answered value name e privates is_s privates_is goes =
       let next = (get_or m.code.now k d).next in
       let rest = rest_at m.code.now next in
-      ap (λ p. thread_of (moved m next p m.held)) privates_is
+      ap (λ p. machine_thread (moved m next p m.held)) privates_is
       ∙ ap (λ t. then_keeps t rest name value) view
       ∙ sym (answered-at value (Read name e) _ is_s goes (read_done value thread rest name e))
 
   pub acquire_answered : (value number : ℕ) (e : Expression) (held : List Bool) → (get_or m.code.now k d).statement.now ≡ Acquire e
       → value_in thread e ≡ Some number → held ≡ slice_set m.held number true → GoesOn (next_of thread)
-      → thread_of (moved m (get_or m.code.now k d).next m.privates held) ≡ answered value thread
+      → machine_thread (moved m (get_or m.code.now k d).next m.privates held) ≡ answered value thread
   acquire_answered value number e held is_s number_is held_is goes =
       let next = (get_or m.code.now k d).next in
       let rest = rest_at m.code.now next in
-      ap (λ h. thread_of (moved m next m.privates h)) held_is
+      ap (λ h. machine_thread (moved m next m.privates h)) held_is
       ∙ ap (λ t. then_holds t rest number true) view
       ∙ ap (λ n. then_holds thread rest n true) (number_of e number number_is)
       ∙ sym (answered-at value (Acquire e) _ is_s goes (acquire_done value thread rest e))
 
   pub release_answered : (value number : ℕ) (e : Expression) (held : List Bool) → (get_or m.code.now k d).statement.now ≡ Release e
       → value_in thread e ≡ Some number → held ≡ slice_set m.held number false → GoesOn (next_of thread)
-      → thread_of (moved m (get_or m.code.now k d).next m.privates held) ≡ answered value thread
+      → machine_thread (moved m (get_or m.code.now k d).next m.privates held) ≡ answered value thread
   release_answered value number e held is_s number_is held_is goes =
       let next = (get_or m.code.now k d).next in
       let rest = rest_at m.code.now next in
-      ap (λ h. thread_of (moved m next m.privates h)) held_is
+      ap (λ h. machine_thread (moved m next m.privates h)) held_is
       ∙ ap (λ t. then_holds t rest number false) view
       ∙ ap (λ n. then_holds thread rest n false) (number_of e number number_is)
       ∙ sym (answered-at value (Release e) _ is_s goes (release_done value thread rest e))
@@ -332,7 +332,7 @@ module _ (m : Inside) (thread : Thread) (d : Instruction) (k : ℕ) (view : thre
       → ((n : _) (e : _) → (get_or m.code.now k d).statement.now ≡ Read n e → ⊥) → ((e : _) → (get_or m.code.now k d).statement.now ≡ Acquire e → ⊥)
       → ((e : _) → (get_or m.code.now k d).statement.now ≡ Release e → ⊥) → ((e : _) (a b : _) → (get_or m.code.now k d).statement.now ≡ If e a b → ⊥)
       → ((e : _) (a : _) → (get_or m.code.now k d).statement.now ≡ While e a → ⊥) → GoesOn (next_of thread)
-      → thread_of (moved m (get_or m.code.now k d).next m.privates m.held) ≡ answered value thread
+      → machine_thread (moved m (get_or m.code.now k d).next m.privates m.held) ≡ answered value thread
   other_answered value not_assign not_read not_acquire not_release not_if not_while goes =
       let next = (get_or m.code.now k d).next in
       let rest = rest_at m.code.now next in
@@ -350,7 +350,7 @@ module _ (m : Inside) (thread : Thread) (d : Instruction) (k : ℕ) (view : thre
 
   pub if_answered : (value number place : ℕ) (e : Expression) (a b : _) → (get_or m.code.now k d).statement.now ≡ If e a b
       → value_in thread e ≡ Some number → place ≡ chosen number (get_or m.code.now k d).then (get_or m.code.now k d).otherwise
-      → GoesOn (next_of thread) → thread_of (moved m place m.privates m.held) ≡ answered value thread
+      → GoesOn (next_of thread) → machine_thread (moved m place m.privates m.held) ≡ answered value thread
   if_answered value number place e a b is_s number_is place_is goes =
       let rest = rest_at m.code.now (get_or m.code.now k d).next in
       let leads = λ (n : ℕ). chosen n (where_it_holds (If e a b) rest) (where_it_fails (If e a b) rest) in
@@ -362,7 +362,7 @@ module _ (m : Inside) (thread : Thread) (d : Instruction) (k : ℕ) (view : thre
 
   pub while_answered : (value number place : ℕ) (e : Expression) (a : _) → (get_or m.code.now k d).statement.now ≡ While e a
       → value_in thread e ≡ Some number → place ≡ chosen number (get_or m.code.now k d).then (get_or m.code.now k d).otherwise
-      → GoesOn (next_of thread) → thread_of (moved m place m.privates m.held) ≡ answered value thread
+      → GoesOn (next_of thread) → machine_thread (moved m place m.privates m.held) ≡ answered value thread
   while_answered value number place e a is_s number_is place_is goes =
       let rest = rest_at m.code.now (get_or m.code.now k d).next in
       let leads = λ (n : ℕ). chosen n (where_it_holds (While e a) rest) (where_it_fails (While e a) rest) in

@@ -30,7 +30,7 @@ where_it_fails (If' condition p first q second) rest = block second ++ rest
 where_it_fails statement rest = rest
 
 -- the k-th instruction, from 0, leads where its statement does, and its private names are among the 32 that there are
-pub record IsSound (code : List Instruction) (k : ℕ) (instruction : Instruction) : Type 0 where
+pub record IsSoundAt (code : List Instruction) (k : ℕ) (instruction : Instruction) : Type 0 where
   pub next_below : instruction.next ≤ k
   pub then_within : instruction.then ≤ length code
   pub otherwise_within : instruction.otherwise ≤ length code
@@ -40,7 +40,7 @@ pub record IsSound (code : List Instruction) (k : ℕ) (instruction : Instructio
 
 -- each instruction from the k-th on is sound
 abbrev pub IsSoundFrom : ℕ → List Instruction → Type 0
-IsSoundFrom from code = (k : ℕ) (instruction : Instruction) → from ≤ k → slice_get code k ≡ Some instruction → IsSound code k instruction
+IsSoundFrom from code = (k : ℕ) (instruction : Instruction) → from ≤ k → slice_get code k ≡ Some instruction → IsSoundAt code k instruction
 
 -- The code has grown by instructions that at `place` begin these statements, after which comes `next`. They are sound
 -- where the private names of the statements are among the 32 that there are.

@@ -47,24 +47,24 @@ chosen zero where_it_holds otherwise = otherwise
 chosen (suc n) where_it_holds otherwise = where_it_holds
 
 -- what an operator gives, modulo 2^64; none is a division by zero
-abbrev pub applied : Operator → ℕ → ℕ → Option ℕ
-applied Add x y = Some ((x + y) % 2 ^ 64)
-applied Subtract x y = Some ((x + (2 ^ 64 - y)) % 2 ^ 64)
-applied Multiply x y = Some ((x * y) % 2 ^ 64)
-applied Divide x y = chosen y (Some (x / y)) None
-applied Remainder x y = chosen y (Some (x % y)) None
-applied Equal x y = Some (one_if (nat_eq x y))
-applied NotEqual x y = Some (one_if (not (nat_eq x y)))
-applied Less x y = Some (one_if (nat_lt x y))
-applied LessOrEqual x y = Some (one_if (nat_le x y))
-applied Greater x y = Some (one_if (nat_lt y x))
-applied GreaterOrEqual x y = Some (one_if (nat_le y x))
+abbrev pub operated : Operator → ℕ → ℕ → Option ℕ
+operated Add x y = Some ((x + y) % 2 ^ 64)
+operated Subtract x y = Some ((x + (2 ^ 64 - y)) % 2 ^ 64)
+operated Multiply x y = Some ((x * y) % 2 ^ 64)
+operated Divide x y = chosen y (Some (x / y)) None
+operated Remainder x y = chosen y (Some (x % y)) None
+operated Equal x y = Some (one_if (nat_eq x y))
+operated NotEqual x y = Some (one_if (not (nat_eq x y)))
+operated Less x y = Some (one_if (nat_lt x y))
+operated LessOrEqual x y = Some (one_if (nat_le x y))
+operated Greater x y = Some (one_if (nat_lt y x))
+operated GreaterOrEqual x y = Some (one_if (nat_le y x))
 
 -- what an operator gives, once both sides have values
 abbrev pub combined : Operator → Option ℕ → Option ℕ → Option ℕ
 combined operator None right = None
 combined operator (Some x) None = None
-combined operator (Some x) (Some y) = applied operator x y
+combined operator (Some x) (Some y) = operated operator x y
 
 -- the value of an expression on node `me` of `nodes`, with these private values; none is a division by zero
 abbrev pub value_of : (me nodes : ℕ) → List ℕ → Expression → Option ℕ
@@ -122,38 +122,38 @@ abbrev pub then_holds : Thread → List Statement → ℕ → Bool → Thread
 then_holds thread rest lock held = record thread { rest = rest; held = slice_set thread.held lock held }
 
 -- the act of a statement of which `rest` comes after it
-abbrev pub act_of : Thread → Statement → List Statement → Next
-act_of thread (Assign name value) rest =
+abbrev pub next_of_statement : Thread → Statement → List Statement → Next
+next_of_statement thread (Assign name value) rest =
     with_value thread value (λ v. quiet (then_keeps thread rest name v))
-act_of thread (Read name word) rest =
+next_of_statement thread (Read name word) rest =
     with_value thread word (λ w.
     if_below w thread.setting.words WordOutOfRange (reads w (λ v. then_keeps thread rest name v)))
-act_of thread (Write word value) rest =
+next_of_statement thread (Write word value) rest =
     with_value thread word (λ w.
     with_value thread value (λ v.
     if_below w thread.setting.words WordOutOfRange (writes w v (then_does thread rest))))
-act_of thread (Acquire lock) rest =
+next_of_statement thread (Acquire lock) rest =
     with_value thread lock (λ l.
     if_below l thread.setting.locks LockOutOfRange
     (if holds thread l then traps LockHeld else acquires l (then_holds thread rest l true)))
-act_of thread (Release lock) rest =
+next_of_statement thread (Release lock) rest =
     with_value thread lock (λ l.
     if_below l thread.setting.locks LockOutOfRange
     (if holds thread l then releases l (then_holds thread rest l false) else traps LockNotHeld))
-act_of thread Barrier rest = arrives (record thread { rest = rest; arrived = true })
-act_of thread (Print value) rest =
+next_of_statement thread Barrier rest = arrives (record thread { rest = rest; arrived = true })
+next_of_statement thread (Print value) rest =
     with_value thread value (λ v. prints v (then_does thread rest))
-act_of thread (If' condition p first q second) rest =
+next_of_statement thread (If' condition p first q second) rest =
     with_value thread condition (λ v.
     quiet (then_does thread (chosen v (block first ++ rest) (block second ++ rest))))
-act_of thread (While' condition p body) rest =
+next_of_statement thread (While' condition p body) rest =
     with_value thread condition (λ v.
     quiet (then_does thread (chosen v (block body ++ While' condition p body ∷ rest) rest)))
 
 -- the act of the first of these statements, and End where there is none
 abbrev pub first_act : Thread → List Statement → Next
 first_act thread [] = ends
-first_act thread (statement ∷ rest) = act_of thread statement rest
+first_act thread (statement ∷ rest) = next_of_statement thread statement rest
 
 -- what a thread does next: departs where it has arrived, and else its next statement
 abbrev pub next_of : Thread → Next

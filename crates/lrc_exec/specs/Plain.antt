@@ -36,8 +36,8 @@ plain_start program nodes =
     }
 
 -- whether nobody holds a lock
-abbrev pub is_free : Plain → ℕ → Bool
-is_free machine lock = is_none (slice_index_or machine.holders lock None)
+abbrev pub nobody_holds : Plain → ℕ → Bool
+nobody_holds machine lock = is_none (slice_index_or machine.holders lock None)
 
 -- whether every node has arrived at least as often as this one
 abbrev pub all_arrived : Plain → ℕ → Bool
@@ -48,26 +48,26 @@ abbrev pub with_thread : Plain → ℕ → Option Thread → Plain
 with_thread machine node thread = record machine { threads = slice_set machine.threads node thread }
 
 -- what a node does, and the machine after it; none where it cannot do now what its thread does next
-abbrev pub deed_of : Plain → ℕ → Next → Option (Deed × Plain)
-deed_of machine node (quiet after) = Some (Quiet, with_thread machine node (Some after))
-deed_of machine node (prints value after) = Some (Print value, with_thread machine node (Some after))
-deed_of machine node (reads word after) =
+abbrev pub deed_done : Plain → ℕ → Next → Option (Deed × Plain)
+deed_done machine node (quiet after) = Some (Quiet, with_thread machine node (Some after))
+deed_done machine node (prints value after) = Some (Print value, with_thread machine node (Some after))
+deed_done machine node (reads word after) =
     let value = slice_index machine.memory word in
     Some (Read word value, with_thread machine node (Some (after value)))
-deed_of machine node (writes word value after) =
+deed_done machine node (writes word value after) =
     Some (Write word value, record (with_thread machine node (Some after)) { memory = slice_set machine.memory word value })
-deed_of machine node (acquires lock after) =
-    if is_free machine lock
+deed_done machine node (acquires lock after) =
+    if nobody_holds machine lock
     then Some (Acquire lock, record (with_thread machine node (Some after)) { holders = slice_set machine.holders lock (Some node) })
     else None
-deed_of machine node (releases lock after) =
+deed_done machine node (releases lock after) =
     Some (Release lock, record (with_thread machine node (Some after)) { holders = slice_set machine.holders lock None })
-deed_of machine node (arrives after) =
+deed_done machine node (arrives after) =
     Some (Arrive, record (with_thread machine node (Some after)) { arrivals = slice_set machine.arrivals node (slice_index machine.arrivals node + 1) })
-deed_of machine node (departs after) =
+deed_done machine node (departs after) =
     if all_arrived machine node then Some (Depart, with_thread machine node (Some after)) else None
-deed_of machine node (traps cause) = Some (Trap cause, with_thread machine node None)
-deed_of machine node ends = Some (End, with_thread machine node None)
+deed_done machine node (traps cause) = Some (Trap cause, with_thread machine node None)
+deed_done machine node ends = Some (End, with_thread machine node None)
 
 -- a node's thread; none where there is no such node, or it has trapped or ended
 abbrev pub thread_in : Plain → ℕ → Option Thread
@@ -75,7 +75,7 @@ thread_in machine node = slice_index_or machine.threads node None
 
 -- one step of a node: what it does, and the machine after it; none where it cannot step
 abbrev pub plain_step : Plain → ℕ → Option (Deed × Plain)
-plain_step machine node = option_and_then (λ thread. deed_of machine node (next_of thread)) (thread_in machine node)
+plain_step machine node = option_and_then (λ thread. deed_done machine node (next_of thread)) (thread_in machine node)
 
 -- the acts that the machine makes, one for each entry of the order, and the machine after them; none where an entry is
 -- no node or a node that cannot step

@@ -24,8 +24,8 @@ abbrev pub resumed : (value : ℕ) → (arrived : Bool) → Thread → Thread
 resumed value arrived thread = record (answered value thread) { arrived = arrived }
 
 -- a thread that goes on from a barrier
-abbrev pub departed : Thread → Thread
-departed thread = record thread { arrived = false }
+abbrev pub thread_departed : Thread → Thread
+thread_departed thread = record thread { arrived = false }
 
 -- a thread that is at no barrier, and takes an answer
 abbrev pub IsResumable : Thread → Type 0

@@ -5,8 +5,8 @@ use Rattle.lrc_exec.specs.Meaning.{Thread}
 use Rattle.lrc_exec.specs.Flat.{rest_at, IsSoundFrom}
 
 -- the thread: its statements still to do are those at the machine's place
-abbrev pub thread_of : Inside → Thread
-thread_of machine =
+abbrev pub machine_thread : Inside → Thread
+machine_thread machine =
     record {
       setting = record { words = machine.words; locks = machine.locks; me = machine.me; nodes = machine.nodes };
       rest = rest_at machine.code.now machine.place;

@@ -4,7 +4,7 @@ ghost use Rattle.std.specs.Prelude.{◌≡◌, ◌<◌, ◌≤◌, ◌∷◌, fa
 ghost use Rattle.lrc_lang.specs.declared.program.Statement.{Statement};
 ghost use Rattle.lrc_lang.specs.Sizes.{names_in_expression, names_in_statement};
 ghost use Rattle.lrc_lang.specs.Statements.{expression_of, statement_of};
-ghost use Rattle.lrc_exec.specs.Meaning.{act_of, next_of, value_in};
+ghost use Rattle.lrc_exec.specs.Meaning.{next_of_statement, next_of, value_in};
 ghost use Rattle.lrc_exec.specs.Plain.{start_of};
 ghost use Rattle.lrc_exec.specs.Spots.{thread_at, IsFlat};
 ghost use Rattle.lrc_exec.specs.Ask.{ask_of, answered, TakesAnswer};
@@ -52,9 +52,9 @@ impl<'c> Model for Cursor<'c> {
 
     ghost coded = { Prim.hlevel (codes, statement.the_row.coded) };
 
-    ghost use Rattle.lrc_exec.specs.Running.{thread_of, IsRunning};
+    ghost use Rattle.lrc_exec.specs.Running.{machine_thread, IsRunning};
 
-    ghost view = { thread_of };
+    ghost view = { machine_thread };
 
     ghost invariant = { IsRunning };
 }
@@ -171,7 +171,7 @@ impl<'c> Cursor<'c> {
     // What a statement asks for, and what it goes on with.
     fn wish_of(&self, statement: &Statement) -> Result<Wish, Cause>
         requires { names_in_statement (statement_of statement.now) ≤ 32 }
-        ensures asked { (rest : List Statement) → ask_of (act_of self.now statement.now rest) ≡ asked_or_trap result }
+        ensures asked { (rest : List Statement) → ask_of (next_of_statement self.now statement.now rest) ≡ asked_or_trap result }
         ensures number { IfOk result (λ wish. (rest : List Statement) → Completes self.now (statement.now ∷ rest) wish.number) }
     {
         match statement {

@@ -45,7 +45,7 @@ impl<'c> Model for PlainMachine<'c> {
 }
 
 impl<'c> PlainMachine<'c> {
-    ghost use Rattle.lrc_exec.specs.PlainCode.{resumed, departed, IsResumable};
+    ghost use Rattle.lrc_exec.specs.PlainCode.{resumed, thread_departed, IsResumable};
 
     // The beginning of a program.
     pub(crate) fn new(
@@ -137,7 +137,7 @@ impl<'c> PlainMachine<'c> {
     // A node's thread goes on from a barrier.
     fn leave(&mut self, node: usize)
         requires { IsSome (thread_in self.old node) }
-        ensures { self.new ≡ with_thread self.old node (option_map departed (thread_in self.old node)) }
+        ensures { self.new ≡ with_thread self.old node (option_map thread_departed (thread_in self.old node)) }
     {
         self.runners[node].arrived = false;
     }

@@ -3,14 +3,14 @@
 ghost use Rattle.std.specs.Prelude.{◌≡◌, ◌≤◌, ok_or};
 ghost use Rattle.lrc_lang.specs.Sizes.{names_in_expression};
 ghost use Rattle.lrc_lang.specs.Statements.{expression_of};
-ghost use Rattle.lrc_exec.specs.Meaning.{applied, combined, value_of};
+ghost use Rattle.lrc_exec.specs.Meaning.{operated, combined, value_of};
 
 use lrc_lang::program::{Expression, Operator};
 use lrc_trace::act::Cause;
 
 // What an operator gives.
 fn apply(operator: Operator, x: u64, y: u64) -> Result<u64, Cause>
-    ensures { result ≡ ok_or (applied operator x y) Cause.DivisionByZero }
+    ensures { result ≡ ok_or (operated operator x y) Cause.DivisionByZero }
 {
     match operator {
         Operator::Add => Ok(x.wrapping_add(y)),

@@ -5,7 +5,7 @@ use Rattle.lrc_lang.specs.declared.program.Program.{Program}
 use Rattle.lrc_trace.specs.declared.act.Act.{Act}
 use Rattle.lrc_trace.specs.declared.act.Deed.{Deed}
 use Rattle.lrc_trace.specs.declared.act.Deed.TheVariants.{Print}
-use Rattle.lrc_lines.specs.Walks.{lines_of}
+use Rattle.lrc_lines.specs.Walks.{act_lines}
 use Rattle.lrc_judge.specs.declared.lanes.Pair.{Pair}
 use Rattle.lrc_text.specs.RaceText.{first_race_text}
 use Rattle.lrc_show.specs.Each.{each}
@@ -37,4 +37,4 @@ fates_text acts stands = each (λ node stand. prints_text node acts ++ end_text 
 abbrev pub explain_text : Program → (nodes : ℕ) → (lines : List ℕ) → (steps : ℕ) → List Act → List Pair → (first : Option ℕ) → List ℕ
 explain_text program nodes lines steps acts pairs first =
     let stands = stands_of program nodes lines (Some steps) acts in
-    fates_text acts stands ++ deadlocks_text stands ++ groups_text acts (lines_of program nodes lines acts) pairs ++ first_race_text first
+    fates_text acts stands ++ deadlocks_text stands ++ groups_text acts (act_lines program nodes lines acts) pairs ++ first_race_text first

@@ -12,7 +12,7 @@ use Rattle.lrc_trace.specs.Run.{act_of}
 use Rattle.lrc_exec.specs.declared.spot.Flat.{Flat}
 use Rattle.lrc_exec.specs.Flat.{IsCodeOf}
 use Rattle.lrc_exec.specs.Meaning.{Thread, Next, quiet, prints, reads, writes, acquires, releases, arrives, departs, traps, ends, next_of}
-use Rattle.lrc_exec.specs.Plain.{Plain, deed_of, is_free, all_arrived, with_thread, thread_in, plain_step, plain_start}
+use Rattle.lrc_exec.specs.Plain.{Plain, deed_done, nobody_holds, all_arrived, with_thread, thread_in, plain_step, plain_start}
 use Rattle.lrc_plain_laws.proofs.Plainly.{one_more, plain_from-joined}
 use Rattle.lrc_explore.specs.declared.kept.States.{States}
 use Rattle.lrc_explore.specs.declared.state.State.{State}
@@ -65,7 +65,7 @@ module _ (machine after : Plain) (node k : ℕ) (d : Deed) where
         | inr other ↦ let e : slice_index (slice_set xs node v) k ≡ slice_index xs k = get_or-set_other xs node k v 0 other in omega arith
       ]
 
-  counts_deed : (n : Next) → deed_of machine node n ≡ Some (d, after) → Counts after
+  counts_deed : (n : Next) → deed_done machine node n ≡ Some (d, after) → Counts after
   counts_deed (quiet t) is = counts_after Quiet (with_thread machine node (Some t)) is (omega arith)
   counts_deed (prints v t) is = counts_after (Print v) (with_thread machine node (Some t)) is (omega arith)
   counts_deed (reads w t) is =
@@ -73,7 +73,7 @@ module _ (machine after : Plain) (node k : ℕ) (d : Deed) where
   counts_deed (writes w v t) is =
       counts_after (Write w v) (record (with_thread machine node (Some t)) { memory = slice_set machine.memory w v }) is (omega arith)
   counts_deed (acquires l t) is =
-      counts_if (is_free machine l) (Acquire l) (record (with_thread machine node (Some t)) { holders = slice_set machine.holders l (Some node) }) is
+      counts_if (nobody_holds machine l) (Acquire l) (record (with_thread machine node (Some t)) { holders = slice_set machine.holders l (Some node) }) is
       (omega arith)
   counts_deed (releases l t) is =
       counts_after (Release l) (record (with_thread machine node (Some t)) { holders = slice_set machine.holders l None }) is (omega arith)
@@ -86,7 +86,7 @@ module _ (machine after : Plain) (node k : ℕ) (d : Deed) where
 
   pub step_counts : plain_step machine node ≡ Some (d, after) → Counts after
   step_counts is =
-      option_and_then_some (λ t. deed_of machine node (next_of t)) (thread_in machine node) (d, after) is (λ t at made. counts_deed (next_of t) made)
+      option_and_then_some (λ t. deed_done machine node (next_of t)) (thread_in machine node) (d, after) is (λ t at made. counts_deed (next_of t) made)
 
 -- one step keeps the number of threads
 module _ (machine after : Plain) (node : ℕ) (d : Deed) where
@@ -103,7 +103,7 @@ module _ (machine after : Plain) (node : ℕ) (d : Deed) where
   sized : (t : Option Thread) → length (slice_set machine.threads node t) ≡ length machine.threads
   sized t = length-set machine.threads node t
 
-  sized_deed : (n : Next) → deed_of machine node n ≡ Some (d, after) → Sized after
+  sized_deed : (n : Next) → deed_done machine node n ≡ Some (d, after) → Sized after
   sized_deed (quiet t) is = sized_after Quiet (with_thread machine node (Some t)) is (sized (Some t))
   sized_deed (prints v t) is = sized_after (Print v) (with_thread machine node (Some t)) is (sized (Some t))
   sized_deed (reads w t) is =
@@ -111,7 +111,7 @@ module _ (machine after : Plain) (node : ℕ) (d : Deed) where
   sized_deed (writes w v t) is =
       sized_after (Write w v) (record (with_thread machine node (Some t)) { memory = slice_set machine.memory w v }) is (sized (Some t))
   sized_deed (acquires l t) is =
-      sized_if (is_free machine l) (Acquire l) (record (with_thread machine node (Some t)) { holders = slice_set machine.holders l (Some node) }) is
+      sized_if (nobody_holds machine l) (Acquire l) (record (with_thread machine node (Some t)) { holders = slice_set machine.holders l (Some node) }) is
       (sized (Some t))
   sized_deed (releases l t) is =
       sized_after (Release l) (record (with_thread machine node (Some t)) { holders = slice_set machine.holders l None }) is (sized (Some t))
@@ -123,7 +123,7 @@ module _ (machine after : Plain) (node : ℕ) (d : Deed) where
   sized_deed ends is = sized_after End (with_thread machine node None) is (sized None)
 
   pub step_threads : plain_step machine node ≡ Some (d, after) → Sized after
-  step_threads is = option_and_then_some (λ t. deed_of machine node (next_of t)) (thread_in machine node) (d, after) is (λ t at made. sized_deed (next_of t) made)
+  step_threads is = option_and_then_some (λ t. deed_done machine node (next_of t)) (thread_in machine node) (d, after) is (λ t at made. sized_deed (next_of t) made)
 
 -- at the start nobody has arrived
 pub zero_at : (n k : ℕ) → slice_index (replicate n 0) k ≡ 0

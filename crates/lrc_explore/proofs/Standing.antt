@@ -8,7 +8,7 @@ use Rattle.lrc_trace.specs.declared.act.Deed.{Deed}
 use Rattle.lrc_exec.specs.declared.spot.Flat.{Flat}
 use Rattle.lrc_exec.specs.declared.spot.Spot.{Spot}
 use Rattle.lrc_exec.specs.Meaning.{Thread, next_of}
-use Rattle.lrc_exec.specs.Plain.{Plain, deed_of, thread_in, plain_step}
+use Rattle.lrc_exec.specs.Plain.{Plain, deed_done, thread_in, plain_step}
 use Rattle.lrc_exec.specs.Spots.{thread_at, spot_thread}
 use Rattle.lrc_exec.proofs.PlainParts.{thread_within}
 use Rattle.lrc_explore.specs.declared.state.State.{State}
@@ -27,7 +27,7 @@ StoppedBelow machine bound = (node : ℕ) → node < bound → thread_in machine
 -- a node that makes an act is one of the nodes
 pub step_within : (machine : Plain) (node : ℕ) (x : Deed × Plain) → plain_step machine node ≡ Some x → node < length machine.threads
 step_within machine node x e =
-    option_and_then_some (λ t. deed_of machine node (next_of t)) (thread_in machine node) x e (λ t at is. thread_within machine node t at)
+    option_and_then_some (λ t. deed_done machine node (next_of t)) (thread_in machine node) x e (λ t at is. thread_within machine node t at)
 
 unmapped : {A B : Type 0} (f : A → B) (o : Option A) → option_map f o ≡ None → o ≡ None
 unmapped f None e = refl

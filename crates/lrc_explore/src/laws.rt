@@ -7,7 +7,7 @@ ghost use Rattle.lrc_trace.specs.Conflict.{IsRaceFree};
 ghost use Rattle.lrc_trace.specs.Reading.{ReadsLazily};
 ghost use Rattle.lrc_trace.specs.Synchronization.{IsWellSynchronized};
 ghost use Rattle.lrc_exec.specs.Plain.{Plain, plain};
-ghost use Rattle.lrc_plain_laws.specs.Follows.{FollowsText, nodes_of};
+ghost use Rattle.lrc_plain_laws.specs.Follows.{FollowsText, nodes_of_acts};
 ghost use Rattle.lrc_plain_laws.specs.Racing.{HasNoRace};
 ghost use Rattle.lrc_explore.specs.Meeting.{IsCertificate, NeverMeets};
 ghost use Rattle.lrc_explore.specs.declared.search.Verdict.{Verdict};
@@ -35,7 +35,7 @@ pub fn certified_programs_have_no_race()
 pub fn runs_of_explored_programs_are_plain()
     ensures { (program : Program) (nodes : ℕ) (verdict : Verdict) (run : List Act) → IsVerdict program nodes verdict → FindsNoRace verdict
         → FollowsText program nodes run → IsWellSynchronized nodes run → ReadsLazily run
-        → IsRaceFree run × (plain program nodes (nodes_of run) ≡ Some run) }
+        → IsRaceFree run × (plain program nodes (nodes_of_acts run) ≡ Some run) }
 {}
 
 /// What is noted of one act more is what was noted, with that act put in behind the notes of the nodes up to its own.

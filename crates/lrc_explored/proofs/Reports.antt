@@ -7,7 +7,7 @@ use Rattle.lrc_trace.specs.declared.race.Race.{Race}
 use Rattle.lrc_trace.specs.Conflict.{IsFirstRace, IsRaceFree}
 use Rattle.lrc_judge.specs.Races.{AreNamedRaces}
 use Rattle.lrc_exec.specs.Plain.{plain}
-use Rattle.lrc_plain_laws.specs.Follows.{nodes_of}
+use Rattle.lrc_plain_laws.specs.Follows.{nodes_of_acts}
 use Rattle.lrc_protocol.specs.declared.event.Event.{Event}
 use Rattle.lrc_protocol.specs.Node.{OptionsRecord}
 use Rattle.lrc_world.specs.Report.{IsReportOf}
@@ -32,7 +32,7 @@ module _ (program : Program) (nodes : ℕ) (verdict : Verdict) (options : Option
   free : IsRaceFree report.acts.items
   free = (reports_consistently program nodes options events report reported).unraced (has_no_race program nodes verdict is finds)
 
-  pub free_and_plain : IsRaceFree report.acts.items × (plain program nodes (nodes_of report.acts.items) ≡ Some report.acts.items)
+  pub free_and_plain : IsRaceFree report.acts.items × (plain program nodes (nodes_of_acts report.acts.items) ≡ Some report.acts.items)
   free_and_plain = (free, (reports_consistently program nodes options events report reported).consistent free)
 
   pub unraced : AreNamedRaces report.acts.items report.races.items → (report.first_race ≡ None) × (report.races.items ≡ [])

@@ -5,7 +5,7 @@ use Rattle.lrc_trace.specs.declared.act.Act.{Act}
 use Rattle.lrc_trace.specs.declared.race.Race.{Race}
 use Rattle.lrc_text.specs.RaceText.{first_race_text, races_text}
 use Rattle.lrc_show.specs.ActsText.{acts_text}
-use Rattle.lrc_lines.specs.Walks.{lines_of}
+use Rattle.lrc_lines.specs.Walks.{act_lines}
 use Rattle.lrc_stuck.specs.Stand.{stands_of}
 use Rattle.lrc_stuck.specs.Stuck.{stuck_text}
 use Rattle.lrc_plain_laws.specs.Racing.{HasNoRace}
@@ -15,7 +15,7 @@ use Rattle.lrc_explored.specs.LastRaces.{AreRacesAt}
 
 -- a line for each act, with the line of the text that it is of
 abbrev pub order_text : Program → (nodes : ℕ) → (lines : List ℕ) → List Act → List ℕ
-order_text program nodes lines acts = acts_text acts (lines_of program nodes lines acts)
+order_text program nodes lines acts = acts_text acts (act_lines program nodes lines acts)
 
 -- of each node that is unfinished after the acts how it ended and what comes next of it, and the circles of waiting
 abbrev pub ends_text : Program → (nodes : ℕ) → (lines : List ℕ) → List Act → List ℕ

@@ -6,7 +6,7 @@ ghost use Rattle.lrc_lang.specs.declared.program.Program.{Program};
 ghost use Rattle.lrc_trace.specs.Conflict.{IsRaceFree};
 ghost use Rattle.lrc_judge.specs.Races.{AreNamedRaces};
 ghost use Rattle.lrc_exec.specs.Plain.{plain};
-ghost use Rattle.lrc_plain_laws.specs.Follows.{nodes_of};
+ghost use Rattle.lrc_plain_laws.specs.Follows.{nodes_of_acts};
 ghost use Rattle.lrc_protocol.specs.declared.event.Event.{Event};
 ghost use Rattle.lrc_protocol.specs.Node.{OptionsRecord};
 ghost use Rattle.lrc_world.specs.Report.{IsReportOf};
@@ -20,7 +20,7 @@ ghost use Rattle.lrc_explore.specs.declared.search.Verdict.{Verdict};
 pub fn reports_of_explored_programs_are_plain()
     ensures plain { (program : Program) (nodes : ℕ) (verdict : Verdict) (options : OptionsRecord) (events : List Event) (report : Report)
         → IsVerdict program nodes verdict → FindsNoRace verdict → IsReportOf program nodes options events report
-        → IsRaceFree report.acts.items × (plain program nodes (nodes_of report.acts.items) ≡ Some report.acts.items) }
+        → IsRaceFree report.acts.items × (plain program nodes (nodes_of_acts report.acts.items) ≡ Some report.acts.items) }
     ensures unraced { (program : Program) (nodes : ℕ) (verdict : Verdict) (options : OptionsRecord) (events : List Event) (report : Report)
         → IsVerdict program nodes verdict → FindsNoRace verdict → IsReportOf program nodes options events report
         → AreNamedRaces report.acts.items report.races.items → (report.first_race ≡ None) × (report.races.items ≡ []) }

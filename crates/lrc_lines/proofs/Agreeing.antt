@@ -10,9 +10,9 @@ use Rattle.lrc_trace.specs.declared.act.Cause.TheVariants.{DivisionByZero, WordO
 use Rattle.lrc_trace.specs.declared.act.Deed.{Deed}
 use Rattle.lrc_trace.specs.declared.act.Deed.TheVariants as deeds
 use Rattle.lrc_exec.specs.Meaning.{Thread, Next, acquires, releases, departs, traps, holds, then_holds, or_trap, value_in}
-use Rattle.lrc_exec.specs.Meaning.{block, chosen, act_of, first_act, next_of}
+use Rattle.lrc_exec.specs.Meaning.{block, chosen, next_of_statement, first_act, next_of}
 use Rattle.lrc_exec.specs.Ask.{ask_of, done, answered}
-use Rattle.lrc_exec.specs.Condition.{is_met, first_is_met, condition_holds}
+use Rattle.lrc_exec.specs.Condition.{value_is_met, first_is_met, condition_holds}
 use Rattle.lrc_lines.specs.Tasks.{Task, behind, behind_block, tasks, beyond, passed}
 use Rattle.lrc_lines.specs.Standing.{Agrees}
 use Rattle.lrc_lines.specs.Walks.{Walk, walk_at_start, goes_on, onward, led, led_by, walk_behind}
@@ -53,7 +53,7 @@ module _ (value : ℕ) (t : Thread) (stays : t.arrived ≡ false) where
   stuck rest cause goes = cc
 
   leads : (s : Statement) (lines : List ℕ) (rest : List Statement) (more : List Task) → statements more ≡ rest →
-      Leads (statements (beyond (first_is_met t (s ∷ rest)) s lines more)) (act_of t s rest)
+      Leads (statements (beyond (first_is_met t (s ∷ rest)) s lines more)) (next_of_statement t s rest)
   leads (Assign name e) lines rest more same =
       on_value (Leads (statements more)) (value_in t e) _ (stuck (statements more) DivisionByZero) (λ v is goes. (sym same, stays))
   leads (Read name e) lines rest more same =
@@ -81,19 +81,19 @@ module _ (value : ℕ) (t : Thread) (stays : t.arrived ≡ false) where
   leads (If' e p a q b) lines rest more same =
       let inside = tasks (block a) (drop 1 lines) in
       let second = tasks (block b) (behind_block a (drop 1 lines)) in
-      on_value (Leads (statements ((if is_met (value_in t e) then inside else second) ++ more))) (value_in t e) _ (stuck _ DivisionByZero)
+      on_value (Leads (statements ((if value_is_met (value_in t e) then inside else second) ++ more))) (value_in t e) _ (stuck _ DivisionByZero)
       (λ v is goes. (
         chosen_tasks v (block a) (block b) rest inside second more (statements_tasks (block a) _) (statements_tasks (block b) _) same
-            ∙ ap (λ o. statements ((if is_met o then inside else second) ++ more)) (sym is),
+            ∙ ap (λ o. statements ((if value_is_met o then inside else second) ++ more)) (sym is),
         stays,
       ))
   leads (While' e p a) lines rest more same =
       let inside = tasks (block a) (drop 1 lines) in
       let loop : Task = record { statement = While' e p a; lines = lines } in
-      on_value (Leads (statements (if is_met (value_in t e) then inside ++ loop ∷ more else more))) (value_in t e) _ (stuck _ DivisionByZero)
+      on_value (Leads (statements (if value_is_met (value_in t e) then inside ++ loop ∷ more else more))) (value_in t e) _ (stuck _ DivisionByZero)
       (λ v is goes. (
         looped_tasks v (block a) rest loop inside more (statements_tasks (block a) _) same
-            ∙ ap (λ o. statements (if is_met o then inside ++ loop ∷ more else more)) (sym is),
+            ∙ ap (λ o. statements (if value_is_met o then inside ++ loop ∷ more else more)) (sym is),
         stays,
       ))
 
@@ -107,13 +107,13 @@ agrees_on value t [] same stays goes =
     let stops : false ≡ true = sym (ap (λ n. goes_on (ask_of n)) next_is) ∙ goes in
     cc
 agrees_on value t (task ∷ more) same stays goes =
-    let next_is : next_of t ≡ act_of t task.statement (statements more) =
+    let next_is : next_of t ≡ next_of_statement t task.statement (statements more) =
     ap (λ b. if b then departs (record t { arrived = false }) else first_act t t.rest) stays ∙ ap (first_act t) (sym same) in
     let holds = first_is_met t (task.statement ∷ statements more) in
-    let led : ((done value t (act_of t task.statement (statements more))).rest ≡ statements (beyond holds task.statement task.lines more))
-    × ((done value t (act_of t task.statement (statements more))).arrived ≡ false) =
+    let led : ((done value t (next_of_statement t task.statement (statements more))).rest ≡ statements (beyond holds task.statement task.lines more))
+    × ((done value t (next_of_statement t task.statement (statements more))).arrived ≡ false) =
     leads value t stays task.statement task.lines (statements more) more refl (sym (ap (λ n. goes_on (ask_of n)) next_is) ∙ goes) in
-    let after : answered value t ≡ done value t (act_of t task.statement (statements more)) = ap (done value t) next_is in (
+    let after : answered value t ≡ done value t (next_of_statement t task.statement (statements more)) = ap (done value t) next_is in (
       ap (λ l. statements (beyond (first_is_met t l) task.statement task.lines more)) (sym same) ∙ sym led.0
           ∙ sym (ap (λ (u : Thread). u.rest) after),
       ap (λ (u : Thread). u.arrived) after ∙ led.1,

@@ -10,7 +10,7 @@ use Rattle.lrc_lang.specs.declared.program.Statement.TheVariants.{Assign, Read, 
 use Rattle.lrc_trace.specs.declared.act.Act.{Act}
 use Rattle.lrc_trace.specs.declared.act.Deed.{Deed}
 use Rattle.lrc_exec.specs.Meaning.{Thread, Next, quiet, prints, reads, writes, acquires, releases, arrives, departs, traps, ends}
-use Rattle.lrc_exec.specs.Meaning.{act_of, first_act, next_of, holds, then_holds, value_in}
+use Rattle.lrc_exec.specs.Meaning.{next_of_statement, first_act, next_of, holds, then_holds, value_in}
 use Rattle.lrc_exec.specs.Ask.{answered, ask_of, done}
 use Rattle.lrc_exec.specs.Condition.{condition_holds}
 use Rattle.lrc_exec.specs.Plain.{start_of}
@@ -21,7 +21,7 @@ use Rattle.lrc_plain_laws.specs.Follows.{and_then}
 use Rattle.lrc_lines.specs.Makes.{MakesNext, statement, barrier, end}
 use Rattle.lrc_lines.specs.Standing.{Agrees}
 use Rattle.lrc_lines.specs.Tasks.{Task, passed}
-use Rattle.lrc_lines.specs.Walks.{Walk, goes_on, led, led_by, onward, end_line, line_at, line_behind, lines_behind, lines_of, walk_at_start}
+use Rattle.lrc_lines.specs.Walks.{Walk, goes_on, led, led_by, onward, end_line, line_at, line_behind, lines_behind, act_lines, walk_at_start}
 use Rattle.lrc_lines.specs.Walks.{walk_behind}
 use Rattle.lrc_lines.proofs.Agreeing.{agrees_led, agrees_start, on_value, on_if}
 use Rattle.lrc_lines.proofs.Following.{onward_going}
@@ -44,7 +44,7 @@ record Stays (next : Next) : Type 0 where
 trapped : (cause : _) → Stays (traps cause)
 trapped cause = record { comes = refl; leaves = refl }
 
-stays : (t : Thread) (s : Statement) (rest : List Statement) → s ≢ Barrier → Stays (act_of t s rest)
+stays : (t : Thread) (s : Statement) (rest : List Statement) → s ≢ Barrier → Stays (next_of_statement t s rest)
 stays t (Assign name e) rest other = on_value Stays (value_in t e) _ (trapped _) (λ v is. record { comes = refl; leaves = refl })
 stays t (Read name e) rest other =
     on_value Stays (value_in t e) _ (trapped _)
@@ -67,7 +67,7 @@ stays t (If' e p a q b) rest other = on_value Stays (value_in t e) _ (trapped _)
 stays t (While' e p a) rest other = on_value Stays (value_in t e) _ (trapped _) (λ v is. record { comes = refl; leaves = refl })
 
 -- the thread behind an arrive: the statement is the barrier
-arrival : (t : Thread) (s : Statement) (rest : List Statement) (u : Thread) → act_of t s rest ≡ arrives u
+arrival : (t : Thread) (s : Statement) (rest : List Statement) (u : Thread) → next_of_statement t s rest ≡ arrives u
     → (s ≡ Barrier) × (u ≡ record t { rest = rest; arrived = true })
 arrival t Barrier rest u is = (refl, cc)
 arrival t (Assign name e) rest u is = let no = (stays t (Assign name e) rest (λ e. cc)).comes in cc
@@ -255,7 +255,7 @@ line_there program nodes lines (first ∷ acts) before (suc i) act there =
     ∙ ap (λ b. Some (line_behind program nodes lines b act.node)) (append_assoc before (first ∷ []) (take i acts))
 
 pub line_of_act : (program : Program) (nodes : ℕ) (lines : List ℕ) (acts : List Act) (i n : ℕ) (d : Deed) → Does acts i n d → n < nodes
-    → slice_get (lines_of program nodes lines acts) i ≡ Some (line_at (end_line lines) (walk_behind program nodes lines (take i acts) n))
+    → slice_get (act_lines program nodes lines acts) i ≡ Some (line_at (end_line lines) (walk_behind program nodes lines (take i acts) n))
 line_of_act program nodes lines acts i n d does within =
     let walk = walk_behind program nodes lines (take i acts) n in
     line_there program nodes lines acts [] i (record { node = n; deed = d }) does.stands

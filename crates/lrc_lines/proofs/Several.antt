@@ -10,7 +10,7 @@ use Rattle.lrc_lang.specs.declared.program.Program.{Program}
 use Rattle.lrc_trace.specs.declared.act.Act.{Act}
 use Rattle.lrc_lines.specs.declared.walk.Walk as code
 use Rattle.lrc_lines.specs.Seen.{walk_of}
-use Rattle.lrc_lines.specs.Walks.{Walk, led, led_by, walk_at_start, walk_behind, walks_behind, line_at, line_behind, lines_behind, lines_of, end_line}
+use Rattle.lrc_lines.specs.Walks.{Walk, led, led_by, walk_at_start, walk_behind, walks_behind, line_at, line_behind, lines_behind, act_lines, end_line}
 use Rattle.lrc_lines.proofs.Passing.{fold_append}
 
 -- ---- numbers in a row
@@ -135,16 +135,16 @@ module _ (program : Program) (nodes : ℕ) (lines : List ℕ) where
       ∙ ap (λ b. lines_behind program nodes lines (before ++ a ∷ []) acts ++ line_behind program nodes lines b act.node ∷ []) (append_assoc before (a ∷ []) acts))
 
   -- one line more
-  pub lines_of_more : (acts : List Act) (act : Act) → lines_of program nodes lines (acts ++ act ∷ []) ≡
-      lines_of program nodes lines acts ++ line_behind program nodes lines acts act.node ∷ []
+  pub lines_of_more : (acts : List Act) (act : Act) → act_lines program nodes lines (acts ++ act ∷ []) ≡
+      act_lines program nodes lines acts ++ line_behind program nodes lines acts act.node ∷ []
   lines_of_more acts act = lines_behind_more acts [] act
 
   -- ---- the acts so far
 
   pub acts_so_far : (acts : List Act) (i : ℕ) (act : Act) (walks : List Walk) (found : List ℕ) → i < length acts →
       walks ≡ walks_behind program nodes lines (take i acts ++ act ∷ []) →
-      found ≡ lines_of program nodes lines (take i acts) ++ line_behind program nodes lines (take i acts) act.node ∷ [] → act ≡ get_or acts i act →
-      (found ≡ lines_of program nodes lines (take (i + 1) acts)) × (walks ≡ walks_behind program nodes lines (take (i + 1) acts))
+      found ≡ act_lines program nodes lines (take i acts) ++ line_behind program nodes lines (take i acts) act.node ∷ [] → act ≡ get_or acts i act →
+      (found ≡ act_lines program nodes lines (take (i + 1) acts)) × (walks ≡ walks_behind program nodes lines (take (i + 1) acts))
   acts_so_far acts i act walks found inside walks_are found_are is =
       let one = so_far acts i act inside is in
-      (found_are ∙ sym (lines_of_more (take i acts) act) ∙ ap (lines_of program nodes lines) one, walks_are ∙ ap (walks_behind program nodes lines) one)
+      (found_are ∙ sym (lines_of_more (take i acts) act) ∙ ap (act_lines program nodes lines) one, walks_are ∙ ap (walks_behind program nodes lines) one)

@@ -3,7 +3,7 @@ use Rattle.std.specs.Prelude.{◌≡◌, Option, List, [], ◌∷◌, map}
 use Rattle.lrc_lang.specs.declared.program.Statement.TheVariants.{Barrier}
 use Rattle.lrc_trace.specs.declared.act.Deed.{Deed}
 use Rattle.lrc_trace.specs.declared.act.Deed.TheVariants.{Depart, End}
-use Rattle.lrc_exec.specs.Meaning.{Thread, act_of}
+use Rattle.lrc_exec.specs.Meaning.{Thread, next_of_statement}
 use Rattle.lrc_plain_laws.specs.Follows.{Goes}
 use Rattle.lrc_lines.specs.Tasks.{Task}
 use Rattle.lrc_lines.specs.Walks.{Walk}
@@ -12,7 +12,7 @@ use Rattle.lrc_lines.specs.Walks.{Walk}
 pub data MakesNext (walk : Walk) : Deed → Type 0 where
   -- the statement whose line comes next makes it, or its condition is evaluated,
   statement : {task : Task} {more : List Task} {deed : Deed} {after : Option Thread} → walk.todo ≡ task ∷ more
-      → Goes (act_of walk.thread task.statement (map (λ later. later.statement) more)) deed after → MakesNext walk deed
+      → Goes (next_of_statement walk.thread task.statement (map (λ later. later.statement) more)) deed after → MakesNext walk deed
   -- or that statement is the barrier to which the node has come, and it departs,
   barrier : {task : Task} {more : List Task} → walk.todo ≡ task ∷ more → task.statement ≡ Barrier → MakesNext walk Depart
   -- or nothing is left to do, and it is at the end of the text

@@ -80,5 +80,5 @@ lines_behind program nodes lines before (act ∷ acts) =
     line_behind program nodes lines before act.node ∷ lines_behind program nodes lines (before ++ act ∷ []) acts
 
 -- the lines of acts
-abbrev pub lines_of : Program → (nodes : ℕ) → (lines : List ℕ) → (acts : List Act) → List ℕ
-lines_of program nodes lines acts = lines_behind program nodes lines [] acts
+abbrev pub act_lines : Program → (nodes : ℕ) → (lines : List ℕ) → (acts : List Act) → List ℕ
+act_lines program nodes lines acts = lines_behind program nodes lines [] acts

@@ -12,7 +12,7 @@ ghost use Rattle.lrc_lines.specs.Begins.{BeginOnLines};
 ghost use Rattle.lrc_lines.specs.Makes.{MakesNext};
 ghost use Rattle.lrc_lines.specs.Places.{StandsAmong, in_order};
 ghost use Rattle.lrc_lines.specs.Standing.{Agrees};
-ghost use Rattle.lrc_lines.specs.Walks.{end_line, line_at, lines_of, walk_behind};
+ghost use Rattle.lrc_lines.specs.Walks.{end_line, line_at, act_lines, walk_behind};
 
 /// The lines of a text are those on which its statements begin: one for each statement in the order of the text, the line of
 /// the first of the tokens that spell the statement, and at last that of the text's end.
@@ -37,7 +37,7 @@ pub fn what_is_still_to_do_stands_in_the_text()
 /// the statement on that line, the barrier from which the node departs, or the end of the text.
 pub fn each_line_is_of_what_makes_the_act()
     ensures line { (program : Program) (nodes : ℕ) (lines : List ℕ) (acts : List Act) (i node : ℕ) (deed : Deed)
-        → Does acts i node deed → node < nodes → slice_get (lines_of program nodes lines acts) i
+        → Does acts i node deed → node < nodes → slice_get (act_lines program nodes lines acts) i
         ≡ Some (line_at (end_line lines) (walk_behind program nodes lines (take i acts) node)) }
     ensures made { (program : Program) (nodes : ℕ) (lines : List ℕ) (acts : List Act) (i node : ℕ) (deed : Deed)
         → FollowsText program nodes acts → Does acts i node deed → node < nodes

@@ -5,7 +5,7 @@ ghost use Rattle.lrc_lang.specs.declared.program.Program.{Program};
 ghost use Rattle.lrc_exec.specs.Ask.{ask_of};
 ghost use Rattle.lrc_exec.specs.Meaning.{next_of};
 ghost use Rattle.lrc_lines.specs.Seen.{walks_of};
-ghost use Rattle.lrc_lines.specs.Walks.{walks_behind, line_at, lines_of, end_line};
+ghost use Rattle.lrc_lines.specs.Walks.{walks_behind, line_at, act_lines, end_line};
 
 use crate::walk::Walk;
 use lrc_exec::code::Code;
@@ -112,7 +112,7 @@ pub fn follow_acts<'c>(
     nodes: u8,
     acts: &[Act],
 ) -> Result<Followed<'c>, AllocError>
-    ensures lines { IfOk result (λ followed. followed.lines.items ≡ lines_of code.now nodes lines.now acts.now) }
+    ensures lines { IfOk result (λ followed. followed.lines.items ≡ act_lines code.now nodes lines.now acts.now) }
     ensures walks { IfOk result (λ followed. walks_of followed.walks ≡ walks_behind code.now nodes lines.now acts.now) }
     ensures end { IfOk result (λ followed. followed.walks.end ≡ end_line lines.now) }
 {
@@ -136,7 +136,7 @@ pub fn lines_of_acts(
     nodes: u8,
     acts: &[Act],
 ) -> Result<Vec<u32>, AllocError>
-    ensures { IfOk result (λ found. found.items ≡ lines_of code.now nodes lines.now acts.now) }
+    ensures { IfOk result (λ found. found.items ≡ act_lines code.now nodes lines.now acts.now) }
 {
     Ok(follow_acts(alloc, code, lines, nodes, acts)?.lines)
 }

@@ -54,9 +54,9 @@ requested managed lock asker =
     else refuses NotMine
 
 -- what the manager answers
-abbrev pub answer_of : Requested → Result ℕ LockFault
-answer_of (refuses fault) = Err fault
-answer_of (forwards to managed) = Ok to
+abbrev pub request_answer : Requested → Result ℕ LockFault
+request_answer (refuses fault) = Err fault
+request_answer (forwards to managed) = Ok to
 
 -- what it is afterwards
 abbrev pub managed_after : ManagedRecord → Requested → ManagedRecord

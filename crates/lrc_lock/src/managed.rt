@@ -1,7 +1,7 @@
 // The locks that a node manages.
 
 ghost use Rattle.std.specs.Prelude.{◌≡◌, ◌<◌, ◌≤◌, IfOk, length};
-ghost use Rattle.lrc_lock.specs.Managed.{first_managed, requested, answer_of, managed_after, SameManager};
+ghost use Rattle.lrc_lock.specs.Managed.{first_managed, requested, request_answer, managed_after, SameManager};
 
 use crate::fault::LockFault;
 use crate::state::MOST_LOCKS;
@@ -47,7 +47,7 @@ impl Managed {
     pub fn request(&mut self, lock: u8, asker: u8) -> Result<u8, LockFault>
         requires lock { lock < length self.old.recent }
         requires asker { asker < self.old.nodes }
-        ensures answer { result ≡ answer_of (requested self.old lock asker) }
+        ensures answer { result ≡ request_answer (requested self.old lock asker) }
         ensures managed { self.new ≡ managed_after self.old (requested self.old lock asker) }
         ensures place { SameManager self.old self.new }
         ensures to { IfOk result (λ to. to < self.old.nodes) }

@@ -7,7 +7,7 @@ use Rattle.lrc_store.specs.Order.{placed}
 use Rattle.lrc_protocol.proofs.Numbers.{ranges-append}
 use Rattle.lrc_mail.specs.declared.numbers.Span.{Span}
 use Rattle.lrc_mail.proofs.Spans.{all_from, all_some}
-use Rattle.lrc_mail.specs.Spans.{numbers_in, numbers_of, AreSpansFrom, Puts, IsClear}
+use Rattle.lrc_mail.specs.Spans.{numbers_in, spanned, AreSpansFrom, Puts, IsClear}
 
 -- ---- a number placed in a list
 
@@ -19,16 +19,16 @@ placed-behind n a (suc k) rest le =
     ∙ ap (λ l. a ∷ l) (placed-behind n (a + 1) k rest (omega (arith, le)))
 
 -- before spans that begin above it
-placed-before : (n : ℕ) (spans : List Span) → AreSpansFrom (n + 1) spans → placed nat_lt n (numbers_of spans) ≡ n ∷ numbers_of spans
+placed-before : (n : ℕ) (spans : List Span) → AreSpansFrom (n + 1) spans → placed nat_lt n (spanned spans) ≡ n ∷ spanned spans
 placed-before n [] are = refl
 placed-before n (span ∷ spans) are = by_range (span.last + 1 - span.first) refl
   where
     by_range : (k : ℕ) → span.last + 1 - span.first ≡ k
-        → placed nat_lt n (range_with_len span.first k ++ numbers_of spans) ≡ n ∷ (range_with_len span.first k ++ numbers_of spans)
+        → placed nat_lt n (range_with_len span.first k ++ spanned spans) ≡ n ∷ (range_with_len span.first k ++ spanned spans)
     by_range zero e = absurd (omega (arith, e, are.1))
     by_range (suc k) e =
-        ap (λ b. cond b (n ∷ span.first ∷ (range_with_len (span.first + 1) k ++ numbers_of spans))
-        (span.first ∷ placed nat_lt n (range_with_len (span.first + 1) k ++ numbers_of spans)))
+        ap (λ b. cond b (n ∷ span.first ∷ (range_with_len (span.first + 1) k ++ spanned spans))
+        (span.first ∷ placed nat_lt n (range_with_len (span.first + 1) k ++ spanned spans)))
         (lt-ltb n span.first (omega (arith, are.0)))
 
 -- ---- spans with one number more
@@ -40,7 +40,7 @@ puts-behind n least span old new from some below rest = record {
   are = (from, some, rest.are);
   numbers =
       ap (λ l. numbers_in span ++ l) rest.numbers
-      ∙ sym (placed-behind n span.first (span.last + 1 - span.first) (numbers_of old) (omega (arith, some, below)));
+      ∙ sym (placed-behind n span.first (span.last + 1 - span.first) (spanned old) (omega (arith, some, below)));
 }
 
 -- spans that begin higher
@@ -70,7 +70,7 @@ ranged a b le =
 puts-alone : (n least : ℕ) (spans : List Span) → AreSpansFrom (n + 2) spans → least ≤ n → Puts n least spans (record { first = n; last = n } ∷ spans)
 puts-alone n least spans are le = record {
   are = (le, omega arith, are);
-  numbers = ap (λ l. l ++ numbers_of spans) (alone n) ∙ sym (placed-before n spans (lowered (n + 2) (n + 1) spans are (omega arith)));
+  numbers = ap (λ l. l ++ spanned spans) (alone n) ∙ sym (placed-before n spans (lowered (n + 2) (n + 1) spans are (omega arith)));
 }
 
 -- the first span from one number lower on
@@ -82,7 +82,7 @@ puts-first n least span spans are from le = record {
       let first : range_with_len n (span.last + 1 - n) ≡ n ∷ range_with_len span.first (span.last + 1 - span.first) =
       ap (range_with_len n) (let e : span.last + 1 - n ≡ suc (span.last + 1 - span.first) = omega (arith, are.1, from) in e)
       ∙ ap (λ a. n ∷ range_with_len a (span.last + 1 - span.first)) (sym from) in
-      ap (λ l. l ++ numbers_of spans) first ∙ sym (placed-before n (span ∷ spans) are);
+      ap (λ l. l ++ spanned spans) first ∙ sym (placed-before n (span ∷ spans) are);
 }
 
 -- the first span up to one number higher
@@ -93,12 +93,12 @@ puts-last n least span spans are ends gap =
     record {
       are = (are.0, omega (arith, are.1, ends), rest);
       numbers =
-          ap (λ m. range_with_len span.first (m + 1 - span.first) ++ numbers_of spans) (sym ends)
-          ∙ ap (λ l. l ++ numbers_of spans) (sym (ranged span.first span.last are.1))
-          ∙ append_assoc (numbers_in span) ((span.last + 1) ∷ []) (numbers_of spans)
-          ∙ ap (λ m. numbers_in span ++ m ∷ numbers_of spans) ends
+          ap (λ m. range_with_len span.first (m + 1 - span.first) ++ spanned spans) (sym ends)
+          ∙ ap (λ l. l ++ spanned spans) (sym (ranged span.first span.last are.1))
+          ∙ append_assoc (numbers_in span) ((span.last + 1) ∷ []) (spanned spans)
+          ∙ ap (λ m. numbers_in span ++ m ∷ spanned spans) ends
           ∙ ap (λ l. numbers_in span ++ l) (sym (placed-before n spans (lowered (n + 2) (n + 1) spans rest (omega arith))))
-          ∙ sym (placed-behind n span.first (span.last + 1 - span.first) (numbers_of spans) (omega (arith, are.1, ends)));
+          ∙ sym (placed-behind n span.first (span.last + 1 - span.first) (spanned spans) (omega (arith, are.1, ends)));
     }
 
 -- two spans become one
@@ -109,10 +109,10 @@ puts-joined n least span next spans are ends from =
     record {
       are = (are.0, omega (arith, are.1, rest.1, ends, from), rest.2);
       numbers =
-          ap (λ l. l ++ numbers_of spans) (sym (both rest.1))
-          ∙ append_assoc (numbers_in span) (n ∷ numbers_in next) (numbers_of spans)
+          ap (λ l. l ++ spanned spans) (sym (both rest.1))
+          ∙ append_assoc (numbers_in span) (n ∷ numbers_in next) (spanned spans)
           ∙ ap (λ l. numbers_in span ++ l) (sym (placed-before n (next ∷ spans) (omega (arith, from), rest.1, rest.2)))
-          ∙ sym (placed-behind n span.first (span.last + 1 - span.first) (numbers_of (next ∷ spans)) (omega (arith, are.1, ends)));
+          ∙ sym (placed-behind n span.first (span.last + 1 - span.first) (spanned (next ∷ spans)) (omega (arith, are.1, ends)));
     }
   where
     both : next.first ≤ next.last → numbers_in span ++ n ∷ numbers_in next ≡ range_with_len span.first (next.last + 1 - span.first)

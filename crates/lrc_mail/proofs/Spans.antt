@@ -7,7 +7,7 @@ use Rattle.std.proofs.lemmas.Bool.{ne_eqb, eq-eqb, le-leb, lt-leb, leb-false, ca
 use Rattle.std.proofs.lemmas.List.Elements.{All-cons}
 use Rattle.std.proofs.lemmas.List.Folds.{list_any-append}
 use Rattle.lrc_mail.specs.declared.numbers.Span.{Span}
-use Rattle.lrc_mail.specs.Spans.{numbers_in, numbers_of, AreSpansFrom}
+use Rattle.lrc_mail.specs.Spans.{numbers_in, spanned, AreSpansFrom}
 
 -- all spans begin at the least or above, and end there
 pub all_from : (least : ℕ) (spans : List Span) → AreSpansFrom least spans → All (λ span. least ≤ span.first) spans
@@ -53,11 +53,11 @@ any-within n a (suc k) le lt = ⊎_elim
     (cases_eq a n)
 
 -- a number below all spans
-pub none-before : (n : ℕ) (spans : List Span) → All (λ span. n < span.first) spans → list_any (λ m. m == n) (numbers_of spans) ≡ false
+pub none-before : (n : ℕ) (spans : List Span) → All (λ span. n < span.first) spans → list_any (λ m. m == n) (spanned spans) ≡ false
 none-before n [] above = refl
 none-before n (span ∷ spans) above =
-    list_any-append (λ m. m == n) (numbers_in span) (numbers_of spans)
-    ∙ ap (λ b. b || list_any (λ m. m == n) (numbers_of spans)) (none-below n span.first (span.last + 1 - span.first) (above zero span (omega arith)))
+    list_any-append (λ m. m == n) (numbers_in span) (spanned spans)
+    ∙ ap (λ b. b || list_any (λ m. m == n) (spanned spans)) (none-below n span.first (span.last + 1 - span.first) (above zero span (omega arith)))
     ∙ none-before n spans (λ k d lt. above (suc k) d (omega (arith, lt)))
 
 -- the first span ends below the others
@@ -89,7 +89,7 @@ begins_by-past n (span ∷ spans) (suc i) le = begins_by-past n spans i (omega (
 
 -- a number is among spans where the first span that doesn't end below it begins at it or below
 pub found_at : (n least : ℕ) (spans : List Span) (i : ℕ) → AreSpansFrom least spans → AllWithin (λ span. span.last < n) spans 0 i
-    → AllWithin (λ span. n ≤ span.last) spans i (length spans) → begins_by n spans i ≡ list_any (λ m. m == n) (numbers_of spans)
+    → AllWithin (λ span. n ≤ span.last) spans i (length spans) → begins_by n spans i ≡ list_any (λ m. m == n) (spanned spans)
 found_at n least [] i are before from = refl
 found_at n least (span ∷ spans) zero are before from =
     let le : n ≤ span.last = from zero span (omega arith) (omega arith) in
@@ -97,8 +97,8 @@ found_at n least (span ∷ spans) zero are before from =
     (λ begins.
     le-leb span.first n begins
     ∙ sym (
-    list_any-append (λ m. m == n) (numbers_in span) (numbers_of spans)
-    ∙ ap (λ b. b || list_any (λ m. m == n) (numbers_of spans)) (any-within n span.first (span.last + 1 - span.first) begins (omega (arith, le, begins)))
+    list_any-append (λ m. m == n) (numbers_in span) (spanned spans)
+    ∙ ap (λ b. b || list_any (λ m. m == n) (spanned spans)) (any-within n span.first (span.last + 1 - span.first) begins (omega (arith, le, begins)))
     ))
     (λ begins.
     lt-leb span.first n begins
@@ -109,8 +109,8 @@ found_at n least (span ∷ spans) (suc i) are before from =
     found_at n (span.last + 2) spans i are.2 (λ k d le lt. before (suc k) d (omega arith) (omega (arith, lt)))
     (λ k d le lt. from (suc k) d (omega (arith, le)) (omega (arith, lt)))
     ∙ sym (
-    list_any-append (λ m. m == n) (numbers_in span) (numbers_of spans)
-    ∙ ap (λ b. b || list_any (λ m. m == n) (numbers_of spans)) (none-above n span.first (span.last + 1 - span.first) (omega (arith, below, are.1)))
+    list_any-append (λ m. m == n) (numbers_in span) (spanned spans)
+    ∙ ap (λ b. b || list_any (λ m. m == n) (spanned spans)) (none-above n span.first (span.last + 1 - span.first) (omega (arith, below, are.1)))
     )
 
 -- where a number is not among spans, the first span that doesn't end below it begins above it

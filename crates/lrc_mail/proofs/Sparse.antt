@@ -4,9 +4,9 @@ use Rattle.std.specs.List.{range_with_len}
 use Rattle.std.proofs.lemmas.List.{length-append, get_or_append_left, get_or-append-add}
 use Rattle.std.proofs.lemmas.List.FromFn.{length-range_with_len, get_or-range_with_len}
 use Rattle.lrc_mail.specs.declared.numbers.Span.{Span}
-use Rattle.lrc_mail.specs.Spans.{numbers_of, AreSpans}
+use Rattle.lrc_mail.specs.Spans.{spanned, AreSpans}
 
-pub one_span : (spans : List Span) (first count : ℕ) → AreSpans spans → numbers_of spans ≡ range_with_len first count → length spans ≤ 1
+pub one_span : (spans : List Span) (first count : ℕ) → AreSpans spans → spanned spans ≡ range_with_len first count → length spans ≤ 1
 one_span [] first count are e = omega arith
 one_span (span ∷ []) first count are e = omega arith
 one_span (span ∷ next ∷ spans) first count are e =
@@ -17,7 +17,7 @@ one_span (span ∷ next ∷ spans) first count are e =
     let b = next.last + 1 - next.first in
     let A = range_with_len span.first a in
     let B = range_with_len next.first b in
-    let C = numbers_of spans in
+    let C = spanned spans in
     let long_a : length A ≡ a = length-range_with_len span.first a in
     let long_b : length B ≡ b = length-range_with_len next.first b in
     let counted : length A + (length B + length C) ≡ count =

@@ -9,8 +9,8 @@ abbrev pub numbers_in : Span → List ℕ
 numbers_in span = range_with_len span.first (span.last + 1 - span.first)
 
 -- the numbers of spans
-abbrev pub numbers_of : List Span → List ℕ
-numbers_of spans = flat_map numbers_in spans
+abbrev pub spanned : List Span → List ℕ
+spanned spans = flat_map numbers_in spans
 
 -- the spans begin at `least` or above; each has a number; and between each and the next there is a number that is in
 -- neither
@@ -26,7 +26,7 @@ AreSpans spans = AreSpansFrom 0 spans
 -- the new spans are such spans, with the number in its place among those of the old ones
 pub record Puts (n least : ℕ) (old new : List Span) : Type 0 where
   pub are : AreSpansFrom least new
-  pub numbers : numbers_of new ≡ placed nat_lt n (numbers_of old)
+  pub numbers : spanned new ≡ placed nat_lt n (spanned old)
 
 -- the span at a place, if there is one, begins above the number, with a gap
 abbrev pub IsClear : ℕ → List Span → ℕ → Type 0

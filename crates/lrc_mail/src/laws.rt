@@ -6,7 +6,7 @@ ghost use Rattle.std.specs.List.{range_with_len};
 ghost use Rattle.lrc_protocol.specs.Pages.{Need};
 ghost use Rattle.lrc_protocol.specs.Turn.{requests_of};
 ghost use Rattle.lrc_mail.specs.declared.numbers.Span.{Span};
-ghost use Rattle.lrc_mail.specs.Spans.{AreSpans, numbers_of};
+ghost use Rattle.lrc_mail.specs.Spans.{AreSpans, spanned};
 ghost use Rattle.lrc_need.specs.Need.{DueBelow};
 
 /// The requests for a page go to nodes, where only nodes are asked and its keeper is one.
@@ -17,6 +17,6 @@ pub fn requests_go_to_nodes()
 
 /// Numbers without a gap are one span at most, however many they are.
 pub fn numbers_in_order_are_one_span()
-    ensures { (spans : List Span) (first count : ℕ) → AreSpans spans → numbers_of spans ≡ range_with_len first count
+    ensures { (spans : List Span) (first count : ℕ) → AreSpans spans → spanned spans ≡ range_with_len first count
         → length spans ≤ 1 }
 {}

@@ -4,7 +4,7 @@ ghost use Rattle.std.specs.Prelude.{◌≡◌, suc, ◌+◌, ◌-◌, ◌<◌, �
 ghost use Rattle.std.specs.List.{AllWithin, list_any};
 ghost use Rattle.lrc_store.specs.Order.{placed};
 ghost use Rattle.lrc_mail.specs.declared.numbers.Span.{Span};
-ghost use Rattle.lrc_mail.specs.Spans.{numbers_of, AreSpans, IsClear, Puts};
+ghost use Rattle.lrc_mail.specs.Spans.{spanned, AreSpans, IsClear, Puts};
 
 use std::alloc::{AllocError, Global};
 use std::marker::Model;
@@ -28,9 +28,9 @@ impl Model for Numbers {
 
     ghost Value = { List ℕ };
 
-    ghost use Rattle.lrc_mail.specs.Spans.{numbers_of, AreSpans};
+    ghost use Rattle.lrc_mail.specs.Spans.{spanned, AreSpans};
 
-    ghost view = { λ n. numbers_of n.spans.items };
+    ghost view = { λ n. spanned n.spans.items };
 
     ghost invariant = { λ n. AreSpans n.spans.items };
 }
@@ -73,7 +73,7 @@ fn put(spans: &mut Vec<Span>, place: usize, number: u32) -> Result<(), AllocErro
     requires before { AllWithin (λ span. span.last < number) spans.old.items 0 place }
     requires from { AllWithin (λ span. number < span.first) spans.old.items place (length spans.old.items) }
     ensures are { AreSpans spans.new.items }
-    ensures numbers { OnOk result (numbers_of spans.new.items ≡ placed nat_lt number (numbers_of spans.old.items)) }
+    ensures numbers { OnOk result (spanned spans.new.items ≡ placed nat_lt number (spanned spans.old.items)) }
 {
     let joins = begins_next(spans, place, number);
     if ended_before(spans, place, number) {

@@ -14,7 +14,7 @@ use Rattle.lrc_protocol.specs.Pages.{changes_or_none, with_part}
 use Rattle.lrc_memory.proofs.Mending.{changes-over}
 use Rattle.lrc_table.specs.Table.{copy_at}
 use Rattle.lrc_envelope.specs.Records.{IndexedChangesRecord, AreParts}
-use Rattle.lrc_memory.specs.View.{Kept, NodeMemory, IsKept, seen, node_seen, unmade, with_memory}
+use Rattle.lrc_memory.specs.View.{Kept, NodeMemory, IsKept, seen, node_seen, unmade, with_known}
 use Rattle.lrc_memory.proofs.Overlays.{notice_at-over, notice_seen, over-attached}
 use Rattle.lrc_memory.proofs.Settling.{kept-store, unmade-on, unmade-here, settled_at, seen-settled}
 
@@ -71,10 +71,10 @@ module _ (kept : Kept) (key : Key) (wanted : notice_at (seen kept).store key ≡
 
   pub seen-attached : (changes : List Change) (n : NodeMemory) → node_seen kept ≡ n
       → node_seen (record kept { store = attached kept.store key changes })
-      ≡ with_memory n (record n.memory { store = attached n.memory.store key changes })
+      ≡ with_known n (record n.memory { store = attached n.memory.store key changes })
   seen-attached changes n is =
-      ap (λ s. with_memory (node_seen kept) (record (seen kept) { store = s })) (over-attached o kept.store key changes bare.0)
-      ∙ ap (λ (n : NodeMemory). with_memory n (record n.memory { store = attached n.memory.store key changes })) is
+      ap (λ s. with_known (node_seen kept) (record (seen kept) { store = s })) (over-attached o kept.store key changes bare.0)
+      ∙ ap (λ (n : NodeMemory). with_known n (record n.memory { store = attached n.memory.store key changes })) is
 
 -- ---- part by part
 

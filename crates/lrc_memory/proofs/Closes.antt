@@ -30,7 +30,7 @@ use Rattle.lrc_table.proofs.Tables.{contains-written}
 use Rattle.lrc_protocol.specs.Pages as copy
 use Rattle.lrc_protocol.specs.Pages.{Copy, absent, all_changes, closed_interval, with_own, with_interval}
 use Rattle.lrc_memory.specs.View.{Kept, NodeMemory, AreSized, IsKept, seen, node_seen, seen_in, seen_copy}
-use Rattle.lrc_memory.specs.View.{unmade, notice_over, stored_over, store_over, with_memory}
+use Rattle.lrc_memory.specs.View.{unmade, notice_over, stored_over, store_over, with_known}
 use Rattle.lrc_memory.proofs.Overlays.{map-alike, map-both, map-append, is_at-over, stored-over_new}
 use Rattle.lrc_memory.proofs.InStep.{all-added}
 use Rattle.lrc_memory.proofs.Discards.{counted}
@@ -403,7 +403,7 @@ module _ (kept : Kept) (stamp : List ℕ) where
 
   pub seen-closed : (n : NodeMemory) → node_seen kept ≡ n → IsKept kept → All (IsWhole kept.table.size) kept.table.copies
       → entry stamp kept.me ≡ entry kept.store.last kept.me + 1
-      → node_seen (closed_at kept stamp) ≡ with_memory n (with_interval n.me stamp n.memory)
+      → node_seen (closed_at kept stamp) ≡ with_known n (with_interval n.me stamp n.memory)
   seen-closed n is sound whole next =
       let now = with_each kept.table closed in
       let count = length kept.table.copies in
@@ -411,11 +411,11 @@ module _ (kept : Kept) (stamp : List ℕ) where
       ap (λ n. map (seen_copy now kept.since) (range_with_len 0 n)) (length-map kept.table.copies closed)
       ∙ map-alike (seen_copy now kept.since) (λ p. copy.closed (seen_copy kept.table kept.since p)) (range_with_len 0 count) copies-closed
       ∙ sym (map-both (seen_copy kept.table kept.since) copy.closed (range_with_len 0 count)) in
-      ap (λ s. with_memory (node_seen kept) (record (seen (closed_at kept stamp)) { store = s })) (store-closed sound whole next)
-      ∙ ap (λ cs. with_memory (node_seen kept)
+      ap (λ s. with_known (node_seen kept) (record (seen (closed_at kept stamp)) { store = s })) (store-closed sound whole next)
+      ∙ ap (λ cs. with_known (node_seen kept)
       (record (seen (closed_at kept stamp)) { store = (with_interval kept.me stamp (seen kept)).store; copies = cs })) copies
-      ∙ ap (λ bs. with_memory (node_seen kept) (record (with_interval kept.me stamp (seen kept)) { bases = bs })) bases-closed
-      ∙ ap (λ (n : NodeMemory). with_memory n (with_interval n.me stamp n.memory)) is
+      ∙ ap (λ bs. with_known (node_seen kept) (record (with_interval kept.me stamp (seen kept)) { bases = bs })) bases-closed
+      ∙ ap (λ (n : NodeMemory). with_known n (with_interval n.me stamp n.memory)) is
 
   pub unsized : (ps : List ℕ) → All (λ (n : NoticeRecord). ForSome n.changes (λ cs. All (λ c. c.offset < words_of kept.table.size) cs)) (map unread ps)
   unsized ps = All-map (λ (n : NoticeRecord). ForSome n.changes (λ cs. All (λ c. c.offset < words_of kept.table.size) cs)) unread

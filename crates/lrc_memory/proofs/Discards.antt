@@ -22,9 +22,9 @@ use Rattle.lrc_table.specs.Table.{Table, copy_at, with_each}
 use Rattle.lrc_protocol.specs.Pages as machine
 use Rattle.lrc_protocol.specs.Barriers as barriers
 use Rattle.lrc_memory.specs.View.{Kept, NodeMemory, AreSized, IsKept, SameMemory, seen, node_seen, seen_in}
-use Rattle.lrc_memory.specs.View.{seen_copy, unmade, notice_over, stored_over, store_over, with_memory}
+use Rattle.lrc_memory.specs.View.{seen_copy, unmade, notice_over, stored_over, store_over, with_known}
 use Rattle.lrc_memory.specs.Steps.{kept_base, without_bases}
-use Rattle.lrc_memory.specs.Turns.{IsClosed}
+use Rattle.lrc_memory.specs.Turns.{NoneIsWritten}
 use Rattle.lrc_memory.proofs.Overlays.{map-both, over-discarded}
 use Rattle.lrc_memory.proofs.InStep.{in_step-collected, was-now}
 use Rattle.lrc_memory.proofs.Copies.{copy-seen, length-seen}
@@ -43,7 +43,7 @@ same-seen kept after n is me size long nodes = record {
 
 -- ---- no copy is written
 
-pub not-written : (kept : Kept) (n : NodeMemory) → node_seen kept ≡ n → IsClosed n.memory → (page : ℕ) → (copy_at kept.table page).state ≢ Written
+pub not-written : (kept : Kept) (n : NodeMemory) → node_seen kept ≡ n → NoneIsWritten n.memory → (page : ℕ) → (copy_at kept.table page).state ≢ Written
 not-written kept n is closed page =
     ⊎_elim
     (λ (within : page < length kept.table.copies).
@@ -257,9 +257,9 @@ kept-collected kept time now is long last = record {
   unmade = λ page changes pending. let nothing : Some changes ≡ None = sym pending ∙ nothing-swept kept page in absurd (cc);
 }
 
-pub seen-collected : (kept : Kept) (n : NodeMemory) (time : List ℕ) (in_step : Bool) → node_seen kept ≡ n → IsKept kept → IsClosed n.memory
+pub seen-collected : (kept : Kept) (n : NodeMemory) (time : List ℕ) (in_step : Bool) → node_seen kept ≡ n → IsKept kept → NoneIsWritten n.memory
     → entry n.memory.store.last n.me ≤ entry time n.me
-    → node_seen (collected kept time in_step) ≡ with_memory n (barriers.collected_at n.me time n.memory)
+    → node_seen (collected kept time in_step) ≡ with_known n (barriers.collected_at n.me time n.memory)
 seen-collected kept n time in_step is sound closed own =
     let after = collected kept time in_step in
     let count = length kept.table.copies in
@@ -281,12 +281,12 @@ seen-collected kept n time in_step is sound closed own =
     omega (arith, get_or-range_with_len 0 count k d below, below))
     (λ p within. copies-swept kept (not-written kept n is closed) p within)
     ∙ sym (map-both (seen_copy kept.table kept.since) machine.dropped (range_with_len 0 count)) in
-    ap (λ s. with_memory (node_seen kept) (record (seen after) { store = s })) store
-    ∙ ap (λ cs. with_memory (node_seen kept) (record (seen after) { store = discarded (seen kept).store time; copies = cs })) copies
-    ∙ ap (λ bs. with_memory (node_seen kept)
+    ap (λ s. with_known (node_seen kept) (record (seen after) { store = s })) store
+    ∙ ap (λ cs. with_known (node_seen kept) (record (seen after) { store = discarded (seen kept).store time; copies = cs })) copies
+    ∙ ap (λ bs. with_known (node_seen kept)
     (record (seen after) { store = discarded (seen kept).store time; copies = map machine.dropped (seen kept).copies; bases = bs }))
     (bases-swept kept)
-    ∙ ap (λ (n : NodeMemory). with_memory n (barriers.collected_at n.me time n.memory)) is
+    ∙ ap (λ (n : NodeMemory). with_known n (barriers.collected_at n.me time n.memory)) is
   where
     nothing : Option (List Change)
     nothing = None

@@ -26,7 +26,7 @@ use Rattle.lrc_protocol.specs.Pages as machine
 use Rattle.lrc_protocol.specs.Times.{is_named, indices_by}
 use Rattle.lrc_protocol.specs.Pages.{Copy, absent, Memory, learned}
 use Rattle.lrc_memory.specs.View.{Kept, NodeMemory, AreSized, IsKept, SameMemory, WasLast, seen, node_seen}
-use Rattle.lrc_memory.specs.View.{seen_in, seen_copy, settled_store, unmade, store_over, with_memory}
+use Rattle.lrc_memory.specs.View.{seen_in, seen_copy, settled_store, unmade, store_over, with_known}
 use Rattle.lrc_memory.specs.Turns.{CanBeAdded, IsInRange}
 use Rattle.lrc_memory.specs.Steps.{invalidated_on, learned_one}
 use Rattle.lrc_memory.proofs.Overlays.{over-alike, over-added}
@@ -171,7 +171,7 @@ module _ (kept : Kept) (page : ℕ) (before : List ℕ) (in_step : Bool) (within
 
   pub seen-invalid : IsKept kept → pending_changes (copy_at kept.table page) ≡ None
       → node_seen (invalid_at kept page before in_step)
-      ≡ with_memory (node_seen kept) (record (seen kept) { copies = invalidated_on before (seen kept).copies page })
+      ≡ with_known (node_seen kept) (record (seen kept) { copies = invalidated_on before (seen kept).copies page })
   seen-invalid is none =
       let old = copy_at kept.table page in
       let new = page_copy.invalidated old in
@@ -193,9 +193,9 @@ module _ (kept : Kept) (page : ℕ) (before : List ℕ) (in_step : Bool) (within
       ∙ ap (λ t. seen_in (copy_at kept.table p).state t (copy_at kept.table p)) (get_or-set_other kept.since page p before [] apart)) in
       let bases : map (λ (c : PageCopy). c.base) now.copies ≡ map (λ (c : PageCopy). c.base) kept.table.copies =
       map-set_same (λ (c : PageCopy). c.base) kept.table.copies page new _ (ap (λ (c : PageCopy). c.base) invalid-copy) in
-      ap (λ s. with_memory (node_seen kept) (record (seen (invalid_at kept page before in_step)) { store = s })) store
-      ∙ ap (λ cs. with_memory (node_seen kept) (record (seen kept) { copies = cs; bases = map (λ (c : PageCopy). c.base) now.copies })) copies
-      ∙ ap (λ bs. with_memory (node_seen kept) (record (seen kept) { copies = invalidated_on before (seen kept).copies page; bases = bs })) bases
+      ap (λ s. with_known (node_seen kept) (record (seen (invalid_at kept page before in_step)) { store = s })) store
+      ∙ ap (λ cs. with_known (node_seen kept) (record (seen kept) { copies = cs; bases = map (λ (c : PageCopy). c.base) now.copies })) copies
+      ∙ ap (λ bs. with_known (node_seen kept) (record (seen kept) { copies = invalidated_on before (seen kept).copies page; bases = bs })) bases
 
 -- a page settled, and then invalid
 module _ (kept : Kept) (page : ℕ) (before copied named : List ℕ) (in_step : Bool) (store : StoreRecord) (mid table : Table)
@@ -245,23 +245,23 @@ module _ (kept : Kept) (page : ℕ) (before copied named : List ℕ) (in_step : 
   pub seen-done : IsKept kept → ForSome (pending_changes (copy_at kept.table page)) (λ changes. All (λ c. c.offset < words_of kept.table.size) changes)
       → (n : NodeMemory) → node_seen kept ≡ n
       → node_seen (record kept { store = store; table = table; since = set kept.since page copied; in_step = in_step })
-      ≡ with_memory n (record n.memory { copies = invalidated_on before n.memory.copies page })
+      ≡ with_known n (record n.memory { copies = invalidated_on before n.memory.copies page })
   seen-done is fit n seen_is =
       ap node_seen done-invalid
       ∙ seen-invalid first page before in_step first-within first-valid (kept-settled kept page within is fit) (nothing-settled kept page 0 0 within)
-      ∙ ap (λ (n : NodeMemory). with_memory n (record n.memory { copies = invalidated_on before n.memory.copies page }))
+      ∙ ap (λ (n : NodeMemory). with_known n (record n.memory { copies = invalidated_on before n.memory.copies page }))
       (seen-settled kept page within ∙ seen_is)
 
 -- a copy that is not valid stays
 pub stays-seen : (kept : Kept) (n : NodeMemory) (page : ℕ) (before : List ℕ) → node_seen kept ≡ n → page < length kept.table.copies
-    → (copy_at kept.table page).state ≢ Valid → n ≡ with_memory n (record n.memory { copies = invalidated_on before n.memory.copies page })
+    → (copy_at kept.table page).state ≢ Valid → n ≡ with_known n (record n.memory { copies = invalidated_on before n.memory.copies page })
 stays-seen kept n page before is within not =
     let shown : machine.copy_at n.memory page ≡ seen_copy kept.table kept.since page =
     ap (λ (n : NodeMemory). machine.copy_at n.memory page) (sym is) ∙ copy-seen kept page within in
     let same : machine.invalidated before (machine.copy_at n.memory page) ≡ machine.copy_at n.memory page =
     ap (machine.invalidated before) shown ∙ by_state (copy_at kept.table page).state not ∙ sym shown in
-    sym (ap (λ c. with_memory n (record n.memory { copies = set n.memory.copies page c })) same
-    ∙ ap (λ cs. with_memory n (record n.memory { copies = cs })) (set-get_or n.memory.copies page absent))
+    sym (ap (λ c. with_known n (record n.memory { copies = set n.memory.copies page c })) same
+    ∙ ap (λ cs. with_known n (record n.memory { copies = cs })) (set-get_or n.memory.copies page absent))
   where
     by_state : (state : State) → state ≢ Valid
         → machine.invalidated before (seen_in state (get_or kept.since page []) (copy_at kept.table page)) ≡ seen_in state
@@ -282,9 +282,9 @@ module _ (kept : Kept) (interval : IntervalRecord) (is : IsKept kept) (next : in
       omega (arith, index, low, last, next)
 
   pub seen-added : node_seen (record kept { store = added kept.store interval })
-      ≡ with_memory (node_seen kept) (record (seen kept) { store = added (seen kept).store interval })
+      ≡ with_known (node_seen kept) (record (seen kept) { store = added (seen kept).store interval })
   seen-added =
-      ap (λ s. with_memory (node_seen kept) (record (seen kept) { store = s }))
+      ap (λ s. with_known (node_seen kept) (record (seen kept) { store = s }))
       (over-added (unmade kept.me kept.named kept.table) kept.store interval
       (λ page.
       ap (λ b. cond b (pending_changes (copy_at kept.table page)) None)

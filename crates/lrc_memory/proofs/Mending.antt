@@ -15,7 +15,7 @@ use Rattle.lrc_table.specs.Table.{Table, copy_at, with_copy}
 use Rattle.lrc_table.proofs.Tables.{copy_at-with_copy}
 use Rattle.lrc_protocol.specs.Pages as machine
 use Rattle.lrc_protocol.specs.Pages.{changes_or_none, Base, unneeded, due, come, first_values}
-use Rattle.lrc_memory.specs.View.{Kept, NodeMemory, IsKept, seen, node_seen, seen_in, unmade, store_over, with_memory}
+use Rattle.lrc_memory.specs.View.{Kept, NodeMemory, IsKept, seen, node_seen, seen_in, unmade, store_over, with_known}
 use Rattle.lrc_memory.specs.Turns.{is_mendable}
 use Rattle.lrc_memory.specs.Steps.{begun_with, patched_with}
 use Rattle.lrc_memory.proofs.Overlays.{notice_at-over, notice_seen}
@@ -141,11 +141,11 @@ module _ (kept : Kept) (page : ℕ) (base : Base) (missing : List Key) where
   pub seen-mended : page < length kept.table.copies → All (IsWhole kept.table.size) kept.table.copies → Fits
       → All (λ (key : Key). key.page ≡ page) missing
       → node_seen (changed kept page done)
-      ≡ with_memory (node_seen kept) (machine.with_copy (seen kept) page
+      ≡ with_known (node_seen kept) (machine.with_copy (seen kept) page
       (machine.valid (machine.repaired (seen kept).store (first_values (machine.copy_at (seen kept) page) base) missing)))
   seen-mended within whole fit of_page =
       seen-changed kept page done within (nothing-before fit) (nothing-after (whole page (fresh []) within) fit) base-after
-      ∙ ap (λ vs. with_memory (node_seen kept) (machine.with_copy (seen kept) page (machine.valid vs)))
+      ∙ ap (λ vs. with_known (node_seen kept) (machine.with_copy (seen kept) page (machine.valid vs)))
       (ap (λ vs. fold applied vs (map (changes_or_none kept.store) missing))
       (begins fit ∙ ap (λ c. first_values c base) (sym (copy-seen kept page within)))
       ∙ ap (fold applied (first_values (machine.copy_at (seen kept) page) base)) (known-seen fit of_page))

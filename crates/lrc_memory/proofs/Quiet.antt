@@ -11,7 +11,7 @@ use Rattle.lrc_table.specs.Table.{Table, copy_at, with_copy}
 use Rattle.lrc_table.proofs.Tables.{copy_at-with_copy, copy_at-with_copy_other}
 use Rattle.lrc_protocol.specs.Pages as machine
 use Rattle.lrc_protocol.specs.Barriers as barriers
-use Rattle.lrc_memory.specs.View.{Kept, NodeMemory, IsKept, seen, node_seen, seen_in, seen_copy, unmade, store_over, with_memory}
+use Rattle.lrc_memory.specs.View.{Kept, NodeMemory, IsKept, seen, node_seen, seen_in, seen_copy, unmade, store_over, with_known}
 use Rattle.lrc_memory.proofs.Overlays.{over-alike}
 use Rattle.lrc_memory.proofs.Copies.{copy-seen, within-seen}
 use Rattle.lrc_memory.proofs.Settling.{same_copies}
@@ -45,15 +45,15 @@ kept-quiet kept table long size quiet is = record {
 pub seen-quiet : (kept : Kept) (table : Table) → length table.copies ≡ length kept.table.copies → table.size ≡ kept.table.size
     → IsQuiet kept.table table → ((page : ℕ) → seen_copy table kept.since page ≡ seen_copy kept.table kept.since page)
     → node_seen (with_table kept table)
-    ≡ with_memory (node_seen kept) (record (seen kept) { bases = map (λ (c : PageCopy). c.base) table.copies })
+    ≡ with_known (node_seen kept) (record (seen kept) { bases = map (λ (c : PageCopy). c.base) table.copies })
 seen-quiet kept table long size quiet same =
     let store : store_over (unmade kept.me kept.named table) kept.store ≡ store_over (unmade kept.me kept.named kept.table) kept.store =
     over-alike (unmade kept.me kept.named table) (unmade kept.me kept.named kept.table) kept.store
     (λ key. ap (λ found. cond (eqb key.node kept.me && eqb (get_or kept.named key.page 0) key.index) found None) (quiet key.page)) in
     let copies = same_copies kept.table table kept.since kept.since long same in
     ap (λ (s : Size). record { me = kept.me; size = s; memory = seen (with_table kept table) }) size
-    ∙ ap (λ s. with_memory (node_seen kept) (record (seen (with_table kept table)) { store = s })) store
-    ∙ ap (λ cs. with_memory (node_seen kept) (record (seen kept) { copies = cs; bases = map (λ (c : PageCopy). c.base) table.copies })) copies
+    ∙ ap (λ s. with_known (node_seen kept) (record (seen (with_table kept table)) { store = s })) store
+    ∙ ap (λ cs. with_known (node_seen kept) (record (seen kept) { copies = cs; bases = map (λ (c : PageCopy). c.base) table.copies })) copies
 
 -- ---- keeping a base copy
 
@@ -99,16 +99,16 @@ module _ (kept : Kept) (page : ℕ) (within : page < length kept.table.copies) w
 
   pub seen-based : {E : Type 0} (r : Result (Unit {0}) E) (table : Table) (n : NodeMemory) → node_seen kept ≡ n
       → (copy_at kept.table page).state ≡ Valid → OnOk r (table ≡ based)
-      → OnOk r (node_seen (with_table kept table) ≡ with_memory n (barriers.with_base n.memory page))
+      → OnOk r (node_seen (with_table kept table) ≡ with_known n (barriers.with_base n.memory page))
   seen-based (Err e) table n is valid ok = tt
   seen-based (Ok x) table n is valid ok =
       ap (λ t. node_seen (with_table kept t)) ok
       ∙ seen-quiet kept based (length-set kept.table.copies page (with_base (copy_at kept.table page))) refl quiet-based copies-based
-      ∙ ap (λ bs. with_memory (node_seen kept) (record (seen kept) { bases = bs }))
+      ∙ ap (λ bs. with_known (node_seen kept) (record (seen kept) { bases = bs }))
       (map-set (λ (c : PageCopy). c.base) kept.table.copies page (with_base (copy_at kept.table page))
       ∙ ap (λ vs. set (map (λ (c : PageCopy). c.base) kept.table.copies) page (Some vs))
       (sym (ap machine.values_of (copy-seen kept page within ∙ ap (λ state. seen_in state (get_or kept.since page []) (copy_at kept.table page)) valid))))
-      ∙ ap (λ (n : NodeMemory). with_memory n (barriers.with_base n.memory page)) is
+      ∙ ap (λ (n : NodeMemory). with_known n (barriers.with_base n.memory page)) is
 
 -- a readable copy that is not written is valid
 pub valid-seen : (kept : Kept) (n : NodeMemory) (page : ℕ) → node_seen kept ≡ n → page < length n.memory.copies

@@ -11,7 +11,7 @@ use Rattle.lrc_store.specs.Interval.{IntervalRecord}
 use Rattle.lrc_store.specs.Store.{StoreRecord, intervals_of}
 use Rattle.lrc_protocol.specs.Times.{is_named}
 use Rattle.lrc_protocol.specs.Barriers.{least, namers_of, with_keepers}
-use Rattle.lrc_memory.specs.View.{Kept, NodeMemory, IsKept, node_seen, unmade, with_memory}
+use Rattle.lrc_memory.specs.View.{Kept, NodeMemory, IsKept, node_seen, unmade, with_known}
 use Rattle.lrc_memory.proofs.Overlays.{intervals-over}
 
 abbrev pub renewed : StoreRecord → List ℕ → List ℕ
@@ -150,12 +150,12 @@ kept-renewed kept keepers is are = record {
 }
 
 pub seen-renewed : (kept : Kept) (keepers : List ℕ) (n : NodeMemory) → node_seen kept ≡ n → keepers ≡ renewed kept.store kept.keepers
-    → node_seen (record kept { keepers = keepers }) ≡ with_memory n (with_keepers n.memory)
+    → node_seen (record kept { keepers = keepers }) ≡ with_known n (with_keepers n.memory)
 seen-renewed kept keepers n is are =
     ap (λ (ks : List ℕ). node_seen (record kept { keepers = ks })) are
     ∙ ap (λ (intervals : List IntervalRecord). node_seen (record kept { keepers = from intervals }))
     (sym (intervals-over (unmade kept.me kept.named kept.table) kept.store))
-    ∙ ap (λ (n : NodeMemory). with_memory n (with_keepers n.memory)) is
+    ∙ ap (λ (n : NodeMemory). with_known n (with_keepers n.memory)) is
   where
     from : List IntervalRecord → List ℕ
     from intervals =

@@ -27,7 +27,7 @@ use Rattle.lrc_table.proofs.Tables.{copy_at-with_copy, copy_at-with_copy_other}
 use Rattle.lrc_table.proofs.Copies.{copy_of, pending-settled}
 use Rattle.lrc_protocol.specs.Pages.{Copy, absent, Memory}
 use Rattle.lrc_protocol.specs.Pages as memory
-use Rattle.lrc_memory.specs.View.{Kept, AreSized, IsKept, seen, node_seen, seen_in, seen_copy, unmade, settled_store, store_over, with_memory}
+use Rattle.lrc_memory.specs.View.{Kept, AreSized, IsKept, seen, node_seen, seen_in, seen_copy, unmade, settled_store, store_over, with_known}
 use Rattle.lrc_memory.proofs.Overlays.{map-alike, over-alike, over-settled}
 use Rattle.lrc_memory.proofs.InStep.{all-attached}
 
@@ -117,7 +117,7 @@ kept-changed kept page copy within is none = record {
 pub seen-changed : (kept : Kept) (page : ℕ) (copy : PageCopy) → page < length kept.table.copies
     → pending_changes (copy_at kept.table page) ≡ None → pending_changes copy ≡ None → copy.base ≡ (copy_at kept.table page).base
     → node_seen (changed kept page copy)
-    ≡ with_memory (node_seen kept) (memory.with_copy (seen kept) page (seen_in copy.state (get_or kept.since page []) copy))
+    ≡ with_known (node_seen kept) (memory.with_copy (seen kept) page (seen_in copy.state (get_or kept.since page []) copy))
 seen-changed kept page copy within before after base =
     let now = with_copy kept.table page copy in
     let store : store_over (unmade kept.me kept.named now) kept.store ≡ store_over (unmade kept.me kept.named kept.table) kept.store =
@@ -129,9 +129,9 @@ seen-changed kept page copy within before after base =
     (λ p apart. ap (λ (c : PageCopy). seen_in c.state (get_or kept.since p []) c) (copy_at-with_copy_other kept.table page p copy apart)) in
     let bases : map (λ (c : PageCopy). c.base) now.copies ≡ map (λ (c : PageCopy). c.base) kept.table.copies =
     map-set_same (λ (c : PageCopy). c.base) kept.table.copies page copy _ base in
-    ap (λ s. with_memory (node_seen kept) (record (seen (changed kept page copy)) { store = s })) store
-    ∙ ap (λ cs. with_memory (node_seen kept) (record (seen kept) { copies = cs; bases = map (λ (c : PageCopy). c.base) now.copies })) copies
-    ∙ ap (λ bs. with_memory (node_seen kept)
+    ap (λ s. with_known (node_seen kept) (record (seen (changed kept page copy)) { store = s })) store
+    ∙ ap (λ cs. with_known (node_seen kept) (record (seen kept) { copies = cs; bases = map (λ (c : PageCopy). c.base) now.copies })) copies
+    ∙ ap (λ bs. with_known (node_seen kept)
     (record (memory.with_copy (seen kept) page (seen_in copy.state (get_or kept.since page []) copy)) { bases = bs })) bases
 
 -- ---- settling
@@ -251,9 +251,9 @@ seen-settled kept page within =
     let copies = same_copies kept.table now kept.since kept.since (length-set kept.table.copies page (settled old)) (λ p. settled-seen kept page p within) in
     let bases : map (λ (c : PageCopy). c.base) now.copies ≡ map (λ (c : PageCopy). c.base) kept.table.copies =
     map-set_same (λ (c : PageCopy). c.base) kept.table.copies page (settled old) _ (settled-base old.state old.values old.twin old.base) in
-    ap (λ s. with_memory (node_seen kept) (record (seen (settled_at kept page)) { store = s })) store
-    ∙ ap (λ cs. with_memory (node_seen kept) (record (seen kept) { copies = cs; bases = map (λ (c : PageCopy). c.base) now.copies })) copies
-    ∙ ap (λ bs. with_memory (node_seen kept) (record (seen kept) { bases = bs })) bases
+    ap (λ s. with_known (node_seen kept) (record (seen (settled_at kept page)) { store = s })) store
+    ∙ ap (λ cs. with_known (node_seen kept) (record (seen kept) { copies = cs; bases = map (λ (c : PageCopy). c.base) now.copies })) copies
+    ∙ ap (λ bs. with_known (node_seen kept) (record (seen kept) { bases = bs })) bases
 
 -- ---- what is kept stays so
 

@@ -13,8 +13,8 @@ use Rattle.lrc_table.specs.Table.{Table, copy_at, with_copy}
 use Rattle.lrc_table.proofs.Tables.{copy_at-with_copy}
 use Rattle.lrc_table.proofs.Copies.{copy_of, pending-settled, base-after_write}
 use Rattle.lrc_protocol.specs.Pages as machine
-use Rattle.lrc_protocol.specs.Pages.{with_word}
-use Rattle.lrc_memory.specs.View.{Kept, NodeMemory, IsKept, seen, node_seen, seen_in, settled_store, with_memory}
+use Rattle.lrc_protocol.specs.Pages.{with_written_word}
+use Rattle.lrc_memory.specs.View.{Kept, NodeMemory, IsKept, seen, node_seen, seen_in, settled_store, with_known}
 use Rattle.lrc_memory.proofs.Copies.{copy-seen, readable_as}
 use Rattle.lrc_memory.proofs.Settling.{changed, settled_at, kept-changed, seen-changed, kept-settled, seen-settled, with_parts, after-settle}
 
@@ -78,15 +78,15 @@ module _ (kept : Kept) (page offset value : ℕ) (within : page < length kept.ta
       (kept-settled kept page within is fit) nothing-written
 
   pub seen-written : node_seen (written_at kept page offset value)
-      ≡ with_memory (node_seen kept) (machine.with_copy (seen kept) page (machine.after_write (machine.copy_at (seen kept) page) offset value))
+      ≡ with_known (node_seen kept) (machine.with_copy (seen kept) page (machine.after_write (machine.copy_at (seen kept) page) offset value))
   seen-written =
       let mid = settled_at kept page in
       let old = copy_at mid.table page in
       seen-changed mid page (after_write old offset value) inside nothing-settled nothing-written (base-after_write old offset value)
-      ∙ ap (λ c. with_memory (node_seen mid) (machine.with_copy (seen mid) page c))
+      ∙ ap (λ c. with_known (node_seen mid) (machine.with_copy (seen mid) page c))
       (written-in old.state old.values old.twin old.base (get_or kept.since page []) offset value
       ∙ ap (λ c. machine.after_write c offset value) (sym (copy-seen mid page inside)))
-      ∙ ap (λ (n : NodeMemory). with_memory n (machine.with_copy n.memory page (machine.after_write (machine.copy_at n.memory page) offset value)))
+      ∙ ap (λ (n : NodeMemory). with_known n (machine.with_copy n.memory page (machine.after_write (machine.copy_at n.memory page) offset value)))
       (seen-settled kept page within)
 
 -- ---- after the call
@@ -153,14 +153,14 @@ module _ (kept : Kept) (word value page : ℕ) (named : List ℕ) (store : Store
       (either r table (call_on mid) mid ok err)
 
   pub seen-write : {E : Type 0} (r : Result Bool E) (n : NodeMemory) → node_seen kept ≡ n → OnOk r (table ≡ call_on mid)
-      → OnOk r (node_seen (with_parts kept store table) ≡ with_memory n (with_word n.size word value n.memory))
+      → OnOk r (node_seen (with_parts kept store table) ≡ with_known n (with_written_word n.size word value n.memory))
   seen-write r n is ok =
       when_ok r ok (λ done.
       ap node_seen (done-parts done)
       ∙ seen-written kept page (offset_of word kept.table.size) value within
-      ∙ ap (λ p. with_memory (node_seen kept)
+      ∙ ap (λ p. with_known (node_seen kept)
       (machine.with_copy (seen kept) p (machine.after_write (machine.copy_at (seen kept) p) (offset_of word kept.table.size) value))) page_is
-      ∙ ap (λ (n : NodeMemory). with_memory n (with_word n.size word value n.memory)) is)
+      ∙ ap (λ (n : NodeMemory). with_known n (with_written_word n.size word value n.memory)) is)
 
   pub readable-write : {E : Type 0} (r : Result Bool E) (n : NodeMemory) → node_seen kept ≡ n
       → IfOk r (λ done. done ≡ may_read (copy_at mid (page_of word mid.size)).state)

@@ -22,8 +22,8 @@ pub record CanBeAdded (store : StoreRecord) (intervals : List IntervalRecord) : 
   pub next : (node : ℕ) → indices_by intervals node ≡ range_with_len (entry store.last node + 1) (length (indices_by intervals node))
 
 -- no page is written in the open interval
-abbrev pub IsClosed : Memory → Type 0
-IsClosed memory = All (λ copy. changes_of copy ≡ None) memory.copies
+abbrev pub NoneIsWritten : Memory → Type 0
+NoneIsWritten memory = All (λ copy. changes_of copy ≡ None) memory.copies
 
 -- each part is of a stored notice of a maker, of which no changes are known, and changes words of a page
 abbrev pub AreAwaited : Size → StoreRecord → ℕ → ℕ → List IndexedChangesRecord → Type 0

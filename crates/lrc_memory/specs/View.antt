@@ -24,8 +24,8 @@ pub record NodeMemory : Type 0 where
   pub size : Size
   pub memory : Memory
 
-abbrev pub with_memory : NodeMemory → Memory → NodeMemory
-with_memory node memory = record node { memory = memory }
+abbrev pub with_known : NodeMemory → Memory → NodeMemory
+with_known node memory = record node { memory = memory }
 
 -- what every call leaves as it is: which node it is, and the numbers of words on a page, pages and nodes
 pub record SameMemory (old new : NodeMemory) : Type 0 where

@@ -10,8 +10,8 @@ ghost use Rattle.std.specs.List.{enumerate_from, range_with_len};
 ghost use Rattle.lrc_store.specs.Store.{intervals_of};
 ghost use Rattle.lrc_memory.specs.Notes.{keepers_of, named_of, since_of};
 ghost use Rattle.lrc_memory.specs.Steps.{without_bases};
-ghost use Rattle.lrc_memory.specs.View.{SameMemory, with_memory};
-ghost use Rattle.lrc_memory.specs.Turns.{IsClosed};
+ghost use Rattle.lrc_memory.specs.View.{SameMemory, with_known};
+ghost use Rattle.lrc_memory.specs.Turns.{NoneIsWritten};
 
 use crate::learning::is_last;
 use crate::memory::{Memory, PageNote};
@@ -32,7 +32,7 @@ impl Memory {
 
     /// Pages that were named since the last collection get new keepers: of each the lowest node that named it.
     pub fn take_keepers(&mut self)
-        ensures taken { self.new ≡ with_memory self.old (with_keepers self.old.memory) }
+        ensures taken { self.new ≡ with_known self.old (with_keepers self.old.memory) }
         ensures same { SameMemory self.old self.new }
     {
         // For the proof: there are at most `MOST_PAGES` pages.
@@ -54,7 +54,7 @@ impl Memory {
         requires in_range { page < length self.old.memory.copies }
         requires readable { is_readable (copy_at self.old.memory page) ≡ true }
         requires closed { changes_of (copy_at self.old.memory page) ≡ None }
-        ensures ok { OnOk result (self.new ≡ with_memory self.old (with_base self.old.memory page)) }
+        ensures ok { OnOk result (self.new ≡ with_known self.old (with_base self.old.memory page)) }
         ensures err { OnErr result (self.new ≡ self.old) }
         ensures same { SameMemory self.old self.new }
     {
@@ -65,9 +65,9 @@ impl Memory {
     /// changes, made or not, base copies of pages that other nodes keep, and invalid copies.
     pub fn collect(&mut self, time: &Time)
         requires time { length time.now ≡ length self.old.memory.store.last }
-        requires closed { IsClosed self.old.memory }
+        requires closed { NoneIsWritten self.old.memory }
         requires own { entry self.old.memory.store.last self.old.me ≤ entry time.now self.old.me }
-        ensures collected { self.new ≡ with_memory self.old (collected_at self.old.me time.now self.old.memory) }
+        ensures collected { self.new ≡ with_known self.old (collected_at self.old.me time.now self.old.memory) }
         ensures same { SameMemory self.old self.new }
     {
         let in_step = is_last(&self.store, time);

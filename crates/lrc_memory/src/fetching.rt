@@ -10,7 +10,7 @@ ghost use Rattle.lrc_table.specs.Table as tables;
 ghost use Rattle.lrc_need.specs.Need.{AreAskable};
 ghost use Rattle.lrc_need.specs.Seen.{seen_base};
 ghost use Rattle.lrc_memory.specs.Steps.{base_in, begun_with, patched_with};
-ghost use Rattle.lrc_memory.specs.View.{AreSized, SameMemory, seen_in, with_memory};
+ghost use Rattle.lrc_memory.specs.View.{AreSized, SameMemory, seen_in, with_known};
 ghost use Rattle.lrc_memory.specs.Turns.{AreAwaited, is_mendable};
 
 use crate::memory::Memory;
@@ -41,7 +41,7 @@ impl Memory {
     /// Stores what intervals of a maker changed in a page.
     pub fn attach(&mut self, maker: u8, page: u16, parts: &Parts) -> Result<(), AllocError>
         requires awaited { AreAwaited self.old.size self.old.memory.store maker page parts.now }
-        ensures ok { OnOk result (self.new ≡ with_memory self.old
+        ensures ok { OnOk result (self.new ≡ with_known self.old
             (record self.old.memory { store = fold (with_part maker page) self.old.memory.store parts.now })) }
         ensures same { SameMemory self.old self.new }
     {
@@ -57,7 +57,7 @@ impl Memory {
     fn keep(&mut self, key: Key, changes: Changes)
         requires awaited { notice_at self.old.memory.store key ≡ Some (unread key.page) }
         requires sized { All (λ c. c.offset < words_of self.old.size) changes }
-        ensures kept { self.new ≡ with_memory self.old (record self.old.memory { store = attached self.old.memory.store key changes }) }
+        ensures kept { self.new ≡ with_known self.old (record self.old.memory { store = attached self.old.memory.store key changes }) }
         ensures same { SameMemory self.old self.new }
     {
         self.store.attach(key, changes);
@@ -102,7 +102,7 @@ impl Memory {
         requires in_range { need.now.page < length self.old.memory.copies }
         requires fit { is_mendable self.old.size (copy_at self.old.memory need.now.page) need.now.base ≡ true }
         requires of_page { All (λ key. key.page ≡ need.now.page) need.now.missing }
-        ensures mended { self.new ≡ with_memory self.old (mended self.old.memory need.now) }
+        ensures mended { self.new ≡ with_known self.old (mended self.old.memory need.now) }
         ensures same { SameMemory self.old self.new }
     {
         let page = need.page();

@@ -6,7 +6,7 @@ ghost use Rattle.lrc_store.specs.Store.{newer_of, notice_at};
 ghost use Rattle.lrc_protocol.specs.Pages.{learned};
 ghost use Rattle.lrc_store.specs.Interval.{index_of};
 ghost use Rattle.lrc_memory.specs.Steps.{invalidated_on, learned_one};
-ghost use Rattle.lrc_memory.specs.View.{SameMemory, WasLast, with_memory};
+ghost use Rattle.lrc_memory.specs.View.{SameMemory, WasLast, with_known};
 ghost use Rattle.lrc_memory.specs.Turns.{CanBeAdded, IsInRange};
 
 use crate::memory::Memory;
@@ -22,7 +22,7 @@ impl Memory {
     pub fn learn(&mut self, before: &Time, intervals: &Intervals) -> Result<(), AllocError>
         requires before { length before.now ≡ length self.old.memory.store.last }
         requires intervals { CanBeAdded self.old.memory.store intervals.now }
-        ensures ok { OnOk result (self.new ≡ with_memory self.old (learned before.now intervals.now self.old.memory)) }
+        ensures ok { OnOk result (self.new ≡ with_known self.old (learned before.now intervals.now self.old.memory)) }
         ensures same { SameMemory self.old self.new }
     {
         let in_step = is_last(&self.store, before);
@@ -44,7 +44,7 @@ impl Memory {
         requires in_step { IsTrue in_step → WasLast self.old.memory.store before.now }
         requires in_range { IsInRange self.old.memory.store interval.now }
         requires next { index_of interval.now ≡ entry self.old.memory.store.last interval.now.node + 1 }
-        ensures ok { OnOk result (self.new ≡ with_memory self.old (learned_one before.now self.old.memory interval.now)) }
+        ensures ok { OnOk result (self.new ≡ with_known self.old (learned_one before.now self.old.memory interval.now)) }
         ensures same { SameMemory self.old self.new }
     {
         self.store.add(interval)?;
@@ -59,7 +59,7 @@ impl Memory {
         requires before { length before.now ≡ length self.old.memory.store.last }
         requires in_step { IsTrue in_step → WasLast self.old.memory.store before.now }
         requires in_range { page < length self.old.memory.copies }
-        ensures ok { OnOk result (self.new ≡ with_memory self.old
+        ensures ok { OnOk result (self.new ≡ with_known self.old
             (record self.old.memory { copies = invalidated_on before.now self.old.memory.copies page })) }
         ensures same { SameMemory self.old self.new }
     {

@@ -3,9 +3,9 @@
 ghost use Rattle.std.specs.Prelude.{◌≡◌, ◌<◌, ◌≤◌, ◌+◌, All, IfOk, OnOk, fold, slice_set, Some, None, length, replicate, if◌then◌else◌};
 ghost use Rattle.lrc_time.specs.Time.{entry};
 ghost use Rattle.lrc_page.specs.Place.{page_of, pages_of};
-ghost use Rattle.lrc_protocol.specs.Pages.{is_readable, fresh_memory, copy_at, value_at, with_word, with_interval};
+ghost use Rattle.lrc_protocol.specs.Pages.{is_readable, fresh_memory, copy_at, value_at, with_written_word, with_interval};
 ghost use Rattle.lrc_memory.specs.Notes.{keepers_of, named_of, since_of};
-ghost use Rattle.lrc_memory.specs.View.{SameMemory, with_memory};
+ghost use Rattle.lrc_memory.specs.View.{SameMemory, with_known};
 
 use crate::settle::settle_page;
 use lrc_page::{MOST_WORDS, Size, page_of, pages_of};
@@ -128,7 +128,7 @@ impl Memory {
         requires in_range { word < MOST_WORDS }
         requires on_a_page { page_of word self.old.size < length self.old.memory.copies }
         ensures done { IfOk result (λ done. done ≡ is_readable (copy_at self.old.memory (page_of word self.old.size))) }
-        ensures ok { OnOk result (self.new ≡ with_memory self.old (with_word self.old.size word value self.old.memory)) }
+        ensures ok { OnOk result (self.new ≡ with_known self.old (with_written_word self.old.size word value self.old.memory)) }
         ensures same { SameMemory self.old self.new }
     {
         let page = page_of(word, self.table.size());
@@ -140,7 +140,7 @@ impl Memory {
     pub fn close(&mut self, stamp: &Time) -> Result<(), AllocError>
         requires stamp { length stamp.now ≡ length self.old.memory.store.last }
         requires next { entry stamp.now self.old.me ≡ entry self.old.memory.store.last self.old.me + 1 }
-        ensures ok { OnOk result (self.new ≡ with_memory self.old (with_interval self.old.me stamp.now self.old.memory)) }
+        ensures ok { OnOk result (self.new ≡ with_known self.old (with_interval self.old.me stamp.now self.old.memory)) }
         ensures same { SameMemory self.old self.new }
     {
         // For the proof: every copy is whole.

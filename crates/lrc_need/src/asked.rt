@@ -4,7 +4,7 @@ ghost use Rattle.std.specs.Prelude.{◌≡◌, ◌≤◌, ◌==◌, ◌++◌, If
 ghost use Rattle.std.specs.List.{list_any};
 ghost use Rattle.std.specs.Option.{option_to_list};
 ghost use lib.Pointwise.{pointwise};
-ghost use Rattle.lrc_protocol.specs.Pages.{asked_of, asks, indices_of, some_asked};
+ghost use Rattle.lrc_protocol.specs.Pages.{asked_of, asks_just, indices_of, some_asked};
 ghost use Rattle.lrc_need.specs.Need.{AreAskable};
 
 use lrc_envelope::{IndexedChanges, Indices};
@@ -32,7 +32,7 @@ impl Model for Asked {
 impl Asked {
     // Whether these are the changes that are asked of this maker.
     fn is_of(&self, maker: u8, parts: &[IndexedChanges]) -> bool
-        ensures { result ≡ asks maker (map (λ part. part.index) parts.now) self.now }
+        ensures { result ≡ asks_just maker (map (λ part. part.index) parts.now) self.now }
     {
         self.maker == maker && are_of(self.indices.as_slice(), parts)
     }
@@ -63,7 +63,7 @@ fn are_of(indices: &[u32], parts: &[IndexedChanges]) -> bool
 
 /// Whether these are the changes that are asked of this maker in one of these.
 pub(crate) fn is_any_of(all: &[Asked], maker: u8, parts: &[IndexedChanges]) -> bool
-    ensures { result ≡ list_any (asks maker (map (λ part. part.index) parts.now)) all.now }
+    ensures { result ≡ list_any (asks_just maker (map (λ part. part.index) parts.now)) all.now }
 {
     all.iter().any(|asked| asked.is_of(maker, parts))
 }

@@ -12,11 +12,11 @@ use Rattle.lrc_protocol.specs.Run.{Input, run, taken, EntryRecord, Logged, logge
 use Rattle.lrc_node.specs.declared.fault.NodeFault.{NodeFault}
 use Rattle.lrc_node.specs.declared.fault.NodeFault.TheVariants.{Failed, NotReady, Unexpected, Worn, NoMemory}
 use Rattle.lrc_node.specs.Fault.{MayAnswer, is_final}
-use Rattle.lrc_node.specs.Node.{TracedNode, Answers, unready, unawaited, too_large as too_large_answer, without_memory}
+use Rattle.lrc_node.specs.Node.{TracedNode, AnswersTurn, unready, unawaited, too_large as too_large_answer, without_memory}
 use Rattle.lrc_node.specs.Logged.{LoggedNode, TracedLog, Logs, Enters, MakesRoom, NotesIn, NotesFault}
 
 -- a refusal of the node is one of the node with its log
-pub logs_refused : (l : Logged) (input : Input) (stamp : ℕ) (o : Outcome) (fault : NodeFault) (new : Option Node) → Answers o l.node fault new
+pub logs_refused : (l : Logged) (input : Input) (stamp : ℕ) (o : Outcome) (fault : NodeFault) (new : Option Node) → AnswersTurn o l.node fault new
     → Logs l (logging input stamp l.log o) (record { node = new; log = l.log }) (Err fault)
 logs_refused l input stamp _ _ _ unready = (refl, refl)
 logs_refused l input stamp _ _ _ unawaited = (refl, refl)
@@ -24,7 +24,7 @@ logs_refused l input stamp _ _ _ too_large_answer = refl
 logs_refused l input stamp _ _ _ without_memory = tt
 
 -- a node that fails is gone
-pub fails_refused : (node : Node) (o : Outcome) (fault : NodeFault) (new : Option Node) → Answers o node fault new → is_final fault ≡ true → new ≡ None
+pub fails_refused : (node : Node) (o : Outcome) (fault : NodeFault) (new : Option Node) → AnswersTurn o node fault new → is_final fault ≡ true → new ≡ None
 fails_refused node _ _ _ unready e = cc
 fails_refused node _ _ _ unawaited e = cc
 fails_refused node _ _ _ too_large_answer e = refl
@@ -68,7 +68,7 @@ pub logs_settled : (l : Logged) (input : Input) (came : ℕ) (o : Outcome) (mid 
     (result : Result (Unit {0}) NodeFault)
     → mid.log ≡ l.log
     → IfOk r (λ turn. (after : Node) × (o ≡ done turn after) × (mid.node ≡ Some after))
-    → IfErr r (λ fault. Answers o l.node fault mid.node)
+    → IfErr r (λ fault. AnswersTurn o l.node fault mid.node)
     → MatchResult r (λ turn. Enters mid input came turn new result) (λ fault. (result ≡ Err fault) × (new ≡ mid))
     → Logs l (logging input (next_stamp l.log came) l.log o) new result
 logs_settled l input came o mid new (Ok turn) result same made refuses settled =
@@ -96,7 +96,7 @@ gone mid log input came turn new (Err Unexpected) same h = absurd h
 
 pub fails_settled : (node : Node) (log : List EntryRecord) (input : Input) (came : ℕ) (o : Outcome) (mid new : LoggedNode)
     (r : Result TurnRecord NodeFault) (result : Result (Unit {0}) NodeFault)
-    → mid.log ≡ log → IfErr r (λ fault. Answers o node fault mid.node)
+    → mid.log ≡ log → IfErr r (λ fault. AnswersTurn o node fault mid.node)
     → MatchResult r (λ turn. Enters mid input came turn new result) (λ fault. (result ≡ Err fault) × (new ≡ mid))
     → IfErr result (λ fault. is_final fault ≡ true → new ≡ record { node = None; log = log })
 fails_settled node log input came o mid new (Ok turn) result same refuses settled = gone mid log input came turn new result same settled
@@ -180,7 +180,7 @@ kept_without_memory not_ready old new e = e
 kept_without_memory unexpected old new e = e
 kept_without_memory worn old new e = e
 
-kept_refused : {o : Outcome} {node : Node} {fault : NodeFault} {left : Option Node} (old new : TraceRecord) → Answers o node fault left → new ≡ old
+kept_refused : {o : Outcome} {node : Node} {fault : NodeFault} {left : Option Node} (old new : TraceRecord) → AnswersTurn o node fault left → new ≡ old
     → NotesFault old o fault new
 kept_refused old new unready e = e
 kept_refused old new unawaited e = e
@@ -200,7 +200,7 @@ noted_entered mid input came turn after old new left (Err Unexpected) h e = absu
 pub failing_settled : (old new : TracedLog) (mid : TracedNode) (log : List EntryRecord) (input : Input) (came : ℕ) (node : Node) (o : Outcome)
     (r : Result TurnRecord NodeFault) (result : Result (Unit {0}) NodeFault) (trace : TraceRecord) → trace ≡ old.trace
     → IfOk r (λ turn. (after : Node) × (o ≡ done turn after) × (mid ≡ record { node = Some after; trace = with_act after turn.act trace }))
-    → IfErr r (λ fault. Answers o node fault mid.node) → OnErr r (mid.trace ≡ trace)
+    → IfErr r (λ fault. AnswersTurn o node fault mid.node) → OnErr r (mid.trace ≡ trace)
     → MatchResult r (λ turn. Enters (record { node = mid.node; log = log }) input came turn new.logged result)
     (λ fault. (result ≡ Err fault) × (new.logged ≡ record { node = mid.node; log = log }))
     → new.trace ≡ mid.trace → IfErr result (λ fault. NotesFault old.trace o fault new.trace)

@@ -12,7 +12,7 @@ use Rattle.lrc_node_laws.specs.Traced.{IsTraced}
 use Rattle.lrc_node.specs.declared.fault.NodeFault.{NodeFault}
 use Rattle.lrc_node.specs.Fault.{MayAnswer, is_final}
 use Rattle.lrc_node.specs.Effects.{RefusesRun, unready, too_large, without_memory}
-use Rattle.lrc_node.specs.Node.{TracedNode, seen_node, Answers, unready as answers_unready}
+use Rattle.lrc_node.specs.Node.{TracedNode, seen_node, AnswersTurn, unready as answers_unready}
 use Rattle.lrc_node.specs.Node.{too_large as answers_too_large, without_memory as answers_without_memory}
 
 -- a fault that is handed up
@@ -28,7 +28,7 @@ may_run without_memory = tt
 
 -- with the fault that is answered the node is as it was, or it has failed
 pub answers_run : {outcome : Outcome} {fault : NodeFault} (node after : Node) → RefusesRun outcome fault
-    → (outcome ≡ not_ready → after ≡ node) → Answers outcome node fault (cond (is_final fault) None (Some after))
+    → (outcome ≡ not_ready → after ≡ node) → AnswersTurn outcome node fault (cond (is_final fault) None (Some after))
 answers_run node after unready same = rw (same refl) answers_unready
 answers_run node after too_large same = answers_too_large
 answers_run node after without_memory same = answers_without_memory

@@ -15,12 +15,12 @@ use Rattle.lrc_store.specs.Interval.{IntervalRecord, index_of}
 use Rattle.lrc_exec.proofs.RoundsLaws.{range-last}
 use Rattle.lrc_protocol.specs.Times.{indices_by, are_between}
 use Rattle.lrc_node_laws.proofs.Indices.{indices-append, indices-here, indices-there}
-use Rattle.lrc_node.specs.News.{IsRunOf, AreRuns, IsBroken}
+use Rattle.lrc_node.specs.News.{IsUnbrokenRun, AreUnbroken, IsBroken}
 
 -- ---- one interval more
 
-pub run-own : (xs : List IntervalRecord) (x : IntervalRecord) (q above last next : ℕ) → IsRunOf xs q above last → x.node ≡ q
-    → index_of x ≡ next → next ≡ last + 1 → IsRunOf (xs ++ x ∷ []) q above next
+pub run-own : (xs : List IntervalRecord) (x : IntervalRecord) (q above last next : ℕ) → IsUnbrokenRun xs q above last → x.node ≡ q
+    → index_of x ≡ next → next ≡ last + 1 → IsUnbrokenRun (xs ++ x ∷ []) q above next
 run-own xs x q above last next is own index one = record {
   risen = let h = is.risen in omega arith;
   run =
@@ -35,8 +35,8 @@ run-own xs x q above last next is own index one = record {
       ∙ sym (ap (range_with_len (above + 1)) more);
 }
 
-pub run-other : (xs : List IntervalRecord) (x : IntervalRecord) (q above last : ℕ) → IsRunOf xs q above last → x.node ≢ q
-    → IsRunOf (xs ++ x ∷ []) q above last
+pub run-other : (xs : List IntervalRecord) (x : IntervalRecord) (q above last : ℕ) → IsUnbrokenRun xs q above last → x.node ≢ q
+    → IsUnbrokenRun (xs ++ x ∷ []) q above last
 run-other xs x q above last is other = record {
   risen = is.risen;
   run =
@@ -53,7 +53,7 @@ decided xs ys differ =
     ⊎_elim (λ (t : pointwise ◌==◌ xs ys ≡ true). absurd (differ (same_text xs ys (sym t)))) (λ (f : pointwise ◌==◌ xs ys ≡ false). f)
     (cases_Bool (pointwise ◌==◌ xs ys))
 
-pub between-holds : (xs : List IntervalRecord) (q above last upto : ℕ) → IsRunOf xs q above last → last ≡ max above upto
+pub between-holds : (xs : List IntervalRecord) (q above last upto : ℕ) → IsUnbrokenRun xs q above last → last ≡ max above upto
     → are_between xs q above upto ≡ true
 between-holds xs q above last upto is e =
     let h = is.risen in
@@ -61,7 +61,7 @@ between-holds xs q above last upto is e =
     ap (λ ys. pointwise ◌==◌ ys (range_with_len (above + 1) (upto - above))) (is.run ∙ ap (range_with_len (above + 1)) same)
     ∙ nat_list_eq_equiv.refl (range_with_len (above + 1) (upto - above))
 
-pub between-only : (xs : List IntervalRecord) (q above last upto : ℕ) → IsRunOf xs q above last
+pub between-only : (xs : List IntervalRecord) (q above last upto : ℕ) → IsUnbrokenRun xs q above last
     → are_between xs q above upto ≡ true → last ≡ max above upto
 between-only xs q above last upto is e =
     let h = is.risen in
@@ -86,7 +86,7 @@ out_of_turn a k m y ys e =
     ∙ get_or-range_with_len a m k 0 within
 
 pub between-broken : (xs : List IntervalRecord) (x : IntervalRecord) (rest : List IntervalRecord) (q above last upto : ℕ)
-    → IsRunOf xs q above last → x.node ≡ q → index_of x ≢ last + 1 → are_between (xs ++ x ∷ rest) q above upto ≡ false
+    → IsUnbrokenRun xs q above last → x.node ≡ q → index_of x ≢ last + 1 → are_between (xs ++ x ∷ rest) q above upto ≡ false
 between-broken xs x rest q above last upto is own differ =
     decided _ _
     (λ e.
@@ -99,7 +99,7 @@ between-broken xs x rest q above last upto is own differ =
 -- ---- all nodes
 
 -- at the start none has come
-pub runs-none : (known : List ℕ) → AreRuns known [] known
+pub runs-none : (known : List ℕ) → AreUnbroken known [] known
 runs-none known = record {
   counted = refl;
   each = λ q. record {
@@ -109,8 +109,8 @@ runs-none known = record {
   };
 }
 
-pub runs-more : (known : List ℕ) (xs : List IntervalRecord) (x : IntervalRecord) (reached : List ℕ) → AreRuns known xs reached
-    → x.node < length known → index_of x ≡ entry reached x.node + 1 → AreRuns known (xs ++ x ∷ []) (set reached x.node (index_of x))
+pub runs-more : (known : List ℕ) (xs : List IntervalRecord) (x : IntervalRecord) (reached : List ℕ) → AreUnbroken known xs reached
+    → x.node < length known → index_of x ≡ entry reached x.node + 1 → AreUnbroken known (xs ++ x ∷ []) (set reached x.node (index_of x))
 runs-more known xs x reached are within next = record {
   counted = length-set reached x.node (index_of x) ∙ are.counted;
   each = λ q. ⊎_elim
@@ -122,12 +122,12 @@ runs-more known xs x reached are within next = record {
       run-own xs x q (entry known q) (entry reached q) (entry (set reached x.node (index_of x)) q) (are.each q) own (sym at) (at ∙ before))
       (λ (other : x.node ≢ q).
       let at = entry-set_other reached x.node (index_of x) q (λ e. other (sym e)) in
-      subst (λ n. IsRunOf (xs ++ x ∷ []) q (entry known q) n) (sym at) (run-other xs x q (entry known q) (entry reached q) (are.each q) other))
+      subst (λ n. IsUnbrokenRun (xs ++ x ∷ []) q (entry known q) n) (sym at) (run-other xs x q (entry known q) (entry reached q) (are.each q) other))
       (cases_eq x.node q);
 }
 
 pub runs-broken : (known : List ℕ) (xs : List IntervalRecord) (x : IntervalRecord) (rest : List IntervalRecord) (reached : List ℕ)
-    → AreRuns known xs reached → x.node < length known → index_of x ≢ entry reached x.node + 1 → IsBroken known (xs ++ x ∷ rest)
+    → AreUnbroken known xs reached → x.node < length known → index_of x ≢ entry reached x.node + 1 → IsBroken known (xs ++ x ∷ rest)
 runs-broken known xs x rest reached are within differ = record {
   q = x.node;
   in_range = within;
@@ -151,14 +151,14 @@ range_each p a (suc n) k all low high =
 
 -- ---- the whole
 
-pub all_between : (known time : List ℕ) (xs : List IntervalRecord) (reached : List ℕ) → AreRuns known xs reached
+pub all_between : (known time : List ℕ) (xs : List IntervalRecord) (reached : List ℕ) → AreUnbroken known xs reached
     → length time ≡ length known → reached ≡ joined known time
     → list_all (λ q. are_between xs q (entry known q) (entry time q)) (range_with_len 0 (length known)) ≡ true
 all_between known time xs reached are counted e =
     range_all _ 0 (length known)
     (λ q low high. between-holds xs q (entry known q) (entry reached q) (entry time q) (are.each q) (ap (λ t. entry t q) e ∙ entry-joined known time q))
 
-pub all_between-only : (known time : List ℕ) (xs : List IntervalRecord) (reached : List ℕ) → AreRuns known xs reached
+pub all_between-only : (known time : List ℕ) (xs : List IntervalRecord) (reached : List ℕ) → AreUnbroken known xs reached
     → length time ≡ length known
     → list_all (λ q. are_between xs q (entry known q) (entry time q)) (range_with_len 0 (length known)) ≡ true
     → reached ≡ joined known time

@@ -21,7 +21,7 @@ use Rattle.lrc_node.specs.declared.fault.NodeFault.{NodeFault}
 use Rattle.lrc_node.specs.declared.fault.NodeFault.TheVariants.{Worn, NoMemory}
 use Rattle.lrc_node.specs.Fault.{MayAnswer, is_final}
 use Rattle.lrc_node.specs.Taken.{RefusesTake, unawaited, too_large, without_memory}
-use Rattle.lrc_node.specs.Node.{Answers, unawaited as answers_unawaited, too_large as answers_too_large, without_memory as answers_without_memory}
+use Rattle.lrc_node.specs.Node.{AnswersTurn, unawaited as answers_unawaited, too_large as answers_too_large, without_memory as answers_without_memory}
 
 -- a node that is to take a message does not answer that it is not ready
 pub may_take : {outcome : Outcome} {node after : Node} {fault : NodeFault} (envelope : EnvelopeRecord) → RefusesTake outcome node fault after
@@ -100,7 +100,7 @@ refuses_anew outcome node after fault h =
 
 -- with the fault that is answered the node is as it was, or it has failed
 pub answers_take : {outcome : Outcome} {fault : NodeFault} (node after : Node) → RefusesTake outcome node fault after
-    → Answers outcome node fault (cond (is_final fault) None (Some after))
+    → AnswersTurn outcome node fault (cond (is_final fault) None (Some after))
 answers_take _ _ unawaited = answers_unawaited
 answers_take _ _ too_large = answers_too_large
 answers_take _ _ without_memory = answers_without_memory

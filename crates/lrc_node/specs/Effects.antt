@@ -9,7 +9,7 @@ use Rattle.lrc_page.specs.Place.{page_of}
 use Rattle.lrc_exec.specs.declared.machine.Ask.{Ask}
 use Rattle.lrc_exec.specs.declared.machine.Ask.TheVariants.{Read, Write, Acquire, Release, Barrier}
 use Rattle.lrc_protocol.specs.Times.{next_time}
-use Rattle.lrc_protocol.specs.Pages.{is_readable, Memory, copy_at, value_at, with_word, Need, is_met, with_part}
+use Rattle.lrc_protocol.specs.Pages.{is_readable, Memory, copy_at, value_at, with_written_word, Need, is_met, with_part}
 use Rattle.lrc_memory.specs.Turns.{is_mendable}
 use Rattle.lrc_protocol.specs.Node.{Wait, access, upkeep, Node, Effect, acts, with_memory, own_index}
 use Rattle.lrc_protocol.specs.Turn.{begins, reaches, closing, acquire_at, release_at, arrive_at, Outcome, not_ready, worn}
@@ -27,7 +27,7 @@ value_asked node _ = 0
 
 -- the memory after what is asked for
 abbrev pub memory_asked : Node → Option Ask → Memory
-memory_asked node (Some (Write word value)) = with_word node.options.size word value node.memory
+memory_asked node (Some (Write word value)) = with_written_word node.options.size word value node.memory
 memory_asked node _ = node.memory
 
 -- a word that is accessed is one of the memory's, and its page may be read

@@ -3,7 +3,7 @@ use Rattle.std.specs.Prelude.{ℕ, ◌≡◌, ◌≢◌, ◌<◌, ◌≤◌, tru
 use Rattle.lrc_page.specs.declared.size.Size.{Size}
 use Rattle.lrc_page.specs.Place.{pages_of}
 use Rattle.lrc_node_laws.specs.Ranges.{HasRanges}
-use Rattle.lrc_memory.specs.Turns.{is_mendable, IsClosed}
+use Rattle.lrc_memory.specs.Turns.{is_mendable, NoneIsWritten}
 use Rattle.lrc_protocol.specs.Pages.{is_readable, changes_of, Need, mended, Memory, copy_at}
 use Rattle.lrc_protocol.specs.Node.{Node}
 
@@ -31,4 +31,4 @@ pub record CanClean (node : Node) (kept : List ℕ) (needs : List Need) : Type 0
 pub record CanCollect (node : Node) : Type 0 where
   pub arrived : 1 ≤ node.barrier.episode
   pub ranges : HasRanges node.setting.nodes (pages_of node.setting.words node.options.size) node.memory
-  pub closed : IsClosed node.memory
+  pub closed : NoneIsWritten node.memory

@@ -19,11 +19,11 @@ pub record TracedNode : Type 0 where
   pub trace : TraceRecord
 
 -- What comes of a turn that is asked of a node: it is made; it is refused, and the node is as it was; or the node fails.
-pub data Answers : Outcome → Node → NodeFault → Option Node → Type 0 where
-  unready : {node : Node} → Answers not_ready node NotReady (Some node)
-  unawaited : {node : Node} → Answers unexpected node Unexpected (Some node)
-  too_large : {node : Node} → Answers worn node Worn None
-  without_memory : {outcome : Outcome} {node : Node} → Answers outcome node NoMemory None
+pub data AnswersTurn : Outcome → Node → NodeFault → Option Node → Type 0 where
+  unready : {node : Node} → AnswersTurn not_ready node NotReady (Some node)
+  unawaited : {node : Node} → AnswersTurn unexpected node Unexpected (Some node)
+  too_large : {node : Node} → AnswersTurn worn node Worn None
+  without_memory : {outcome : Outcome} {node : Node} → AnswersTurn outcome node NoMemory None
 
 -- how a node ended; a failed one is unfinished
 abbrev pub end_in : Option Node → End

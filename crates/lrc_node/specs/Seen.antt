@@ -17,5 +17,5 @@ node_of s = record {
 }
 
 -- what holds of it
-abbrev pub IsKept : Inside → Type 0
-IsKept s = IsState s.memory.me s.memory.size (node_of s)
+abbrev pub IsNodeKept : Inside → Type 0
+IsNodeKept s = IsState s.memory.me s.memory.size (node_of s)

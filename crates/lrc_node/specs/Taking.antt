@@ -10,7 +10,7 @@ use Rattle.lrc_barrier.specs.Barrier.{IsArrival, is_accepted, is_clean}
 use Rattle.lrc_order_laws.specs.Tokens.{is_awaited}
 use Rattle.lrc_lock.specs.Held.{forwarded, lock_at, is_taken}
 use Rattle.lrc_lock.specs.Lock.{manager_of}
-use Rattle.lrc_memory.specs.Turns.{AreAwaited, CanBeAdded, IsClosed}
+use Rattle.lrc_memory.specs.Turns.{AreAwaited, CanBeAdded, NoneIsWritten}
 use Rattle.lrc_protocol.specs.Pages.{with_changes, with_page}
 use Rattle.lrc_protocol.specs.Barriers.{Collection, arrival_in, base_at}
 use Rattle.lrc_protocol.specs.Node.{awaits_discard, discard, needs_of, Node, Effect, collection_of, sends}
@@ -25,7 +25,7 @@ use Rattle.lrc_node.specs.Text.{asked_in}
 pub record CanDiscard (node : Node) : Type 0 where
   pub next : asked_in node.course ≡ Some Barrier
   pub waits : IsTrue (awaits_discard node.mail.wait)
-  pub closed : IsClosed node.memory
+  pub closed : NoneIsWritten node.memory
   pub time : (collection : Collection) → node.mail.wait ≡ discard collection
       → (length collection.time ≡ node.setting.nodes)
       × (entry node.memory.store.last node.setting.me ≤ entry collection.time node.setting.me)

@@ -6,7 +6,7 @@ ghost use Rattle.lrc_protocol.specs.Traced.{with_act};
 ghost use Rattle.lrc_protocol.specs.Turn.{done, is_ready, not_ready, run_turn, take_turn, unexpected};
 ghost use Rattle.lrc_protocol.specs.Run.{run, taken};
 ghost use Rattle.lrc_node.specs.Fault.{MayAnswer};
-ghost use Rattle.lrc_node.specs.Node.{Answers, end_in};
+ghost use Rattle.lrc_node.specs.Node.{AnswersTurn, end_in};
 ghost use Rattle.lrc_node.specs.declared.fault.NodeFault.TheVariants.{Failed, NoMemory, NotReady, Unexpected};
 
 use crate::end::End;
@@ -76,7 +76,7 @@ impl<'c> Node<'c> {
         ensures done { (node : NodeRecord) → self.old.node ≡ Some node
             → IfOk result (λ turn. (after : NodeRecord) × (run_turn node ≡ done turn after)
             × (self.new ≡ record { node = Some after; trace = with_act after turn.act self.old.trace })) }
-        ensures refused { (node : NodeRecord) → self.old.node ≡ Some node → IfErr result (λ fault. Answers (run_turn node) node fault self.new.node) }
+        ensures refused { (node : NodeRecord) → self.old.node ≡ Some node → IfErr result (λ fault. AnswersTurn (run_turn node) node fault self.new.node) }
         ensures ready { (node : NodeRecord) → self.old.node ≡ Some node → run_turn node ≡ not_ready → result ≡ Err NotReady }
         ensures kept { OnErr result (self.new.trace ≡ self.old.trace) }
         ensures fault { IfErr result (MayAnswer run) }
@@ -102,7 +102,7 @@ impl<'c> Node<'c> {
             → IfOk result (λ turn. (after : NodeRecord) × (take_turn node envelope.now ≡ done turn after)
             × (self.new ≡ record { node = Some after; trace = with_act after turn.act self.old.trace })) }
         ensures refused { (node : NodeRecord) → self.old.node ≡ Some node
-            → IfErr result (λ fault. Answers (take_turn node envelope.now) node fault self.new.node) }
+            → IfErr result (λ fault. AnswersTurn (take_turn node envelope.now) node fault self.new.node) }
         ensures unexpected { (node : NodeRecord) → self.old.node ≡ Some node → take_turn node envelope.now ≡ unexpected → result ≡ Err Unexpected }
         ensures kept { OnErr result (self.new.trace ≡ self.old.trace) }
         ensures fault { IfErr result (MayAnswer (taken envelope.now)) }

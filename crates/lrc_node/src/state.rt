@@ -40,11 +40,11 @@ impl<'c> Model for NodeState<'c> {
 
     ghost coded = { Prim.hlevel (codes, statement.the_row.coded) };
 
-    ghost use Rattle.lrc_node.specs.Seen.{node_of, IsKept};
+    ghost use Rattle.lrc_node.specs.Seen.{node_of, IsNodeKept};
 
     ghost view = { node_of };
 
-    ghost invariant = { IsKept };
+    ghost invariant = { IsNodeKept };
 }
 
 impl<'c> NodeState<'c> {

@@ -12,14 +12,14 @@ use Rattle.lrc_store.specs.Interval.{IntervalRecord}
 use Rattle.lrc_envelope.specs.Envelope.{EnvelopeRecord}
 use Rattle.lrc_envelope.specs.declared.message.Message.{Message}
 use Rattle.lrc_protocol.specs.Times.{next_time}
-use Rattle.lrc_protocol.specs.Pages.{Copy, valid, written, invalid, absent, is_readable, changes_of, Memory, copy_at, with_word, Base, Need}
+use Rattle.lrc_protocol.specs.Pages.{Copy, valid, written, invalid, absent, is_readable, changes_of, Memory, copy_at, with_written_word, Base, Need}
 use Rattle.lrc_protocol.specs.Pages.{mended}
 use Rattle.lrc_protocol.specs.Barriers.{collected_at}
 use Rattle.lrc_protocol.specs.Node.{Letter, Wait, nothing, grant, departure, access, upkeep, discard, needs_of, Course, going, trapped, ended}
 use Rattle.lrc_protocol.specs.Node.{Node, Effect, makes, acts, acts_by, with_memory, waiting}
 use Rattle.lrc_protocol.specs.Turn.{requests_of, charged, learns as learns_news, TurnRecord, taking}
 use Rattle.lrc_protocol.specs.Run.{Input}
-use Rattle.lrc_protocol.specs.Rules.{take_request, Accesses, access_read, access_write, IsOwn, own_quiet, own_print, own_trap, own_end, page_at}
+use Rattle.lrc_protocol.specs.Rules.{take_request, AccessesNext, access_read, access_write, IsOwn, own_quiet, own_print, own_trap, own_end, page_at}
 use Rattle.lrc_protocol.specs.Rules.{need_at, closed_for, keeping, collection_at, upkeep_at, RunRule, run_hit, run_miss, run_repair}
 use Rattle.lrc_protocol.specs.Rules.{run_acquire, run_ask, run_release, run_barrier, run_other, TakeRule, take_forward, take_token, take_arrive}
 use Rattle.lrc_protocol.specs.Rules.{take_last_arrive, take_depart, take_collect, take_collect_at_once, take_reply, take_last_reply}
@@ -107,7 +107,7 @@ module _ (ws : List (ℕ × ℕ)) where
   makes-made letters node (prints value after) o b = as_open node node.memory ws o b
   makes-made letters node (reads word after) o b = as_open node node.memory ws o b
   makes-made letters node (writes word value after) o b =
-      as_open node (with_word node.options.size word value node.memory) (ws ++ (word, value) ∷ []) o
+      as_open node (with_written_word node.options.size word value node.memory) (ws ++ (word, value) ∷ []) o
       (puts-made node.options.size node.memory ws word value b.1 b.0)
   makes-made letters node (acquires lock after) o b = as_open node node.memory [] o b
   makes-made letters node (releases lock after) o b = as_open node node.memory [] o b
@@ -142,7 +142,7 @@ module _ (ws : List (ℕ × ℕ)) where
   own-before size memory next (own_trap cause) m = m
   own-before size memory next own_end m = m
 
-  access-before : (size : Size) (memory : Memory) (next : Next) (word : ℕ) → Accesses next word
+  access-before : (size : Size) (memory : Memory) (next : Next) (word : ℕ) → AccessesNext next word
       → is_readable (copy_at memory (page_of word size)) ≡ true → AreMadeBy size memory ws → Before size memory ws next
   access-before size memory next word (access_read w after) r m = m
   access-before size memory next word (access_write w value after) r m = (m, r)

@@ -42,7 +42,7 @@ use Rattle.lrc_node_laws.proofs.Reaches.{reaches-kept}
 use Rattle.lrc_node_laws.proofs.Replies.{asked-exactly}
 use Rattle.lrc_node_laws.proofs.Awaited.{All-unmap, asked-unread}
 use Rattle.lrc_page.specs.declared.size.Size.{Size}
-use Rattle.lrc_node_laws.specs.Ranges.{IsWhole, IsWholeBase}
+use Rattle.lrc_node_laws.specs.Ranges.{IsWholeCopy, IsWholeBase}
 use Rattle.lrc_node_laws.proofs.Whole.{Whole, whole-kept}
 use Rattle.lrc_store.specs.declared.key.Key.{Key}
 use Rattle.lrc_store.specs.Store.{StoredRecord, changes_at}
@@ -135,7 +135,7 @@ module _ (program : Program) (nodes : ℕ) (options : OptionsRecord) (me : ℕ) 
   whole-first : (size : Size) (pages : ℕ) → Whole nodes (words_of size) (fresh_memory nodes pages size)
   unfolding zero_page
   whole-first size pages = record {
-    copies = All-replicate (IsWhole nodes (words_of size)) pages (valid (zero_page size)) (length-replicate (words_of size) 0);
+    copies = All-replicate (IsWholeCopy nodes (words_of size)) pages (valid (zero_page size)) (length-replicate (words_of size) 0);
     bases = All-replicate (IsWholeBase (words_of size)) pages None tt;
   }
 

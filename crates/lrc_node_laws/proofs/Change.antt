@@ -14,7 +14,7 @@ use Rattle.lrc_store.specs.Interval.{IntervalRecord}
 use Rattle.lrc_envelope.specs.Records.{IndexedChangesRecord, ChangesReplyRecord}
 use Rattle.lrc_barrier.specs.Barrier.{ManagerRecord}
 use Rattle.lrc_protocol.specs.Times.{next_time, indices_by, are_between}
-use Rattle.lrc_protocol.specs.Pages.{is_readable, Memory, copy_at, with_word, with_interval, learned, Need, need_of, is_met, mended}
+use Rattle.lrc_protocol.specs.Pages.{is_readable, Memory, copy_at, with_written_word, with_interval, learned, Need, need_of, is_met, mended}
 use Rattle.lrc_protocol.specs.Pages.{awaits_changes, awaits_page, with_changes, with_page, with_part}
 use Rattle.lrc_protocol.specs.Barriers.{with_keepers, kept_pages, collected_at, Collection, clean_memory}
 use Rattle.lrc_protocol.specs.Node.{Wait, nothing, grant, departure, access, upkeep, discard, needs_of, Course, Node}
@@ -102,7 +102,7 @@ pub data Change (v : View) : View → Type 0 where
   -- the text goes on
   moves : (course : Course) → needs_of v.wait ≡ [] → Change v (record v { course = course })
   -- a word is written
-  puts : (word value : ℕ) → v.wait ≡ nothing → Change v (record v { memory = with_word v.size word value v.memory })
+  puts : (word value : ℕ) → v.wait ≡ nothing → Change v (record v { memory = with_written_word v.size word value v.memory })
   -- the open interval is closed
   closes : (wait : Wait) → v.wait ≡ nothing → is_settled wait ≡ true
       → Change v

@@ -18,7 +18,7 @@ use Rattle.lrc_protocol.proofs.Expecting.{fulfilled}
 use Rattle.lrc_envelope.specs.declared.message.Message.TheVariants.{PageReply}
 use Rattle.lrc_order_laws.specs.Waiting.{next_in}
 use Rattle.lrc_node_laws.specs.Needs.{FitsBase, FitsNeed, page_next, ReachesFor}
-use Rattle.lrc_node_laws.specs.Comes.{GoesTo, CanBeRepaired}
+use Rattle.lrc_node_laws.specs.Comes.{GoesToPage, CanBeRepaired}
 use Rattle.lrc_node_laws.specs.Reached.{IsReached}
 use Rattle.lrc_node_laws.proofs.Change.{View, view_of, pages_in, Change, gets_changes, gets_page, reply}
 use Rattle.lrc_node_laws.proofs.Ranges.{Ranged, ranged-kept}
@@ -32,7 +32,7 @@ use Rattle.lrc_node_laws.proofs.Always.{ranged_at, exact_at, needed_at, reaching
 
 -- the next access is of a word of the memory
 goes_to : (size : Size) (words page : ℕ) (o : Option Next) → ((next : Next) → o ≡ Some next → InWords words next) → page_next size o ≡ Some page
-    → GoesTo size words page o
+    → GoesToPage size words page o
 goes_to size words page None k e = cc
 goes_to size words page (Some (reads word after)) k e = (k (reads word after) refl, same_Some (page_of word size) page e)
 goes_to size words page (Some (writes word value after)) k e = (k (writes word value after) refl, same_Some (page_of word size) page e)

@@ -6,7 +6,7 @@ use Rattle.std.proofs.lemmas.List.Elements.{All-nil, All-cons, All-weaker, All-c
 use Rattle.lrc_page.specs.Page.{words_of}
 use Rattle.lrc_store.specs.Store.{IsStore, intervals_of}
 use Rattle.lrc_protocol.specs.Times.{is_named}
-use Rattle.lrc_protocol.specs.Pages.{is_readable, Memory, copy_at, keeper_at, with_word, come, Need, need_of, with_changes, with_page}
+use Rattle.lrc_protocol.specs.Pages.{is_readable, Memory, copy_at, keeper_at, with_written_word, come, Need, need_of, with_changes, with_page}
 use Rattle.lrc_protocol.specs.Pages.{with_part}
 use Rattle.lrc_protocol.specs.Barriers.{kept_pages, with_keepers, clean_memory}
 use Rattle.lrc_protocol.specs.Node.{Wait, upkeep, needs_of}
@@ -69,7 +69,7 @@ pub needed-kept : (v after : View) → Change v after → Ranged v → StoresExa
 needed-kept v _ (receives from numbers) r s h = record { each = h.each; apart = h.apart; kept = h.kept }
 needed-kept v _ (manages before manager e many) r s h = record { each = h.each; apart = h.apart; kept = h.kept }
 needed-kept v _ (moves course n) r s h = record { each = h.each; apart = h.apart; kept = h.kept }
-needed-kept v _ (puts word value w) r s h = idle (record v { memory = with_word v.size word value v.memory }) (ap is_settled w)
+needed-kept v _ (puts word value w) r s h = idle (record v { memory = with_written_word v.size word value v.memory }) (ap is_settled w)
 needed-kept v _ (closes wait w x) r s h = idle _ x
 needed-kept v _ (learns time intervals o news) r s h = idle _ (open-settled v.wait o)
 needed-kept v _ (resumes o) r s h = idle _ refl

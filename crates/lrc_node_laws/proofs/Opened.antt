@@ -10,7 +10,7 @@ use Rattle.lrc_page.specs.Place.{page_of, offset_of}
 use Rattle.lrc_store.specs.Interval.{IntervalRecord}
 use Rattle.lrc_protocol.specs.Times.{is_named}
 use Rattle.lrc_protocol.specs.Pages.{Copy, valid, written, invalid, absent, is_readable, changes_of, after_write, closed, invalidated, dropped}
-use Rattle.lrc_protocol.specs.Pages.{Memory, copy_at, with_word, with_interval, learned, repaired, Need, first_values, mended}
+use Rattle.lrc_protocol.specs.Pages.{Memory, copy_at, with_written_word, with_interval, learned, repaired, Need, first_values, mended}
 use Rattle.lrc_protocol.specs.Barriers.{collected_at, clean_memory}
 use Rattle.lrc_node_laws.specs.Waits.{NoneWritten}
 use Rattle.lrc_node_laws.specs.Opened.{on_page, put, IsMadeBy, AreMadeBy}
@@ -74,7 +74,7 @@ readable-within copies page r =
     (cases_lt page (length copies))
 
 pub puts-made : (size : Size) (memory : Memory) (writes : List (ℕ × ℕ)) (word value : ℕ) → is_readable (copy_at memory (page_of word size)) ≡ true
-    → AreMadeBy size memory writes → AreMadeBy size (with_word size word value memory) (writes ++ (word, value) ∷ [])
+    → AreMadeBy size memory writes → AreMadeBy size (with_written_word size word value memory) (writes ++ (word, value) ∷ [])
 puts-made size memory writes word value r h page =
     let at : ℕ = page_of word size in
     let copy : Copy = after_write (copy_at memory at) (offset_of word size) value in

@@ -16,7 +16,7 @@ use Rattle.lrc_store.proofs.Stores.{intervals_of-added}
 use Rattle.lrc_page.specs.Place.{page_of, offset_of}
 use Rattle.lrc_protocol.specs.Times.{is_named, next_time}
 use Rattle.lrc_protocol.specs.Pages.{Copy, valid, written, invalid, absent, changes_of, after_write, closed, invalidated, Memory, copy_at}
-use Rattle.lrc_protocol.specs.Pages.{with_word, all_changes, closed_interval, with_interval, learned, lacking_in, Need, mended}
+use Rattle.lrc_protocol.specs.Pages.{with_written_word, all_changes, closed_interval, with_interval, learned, lacking_in, Need, mended}
 use Rattle.lrc_protocol.specs.Barriers.{collected_at, clean_memory}
 use Rattle.lrc_node_laws.specs.Ranges.{CollectsAt}
 use Rattle.lrc_node_laws.specs.Stored.{StoresExactly}
@@ -200,7 +200,7 @@ own-kept v _ (receives from numbers) r s h = h
 own-kept v _ (manages before manager e many) r s h = h
 own-kept v _ (moves course n) r s h = h
 own-kept v _ (puts word value w) r s h =
-    own-copies v.setting.me v.time v.memory (with_word v.size word value v.memory) refl s
+    own-copies v.setting.me v.time v.memory (with_written_word v.size word value v.memory) refl s
     (λ index page le x.
     set-copy (HasOwn v.setting.me index) v.memory.copies (page_of word v.size) page _
     (λ y. write-own v.setting.me index (offset_of word v.size) value (copy_at v.memory (page_of word v.size)) y) x) h

@@ -4,7 +4,7 @@ use Rattle.std.specs.Prelude.{None, All, fold, map, if◌then◌else◌}
 use Rattle.std.proofs.lemmas.List.Elements.{All-map, All-set}
 use Rattle.lrc_protocol.specs.Times.{is_named}
 use Rattle.lrc_protocol.specs.Pages.{Copy, valid, written, invalid, absent, changes_of, closed, invalidated, Memory, copy_at, learned}
-use Rattle.lrc_protocol.specs.Pages.{with_word, repaired, Need, mended, first_values}
+use Rattle.lrc_protocol.specs.Pages.{with_written_word, repaired, Need, mended, first_values}
 use Rattle.lrc_protocol.specs.Barriers.{with_base}
 use Rattle.lrc_protocol.specs.Node.{Wait, nothing, grant, departure, access, upkeep, discard}
 use Rattle.lrc_protocol.specs.Turn.{with_needs}
@@ -79,7 +79,7 @@ pub quiet-kept : (v after : View) → Change v after → IsQuiet v.wait v.memory
 quiet-kept v _ (receives from numbers) h = h
 quiet-kept v _ (manages before manager e many) h = h
 quiet-kept v _ (moves course n) h = h
-quiet-kept v _ (puts word value w) h = subst (λ w. IsQuiet w (with_word v.size word value v.memory)) (sym w) tt
+quiet-kept v _ (puts word value w) h = subst (λ w. IsQuiet w (with_written_word v.size word value v.memory)) (sym w) tt
 quiet-kept v _ (closes wait w s) h = settled-quiet wait _ s (closed-none v.memory.copies)
 quiet-kept v _ (learns time intervals o news) h = open-none v.wait v.memory _ o (learned-none v.time intervals v.memory) h
 quiet-kept v _ (resumes o) h = tt

@@ -14,7 +14,7 @@ use Rattle.lrc_store.proofs.Stores.{intervals_of-added}
 use Rattle.lrc_page.specs.Place.{page_of, offset_of}
 use Rattle.lrc_protocol.specs.Times.{is_named, next_time}
 use Rattle.lrc_protocol.specs.Pages.{Copy, valid, written, invalid, absent, after_write, closed, invalidated, dropped, Memory, copy_at}
-use Rattle.lrc_protocol.specs.Pages.{with_word, all_changes, closed_interval, with_interval, learned, Need, mended, with_part}
+use Rattle.lrc_protocol.specs.Pages.{with_written_word, all_changes, closed_interval, with_interval, learned, Need, mended, with_part}
 use Rattle.lrc_protocol.specs.Barriers.{with_keepers, collected_at, clean_memory}
 use Rattle.lrc_node_laws.specs.Stored.{StoresExactly}
 use Rattle.lrc_node_laws.specs.Remembered.{IsBetween}
@@ -177,7 +177,7 @@ between-kept v _ (receives from numbers) r s h = h
 between-kept v _ (manages before manager e many) r s h = h
 between-kept v _ (moves course n) r s h = h
 between-kept v _ (puts word value w) r s h = λ page.
-    let now : Memory = with_word v.size word value v.memory in
+    let now : Memory = with_written_word v.size word value v.memory in
     same v.time v.memory now page (copy_at now page) refl refl
     (set-copy (IsBetween v.time v.memory page) v.memory.copies (page_of word v.size) page _
     (λ x. write-between v.time v.memory page (offset_of word v.size) value (copy_at v.memory (page_of word v.size)) x) (h page))

@@ -13,7 +13,7 @@ use Rattle.lrc_store.specs.Store.{StoreRecord, IsStore, intervals_of, is_missing
 use Rattle.lrc_store.proofs.Orders.{cases_Contains, none_Contains, filter-Contains}
 use Rattle.lrc_envelope.specs.Records.{IndexedChangesRecord}
 use Rattle.lrc_protocol.specs.Pages.{Copy, valid, written, invalid, absent, is_readable, Memory, copy_at, lacking, lacking_in, repaired, Base}
-use Rattle.lrc_protocol.specs.Pages.{unneeded, due, come, Asked, Need, indices_of, some_asked, asked_of, unknown_of, asks, awaits_changes}
+use Rattle.lrc_protocol.specs.Pages.{unneeded, due, come, Asked, Need, indices_of, some_asked, asked_of, unknown_of, asks_just, awaits_changes}
 use Rattle.lrc_protocol.specs.Pages.{is_due_from, awaits_page, with_changes, with_page, first_values, mended, with_part}
 use Rattle.lrc_protocol.specs.Barriers.{with_base, clean_memory}
 use Rattle.lrc_node_laws.specs.Needs.{FitsBase, FitsNeed}
@@ -55,7 +55,7 @@ asked-indices nodes keys =
     (λ maker asked u s. asked-by keys maker (indices_of keys maker) asked refl s) (range_with_len 0 nodes) (λ k d within. tt)
 
 pub asks-just : (keys : List Key) (from : ℕ) (indices : List ℕ) (asked : Asked) → asked.indices ≡ indices_of keys asked.maker
-    → asks from indices asked ≡ true → indices ≡ indices_of keys from
+    → asks_just from indices asked ≡ true → indices ≡ indices_of keys from
 asks-just keys from indices asked is e =
     let parts : _ = and_parts _ _ e in
     sym (same_numbers asked.indices indices parts.1) ∙ is ∙ ap (indices_of keys) (eqb-true asked.maker from parts.0)
@@ -71,7 +71,7 @@ asked-exactly nodes pages words memory needs page from indices h e =
     let here : need.page ≡ page = eqb-true need.page page parts.0 in
     let keys : List Key = unknown_of memory.store need.missing in
     let just : indices ≡ indices_of keys from =
-    any_fits (λ (asked : Asked). asked.indices ≡ indices_of keys asked.maker) (asks from indices) (indices ≡ indices_of keys from)
+    any_fits (λ (asked : Asked). asked.indices ≡ indices_of keys asked.maker) (asks_just from indices) (indices ≡ indices_of keys from)
     (λ asked is e. asks-just keys from indices asked is e) need.asked
     (subst (All (λ (asked : Asked). asked.indices ≡ indices_of keys asked.maker)) (sym fits.asked) (asked-indices nodes keys)) parts.1 in
     just ∙ ap (λ l. indices_of (unknown_of memory.store l) from) (fits.missing ∙ ap (lacking memory) here))

@@ -19,7 +19,7 @@ use Rattle.lrc_time.specs.Time.{entry}
 use Rattle.lrc_protocol.specs.Times.{next_time}
 use Rattle.lrc_protocol.specs.Pages.{Copy, valid, written, invalid, absent, changes_of, Memory, all_changes, closed_interval, with_own}
 use Rattle.lrc_protocol.specs.Pages.{with_part}
-use Rattle.lrc_node_laws.specs.Ranges.{IsWhole}
+use Rattle.lrc_node_laws.specs.Ranges.{IsWholeCopy}
 use Rattle.lrc_node_laws.specs.Sized.{AreInPage, IsSized}
 use Rattle.lrc_node_laws.proofs.Lists.{All-chosen}
 use Rattle.lrc_node_laws.proofs.Change.{View, Change, receives, manages, moves, puts, closes, learns, resumes, begins}
@@ -95,7 +95,7 @@ each-place P start [] h = All-nil (λ place. P place.1)
 each-place P start (x ∷ xs) h =
     All-cons (λ place. P place.1) (start, x) (enumerate_from (start + 1) xs) (All-head P x xs h) (each-place P (start + 1) xs (All-tail P x xs h))
 
-changes-sized : (nodes words : ℕ) (copy : Copy) (changes : List PageChange) → IsWhole nodes words copy → changes_of copy ≡ Some changes
+changes-sized : (nodes words : ℕ) (copy : Copy) (changes : List PageChange) → IsWholeCopy nodes words copy → changes_of copy ≡ Some changes
     → AreInPage words changes
 changes-sized nodes words (written values twin) changes h e =
     subst (AreInPage words) (same_Some (changes_between twin values) changes e)
@@ -105,19 +105,19 @@ changes-sized nodes words (invalid values since) changes h e = cc
 changes-sized nodes words absent changes h e = cc
 
 place-sized : (nodes words : ℕ) (place : ℕ × Copy) (page : ℕ × List PageChange) (o : Option (List PageChange)) → changes_of place.1 ≡ o
-    → IsWhole nodes words place.1
+    → IsWholeCopy nodes words place.1
     → option_map (λ changes. (place.0, changes)) o ≡ Some page → AreInPage words page.1
 place-sized nodes words place page None c h e = cc
 place-sized nodes words place page (Some changes) c h e =
     subst (λ (p : ℕ × List PageChange). AreInPage words p.1) (same_Some (place.0, changes) page e) (changes-sized nodes words place.1 changes h c)
 
-pub all_changes-sized : (nodes words : ℕ) (memory : Memory) → All (IsWhole nodes words) memory.copies
+pub all_changes-sized : (nodes words : ℕ) (memory : Memory) → All (IsWholeCopy nodes words) memory.copies
     → All (λ (page : ℕ × List PageChange). AreInPage words page.1) (all_changes memory)
 all_changes-sized nodes words memory h =
-    All-chosen (λ (place : ℕ × Copy). IsWhole nodes words place.1) (λ (page : ℕ × List PageChange). AreInPage words page.1)
+    All-chosen (λ (place : ℕ × Copy). IsWholeCopy nodes words place.1) (λ (page : ℕ × List PageChange). AreInPage words page.1)
     (λ place. option_map (λ changes. (place.0, changes)) (changes_of place.1))
     (λ place page w e. place-sized nodes words place page (changes_of place.1) refl w e)
-    (enumerate_from 0 memory.copies) (each-place (IsWhole nodes words) 0 memory.copies h)
+    (enumerate_from 0 memory.copies) (each-place (IsWholeCopy nodes words) 0 memory.copies h)
 
 -- ---- every change
 

@@ -14,9 +14,9 @@ use Rattle.lrc_envelope.specs.declared.message.Message.{Message}
 use Rattle.lrc_protocol.specs.Barriers.{collected_at}
 use Rattle.lrc_protocol.specs.Node.{Letter, Wait, nothing, access, Course, going, trapped, ended, deed_of, cost_of, Node, Effect, value_read}
 use Rattle.lrc_protocol.specs.Node.{acts, acts_by, with_memory, waiting, own_index}
-use Rattle.lrc_protocol.specs.Turn.{is_learnable, closes, charged, learns, TurnRecord, taking}
+use Rattle.lrc_protocol.specs.Turn.{is_learnable, after_close, charged, learns, TurnRecord, taking}
 use Rattle.lrc_protocol.specs.Run.{Input}
-use Rattle.lrc_protocol.specs.Rules.{take_request, Accesses, access_read, access_write, RunRule, run_hit, run_miss, run_repair, run_acquire}
+use Rattle.lrc_protocol.specs.Rules.{take_request, AccessesNext, access_read, access_write, RunRule, run_hit, run_miss, run_repair, run_acquire}
 use Rattle.lrc_protocol.specs.Rules.{run_ask, run_release, run_barrier, run_other, TakeRule, take_forward, take_token, take_arrive}
 use Rattle.lrc_protocol.specs.Rules.{take_last_arrive, take_depart, take_collect, take_collect_at_once, take_reply, take_last_reply}
 use Rattle.lrc_protocol.specs.Rules.{take_kept_reply, take_last_kept_reply, take_clean, take_last_clean, take_discard, take_changes_request}
@@ -85,7 +85,7 @@ access_one (Some (departs after)) e = cc
 access_one (Some (traps cause)) e = cc
 access_one (Some ends) e = cc
 
-access_costs : (next : Next) (word : ℕ) → Accesses next word → cost_of next ≡ 1
+access_costs : (next : Next) (word : ℕ) → AccessesNext next word → cost_of next ≡ 1
 access_costs next word (access_read w after) = refl
 access_costs next word (access_write w value after) = refl
 
@@ -99,7 +99,7 @@ set_most time me k =
     omega (arith, none))
     (cases_lt me (length time))
 
-ticked : (node : Node) → own_index (closes node) ≤ own_index node + 1
+ticked : (node : Node) → own_index (after_close node) ≤ own_index node + 1
 ticked node = set_most node.locks.time node.setting.me (own_index node + 1)
 
 module _ (most : ℕ) where

@@ -13,14 +13,14 @@ use Rattle.lrc_envelope.specs.declared.message.Message.{Message}
 use Rattle.lrc_envelope.specs.declared.message.Message.TheVariants.{LockGrant, Depart, PageReply}
 use Rattle.lrc_barrier.specs.Barrier.{ManagerRecord}
 use Rattle.lrc_protocol.specs.Times.{next_time}
-use Rattle.lrc_protocol.specs.Pages.{is_readable, Memory, copy_at, with_word, with_interval, learned, Need, need_of, is_met, mended}
+use Rattle.lrc_protocol.specs.Pages.{is_readable, Memory, copy_at, with_written_word, with_interval, learned, Need, need_of, is_met, mended}
 use Rattle.lrc_protocol.specs.Pages.{with_changes, with_page, with_part}
 use Rattle.lrc_protocol.specs.Barriers.{with_keepers, collected_at, Collection, clean_memory, arrival_in}
 use Rattle.lrc_protocol.specs.Node.{Letter, Wait, nothing, grant, departure, access, upkeep, discard, needs_of, Course, going, trapped, ended}
 use Rattle.lrc_protocol.specs.Node.{Node, Effect, makes, acts, acts_by, with_memory, waiting}
 use Rattle.lrc_protocol.specs.Turn.{with_needs, is_expected, charged, TurnRecord, Outcome, done, not_ready, unexpected, worn, taking, is_repeat}
 use Rattle.lrc_protocol.specs.Run.{Input, run, taken as taken_in, outcome_of}
-use Rattle.lrc_protocol.specs.Rules.{take_request, IsReadyFor, Accesses, IsDeparture, Brings as Replies, brings_changes, brings_base_copy}
+use Rattle.lrc_protocol.specs.Rules.{take_request, IsReadyFor, AccessesNext, IsDepartureDue, Brings as Replies, brings_changes, brings_base_copy}
 use Rattle.lrc_protocol.specs.Rules.{page_at, need_at, keeping, collection_at, upkeep_at, RunRule, run_hit, run_miss, run_repair, run_acquire}
 use Rattle.lrc_protocol.specs.Rules.{run_ask, run_release, run_barrier, run_other, TakeRule, take_forward, take_token, take_arrive}
 use Rattle.lrc_protocol.specs.Rules.{take_last_arrive, take_depart, take_collect, take_collect_at_once, take_reply, take_last_reply}
@@ -99,7 +99,7 @@ pub data First (came : Came) (v : View) : View → Type 0 where
 -- what may follow in the same turn
 pub data Later (v : View) : View → Type 0 where
   moves : (course : Course) → needs_of v.wait ≡ [] → Later v (record v { course = course })
-  puts : (word value : ℕ) → v.wait ≡ nothing → Later v (record v { memory = with_word v.size word value v.memory })
+  puts : (word value : ℕ) → v.wait ≡ nothing → Later v (record v { memory = with_written_word v.size word value v.memory })
   cleans : (collection : Collection) (needs : List Need) → v.wait ≡ upkeep collection needs → list_all is_met needs ≡ true
       → Later v (record v { wait = discard collection; memory = clean_memory needs collection.kept v.memory })
   mends : (need : Need) → v.wait ≡ access need → is_met need ≡ true
@@ -173,7 +173,7 @@ module _ (came : Came) (node : Node) where
 
   -- ---- by itself
 
-  misses-at : (next : Next) (word : ℕ) → TextIs node.setting node.course → IsReadyFor node next → Accesses next word
+  misses-at : (next : Next) (word : ℕ) → TextIs node.setting node.course → IsReadyFor node next → AccessesNext next word
       → is_readable (copy_at node.memory (page_at node word)) ≡ false
       → First came (view_of node) (view_of (waiting (access (need_at node (page_at node word))) node))
   misses-at next word text r a away =
@@ -207,7 +207,7 @@ module _ (node : Node) (from : ℕ) where
       gets message memory change (brings_base_copy m lt counted some) =
           gets_page from m refl (record { in_range = lt; whole = counted; asked = some })
 
-  begins-at : (m : DepartRecord) → IsDeparture node from m
+  begins-at : (m : DepartRecord) → IsDepartureDue node from m
       → First (comes from (Depart m)) (view_of node) (view_of (waiting (upkeep (collection_at node m) (upkeep_at node m)) (keeping node m)))
   begins-at m d =
       begins m.time m.intervals d.awaited d.above (news node m.time m.intervals d.learnable)

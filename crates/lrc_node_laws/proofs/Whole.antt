@@ -13,7 +13,7 @@ use Rattle.lrc_protocol.specs.Pages.{Memory, copy_at, keeper_at, changes_or_none
 use Rattle.lrc_protocol.specs.Pages.{first_values, mended}
 use Rattle.lrc_protocol.specs.Barriers.{with_base, clean_memory}
 use Rattle.lrc_protocol.specs.Node.{upkeep, needs_of}
-use Rattle.lrc_node_laws.specs.Ranges.{IsWhole, IsWholeBase}
+use Rattle.lrc_node_laws.specs.Ranges.{IsWholeCopy, IsWholeBase}
 use Rattle.lrc_node_laws.specs.Needs.{FitsBase, FitsNeed, FitsKept}
 use Rattle.lrc_node_laws.proofs.Tests.{each_passes}
 use Rattle.lrc_node_laws.proofs.Lists.{All-placed}
@@ -26,44 +26,44 @@ use Rattle.lrc_node_laws.proofs.Change.{begins, cleans, discards, misses, mends,
 
 -- ---- one copy
 
-whole-at : (nodes words : ℕ) (copies : List Copy) (page : ℕ) → All (IsWhole nodes words) copies → IsWhole nodes words (slice_index_or copies page absent)
+whole-at : (nodes words : ℕ) (copies : List Copy) (page : ℕ) → All (IsWholeCopy nodes words) copies → IsWholeCopy nodes words (slice_index_or copies page absent)
 whole-at nodes words copies page h =
     ⊎_elim
-    (λ (lt : page < length copies). All-get_or (IsWhole nodes words) copies page absent lt h)
-    (λ (le : length copies ≤ page). subst (IsWhole nodes words) (sym (get_or_past copies page absent le)) tt)
+    (λ (lt : page < length copies). All-get_or (IsWholeCopy nodes words) copies page absent lt h)
+    (λ (le : length copies ≤ page). subst (IsWholeCopy nodes words) (sym (get_or_past copies page absent le)) tt)
     (cases_lt page (length copies))
 
-write-whole : (nodes words offset value : ℕ) (copy : Copy) → IsWhole nodes words copy → IsWhole nodes words (after_write copy offset value)
+write-whole : (nodes words offset value : ℕ) (copy : Copy) → IsWholeCopy nodes words copy → IsWholeCopy nodes words (after_write copy offset value)
 write-whole nodes words offset value (valid values) h = (length-set values offset value ∙ h, h)
 write-whole nodes words offset value (written values twin) h = (length-set values offset value ∙ h.0, h.1)
 write-whole nodes words offset value (invalid values since) h = h
 write-whole nodes words offset value absent h = tt
 
-closed-whole : (nodes words : ℕ) (copy : Copy) → IsWhole nodes words copy → IsWhole nodes words (closed copy)
+closed-whole : (nodes words : ℕ) (copy : Copy) → IsWholeCopy nodes words copy → IsWholeCopy nodes words (closed copy)
 closed-whole nodes words (valid values) h = h
 closed-whole nodes words (written values twin) h = h.0
 closed-whole nodes words (invalid values since) h = h
 closed-whole nodes words absent h = tt
 
-invalidated-whole : (nodes words : ℕ) (before : List ℕ) (copy : Copy) → length before ≡ nodes → IsWhole nodes words copy
-    → IsWhole nodes words (invalidated before copy)
+invalidated-whole : (nodes words : ℕ) (before : List ℕ) (copy : Copy) → length before ≡ nodes → IsWholeCopy nodes words copy
+    → IsWholeCopy nodes words (invalidated before copy)
 invalidated-whole nodes words before (valid values) long h = (h, long)
 invalidated-whole nodes words before (written values twin) long h = h
 invalidated-whole nodes words before (invalid values since) long h = h
 invalidated-whole nodes words before absent long h = tt
 
-invalidated_if : (nodes words : ℕ) (before : List ℕ) (b : Bool) (copy : Copy) → length before ≡ nodes → IsWhole nodes words copy
-    → IsWhole nodes words (if b then invalidated before copy else copy)
+invalidated_if : (nodes words : ℕ) (before : List ℕ) (b : Bool) (copy : Copy) → length before ≡ nodes → IsWholeCopy nodes words copy
+    → IsWholeCopy nodes words (if b then invalidated before copy else copy)
 invalidated_if nodes words before true copy long h = invalidated-whole nodes words before copy long h
 invalidated_if nodes words before false copy long h = h
 
-dropped-whole : (nodes words : ℕ) (copy : Copy) → IsWhole nodes words copy → IsWhole nodes words (dropped copy)
+dropped-whole : (nodes words : ℕ) (copy : Copy) → IsWholeCopy nodes words copy → IsWholeCopy nodes words (dropped copy)
 dropped-whole nodes words (valid values) h = h
 dropped-whole nodes words (written values twin) h = h
 dropped-whole nodes words (invalid values since) h = tt
 dropped-whole nodes words absent h = tt
 
-pub readable-long : (nodes words : ℕ) (copy : Copy) → is_readable copy ≡ true → IsWhole nodes words copy → length (values_of copy) ≡ words
+pub readable-long : (nodes words : ℕ) (copy : Copy) → is_readable copy ≡ true → IsWholeCopy nodes words copy → length (values_of copy) ≡ words
 readable-long nodes words (valid values) r h = h
 readable-long nodes words (written values twin) r h = h.0
 readable-long nodes words (invalid values since) r h = cc
@@ -76,7 +76,7 @@ base_if words false base h = tt
 -- ---- pages are mended
 
 -- what a need has come with is a page long
-pub first-long : (nodes words : ℕ) (copy : Copy) (base : Base) → FitsBase nodes words copy base → is_due base ≡ false → IsWhole nodes words copy
+pub first-long : (nodes words : ℕ) (copy : Copy) (base : Base) → FitsBase nodes words copy base → is_due base ≡ false → IsWholeCopy nodes words copy
     → length (first_values copy base) ≡ words
 first-long nodes words absent (come values) f d h = f
 first-long nodes words absent (due keeper) f d h = cc
@@ -100,9 +100,9 @@ mended-long words memory need h =
     length-fold-applied (first_values (copy_at memory need.page) need.base) (map (changes_or_none memory.store) need.missing) ∙ h
 
 mended-whole : (nodes words : ℕ) (memory : Memory) (need : Need) → length (first_values (copy_at memory need.page) need.base) ≡ words
-    → All (IsWhole nodes words) memory.copies → All (IsWhole nodes words) (mended memory need).copies
+    → All (IsWholeCopy nodes words) memory.copies → All (IsWholeCopy nodes words) (mended memory need).copies
 mended-whole nodes words memory need long h =
-    All-set (IsWhole nodes words) memory.copies need.page (valid (repaired memory.store (first_values (copy_at memory need.page) need.base) need.missing))
+    All-set (IsWholeCopy nodes words) memory.copies need.page (valid (repaired memory.store (first_values (copy_at memory need.page) need.base) need.missing))
     (mended-long words memory need long) h
 
 -- of the copy at a place, once another place is written
@@ -132,7 +132,7 @@ other-long words memory need other h g =
 
 mends-whole : (nodes words : ℕ) (needs : List Need) (memory : Memory)
     → All (λ (need : Need). length (first_values (copy_at memory need.page) need.base) ≡ words) needs
-    → All (IsWhole nodes words) memory.copies → All (IsWhole nodes words) (fold mended memory needs).copies
+    → All (IsWholeCopy nodes words) memory.copies → All (IsWholeCopy nodes words) (fold mended memory needs).copies
 mends-whole nodes words [] memory f h = h
 mends-whole nodes words (need ∷ needs) memory f h =
     let P : Need → Type 0 = λ need. length (first_values (copy_at memory need.page) need.base) ≡ words in
@@ -157,14 +157,14 @@ mends-bases (need ∷ needs) memory = mends-bases needs (mended memory need)
 -- ---- every change
 
 pub record Whole (nodes words : ℕ) (memory : Memory) : Type 0 where
-  pub copies : All (IsWhole nodes words) memory.copies
+  pub copies : All (IsWholeCopy nodes words) memory.copies
   pub bases : All (IsWholeBase words) memory.bases
 
 met-base : (need : Need) → is_met need ≡ true → is_due need.base ≡ false
 met-base need e = not-true (is_due need.base) (and_parts _ _ e).0
 
 -- what is met begins with a page
-pub met-long : (nodes pages words : ℕ) (memory : Memory) (need : Need) → All (IsWhole nodes words) memory.copies → FitsNeed nodes pages words memory need
+pub met-long : (nodes pages words : ℕ) (memory : Memory) (need : Need) → All (IsWholeCopy nodes words) memory.copies → FitsNeed nodes pages words memory need
     → is_met need ≡ true → length (first_values (copy_at memory need.page) need.base) ≡ words
 met-long nodes pages words memory need h f e =
     first-long nodes words (copy_at memory need.page) need.base f.base (met-base need e) (whole-at nodes words memory.copies need.page h)
@@ -176,21 +176,21 @@ whole-kept v _ (manages before manager e many) r n h = h
 whole-kept v _ (moves course e) r n h = h
 whole-kept v _ (puts word value w) r n h = record {
   copies =
-      All-set (IsWhole v.setting.nodes (words_of v.size)) v.memory.copies (page_of word v.size) _
+      All-set (IsWholeCopy v.setting.nodes (words_of v.size)) v.memory.copies (page_of word v.size) _
       (write-whole v.setting.nodes (words_of v.size) (offset_of word v.size) value (copy_at v.memory (page_of word v.size))
       (whole-at v.setting.nodes (words_of v.size) v.memory.copies (page_of word v.size) h.copies)) h.copies;
   bases = h.bases;
 }
 whole-kept v _ (closes wait w s) r n h = record {
   copies =
-      All-map (IsWhole v.setting.nodes (words_of v.size)) closed v.memory.copies
-      (All-weaker (IsWhole v.setting.nodes (words_of v.size)) (λ copy. IsWhole v.setting.nodes (words_of v.size) (closed copy))
+      All-map (IsWholeCopy v.setting.nodes (words_of v.size)) closed v.memory.copies
+      (All-weaker (IsWholeCopy v.setting.nodes (words_of v.size)) (λ copy. IsWholeCopy v.setting.nodes (words_of v.size) (closed copy))
       (λ copy x. closed-whole v.setting.nodes (words_of v.size) copy x) v.memory.copies h.copies);
   bases = h.bases;
 }
 whole-kept v _ (learns time intervals o news) r n h = record {
   copies =
-      All-placed (IsWhole v.setting.nodes (words_of v.size)) (IsWhole v.setting.nodes (words_of v.size))
+      All-placed (IsWholeCopy v.setting.nodes (words_of v.size)) (IsWholeCopy v.setting.nodes (words_of v.size))
       (λ place. if is_named intervals place.0 then invalidated v.time place.1 else place.1)
       (λ page copy x. invalidated_if v.setting.nodes (words_of v.size) v.time (is_named intervals page) copy r.time x) 0 v.memory.copies h.copies;
   bases = h.bases;
@@ -203,7 +203,7 @@ whole-kept v _ (cleans collection needs w met) r n h =
     let each : All (FitsNeed nodes (pages_in v) words v.memory) needs = subst (λ w. All (FitsNeed nodes (pages_in v) words v.memory) (needs_of w)) w n.each in
     let kept : FitsKept v.setting.me v.memory (upkeep collection needs) = subst (FitsKept v.setting.me v.memory) w n.kept in
     let came : All (λ (need : Need). is_met need ≡ true) needs = each_passes is_met (λ need. is_met need ≡ true) (λ need e. e) needs met in
-    let copies : All (IsWhole nodes words) (fold mended v.memory needs).copies =
+    let copies : All (IsWholeCopy nodes words) (fold mended v.memory needs).copies =
     mends-whole nodes words needs v.memory
     (λ k d within. met-long nodes (pages_in v) words v.memory (slice_index_or needs k d) h.copies (each k d within) (came k d within)) h.copies in
     let below : All (λ page. page < pages_in v) collection.kept =
@@ -211,7 +211,7 @@ whole-kept v _ (cleans collection needs w met) r n h =
     let same : (clean_memory needs collection.kept v.memory).copies ≡ (fold mended v.memory needs).copies =
     bases-copies collection.kept (fold mended v.memory needs) in
     record {
-      copies = subst (All (IsWhole nodes words)) (sym same) copies;
+      copies = subst (All (IsWholeCopy nodes words)) (sym same) copies;
       bases =
           bases-whole words collection.kept (fold mended v.memory needs)
           (λ k d within.
@@ -225,8 +225,8 @@ whole-kept v _ (cleans collection needs w met) r n h =
     }
 whole-kept v _ (discards collection w) r n h = record {
   copies =
-      All-map (IsWhole v.setting.nodes (words_of v.size)) dropped v.memory.copies
-      (All-weaker (IsWhole v.setting.nodes (words_of v.size)) (λ copy. IsWhole v.setting.nodes (words_of v.size) (dropped copy))
+      All-map (IsWholeCopy v.setting.nodes (words_of v.size)) dropped v.memory.copies
+      (All-weaker (IsWholeCopy v.setting.nodes (words_of v.size)) (λ copy. IsWholeCopy v.setting.nodes (words_of v.size) (dropped copy))
       (λ copy x. dropped-whole v.setting.nodes (words_of v.size) copy x) v.memory.copies h.copies);
   bases =
       All-placed (IsWholeBase (words_of v.size)) (IsWholeBase (words_of v.size))

@@ -8,7 +8,7 @@ use Rattle.lrc_lang.specs.declared.program.Statement.TheVariants.{Assign, Read, 
 use Rattle.lrc_trace.specs.declared.act.Cause.{Cause}
 use Rattle.lrc_trace.specs.declared.act.Cause.TheVariants.{WordOutOfRange, LockOutOfRange, LockHeld, LockNotHeld}
 use Rattle.lrc_exec.specs.Meaning.{Setting, Thread, Next, reads, writes, acquires, releases, departs, traps}
-use Rattle.lrc_exec.specs.Meaning.{or_trap, value_in, holds, then_holds, act_of, first_act, next_of}
+use Rattle.lrc_exec.specs.Meaning.{or_trap, value_in, holds, then_holds, next_of_statement, first_act, next_of}
 use Rattle.lrc_page.specs.declared.size.Size.{Size}
 use Rattle.lrc_page.specs.declared.size.Size.TheVariants.{Words64, Words256}
 use Rattle.lrc_page.specs.Place.{page_of, pages_of}
@@ -40,7 +40,7 @@ release-in : (t : Thread) (b : Bool) (l : ℕ) (rest : List Statement)
 release-in t true l rest = tt
 release-in t false l rest = tt
 
-statement-in : (t : Thread) (s : Statement) (rest : List Statement) → InWords t.setting.words (act_of t s rest)
+statement-in : (t : Thread) (s : Statement) (rest : List Statement) → InWords t.setting.words (next_of_statement t s rest)
 statement-in t (Assign name value) rest = or_trap-in _ (value_in t value) _ (λ v. tt)
 statement-in t (Read name word) rest =
     or_trap-in _ (value_in t word) _ (λ w. below-in _ (nat_lt w t.setting.words) WordOutOfRange _ (λ b. ltb-true w t.setting.words b))

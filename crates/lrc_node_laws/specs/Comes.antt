@@ -10,10 +10,10 @@ use Rattle.lrc_order_laws.specs.Waiting.{next_in}
 use Rattle.lrc_node_laws.specs.Needs.{FitsBase}
 
 -- the text accesses a word of the memory next, on this page
-abbrev pub GoesTo : Size → ℕ → ℕ → Option Next → Type 0
-GoesTo size words page (Some (reads word after)) = (word < words) × (page_of word size ≡ page)
-GoesTo size words page (Some (writes word value after)) = (word < words) × (page_of word size ≡ page)
-GoesTo size words page _ = ⊥
+abbrev pub GoesToPage : Size → ℕ → ℕ → Option Next → Type 0
+GoesToPage size words page (Some (reads word after)) = (word < words) × (page_of word size ≡ page)
+GoesToPage size words page (Some (writes word value after)) = (word < words) × (page_of word size ≡ page)
+GoesToPage size words page _ = ⊥
 
 -- the page is one of the memory's; its base copy is due, or has come, just where the copy is absent; its keys are of it; and the
 -- text's next access is on it
@@ -21,4 +21,4 @@ pub record CanBeRepaired (node : Node) (need : Need) : Type 0 where
   pub page : need.page < length node.memory.copies
   pub base : FitsBase node.setting.nodes (words_of node.options.size) (copy_at node.memory need.page) need.base
   pub of_page : All (λ key. key.page ≡ need.page) need.missing
-  pub next : GoesTo node.options.size node.setting.words need.page (next_in node.course)
+  pub next : GoesToPage node.options.size node.setting.words need.page (next_in node.course)

@@ -25,11 +25,11 @@ pub record HasRanges (nodes pages : ℕ) (memory : Memory) : Type 0 where
   pub intervals : All (InRange nodes pages) (intervals_of memory.store)
 
 -- the values and the twin of a copy are a page long, and a remembered time has an entry for each node
-abbrev pub IsWhole : ℕ → ℕ → Copy → Type 0
-IsWhole nodes words (valid values) = length values ≡ words
-IsWhole nodes words (written values twin) = (length values ≡ words) × (length twin ≡ words)
-IsWhole nodes words (invalid values since) = (length values ≡ words) × (length since ≡ nodes)
-IsWhole nodes words absent = Unit {0}
+abbrev pub IsWholeCopy : ℕ → ℕ → Copy → Type 0
+IsWholeCopy nodes words (valid values) = length values ≡ words
+IsWholeCopy nodes words (written values twin) = (length values ≡ words) × (length twin ≡ words)
+IsWholeCopy nodes words (invalid values since) = (length values ≡ words) × (length since ≡ nodes)
+IsWholeCopy nodes words absent = Unit {0}
 
 -- a base copy that is kept is a page long
 abbrev pub IsWholeBase : ℕ → Option (List ℕ) → Type 0

@@ -17,7 +17,7 @@ ghost use Rattle.lrc_node_laws.specs.Needs.{FitsNeed, FitsKept, ReachesFor};
 ghost use Rattle.lrc_node_laws.specs.Opened.{AreMadeBy, open_in, open_writes};
 ghost use Rattle.lrc_protocol.specs.Follows.{deeds_in};
 ghost use Rattle.lrc_node_laws.specs.Own.{OwnAttached, OwnCopied};
-ghost use Rattle.lrc_node_laws.specs.Ranges.{InRange, HasRanges, CollectsAt, HasManager, IsWhole, IsWholeBase};
+ghost use Rattle.lrc_node_laws.specs.Ranges.{InRange, HasRanges, CollectsAt, HasManager, IsWholeCopy, IsWholeBase};
 ghost use Rattle.lrc_node_laws.specs.Reached.{IsReached, LeadsTo};
 ghost use Rattle.lrc_node_laws.specs.Remembered.{IsBetween};
 ghost use Rattle.lrc_node_laws.specs.Sized.{IsSized};
@@ -149,7 +149,7 @@ pub fn replies_are_of_unread_notices()
 /// At a node that is reached each copy, twin and base copy is a page long, each remembered time has an entry for each node, and
 /// all changes that are known are of words of a page.
 pub fn copies_are_whole()
-    ensures copies { (node : Node) → IsReached node → All (IsWhole node.setting.nodes (words_of node.options.size)) node.memory.copies }
+    ensures copies { (node : Node) → IsReached node → All (IsWholeCopy node.setting.nodes (words_of node.options.size)) node.memory.copies }
     ensures bases { (node : Node) → IsReached node → All (IsWholeBase (words_of node.options.size)) node.memory.bases }
     ensures changes { (node : Node) → IsReached node → All (IsSized (words_of node.options.size)) node.memory.store.entries }
 {}

@@ -9,7 +9,7 @@ use Rattle.lrc_trace.specs.declared.act.Cause.{Cause}
 use Rattle.lrc_trace.specs.declared.act.Cause.TheVariants.{WordOutOfRange, LockOutOfRange, LockHeld, LockNotHeld}
 use Rattle.lrc_trace.specs.declared.act.Deed.{Deed}
 use Rattle.lrc_exec.specs.Meaning.{Thread, Next, quiet, prints, reads, writes, acquires, releases, arrives, departs, traps}
-use Rattle.lrc_exec.specs.Meaning.{ends, or_trap, value_in, holds, then_holds, act_of, first_act, next_of}
+use Rattle.lrc_exec.specs.Meaning.{ends, or_trap, value_in, holds, then_holds, next_of_statement, first_act, next_of}
 use Rattle.lrc_protocol.specs.Node.{Course, going, trapped, ended, thread_of, course_of}
 use Rattle.lrc_order_laws.specs.Waiting.{next_in}
 use Rattle.lrc_order_laws.proofs.Shift.{Acted, course_in}
@@ -72,7 +72,7 @@ release-leads : (t : Thread) (b : Bool) (l : ℕ) (rest : List Statement) → ho
 release-leads t true l rest e lt = record { lock_below = lt; holding = e; setting = refl; held = refl }
 release-leads t false l rest e lt = tt
 
-statement-leads : (t : Thread) (s : Statement) (rest : List Statement) → Leads t (act_of t s rest)
+statement-leads : (t : Thread) (s : Statement) (rest : List Statement) → Leads t (next_of_statement t s rest)
 statement-leads t (Assign name value) rest = or_trap-leads t (value_in t value) _ (λ v. same t _ refl refl)
 statement-leads t (Read name word) rest =
     or_trap-leads t (value_in t word) _ (λ w. below-leads t (nat_lt w t.setting.words) WordOutOfRange _ (λ b v. same t _ refl refl))

@@ -27,7 +27,7 @@ use Rattle.lrc_protocol.specs.Turn.{letter, forward_to, grants_of, own_news, ask
 use Rattle.lrc_protocol.specs.Turn.{page_request_of, requests_of, are_arriving, charged, TurnRecord, Outcome, done, not_ready, unexpected, worn}
 use Rattle.lrc_protocol.specs.Turn.{taking, is_repeat, empty_turn}
 use Rattle.lrc_protocol.specs.Run.{Input, run, taken as taken_in, outcome_of}
-use Rattle.lrc_protocol.specs.Rules.{take_request, IsReadyFor, page_at, need_at, closed_for, IsDeparture, Brings, brings_changes}
+use Rattle.lrc_protocol.specs.Rules.{take_request, IsReadyFor, page_at, need_at, closed_for, IsDepartureDue, Brings, brings_changes}
 use Rattle.lrc_protocol.specs.Rules.{brings_base_copy, RunRule, run_hit, run_miss, run_repair, run_acquire, run_ask, run_release, run_barrier}
 use Rattle.lrc_protocol.specs.Rules.{run_other, TakeRule, take_forward, take_token, take_arrive, take_last_arrive, take_depart, take_collect}
 use Rattle.lrc_protocol.specs.Rules.{take_collect_at_once, collection_at, upkeep_at, take_reply, take_last_reply, take_kept_reply}
@@ -287,7 +287,7 @@ arriving-time node from time intervals e =
     let time_is : _ = and_parts _ _ news.0 in
     eqb-true _ _ time_is.0
 
-accepted : (node : Node) (from : ℕ) (m : DepartRecord) → IsDeparture node from m → Accepted (site_of node) from m
+accepted : (node : Node) (from : ℕ) (m : DepartRecord) → IsDepartureDue node from m → Accepted (site_of node) from m
 accepted node from m d = record {
   wait = d.awaited;
   from_manager = d.from_manager;

@@ -21,7 +21,7 @@ use Rattle.lrc_protocol.specs.Node.{envelope_of, numbered, Letter, Wait, nothing
 use Rattle.lrc_protocol.specs.Node.{trapped, ended, deed_of, course_of, Node, Effect, sends, acts, acts_by, value_read}
 use Rattle.lrc_protocol.specs.Turn.{is_learnable, charged, TurnRecord, Outcome, done, not_ready, unexpected, worn, taking}
 use Rattle.lrc_protocol.specs.Run.{Input, outcome_of}
-use Rattle.lrc_protocol.specs.Rules.{take_request, IsReadyFor, Accesses, access_read, access_write, IsOwn, own_quiet, own_print, own_trap}
+use Rattle.lrc_protocol.specs.Rules.{take_request, IsReadyFor, AccessesNext, access_read, access_write, IsOwn, own_quiet, own_print, own_trap}
 use Rattle.lrc_protocol.specs.Rules.{own_end, RunRule, run_hit, run_miss, run_repair, run_acquire, run_ask, run_release, run_barrier, run_other}
 use Rattle.lrc_protocol.specs.Rules.{TakeRule, take_forward, take_token, take_arrive, take_last_arrive, take_depart, take_collect}
 use Rattle.lrc_protocol.specs.Rules.{take_collect_at_once, collection_at, upkeep_at, take_reply, take_last_reply, take_kept_reply}
@@ -173,7 +173,7 @@ idle p b w locks episode e s = subst (λ w. Shift p b w locks episode) (sym e) s
 pub next-ready : (node : Node) (next : Next) → IsReadyFor node next → next_in node.course ≡ Some next
 next-ready node next r = ap next_in r.goes ∙ ap Some r.next_is
 
-pub access-plain : (next : Next) (word : ℕ) → Accesses next word → (is_plain next ≡ true) × (is_access (Some next) ≡ true)
+pub access-plain : (next : Next) (word : ℕ) → AccessesNext next word → (is_plain next ≡ true) × (is_access (Some next) ≡ true)
 access-plain next word (access_read w after) = (refl, refl)
 access-plain next word (access_write w value after) = (refl, refl)
 

@@ -7,7 +7,7 @@ use Rattle.lrc_trace.specs.declared.act.Cause.{Cause}
 use Rattle.lrc_trace.specs.declared.act.Cause.TheVariants.{WordOutOfRange, LockOutOfRange, LockHeld, LockNotHeld}
 use Rattle.lrc_trace.specs.declared.act.Deed.{Deed}
 use Rattle.lrc_exec.specs.Meaning.{Thread, Next, quiet, prints, reads, writes, acquires, releases, arrives, departs, traps}
-use Rattle.lrc_exec.specs.Meaning.{ends, or_trap, value_in, holds, then_holds, act_of, first_act, next_of}
+use Rattle.lrc_exec.specs.Meaning.{ends, or_trap, value_in, holds, then_holds, next_of_statement, first_act, next_of}
 use Rattle.lrc_protocol.specs.Locks.{Locks}
 use Rattle.lrc_protocol.specs.Node.{Course, going, trapped, ended, course_of, Wait, grant, departure, access, upkeep, discard}
 use Rattle.lrc_protocol.specs.Run.{Local}
@@ -55,7 +55,7 @@ release-leads : (t : Thread) (b : Bool) (l : ℕ) (rest : List Statement) → t.
 release-leads t true l rest e = e
 release-leads t false l rest e = tt
 
-statement-leads : (t : Thread) (s : Statement) (rest : List Statement) → t.arrived ≡ false → Leads (act_of t s rest)
+statement-leads : (t : Thread) (s : Statement) (rest : List Statement) → t.arrived ≡ false → Leads (next_of_statement t s rest)
 statement-leads t (Assign name value) rest e = or_trap-leads (value_in t value) _ (λ v. e)
 statement-leads t (Read name word) rest e =
     or_trap-leads (value_in t word) _ (λ w. below-leads (nat_lt w t.setting.words) WordOutOfRange _ (λ v. e))

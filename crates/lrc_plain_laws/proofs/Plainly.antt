@@ -14,7 +14,7 @@ use Rattle.lrc_trace.specs.Synchronization.{IsWellSynchronized}
 use Rattle.lrc_trace.proofs.Positions.{Does-one_node, Does-one_deed, Does-within}
 use Rattle.lrc_trace.proofs.Intervals.{act_at}
 use Rattle.lrc_exec.specs.Meaning.{Thread, Next, quiet, prints, reads, writes, acquires, releases, arrives, departs, traps, ends, next_of}
-use Rattle.lrc_exec.specs.Plain.{Plain, is_free, all_arrived, deed_of, thread_in, plain_step, plain_from, plain, plain_start}
+use Rattle.lrc_exec.specs.Plain.{Plain, nobody_holds, all_arrived, deed_done, thread_in, plain_step, plain_from, plain, plain_start}
 use Rattle.lrc_plain_laws.specs.Follows.{Goes, quietly, printing, reading, writing, acquiring, releasing, arriving, departing}
 use Rattle.lrc_plain_laws.specs.Follows.{trapping, ending, Makes, nothing_more, and_then, deeds_of, FollowsText}
 use Rattle.lrc_plain_laws.specs.InOrder.{ReadsInOrder}
@@ -91,14 +91,14 @@ module _ (machine : Plain) (node : ℕ) where
   undo_if true n d₀ after₀ d after e u = undo n d₀ after₀ d after e (u refl)
   undo_if false n d₀ after₀ d after e u = cc
 
-  undone : (n : Next) (d : Deed) (after : Plain) → deed_of machine node n ≡ Some (d, after) → Undone machine node n d after
+  undone : (n : Next) (d : Deed) (after : Plain) → deed_done machine node n ≡ Some (d, after) → Undone machine node n d after
   undone (quiet t) d after e = undo (quiet t) _ _ d after e (record { thread = Some t; goes = quietly; can = tt; threads = refl; size = refl })
   undone (prints v t) d after e = undo (prints v t) _ _ d after e (record { thread = Some t; goes = printing; can = tt; threads = refl; size = refl })
   undone (reads w t) d after e =
       undo (reads w t) _ _ d after e (record { thread = Some (t (slice_index machine.memory w)); goes = reading; can = refl; threads = refl; size = refl })
   undone (writes w v t) d after e = undo (writes w v t) _ _ d after e (record { thread = Some t; goes = writing; can = tt; threads = refl; size = refl })
   undone (acquires l t) d after e =
-      undo_if (is_free machine l) (acquires l t) _ _ d after e (λ b. record { thread = Some t; goes = acquiring; can = b; threads = refl; size = refl })
+      undo_if (nobody_holds machine l) (acquires l t) _ _ d after e (λ b. record { thread = Some t; goes = acquiring; can = b; threads = refl; size = refl })
   undone (releases l t) d after e = undo (releases l t) _ _ d after e (record { thread = Some t; goes = releasing; can = tt; threads = refl; size = refl })
   undone (arrives t) d after e =
       undo (arrives t) _ _ d after e (record {
@@ -139,7 +139,7 @@ module _ (run : List Act) (nodes : ℕ) where
       }
   sound_from (node ∷ order) ahead j machine final e stands m size =
       let s = stepwise machine node order ahead final e in
-      option_and_then_some (λ t. deed_of machine node (next_of t)) (thread_in machine node) (s.deed, s.after) s.first (λ t at is.
+      option_and_then_some (λ t. deed_done machine node (next_of t)) (thread_in machine node) (s.deed, s.after) s.first (λ t at is.
       let u = undone machine node (next_of t) s.deed s.after is in
       let a = act_of node s.deed in
       let stands' = stands ∙ s.acts_are in

@@ -17,7 +17,7 @@ use Rattle.lrc_trace.proofs.Intervals.{act_at}
 use Rattle.lrc_trace.proofs.Prefixes.{Races-shorter}
 use Rattle.lrc_trace.proofs.Outlines.{same_races}
 use Rattle.lrc_exec.specs.Plain.{plain}
-use Rattle.lrc_plain_laws.specs.Follows.{nodes_of, FollowsText}
+use Rattle.lrc_plain_laws.specs.Follows.{nodes_of_acts, FollowsText}
 use Rattle.lrc_plain_laws.specs.Kinds.{SameKind, same, reads}
 use Rattle.lrc_plain_laws.specs.Racing.{HasNoRace, PlainToRace}
 use Rattle.lrc_plain_laws.proofs.Ahead.{take_ahead}
@@ -54,7 +54,7 @@ module _ (program : Program) (nodes : ℕ) (run : List Act) (follows : FollowsTe
   -- what the plain machine makes up to a position that no race comes before, and its race there
   record PlainRace (i position : ℕ) : Type 0 where
     made : List Act
-    is : plain program nodes (nodes_of (take (position + 1) run)) ≡ Some made
+    is : plain program nodes (nodes_of_acts (take (position + 1) run)) ≡ Some made
     races : Races made i position
 
   plain_race : (i position : ℕ) → ((k j : ℕ) → Races run k j → position ≤ j) → Races run i position → PlainRace i position
@@ -85,7 +85,7 @@ module _ (program : Program) (nodes : ℕ) (run : List Act) (follows : FollowsTe
         | inr le ↦ le
       ] in
       let r = plain_race i j first race in
-      none (nodes_of (take (j + 1) run)) r.made r.is i j r.races
+      none (nodes_of_acts (take (j + 1) run)) r.made r.is i j r.races
 
   pub race_free : HasNoRace program nodes → IsRaceFree run
   race_free none i j race = none_below none (j + 1) i j (omega arith) race

@@ -16,9 +16,9 @@ use Rattle.lrc_trace.specs.declared.act.Deed.TheVariants.{Read, Acquire, Release
 use Rattle.lrc_trace.specs.Run.{Does, arrives_before, departs_before}
 use Rattle.lrc_trace.specs.Synchronization.{Holds}
 use Rattle.lrc_exec.specs.Meaning.{Thread, Next, next_of}
-use Rattle.lrc_exec.specs.Plain.{Plain, is_free, all_arrived, deed_of, thread_in, plain_step, plain_from, plain_start, start_of, with_thread}
+use Rattle.lrc_exec.specs.Plain.{Plain, nobody_holds, all_arrived, deed_done, thread_in, plain_step, plain_from, plain_start, start_of, with_thread}
 use Rattle.lrc_plain_laws.specs.Follows.{Goes, quietly, printing, reading, writing, acquiring, releasing, arriving, departing}
-use Rattle.lrc_plain_laws.specs.Follows.{trapping, ending, Makes, and_then, deeds_of, nodes_of, FollowsText}
+use Rattle.lrc_plain_laws.specs.Follows.{trapping, ending, Makes, and_then, deeds_of, nodes_of_acts, FollowsText}
 use Rattle.lrc_plain_laws.specs.InOrder.{last_value}
 use Rattle.lrc_plain_laws.proofs.Ahead.{does_ahead, drop_ahead}
 use Rattle.lrc_exec.proofs.NextLaws.{IsFine, next_of-fine}
@@ -54,13 +54,13 @@ unheld locks l = elim (cases_lt l locks) [
 -- what the machine asks of a deed beyond the thread's word
 abbrev pub CanDo : Plain → ℕ → Deed → Type 0
 CanDo machine node (Read w v) = v ≡ slice_index machine.memory w
-CanDo machine node (Acquire l) = is_free machine l ≡ true
+CanDo machine node (Acquire l) = nobody_holds machine l ≡ true
 CanDo machine node Depart = all_arrived machine node ≡ true
 CanDo machine node _ = Unit {0}
 
 -- the machine after a deed: the node's thread is the one after it, and there are as many nodes
 pub record Done (machine : Plain) (node : ℕ) (n : Next) (d : Deed) (t : Option Thread) (after : Plain) : Type 0 where
-  pub is : deed_of machine node n ≡ Some (d, after)
+  pub is : deed_done machine node n ≡ Some (d, after)
   pub threads : after.threads ≡ slice_set machine.threads node t
   pub size : length after.arrivals ≡ length machine.arrivals
 
@@ -198,7 +198,7 @@ stepped run nodes j machine a more r in_range sound =
     let here = does_ahead run j a more r.stands in
     record {
       after = after;
-      is = ap (λ o. option_and_then (λ thread. deed_of machine a.node (next_of thread)) o) first.is ∙ result.1.is;
+      is = ap (λ o. option_and_then (λ thread. deed_done machine a.node (next_of thread)) o) first.is ∙ result.1.is;
       ready = record {
         stands = ap (λ i. drop i run) (add-one j) ∙ drop_ahead run j a more r.stands;
         matches = step run j a.node machine first.thread first.is r.matches (next_of first.thread) f a.deed after result.1.is here;
@@ -219,7 +219,7 @@ stepped run nodes j machine a more r in_range sound =
 -- a stretch of the run is one of the machine
 pub record Led (run : List Act) (nodes j : ℕ) (machine : Plain) (stretch tail : List Act) : Type 0 where
   pub final : Plain
-  pub is : plain_from machine (nodes_of stretch) ≡ Some (stretch, final)
+  pub is : plain_from machine (nodes_of_acts stretch) ≡ Some (stretch, final)
   pub ready : Ready run nodes (j + length stretch) final tail
 
 pub led : (run : List Act) (nodes j : ℕ) (machine : Plain) (stretch tail : List Act) → Ready run nodes j machine (stretch ++ tail)
@@ -235,7 +235,7 @@ led run nodes j machine (a ∷ stretch) tail r in_range sound =
     record {
       final = rest.final;
       is =
-          ap (option_and_then (λ step. option_map (λ more. (record { node = a.node; deed = step.0 } ∷ more.0, more.1)) (plain_from step.1 (nodes_of stretch))))
+          ap (option_and_then (λ step. option_map (λ more. (record { node = a.node; deed = step.0 } ∷ more.0, more.1)) (plain_from step.1 (nodes_of_acts stretch))))
           s.is
           ∙ ap (option_map (λ more. (record { node = a.node; deed = a.deed } ∷ more.0, more.1))) rest.is;
       ready = subst (λ k. Ready run nodes k rest.final tail) e rest.ready;

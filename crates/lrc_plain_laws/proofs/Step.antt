@@ -13,7 +13,7 @@ use Rattle.lrc_trace.proofs.Positions.{Does-one_node, Does-one_deed}
 use Rattle.lrc_trace.proofs.Intervals.{count_of-more}
 use Rattle.lrc_trace.proofs.Holding.{Holds-acquired, Holds-kept, Holds-before, Holds-released}
 use Rattle.lrc_exec.specs.Meaning.{Thread, Next, quiet, prints, reads, writes, acquires, releases, arrives, departs, traps, ends, holds}
-use Rattle.lrc_exec.specs.Plain.{Plain, is_free, all_arrived, deed_of, with_thread, thread_in}
+use Rattle.lrc_exec.specs.Plain.{Plain, nobody_holds, all_arrived, deed_done, with_thread, thread_in}
 use Rattle.lrc_plain_laws.specs.InOrder.{value_after, last_value}
 use Rattle.lrc_plain_laws.proofs.LastValue.{last_value-more, value_after-same, value_after-other}
 use Rattle.lrc_exec.proofs.NextLaws.{Leads, Stays, IsFine}
@@ -335,7 +335,7 @@ module _ (run : List Act) (j node : ℕ) (machine : Plain) (t : Thread) (at : th
   lockless_quiet = record { acquires_not = λ l e. cc; releases_not = λ l e. cc }
 
   -- whatever the thread does next
-  pub step : (n : Next) → IsFine t n → (d : Deed) (after : Plain) → deed_of machine node n ≡ Some (d, after) → Does run j node d → Matches run (j + 1) after
+  pub step : (n : Next) → IsFine t n → (d : Deed) (after : Plain) → deed_done machine node n ≡ Some (d, after) → Does run j node d → Matches run (j + 1) after
   step (quiet t') f d after e here =
       settle _ _ d after e here (λ h. passes_on Quiet h (record { acquires_not = λ l x. cc; releases_not = λ l x. cc }) (λ w x. refl) (λ x. cc) (λ x. cc) t' f)
   step (prints v t') f d after e here =
@@ -353,7 +353,7 @@ module _ (run : List Act) (j node : ℕ) (machine : Plain) (t : Thread) (at : th
       }) (λ k x. refl) (λ x. cc) (λ x. cc) (t' v) (f.1 v))
   step (writes w v t') f d after e here = settle _ _ d after e here (λ h. written w v t' f.0 f.1 h)
   step (acquires l t') f d after e here =
-      settle_if (is_free machine l) _ _ d after e here (λ b h. acquired l t' f.0 f.2 f.3 (none_since (slice_index_or machine.holders l None) b) h)
+      settle_if (nobody_holds machine l) _ _ d after e here (λ b h. acquired l t' f.0 f.2 f.3 (none_since (slice_index_or machine.holders l None) b) h)
   step (releases l t') f d after e here = settle _ _ d after e here (λ h. released l t' f.0 f.1 f.2 f.3 h)
   step (arrives t') f d after e here = settle _ _ d after e here (λ h. arrived_at t' f.0 f.1 h)
   step (departs t') f d after e here = settle_if (all_arrived machine node) _ _ d after e here (λ b h. departed_from t' f.0 f.1 h)

@@ -13,9 +13,9 @@ use Rattle.lrc_trace.specs.Reading.{ReadsLazily}
 use Rattle.lrc_trace.specs.Synchronization.{IsWellSynchronized}
 use Rattle.lrc_trace.proofs.Positions.{Does-within}
 use Rattle.lrc_exec.specs.Meaning.{Thread, Next, next_of}
-use Rattle.lrc_exec.specs.Plain.{Plain, deed_of, thread_in, plain_step, plain_from, plain, plain_start}
+use Rattle.lrc_exec.specs.Plain.{Plain, deed_done, thread_in, plain_step, plain_from, plain, plain_start}
 use Rattle.lrc_plain_laws.specs.Follows.{Goes, quietly, printing, reading, writing, acquiring, releasing, arriving}
-use Rattle.lrc_plain_laws.specs.Follows.{departing, trapping, ending, Makes, nodes_of, FollowsText}
+use Rattle.lrc_plain_laws.specs.Follows.{departing, trapping, ending, Makes, nodes_of_acts, FollowsText}
 use Rattle.lrc_plain_laws.specs.Kinds.{SameKind, same, reads, PlainUpTo}
 use Rattle.lrc_plain_laws.proofs.Ahead.{take_ahead}
 use Rattle.lrc_exec.proofs.NextLaws.{IsFine, next_of-fine}
@@ -52,7 +52,7 @@ record Made (machine : Plain) (node : ℕ) (n : Next) (d : Deed) : Type 0 where
   other : Deed
   kind : SameKind d other
   after : Plain
-  is : deed_of machine node n ≡ Some (other, after)
+  is : deed_done machine node n ≡ Some (other, after)
 
 module _ (run : List Act) (nodes j node : ℕ) (machine : Plain) (t : Thread) (at : thread_in machine node ≡ Some t) (m : Matches run j machine)
     (size : length machine.arrivals ≡ nodes) (ws : IsWellSynchronized nodes run) where
@@ -92,12 +92,12 @@ module _ (program : Program) (nodes : ℕ) (run : List Act) (follows : FollowsTe
       (subst (λ acts. Ready run nodes 0 (plain_start program nodes) acts) (sym (take-append-drop position run)) start) (in_range follows)
       (λ k n d lt h. lazy_sound nodes run position ws lazily first k n d (omega arith) h)
 
-  pub before_race : (position : ℕ) → ((i j : ℕ) → Races run i j → position ≤ j) → plain program nodes (nodes_of (take position run)) ≡ Some (take position run)
+  pub before_race : (position : ℕ) → ((i j : ℕ) → Races run i j → position ≤ j) → plain program nodes (nodes_of_acts (take position run)) ≡ Some (take position run)
   before_race position first = ap (option_map (λ r. r.0)) (led_to position first).is
 
   -- one act more
   at_race : (position : ℕ) → ((i j : ℕ) → Races run i j → position ≤ j) → (node : ℕ) (deed : Deed) → Does run position node deed
-      → (other : Deed) × SameKind deed other × (plain program nodes (nodes_of (take (position + 1) run)) ≡ Some (take position run ++ act_of node other ∷ []))
+      → (other : Deed) × SameKind deed other × (plain program nodes (nodes_of_acts (take (position + 1) run)) ≡ Some (take position run ++ act_of node other ∷ []))
   at_race position first node deed here =
       let l = led_to position first in
       let a = act_of node deed in
@@ -109,20 +109,20 @@ module _ (program : Program) (nodes : ℕ) (run : List Act) (follows : FollowsTe
       let f = makes_first (subst (λ ds. Makes (thread_in l.final node) ds) (deeds_of-own a (drop (suc position) run))
       (r.makes node (in_range follows position node deed here))) in
       let m = made run nodes position node l.final f.thread f.is r.matches r.size ws f.goes (next_of-fine f.thread) here in
-      let first_step : plain_step l.final node ≡ Some (m.other, m.after) = ap (λ o. option_and_then (λ thread. deed_of l.final node (next_of thread)) o) f.is
+      let first_step : plain_step l.final node ≡ Some (m.other, m.after) = ap (λ o. option_and_then (λ thread. deed_done l.final node (next_of thread)) o) f.is
       ∙ m.is in
       let last : plain_from l.final (node ∷ []) ≡ Some (act_of node m.other ∷ [], m.after) =
       one_more l.final m.after m.after node m.other [] [] first_step refl in
-      let whole = plain_from-joined (nodes_of (take position run)) (node ∷ []) (plain_start program nodes) l.final m.after (take position run)
+      let whole = plain_from-joined (nodes_of_acts (take position run)) (node ∷ []) (plain_start program nodes) l.final m.after (take position run)
       (act_of node m.other ∷ []) l.is last in
-      let order : nodes_of (take (position + 1) run) ≡ nodes_of (take position run) ++ node ∷ [] = ap (λ k. nodes_of (take k run)) (add-one position)
-      ∙ ap nodes_of (take_ahead run position a here.stands) ∙ map-append (λ (x : Act). x.node) (take position run) (a ∷ []) in
+      let order : nodes_of_acts (take (position + 1) run) ≡ nodes_of_acts (take position run) ++ node ∷ [] = ap (λ k. nodes_of_acts (take k run)) (add-one position)
+      ∙ ap nodes_of_acts (take_ahead run position a here.stands) ∙ map-append (λ (x : Act). x.node) (take position run) (a ∷ []) in
       (m.other, m.kind, ap (λ o. option_map (λ x. x.0) (plain_from (plain_start program nodes) o)) order ∙ ap (option_map (λ x. x.0)) whole)
 
   pub up_to_race : (position : ℕ) → ((i j : ℕ) → Races run i j → position ≤ j) → PlainUpTo program nodes run position
   up_to_race position first = record { before = before_race position first; there = at_race position first }
 
-  pub without_race : IsRaceFree run → plain program nodes (nodes_of run) ≡ Some run
+  pub without_race : IsRaceFree run → plain program nodes (nodes_of_acts run) ≡ Some run
   without_race free =
       let e : take (length run) run ≡ run = take_all (length run) run (omega arith) in
-      sym (ap (λ acts. plain program nodes (nodes_of acts)) e) ∙ before_race (length run) (λ i j r. absurd (free i j r)) ∙ ap Some e
+      sym (ap (λ acts. plain program nodes (nodes_of_acts acts)) e) ∙ before_race (length run) (λ i j r. absurd (free i j r)) ∙ ap Some e

@@ -27,8 +27,8 @@ pub data Makes : Option Thread → List Deed → Type 0 where
   and_then : {t : Thread} {d : Deed} {after : Option Thread} {ds : List Deed} → Goes (next_of t) d after → Makes after ds → Makes (Some t) (d ∷ ds)
 
 -- the nodes of the acts, in their order
-abbrev pub nodes_of : List Act → List ℕ
-nodes_of acts = map (λ a. a.node) acts
+abbrev pub nodes_of_acts : List Act → List ℕ
+nodes_of_acts acts = map (λ a. a.node) acts
 
 -- the deeds of a node, in their order
 abbrev pub deeds_of : ℕ → List Act → List Deed

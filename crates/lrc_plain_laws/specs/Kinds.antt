@@ -6,7 +6,7 @@ use Rattle.lrc_trace.specs.declared.act.Deed.{Deed}
 use Rattle.lrc_trace.specs.declared.act.Deed.TheVariants.{Read}
 use Rattle.lrc_trace.specs.Run.{act_of, Does}
 use Rattle.lrc_exec.specs.Plain.{plain}
-use Rattle.lrc_plain_laws.specs.Follows.{nodes_of}
+use Rattle.lrc_plain_laws.specs.Follows.{nodes_of_acts}
 
 -- the same deed, or reads of one word that may give two values
 pub data SameKind : Deed → Deed → Type 0 where
@@ -15,7 +15,7 @@ pub data SameKind : Deed → Deed → Type 0 where
 
 -- the plain machine makes the acts before the position, and then an act of the same kind as the one there
 pub record PlainUpTo (program : Program) (nodes : ℕ) (run : List Act) (position : ℕ) : Type 0 where
-  pub before : plain program nodes (nodes_of (take position run)) ≡ Some (take position run)
+  pub before : plain program nodes (nodes_of_acts (take position run)) ≡ Some (take position run)
   pub there : (node : ℕ) (deed : Deed) → Does run position node deed
       → (other : Deed) × SameKind deed other
-      × (plain program nodes (nodes_of (take (position + 1) run)) ≡ Some (take position run ++ act_of node other ∷ []))
+      × (plain program nodes (nodes_of_acts (take (position + 1) run)) ≡ Some (take position run ++ act_of node other ∷ []))

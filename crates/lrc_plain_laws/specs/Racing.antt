@@ -4,7 +4,7 @@ use Rattle.lrc_lang.specs.declared.program.Program.{Program}
 use Rattle.lrc_trace.specs.declared.act.Act.{Act}
 use Rattle.lrc_trace.specs.Conflict.{Races, IsRaceFree}
 use Rattle.lrc_exec.specs.Plain.{plain}
-use Rattle.lrc_plain_laws.specs.Follows.{nodes_of}
+use Rattle.lrc_plain_laws.specs.Follows.{nodes_of_acts}
 use Rattle.lrc_plain_laws.specs.Kinds.{PlainUpTo}
 
 -- no order gives the plain machine a run with a race
@@ -16,4 +16,4 @@ HasNoRace program nodes = (order : List ℕ) (run : List Act) → plain program 
 pub record PlainToRace (program : Program) (nodes : ℕ) (run : List Act) (position : ℕ) : Type 0 where
   pub upto : PlainUpTo program nodes run position
   pub races : (i : ℕ) (other : List Act) → Races run i position
-      → plain program nodes (nodes_of (take (position + 1) run)) ≡ Some other → Races other i position
+      → plain program nodes (nodes_of_acts (take (position + 1) run)) ≡ Some other → Races other i position

@@ -9,7 +9,7 @@ ghost use Rattle.lrc_trace.specs.Conflict.{Races, IsRaceFree};
 ghost use Rattle.lrc_trace.specs.Reading.{ReadsLazily};
 ghost use Rattle.lrc_trace.specs.Synchronization.{IsWellSynchronized, WaitsAtBarriers};
 ghost use Rattle.lrc_exec.specs.Plain.{plain};
-ghost use Rattle.lrc_plain_laws.specs.Follows.{FollowsText, nodes_of};
+ghost use Rattle.lrc_plain_laws.specs.Follows.{FollowsText, nodes_of_acts};
 ghost use Rattle.lrc_plain_laws.specs.Kinds.{PlainUpTo};
 ghost use Rattle.lrc_plain_laws.specs.InOrder.{ReadsInOrder};
 ghost use Rattle.lrc_plain_laws.specs.Racing.{HasNoRace, PlainToRace};
@@ -20,7 +20,7 @@ ghost use Rattle.lrc_plain_laws.specs.Racing.{HasNoRace, PlainToRace};
 pub fn lazy_run_without_a_race_is_plain()
     ensures { (program : Program) (nodes : ℕ) (run : List Act) → FollowsText program nodes run
         → IsWellSynchronized nodes run → ReadsLazily run → IsRaceFree run
-        → plain program nodes (nodes_of run) ≡ Some run }
+        → plain program nodes (nodes_of_acts run) ≡ Some run }
 {}
 
 /// The same up to the first race: before a position that no race comes to earlier, the plain machine makes the same

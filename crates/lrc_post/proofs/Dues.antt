@@ -7,7 +7,7 @@ use Rattle.std.proofs.lemmas.List.{append-nil, append_cancel_right, get_or_push,
 use Rattle.std.proofs.lemmas.Option.{slice_get_within, get_or_from_slice_get}
 use Rattle.lrc_envelope.specs.declared.picker.Picker.{Picker}
 use Rattle.lrc_envelope.specs.declared.picker.Picker.TheVariants.{Oldest, Newest, Twice}
-use Rattle.lrc_post.specs.Wires.{each_due, next_of, without_next}
+use Rattle.lrc_post.specs.Wires.{each_due, given_next, without_next}
 
 -- what is due below a number depends on nothing else
 pub same_due : (f g : ℕ → ℕ) (n : ℕ) → ((k : ℕ) → k < n → g k ≡ f k) → each_due g n ≡ each_due f n
@@ -144,13 +144,13 @@ last_next xs p is =
     ∙ ap (λ x. take (length xs - 1) xs ++ x ∷ []) (get_or_from_slice_get xs (length xs - 1) p p is)
 
 -- what is given next is below the end, and due
-pub next_due : (picker : Picker) (f : ℕ → ℕ) (n p : ℕ) → next_of picker (each_due f n) ≡ Some p → (p < n) × (0 < f p)
+pub next_due : (picker : Picker) (f : ℕ → ℕ) (n p : ℕ) → given_next picker (each_due f n) ≡ Some p → (p < n) × (0 < f p)
 next_due Oldest f n p is = first_due f n p _ (first_next _ p is)
 next_due Newest f n p is = last_due f n p _ (last_next _ p is)
 next_due Twice f n p is = first_due f n p _ (first_next _ p is)
 
 -- once it is due once less, the others are left
-pub next_given : (picker : Picker) (f g : ℕ → ℕ) (n p : ℕ) → next_of picker (each_due f n) ≡ Some p
+pub next_given : (picker : Picker) (f g : ℕ → ℕ) (n p : ℕ) → given_next picker (each_due f n) ≡ Some p
     → ((k : ℕ) → k < n → (k ≡ p → ⊥) → g k ≡ f k) → f p ≡ suc (g p) → each_due g n ≡ without_next picker (each_due f n)
 next_given Oldest f g n p is = oldest_given f g n p _ (first_next _ p is)
 next_given Newest f g n p is = newest_given f g n p _ (last_next _ p is)

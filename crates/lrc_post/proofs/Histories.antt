@@ -12,8 +12,8 @@ use Rattle.lrc_envelope.specs.declared.picker.Picker.{Picker}
 use Rattle.lrc_post.specs.declared.parcel.Parcel.{Parcel}
 use Rattle.lrc_post.specs.declared.parcel.Wire.{Wire}
 use Rattle.lrc_post.specs.declared.parcel.Wire.TheVariants.{Put, Took}
-use Rattle.lrc_post.specs.Wires.{put_of, IsPutOf, IsPutFor, IsLegalAt, IsLegal, IsTakenBy, times, takes, if_put, due, each_due, in_flight, next_of, without_next}
-use Rattle.lrc_post.specs.Mailbox.{MailboxRecord, IsKept, IsTake}
+use Rattle.lrc_post.specs.Wires.{put_of, IsPutOf, IsPutFor, IsLegalAt, IsLegal, IsTakenBy, times, is_take_of, if_put, due, each_due, in_flight, given_next, without_next}
+use Rattle.lrc_post.specs.Mailbox.{MailboxRecord, IsMailboxKept, IsTake}
 use Rattle.lrc_post.proofs.Dues.{same_due, next_due, next_given}
 
 -- ---- one entry more
@@ -60,7 +60,7 @@ legal_more owner history more legal next place wire at =
 
 -- the put that an entry names, if it is a take, is given next
 abbrev IsNext : Picker → List Wire → Wire → Type 0
-IsNext picker before wire = (me put : ℕ) → wire ≡ Took me put → next_of picker (in_flight picker before) ≡ Some put
+IsNext picker before wire = (me put : ℕ) → wire ≡ Took me put → given_next picker (in_flight picker before) ≡ Some put
 
 taken_more : (picker : Picker) (history : List Wire) (more : Wire) → IsTakenBy picker history → IsNext picker history more
     → IsTakenBy picker (history ++ more ∷ [])
@@ -71,37 +71,37 @@ taken_more picker history more before next place me put at =
     (λ (here : place ≡ length history).
     let same : more ≡ Took me put =
     same_Some more (Took me put) (sym (get_last history more) ∙ ap (slice_get (history ++ more ∷ [])) (sym here) ∙ at) in
-    ap (λ xs. next_of picker (in_flight picker xs)) (ap (λ n. take n (history ++ more ∷ [])) here ∙ take-append_seam history (more ∷ []))
+    ap (λ xs. given_next picker (in_flight picker xs)) (ap (λ n. take n (history ++ more ∷ [])) here ∙ take-append_seam history (more ∷ []))
     ∙ next me put same)
     (λ (other : place ≡ length history → ⊥).
     let below : place < length history = omega (arith, within, other) in
-    ap (λ xs. next_of picker (in_flight picker xs)) (take-append-le place history (more ∷ []) (omega (arith, below)))
+    ap (λ xs. given_next picker (in_flight picker xs)) (take-append-le place history (more ∷ []) (omega (arith, below)))
     ∙ before place me put (sym (get_front history more place below) ∙ at))
     (cases_eq place (length history))
 
 -- ---- how often a parcel was given
 
 given_more : (place : ℕ) (history : List Wire) (more : Wire)
-    → count_by (takes place) (history ++ more ∷ []) ≡ count_by (takes place) history + cond (takes place more) 1 0
-given_more place history more = sum_by_push (λ w. cond (takes place w) 1 0) history more
+    → count_by (is_take_of place) (history ++ more ∷ []) ≡ count_by (is_take_of place) history + cond (is_take_of place more) 1 0
+given_more place history more = sum_by_push (λ w. cond (is_take_of place w) 1 0) history more
 
 none_given : (place : ℕ) (history : List Wire)
-    → ((i : ℕ) (wire : Wire) → slice_get history i ≡ Some wire → takes place wire ≡ false)
-    → count_by (takes place) history ≡ 0
+    → ((i : ℕ) (wire : Wire) → slice_get history i ≡ Some wire → is_take_of place wire ≡ false)
+    → count_by (is_take_of place) history ≡ 0
 none_given place [] never = refl
 none_given place (w ∷ ws) never =
-    let rest : count_by (takes place) ws ≡ 0 = none_given place ws (λ i wire at. never (suc i) wire at) in
-    sum_by-cons (λ x. cond (takes place x) 1 0) w ws
-    ∙ ap (λ b. cond b 1 0 + count_by (takes place) ws) (never 0 w refl)
+    let rest : count_by (is_take_of place) ws ≡ 0 = none_given place ws (λ i wire at. never (suc i) wire at) in
+    sum_by-cons (λ x. cond (is_take_of place x) 1 0) w ws
+    ∙ ap (λ b. cond b 1 0 + count_by (is_take_of place) ws) (never 0 w refl)
     ∙ ap (λ n. 0 + n) rest
 
 no_take_ahead : (owner : ℕ) (history : List Wire) (place : ℕ) (wire : Wire) → place < length history
-    → IsLegalAt owner history place wire → takes (length history) wire ≡ false
+    → IsLegalAt owner history place wire → is_take_of (length history) wire ≡ false
 no_take_ahead owner history place (Put from to stamp bytes) within legal = refl
 no_take_ahead owner history place (Took me put) within legal =
     ne_eqb put (length history) (λ e. omega (arith, e, within, legal.1))
 
-none_ahead : (owner : ℕ) (history : List Wire) → IsLegal owner history → count_by (takes (length history)) history ≡ 0
+none_ahead : (owner : ℕ) (history : List Wire) → IsLegal owner history → count_by (is_take_of (length history)) history ≡ 0
 none_ahead owner history legal =
     none_given (length history) history
     (λ i wire at. no_take_ahead owner history i wire (slice_get_within history i wire at) (legal i wire at))
@@ -109,18 +109,18 @@ none_ahead owner history legal =
 -- ---- what is due
 
 due_front : (picker : Picker) (history : List Wire) (more : Wire) (place : ℕ) → place < length history
-    → takes place more ≡ false → due picker (history ++ more ∷ []) place ≡ due picker history place
+    → is_take_of place more ≡ false → due picker (history ++ more ∷ []) place ≡ due picker history place
 due_front picker history more place below other =
-    let count : count_by (takes place) (history ++ more ∷ []) ≡ count_by (takes place) history =
-    given_more place history more ∙ ap (λ b. count_by (takes place) history + cond b 1 0) other ∙ omega arith in
-    ap (λ e. if_put e (times picker - count_by (takes place) (history ++ more ∷ []))) (get_front history more place below)
+    let count : count_by (is_take_of place) (history ++ more ∷ []) ≡ count_by (is_take_of place) history =
+    given_more place history more ∙ ap (λ b. count_by (is_take_of place) history + cond b 1 0) other ∙ omega arith in
+    ap (λ e. if_put e (times picker - count_by (is_take_of place) (history ++ more ∷ []))) (get_front history more place below)
     ∙ ap (λ n. if_put (slice_get history place) (times picker - n)) count
 
 due_here : (picker : Picker) (history : List Wire) (more : Wire)
     → due picker (history ++ more ∷ []) (length history)
-    ≡ if_put (Some more) (times picker - count_by (takes (length history)) (history ++ more ∷ []))
+    ≡ if_put (Some more) (times picker - count_by (is_take_of (length history)) (history ++ more ∷ []))
 due_here picker history more =
-    ap (λ e. if_put e (times picker - count_by (takes (length history)) (history ++ more ∷ []))) (get_last history more)
+    ap (λ e. if_put e (times picker - count_by (is_take_of (length history)) (history ++ more ∷ []))) (get_last history more)
 
 -- what is due was put
 due_put : (entry : Option Wire) (n : ℕ) → 0 < if_put entry n → (parcel : Parcel) × IsPutOf entry parcel
@@ -150,13 +150,13 @@ due_less : (picker : Picker) (owner : ℕ) (history : List Wire) (place : ℕ) �
     → due picker history place ≡ suc (due picker (history ++ Took owner place ∷ []) place)
 due_less picker owner history place below some =
     let more = Took owner place in
-    let count : count_by (takes place) (history ++ more ∷ []) ≡ count_by (takes place) history + 1 =
-    given_more place history more ∙ ap (λ b. count_by (takes place) history + cond b 1 0) (eq-eqb place place refl) in
-    let few : due picker history place ≤ times picker - count_by (takes place) history = few_of (slice_get history place) _ in
-    let less : times picker - count_by (takes place) history ≡ suc (times picker - count_by (takes place) (history ++ more ∷ [])) =
+    let count : count_by (is_take_of place) (history ++ more ∷ []) ≡ count_by (is_take_of place) history + 1 =
+    given_more place history more ∙ ap (λ b. count_by (is_take_of place) history + cond b 1 0) (eq-eqb place place refl) in
+    let few : due picker history place ≤ times picker - count_by (is_take_of place) history = few_of (slice_get history place) _ in
+    let less : times picker - count_by (is_take_of place) history ≡ suc (times picker - count_by (is_take_of place) (history ++ more ∷ [])) =
     omega (arith, count, few, some) in
     less_of (slice_get history place) _ _ some less
-    ∙ ap suc (ap (λ e. if_put e (times picker - count_by (takes place) (history ++ more ∷ []))) (sym (get_front history more place below)))
+    ∙ ap suc (ap (λ e. if_put e (times picker - count_by (is_take_of place) (history ++ more ∷ []))) (sym (get_front history more place below)))
 
 -- ---- what a mailbox keeps
 
@@ -169,11 +169,11 @@ flight_more picker history more = ap (each_due (due picker (history ++ more ∷ 
 
 -- a parcel for the owner is put, and its place lined up as often as it is to be given
 pub kept_put : (owner : ℕ) (picker : Picker) (history : List Wire) (flight : List ℕ) (from : ℕ) (parcel : Parcel)
-    → IsKept owner picker history flight → parcel.to ≡ owner
-    → IsKept owner picker (history ++ put_of from parcel ∷ []) (flight ++ replicate (times picker) (length history))
+    → IsMailboxKept owner picker history flight → parcel.to ≡ owner
+    → IsMailboxKept owner picker (history ++ put_of from parcel ∷ []) (flight ++ replicate (times picker) (length history))
 kept_put owner picker history flight from parcel kept to =
     let more = put_of from parcel in
-    let none : count_by (takes (length history)) (history ++ more ∷ []) ≡ 0 =
+    let none : count_by (is_take_of (length history)) (history ++ more ∷ []) ≡ 0 =
     given_more (length history) history more ∙ ap (λ n. n + 0) (none_ahead owner history kept.legal) in
     let here : due picker (history ++ more ∷ []) (length history) ≡ times picker =
     due_here picker history more ∙ ap (λ n. times picker - n) none ∙ omega arith in
@@ -190,14 +190,14 @@ kept_put owner picker history flight from parcel kept to =
 
 -- what is given next is below the end, and due
 next_in_flight : (owner : ℕ) (picker : Picker) (history : List Wire) (flight : List ℕ) (place : ℕ)
-    → IsKept owner picker history flight → next_of picker flight ≡ Some place
+    → IsMailboxKept owner picker history flight → given_next picker flight ≡ Some place
     → (place < length history) × (0 < due picker history place)
 next_in_flight owner picker history flight place kept next =
-    next_due picker (due picker history) (length history) place (ap (next_of picker) (sym kept.queued) ∙ next)
+    next_due picker (due picker history) (length history) place (ap (given_next picker) (sym kept.queued) ∙ next)
 
 -- what is given next was put for the owner
 pub next_is_put : (owner : ℕ) (picker : Picker) (history : List Wire) (flight : List ℕ) (place : ℕ)
-    → IsKept owner picker history flight → next_of picker flight ≡ Some place → IsPutFor owner (slice_get history place)
+    → IsMailboxKept owner picker history flight → given_next picker flight ≡ Some place → IsPutFor owner (slice_get history place)
 next_is_put owner picker history flight place kept next =
     for_owner owner history place kept.legal
     (due_put (slice_get history place) _ (next_in_flight owner picker history flight place kept next).1)
@@ -209,20 +209,20 @@ place_in other (Took me put) = put
 
 -- the owner takes what is given next
 pub kept_take : (owner : ℕ) (picker : Picker) (history : List Wire) (flight : List ℕ) (place : ℕ)
-    → IsKept owner picker history flight → next_of picker flight ≡ Some place
-    → IsKept owner picker (history ++ Took owner place ∷ []) (without_next picker flight)
+    → IsMailboxKept owner picker history flight → given_next picker flight ≡ Some place
+    → IsMailboxKept owner picker (history ++ Took owner place ∷ []) (without_next picker flight)
 kept_take owner picker history flight place kept next =
     let more = Took owner place in
     let at = next_in_flight owner picker history flight place kept next in
     let left : each_due (due picker (history ++ more ∷ [])) (length history) ≡ without_next picker (in_flight picker history) =
     next_given picker (due picker history) (due picker (history ++ more ∷ [])) (length history) place
-    (ap (next_of picker) (sym kept.queued) ∙ next)
+    (ap (given_next picker) (sym kept.queued) ∙ next)
     (λ k below other. due_front picker history more k below (ne_eqb place k (λ e. other (sym e))))
     (due_less picker owner history place at.0 at.1) in
     record {
       taken_so =
           taken_more picker history more kept.taken_so
-          (λ me put is. ap (next_of picker) (sym kept.queued) ∙ next ∙ ap (λ w. Some (place_in place w)) is);
+          (λ me put is. ap (given_next picker) (sym kept.queued) ∙ next ∙ ap (λ w. Some (place_in place w)) is);
       legal = legal_more owner history more kept.legal (refl, at.0, next_is_put owner picker history flight place kept next);
       queued =
           ap (without_next picker) kept.queued
@@ -232,7 +232,7 @@ kept_take owner picker history flight place kept next =
     }
 
 -- a mailbox without a history
-pub kept_new : (owner : ℕ) (picker : Picker) → IsKept owner picker [] []
+pub kept_new : (owner : ℕ) (picker : Picker) → IsMailboxKept owner picker [] []
 unfolding each_due
 kept_new owner picker = record {
   legal = (λ place wire at. absurd (none_there place wire at));
@@ -246,28 +246,28 @@ kept_new owner picker = record {
 -- ---- the same of lists known by equations
 
 pub kept_put_as : (owner : ℕ) (picker : Picker) (history after : List Wire) (flight queue : List ℕ) (from : ℕ) (parcel : Parcel)
-    → IsKept owner picker history flight → parcel.to ≡ owner
+    → IsMailboxKept owner picker history flight → parcel.to ≡ owner
     → after ≡ history ++ put_of from parcel ∷ [] → queue ≡ flight ++ replicate (times picker) (length history)
-    → IsKept owner picker after queue
+    → IsMailboxKept owner picker after queue
 kept_put_as owner picker history after flight queue from parcel kept to more longer =
-    subst (IsKept owner picker after) (sym longer)
-    (subst (λ h. IsKept owner picker h (flight ++ replicate (times picker) (length history))) (sym more)
+    subst (IsMailboxKept owner picker after) (sym longer)
+    (subst (λ h. IsMailboxKept owner picker h (flight ++ replicate (times picker) (length history))) (sym more)
     (kept_put owner picker history flight from parcel kept to))
 
 pub kept_take_as : (owner : ℕ) (picker : Picker) (history after : List Wire) (flight queue : List ℕ) (place : ℕ)
-    → IsKept owner picker history flight → next_of picker flight ≡ Some place
+    → IsMailboxKept owner picker history flight → given_next picker flight ≡ Some place
     → after ≡ history ++ Took owner place ∷ [] → queue ≡ without_next picker flight
-    → IsKept owner picker after queue
+    → IsMailboxKept owner picker after queue
 kept_take_as owner picker history after flight queue place kept next more shorter =
-    subst (IsKept owner picker after) (sym shorter)
-    (subst (λ h. IsKept owner picker h (without_next picker flight)) (sym more)
+    subst (IsMailboxKept owner picker after) (sym shorter)
+    (subst (λ h. IsMailboxKept owner picker h (without_next picker flight)) (sym more)
     (kept_take owner picker history flight place kept next))
 
 -- what `give` did is a take
 pub is_take : (owner : ℕ) (picker : Picker) (closed : Bool) (history after : List Wire) (flight : List ℕ) (place : ℕ)
     → (parcel : Parcel) (before : MailboxRecord)
     → record { owner = owner; picker = picker; closed = closed; history = history } ≡ before
-    → closed ≡ false → IsKept owner picker history flight → next_of picker flight ≡ Some place
+    → closed ≡ false → IsMailboxKept owner picker history flight → given_next picker flight ≡ Some place
     → IsPutOf (slice_get history place) parcel → after ≡ history ++ Took owner place ∷ []
     → IsTake before parcel (record { owner = owner; picker = picker; closed = closed; history = after })
 is_take owner picker closed history after flight place parcel before is open_now kept next put more =
@@ -275,7 +275,7 @@ is_take owner picker closed history after flight place parcel before is open_now
     (record {
       place = place;
       not_closed = open_now;
-      next = ap (next_of picker) (sym kept.queued) ∙ next;
+      next = ap (given_next picker) (sym kept.queued) ∙ next;
       as_put = put;
       for_owner = kept.legal place (put_of put.0 parcel) put.1;
       taken = ap (λ h. record { owner = owner; picker = picker; closed = closed; history = h }) more;

@@ -4,7 +4,7 @@ use Rattle.lrc_envelope.specs.declared.picker.Picker.{Picker}
 use Rattle.lrc_post.specs.declared.parcel.Parcel.{Parcel}
 use Rattle.lrc_post.specs.declared.parcel.Wire.{Wire}
 use Rattle.lrc_post.specs.declared.parcel.Wire.TheVariants.{Took}
-use Rattle.lrc_post.specs.Wires.{put_of, IsPutOf, IsLegal, IsTakenBy, in_flight, next_of}
+use Rattle.lrc_post.specs.Wires.{put_of, IsPutOf, IsLegal, IsTakenBy, in_flight, given_next}
 
 -- whose mailbox it is, which parcel is given next, whether it is closed, and all that was put and taken
 pub record MailboxRecord : Type 0 where
@@ -14,7 +14,7 @@ pub record MailboxRecord : Type 0 where
   pub history : List Wire
 
 -- the history is legal, each take of it is what the picker says, and the queue has what is in flight
-pub record IsKept (owner : ℕ) (picker : Picker) (history : List Wire) (flight : List ℕ) : Type 0 where
+pub record IsMailboxKept (owner : ℕ) (picker : Picker) (history : List Wire) (flight : List ℕ) : Type 0 where
   pub legal : IsLegal owner history
   pub taken_so : IsTakenBy picker history
   pub queued : flight ≡ in_flight picker history
@@ -40,12 +40,12 @@ pub record IsCutShort (before : MailboxRecord) (from : ℕ) (parcels back : List
 pub record IsTake (before : MailboxRecord) (parcel : Parcel) (after : MailboxRecord) : Type 0 where
   pub place : ℕ
   pub not_closed : before.closed ≡ false
-  pub next : next_of before.picker (in_flight before.picker before.history) ≡ Some place
+  pub next : given_next before.picker (in_flight before.picker before.history) ≡ Some place
   pub as_put : IsPutOf (slice_get before.history place) parcel
   pub for_owner : parcel.to ≡ before.owner
   pub taken : after ≡ with_more before (Took before.owner place ∷ [])
 
 -- a parcel was given, or there was none to give and nothing changed
-abbrev pub Gives : MailboxRecord → Option Parcel → MailboxRecord → Type 0
-Gives before None after = (after ≡ before) × ((before.closed ≡ true) ⊎ (in_flight before.picker before.history ≡ []))
-Gives before (Some parcel) after = IsTake before parcel after
+abbrev pub GivesParcel : MailboxRecord → Option Parcel → MailboxRecord → Type 0
+GivesParcel before None after = (after ≡ before) × ((before.closed ≡ true) ⊎ (in_flight before.picker before.history ≡ []))
+GivesParcel before (Some parcel) after = IsTake before parcel after

@@ -37,9 +37,9 @@ times Newest = 1
 times Twice = 2
 
 -- an entry is a take of the parcel that was put at a place
-abbrev pub takes : ℕ → Wire → Bool
-takes place (Put from to stamp bytes) = false
-takes place (Took me put) = put == place
+abbrev pub is_take_of : ℕ → Wire → Bool
+is_take_of place (Put from to stamp bytes) = false
+is_take_of place (Took me put) = put == place
 
 -- a number for a put, and 0 for anything else
 abbrev pub if_put : Option Wire → ℕ → ℕ
@@ -49,7 +49,7 @@ if_put (Some (Took me put)) n = 0
 
 -- how often the parcel that was put at a place is still to be given
 abbrev pub due : Picker → List Wire → ℕ → ℕ
-due picker history place = if_put (slice_get history place) (times picker - count_by (takes place) history)
+due picker history place = if_put (slice_get history place) (times picker - count_by (is_take_of place) history)
 
 -- the numbers below one, ascending, each as often as it is due
 unfoldable pub each_due : (ℕ → ℕ) → ℕ → List ℕ
@@ -61,15 +61,15 @@ abbrev pub in_flight : Picker → List Wire → List ℕ
 in_flight picker history = each_due (due picker history) (length history)
 
 -- the place of the put whose parcel is given next
-abbrev pub next_of : Picker → List ℕ → Option ℕ
-next_of Oldest places = slice_get places 0
-next_of Newest places = slice_get places (length places - 1)
-next_of Twice places = slice_get places 0
+abbrev pub given_next : Picker → List ℕ → Option ℕ
+given_next Oldest places = slice_get places 0
+given_next Newest places = slice_get places (length places - 1)
+given_next Twice places = slice_get places 0
 
 -- each take of a history is of the parcel that is given next of those in flight then
 abbrev pub IsTakenBy : Picker → List Wire → Type 0
 IsTakenBy picker history = (place me put : ℕ) → slice_get history place ≡ Some (Took me put)
-    → next_of picker (in_flight picker (take place history)) ≡ Some put
+    → given_next picker (in_flight picker (take place history)) ≡ Some put
 
 -- the places that are left once the next is given
 abbrev pub without_next : Picker → List ℕ → List ℕ

@@ -3,7 +3,7 @@
 ghost use Rattle.std.specs.Prelude.{◌≡◌, ◌≢◌, ◌%◌, [], ◌∷◌, true, false, length, IfOk, IfErr, IfSome, IsErrAnd, OnErr, OnOk, All, IsTrue, ◌↔◌};
 ghost use Rattle.lrc_envelope.specs.declared.picker.Picker.TheVariants.{Twice};
 ghost use Rattle.lrc_post.specs.declared.fault.PostFault.TheVariants.{Closed, NoMemory};
-ghost use Rattle.lrc_post.specs.Mailbox.{with_puts, IsCutShort, Gives};
+ghost use Rattle.lrc_post.specs.Mailbox.{with_puts, IsCutShort, GivesParcel};
 ghost use Rattle.lrc_post.specs.Wires.{IsLegal, IsTakenBy, in_flight};
 
 use crate::fault::{PostFault, Unput};
@@ -25,13 +25,13 @@ pub struct Mailbox {
 }
 
 impl Model for Mailbox {
-    ghost use Rattle.lrc_post.specs.Mailbox.{MailboxRecord, IsKept};
+    ghost use Rattle.lrc_post.specs.Mailbox.{MailboxRecord, IsMailboxKept};
 
     ghost Value = { MailboxRecord };
 
     ghost view = { λ m. record { owner = m.owner; picker = m.picker; closed = m.closed; history = m.history.items } };
 
-    ghost invariant = { λ m. IsKept m.owner m.picker m.history.items m.flight.items };
+    ghost invariant = { λ m. IsMailboxKept m.owner m.picker m.history.items m.flight.items };
 }
 
 impl Mailbox {
@@ -105,7 +105,7 @@ impl Mailbox {
     /// flight after it was given once. There is none if none is in flight or the mailbox is closed. For want of memory
     /// nothing changes.
     pub fn give(&mut self) -> Result<Option<Parcel>, PostFault>
-        ensures ok { IfOk result (λ parcel. Gives self.old parcel self.new) }
+        ensures ok { IfOk result (λ parcel. GivesParcel self.old parcel self.new) }
         ensures err { OnErr result (self.new ≡ self.old) }
         ensures fault { IfErr result (λ fault. fault ≡ NoMemory) }
     {
@@ -147,7 +147,7 @@ impl Mailbox {
     /// Gives the next parcel to a node, as `give` does where it is the owner. Any other node is given none.
     pub(crate) fn give_to(&mut self, me: u8) -> Result<Option<Parcel>, PostFault>
         ensures mine { IfOk result (λ parcel. IfSome parcel (λ p. p.to ≡ me)) }
-        ensures given { self.old.owner ≡ me → IfOk result (λ parcel. Gives self.old parcel self.new) }
+        ensures given { self.old.owner ≡ me → IfOk result (λ parcel. GivesParcel self.old parcel self.new) }
         ensures err { OnErr result (self.new ≡ self.old) }
     {
         if self.owner() == me {

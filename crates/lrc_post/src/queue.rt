@@ -3,7 +3,7 @@
 ghost use Rattle.std.specs.Prelude.{◌≡◌, ◌+◌, ◌-◌, ◌≤◌, [], ◌∷◌, ◌++◌, IfOk, OnOk, IsSome, Some, length, replicate, slice_get, take, drop};
 ghost use Rattle.std.specs.Vec.{vec_len, vec_capacity};
 ghost use Rattle.std.specs.VecDeque.{deque_len, deque_capacity};
-ghost use Rattle.lrc_post.specs.Wires.{IsPutFor, IsPutOf, next_of, times, without_next};
+ghost use Rattle.lrc_post.specs.Wires.{IsPutFor, IsPutOf, given_next, times, without_next};
 
 use crate::parcel::{Parcel, Wire};
 use lrc_envelope::Picker;
@@ -37,7 +37,7 @@ pub(crate) fn line_up(flight: &mut VecDeque<usize>, picker: Picker, place: usize
 
 /// The place of the parcel that is given next.
 pub(crate) fn next_place(flight: &VecDeque<usize>, picker: Picker) -> Option<usize>
-    ensures { result ≡ next_of picker flight.now.items }
+    ensures { result ≡ given_next picker flight.now.items }
 {
     match picker {
         Picker::Newest => flight.back().copied(),

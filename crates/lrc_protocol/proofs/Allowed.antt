@@ -21,9 +21,9 @@ use Rattle.lrc_protocol.specs.Turn.{discard_by, is_changes_request, is_changes_r
 use Rattle.lrc_protocol.specs.Turn.{is_expected, TurnRecord, done, turn_with, turn_of, turn_if, turn_by, run_turn, turn_taking, is_addressed}
 use Rattle.lrc_protocol.specs.Turn.{is_repeat, taking}
 use Rattle.lrc_protocol.specs.Run.{Input, outcome_of}
-use Rattle.lrc_protocol.specs.Rules.{take_request, IsReadyFor, Accesses, access_read, access_write, IsOwn, own_quiet, own_print, own_trap}
+use Rattle.lrc_protocol.specs.Rules.{take_request, IsReadyFor, AccessesNext, access_read, access_write, IsOwn, own_quiet, own_print, own_trap}
 use Rattle.lrc_protocol.specs.Rules.{own_end, page_at, need_at, RunRule, run_hit, run_miss, run_repair, run_acquire, run_ask, run_release}
-use Rattle.lrc_protocol.specs.Rules.{run_barrier, run_other, IsDeparture, Brings, brings_changes, brings_base_copy, upkeep_at, TakeRule}
+use Rattle.lrc_protocol.specs.Rules.{run_barrier, run_other, IsDepartureDue, Brings, brings_changes, brings_base_copy, upkeep_at, TakeRule}
 use Rattle.lrc_protocol.specs.Rules.{take_forward, take_token, take_arrive, take_last_arrive, take_depart, take_collect, take_collect_at_once}
 use Rattle.lrc_protocol.specs.Rules.{take_reply, take_last_reply, take_kept_reply, take_last_kept_reply, take_clean, take_last_clean}
 use Rattle.lrc_protocol.specs.Rules.{take_discard, take_changes_request, take_page_request, IsSent, with_numbers, TurnRule, by_run, by_repeat}
@@ -54,11 +54,11 @@ begun-made node next effect ready may is =
     ∙ ap (λ (b : Bool). turn_by node (if b then Some next else None)) (may ∙ le-leb (cost_of next) node.left ready.paid)
     ∙ ap turn_if is
 
-access-may : (left : ℕ) (next : Next) (word : ℕ) → Accesses next word → may_begin left next ≡ nat_le (cost_of next) left
+access-may : (left : ℕ) (next : Next) (word : ℕ) → AccessesNext next word → may_begin left next ≡ nat_le (cost_of next) left
 access-may left next word (access_read w after) = refl
 access-may left next word (access_write w value after) = refl
 
-access-effect : (node : Node) (next : Next) (word : ℕ) → Accesses next word
+access-effect : (node : Node) (next : Next) (word : ℕ) → AccessesNext next word
     → run_effect (charged node next) next ≡ Some (reaches (charged node next) (page_at node word))
 access-effect node next word (access_read w after) = refl
 access-effect node next word (access_write w value after) = refl
@@ -75,7 +75,7 @@ own-effect node next (own_print value after) = refl
 own-effect node next (own_trap cause) = refl
 own-effect node next own_end = refl
 
-access-made : (node : Node) (next : Next) (word : ℕ) (effect : Effect) → IsReadyFor node next → Accesses next word
+access-made : (node : Node) (next : Next) (word : ℕ) (effect : Effect) → IsReadyFor node next → AccessesNext next word
     → reaches (charged node next) (page_at node word) ≡ effect → run_turn node ≡ turn_of effect
 access-made node next word effect ready a is =
     begun-made node next effect ready (access-may node.left next word a) (access-effect node next word a ∙ ap Some is)
@@ -127,7 +127,7 @@ clean-made : (node : Node) (from episode : ℕ) (before : ManagerRecord) (step :
 clean-made node from episode before step at is =
     ap (λ (o : Option ManagerRecord). option_and_then (λ manager. clean_by node (cleaned manager from episode)) o) at ∙ ap (clean_by node) is
 
-depart-made : (node : Node) (from : ℕ) (m : DepartRecord) → IsDeparture node from m
+depart-made : (node : Node) (from : ℕ) (m : DepartRecord) → IsDepartureDue node from m
     → takes node from (Depart m) ≡ Some (take_departure node m.collect m.time m.intervals)
 depart-made node from m d =
     made (is_departure node from m) _

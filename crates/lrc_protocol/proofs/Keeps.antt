@@ -18,7 +18,7 @@ use Rattle.lrc_protocol.specs.Barriers.{arrival_in, kept_pages, with_keepers, ba
 use Rattle.lrc_protocol.specs.Node.{Letter, Wait, nothing, grant, departure, access, upkeep, discard, collection_of, Course, going, trapped}
 use Rattle.lrc_protocol.specs.Node.{ended, thread_of, deed_of, course_of, Node, OptionsRecord, Effect, sends, acts, acts_by, value_read}
 use Rattle.lrc_protocol.specs.Node.{with_memory, waiting, own_index}
-use Rattle.lrc_protocol.specs.Turn.{requests_of, fetches, keeps_up, takes_reply, with_needs, closes, closing, reaches, acquire_at, release_at, arrive_at}
+use Rattle.lrc_protocol.specs.Turn.{requests_of, fetches, keeps_up, takes_reply, with_needs, after_close, closing, reaches, acquire_at, release_at, arrive_at}
 use Rattle.lrc_protocol.specs.Turn.{run_effect, learns, given, is_request, is_forward, forward_by, is_grant, are_arriving, arrive_by}
 use Rattle.lrc_protocol.specs.Turn.{is_departure, needs_to_keep, collects, clean_by, discard_by, is_changes_request, is_changes_reply}
 use Rattle.lrc_protocol.specs.Turn.{is_page_request, page_reply_by, is_page_reply, takes}
@@ -99,7 +99,7 @@ takes_reply-keeps node (discard collection) = sends-keeps [] _
 -- ---- what a node does by itself
 
 closing-keeps : (node : Node) (go : Node → Effect) → ((m : Node) → Kept m (go m)) → KeptIf node (closing node go)
-closing-keeps node go k = optional node (nat_lt (own_index node) MOST_NUMBER) (go (closes node)) (k (closes node))
+closing-keeps node go k = optional node (nat_lt (own_index node) MOST_NUMBER) (go (after_close node)) (k (after_close node))
 
 reaches-keeps : (node : Node) (page : ℕ) → Kept node (reaches node page)
 reaches-keeps node page =

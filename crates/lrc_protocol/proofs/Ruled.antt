@@ -20,15 +20,15 @@ use Rattle.lrc_protocol.specs.Barriers.{base_at, arrival_in}
 use Rattle.lrc_protocol.specs.Node.{Wait, nothing, grant, departure, access, upkeep, discard, needs_of, numbered, is_idle, awaits_grant}
 use Rattle.lrc_protocol.specs.Node.{awaits_departure, collection_of, Course, going, trapped, ended, cost_of, Node, Effect, sends, with_memory}
 use Rattle.lrc_protocol.specs.Node.{with_tokens, own_index}
-use Rattle.lrc_protocol.specs.Turn.{may_begin, begins_of, with_needs, takes_reply, closes, reaches, acquire_at, release_at, arrive_at}
+use Rattle.lrc_protocol.specs.Turn.{may_begin, begins_of, with_needs, takes_reply, after_close, reaches, acquire_at, release_at, arrive_at}
 use Rattle.lrc_protocol.specs.Turn.{run_effect, charged, grants_of, given, is_request, is_forward, forward_by, is_grant, are_arriving}
 use Rattle.lrc_protocol.specs.Turn.{arrive_by, is_departure, clean_by, discard_by, is_changes_request, is_changes_reply, is_page_request}
 use Rattle.lrc_protocol.specs.Turn.{page_reply_by, is_page_reply, takes, TurnRecord, Outcome, done, not_ready, unexpected, worn, turn_with}
 use Rattle.lrc_protocol.specs.Turn.{turn_of, turn_if, turn_by, turn_taking, take_anew, take_turn, taking, is_addressed, is_repeat, empty_turn}
 use Rattle.lrc_protocol.specs.Run.{Input, run, taken as taken_in, outcome_of}
-use Rattle.lrc_protocol.specs.Rules.{take_request, IsReadyFor, Accesses, access_read, access_write, own_quiet, own_print, own_trap, own_end}
+use Rattle.lrc_protocol.specs.Rules.{take_request, IsReadyFor, AccessesNext, access_read, access_write, own_quiet, own_print, own_trap, own_end}
 use Rattle.lrc_protocol.specs.Rules.{page_at, need_at, RunRule, run_hit, run_miss, run_repair, run_acquire, run_ask, run_release, run_barrier}
-use Rattle.lrc_protocol.specs.Rules.{run_other, IsDeparture, Brings, brings_changes, brings_base_copy, upkeep_at, TakeRule, take_forward}
+use Rattle.lrc_protocol.specs.Rules.{run_other, IsDepartureDue, Brings, brings_changes, brings_base_copy, upkeep_at, TakeRule, take_forward}
 use Rattle.lrc_protocol.specs.Rules.{take_token, take_arrive, take_last_arrive, take_depart, take_collect, take_collect_at_once, take_reply}
 use Rattle.lrc_protocol.specs.Rules.{take_last_reply, take_kept_reply, take_last_kept_reply, take_clean, take_last_clean, take_discard}
 use Rattle.lrc_protocol.specs.Rules.{take_changes_request, take_page_request, IsSent, with_numbers, IsFor, TurnRule, by_run, by_repeat}
@@ -61,7 +61,7 @@ paid_for left (departs after) e = cc
 paid_for left (traps cause) e = leb-true (cost_of (traps cause)) left e
 paid_for left ends e = leb-true (cost_of ends) left e
 
-access-ruled : (node : Node) (next : Next) (word : ℕ) → IsReadyFor node next → Accesses next word
+access-ruled : (node : Node) (next : Next) (word : ℕ) → IsReadyFor node next → AccessesNext next word
     → RunRule node (reaches (charged node next) (page_at node word))
 access-ruled node next word ready a =
     either (RunRule node) (is_readable (copy_at node.memory (page_at node word))) _ _
@@ -71,7 +71,7 @@ access-ruled node next word ready a =
     (λ unmet. run_miss ready a away unmet))
 
 acquire-ruled : (node : Node) (lock : ℕ) (after : Thread) → IsReadyFor node (acquires lock after) → own_index node < MOST_NUMBER
-    → RunRule node (acquire_at lock (closes (charged node (acquires lock after))))
+    → RunRule node (acquire_at lock (after_close (charged node (acquires lock after))))
 acquire-ruled node lock after ready room =
     either (RunRule node) (is_free (lock_at node.locks.held lock)) _ _
     (λ free. run_acquire lock after ready room free)
@@ -84,13 +84,13 @@ run-ruled node (prints value after) ready e = run_other ready (own_print value a
 run-ruled node (reads word after) ready e = access-ruled node _ word ready (access_read word after)
 run-ruled node (writes word value after) ready e = access-ruled node _ word ready (access_write word value after)
 run-ruled node (acquires lock after) ready e =
-    optional node (nat_lt (own_index node) MOST_NUMBER) (acquire_at lock (closes (charged node (acquires lock after))))
+    optional node (nat_lt (own_index node) MOST_NUMBER) (acquire_at lock (after_close (charged node (acquires lock after))))
     (λ room. acquire-ruled node lock after ready (ltb-true _ _ room))
 run-ruled node (releases lock after) ready e =
-    optional node (nat_lt (own_index node) MOST_NUMBER) (release_at lock (closes (charged node (releases lock after))))
+    optional node (nat_lt (own_index node) MOST_NUMBER) (release_at lock (after_close (charged node (releases lock after))))
     (λ room. run_release lock after ready (ltb-true _ _ room))
 run-ruled node (arrives after) ready e =
-    optional node (nat_lt (own_index node) MOST_NUMBER) (arrive_at (closes (charged node (arrives after))))
+    optional node (nat_lt (own_index node) MOST_NUMBER) (arrive_at (after_close (charged node (arrives after))))
     (λ room. run_barrier after ready (ltb-true _ _ room))
 run-ruled node (departs after) ready e = cc
 run-ruled node (traps cause) ready e = run_other ready (own_trap cause)
@@ -220,7 +220,7 @@ take-ruled node from (Depart m) =
     let covered : _ = and_parts _ _ outer.0 in
     let counted : _ = and_parts _ _ covered.0 in
     let waited : _ = and_parts _ _ counted.0 in
-    let d : IsDeparture node from m = record {
+    let d : IsDepartureDue node from m = record {
       from_manager = eqb-true _ _ waited.0;
       awaited = awaits-leave node.mail.wait waited.1;
       episode = eqb-true _ _ counted.1;

@@ -32,8 +32,8 @@ abbrev pub with_manager : ManagerRecord → Barrier → Barrier
 with_manager manager barrier = record barrier { manager = Some manager }
 
 -- the index of a node's newest interval that has come to the manager
-abbrev pub last_from : Barrier → ℕ → ℕ
-last_from barrier from = unwrap_or (option_map (λ manager. slice_index manager.last from) barrier.manager) 0
+abbrev pub last_arrived : Barrier → ℕ → ℕ
+last_arrived barrier from = unwrap_or (option_map (λ manager. slice_index manager.last from) barrier.manager) 0
 
 -- what an Arrive says
 abbrev pub arrival_in : ArriveRecord → Arrival

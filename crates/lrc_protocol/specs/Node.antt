@@ -19,7 +19,7 @@ use Rattle.lrc_envelope.specs.Envelope.{EnvelopeRecord}
 use Rattle.lrc_envelope.specs.declared.message.Message.{Message}
 use Rattle.lrc_lock.specs.Held.{HeldRecord}
 use Rattle.lrc_protocol.specs.Times.{MOST_NUMBER}
-use Rattle.lrc_protocol.specs.Pages.{fresh_memory, Memory, Need, value_at, with_word}
+use Rattle.lrc_protocol.specs.Pages.{fresh_memory, Memory, Need, value_at, with_written_word}
 use Rattle.lrc_protocol.specs.Locks.{fresh_locks, Locks, with_held}
 use Rattle.lrc_protocol.specs.Barriers.{Barrier, Collection, fresh_barrier}
 
@@ -219,7 +219,7 @@ value_read node _ = 0
 
 -- the memory after a write to the node's copy
 abbrev pub memory_after : Node → Next → Memory
-memory_after node (writes word value after) = with_word node.options.size word value node.memory
+memory_after node (writes word value after) = with_written_word node.options.size word value node.memory
 memory_after node _ = node.memory
 
 -- makes the act that a thread does next

@@ -101,8 +101,8 @@ abbrev pub value_at : Size → Memory → ℕ → ℕ
 value_at size memory word = slice_index (values_of (copy_at memory (page_of word size))) (offset_of word size)
 
 -- the memory after a write of a word on a readable page
-abbrev pub with_word : Size → ℕ → ℕ → Memory → Memory
-with_word size word value memory =
+abbrev pub with_written_word : Size → ℕ → ℕ → Memory → Memory
+with_written_word size word value memory =
     let page = page_of word size in
     with_copy memory page (after_write (copy_at memory page) (offset_of word size) value)
 
@@ -235,12 +235,12 @@ abbrev pub is_met : Need → Bool
 is_met need = not (is_due need.base) && is_nothing need.asked
 
 -- these are the changes that are asked of a maker
-abbrev pub asks : ℕ → List ℕ → Asked → Bool
-asks maker indices asked = (asked.maker == maker) && pointwise ◌==◌ asked.indices indices
+abbrev pub asks_just : ℕ → List ℕ → Asked → Bool
+asks_just maker indices asked = (asked.maker == maker) && pointwise ◌==◌ asked.indices indices
 
 -- the need awaits, of that page, just these changes from that maker
 abbrev pub awaits_changes : ℕ → ℕ → List ℕ → Need → Bool
-awaits_changes page maker indices need = (need.page == page) && list_any (asks maker indices) need.asked
+awaits_changes page maker indices need = (need.page == page) && list_any (asks_just maker indices) need.asked
 
 -- a base copy is due from this keeper
 abbrev pub is_due_from : ℕ → Base → Bool

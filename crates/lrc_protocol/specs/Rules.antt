@@ -28,7 +28,7 @@ use Rattle.lrc_protocol.specs.Barriers.{arrival_in, with_keepers, kept_pages, ba
 use Rattle.lrc_protocol.specs.Node.{nothing, grant, departure, access, upkeep, discard, needs_of, numbered, going, cost_of, Node, Effect}
 use Rattle.lrc_protocol.specs.Node.{with_locks, with_barrier, with_memory, with_tokens, waiting, sends, acts, own_index}
 use Rattle.lrc_protocol.specs.Turn.{request_of, forward_to, grants_of, arrival_of, departure_of, discards_to, requests_of, changes_reply_to}
-use Rattle.lrc_protocol.specs.Turn.{page_reply_to, cleans, closes, charged, is_learnable, are_arriving, are_changes, learns, needs_to_keep}
+use Rattle.lrc_protocol.specs.Turn.{page_reply_to, cleans, after_close, charged, is_learnable, are_arriving, are_changes, learns, needs_to_keep}
 use Rattle.lrc_protocol.specs.Turn.{TurnRecord, with_sent, empty_turn, is_repeat, taking}
 use Rattle.lrc_protocol.specs.Run.{Input, run, taken as taken_in}
 
@@ -43,9 +43,9 @@ pub record IsReadyFor (node : Node) (next : Next) : Type 0 where
   pub paid : cost_of next ≤ node.left
 
 -- what accesses shared memory, and the word
-pub data Accesses : Next → ℕ → Type 0 where
-  access_read : (word : ℕ) (after : ℕ → Thread) → Accesses (reads word after) word
-  access_write : (word value : ℕ) (after : Thread) → Accesses (writes word value after) word
+pub data AccessesNext : Next → ℕ → Type 0 where
+  access_read : (word : ℕ) (after : ℕ → Thread) → AccessesNext (reads word after) word
+  access_write : (word value : ℕ) (after : Thread) → AccessesNext (writes word value after) word
 
 -- what needs no other node, and changes no part of this one but its text
 pub data IsOwn : Next → Type 0 where
@@ -64,21 +64,21 @@ need_at node page = need_of node.setting.nodes node.memory page
 
 -- the node once it has begun what closes its open interval
 abbrev pub closed_for : Node → Next → Node
-closed_for node next = closes (charged node next)
+closed_for node next = after_close (charged node next)
 
 -- the rules of a node that goes on by itself
 pub data RunRule (node : Node) : Effect → Type 0 where
   -- a hit: the access
-  run_hit : {next : Next} {word : ℕ} → IsReadyFor node next → Accesses next word
+  run_hit : {next : Next} {word : ℕ} → IsReadyFor node next → AccessesNext next word
       → is_readable (copy_at node.memory (page_at node word)) ≡ true
       → RunRule node (acts [] (charged node next))
   -- a miss: it asks for what the page needs, and waits;
-  run_miss : {next : Next} {word : ℕ} → IsReadyFor node next → Accesses next word
+  run_miss : {next : Next} {word : ℕ} → IsReadyFor node next → AccessesNext next word
       → is_readable (copy_at node.memory (page_at node word)) ≡ false → is_met (need_at node (page_at node word)) ≡ false
       → RunRule node
       (sends (requests_of (need_at node (page_at node word))) (waiting (access (need_at node (page_at node word))) (charged node next)))
   -- and where nothing has to be asked it repairs the page, and makes the access
-  run_repair : {next : Next} {word : ℕ} → IsReadyFor node next → Accesses next word
+  run_repair : {next : Next} {word : ℕ} → IsReadyFor node next → AccessesNext next word
       → is_readable (copy_at node.memory (page_at node word)) ≡ false → is_met (need_at node (page_at node word)) ≡ true
       → RunRule node
       (acts (requests_of (need_at node (page_at node word)))
@@ -113,7 +113,7 @@ pub data RunRule (node : Node) : Effect → Type 0 where
 
 -- A Depart for this node: from node 0, for the episode from which it awaits to depart, with a time that covers its own,
 -- and news that it can learn.
-pub record IsDeparture (node : Node) (from : ℕ) (m : DepartRecord) : Type 0 where
+pub record IsDepartureDue (node : Node) (from : ℕ) (m : DepartRecord) : Type 0 where
   pub from_manager : from ≡ 0
   pub awaited : node.mail.wait ≡ departure
   pub episode : m.episode ≡ node.barrier.episode
@@ -173,14 +173,14 @@ pub data TakeRule (node : Node) (from : ℕ) : Message → Effect → Type 0 whe
       → are_arriving node from m.time m.intervals ≡ true → arrived before from (arrival_in m) ≡ departs departures after
       → TakeRule node from (Arrive m) (sends (map departure_of departures) (with_barrier node (with_manager after node.barrier)))
   -- Depart: the node learns the news;
-  take_depart : (m : DepartRecord) → IsDeparture node from m → m.collect ≡ false
+  take_depart : (m : DepartRecord) → IsDepartureDue node from m → m.collect ≡ false
       → TakeRule node from (Depart m) (acts [] (waiting nothing (learns m.time m.intervals node)))
   -- where it collects, there are new keepers, and the node asks for what its pages need,
-  take_collect : (m : DepartRecord) → IsDeparture node from m → m.collect ≡ true → list_all is_met (upkeep_at node m) ≡ false
+  take_collect : (m : DepartRecord) → IsDepartureDue node from m → m.collect ≡ true → list_all is_met (upkeep_at node m) ≡ false
       → TakeRule node from (Depart m)
       (sends (flat_map requests_of (upkeep_at node m)) (waiting (upkeep (collection_at node m) (upkeep_at node m)) (keeping node m)))
   -- or keeps its base copies and tells node 0
-  take_collect_at_once : (m : DepartRecord) → IsDeparture node from m → m.collect ≡ true → list_all is_met (upkeep_at node m) ≡ true
+  take_collect_at_once : (m : DepartRecord) → IsDepartureDue node from m → m.collect ≡ true → list_all is_met (upkeep_at node m) ≡ true
       → TakeRule node from (Depart m) (cleans (keeping node m) (collection_at node m) (upkeep_at node m))
   -- a reply at a miss: it is kept;
   take_reply : {message : Message} {memory : Memory} {change : Need → Need} (need : Need) → Brings node from message memory change

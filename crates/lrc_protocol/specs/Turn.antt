@@ -32,7 +32,7 @@ use Rattle.lrc_protocol.specs.Times.{are_between, MOST_NUMBER}
 use Rattle.lrc_protocol.specs.Pages.{Asked, awaits_changes, awaits_page, Base, changes_or_none, copy_at, due, is_met, is_readable, learned}
 use Rattle.lrc_protocol.specs.Pages.{mended, Need, need_of, with_changes, with_interval, with_page, with_part}
 use Rattle.lrc_protocol.specs.Locks.{ticked, with_managed, with_time}
-use Rattle.lrc_protocol.specs.Barriers.{arrival_in, base_at, clean_memory, collected_at, Collection, kept_pages, last_from, with_arrive}
+use Rattle.lrc_protocol.specs.Barriers.{arrival_in, base_at, clean_memory, collected_at, Collection, kept_pages, last_arrived, with_arrive}
 use Rattle.lrc_protocol.specs.Barriers.{with_keepers, with_manager}
 use Rattle.lrc_protocol.specs.Node.{access, acts, awaits_departure, awaits_grant, collection_of, cost_of, Course, departure, discard, Effect}
 use Rattle.lrc_protocol.specs.Node.{ended, going, grant, is_idle, Letter, needs_of, Node, nothing, numbered, own_index, sends, trapped, upkeep}
@@ -59,14 +59,14 @@ abbrev pub charged : Node → Next → Node
 charged node next = record node { left = node.left - cost_of next }
 
 -- the node once its open interval is closed: its clock ticks, and the interval is stored with the new time as its stamp
-abbrev pub closes : Node → Node
-closes node =
+abbrev pub after_close : Node → Node
+after_close node =
     let locks = ticked node.setting.me node.locks in
     record node { locks = locks; memory = with_interval node.setting.me locks.time node.memory }
 
 -- closes the open interval and goes on; none where its index would be too large
 abbrev pub closing : Node → (Node → Effect) → Option Effect
-closing node go = if nat_lt (own_index node) MOST_NUMBER then Some (go (closes node)) else None
+closing node go = if nat_lt (own_index node) MOST_NUMBER then Some (go (after_close node)) else None
 
 -- ---- an access: a hit, or a miss
 
@@ -186,15 +186,15 @@ abbrev pub are_changes : Node → IndexedChangesRecord → Bool
 are_changes node part = list_all (λ change. nat_lt change.offset (words_of node.options.size)) part.changes
 
 -- a time and intervals in range, where the time covers each stamp
-abbrev pub is_news : Node → List ℕ → List IntervalRecord → Bool
-is_news node time intervals =
+abbrev pub is_news_in_range : Node → List ℕ → List IntervalRecord → Bool
+is_news_in_range node time intervals =
     is_time node time && list_all (is_interval node) intervals && list_all (λ i. covers time i.stamp) intervals
 
 -- news that a node can learn: for each node the intervals are exactly those above this node's time and up to the time
 -- that comes, which has no more of this node than the node itself
 abbrev pub is_learnable : Node → List ℕ → List IntervalRecord → Bool
 is_learnable node time intervals =
-    is_news node time intervals
+    is_news_in_range node time intervals
     && list_all (λ q. are_between intervals q (entry node.locks.time q) (entry time q)) (range_with_len 0 node.setting.nodes)
     && nat_le (entry time node.setting.me) (entry node.locks.time node.setting.me)
 
@@ -253,9 +253,9 @@ take_grant node m =
 -- Arrive is expected where its intervals are the sender's own, exactly from one past the last that the manager has of it,
 abbrev pub are_arriving : Node → ℕ → List ℕ → List IntervalRecord → Bool
 are_arriving node from time intervals =
-    is_news node time intervals
+    is_news_in_range node time intervals
     && list_all (λ interval. interval.node == from) intervals
-    && are_between intervals from (last_from node.barrier from) (entry time from)
+    && are_between intervals from (last_arrived node.barrier from) (entry time from)
 
 -- what a departure says to its node
 abbrev pub departure_of : Departure → Letter

@@ -9,7 +9,7 @@ use Rattle.lrc_trace.specs.declared.trace.Segment.{Segment}
 use Rattle.lrc_trace.specs.Synchronization.{IsWellSynchronized, WaitsAtBarriers}
 use Rattle.lrc_trace.specs.Trace.{TraceRecord, has_access}
 use Rattle.lrc_clock.specs.Keeping.{KeepsTime}
-use Rattle.lrc_clock.specs.Races.{IsSegment, IsRaceOfSegments, WritesIn, AccessesIn}
+use Rattle.lrc_clock.specs.Races.{IsSegmentOf, IsRaceOfSegments, WritesIn, AccessesIn}
 use Rattle.lrc_clock.proofs.Racing.{segment_time}
 use Rattle.lrc_race.specs.Races.{AreConflicting, IsRaceOf}
 use Rattle.lrc_race.specs.OfRun.{AreOfRun}
@@ -72,13 +72,13 @@ module _ (nodes : ℕ) (run : List Act) (times : List (List ℕ)) (traces : List
     index_is : s.interval ≡ index
     time_is : s.time ≡ time
 
-  found : (node index : ℕ) (time : List ℕ) → IsSegment run times node index time → Found node index time
+  found : (node index : ℕ) (time : List ℕ) → IsSegmentOf run times node index time → Found node index time
   found node index time q =
       let h = of.all q.position node q.word q.access in
       let index_is : h.segment.interval ≡ index = h.interval ∙ q.interval in
-      let is : IsSegment run times node index h.segment.time =
-      subst (λ p. IsSegment run times p index h.segment.time) h.node_is
-      (subst (λ i. IsSegment run times h.trace.node i h.segment.time) index_is
+      let is : IsSegmentOf run times node index h.segment.time =
+      subst (λ p. IsSegmentOf run times p index h.segment.time) h.node_is
+      (subst (λ i. IsSegmentOf run times h.trace.node i h.segment.time) index_is
       (of.segments h.trace h.segment h.trace_there h.segment_there)) in
       record {
         a = h.trace;

@@ -8,7 +8,7 @@ use Rattle.lrc_trace.specs.Interval.{interval_at, IsNamedRace}
 use Rattle.lrc_trace.specs.Synchronization.{IsWellSynchronized, WaitsAtBarriers}
 use Rattle.lrc_trace.specs.Trace.{TraceRecord, has_access}
 use Rattle.lrc_clock.specs.Keeping.{KeepsTime}
-use Rattle.lrc_clock.specs.Races.{IsSegment, WritesIn}
+use Rattle.lrc_clock.specs.Races.{IsSegmentOf, WritesIn}
 use Rattle.lrc_race.specs.Races.{IsRaceOf}
 
 -- the node reads the word in this interval of its own
@@ -28,7 +28,7 @@ pub record HasSegment (run : List Act) (traces : List TraceRecord) (node positio
 pub record AreOfRun (run : List Act) (times : List (List ℕ)) (traces : List TraceRecord) : Type 0 where
   -- each segment is of an interval with an access, and has the stamp of the interval,
   pub segments : (a : TraceRecord) (s : Segment) → Contains traces a → Contains a.segments s
-      → IsSegment run times a.node s.interval s.time
+      → IsSegmentOf run times a.node s.interval s.time
   -- it has the words that the node writes and reads in the interval,
   pub writes : (a : TraceRecord) (s : Segment) (word : ℕ) → Contains traces a → Contains a.segments s
       → IsTrue (has_access a.size s true word) ↔ WritesIn run a.node s.interval word

@@ -8,7 +8,7 @@ use Rattle.lrc_page.specs.Page.{words_of}
 use Rattle.lrc_time.specs.Time.{Covers}
 use Rattle.lrc_store.specs.Store.{StoredRecord, notice_of}
 use Rattle.lrc_copies.specs.Page.{PageFits, AgreeOnPage, IsUntouchedBy, IsMadeOf, IsClosedWith}
-use Rattle.lrc_copies.specs.Stamps.{covered, IsBetween}
+use Rattle.lrc_copies.specs.Stamps.{covered, StandsBetween}
 use Rattle.lrc_envelope.specs.Envelope.{EnvelopeRecord}
 use Rattle.lrc_envelope.specs.Records.{PageReplyRecord}
 use Rattle.lrc_envelope.specs.declared.message.Message.TheVariants.{PageRequest, PageReply}
@@ -82,7 +82,7 @@ pub record AreServed (made : List StoredRecord) (world : World) : Type 0 where
       → AwaitsBase l.node page keeper → Covers l.node.memory.collected (base_bound kept.node page)
   pub unnamed : (n keeper page : ℕ) (l kept : Logged) (x : StoredRecord) → slice_get world.nodes n ≡ Some l
       → slice_get world.nodes keeper ≡ Some kept → AwaitsBase l.node page keeper
-      → IsBetween made_stamps made (base_bound kept.node page) l.node.memory.collected x → notice_of page x ≡ None
+      → StandsBetween made_stamps made (base_bound kept.node page) l.node.memory.collected x → notice_of page x ≡ None
 
 -- ---- copies
 

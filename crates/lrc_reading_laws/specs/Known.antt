@@ -3,7 +3,7 @@ use Rattle.std.specs.Prelude.{◌≡◌, ℕ, ◌<◌, Some, List, map, slice_ge
 use Rattle.lrc_page.specs.declared.changes.Change.{Change}
 use Rattle.lrc_store.specs.declared.key.Key.{Key}
 use Rattle.lrc_store.specs.Store.{StoredRecord, NoticeRecord, interval_of, stored_at, changes_at}
-use Rattle.lrc_copies.specs.Stamps.{index_of, IsCut, AreStamped}
+use Rattle.lrc_copies.specs.Stamps.{stamp_index, IsCut, AreStamped}
 use Rattle.lrc_envelope.specs.Envelope.{EnvelopeRecord}
 use Rattle.lrc_envelope.specs.Records.{IndexedChangesRecord, ChangesReplyRecord}
 use Rattle.lrc_envelope.specs.declared.message.Message.TheVariants.{ChangesReply}
@@ -21,7 +21,7 @@ pub record AreKnown (nodes : ℕ) (made : List StoredRecord) (world : World) : T
   pub attached : All IsAttached made
   pub pages : All (λ (x : StoredRecord). AllPairs (λ (a b : NoticeRecord). a.page < b.page) x.notices) made
   -- no two have the same node and index;
-  pub found : (x : StoredRecord) → Contains made x → stored_at made x.node (index_of made_stamps x) ≡ Some x
+  pub found : (x : StoredRecord) → Contains made x → stored_at made x.node (stamp_index made_stamps x) ≡ Some x
   -- their stamps are cuts, and so are the times of the nodes, what they collected, and what they remember of invalid copies;
   pub stamped : AreStamped made_stamps nodes made
   pub time : (n : ℕ) (l : Logged) → slice_get world.nodes n ≡ Some l → IsCut made_stamps made l.node.locks.time

@@ -13,10 +13,10 @@ pub data Wish : Type 0 where
   changes : (page : ℕ) (indices : List ℕ) → Wish
 
 -- what a request asks for
-abbrev pub asked_in : Message → Option Wish
-asked_in (ChangesRequest m) = Some (changes m.page m.indices)
-asked_in (PageRequest page) = Some (base_copy page)
-asked_in _ = None
+abbrev pub wish_in : Message → Option Wish
+wish_in (ChangesRequest m) = Some (changes m.page m.indices)
+wish_in (PageRequest page) = Some (base_copy page)
+wish_in _ = None
 
 -- what a reply brings
 abbrev pub told_in : Message → Option Wish
@@ -36,7 +36,7 @@ is_wish w (Some v) = same_wish v w
 
 -- a request for it from node n to node q; and a reply to n with it, from q
 abbrev pub asks_for : ℕ → ℕ → Wish → EnvelopeRecord → Bool
-asks_for n q w e = is_wish w (asked_in e.message) && (e.to == q) && (e.from == n)
+asks_for n q w e = is_wish w (wish_in e.message) && (e.to == q) && (e.from == n)
 
 abbrev pub brings : ℕ → ℕ → Wish → EnvelopeRecord → Bool
 brings n q w e = is_wish w (told_in e.message) && (e.from == q) && (e.to == n)

@@ -6,7 +6,7 @@ ghost use Rattle.lrc_lang.specs.declared.program.Program.{Program};
 ghost use Rattle.lrc_trace.specs.Conflict.{IsRaceFree, IsFirstRace};
 ghost use Rattle.lrc_trace.specs.Reading.{ReadsLazily};
 ghost use Rattle.lrc_exec.specs.Plain.{plain};
-ghost use Rattle.lrc_plain_laws.specs.Follows.{nodes_of};
+ghost use Rattle.lrc_plain_laws.specs.Follows.{nodes_of_acts};
 ghost use Rattle.lrc_plain_laws.specs.Racing.{HasNoRace, PlainToRace};
 ghost use Rattle.lrc_protocol.specs.declared.event.Event.{Event};
 ghost use Rattle.lrc_protocol.specs.Node.{OptionsRecord};
@@ -26,7 +26,7 @@ pub fn runs_read_lazily()
 pub fn runs_without_a_race_are_plain()
     ensures { (program : Program) (nodes : ℕ) (options : OptionsRecord) (events : List Event) (world : World)
         → run_of program nodes options events ≡ Some world → IsRaceFree world.acts
-        → plain program nodes (nodes_of world.acts) ≡ Some world.acts }
+        → plain program nodes (nodes_of_acts world.acts) ≡ Some world.acts }
 {}
 
 /// Every run is plain up to its first race: the plain machine, led by the same nodes, makes the acts before it, and then one of

@@ -4,7 +4,7 @@ use Rattle.lrc_protocol.specs.Node.{Node}
 use Rattle.lrc_protocol.specs.Run.{Input, EntryRecord, Logged, logged, logs}
 use Rattle.lrc_world.proofs.Made.{is_entry}
 use Rattle.lrc_weave.specs.Logs.{MayCome, GoesOnBy}
-use Rattle.lrc_run.specs.Worker.{Turns, none, more, unmade}
+use Rattle.lrc_run.specs.Worker.{Turns, none, more, no_turn_yet}
 
 -- a node with its log goes on by these entries to another state of it
 abbrev LeadsTo : Logged → List EntryRecord → Logged → Type 0
@@ -41,6 +41,6 @@ goes_on_by l j [] leads = tt
 goes_on_by l j (entry ∷ others) leads = (leads.0, leads.1, leads.2, leads.3, goes_on_by leads.1 j others leads.4)
 
 -- the log of a node's turns from its first on is one by which it goes on
-pub log_goes_on : (start : Node) (j : Logged) → Turns (unmade start) j → GoesOnBy (unmade start) j.log
+pub log_goes_on : (start : Node) (j : Logged) → Turns (no_turn_yet start) j → GoesOnBy (no_turn_yet start) j.log
 log_goes_on start j turns =
-    let led = leads_on turns in subst (GoesOnBy (unmade start)) (sym led.1) (goes_on_by (unmade start) j led.0 led.2)
+    let led = leads_on turns in subst (GoesOnBy (no_turn_yet start)) (sym led.1) (goes_on_by (no_turn_yet start) j led.0 led.2)

@@ -11,14 +11,14 @@ use Rattle.lrc_weave.specs.Woven.{AreWoven}
 use Rattle.lrc_weave.proofs.Played.{whole_run}
 use Rattle.lrc_world.specs.declared.report.Report.{Report}
 use Rattle.lrc_world.specs.Report.{AreAll, IsReportOf}
-use Rattle.lrc_run.specs.Run.{IsWovenReport, turns_of}
+use Rattle.lrc_run.specs.Run.{IsWovenReport, turns_of_nodes}
 
 -- the count of nodes is given to what makes the report as a wider number
 module _ (program : Program) (nodes wide : ℕ) (options : OptionsRecord) (count : wide ≡ nodes) (logs : List (List EntryRecord))
     (are : AreLogs program nodes options logs) (events : List Event) (woven : (flight : List Flying) × AreWoven logs events flight)
     (report : Report) (reported : IsReportOf program wide options events report) where
   -- its turns are those of the logs
-  same_turns : turns_of report ≡ logs
+  same_turns : turns_of_nodes report ≡ logs
   same_turns =
       let all = subst (λ n. AreLogs program n options logs) (sym count) are in
       let run = whole_run logs program wide options all events woven.0 woven.1 in
@@ -34,5 +34,5 @@ module _ (program : Program) (nodes wide : ℕ) (options : OptionsRecord) (count
     over = subst (λ n. AreAll program n options events) count over;
   }
 
-  pub still_matched : (wires : List MailboxRecord) → AreMatched logs wires → AreMatched (turns_of report) wires
+  pub still_matched : (wires : List MailboxRecord) → AreMatched logs wires → AreMatched (turns_of_nodes report) wires
   still_matched wires matched = subst (λ turns. AreMatched turns wires) (sym same_turns) matched

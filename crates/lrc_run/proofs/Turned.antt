@@ -13,7 +13,7 @@ use Rattle.lrc_node.specs.declared.fault.NodeFault.TheVariants as NodeFaults
 use Rattle.lrc_node.specs.declared.fault.NodeFault.TheVariants.{Failed, NotReady, Unexpected}
 use Rattle.lrc_run.specs.declared.stop.Stop.{Stop}
 use Rattle.lrc_run.specs.declared.stop.Stop.TheVariants.{Closed, Worn, NoMemory}
-use Rattle.lrc_run.specs.Worker.{goes_on, takes_message, drops, Goes, stays, steps, none, more, GoesTo, SendsTo, LogsLast, IsRefused, made_of}
+use Rattle.lrc_run.specs.Worker.{goes_on, takes_message, drops, GoesThrough, stays, steps, none, more, GoesTo, SendsTo, LogsLast, IsRefused, made_of}
 
 -- a node made a turn
 pub record IsTurn (l : Logged) (input : Input) (came : ℕ) (new : LoggedNode) : Type 0 where
@@ -66,12 +66,12 @@ module _ {S : Type 0} (puts : S → List Parcel → S → Type 0) (takes : S →
   sent_take s m t l new (Err NoMemory) parcel envelope took said i h = tt
 
   -- a node that stays as it is
-  pub unmoved : (s t : S) (l : Logged) (new : LoggedNode) → t ≡ s → new ≡ sound l → (j : Logged) × (new ≡ sound j) × Goes puts takes s l t j
-  unmoved s t l new same is = (l, is, subst (λ x. Goes puts takes s l x l) (sym same) stays)
+  pub unmoved : (s t : S) (l : Logged) (new : LoggedNode) → t ≡ s → new ≡ sound l → (j : Logged) × (new ≡ sound j) × GoesThrough puts takes s l t j
+  unmoved s t l new same is = (l, is, subst (λ x. GoesThrough puts takes s l x l) (sym same) stays)
 
   -- a parcel that makes no turn
   pub dropped : (s t : S) (l : Logged) (new : LoggedNode) (parcel : Parcel) → takes s parcel t
-      → IsRefused l parcel.stamp (envelope_of parcel.bytes) → new ≡ sound l → (j : Logged) × (new ≡ sound j) × Goes puts takes s l t j
+      → IsRefused l parcel.stamp (envelope_of parcel.bytes) → new ≡ sound l → (j : Logged) × (new ≡ sound j) × GoesThrough puts takes s l t j
   dropped s t l new parcel took refuses is = (l, is, steps stays (drops took refuses))
 
   -- there is no next parcel, since the post refuses

@@ -30,8 +30,8 @@ AreUnmatched logs = (program : Program) (nodes : ℕ) (options : OptionsRecord) 
     → AreLogs program nodes options logs → AreMatched logs wires → length wires ≡ length logs → ⊥
 
 -- events are played to their end
-abbrev pub IsPlayed : Program → ℕ → OptionsRecord → List Event → Type 0
-IsPlayed program nodes options events = (run : World) × (run_of program nodes options events ≡ Some run)
+abbrev pub IsPlayedOut : Program → ℕ → OptionsRecord → List Event → Type 0
+IsPlayedOut program nodes options events = (run : World) × (run_of program nodes options events ≡ Some run)
 
 -- ---- faults
 
@@ -40,7 +40,7 @@ abbrev pub AnswersEvents : Program → ℕ → OptionsRecord → List Event → 
 AnswersEvents program nodes options events BadNodes = ⊥
 AnswersEvents program nodes options events BadSteps = ⊥
 AnswersEvents program nodes options events Worn = IsWornBy program nodes options events
-AnswersEvents program nodes options events Mismatch = IsPlayed program nodes options events
+AnswersEvents program nodes options events Mismatch = IsPlayedOut program nodes options events
 AnswersEvents program nodes options events NoMemory = Unit {0}
 
 -- what is said of a run of events that was refused: nothing but a number too large or want of memory refuses a run in range

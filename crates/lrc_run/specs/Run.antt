@@ -17,15 +17,15 @@ use Rattle.lrc_run.specs.declared.fault.RunFault.{RunFault}
 use Rattle.lrc_run.specs.declared.fault.RunFault.TheVariants.{BadNodes, BadSteps, Worn, Mismatch, NoMemory}
 
 -- the turns of each node of a report, from node 0 up
-abbrev pub turns_of : Report → List (List EntryRecord)
-turns_of report = map (λ log. log.items) report.logs.items
+abbrev pub turns_of_nodes : Report → List (List EntryRecord)
+turns_of_nodes report = map (λ log. log.items) report.logs.items
 
 -- The report is that of these events, which make all turns of its logs, ordered by their stamps and, where those are the same, by
 -- their nodes. After them no node is ready, and no message is in flight.
 pub record IsWovenReport (program : Program) (nodes : ℕ) (options : OptionsRecord) (events : List Event) (report : Report) : Type 0 where
   pub flight : List Flying
   pub reported : IsReportOf program nodes options events report
-  pub woven : AreWoven (turns_of report) events flight
+  pub woven : AreWoven (turns_of_nodes report) events flight
   pub over : AreAll program nodes options events
 
 -- There is a mailbox for each node, with a legal history: exactly the puts that the senders' logs make to it, and the takes of its
@@ -34,7 +34,7 @@ pub record AreWiresOf (nodes : ℕ) (picker : Picker) (report : Report) (wires :
   pub count : length wires ≡ nodes
   pub legal : AreWires wires
   pub picked : AreOf picker wires
-  pub matched : AreMatched (turns_of report) wires
+  pub matched : AreMatched (turns_of_nodes report) wires
 
 -- ---- faults
 

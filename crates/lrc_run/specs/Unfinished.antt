@@ -10,12 +10,12 @@ use Rattle.lrc_protocol.specs.Run.{Input, run, taken, EntryRecord}
 use Rattle.lrc_weave.specs.Matched.{place_taken}
 
 -- a message was taken in a turn
-abbrev pub is_taken : Input → Bool
-is_taken run = false
-is_taken (taken envelope) = true
+abbrev pub takes_a_message : Input → Bool
+takes_a_message run = false
+takes_a_message (taken envelope) = true
 
 unfoldable pub is_take : EntryRecord → Bool
-is_take entry = is_taken entry.input
+is_take entry = takes_a_message entry.input
 
 -- the bytes of a put
 abbrev pub put_bytes : Wire → Option (List ℕ)

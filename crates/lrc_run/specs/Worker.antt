@@ -57,10 +57,10 @@ pub data Step {S : Type 0} (puts : S → List Parcel → S → Type 0) (takes : 
       → takes s parcel t → IsRefused l parcel.stamp (envelope_of parcel.bytes) → Step puts takes s l t l
 
 -- any number of steps
-pub data Goes {S : Type 0} (puts : S → List Parcel → S → Type 0) (takes : S → Parcel → S → Type 0) (s : S) (l : Logged)
+pub data GoesThrough {S : Type 0} (puts : S → List Parcel → S → Type 0) (takes : S → Parcel → S → Type 0) (s : S) (l : Logged)
     : S → Logged → Type 0 where
-  stays : Goes puts takes s l s l
-  steps : {m t : S} {k j : Logged} → Goes puts takes s l m k → Step puts takes m k t j → Goes puts takes s l t j
+  stays : GoesThrough puts takes s l s l
+  steps : {m t : S} {k j : Logged} → GoesThrough puts takes s l m k → Step puts takes m k t j → GoesThrough puts takes s l t j
 
 -- any number of turns of a node with its log
 pub data Turns (l : Logged) : Logged → Type 0 where
@@ -69,18 +69,18 @@ pub data Turns (l : Logged) : Logged → Type 0 where
       → Turns l k → MayCome input came → logs k input came ≡ logged entry j → Turns l j
 
 -- a node that has made no turn
-abbrev pub unmade : Node → Logged
-unmade node = record { node = node; log = [] }
+abbrev pub no_turn_yet : Node → Logged
+no_turn_yet node = record { node = node; log = [] }
 
 -- a log is that of turns of this node, from its first on
 abbrev pub IsLogOf : Node → List EntryRecord → Type 0
-IsLogOf start log = GoesOnBy (unmade start) log
+IsLogOf start log = GoesOnBy (no_turn_yet start) log
 
 -- What comes of a thread's steps: its log tells what it put and took. Where the post was closed while the node had messages to
 -- send, its log is still that of its turns. Otherwise the node has failed.
 abbrev pub GoesTo : {S A : Type 0} → (S → List Parcel → S → Type 0) → (S → Parcel → S → Type 0)
     → S → Logged → S → LoggedNode → Result A Stop → Type 0
-GoesTo puts takes s l t new (Ok done) = (j : Logged) × (new ≡ sound j) × Goes puts takes s l t j
+GoesTo puts takes s l t new (Ok done) = (j : Logged) × (new ≡ sound j) × GoesThrough puts takes s l t j
 GoesTo puts takes s l t new (Err Closed) = (j : Logged) × (new ≡ sound j) × Turns l j
 GoesTo puts takes s l t new (Err Worn) = Unit {0}
 GoesTo puts takes s l t new (Err NoMemory) = Unit {0}

@@ -10,7 +10,7 @@ ghost use Rattle.lrc_weave.specs.Matched.{AreMatched};
 ghost use Rattle.lrc_world.specs.Promises.{IsConsistent};
 ghost use Rattle.lrc_world.specs.Range.{AreSteps};
 ghost use Rattle.lrc_world.specs.Report.{IsWornBy};
-ghost use Rattle.lrc_run.specs.Run.{AreWiresOf, IsLate, IsWovenReport, WearsOutSoon, turns_of};
+ghost use Rattle.lrc_run.specs.Run.{AreWiresOf, IsLate, IsWovenReport, WearsOutSoon, turns_of_nodes};
 
 use crate::failure::{Remains, count_of, fault_of};
 use crate::fault::RunFault;
@@ -177,7 +177,7 @@ fn told(
     requires wires { length wires.now ≡ setting.now.nodes }
     ensures woven { IfOk result (λ told.
         IsWovenReport setting.now.program.now setting.now.nodes setting.now.options told.1.items told.0) }
-    ensures matched { IfOk result (λ told. AreMatched (turns_of told.0) wires.now) }
+    ensures matched { IfOk result (λ told. AreMatched (turns_of_nodes told.0) wires.now) }
     ensures races { IfOk result (λ told. AreNamedRaces told.0.acts.items told.0.races.items) }
     ensures theorem { IfOk result (λ told. IsConsistent setting.now.program.now setting.now.nodes told.0.acts.items) }
 

@@ -4,7 +4,7 @@ ghost use Rattle.std.specs.Prelude.{◌≡◌, ◌<◌, ◌≤◌, [], Some, IfN
 ghost use Rattle.lrc_protocol.specs.Node.{fresh_node};
 ghost use Rattle.lrc_node.specs.Logged.{sound};
 ghost use Rattle.lrc_run.specs.declared.stop.Stop.TheVariants.{NoMemory};
-ghost use Rattle.lrc_run.specs.Worker.{IsLogOf, unmade};
+ghost use Rattle.lrc_run.specs.Worker.{IsLogOf, no_turn_yet};
 
 use crate::gate::Gate;
 use crate::life::Life;
@@ -87,7 +87,7 @@ fn unborn(alloc: Global) -> Life
 fn fresh<'c>(alloc: Global, code: &'c Code<'_>, member: Member) -> Result<Logged<'c>, AllocError>
     requires here { member.me < member.nodes }
     requires few { member.nodes ≤ 16 }
-    ensures { IfOk result (λ node. node.logged ≡ sound (unmade (fresh_node code.now member.nodes member.options member.me))) }
+    ensures { IfOk result (λ node. node.logged ≡ sound (no_turn_yet (fresh_node code.now member.nodes member.options member.me))) }
 {
     let node = Node::new(alloc, code, member.me, member.nodes, &member.options)?;
     Ok(Logged::new(alloc, node))

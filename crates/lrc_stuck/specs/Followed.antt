@@ -4,10 +4,10 @@ use Rattle.lrc_lang.specs.declared.program.Program.{Program}
 use Rattle.lrc_trace.specs.declared.act.Act.{Act}
 use Rattle.lrc_lines.specs.declared.walks.Followed.{Followed}
 use Rattle.lrc_lines.specs.Seen.{walks_of}
-use Rattle.lrc_lines.specs.Walks.{end_line, lines_of, walks_behind}
+use Rattle.lrc_lines.specs.Walks.{end_line, act_lines, walks_behind}
 
 -- these acts were followed, of a program whose statements, and the text's end behind them, have these lines
 pub record AreFollowed (program : Program) (nodes : ℕ) (lines : List ℕ) (acts : List Act) (followed : Followed) : Type 0 where
-  pub lines_are : followed.lines.items ≡ lines_of program nodes lines acts
+  pub lines_are : followed.lines.items ≡ act_lines program nodes lines acts
   pub walks_are : walks_of followed.walks ≡ walks_behind program nodes lines acts
   pub end_is : followed.walks.end ≡ end_line lines

@@ -10,7 +10,7 @@ use Rattle.lrc_exec.specs.declared.machine.Ask.{Ask}
 use Rattle.lrc_exec.specs.declared.machine.Ask.TheVariants as asks
 use Rattle.lrc_exec.specs.Ask.{ask_of}
 use Rattle.lrc_exec.specs.Meaning.{next_of}
-use Rattle.lrc_lines.specs.Walks.{walk_behind, line_behind, lines_of}
+use Rattle.lrc_lines.specs.Walks.{walk_behind, line_behind, act_lines}
 use Rattle.lrc_stuck.specs.declared.stand.Fate.{Fate}
 use Rattle.lrc_stuck.specs.declared.stand.Fate.TheVariants.{Ended, Trapped, Unfinished}
 use Rattle.lrc_stuck.specs.declared.stand.Coming.{Coming}
@@ -73,7 +73,7 @@ stand_of program nodes lines steps acts node = record {
   fate = fate_of node acts;
   arrives = count_of is_arrive node acts;
   line = line_behind program nodes lines acts node;
-  coming = coming_of steps acts (lines_of program nodes lines acts) node (ask_behind program nodes lines acts node);
+  coming = coming_of steps acts (act_lines program nodes lines acts) node (ask_behind program nodes lines acts node);
 }
 
 -- the same of nodes 0, 1, ..

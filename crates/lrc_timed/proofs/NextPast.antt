@@ -13,14 +13,14 @@ use Rattle.lrc_trace.proofs.Positions.{Does-last, Does-node, Does-one_node, Does
 use Rattle.lrc_trace.proofs.Counts.{bound_same, bound_next, counts_same, counts_next}
 use Rattle.lrc_time.specs.Time.{zeros, joined}
 use Rattle.lrc_clock.specs.Times.{time_at, acts_at, releases_at, time_before, released_time, arrived_time}
-use Rattle.lrc_clock.specs.Keeping.{KeepsTime, next_time}
+use Rattle.lrc_clock.specs.Keeping.{KeepsTime, next_act_time}
 use Rattle.lrc_clock.proofs.Computing.{arrived-here, arrived-other}
 use Rattle.lrc_clock.proofs.Lasting.{last-here, last-not_here}
 use Rattle.lrc_clock.proofs.Passing.{acts_at-true, acts_at-act, releases_at-true, releases_at-act}
 use Rattle.lrc_clock.proofs.Prefixes.{keeps-more, time_before-prefix, released_time-prefix, arrived_time-prefix}
 use Rattle.lrc_clock.proofs.Rules.{long}
 use Rattle.lrc_timed.specs.Joined.{IsJoined}
-use Rattle.lrc_timed.specs.Past.{IsPast, IsTimeAt}
+use Rattle.lrc_timed.specs.Past.{IsTimedPast, IsTimeAt}
 use Rattle.lrc_timed.specs.declared.past.Past.{Past}
 
 module _ (nodes : ℕ) (run : List Act) (times : List (List ℕ)) (act : Act) (time : List ℕ) (timed : length times ≡ length run) where
@@ -217,7 +217,7 @@ no_count (suc n) zero = refl
 no_count (suc n) (suc x) = no_count n x
 
 pub starts : (nodes : ℕ) (past : Past) → past.acted ≡ replicate 16 None → past.released ≡ replicate 256 None → past.arrived.items ≡ []
-    → past.arrives ≡ replicate 16 0 → past.departs ≡ replicate 16 0 → IsPast nodes [] [] past
+    → past.arrives ≡ replicate 16 0 → past.departs ≡ replicate 16 0 → IsTimedPast nodes [] [] past
 starts nodes past acted released arrived arrives departs = record {
   acted = λ node lt. nowhere (get_or past.acted node None) (ap (λ l. get_or l node None) acted ∙ no_position 16 node);
   released = λ l lt. nowhere (get_or past.released l None) (ap (λ t. get_or t l None) released ∙ no_position 256 l);
@@ -233,8 +233,8 @@ starts nodes past acted released arrived arrives departs = record {
 
 -- the time of an act has an entry for each node
 pub next-long : {nodes : ℕ} {run : List Act} {times : List (List ℕ)} (keeps : KeepsTime nodes run times) (act : Act) → act.node < nodes
-    → length (next_time nodes run times act.node act.deed) ≡ nodes
+    → length (next_act_time nodes run times act.node act.deed) ≡ nodes
 next-long {nodes} {run} {times} keeps act lt =
-    let time = next_time nodes run times act.node act.deed in
+    let time = next_act_time nodes run times act.node act.deed in
     let more = keeps-more nodes run times act time keeps lt refl in
     ap length (sym (get_or_push times time [] (length run) keeps.timed)) ∙ long more (length run) act.node act.deed (Does-last run act)

@@ -12,7 +12,7 @@ pub record IsTimeAt (nodes : ℕ) (times : List (List ℕ)) (position : Option �
   pub is : time_or_zeros nodes times position ≡ time
 
 -- Of these acts, which have these times, the past has
-pub record IsPast (nodes : ℕ) (run : List Act) (times : List (List ℕ)) (past : Past) : Type 0 where
+pub record IsTimedPast (nodes : ℕ) (run : List Act) (times : List (List ℕ)) (past : Past) : Type 0 where
   -- where the time of each node and that of each lock's last release stand,
   pub acted : (node : ℕ) → node < length past.acted
       → IsTimeAt nodes times (slice_index_or past.acted node None) (time_before nodes run times node (length run))

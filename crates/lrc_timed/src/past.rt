@@ -79,13 +79,13 @@ fn join_at(barriers: &mut Vec<Time>, place: usize, time: &Time, nodes: u8) -> Re
 impl Past {
     ghost use Rattle.std.specs.Prelude.{◌≡◌, ◌<◌, ◌≤◌, ◌+◌, ◌^◌, ◌++◌, ◌∷◌, ℕ, [], OnOk, length};
     ghost use Rattle.lrc_trace.specs.Run.{departs_before};
-    ghost use Rattle.lrc_clock.specs.Keeping.{KeepsTime, next_time};
+    ghost use Rattle.lrc_clock.specs.Keeping.{KeepsTime, next_act_time};
     ghost use Rattle.lrc_clock.specs.Times.{arrived_time, released_time, time_before};
-    ghost use Rattle.lrc_timed.specs.Past.{IsPast};
+    ghost use Rattle.lrc_timed.specs.Past.{IsTimedPast};
 
     /// Before any act.
     pub(crate) fn new(alloc: Global) -> Past
-        ensures { (nodes : ℕ) → IsPast nodes [] [] result }
+        ensures { (nodes : ℕ) → IsTimedPast nodes [] [] result }
     {
         Past {
             acted: [None; NODES],
@@ -100,7 +100,7 @@ impl Past {
     fn of_node(&self, acts: &[Act], times: &[Time], node: u8, nodes: u8) -> Time
         requires some { 1 ≤ nodes }
         requires few { nodes ≤ 16 }
-        requires past { IsPast nodes acts.now times.now self.now }
+        requires past { IsTimedPast nodes acts.now times.now self.now }
         requires node { node < nodes }
         ensures { result ≡ time_before nodes acts.now times.now node (length acts.now) }
     {
@@ -111,7 +111,7 @@ impl Past {
     fn of_lock(&self, acts: &[Act], times: &[Time], lock: u8, nodes: u8) -> Time
         requires some { 1 ≤ nodes }
         requires few { nodes ≤ 16 }
-        requires past { IsPast nodes acts.now times.now self.now }
+        requires past { IsTimedPast nodes acts.now times.now self.now }
         ensures { result ≡ released_time nodes acts.now times.now lock (length acts.now) }
     {
         time_at(times, self.released[usize::from(lock)], nodes)
@@ -121,7 +121,7 @@ impl Past {
     fn of_barrier(&self, acts: &[Act], times: &[Time], node: u8, nodes: u8) -> Time
         requires some { 1 ≤ nodes }
         requires few { nodes ≤ 16 }
-        requires past { IsPast nodes acts.now times.now self.now }
+        requires past { IsTimedPast nodes acts.now times.now self.now }
         requires node { node < nodes }
         ensures { result ≡ arrived_time nodes acts.now times.now (departs_before acts.now node (length acts.now)) (length acts.now) }
     {
@@ -138,8 +138,8 @@ impl Past {
         requires node { act.node < nodes }
         requires short { length acts.now + 1 < 2 ^ 32 }
         requires keeps { KeepsTime nodes acts.now times.now }
-        requires past { IsPast nodes acts.now times.now self.now }
-        ensures { result ≡ next_time nodes acts.now times.now act.node act.deed }
+        requires past { IsTimedPast nodes acts.now times.now self.now }
+        ensures { result ≡ next_act_time nodes acts.now times.now act.node act.deed }
     {
         let mut time = self.of_node(acts, times, act.node, nodes);
         match act.deed {
@@ -168,9 +168,9 @@ impl Past {
         requires node { act.node < nodes }
         requires short { length acts.now + 1 < 2 ^ 32 }
         requires keeps { KeepsTime nodes acts.now times.now }
-        requires past { IsPast nodes acts.now times.now self.old }
-        requires time { time.now ≡ next_time nodes acts.now times.now act.node act.deed }
-        ensures { OnOk result (IsPast nodes (acts.now ++ act ∷ []) (times.now ++ time.now ∷ []) self.new) }
+        requires past { IsTimedPast nodes acts.now times.now self.old }
+        requires time { time.now ≡ next_act_time nodes acts.now times.now act.node act.deed }
+        ensures { OnOk result (IsTimedPast nodes (acts.now ++ act ∷ []) (times.now ++ time.now ∷ []) self.new) }
     {
         let node = usize::from(act.node);
         self.acted[node] = Some(times.len());

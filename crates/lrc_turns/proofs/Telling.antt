@@ -5,7 +5,7 @@ use Rattle.std.specs.Prelude.{Some, None, Result, Ok, Err, OnOk, slice_get}
 use Rattle.std.proofs.lemmas.Option.{same_Some}
 use Rattle.std.proofs.lemmas.List.{take_more}
 use Rattle.lrc_protocol.specs.Run.{EntryRecord}
-use Rattle.lrc_turns.specs.Turns.{Made, log_entry, made_by, next, turns_of}
+use Rattle.lrc_turns.specs.Turns.{Made, log_entry, made_by, next, turns_told}
 use Rattle.lrc_turns.specs.TurnsText.{text_behind, texts_behind}
 
 -- turns behind others are told behind those
@@ -24,9 +24,9 @@ fold_append f from (x ∷ a) b = fold_append f (f from x) a b
 
 -- one node more
 pub turns_next : (logs : List (List EntryRecord)) (order : List ℕ) (k d : ℕ) → k < length order
-    → turns_of logs (take (k + 1) order) ≡ turns_of logs (take k order) ++ next logs (turns_of logs (take k order)) (get_or order k d)
+    → turns_told logs (take (k + 1) order) ≡ turns_told logs (take k order) ++ next logs (turns_told logs (take k order)) (get_or order k d)
 turns_next logs order k d within =
-    ap (turns_of logs) (take_more order k d within)
+    ap (turns_told logs) (take_more order k d within)
     ∙ fold_append (λ turns node. turns ++ next logs turns node) [] (take k order) (get_or order k d ∷ [])
 
 pub next_some : (logs : List (List EntryRecord)) (turns : List Made) (node place : ℕ) (entry : EntryRecord) → place ≡ made_by node turns

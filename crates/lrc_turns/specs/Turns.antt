@@ -22,5 +22,5 @@ abbrev pub next : List (List EntryRecord) → List Made → ℕ → List Made
 next logs turns node = map (λ entry. record { node = node; entry = entry }) (option_to_list (log_entry logs node (made_by node turns)))
 
 -- the turns that these nodes made, one after another
-abbrev pub turns_of : List (List EntryRecord) → (order : List ℕ) → List Made
-turns_of logs order = fold (λ turns node. turns ++ next logs turns node) [] order
+abbrev pub turns_told : List (List EntryRecord) → (order : List ℕ) → List Made
+turns_told logs order = fold (λ turns node. turns ++ next logs turns node) [] order

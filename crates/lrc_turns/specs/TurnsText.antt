@@ -5,7 +5,7 @@ use Rattle.lrc_trace.specs.declared.act.Act.{Act}
 use Rattle.lrc_text.specs.ActText.{act_line}
 use Rattle.lrc_protocol.specs.Run.{Input, run, taken, EntryRecord}
 use Rattle.lrc_messages.specs.TurnText.{sent_texts, taken_text}
-use Rattle.lrc_turns.specs.Turns.{Made, turns_of}
+use Rattle.lrc_turns.specs.Turns.{Made, turns_told}
 
 -- ---- one turn
 
@@ -56,4 +56,4 @@ texts_behind lines before (turn ∷ turns) = text_behind lines before turn ++ te
 
 -- the turns that these nodes made, one after another
 abbrev pub messages_text : List (List EntryRecord) → (order lines : List ℕ) → List ℕ
-messages_text logs order lines = texts_behind lines [] (turns_of logs order)
+messages_text logs order lines = texts_behind lines [] (turns_told logs order)

@@ -20,7 +20,7 @@ use Rattle.lrc_judge.specs.declared.lanes.Pair.{Pair}
 use Rattle.lrc_judge.specs.declared.in_order.OutOfOrder.{OutOfOrder}
 use Rattle.lrc_text.specs.Lines.{lines_of}
 use Rattle.lrc_text.specs.RaceText.{first_race_text, races_text}
-use Rattle.lrc_acts.specs.ActsText.{Reads, SaysSome, most_bytes}
+use Rattle.lrc_acts.specs.ActsText.{ReadsActs, SaysSome, most_bytes}
 use Rattle.lrc_acts.specs.JudgeLines.{lazy_line, ordered_line, pair_line, synchronized_line, unlazy_line, unordered_line, unsynchronized_line}
 use Rattle.lrc_acts.specs.declared.judge_lines.Place.{Place}
 use Rattle.lrc_acts.specs.declared.judge_lines.RacingAccesses.{RacingAccesses}
@@ -53,7 +53,7 @@ abbrev pub judge_status : Bool → Bool → Option ℕ → ℕ
 judge_status holds reads first = if holds && reads then (if is_some first then 3 else 0) else 4
 
 -- the text after is the text before and one that is so
-pub record Adds (before after : List ℕ) (IsSo : List ℕ → Type 0) : Type 0 where
+pub record AddsText (before after : List ℕ) (IsSo : List ℕ → Type 0) : Type 0 where
   pub added : List ℕ
   pub whole : after ≡ before ++ added
   pub so : IsSo added
@@ -121,11 +121,11 @@ pub record IsJudgement (nodes : ℕ) (acts : List Act) (lines : List ℕ) (pairs
 pub record Judges (nodes : Option ℕ) (pairs : Bool) (text out : List ℕ) (status : ℕ) : Type 0 where
   pub lined : LinedActs
   pub count : ℕ
-  pub says : Reads nodes text (Ok lined)
+  pub says : ReadsActs nodes text (Ok lined)
   pub counted : CountsNodes nodes lined.acts.items count
   pub judgement : IsJudgement count lined.acts.items lined.lines.items pairs out status
 
 -- where memory may run out: the text is not too long, and a line says an act before any is bad, or none is bad
 abbrev pub MayRunOut : Option ℕ → List ℕ → Type 0
 MayRunOut nodes text =
-    (length text ≤ most_bytes) × (SaysSome nodes (lines_of text) ⊎ ((lined : LinedActs) × Reads nodes text (Ok lined)))
+    (length text ≤ most_bytes) × (SaysSome nodes (lines_of text) ⊎ ((lined : LinedActs) × ReadsActs nodes text (Ok lined)))

@@ -4,7 +4,7 @@ ghost use Rattle.std.specs.Prelude.{◌≡◌, ◌<◌, ◌≤◌, ◌⊎◌, �
 ghost use Rattle.lrc_judge.specs.declared.TheConstants.{NODES};
 ghost use Rattle.lrc_text.specs.Parts.{whole_text};
 ghost use Rattle.lrc_text.specs.RaceText.{first_race_text};
-ghost use Rattle.lrc_acts.specs.ActsText.{Reads};
+ghost use Rattle.lrc_acts.specs.ActsText.{ReadsActs};
 ghost use Rattle.lrc_acts.specs.declared.reading.ActsFault.TheVariants.{NoMemory};
 ghost use Rattle.lrc_verdict.specs.Judgement.{CountsNodes, IsHead, IsJudgement, IsNodeCount, Judges, MayRunOut, judge_status};
 
@@ -34,7 +34,7 @@ pub fn judge(
 ) -> Result<Printout, ActsFault>
     requires nodes { IfSome nodes (λ count. count ≤ NODES) }
     ensures ok { IfOk result (λ printout. Judges nodes pairs text.now (whole_text printout.parts.items) printout.status) }
-    ensures err { IfErr result (λ fault. Reads nodes text.now (Err fault)) }
+    ensures err { IfErr result (λ fault. ReadsActs nodes text.now (Err fault)) }
     ensures memory { IfErr result (λ fault. fault ≡ NoMemory → MayRunOut nodes text.now) }
 {
     let lined = acts_of(alloc, text, nodes)?;

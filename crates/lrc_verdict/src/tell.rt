@@ -8,7 +8,7 @@ ghost use Rattle.lrc_judge.specs.InOrder.{IsFirstOutOfOrder};
 ghost use Rattle.lrc_judge.specs.Pairs.{AreRacingPairs};
 ghost use Rattle.lrc_judge.specs.Races.{word_of};
 ghost use Rattle.lrc_judge.specs.Reading.{IsFirstMisread};
-ghost use Rattle.lrc_verdict.specs.Judgement.{Adds, TellsLazyReading, TellsOrder, TellsRaces, TellsSynchronization, accesses_at, place_at, writes};
+ghost use Rattle.lrc_verdict.specs.Judgement.{AddsText, TellsLazyReading, TellsOrder, TellsRaces, TellsSynchronization, accesses_at, place_at, writes};
 
 use lrc_acts::judge_lines::{
     Place, RacingAccesses, push_pair, push_unlazy, push_unordered, push_unsynchronized,
@@ -43,7 +43,7 @@ pub(crate) fn tell_synchronization(
     requires nodes { nodes ≤ NODES }
     requires acts { All (λ act. act.node < NODES) acts.now }
     requires lines { length acts.now ≡ length lines.now }
-    ensures { IfOk result (λ holds. Adds text.old.items text.new.items (TellsSynchronization nodes acts.now lines.now holds)) }
+    ensures { IfOk result (λ holds. AddsText text.old.items text.new.items (TellsSynchronization nodes acts.now lines.now holds)) }
 {
     match first_fault_of_synchronization(acts, nodes) {
         Some(position) => {
@@ -84,7 +84,7 @@ pub(crate) fn tell_lazy_reading(
 ) -> Result<bool, AllocError>
     requires acts { All (λ act. act.node < NODES) acts.now }
     requires lines { length acts.now ≡ length lines.now }
-    ensures { IfOk result (λ holds. Adds text.old.items text.new.items (TellsLazyReading acts.now lines.now holds)) }
+    ensures { IfOk result (λ holds. AddsText text.old.items text.new.items (TellsLazyReading acts.now lines.now holds)) }
 {
     let first = first_fault_of_reading(alloc, acts)?;
     match first {
@@ -109,7 +109,7 @@ fn tell_unlazy(
     requires acts { All (λ act. act.node < NODES) acts.now }
     requires lines { length acts.now ≡ length lines.now }
     requires first { IsFirstMisread acts.now position }
-    ensures { OnOk result (Adds text.old.items text.new.items (TellsLazyReading acts.now lines.now false)) }
+    ensures { OnOk result (AddsText text.old.items text.new.items (TellsLazyReading acts.now lines.now false)) }
 {
     let Some(read) = read_at(acts, position) else {
         unreachable!()
@@ -127,7 +127,7 @@ pub(crate) fn tell_order(
     lines: &[u32],
 ) -> Result<(), AllocError>
     requires lines { length acts.now ≡ length lines.now }
-    ensures { OnOk result (Adds text.old.items text.new.items (TellsOrder acts.now lines.now)) }
+    ensures { OnOk result (AddsText text.old.items text.new.items (TellsOrder acts.now lines.now)) }
 {
     let first = first_out_of_order(alloc, acts)?;
     match first {
@@ -145,7 +145,7 @@ fn tell_disorder(
 ) -> Result<(), AllocError>
     requires lines { length acts.now ≡ length lines.now }
     requires first { IsFirstOutOfOrder acts.now first }
-    ensures { OnOk result (Adds text.old.items text.new.items (TellsOrder acts.now lines.now)) }
+    ensures { OnOk result (AddsText text.old.items text.new.items (TellsOrder acts.now lines.now)) }
 {
     let Some(read) = read_at(acts, first.position) else {
         unreachable!()

@@ -14,7 +14,7 @@ use Rattle.lrc_protocol.specs.Node.{OptionsRecord}
 use Rattle.lrc_protocol.specs.Run.{taken, EntryRecord, next_stamp, Flying, marked, sent_by}
 use Rattle.lrc_weave.specs.Logs.{AreLogs}
 use Rattle.lrc_weave.specs.Matched.{AreMatched}
-use Rattle.lrc_weave.specs.Woven.{IsUpTo, IsNext, takes_same, is_taken_among, IsTakenAt, Makes, runs, takes_last, takes_again}
+use Rattle.lrc_weave.specs.Woven.{IsUpTo, IsNext, takes_same, is_taken_among, IsTakenAt, MakesNextTurn, runs, takes_last, takes_again}
 use Rattle.lrc_protocol.specs.Follows.{log_of, come_of, next_entry}
 use Rattle.lrc_weave.proofs.Places.{within_outer}
 use Rattle.lrc_weave.proofs.Members.{IsIn, in_left, in_right, of_map, stays_in, in_drop}
@@ -91,7 +91,7 @@ has_right flight more flying i =
 
 -- a turn leaves in flight what is still to be taken
 has_after : (n : ℕ) (before after : List EntryRecord) (entry : EntryRecord) (flight left : List Flying) (event : Event) (flying : Flying)
-    → Makes n before after entry flight event left → (flying.envelope.to ≡ n → is_taken_among flying.envelope after ≡ true) → Has flight flying → Has left flying
+    → MakesNextTurn n before after entry flight event left → (flying.envelope.to ≡ n → is_taken_among flying.envelope after ≡ true) → Has flight flying → Has left flying
 has_after n before after entry flight left event flying (runs i) again h = h
 has_after n before after entry flight left event flying (takes_again {place = place} t more) again h =
     has_marked flight 0 place h.place flying h.found h.there h.envelope h.stamp
@@ -121,7 +121,7 @@ module _ (logs : List (List EntryRecord)) where
   -- one turn more
   pub holds_more : (come : List ℕ) (flight left : List Flying) (event : Event) (m : ℕ) (now : EntryRecord) → length come ≡ length logs
       → next_entry logs come m ≡ Some now
-      → Makes m (take (come_of come m) (log_of logs m)) (drop (come_of come m + 1) (log_of logs m)) now flight event left
+      → MakesNextTurn m (take (come_of come m) (log_of logs m)) (drop (come_of come m + 1) (log_of logs m)) now flight event left
       → Holds come flight → Holds (slice_set come m (come_of come m + 1)) (left ++ sent_by now)
   holds_more come flight left event m now counted next makes holds n k sender j entry turn flying le at is to lt there sent =
       let new = slice_set come m (come_of come m + 1) in

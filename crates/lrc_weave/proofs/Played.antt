@@ -17,7 +17,7 @@ use Rattle.lrc_protocol.specs.Run.{MOST_STAMP, World, Flying, fresh_world, with_
 use Rattle.lrc_protocol.specs.Run.{delivers, event_on, step_of, run_of}
 use Rattle.lrc_protocol.proofs.Worlds.{get_set_same, get_set_other}
 use Rattle.lrc_weave.specs.Logs.{GoesOnBy, MayCome, AreLogs}
-use Rattle.lrc_weave.specs.Woven.{IsTakenAt, Makes, runs, takes_last, takes_again, Woven, nothing_yet, then_one, AreWoven}
+use Rattle.lrc_weave.specs.Woven.{IsTakenAt, MakesNextTurn, runs, takes_last, takes_again, Woven, nothing_yet, then_one, AreWoven}
 use Rattle.lrc_protocol.specs.Follows.{log_of, come_of, next_entry}
 use Rattle.lrc_weave.proofs.Places.{taken_more, dropped_less, taken_all, within_outer, mapped_is}
 
@@ -128,7 +128,7 @@ module _ (logs : List (List EntryRecord)) where
   -- the event of a turn makes it
   event_is : (world : World) (flight left : List Flying) (n came : ℕ) (entry : EntryRecord) (l after : Logged) (before later : List EntryRecord) (event : Event)
       → world.flight ≡ flight → slice_get world.nodes n ≡ Some l → l.log ≡ before → MayCome entry.input came → logs' l entry.input came ≡ logged entry after
-      → Makes n before later entry flight event left → event_on world event ≡ Some (with_turn world left n entry after)
+      → MakesNextTurn n before later entry flight event left → event_on world event ≡ Some (with_turn world left n entry after)
   event_is world flight left n came entry l after before later event flown there log_is may turned (runs i) =
       ap (λ f. inputs world f n run 0) flown ∙ ap (input_to world flight n run 0) there
       ∙ ap (after_input world flight n) (no_stamp l entry.input came entry after i may turned)
@@ -141,7 +141,7 @@ module _ (logs : List (List EntryRecord)) where
 
   by_event : (world : World) (come : List ℕ) (flight left : List Flying) (event : Event) (n : ℕ) (entry : EntryRecord) → IsAt logs come flight world
       → next_entry logs come n ≡ Some entry
-      → Makes n (take (come_of come n) (log_of logs n)) (drop (come_of come n + 1) (log_of logs n)) entry flight event left
+      → MakesNextTurn n (take (come_of come n) (log_of logs n)) (drop (come_of come n + 1) (log_of logs n)) entry flight event left
       → (next : World) × (event_on world event ≡ Some next) × IsAt logs (slice_set come n (come_of come n + 1)) (left ++ sent_by entry) next
   by_event world come flight left event n entry at next makes =
       let k = come_of come n in

@@ -21,7 +21,7 @@ use Rattle.lrc_order_laws.proofs.InFlight.{Sends, all_send}
 use Rattle.lrc_weave.specs.declared.events.MessageName.{MessageName}
 use Rattle.lrc_weave.specs.Logs.{GoesOnBy, AreLogs}
 use Rattle.lrc_weave.specs.Matched.{AreMatched}
-use Rattle.lrc_weave.specs.Woven.{IsNext, is_taken_among, IsTakenAt, Makes, runs, takes_last, takes_again, Woven, nothing_yet, then_one, AreWoven}
+use Rattle.lrc_weave.specs.Woven.{IsNext, is_taken_among, IsTakenAt, MakesNextTurn, runs, takes_last, takes_again, Woven, nothing_yet, then_one, AreWoven}
 use Rattle.lrc_protocol.specs.Follows.{log_of, come_of}
 use Rattle.lrc_weave.specs.Next.{IsNextOf}
 use Rattle.lrc_weave.specs.Again.{is_again}
@@ -172,7 +172,7 @@ module _ (logs : List (List EntryRecord)) (come : List ℕ) (events : List Event
 
   -- the turn is made, and what is left in flight is known by these
   abbrev MadeOf : Event → List MessageName → Type 0
-  MadeOf event left = (rest : List Flying) × Makes node before later entry flight event rest × (map name_at rest ≡ left)
+  MadeOf event left = (rest : List Flying) × MakesNextTurn node before later entry flight event rest × (map name_at rest ≡ left)
 
   from_in : (envelope : EnvelopeRecord) → entry.input ≡ taken envelope → envelope.from < nodes
   from_in envelope is =
@@ -205,12 +205,12 @@ module _ (logs : List (List EntryRecord)) (come : List ℕ) (events : List Event
       → is_taken_among f.envelope later ≡ b → event ≡ event_taking b place → left ≡ names_left b place names → MadeOf event left
   by_again names left event place f true same t again event_is left_is = (
     with_mark flight place,
-    subst (λ e. Makes node before later entry flight e (with_mark flight place)) (sym event_is) (takes_again t again),
+    subst (λ e. MakesNextTurn node before later entry flight e (with_mark flight place)) (sym event_is) (takes_again t again),
     names_marked flight 0 place ∙ same ∙ sym left_is,
   )
   by_again names left event place f false same t last event_is left_is = (
     remove flight place,
-    subst (λ e. Makes node before later entry flight e (remove flight place)) (sym event_is) (takes_last t last),
+    subst (λ e. MakesNextTurn node before later entry flight e (remove flight place)) (sym event_is) (takes_last t last),
     names_removed flight place ∙ ap (λ ks. remove ks place) same ∙ sym left_is,
   )
 
@@ -236,7 +236,7 @@ module _ (logs : List (List EntryRecord)) (come : List ℕ) (events : List Event
   made_by : (names left : List MessageName) (event : Event) (input : Input) → map name_at flight ≡ names → entry.input ≡ input
       → IsMadeByEvent node (is_again input later) names input left event → MadeOf event left
   made_by names left event run same is m =
-      (flight, subst (λ e. Makes node before later entry flight e flight) (sym m.0) (runs is), same ∙ sym m.1)
+      (flight, subst (λ e. MakesNextTurn node before later entry flight e flight) (sym m.0) (runs is), same ∙ sym m.1)
   made_by names left event (taken envelope) same is m = by_take names left event envelope same is m
 
   one_step : (names new : List MessageName) (event : Event) → map name_at flight ≡ names → IsTurnOf node (log_of logs node) (come_of come node) names new event

@@ -11,7 +11,7 @@ use Rattle.lrc_protocol.specs.Node.{OptionsRecord}
 use Rattle.lrc_protocol.specs.Run.{Input, run, taken, EntryRecord, Flying, sent_by, with_mark}
 use Rattle.lrc_weave.specs.Logs.{AreLogs}
 use Rattle.lrc_weave.specs.Matched.{AreMatched}
-use Rattle.lrc_weave.specs.Woven.{IsNext, is_taken_among, IsTakenAt, Makes, runs}
+use Rattle.lrc_weave.specs.Woven.{IsNext, is_taken_among, IsTakenAt, MakesNextTurn, runs}
 use Rattle.lrc_protocol.specs.Follows.{log_of, come_of, next_entry}
 use Rattle.lrc_weave.specs.Woven.{takes_last, takes_again, Woven, nothing_yet, then_one, AreWoven}
 use Rattle.lrc_weave.specs.Next.{IsNextOf}
@@ -39,7 +39,7 @@ module _ (program : Program) (nodes : ℕ) (options : OptionsRecord) (logs : Lis
   -- an event makes the next turn
   abbrev Made : List ℕ → List Flying → ℕ → EntryRecord → Type 0
   Made come flight n entry = (event : Event) × (left : List Flying)
-      × Makes n (take (come_of come n) (log_of logs n)) (drop (come_of come n + 1) (log_of logs n)) entry flight event left
+      × MakesNextTurn n (take (come_of come n) (log_of logs n)) (drop (come_of come n + 1) (log_of logs n)) entry flight event left
 
   by_last : (come : List ℕ) (flight : List Flying) (n place : ℕ) (entry : EntryRecord) (flying : Flying)
       → IsTakenAt n (take (come_of come n) (log_of logs n)) entry flight place flying

@@ -35,19 +35,19 @@ pub record IsTakenAt (n : ℕ) (before : List EntryRecord) (entry : EntryRecord)
 
 -- The event that makes a node's turn, with the entries of its log before and after it, and with what is in flight before it; and
 -- what is left of that: a message leaves the flight with its last take.
-pub data Makes (n : ℕ) (before after : List EntryRecord) (entry : EntryRecord) (flight : List Flying) : Event → List Flying → Type 0 where
-  runs : entry.input ≡ run → Makes n before after entry flight (Run n) flight
+pub data MakesNextTurn (n : ℕ) (before after : List EntryRecord) (entry : EntryRecord) (flight : List Flying) : Event → List Flying → Type 0 where
+  runs : entry.input ≡ run → MakesNextTurn n before after entry flight (Run n) flight
   takes_last : {place : ℕ} {flying : Flying} → IsTakenAt n before entry flight place flying → is_taken_among flying.envelope after ≡ false
-      → Makes n before after entry flight (Deliver place) (remove flight place)
+      → MakesNextTurn n before after entry flight (Deliver place) (remove flight place)
   takes_again : {place : ℕ} {flying : Flying} → IsTakenAt n before entry flight place flying → is_taken_among flying.envelope after ≡ true
-      → Makes n before after entry flight (Repeat place) (with_mark flight place)
+      → MakesNextTurn n before after entry flight (Repeat place) (with_mark flight place)
 
 -- How many turns of each node have come, what is in flight, and the events so far: each event makes the turn that is next.
 pub data Woven (logs : List (List EntryRecord)) : List ℕ → List Flying → List Event → Type 0 where
   nothing_yet : Woven logs (replicate (length logs) 0) [] []
   then_one : {come : List ℕ} {flight left : List Flying} {events : List Event} {event : Event} {n : ℕ} {entry : EntryRecord}
       → Woven logs come flight events → IsNext logs come n entry
-      → Makes n (take (come_of come n) (log_of logs n)) (drop (come_of come n + 1) (log_of logs n)) entry flight event left
+      → MakesNextTurn n (take (come_of come n) (log_of logs n)) (drop (come_of come n + 1) (log_of logs n)) entry flight event left
       → Woven logs (slice_set come n (come_of come n + 1)) (left ++ sent_by entry) (events ++ event ∷ [])
 
 -- these events make all turns

@@ -10,7 +10,7 @@ use Rattle.lrc_page.specs.declared.changes.Change.{Change}
 use Rattle.lrc_wire.specs.declared.limits.TheConstants.{MOST_RUNS}
 use Rattle.lrc_wire.specs.declared.fault.WireFault.TheVariants.{BadCount, NotAscending}
 use Rattle.lrc_wire.specs.Ranges.{HasBits}
-use Rattle.lrc_wire.specs.Runs.{Run, changes_of, end_of, runs_of}
+use Rattle.lrc_wire.specs.Runs.{Run, changes_in_run, behind_run, runs_of}
 use Rattle.lrc_wire.specs.Spelling.{byte, number, numbers, run, in_runs}
 use Rattle.lrc_wire.specs.Reading.{byte_at, number_at, tested, is_after, is_apart, elements_at, values_at, last_of, next_run_at, runs_at, whole_runs}
 use Rattle.lrc_wire.proofs.Bytes.{IsBytes, Takes}
@@ -97,7 +97,7 @@ next_run_agrees before =
 
 -- ---- runs
 
-next_low : (r : Run) → IsRun r → low_of (Some (last_of r)) ≡ end_of r + 1
+next_low : (r : Run) → IsRun r → low_of (Some (last_of r)) ≡ behind_run r + 1
 unfolding low_of
 next_low r is = omega (arith, is.some)
 
@@ -159,13 +159,13 @@ some_of_run r is = is.some
 in_runs_take : (bytes : List ℕ) (cs : List Change) (rest : List ℕ) → IsBytes bytes → whole_runs (runs_at bytes) ≡ Ok (cs, rest)
     → Takes bytes (in_runs (runs_of cs)) rest × AreChanging cs
 in_runs_take bytes cs rest fits e =
-    let a = bind_ok (runs_at bytes) (λ runs. Ok (flat_map changes_of runs.0, runs.1)) (cs, rest) e in
+    let a = bind_ok (runs_at bytes) (λ runs. Ok (flat_map changes_in_run runs.0, runs.1)) (cs, rest) e in
     let t = runs_agree.takes bytes a.0.0 a.0.1 fits a.1 in
     let only = runs_of-only 0 a.0.0 (runs_weaker IsRun IsSome some_of_run 0 a.0.0 t.1) in
-    let here : Takes bytes (in_runs (runs_of (flat_map changes_of a.0.0))) a.0.1 = subst (λ (rs : List Run). Takes bytes (in_runs rs) a.0.1) (sym only) t.0 in
-    let made : List Change × List ℕ = (flat_map changes_of a.0.0, a.0.1) in
+    let here : Takes bytes (in_runs (runs_of (flat_map changes_in_run a.0.0))) a.0.1 = subst (λ (rs : List Run). Takes bytes (in_runs rs) a.0.1) (sym only) t.0 in
+    let made : List Change × List ℕ = (flat_map changes_in_run a.0.0, a.0.1) in
     subst (λ (y : List Change × List ℕ). Takes bytes (in_runs (runs_of y.0)) y.1 × AreChanging y.0) (ok_is made (cs, rest) a.2)
-    (here, are_changing 0 (flat_map changes_of a.0.0) (runs_changes 0 a.0.0 t.1))
+    (here, are_changing 0 (flat_map changes_in_run a.0.0) (runs_changes 0 a.0.0 t.1))
 
 in_runs_again : (cs : List Change) (rest : List ℕ) → AreChanging cs → whole_runs (runs_at (in_runs (runs_of cs) ++ rest)) ≡ Ok (cs, rest)
 in_runs_again cs rest h =

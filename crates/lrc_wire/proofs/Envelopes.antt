@@ -26,7 +26,7 @@ use Rattle.lrc_envelope.specs.Records.{IndexedChangesRecord}
 use Rattle.lrc_envelope.specs.Envelope.{EnvelopeRecord}
 use Rattle.lrc_wire.specs.Ranges.{HasBits, FitPart, IsMessage, IsFit}
 use Rattle.lrc_wire.specs.Runs.{runs_of}
-use Rattle.lrc_wire.specs.Spelling.{byte, number, kind, part, parts, body, header, Cut, IsCut, Spells}
+use Rattle.lrc_wire.specs.Spelling.{byte, number, kind, part, parts, body, header, Cut, IsMaximalCut, Spells}
 use Rattle.lrc_wire.specs.Reading.{◌>>=◌, Field, HeaderRecord, byte_at, number_at, tested, version_at}
 use Rattle.lrc_wire.specs.Reading.{kind_of, kind_at, header_at, body_at, whole_body_of, envelope_of}
 use Rattle.lrc_wire.proofs.Bytes.{IsBytes, Takes}
@@ -197,7 +197,7 @@ is_header v e fits short = record { from = fits.ends.from; to = fits.ends.to; nu
 
 -- ---- every cut is the one that the function makes
 
-same_parts : (cut : Cut) → IsCut cut → (v : Version) (ps : List IndexedChangesRecord) → All (FitPart v) ps
+same_parts : (cut : Cut) → IsMaximalCut cut → (v : Version) (ps : List IndexedChangesRecord) → All (FitPart v) ps
     → flat_map (part Two cut) ps ≡ flat_map (part Two runs_of) ps
 unfolding part
 same_parts cut cuts v [] each = refl
@@ -207,7 +207,7 @@ same_parts cut cuts v (p ∷ ps) each =
     let others = same_parts cut cuts v ps (All-tail (FitPart v) p ps each) in
     rw (flat_map-cons, flat_map-cons, same, others) refl
 
-pub same_body : (cut : Cut) → IsCut cut → (v : Version) (m : Message) → IsMessage v m → body v cut m ≡ body v runs_of m
+pub same_body : (cut : Cut) → IsMaximalCut cut → (v : Version) (m : Message) → IsMessage v m → body v cut m ≡ body v runs_of m
 unfolding parts part
 same_body cut cuts v (LockRequest m) h = refl
 same_body cut cuts v (LockForward m) h = refl
@@ -421,6 +421,6 @@ longer_long v e bytes more h some = plain_long v e bytes more (plain v e bytes h
 
 -- ---- every envelope has a spelling
 
-pub has_spelling : (v : Version) (e : EnvelopeRecord) → IsFit v e → (cut : Cut) → IsCut cut → length (body v cut e.message) ≤ MOST_BODY_BYTES
+pub has_spelling : (v : Version) (e : EnvelopeRecord) → IsFit v e → (cut : Cut) → IsMaximalCut cut → length (body v cut e.message) ≤ MOST_BODY_BYTES
     → Spells v e (header v cut e ++ body v cut e.message)
 has_spelling v e fits cut cuts short = record { fits = fits; cut = cut; cuts = cuts; short = short; spelled = refl }

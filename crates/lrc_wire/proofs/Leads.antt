@@ -10,7 +10,7 @@ use Rattle.std.specs.Int.{w64}
 use Rattle.std.proofs.lemmas.List.Concat.{flat_map-cons}
 use Rattle.std.proofs.lemmas.Option.{get_or_from_slice_get, slice_get_within}
 use Rattle.lrc_page.specs.declared.changes.Change.{Change}
-use Rattle.lrc_wire.specs.Runs.{Run, changes_of, runs_of, lead, first_run}
+use Rattle.lrc_wire.specs.Runs.{Run, changes_in_run, runs_of, lead, first_run}
 use Rattle.lrc_wire.specs.Spelling.{byte, numbers, run}
 
 -- ---- how many lead
@@ -141,8 +141,8 @@ run_text cs start end c exact within here =
 
 -- one more change of a run
 pub changes_of-push : (first : ℕ) (values : List ℕ) (place value : ℕ) → place ≡ first + length values
-    → changes_of (record { first = first; values = values })
-    ++ record { offset = place; value = value } ∷ [] ≡ changes_of (record { first = first; values = values ++ value ∷ [] })
+    → changes_in_run (record { first = first; values = values })
+    ++ record { offset = place; value = value } ∷ [] ≡ changes_in_run (record { first = first; values = values ++ value ∷ [] })
 changes_of-push first [] place value e =
     let same : place ≡ first = omega (arith, e) in
     ap (λ (n : ℕ). record { offset = n; value = value } ∷ []) same

@@ -8,7 +8,7 @@ use Rattle.lrc_page.specs.declared.changes.Change.{Change}
 use Rattle.lrc_store.specs.Interval.{IntervalRecord}
 use Rattle.lrc_envelope.specs.Records.{IndexedChangesRecord}
 use Rattle.lrc_wire.specs.declared.version.Version.TheVariants.{Two}
-use Rattle.lrc_wire.specs.Runs.{Run, changes_of, runs_of}
+use Rattle.lrc_wire.specs.Runs.{Run, changes_in_run, runs_of}
 use Rattle.lrc_wire.proofs.Runs.{runs_of-whole}
 use Rattle.lrc_wire.proofs.Written.{flat_map-take_more}
 use Rattle.lrc_wire.specs.Spelling.{byte, number, numbers, flag, time, pages, interval, intervals, news, indices, run, in_runs, part, parts, page_values}
@@ -94,18 +94,18 @@ length_run r =
       length_numbers_64 r.values,
     )
 
-length_changes_of : (first : ℕ) (values : List ℕ) → length (changes_of (record { first = first; values = values })) ≡ length values
+length_changes_of : (first : ℕ) (values : List ℕ) → length (changes_in_run (record { first = first; values = values })) ≡ length values
 length_changes_of first [] = refl
 length_changes_of first (v ∷ values) = ap suc (length_changes_of (first + 1) values)
 
-length_each_run : (rs : List Run) → length (flat_map run rs) ≡ 2 * length rs + 8 * length (flat_map changes_of rs)
+length_each_run : (rs : List Run) → length (flat_map run rs) ≡ 2 * length rs + 8 * length (flat_map changes_in_run rs)
 length_each_run [] = omega arith
 length_each_run (r ∷ rs) =
     rw (flat_map-cons, flat_map-cons)
     (omega (
       arith,
       length-append (run r) (flat_map run rs),
-      length-append (changes_of r) (flat_map changes_of rs),
+      length-append (changes_in_run r) (flat_map changes_in_run rs),
       length_run r,
       length_changes_of r.first r.values,
       length_each_run rs,

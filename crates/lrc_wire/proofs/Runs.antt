@@ -10,13 +10,13 @@ use Rattle.std.proofs.lemmas.List.Kept.{AllPairs-cons}
 use Rattle.lrc_page.specs.declared.changes.Change.{Change}
 use Rattle.lrc_page.specs.Changes.{IsAscending}
 use Rattle.lrc_wire.specs.Ranges.{HasBits}
-use Rattle.lrc_wire.specs.Runs.{Run, changes_of, end_of, AreRuns, in_front, runs_of}
+use Rattle.lrc_wire.specs.Runs.{Run, changes_in_run, behind_run, AreRuns, in_front, runs_of}
 
 -- ---- runs that begin at or above an offset, at least one offset between two
 
 abbrev pub Runs : (Run → Type 0) → ℕ → List Run → Type 0
 Runs P low [] = Unit {0}
-Runs P low (r ∷ rs) = (low ≤ r.first) × P r × Runs P (end_of r + 1) rs
+Runs P low (r ∷ rs) = (low ≤ r.first) × P r × Runs P (behind_run r + 1) rs
 
 -- a run has a value
 abbrev pub IsSome : Run → Type 0
@@ -25,7 +25,7 @@ IsSome r = 1 ≤ length r.values
 -- a run within a page of 256 words
 pub record IsRun (r : Run) : Type 0 where
   pub some : 1 ≤ length r.values
-  pub within : end_of r ≤ 256
+  pub within : behind_run r ≤ 256
   pub bits : All (HasBits 64) r.values
 
 -- changes of a page that begin at or above an offset, each above the one before
@@ -42,7 +42,7 @@ eqb_same n = eq-eqb n n refl
 
 -- ---- what the function cuts is whole
 
-front_whole : (c : Change) (rs : List Run) → flat_map changes_of (in_front c rs) ≡ c ∷ flat_map changes_of rs
+front_whole : (c : Change) (rs : List Run) → flat_map changes_in_run (in_front c rs) ≡ c ∷ flat_map changes_in_run rs
 front_whole c [] = refl
 front_whole c (r ∷ rs) =
     elim (eqb_tells r.first (c.offset + 1)) [
@@ -50,7 +50,7 @@ front_whole c (r ∷ rs) =
       | inr q ↦ rw (q.0, flat_map-cons, flat_map-cons) refl
     ]
 
-pub runs_of-whole : (cs : List Change) → flat_map changes_of (runs_of cs) ≡ cs
+pub runs_of-whole : (cs : List Change) → flat_map changes_in_run (runs_of cs) ≡ cs
 runs_of-whole [] = refl
 runs_of-whole (c ∷ cs) = front_whole c (runs_of cs) ∙ ap (λ (xs : List Change). c ∷ xs) (runs_of-whole cs)
 
@@ -63,7 +63,7 @@ front_apart low c [] le here h =
 front_apart low c (r ∷ rs) le here h =
     elim (eqb_tells r.first (c.offset + 1)) [
       | inl p ↦
-          let ends : c.offset + length (c.value ∷ r.values) ≡ end_of r = omega (arith, p.1) in
+          let ends : c.offset + length (c.value ∷ r.values) ≡ behind_run r = omega (arith, p.1) in
           rw p.0 (
             le,
             record {
@@ -95,7 +95,7 @@ runs_of-apart low (c ∷ cs) h = front_apart low c (runs_of cs) h.0 h.1 (runs_of
 -- ---- no other cut is
 
 one_run : (first : ℕ) (values : List ℕ) (cs : List Change) (rs : List Run) → runs_of cs ≡ rs → 1 ≤ length values → Runs IsSome (first + length values + 1) rs
-    → runs_of (changes_of (record { first = first; values = values }) ++ cs) ≡ record { first = first; values = values } ∷ rs
+    → runs_of (changes_in_run (record { first = first; values = values }) ++ cs) ≡ record { first = first; values = values } ∷ rs
 one_run first [] cs rs e some h = absurd (omega arith)
 one_run first (v ∷ []) cs [] e some h = rw e refl
 one_run first (v ∷ []) cs (r ∷ rs) e some h =
@@ -106,22 +106,22 @@ one_run first (v ∷ w ∷ values) cs rs e some h =
     let others = one_run (first + 1) (w ∷ values) cs rs e (omega arith) (subst (λ (n : ℕ). Runs IsSome (n + 1) rs) (sym ends) h) in
     rw others (rw eqb_same refl)
 
-pub runs_of-only : (low : ℕ) (rs : List Run) → Runs IsSome low rs → runs_of (flat_map changes_of rs) ≡ rs
+pub runs_of-only : (low : ℕ) (rs : List Run) → Runs IsSome low rs → runs_of (flat_map changes_in_run rs) ≡ rs
 runs_of-only low [] h = refl
-runs_of-only low (r ∷ rs) h = rw flat_map-cons (one_run r.first r.values (flat_map changes_of rs) rs (runs_of-only (end_of r + 1) rs h.2) h.1 h.2)
+runs_of-only low (r ∷ rs) h = rw flat_map-cons (one_run r.first r.values (flat_map changes_in_run rs) rs (runs_of-only (behind_run r + 1) rs h.2) h.1 h.2)
 
 -- ---- how many runs there may be
 
 pub few_runs : (low : ℕ) (rs : List Run) → Runs IsRun low rs → 1 ≤ length rs → low + 2 * length rs ≤ 257
 few_runs low [] h some = absurd (omega arith)
 few_runs low (r ∷ []) h some = omega (arith, h.0, h.1.some, h.1.within)
-few_runs low (r ∷ s ∷ rs) h some = omega (arith, h.0, h.1.some, h.1.within, few_runs (end_of r + 1) (s ∷ rs) h.2 (omega arith))
+few_runs low (r ∷ s ∷ rs) h some = omega (arith, h.0, h.1.some, h.1.within, few_runs (behind_run r + 1) (s ∷ rs) h.2 (omega arith))
 
 -- ---- what runs stand for
 
 run_changes : (low first : ℕ) (values : List ℕ) (cs : List Change) → low ≤ first → first + length values ≤ 256 → All (HasBits 64) values
     → Changing (first + length values) cs
-    → Changing low (changes_of (record { first = first; values = values }) ++ cs)
+    → Changing low (changes_in_run (record { first = first; values = values }) ++ cs)
 run_changes low first [] cs le within bits h = lower low (first + 0) cs (omega arith) h
 run_changes low first (v ∷ values) cs le within bits h =
     let ends : first + 1 + length values ≡ first + length (v ∷ values) = omega arith in (
@@ -131,43 +131,43 @@ run_changes low first (v ∷ values) cs le within bits h =
           (subst (λ (n : ℕ). Changing n cs) (sym ends) h),
     )
 
-pub runs_changes : (low : ℕ) (rs : List Run) → Runs IsRun low rs → Changing low (flat_map changes_of rs)
+pub runs_changes : (low : ℕ) (rs : List Run) → Runs IsRun low rs → Changing low (flat_map changes_in_run rs)
 runs_changes low [] h = tt
 runs_changes low (r ∷ rs) h =
-    rw flat_map-cons (run_changes low r.first r.values (flat_map changes_of rs) h.0 h.1.within h.1.bits
-    (lower (end_of r) (end_of r + 1) (flat_map changes_of rs) (omega arith) (runs_changes (end_of r + 1) rs h.2)))
+    rw flat_map-cons (run_changes low r.first r.values (flat_map changes_in_run rs) h.0 h.1.within h.1.bits
+    (lower (behind_run r) (behind_run r + 1) (flat_map changes_in_run rs) (omega arith) (runs_changes (behind_run r + 1) rs h.2)))
 
 -- ---- the same facts, place by place
 
 pub runs_weaker : (P Q : Run → Type 0) → ((r : Run) → P r → Q r) → (low : ℕ) (rs : List Run) → Runs P low rs → Runs Q low rs
 runs_weaker P Q to low [] h = tt
-runs_weaker P Q to low (r ∷ rs) h = (h.0, to r h.1, runs_weaker P Q to (end_of r + 1) rs h.2)
+runs_weaker P Q to low (r ∷ rs) h = (h.0, to r h.1, runs_weaker P Q to (behind_run r + 1) rs h.2)
 
 All-from_runs : (P : Run → Type 0) (low : ℕ) (rs : List Run) → Runs P low rs → All P rs
 All-from_runs P low [] h = All-nil P
-All-from_runs P low (r ∷ rs) h = All-cons P r rs h.1 (All-from_runs P (end_of r + 1) rs h.2)
+All-from_runs P low (r ∷ rs) h = All-cons P r rs h.1 (All-from_runs P (behind_run r + 1) rs h.2)
 
 begin_at : (low high : ℕ) (rs : List Run) → low ≤ high → Runs IsSome high rs → All (λ b. low ≤ b.first) rs
 begin_at low high [] le h = All-nil (λ b. low ≤ b.first)
-begin_at low high (r ∷ rs) le h = All-cons (λ b. low ≤ b.first) r rs (omega (arith, h.0)) (begin_at low (end_of r + 1) rs (omega (arith, h.0)) h.2)
+begin_at low high (r ∷ rs) le h = All-cons (λ b. low ≤ b.first) r rs (omega (arith, h.0)) (begin_at low (behind_run r + 1) rs (omega (arith, h.0)) h.2)
 
-apart_from_runs : (low : ℕ) (rs : List Run) → Runs IsSome low rs → AllPairs (λ a b. end_of a < b.first) rs
+apart_from_runs : (low : ℕ) (rs : List Run) → Runs IsSome low rs → AllPairs (λ a b. behind_run a < b.first) rs
 apart_from_runs low [] h = λ i j d lt within. absurd (omega arith)
 apart_from_runs low (r ∷ rs) h =
-    AllPairs-cons (λ a b. end_of a < b.first) r rs
-    (All-weaker (λ b. end_of r + 1 ≤ b.first) (λ b. end_of r < b.first) (λ b le. omega (arith, le)) rs
-    (begin_at (end_of r + 1) (end_of r + 1) rs (omega arith) h.2))
-    (apart_from_runs (end_of r + 1) rs h.2)
+    AllPairs-cons (λ a b. behind_run a < b.first) r rs
+    (All-weaker (λ b. behind_run r + 1 ≤ b.first) (λ b. behind_run r < b.first) (λ b le. omega (arith, le)) rs
+    (begin_at (behind_run r + 1) (behind_run r + 1) rs (omega arith) h.2))
+    (apart_from_runs (behind_run r + 1) rs h.2)
 
-pub are_runs : (low : ℕ) (rs : List Run) → Runs IsSome low rs → AreRuns (flat_map changes_of rs) rs
+pub are_runs : (low : ℕ) (rs : List Run) → Runs IsSome low rs → AreRuns (flat_map changes_in_run rs) rs
 are_runs low rs h = record { whole = refl; some = All-from_runs IsSome low rs h; apart = apart_from_runs low rs h }
 
-runs_from : (low : ℕ) (rs : List Run) → All IsSome rs → AllPairs (λ a b. end_of a < b.first) rs → All (λ b. low ≤ b.first) rs → Runs IsSome low rs
+runs_from : (low : ℕ) (rs : List Run) → All IsSome rs → AllPairs (λ a b. behind_run a < b.first) rs → All (λ b. low ≤ b.first) rs → Runs IsSome low rs
 runs_from low [] some apart first = tt
 runs_from low (r ∷ rs) some apart first = (
   All-head (λ b. low ≤ b.first) r rs first,
   All-head IsSome r rs some,
-  runs_from (end_of r + 1) rs (All-tail IsSome r rs some)
+  runs_from (behind_run r + 1) rs (All-tail IsSome r rs some)
       (λ i j d lt within. apart (suc i) (suc j) d (omega arith) (omega arith))
       (λ k d within. omega (arith, apart 0 (suc k) d (omega arith) (omega arith))),
 )
@@ -233,7 +233,7 @@ front_some low c [] le h = (le, omega arith, tt)
 front_some low c (r ∷ rs) le h =
     elim (eqb_tells r.first (c.offset + 1)) [
       | inl p ↦
-          let ends : c.offset + length (c.value ∷ r.values) ≡ end_of r = omega (arith, p.1) in
+          let ends : c.offset + length (c.value ∷ r.values) ≡ behind_run r = omega (arith, p.1) in
           rw p.0 (le, omega arith, subst (λ (n : ℕ). Runs IsSome (n + 1) rs) (sym ends) h.2)
       | inr q ↦
           let apart : c.offset + 1 + 1 ≤ r.first = omega (arith, h.0, q.1) in

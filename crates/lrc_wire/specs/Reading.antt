@@ -21,7 +21,7 @@ use Rattle.lrc_envelope.specs.declared.message.Message.TheVariants.{ChangesReque
 use Rattle.lrc_wire.specs.Versions.{version_of, pages_in, words_in}
 use Rattle.lrc_envelope.specs.Records.{NewsRecord, LockRequestRecord, LockForwardRecord, LockGrantRecord, ArriveRecord, DepartRecord}
 use Rattle.lrc_envelope.specs.Records.{ChangesRequestRecord, ChangesReplyRecord, PageReplyRecord, IndexedChangesRecord}
-use Rattle.lrc_wire.specs.Runs.{Run, changes_of}
+use Rattle.lrc_wire.specs.Runs.{Run, changes_in_run}
 use Rattle.lrc_envelope.specs.Envelope.{EnvelopeRecord}
 
 -- the last offset of a run
@@ -41,13 +41,13 @@ Gives view (Err fault) read = fault ≢ NoMemory → read ≡ Err fault
 -- a function that puts a run behind changes and returned its last offset did so with the run that reading gives,
 -- unless memory ran out
 abbrev pub PutsRun : Result ℕ WireFault → Result (Run × List ℕ) WireFault → List Change → List Change → List ℕ → Type 0
-PutsRun (Ok last) read old new rest = (run : Run) × (read ≡ Ok (run, rest)) × (new ≡ old ++ changes_of run) × (last ≡ last_of run)
+PutsRun (Ok last) read old new rest = (run : Run) × (read ≡ Ok (run, rest)) × (new ≡ old ++ changes_in_run run) × (last ≡ last_of run)
 PutsRun (Err fault) read old new rest = fault ≢ NoMemory → read ≡ Err fault
 
 -- the same of a function that puts values at offsets from `first` on
 abbrev pub PutsValues : {X : Type 0} → Result X WireFault → Result (List ℕ × List ℕ) WireFault → ℕ → List Change → List Change → List ℕ → Type 0
 PutsValues (Ok done) read first old new rest =
-    (values : List ℕ) × (read ≡ Ok (values, rest)) × (new ≡ old ++ changes_of (record { first = first; values = values }))
+    (values : List ℕ) × (read ≡ Ok (values, rest)) × (new ≡ old ++ changes_in_run (record { first = first; values = values }))
 PutsValues (Err fault) read first old new rest = fault ≢ NoMemory → read ≡ Err fault
 
 -- a value and the bytes after it, or the first fault
@@ -208,7 +208,7 @@ next_run_at before bytes = do
 
 -- the changes of runs that were read
 abbrev pub whole_runs : Field (List Run) → Field (List Change)
-whole_runs read = read >>= λ runs. Ok (flat_map changes_of runs.0, runs.1)
+whole_runs read = read >>= λ runs. Ok (flat_map changes_in_run runs.0, runs.1)
 
 unfoldable pub runs_at : List ℕ → Field (List Run)
 runs_at bytes = do

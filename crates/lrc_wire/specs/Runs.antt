@@ -9,18 +9,18 @@ pub record Run : Type 0 where
   pub values : List ℕ
 
 -- the changes of a run
-abbrev pub changes_of : Run → List Change
-changes_of run = map (λ word. record { offset = word.0; value = word.1 }) (enumerate_from run.first run.values)
+abbrev pub changes_in_run : Run → List Change
+changes_in_run run = map (λ word. record { offset = word.0; value = word.1 }) (enumerate_from run.first run.values)
 
 -- the offset behind a run
-abbrev pub end_of : Run → ℕ
-end_of run = run.first + length run.values
+abbrev pub behind_run : Run → ℕ
+behind_run run = run.first + length run.values
 
 -- all of the changes in maximal runs, in order: no run is empty, and between two lies an offset that is not changed
 pub record AreRuns (changes : List Change) (runs : List Run) : Type 0 where
-  pub whole : flat_map changes_of runs ≡ changes
+  pub whole : flat_map changes_in_run runs ≡ changes
   pub some : All (λ run. 1 ≤ length run.values) runs
-  pub apart : AllPairs (λ a b. end_of a < b.first) runs
+  pub apart : AllPairs (λ a b. behind_run a < b.first) runs
 
 -- ---- the same as a function
 

@@ -81,8 +81,8 @@ abbrev pub Cut : Type 0
 Cut = List Change → List Run
 
 -- it cuts all changes of a page into maximal runs
-abbrev pub IsCut : Cut → Type 0
-IsCut cut = (changes : List Change) → IsAscending changes → AreRuns changes (cut changes)
+abbrev pub IsMaximalCut : Cut → Type 0
+IsMaximalCut cut = (changes : List Change) → IsAscending changes → AreRuns changes (cut changes)
 
 abbrev pub changes : Version → Cut → List Change → List ℕ
 changes One cut cs = singly cs
@@ -144,6 +144,6 @@ bytes_of e = header Two runs_of e ++ body Two runs_of e.message
 pub record Spells (version : Version) (envelope : EnvelopeRecord) (bytes : List ℕ) : Type 0 where
   pub fits : IsFit version envelope
   pub cut : Cut
-  pub cuts : IsCut cut
+  pub cuts : IsMaximalCut cut
   pub short : length (body version cut envelope.message) ≤ MOST_BODY_BYTES
   pub spelled : bytes ≡ header version cut envelope · body version cut envelope.message

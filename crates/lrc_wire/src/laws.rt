@@ -10,7 +10,7 @@ ghost use Rattle.lrc_wire.specs.declared.version.Version.{Version};
 ghost use Rattle.lrc_envelope.specs.Envelope.{EnvelopeRecord};
 ghost use Rattle.lrc_wire.specs.Ranges.{IsFit};
 ghost use Rattle.lrc_wire.specs.Runs.{Run, AreRuns, runs_of};
-ghost use Rattle.lrc_wire.specs.Spelling.{◌·◌, Cut, IsCut, Spells, header, body};
+ghost use Rattle.lrc_wire.specs.Spelling.{◌·◌, Cut, IsMaximalCut, Spells, header, body};
 ghost use Rattle.lrc_wire.specs.Reading.{envelope_of};
 
 use crate::fault::WireFault;
@@ -56,7 +56,7 @@ pub fn a_part_is_short_and_more_is_long()
 
 /// Every envelope has a spelling in each version whose ranges it keeps, but for the length of its body.
 pub fn every_envelope_is_spelled()
-    ensures { (version : Version) (envelope : EnvelopeRecord) (cut : Cut) → IsFit version envelope → IsCut cut
+    ensures { (version : Version) (envelope : EnvelopeRecord) (cut : Cut) → IsFit version envelope → IsMaximalCut cut
         → length (body version cut envelope.message) ≤ MOST_BODY_BYTES
         → Spells version envelope (header version cut envelope · body version cut envelope.message) }
 {}

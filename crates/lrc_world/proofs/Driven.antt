@@ -16,7 +16,7 @@ use Rattle.lrc_world.specs.declared.report.SimFault.TheVariants.{BadNodes, BadSt
 use Rattle.lrc_world.specs.declared.report.TheConstants.{MOST_EVENTS}
 use Rattle.lrc_world.specs.declared.rounds.Driver.{Driver}
 use Rattle.lrc_world.specs.declared.world.World.{World}
-use Rattle.lrc_world.specs.Driven.{StandsAt, Goes, DrivesTo, IsStill, IsAsleep, NoneReady, IsRunOver, PlaysOne, IsFull}
+use Rattle.lrc_world.specs.Driven.{DriverStandsAt, IsDrivenOn, DrivesTo, IsStill, IsAsleep, NoneReady, IsRunOver, PlaysOne, IsFull}
 use Rattle.lrc_world.specs.Led.{Schedule, Led, begins, plays, passes, WearsOut}
 use Rattle.lrc_world.specs.Report.{IsOver, IsWornFrom}
 use Rattle.lrc_world.specs.Rounds.{schedule_of_rounds, at_node, delivering, IsDue, turn, delivery, asleep, all_went, all_delivered, ready_at, delivery_of}
@@ -26,17 +26,17 @@ use Rattle.lrc_world.proofs.Lists.{same_length}
 -- ---- from one moment to another
 
 module _ (s : Schedule) where
-  pub goes-nowhere : (at : s.Standing) (d : Driver) → Goes s at at d d
+  pub goes-nowhere : (at : s.Standing) (d : Driver) → IsDrivenOn s at at d d
   goes-nowhere at d = record { drives = λ starts start h. h; few = λ h. h; more = omega arith }
 
-  pub goes-twice : (from mid to : s.Standing) (a b c : Driver) → Goes s from mid a b → Goes s mid to b c → Goes s from to a c
+  pub goes-twice : (from mid to : s.Standing) (a b c : Driver) → IsDrivenOn s from mid a b → IsDrivenOn s mid to b c → IsDrivenOn s from to a c
   goes-twice from mid to a b c g h = record {
     drives = λ starts start d. h.drives starts start (g.drives starts start d);
     few = λ few. h.few (g.few few);
     more = omega (arith, g.more, h.more);
   }
 
-  pub goes-after : (from mid to : s.Standing) (a b c : Driver) (result : Result (Unit {0}) SimFault) → Goes s from mid a b → DrivesTo s mid to b c result
+  pub goes-after : (from mid to : s.Standing) (a b c : Driver) (result : Result (Unit {0}) SimFault) → IsDrivenOn s from mid a b → DrivesTo s mid to b c result
       → DrivesTo s from to a c result
   goes-after from mid to a b c (Ok u) g h = goes-twice from mid to a b c g h
   goes-after from mid to a b c (Err Worn) g h = λ starts start d. h starts start (g.drives starts start d)
@@ -53,7 +53,7 @@ module _ (s : Schedule) where
 
   -- a fault that is handed on is one met before
   pub fails-after : (from mid to end : s.Standing) (a b c : Driver) (fault : SimFault) (result : Result (Unit {0}) SimFault)
-      → IsErrAnd result (λ f. f ≡ fault) → Goes s from mid a b → DrivesTo s mid to b c (Err fault) → DrivesTo s from end a c result
+      → IsErrAnd result (λ f. f ≡ fault) → IsDrivenOn s from mid a b → DrivesTo s mid to b c (Err fault) → DrivesTo s from end a c result
   fails-after from mid to end a b c fault (Ok u) is g h = absurd is
   fails-after from mid to end a b c fault (Err f) is g h =
       goes-after from mid end a b c (Err f) g
@@ -61,7 +61,7 @@ module _ (s : Schedule) where
 
   -- before any event
   pub at_start : (starts : Starts) (start : Run) (d : Driver) (world : World) → Shows starts world start → d.world ≡ world → d.events.items ≡ []
-      → StandsAt s starts start s.first d
+      → DriverStandsAt s starts start s.first d
   at_start starts start d world shows is none = record {
     run = start;
     standing = s.first;
@@ -71,7 +71,7 @@ module _ (s : Schedule) where
   }
 
   -- what is driven is not out of range
-  pub in_range : (from to : s.Standing) (old new : Driver) (starts : Starts) (start : Run) (fault : SimFault) → StandsAt s starts start from old
+  pub in_range : (from to : s.Standing) (old new : Driver) (starts : Starts) (start : Run) (fault : SimFault) → DriverStandsAt s starts start from old
       → DrivesTo s from to old new (Err fault)
       → (fault ≡ BadNodes → ⊥) × (fault ≡ BadSteps → ⊥)
   in_range from to old new starts start BadNodes d g = absurd (g starts start d)
@@ -105,12 +105,12 @@ module _ (s : Schedule) where
 
   -- a stage that passes without an event
   pub passes_on : (from to : s.Standing) (d : Driver)
-      → ((starts : Starts) (run : Run) → Shows starts d.world run → s.Passes run from to) → Goes s from to d d
+      → ((starts : Starts) (run : Run) → Shows starts d.world run → s.Passes run from to) → IsDrivenOn s from to d d
   passes_on from to d pass = record {
     drives = λ starts start d1.
         ⊎_elim
         (λ (here : d1.standing ≡ from).
-        let passed : StandsAt s starts start to d = record {
+        let passed : DriverStandsAt s starts start to d = record {
           run = d1.run;
           standing = to;
           led = passes d1.led (subst (λ x. s.Passes d1.run x to) (sym here) (pass starts d1.run d1.shows));
@@ -118,7 +118,7 @@ module _ (s : Schedule) where
           here = inl refl;
         } in passed)
         (λ (full : MOST_EVENTS ≤ length d.events.items).
-        let rests : StandsAt s starts start to d = record {
+        let rests : DriverStandsAt s starts start to d = record {
           run = d1.run;
           standing = d1.standing;
           led = d1.led;
@@ -134,15 +134,15 @@ module _ (s : Schedule) where
 
   module _ (from to : s.Standing) (old new : Driver) (event : Event)
       (due : (starts : Starts) (run : Run) → Shows starts old.world run → s.Due run from event to) where
-    stands : (starts : Starts) (start : Run) (d : StandsAt s starts start from old) → length old.events.items < MOST_EVENTS → d.standing ≡ from
+    stands : (starts : Starts) (start : Run) (d : DriverStandsAt s starts start from old) → length old.events.items < MOST_EVENTS → d.standing ≡ from
     stands starts start d room =
         ⊎_elim (λ (here : d.standing ≡ from). here) (λ (full : MOST_EVENTS ≤ length old.events.items). absurd (omega (arith, full, room))) d.here
 
-    led_here : (starts : Starts) (start : Run) (d : StandsAt s starts start from old) → length old.events.items < MOST_EVENTS
+    led_here : (starts : Starts) (start : Run) (d : DriverStandsAt s starts start from old) → length old.events.items < MOST_EVENTS
         → Led s start old.events.items d.run from
     led_here starts start d room = subst (Led s start old.events.items d.run) (stands starts start d room) d.led
 
-    plays_ok : (u : Unit {0}) → PlaysOne old new event (Ok u) → Goes s from to old new
+    plays_ok : (u : Unit {0}) → PlaysOne old new event (Ok u) → IsDrivenOn s from to old new
     plays_ok u p = record {
       drives = λ starts start d.
           let next = p.plays starts d.run d.shows in
@@ -174,7 +174,7 @@ module _ (s : Schedule) where
     plays_by (Err BadNodes) p = λ starts start d. p.plays starts d.run d.shows
     plays_by (Err BadSteps) p = λ starts start d. p.plays starts d.run d.shows
 
-    stays_full : MOST_EVENTS ≤ length old.events.items → Goes s from to old old
+    stays_full : MOST_EVENTS ≤ length old.events.items → IsDrivenOn s from to old old
     stays_full full = record {
       drives = λ starts start d. record { run = d.run; standing = d.standing; led = d.led; shows = d.shows; here = inr full };
       few = λ few. few;
@@ -185,7 +185,7 @@ module _ (s : Schedule) where
     goes_by result either =
         ⊎_elim
         (plays_by result)
-        (λ (f : IsFull old new result). subst (DrivesTo s from to old new) (sym f.ok) (subst (Goes s from to old) (sym f.same) (stays_full f.full)))
+        (λ (f : IsFull old new result). subst (DrivesTo s from to old new) (sym f.ok) (subst (IsDrivenOn s from to old) (sym f.same) (stays_full f.full)))
         either
 
 pub still-before : (a b c : Driver) → length b.events.items ≤ length c.events.items → IsStill a c → IsStill a b
@@ -232,17 +232,17 @@ none_long (x ∷ xs) h = absurd (omega (arith, h))
 
 module _ (picker : Picker) (nodes : ℕ) where
   -- one node more had its turn, though it was not ready
-  pub passed_over : (node : ℕ) (d : Driver) → node < nodes → IsAsleep node d.world → Goes (schedule_of_rounds picker nodes) (at_node node) (at_node (node + 1)) d d
+  pub passed_over : (node : ℕ) (d : Driver) → node < nodes → IsAsleep node d.world → IsDrivenOn (schedule_of_rounds picker nodes) (at_node node) (at_node (node + 1)) d d
   passed_over node d lt sleeps = passes_on (schedule_of_rounds picker nodes) (at_node node) (at_node (node + 1)) d (λ starts run shows. asleep lt (sleeps starts run shows))
 
   -- the deliveries begin
-  pub turns_done : (d : Driver) → Goes (schedule_of_rounds picker nodes) (at_node nodes) (delivering (length d.world.flight.items)) d d
+  pub turns_done : (d : Driver) → IsDrivenOn (schedule_of_rounds picker nodes) (at_node nodes) (delivering (length d.world.flight.items)) d d
   turns_done d = passes_on (schedule_of_rounds picker nodes) (at_node nodes) (delivering (length d.world.flight.items)) d (λ starts run shows.
       subst (λ n. (schedule_of_rounds picker nodes).Passes run (at_node nodes) (delivering n))
       (sym (same_length seen_flying seen_sent d.world.flight.items run.flight shows.flight)) all_went)
 
   -- and then the next round
-  pub next_round : (d : Driver) → Goes (schedule_of_rounds picker nodes) (delivering zero) (at_node zero) d d
+  pub next_round : (d : Driver) → IsDrivenOn (schedule_of_rounds picker nodes) (delivering zero) (at_node zero) d d
   next_round d = passes_on (schedule_of_rounds picker nodes) (delivering zero) (at_node zero) d (λ starts run shows. all_delivered)
 
   pub closes_round : (from : _) (a b : Driver) (result : Result (Unit {0}) SimFault) → DrivesTo (schedule_of_rounds picker nodes) from (delivering zero) a b result
@@ -250,7 +250,7 @@ module _ (picker : Picker) (nodes : ℕ) where
   closes_round from a b (Ok u) g = goes-twice (schedule_of_rounds picker nodes) from (delivering zero) (at_node zero) a b b g (next_round b)
   closes_round from a b (Err fault) g = other_end (schedule_of_rounds picker nodes) from (delivering zero) (at_node zero) a b fault g
 
-pub over_or_not : (s : Schedule) (from mid to : s.Standing) (a b c : Driver) (nodes : ℕ) (result : Result (Unit {0}) SimFault) → Goes s from mid a b
+pub over_or_not : (s : Schedule) (from mid to : s.Standing) (a b c : Driver) (nodes : ℕ) (result : Result (Unit {0}) SimFault) → IsDrivenOn s from mid a b
     → DrivesTo s mid to b c result
     → (IsStill a b → (b.world ≡ a.world) × NoneReady nodes a.world) → OnOk result (IsStill b c → (c.world ≡ b.world) × (b.world.flight.items ≡ []))
     → OnOk result (IsStill a c → NoneReady nodes c.world × (c.world.flight.items ≡ []))

@@ -11,29 +11,29 @@ use Rattle.lrc_trace.specs.declared.act.Act.{Act}
 use Rattle.lrc_node.specs.declared.end.End.{End}
 use Rattle.lrc_node.specs.declared.end.End.TheVariants.{Unfinished}
 use Rattle.lrc_node.specs.Logged.{end_after, end_by}
-use Rattle.lrc_world.specs.Ends.{end_of, ends_of}
+use Rattle.lrc_world.specs.Ends.{end_by_acts, ends_of}
 
 length-ends : (nodes : ℕ) (acts : List Act) → length (ends_of nodes acts) ≡ nodes
-length-ends nodes acts = length-map (range_with_len 0 nodes) (λ node. end_of node acts) ∙ length-range_with_len 0 nodes
+length-ends nodes acts = length-map (range_with_len 0 nodes) (λ node. end_by_acts node acts) ∙ length-range_with_len 0 nodes
 
-get_or-ends : (nodes : ℕ) (acts : List Act) (k : ℕ) (d : End) → k < nodes → get_or (ends_of nodes acts) k d ≡ end_of k acts
+get_or-ends : (nodes : ℕ) (acts : List Act) (k : ℕ) (d : End) → k < nodes → get_or (ends_of nodes acts) k d ≡ end_by_acts k acts
 get_or-ends nodes acts k d lt =
-    get_or-map (λ node. end_of node acts) (range_with_len 0 nodes) k 0 d (omega (arith, length-range_with_len 0 nodes))
-    ∙ ap (λ node. end_of node acts) (get_or-range_with_len 0 nodes k 0 lt ∙ zero-add k)
+    get_or-map (λ node. end_by_acts node acts) (range_with_len 0 nodes) k 0 d (omega (arith, length-range_with_len 0 nodes))
+    ∙ ap (λ node. end_by_acts node acts) (get_or-range_with_len 0 nodes k 0 lt ∙ zero-add k)
 
 -- the last of a list that grew
 last_or-push : {A : Type 0} (o : Option A) (xs : List A) (x : A) → last_or o (xs ++ x ∷ []) ≡ Some x
 last_or-push o [] x = refl
 last_or-push o (y ∷ xs) x = last_or-push (Some y) xs x
 
-pub end_of-own : (acts : List Act) (a : Act) → end_of a.node (acts ++ a ∷ []) ≡ end_after a.deed
+pub end_of-own : (acts : List Act) (a : Act) → end_by_acts a.node (acts ++ a ∷ []) ≡ end_after a.deed
 end_of-own acts a =
     let mine : Act → Bool = λ x. x.node == a.node in
     let one : filter mine (a ∷ []) ≡ a ∷ [] = ap (λ b. cond b (a ∷ []) []) (eq-eqb a.node a.node refl) in
     ap (λ xs. end_by (last_or None xs)) (filter-append mine acts (a ∷ []) ∙ ap (λ ys. filter mine acts ++ ys) one)
     ∙ ap end_by (last_or-push None (filter mine acts) a)
 
-pub end_of-other : (acts : List Act) (a : Act) (n : ℕ) → (n ≡ a.node → ⊥) → end_of n (acts ++ a ∷ []) ≡ end_of n acts
+pub end_of-other : (acts : List Act) (a : Act) (n : ℕ) → (n ≡ a.node → ⊥) → end_by_acts n (acts ++ a ∷ []) ≡ end_by_acts n acts
 end_of-other acts a n h =
     let mine : Act → Bool = λ x. x.node == n in
     let none : filter mine (a ∷ []) ≡ [] = ap (λ b. cond b (a ∷ []) []) (ne_eqb a.node n (λ e. h (sym e))) in
@@ -51,7 +51,7 @@ ends-push nodes acts a =
     elim (cases_eq k a.node) [
       | inl same ↦
           let there : a.node < length (ends_of nodes acts) = omega arith in
-          now ∙ ap (λ n. end_of n (acts ++ a ∷ [])) same ∙ end_of-own acts a
+          now ∙ ap (λ n. end_by_acts n (acts ++ a ∷ [])) same ∙ end_of-own acts a
           ∙ sym (ap (λ i. get_or (slice_set (ends_of nodes acts) a.node (end_after a.deed)) i d) same
           ∙ get_or-set_same (ends_of nodes acts) a.node (end_after a.deed) d there)
       | inr other ↦ now ∙ end_of-other acts a k other

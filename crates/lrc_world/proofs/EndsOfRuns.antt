@@ -21,9 +21,9 @@ use Rattle.lrc_protocol.proofs.Turned.{Turned, Turns, turns}
 use Rattle.lrc_protocol.proofs.Worlds.{IsEntry, fresh_at, get_set_same, get_set_other, run-whole}
 use Rattle.lrc_order_laws.proofs.Shift.{Moved, Shifted, ShiftedIf, course_in, deed_back, deed_in, deed_made, shifts}
 use Rattle.lrc_node.specs.declared.end.End.{End}
-use Rattle.lrc_node.specs.Text.{end_of as end_of_text}
+use Rattle.lrc_node.specs.Text.{end_by_acts as end_of_text}
 use Rattle.lrc_node.specs.Logged.{end_after}
-use Rattle.lrc_world.specs.Ends.{end_of, ends_of}
+use Rattle.lrc_world.specs.Ends.{end_by_acts, ends_of}
 use Rattle.lrc_world.specs.Report.{end_of_logged}
 use Rattle.lrc_world.proofs.EndsLemmas.{end_of-own, end_of-other}
 
@@ -58,19 +58,19 @@ end_moved false before after deed m = ap end_of_text m.course_is ∙ ap (λ d. e
 
 -- the same, by the acts
 acts_moved : (n : ℕ) (acts : List Act) (deed : Option Deed)
-    → end_of n (acts ++ option_to_list (option_map (act_of n) deed)) ≡ end_or deed (end_of n acts)
-acts_moved n acts None = ap (end_of n) (append-nil acts)
+    → end_by_acts n (acts ++ option_to_list (option_map (act_of n) deed)) ≡ end_or deed (end_by_acts n acts)
+acts_moved n acts None = ap (end_by_acts n) (append-nil acts)
 acts_moved n acts (Some d) = end_of-own acts (act_of n d)
 
 acts_apart : (n m : ℕ) (acts : List Act) (deed : Option Deed) → (n ≡ m → ⊥)
-    → end_of m (acts ++ option_to_list (option_map (act_of n) deed)) ≡ end_of m acts
-acts_apart n m acts None apart = ap (end_of m) (append-nil acts)
+    → end_by_acts m (acts ++ option_to_list (option_map (act_of n) deed)) ≡ end_by_acts m acts
+acts_apart n m acts None apart = ap (end_by_acts m) (append-nil acts)
 acts_apart n m acts (Some d) apart = end_of-other acts (act_of n d) m (λ e. apart (sym e))
 
 -- a node of a run knows its number, and its text ended as its last act says
 record Ends (acts : List Act) (n : ℕ) (l : Logged) : Type 0 where
   me : l.node.setting.me ≡ n
-  agree : end_of_text l.node.course ≡ end_of n acts
+  agree : end_of_text l.node.course ≡ end_by_acts n acts
 
 abbrev AllEnd : Run → Type 0
 AllEnd world = (n : ℕ) (l : Logged) → slice_get world.nodes n ≡ Some l → Ends world.acts n l
@@ -96,14 +96,14 @@ module _ (world : Run) (flight : List Flying) (n : ℕ) (l after : Logged) (inpu
         ∙ ap (λ d. end_or d (end_of_text l.node.course)) deed_is
         ∙ ap (end_or turned.deed) (all n l at).agree
         ∙ sym (acts_moved n world.acts turned.deed)
-        ∙ ap (λ act. end_of n (world.acts ++ option_to_list act)) (sym act_is);
+        ∙ ap (λ act. end_by_acts n (world.acts ++ option_to_list act)) (sym act_is);
   }
 
   other : (m : ℕ) (k : Logged) → (n ≡ m → ⊥) → slice_get world.nodes m ≡ Some k → Ends (world.acts ++ option_to_list entry.turn.act) m k
   other m k apart there = record {
     me = (all m k there).me;
     agree = (all m k there).agree ∙ sym (acts_apart n m world.acts turned.deed apart)
-        ∙ ap (λ act. end_of m (world.acts ++ option_to_list act)) (sym act_is);
+        ∙ ap (λ act. end_by_acts m (world.acts ++ option_to_list act)) (sym act_is);
   }
 
   ends_more : AllEnd (with_turn world flight n entry after)
@@ -136,7 +136,7 @@ module _ (program : Program) (nodes : ℕ) (options : OptionsRecord) where
       let count : length run.nodes ≡ nodes = (run-whole program nodes options events run runs).count in
       let left : length (map end_of_logged run.nodes) ≡ nodes = length-map run.nodes end_of_logged ∙ count in
       let right : length (ends_of nodes run.acts) ≡ nodes =
-      length-map (range_with_len 0 nodes) (λ node. end_of node run.acts) ∙ length-range_with_len 0 nodes in
+      length-map (range_with_len 0 nodes) (λ node. end_by_acts node run.acts) ∙ length-range_with_len 0 nodes in
       told_is
       ∙ same_lists (map end_of_logged run.nodes) (ends_of nodes run.acts) (left ∙ sym right) (λ k d lt.
       let below : k < nodes = omega (arith, lt, left) in
@@ -144,6 +144,6 @@ module _ (program : Program) (nodes : ℕ) (options : OptionsRecord) where
       let there = slice_get-get_or run.nodes k l0 (omega (arith, below, count)) in
       get_or-map end_of_logged run.nodes k l0 d (omega (arith, below, count))
       ∙ (ends_at events run runs k (get_or run.nodes k l0) there).agree
-      ∙ sym (get_or-map (λ node. end_of node run.acts) (range_with_len 0 nodes) k 0 d (omega (arith, length-range_with_len 0 nodes, below))
-      ∙ ap (λ node. end_of node run.acts) (get_or-range_with_len 0 nodes k 0 below ∙ zero-add k)))
+      ∙ sym (get_or-map (λ node. end_by_acts node run.acts) (range_with_len 0 nodes) k 0 d (omega (arith, length-range_with_len 0 nodes, below))
+      ∙ ap (λ node. end_by_acts node run.acts) (get_or-range_with_len 0 nodes k 0 below ∙ zero-add k)))
       ∙ ap (ends_of nodes) (sym same)

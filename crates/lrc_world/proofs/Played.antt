@@ -22,7 +22,7 @@ use Rattle.std.proofs.lemmas.Option.{get_or_from_slice_get, same_Some, slice_get
 use Rattle.lrc_world.specs.declared.world.World.{World}
 use Rattle.lrc_world.specs.declared.report.SimFault.{SimFault}
 use Rattle.lrc_world.specs.declared.report.SimFault.TheVariants.{BadNodes, BadSteps, Worn, NoMemory}
-use Rattle.lrc_world.specs.World.{Starts, cut, kept_node, trimmed, after_turn, Shows, PlaysTo, Adds, AddsTo, NodeLogsLast, IsTurn, TurnsBy, TurnsTo, IsTaken}
+use Rattle.lrc_world.specs.World.{Starts, cut, kept_node, trimmed, after_turn, Shows, PlaysTo, AddsTurn, AddsTo, NodeLogsLast, IsTurn, TurnsBy, TurnsTo, IsTaken}
 use Rattle.lrc_world.specs.World.{ReceivesTo, turn_made, Seen, seen_flying, seen_sent, shown_new, entry_is_long, log_is_long, sends_long}
 use Rattle.lrc_world.proofs.Lists.{map-map, map-both, map-get, none_of, none-set, some-set, none-end, set-set, some-end, same_length}
 
@@ -50,7 +50,7 @@ module _ (starts : Starts) (old mid new : World) (run : Run) (flight : List Sent
   short_before : log_is_long l ≡ false
   short_before = none_of log_is_long run.nodes n l shows.short there
 
-  adds : Adds mid new n entry → Shows starts new (with_turn run flight n entry after)
+  adds : AddsTurn mid new n entry → Shows starts new (with_turn run flight n entry after)
   adds a = record {
     keep = a.keep ∙ kept ∙ shows.keep;
     nodes = a.nodes (after_turn entry after before) there_now

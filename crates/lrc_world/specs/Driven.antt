@@ -29,7 +29,7 @@ IsRunOver nodes world = (starts : Starts) (run : Run) → Shows starts world run
 
 -- What is driven stands here, unless it has as many events as there may be: its events are led so from a world on, and its world
 -- shows the run after them.
-pub record StandsAt (schedule : Schedule) (starts : Starts) (start : Run) (at : schedule.Standing) (driver : Driver) : Type 0 where
+pub record DriverStandsAt (schedule : Schedule) (starts : Starts) (start : Run) (at : schedule.Standing) (driver : Driver) : Type 0 where
   pub run : Run
   pub standing : schedule.Standing
   pub led : Led schedule start driver.events.items run standing
@@ -37,17 +37,17 @@ pub record StandsAt (schedule : Schedule) (starts : Starts) (start : Run) (at : 
   pub here : (standing ≡ at) ⊎ (MOST_EVENTS ≤ length driver.events.items)
 
 -- what is driven from one standing to another: events are added, of which there are no more than there may be
-pub record Goes (schedule : Schedule) (from to : schedule.Standing) (old new : Driver) : Type 0 where
-  pub drives : (starts : Starts) (start : Run) → StandsAt schedule starts start from old → StandsAt schedule starts start to new
+pub record IsDrivenOn (schedule : Schedule) (from to : schedule.Standing) (old new : Driver) : Type 0 where
+  pub drives : (starts : Starts) (start : Run) → DriverStandsAt schedule starts start from old → DriverStandsAt schedule starts start to new
   pub few : length old.events.items ≤ MOST_EVENTS → length new.events.items ≤ MOST_EVENTS
   pub more : length old.events.items ≤ length new.events.items
 
 -- the same, or a number or a message was too large, or no memory is left
 abbrev pub DrivesTo : (schedule : Schedule) → schedule.Standing → schedule.Standing → Driver → Driver → Result (Unit {0}) SimFault → Type 0
-DrivesTo schedule from to old new (Ok done) = Goes schedule from to old new
-DrivesTo schedule from to old new (Err Worn) = (starts : Starts) (start : Run) → StandsAt schedule starts start from old → WearsOut schedule start
+DrivesTo schedule from to old new (Ok done) = IsDrivenOn schedule from to old new
+DrivesTo schedule from to old new (Err Worn) = (starts : Starts) (start : Run) → DriverStandsAt schedule starts start from old → WearsOut schedule start
 DrivesTo schedule from to old new (Err NoMemory) = Unit {0}
-DrivesTo schedule from to old new (Err _) = (starts : Starts) (start : Run) → ¬ StandsAt schedule starts start from old
+DrivesTo schedule from to old new (Err _) = (starts : Starts) (start : Run) → ¬ DriverStandsAt schedule starts start from old
 
 -- what leads a run of so many nodes in this order
 abbrev pub schedule_of : ℕ → Order → Schedule

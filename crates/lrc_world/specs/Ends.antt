@@ -6,9 +6,9 @@ use Rattle.lrc_node.specs.declared.end.End.{End}
 use Rattle.lrc_node.specs.Logged.{end_by}
 
 -- how a node ended: as its last act says
-abbrev pub end_of : ℕ → List Act → End
-end_of node acts = end_by (last_or None (filter (λ a. a.node == node) acts))
+abbrev pub end_by_acts : ℕ → List Act → End
+end_by_acts node acts = end_by (last_or None (filter (λ a. a.node == node) acts))
 
 -- how each node ended, from node 0 up
 abbrev pub ends_of : ℕ → List Act → List End
-ends_of nodes acts = map (λ node. end_of node acts) (range_with_len 0 nodes)
+ends_of nodes acts = map (λ node. end_by_acts node acts) (range_with_len 0 nodes)

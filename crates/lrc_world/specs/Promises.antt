@@ -6,7 +6,7 @@ use Rattle.lrc_trace.specs.Conflict.{IsRaceFree, IsFirstRace}
 use Rattle.lrc_trace.specs.Reading.{ReadsLazily}
 use Rattle.lrc_trace.specs.Synchronization.{IsWellSynchronized}
 use Rattle.lrc_exec.specs.Plain.{plain}
-use Rattle.lrc_plain_laws.specs.Follows.{nodes_of}
+use Rattle.lrc_plain_laws.specs.Follows.{nodes_of_acts}
 use Rattle.lrc_plain_laws.specs.Racing.{HasNoRace, PlainToRace}
 use Rattle.lrc_node.specs.declared.end.End.{End}
 use Rattle.lrc_protocol.specs.declared.event.Event.{Event}
@@ -21,7 +21,7 @@ use Rattle.lrc_world.specs.Moments.{AreCovered, HasEachToken, RefusesNone, Throu
 pub record IsConsistent (program : Program) (nodes : ℕ) (acts : List Act) : Type 0 where
   pub synchronized : IsWellSynchronized nodes acts
   pub lazy : ReadsLazily acts
-  pub consistent : IsRaceFree acts → plain program nodes (nodes_of acts) ≡ Some acts
+  pub consistent : IsRaceFree acts → plain program nodes (nodes_of_acts acts) ≡ Some acts
   pub first : (position : ℕ) → IsFirstRace acts position → PlainToRace program nodes acts position
   pub unraced : HasNoRace program nodes → IsRaceFree acts
 

@@ -114,7 +114,7 @@ NodeLogsLast world n entry =
     (l : TracedLog) × (slice_get world.nodes.items n ≡ Some l) × (before : List EntryRecord) × (l.logged.log ≡ before ++ entry ∷ [])
 
 -- What a turn of a node did was added: its act, and its messages in flight. The node keeps of its log what is to be kept.
-pub record Adds (old new : World) (n : ℕ) (entry : EntryRecord) : Type 0 where
+pub record AddsTurn (old new : World) (n : ℕ) (entry : EntryRecord) : Type 0 where
   pub keep : new.keep ≡ old.keep
   pub nodes : (l : TracedLog) → slice_get old.nodes.items n ≡ Some l → new.nodes.items ≡ slice_set old.nodes.items n (trimmed old.keep l)
   pub flight : map seen_flying new.flight.items ≡ map seen_flying old.flight.items ++ map (shown_new entry.stamp) entry.turn.out
@@ -122,7 +122,7 @@ pub record Adds (old new : World) (n : ℕ) (entry : EntryRecord) : Type 0 where
   pub short : entry_is_long entry ≡ false
 
 abbrev pub AddsTo : World → World → ℕ → EntryRecord → Result (Unit {0}) SimFault → Type 0
-AddsTo old new n entry (Ok done) = Adds old new n entry
+AddsTo old new n entry (Ok done) = AddsTurn old new n entry
 AddsTo old new n entry (Err fault) = IsSendFault entry.turn.out fault
 
 -- ---- turns

@@ -10,7 +10,7 @@ use Rattle.lrc_trace.specs.Order.{HappensBefore, base, further, program, lock}
 use Rattle.lrc_trace.specs.Interval.{interval_at}
 use Rattle.lrc_trace.proofs.Positions.{Does-one_node, Does-one_deed}
 use Rattle.lrc_trace.proofs.HappensBefore.{forward, transitive}
-use Rattle.lrc_copies.specs.Stamps.{index_of, is_covered}
+use Rattle.lrc_copies.specs.Stamps.{stamp_index, stamps_covered}
 use Rattle.lrc_copies.specs.Reading.{IsLastWriteIn, ListsWrites}
 use Rattle.test_parts.specs.Copies.{four, four_stamps, four_wrote, four_run}
 use Rattle.test_parts.proofs.RepairByHand.{each_of_four}
@@ -121,28 +121,28 @@ seen (suc (suc (suc (suc (suc (suc (suc (suc (suc (suc (suc (suc i)))))))))))) n
 -- ---- the members of the list
 
 only_one : (a b : ℕ) → Contains four a → Contains four b → four_stamps.node a ≡ four_stamps.node b
-    → index_of four_stamps a ≡ index_of four_stamps b → a ≡ b
+    → stamp_index four_stamps a ≡ stamp_index four_stamps b → a ≡ b
 only_one a b a_in b_in =
-    each_of_four (λ c. four_stamps.node c ≡ four_stamps.node b → index_of four_stamps c ≡ index_of four_stamps b → c ≡ b)
-    (each_of_four (λ c. four_stamps.node 0 ≡ four_stamps.node c → index_of four_stamps 0 ≡ index_of four_stamps c → 0 ≡ c)
+    each_of_four (λ c. four_stamps.node c ≡ four_stamps.node b → stamp_index four_stamps c ≡ stamp_index four_stamps b → c ≡ b)
+    (each_of_four (λ c. four_stamps.node 0 ≡ four_stamps.node c → stamp_index four_stamps 0 ≡ stamp_index four_stamps c → 0 ≡ c)
     (λ e f. refl)
     (λ (e : 0 ≡ 2) (f : 1 ≡ 1). absurd (omega arith))
     (λ (e : 0 ≡ 1) (f : 1 ≡ 2). absurd (omega arith))
     (λ (e : 0 ≡ 0) (f : 1 ≡ 4). absurd (omega arith))
     b b_in)
-    (each_of_four (λ c. four_stamps.node 1 ≡ four_stamps.node c → index_of four_stamps 1 ≡ index_of four_stamps c → 1 ≡ c)
+    (each_of_four (λ c. four_stamps.node 1 ≡ four_stamps.node c → stamp_index four_stamps 1 ≡ stamp_index four_stamps c → 1 ≡ c)
     (λ (e : 2 ≡ 0) (f : 1 ≡ 1). absurd (omega arith))
     (λ e f. refl)
     (λ (e : 2 ≡ 1) (f : 1 ≡ 2). absurd (omega arith))
     (λ (e : 2 ≡ 0) (f : 1 ≡ 4). absurd (omega arith))
     b b_in)
-    (each_of_four (λ c. four_stamps.node 2 ≡ four_stamps.node c → index_of four_stamps 2 ≡ index_of four_stamps c → 2 ≡ c)
+    (each_of_four (λ c. four_stamps.node 2 ≡ four_stamps.node c → stamp_index four_stamps 2 ≡ stamp_index four_stamps c → 2 ≡ c)
     (λ (e : 1 ≡ 0) (f : 2 ≡ 1). absurd (omega arith))
     (λ (e : 1 ≡ 2) (f : 2 ≡ 1). absurd (omega arith))
     (λ e f. refl)
     (λ (e : 1 ≡ 0) (f : 2 ≡ 4). absurd (omega arith))
     b b_in)
-    (each_of_four (λ c. four_stamps.node 3 ≡ four_stamps.node c → index_of four_stamps 3 ≡ index_of four_stamps c → 3 ≡ c)
+    (each_of_four (λ c. four_stamps.node 3 ≡ four_stamps.node c → stamp_index four_stamps 3 ≡ stamp_index four_stamps c → 3 ≡ c)
     (λ (e : 0 ≡ 0) (f : 4 ≡ 1). absurd (omega arith))
     (λ (e : 0 ≡ 2) (f : 4 ≡ 1). absurd (omega arith))
     (λ (e : 0 ≡ 1) (f : 4 ≡ 2). absurd (omega arith))
@@ -155,9 +155,9 @@ abbrev IsIn : ℕ → ℕ → Type 0
 IsIn i a = ((i ≡ 0) × (a ≡ 0)) ⊎ (((i ≡ 4) × (a ≡ 2)) ⊎ ((i ≡ 7) × (a ≡ 3)))
 
 is_in : (i a v : ℕ) → Contains four a → Does four_run i (four_stamps.node a) (Write 0 v)
-    → interval_at four_run (four_stamps.node a) i ≡ index_of four_stamps a → IsIn i a
+    → interval_at four_run (four_stamps.node a) i ≡ stamp_index four_stamps a → IsIn i a
 is_in i a v a_in does inside =
-    let place : (node k : ℕ) → i ≡ k → four_stamps.node a ≡ node → index_of four_stamps a ≡ interval_at four_run node k =
+    let place : (node k : ℕ) → i ≡ k → four_stamps.node a ≡ node → stamp_index four_stamps a ≡ interval_at four_run node k =
     λ node k at same. sym inside ∙ ap (λ m. interval_at four_run m i) same ∙ ap (interval_at four_run node) at in
     ⊎_elim
     (λ (first : (i ≡ 0) × (four_stamps.node a ≡ 0) × (v ≡ 5)).
@@ -232,11 +232,11 @@ lists = record {
       (3, (3, omega arith, refl), sym third.1, number 0 7 third.0 third.1))
       later)
       (writes i other value does);
-  known = each_of_four (λ a. (four_stamps.node a ≡ 2) ⊎ IsTrue (is_covered four_stamps reads_at a)) (inr refl) (inl refl) (inr refl) (inr refl);
+  known = each_of_four (λ a. (four_stamps.node a ≡ 2) ⊎ IsTrue (stamps_covered four_stamps reads_at a)) (inr refl) (inl refl) (inr refl) (inr refl);
   one = only_one;
   wrote_last = λ a v a_in.
       each_of_four (λ b. four_wrote b 0 ≡ Some v
-      → (i : ℕ) × IsLastWriteIn four_run 11 0 (four_stamps.node b) (index_of four_stamps b) i v)
+      → (i : ℕ) × IsLastWriteIn four_run 11 0 (four_stamps.node b) (stamp_index four_stamps b) i v)
       (λ wrote. let value : 5 ≡ v = cc in (0, subst (IsLastWriteIn four_run 11 0 0 1 0) value last_in_0))
       (λ wrote. absurd (cc))
       (λ wrote. let value : 9 ≡ v = cc in (4, subst (IsLastWriteIn four_run 11 0 1 2 4) value last_in_2))
@@ -254,18 +254,18 @@ lists = record {
 }
   where
     ordered : (a b i k : ℕ) → (four_stamps.node a ≡ four_stamps.node b → ⊥) → i < k → IsIn i a → IsIn k b
-        → IsTrue (is_covered four_stamps (four_stamps.stamp b) a)
+        → IsTrue (stamps_covered four_stamps (four_stamps.stamp b) a)
     ordered a b i k apart before (inl p) (inl q) = let e = p.0 in let f = q.0 in absurd (omega arith)
     ordered a b i k apart before (inl p) (inr (inl q)) =
-        subst (λ c. IsTrue (is_covered four_stamps (four_stamps.stamp c) a)) (sym q.1)
-        (subst (λ c. IsTrue (is_covered four_stamps (four_stamps.stamp 2) c)) (sym p.1) refl)
+        subst (λ c. IsTrue (stamps_covered four_stamps (four_stamps.stamp c) a)) (sym q.1)
+        (subst (λ c. IsTrue (stamps_covered four_stamps (four_stamps.stamp 2) c)) (sym p.1) refl)
     ordered a b i k apart before (inl p) (inr (inr q)) =
         absurd (apart (ap four_stamps.node p.1 ∙ sym (ap four_stamps.node q.1)))
     ordered a b i k apart before (inr (inl p)) (inl q) = let e = p.0 in let f = q.0 in absurd (omega arith)
     ordered a b i k apart before (inr (inl p)) (inr (inl q)) = let e = p.0 in let f = q.0 in absurd (omega arith)
     ordered a b i k apart before (inr (inl p)) (inr (inr q)) =
-        subst (λ c. IsTrue (is_covered four_stamps (four_stamps.stamp c) a)) (sym q.1)
-        (subst (λ c. IsTrue (is_covered four_stamps (four_stamps.stamp 3) c)) (sym p.1) refl)
+        subst (λ c. IsTrue (stamps_covered four_stamps (four_stamps.stamp c) a)) (sym q.1)
+        (subst (λ c. IsTrue (stamps_covered four_stamps (four_stamps.stamp 3) c)) (sym p.1) refl)
     ordered a b i k apart before (inr (inr p)) (inl q) = let e = p.0 in let f = q.0 in absurd (omega arith)
     ordered a b i k apart before (inr (inr p)) (inr (inl q)) = let e = p.0 in let f = q.0 in absurd (omega arith)
     ordered a b i k apart before (inr (inr p)) (inr (inr q)) = let e = p.0 in let f = q.0 in absurd (omega arith)

@@ -3,10 +3,10 @@ use Rattle.std.proofs.Common.{◌≡◌, ℕ, zero, suc, IsTrue, List, [], ◌�
 use Rattle.std.specs.Prelude.{Contains, AllPairs}
 use Rattle.std.proofs.lemmas.Bool.{false≢true}
 use Rattle.lrc_copies.specs.Word.{Fits}
-use Rattle.lrc_copies.specs.Sound.{those_below, IsSound}
+use Rattle.lrc_copies.specs.Sound.{those_below, IsSoundList}
 use Rattle.lrc_copies.specs.Page.{at_word, IsPageSound, PageFits}
 use Rattle.lrc_time.specs.Time.{Covers}
-use Rattle.lrc_copies.specs.Stamps.{comes_before, IsCut, AreStamped, IsBetween, AreLacking, covered}
+use Rattle.lrc_copies.specs.Stamps.{comes_before, IsCut, AreStamped, StandsBetween, AreLacking, covered}
 use Rattle.lrc_copies.proofs.Timing.{repaired_fits}
 use Rattle.lrc_copies.proofs.Members.{cases_Contains, none_Contains}
 use Rattle.lrc_copies.proofs.Deciding.{fits_true}
@@ -32,7 +32,7 @@ fits_before (suc zero) within = fits_true (at_word four_page 1) (1 ∷ []) 7 ref
 fits_before (suc (suc offset)) within = absurd (omega arith)
 
 module _ (stamped : AreStamped four_stamps 3 four) where
-  first_sound : IsSound (at_word four_page 0) four
+  first_sound : IsSoundList (at_word four_page 0) four
   first_sound = record {
     lighter = λ a b. lighter_below four_stamps 3 four stamped a b;
     change = λ a v a_in.
@@ -49,7 +49,7 @@ module _ (stamped : AreStamped four_stamps 3 four) where
         a a_in;
   }
 
-  second_sound : IsSound (at_word four_page 1) four
+  second_sound : IsSoundList (at_word four_page 1) four
   second_sound = record {
     lighter = λ a b. lighter_below four_stamps 3 four stamped a b;
     change = λ a v a_in.
@@ -71,7 +71,7 @@ abbrev lacking_list : List ℕ
 lacking_list = 0 ∷ 2 ∷ 3 ∷ []
 
 abbrev IsBetweenThem : ℕ → Type 0
-IsBetweenThem a = IsBetween four_stamps four (0 ∷ 0 ∷ 1 ∷ []) (4 ∷ 2 ∷ 1 ∷ []) a
+IsBetweenThem a = StandsBetween four_stamps four (0 ∷ 0 ∷ 1 ∷ []) (4 ∷ 2 ∷ 1 ∷ []) a
 
 between_0 : IsBetweenThem 0
 between_0 = record { member = (0, omega arith, refl); later = false≢true; known = refl }
@@ -92,9 +92,9 @@ between a there =
     (cases_Contains 2 (3 ∷ []) a after))
     (cases_Contains 0 (2 ∷ 3 ∷ []) a there)
 
-pub among : (a : ℕ) → IsBetween four_stamps four (0 ∷ 0 ∷ 1 ∷ []) (4 ∷ 2 ∷ 1 ∷ []) a → Contains lacking_list a
+pub among : (a : ℕ) → StandsBetween four_stamps four (0 ∷ 0 ∷ 1 ∷ []) (4 ∷ 2 ∷ 1 ∷ []) a → Contains lacking_list a
 among a h =
-    each_of_four (λ b. IsBetween four_stamps four (0 ∷ 0 ∷ 1 ∷ []) (4 ∷ 2 ∷ 1 ∷ []) b → Contains lacking_list b)
+    each_of_four (λ b. StandsBetween four_stamps four (0 ∷ 0 ∷ 1 ∷ []) (4 ∷ 2 ∷ 1 ∷ []) b → Contains lacking_list b)
     (λ g. (0, omega arith, refl)) (λ g. absurd (g.later refl)) (λ g. (1, omega arith, refl)) (λ g. (2, omega arith, refl))
     a h.member h
 

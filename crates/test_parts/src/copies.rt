@@ -1,7 +1,7 @@
 // Copies of pages. Of a crate of laws the definitions are tested: on small histories each value fits or does not.
 
 ghost use Rattle.std.specs.Prelude.{◌≡◌, [], ◌∷◌, true, false, fold, map};
-ghost use Rattle.lrc_copies.specs.Decided.{fits};
+ghost use Rattle.lrc_copies.specs.Decided.{fits_list};
 ghost use Rattle.lrc_page.specs.Changes.{applied};
 ghost use Rattle.lrc_copies.specs.Sound.{repaired_value};
 ghost use Rattle.lrc_copies.specs.Reading.{ListsWrites};
@@ -12,29 +12,29 @@ ghost use Rattle.test_parts.specs.Copies.{two_and_a_silent_one, three_in_turn, a
 
 // Zero alone fits no interval; what one interval wrote is the one value that fits it.
 fn one_writer_decides()
-    ensures none { fits three_in_turn 0 [] ≡ true }
-    ensures no_other { fits three_in_turn 5 [] ≡ false }
-    ensures written { fits three_in_turn 5 (0 ∷ []) ≡ true }
-    ensures lost { fits three_in_turn 0 (0 ∷ []) ≡ false }
+    ensures none { fits_list three_in_turn 0 [] ≡ true }
+    ensures no_other { fits_list three_in_turn 5 [] ≡ false }
+    ensures written { fits_list three_in_turn 5 (0 ∷ []) ≡ true }
+    ensures lost { fits_list three_in_turn 0 (0 ∷ []) ≡ false }
 {}
 
 // Of two that know nothing of each other either value fits, and zero, but nothing that none wrote. In which order they stand
 // makes no difference.
 fn concurrent_writers_leave_a_choice()
-    ensures first { fits two_and_a_silent_one 5 (0 ∷ 1 ∷ []) ≡ true }
-    ensures second { fits two_and_a_silent_one 7 (0 ∷ 1 ∷ []) ≡ true }
-    ensures reversed { fits two_and_a_silent_one 5 (1 ∷ 0 ∷ []) ≡ true }
-    ensures zero { fits two_and_a_silent_one 0 (1 ∷ 0 ∷ []) ≡ true }
-    ensures none { fits two_and_a_silent_one 9 (0 ∷ 1 ∷ []) ≡ false }
+    ensures first { fits_list two_and_a_silent_one 5 (0 ∷ 1 ∷ []) ≡ true }
+    ensures second { fits_list two_and_a_silent_one 7 (0 ∷ 1 ∷ []) ≡ true }
+    ensures reversed { fits_list two_and_a_silent_one 5 (1 ∷ 0 ∷ []) ≡ true }
+    ensures zero { fits_list two_and_a_silent_one 0 (1 ∷ 0 ∷ []) ≡ true }
+    ensures none { fits_list two_and_a_silent_one 9 (0 ∷ 1 ∷ []) ≡ false }
 {}
 
 // Of those in turn the last alone decides, also where it is silent, and in whichever order and however often they stand.
 fn last_writer_decides()
-    ensures last { fits three_in_turn 9 (0 ∷ 1 ∷ 2 ∷ []) ≡ true }
-    ensures first { fits three_in_turn 5 (0 ∷ 1 ∷ 2 ∷ []) ≡ false }
-    ensures shuffled { fits three_in_turn 9 (2 ∷ 0 ∷ 2 ∷ 1 ∷ []) ≡ true }
-    ensures silent { fits two_and_a_silent_one 7 (1 ∷ 2 ∷ []) ≡ true }
-    ensures zero { fits two_and_a_silent_one 0 (1 ∷ 2 ∷ []) ≡ false }
+    ensures last { fits_list three_in_turn 9 (0 ∷ 1 ∷ 2 ∷ []) ≡ true }
+    ensures first { fits_list three_in_turn 5 (0 ∷ 1 ∷ 2 ∷ []) ≡ false }
+    ensures shuffled { fits_list three_in_turn 9 (2 ∷ 0 ∷ 2 ∷ 1 ∷ []) ≡ true }
+    ensures silent { fits_list two_and_a_silent_one 7 (1 ∷ 2 ∷ []) ≡ true }
+    ensures zero { fits_list two_and_a_silent_one 0 (1 ∷ 2 ∷ []) ≡ false }
 {}
 
 // A repair by rising weight gives a value that fits, and one in the order of arrival another.
@@ -47,8 +47,8 @@ fn repairs_by_weight()
 // A write that the changes lose, and that was not what the word had before, is not silent: no repair fits.
 fn lost_write_fits_nowhere()
     ensures repaired { repaired_value a_lost_write 0 (0 ∷ 1 ∷ 2 ∷ []) ≡ 9 }
-    ensures wrong { fits a_lost_write 9 (0 ∷ 1 ∷ 2 ∷ []) ≡ false }
-    ensures written { fits a_lost_write 4 (0 ∷ 1 ∷ 2 ∷ []) ≡ true }
+    ensures wrong { fits_list a_lost_write 9 (0 ∷ 1 ∷ 2 ∷ []) ≡ false }
+    ensures written { fits_list a_lost_write 4 (0 ∷ 1 ∷ 2 ∷ []) ≡ true }
 {}
 
 // A repair of a page: what the laws ask for can be met, and the copy that they promise is the one that the changes make.

@@ -4,7 +4,7 @@ ghost use Rattle.std.specs.Prelude.{◌≡◌, ℕ, ◌<◌, ◌≤◌, IfOk, If
 ghost use Rattle.lrc_barrier.specs.Barrier.{is_accepted, IsArrival, is_clean};
 ghost use Rattle.lrc_barrier.specs.declared.arrival.Arrival.{Arrival as ArrivalRecord};
 ghost use Rattle.lrc_protocol.specs.Times.{MOST_NUMBER};
-ghost use Rattle.lrc_protocol.specs.Barriers.{fresh_barrier, last_from, with_arrive};
+ghost use Rattle.lrc_protocol.specs.Barriers.{fresh_barrier, last_arrived, with_arrive};
 ghost use Rattle.lrc_node.specs.Barrier.{arrival_taken, clean_taken, AreDepartures, IsOfNodes, SameBarrier, arrive_step, clean_step};
 
 use lrc_barrier::{Arrival, BarrierFault, Departures, Manager};
@@ -78,7 +78,7 @@ impl Barrier {
     /// The index of a node's newest interval that has come to the manager, 0 where the manager isn't here.
     pub(crate) fn last_from(&self, from: u8) -> u32
         requires { IfSome self.now.manager (λ manager. from < length manager.last) }
-        ensures { result ≡ last_from self.now from }
+        ensures { result ≡ last_arrived self.now from }
     {
         match &self.manager {
             Some(manager) => manager.last(from),

@@ -5,7 +5,7 @@ ghost use Rattle.std.specs.Prelude.{option_and_then};
 ghost use Rattle.std.specs.List.{range_with_len};
 ghost use Rattle.lrc_time.specs.Time.{entry};
 ghost use Rattle.lrc_exec.specs.declared.machine.Ask.TheVariants.{Barrier};
-ghost use Rattle.lrc_memory.specs.Turns.{IsClosed};
+ghost use Rattle.lrc_memory.specs.Turns.{NoneIsWritten};
 ghost use Rattle.lrc_barrier.specs.Barrier.{is_clean};
 ghost use Rattle.lrc_protocol.specs.Barriers.{Collection as CollectionRecord};
 ghost use Rattle.lrc_protocol.specs.Node.{awaits_discard, collection_of, discard};
@@ -70,7 +70,7 @@ impl NodeState<'_> {
     pub(crate) fn take_discard(&mut self) -> Result<Effect, AllocError>
         requires next { asked_in self.old.course ≡ Some Barrier }
         requires waits { IsTrue (awaits_discard self.old.mail.wait) }
-        requires closed { IsClosed self.old.memory }
+        requires closed { NoneIsWritten self.old.memory }
         requires time { (collection : CollectionRecord) → self.old.mail.wait ≡ discard collection
             → (length collection.time ≡ self.old.setting.nodes)
             × (entry self.old.memory.store.last self.old.setting.me ≤ entry collection.time self.old.setting.me) }

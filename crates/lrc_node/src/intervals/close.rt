@@ -4,7 +4,7 @@ ghost use Rattle.std.specs.Prelude.{◌≡◌, ◌⊎◌, ◌+◌, ◌<◌, ◌�
 ghost use Rattle.lrc_time.specs.Time.{entry};
 ghost use Rattle.lrc_protocol.specs.Times.{next_time, MOST_NUMBER};
 ghost use Rattle.lrc_protocol.specs.Node.{own_index};
-ghost use Rattle.lrc_protocol.specs.Turn.{closes};
+ghost use Rattle.lrc_protocol.specs.Turn.{after_close};
 ghost use Rattle.lrc_node.specs.declared.fault.NodeFault.TheVariants.{NoMemory, Worn};
 
 use crate::fault::NodeFault;
@@ -14,7 +14,7 @@ impl NodeState<'_> {
     /// Closes the open interval. `Worn`, with nothing changed, where its index would be too large.
     pub(crate) fn close(&mut self) -> Result<(), NodeFault>
         requires { entry (next_time self.old.setting.me self.old.locks.time) self.old.setting.me ≡ entry self.old.memory.store.last self.old.setting.me + 1 }
-        ensures closed { IfOk result (λ _. (own_index self.old < MOST_NUMBER) × (self.new ≡ closes self.old)) }
+        ensures closed { IfOk result (λ _. (own_index self.old < MOST_NUMBER) × (self.new ≡ after_close self.old)) }
         ensures setting { self.new.setting ≡ self.old.setting }
         ensures refused { IfErr result (λ fault. ((fault ≡ Worn) × (MOST_NUMBER ≤ own_index self.old)) ⊎ (fault ≡ NoMemory)) }
     {

@@ -2,7 +2,7 @@
 
 ghost use Rattle.std.specs.Prelude.{◌≡◌, OnOk, length};
 ghost use Rattle.lrc_memory.specs.Turns.{CanBeAdded};
-ghost use Rattle.lrc_protocol.specs.Turn.{is_learnable, is_news, learns};
+ghost use Rattle.lrc_protocol.specs.Turn.{is_learnable, is_news_in_range, learns};
 
 use super::ranges::{fits, leads};
 use crate::state::NodeState;
@@ -12,7 +12,7 @@ use std::alloc::AllocError;
 impl NodeState<'_> {
     /// Whether a time and intervals are in range, and the time covers each stamp.
     pub(crate) fn fits(&self, news: &News) -> bool
-        ensures { result ≡ is_news self.now news.now.time news.now.intervals }
+        ensures { result ≡ is_news_in_range self.now news.now.time news.now.intervals }
     {
         fits(
             self.nodes,

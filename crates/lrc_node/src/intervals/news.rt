@@ -4,7 +4,7 @@ ghost use Rattle.std.specs.Prelude.{◌≡◌, ◌<◌, All, IfNone, IfSome, len
 ghost use Rattle.std.specs.List.{list_all, range_with_len};
 ghost use Rattle.lrc_time.specs.Time.{entry};
 ghost use Rattle.lrc_protocol.specs.Times.{are_between};
-ghost use Rattle.lrc_node.specs.News.{AreRuns, IsBroken};
+ghost use Rattle.lrc_node.specs.News.{AreUnbroken, IsBroken};
 
 use lrc_store::Interval;
 use lrc_time::Time;
@@ -13,7 +13,7 @@ use lrc_time::Time;
 // where they don't.
 fn reached(known: &Time, intervals: &[Interval]) -> Option<Time>
     requires { All (λ interval. interval.node < length known.now) intervals.now }
-    ensures reached { IfSome result (AreRuns known.now intervals.now) }
+    ensures reached { IfSome result (AreUnbroken known.now intervals.now) }
     ensures broken { IfNone result (IsBroken known.now intervals.now) }
 {
     let mut reached = known.copy();

@@ -5,7 +5,7 @@ ghost use Rattle.lrc_time.specs.Time.{entry};
 ghost use Rattle.lrc_lock.specs.Held.{asked, forwarded, granted, held_after, is_free, is_held, lock_at, pass_of, released, taken, is_taken};
 ghost use Rattle.lrc_order_laws.specs.Tokens.{is_awaited};
 ghost use Rattle.lrc_lock.specs.Lock.{IsPass, manager_of};
-ghost use Rattle.lrc_lock.specs.Managed.{managed_after, requested, answer_of as request_answer};
+ghost use Rattle.lrc_lock.specs.Managed.{managed_after, requested, request_answer};
 ghost use Rattle.lrc_lock.specs.declared.state.LockState.TheVariants.{Away};
 ghost use Rattle.lrc_protocol.specs.Times.{next_time, MOST_NUMBER};
 ghost use Rattle.lrc_protocol.specs.Locks.{fresh_locks, ticked, with_held, with_managed, with_time};

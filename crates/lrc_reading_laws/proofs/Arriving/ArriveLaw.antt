@@ -14,7 +14,7 @@ use Rattle.lrc_store.specs.Store.{StoredRecord, interval_of}
 use Rattle.lrc_copies.proofs.Members.{none_Contains}
 use Rattle.lrc_barrier.specs.Barrier.{ManagerRecord}
 use Rattle.lrc_protocol.specs.Times.{are_between}
-use Rattle.lrc_protocol.specs.Barriers.{last_from}
+use Rattle.lrc_protocol.specs.Barriers.{last_arrived}
 use Rattle.lrc_protocol.specs.Node.{OptionsRecord}
 use Rattle.lrc_protocol.specs.Turn.{is_expected, are_arriving}
 use Rattle.lrc_protocol.specs.Run.{Logged, World, pending, run_of}
@@ -73,7 +73,7 @@ module _ (program : Program) (nodes : ℕ) (options : OptionsRecord) (events : L
       let sender : (x : Logged) × (slice_get world.nodes e.from ≡ Some x) = asker program nodes options world r e there in
       let time_is : m.time ≡ sender.0.node.locks.time = (all_timely program nodes options events world runs).sent e m sender.0 there says sender.1 in
       let p : Placed nodes e.from sender.0.node = placed program nodes options world r e.from sender.0 sender.1 in
-      let note : last_from l.node.barrier e.from ≡ entry s.stand.manager.last e.from =
+      let note : last_arrived l.node.barrier e.from ≡ entry s.stand.manager.last e.from =
       ap (λ (o : Option ManagerRecord). unwrap_or (option_map (λ manager. slice_index manager.last e.from) o) 0) (s.stand.here l first) in
       and_from _ _
       (and_from _ _

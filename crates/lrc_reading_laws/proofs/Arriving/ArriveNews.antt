@@ -18,7 +18,7 @@ use Rattle.lrc_copies.proofs.Members.{cases_Contains, none_Contains}
 use Rattle.lrc_protocol.specs.Times.{next_time}
 use Rattle.lrc_protocol.specs.Pages.{copy_at}
 use Rattle.lrc_protocol.specs.Node.{Letter, Node}
-use Rattle.lrc_protocol.specs.Turn.{grant_of, grants_of, changes_reply_to, arrival_of, own_news, closes, TurnRecord}
+use Rattle.lrc_protocol.specs.Turn.{grant_of, grants_of, changes_reply_to, arrival_of, own_news, after_close, TurnRecord}
 use Rattle.lrc_protocol.specs.Run.{Input}
 use Rattle.lrc_order_laws.proofs.Sends.{letter_in}
 use Rattle.lrc_node_laws.specs.Stored.{StoresExactly}
@@ -41,7 +41,7 @@ module _ (nodes n : ℕ) (node : Node) (p : Placed nodes n node) (s : SentSo n n
   abbrev since : List ℕ
   since = slice_set now node.setting.me node.barrier.sent
 
-  exact : StoresExactly now (closes node).memory
+  exact : StoresExactly now (after_close node).memory
   exact =
       closes-exact nodes 0 node.setting.me node.locks.time node.memory (subst (λ k. k < nodes) (sym p.me) p.within) p.long (exact_at node p.reached)
 
@@ -53,16 +53,16 @@ module _ (nodes n : ℕ) (node : Node) (p : Placed nodes n node) (s : SentSo n n
   own_since : entry since n ≡ node.barrier.sent
   own_since = subst (λ k. entry (slice_set now k node.barrier.sent) n ≡ node.barrier.sent) (sym p.me) (entry-set_same now n node.barrier.sent within)
 
-  pub news_own : IsOwn (λ q. node.barrier.sent) (entry now) n (own_news (closes node))
+  pub news_own : IsOwn (λ q. node.barrier.sent) (entry now) n (own_news (after_close node))
   news_own = record {
     own =
-        newer-indices now (closes node).memory since now n exact (subst (λ k. entry node.memory.collected n ≤ k) (sym own_since) s.collected) (omega arith)
+        newer-indices now (after_close node).memory since now n exact (subst (λ k. entry node.memory.collected n ≤ k) (sym own_since) s.collected) (omega arith)
         ∙ ap (λ k. range_with_len (k + 1) (entry now n - k)) own_since;
     only = λ q other.
         let same : entry since q ≡ entry now q =
         subst (λ k. entry (slice_set now k node.barrier.sent) q ≡ entry now q) (sym p.me) (entry-set_other now n node.barrier.sent q (λ e. other (sym e))) in
         let none : entry now q - entry since q ≡ 0 = omega (arith, same) in
-        newer-indices now (closes node).memory since now q exact
+        newer-indices now (after_close node).memory since now q exact
         (subst (λ k. entry node.memory.collected q ≤ k) (sym same) (exact.below q)) (omega (arith, same))
         ∙ ap (range_with_len (entry since q + 1)) none;
   }
@@ -72,7 +72,7 @@ module _ (nodes n : ℕ) (node : Node) (p : Placed nodes n node) (s : SentSo n n
 -- what an arrival says, that the node sends now
 pub record ToldNow (node : Node) (m : ArriveRecord) : Type 0 where
   pub time : next_time node.setting.me node.locks.time ≡ m.time
-  pub intervals : own_news (closes node) ≡ m.intervals
+  pub intervals : own_news (after_close node) ≡ m.intervals
 
 silent_arrivals : (out : List EnvelopeRecord) → AllSilent (map letter_in out) → (e : EnvelopeRecord) → Contains out e → is_arrival e.message ≡ false
 silent_arrivals [] s e c = absurd (none_Contains e c)
@@ -112,16 +112,16 @@ module _ (node : Node) (turn : TurnRecord) (e : EnvelopeRecord) (m : ArriveRecor
   grants_told x None letters = absurd (none_Contains (letter_in e) (subst (λ ls. Contains ls (letter_in e)) letters (letter_out turn.out e c)))
   grants_told x (Some pass) letters = one_told (grant_of x pass) refl letters
 
-  arrival_told : map letter_in turn.out ≡ arrival_of (closes node) (node.barrier.episode + 1) ∷ [] → Told
+  arrival_told : map letter_in turn.out ≡ arrival_of (after_close node) (node.barrier.episode + 1) ∷ [] → Told
   unfolding time_in intervals_in
   arrival_told letters =
-      let sent : Letter = arrival_of (closes node) (node.barrier.episode + 1) in
+      let sent : Letter = arrival_of (after_close node) (node.barrier.episode + 1) in
       let one : sent ≡ letter_in e = only_letter sent (letter_in e) (subst (λ ls. Contains ls (letter_in e)) letters (letter_out turn.out e c)) in
       let message_is : sent.message ≡ Arrive m = ap (λ (x : Letter). x.message) one ∙ is in
       record { time = ap time_in message_is; intervals = ap intervals_in message_is }
 
   run_told : (step : Next) → RunSays Unbound node step (map letter_in turn.out) → Told
-  run_told (releases lock rest) s = grants_told (closes node) _ s
+  run_told (releases lock rest) s = grants_told (after_close node) _ s
   run_told (arrives rest) s = arrival_told s
   run_told (quiet rest) s = silent_told s
   run_told (prints value rest) s = silent_told s

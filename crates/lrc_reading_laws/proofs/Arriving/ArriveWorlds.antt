@@ -16,7 +16,7 @@ use Rattle.lrc_envelope.specs.declared.message.Message.TheVariants.{ChangesReque
 use Rattle.lrc_copies.proofs.Members.{cases_Contains, none_Contains}
 use Rattle.lrc_barrier.specs.Barrier.{ManagerRecord, first_manager}
 use Rattle.lrc_protocol.specs.Node.{Letter, nothing, OptionsRecord}
-use Rattle.lrc_protocol.specs.Turn.{own_news, closes}
+use Rattle.lrc_protocol.specs.Turn.{own_news, after_close}
 use Rattle.lrc_protocol.specs.Run.{Input, EntryRecord, Logged, World, Flying, fresh_world, with_turn, pending}
 use Rattle.lrc_protocol.proofs.Worlds.{IsEntry, get_set_same, get_set_other, fresh_at}
 use Rattle.lrc_protocol.proofs.Induction.{Comes}
@@ -201,7 +201,7 @@ module _ (program : Program) (nodes : ℕ) (options : OptionsRecord) where
           (turn_at program nodes options world flight n l after input entry_is at come i r) e m new says in
           let it : IsOwn (λ q. l.node.barrier.sent) (entry m.time) n m.intervals =
           subst (λ intervals. IsOwn (λ q. l.node.barrier.sent) (entry m.time) n intervals) told.intervals
-          (subst (λ t. IsOwn (λ q. l.node.barrier.sent) (entry t) n (own_news (closes l.node))) told.time
+          (subst (λ t. IsOwn (λ q. l.node.barrier.sent) (entry t) n (own_news (after_close l.node))) told.time
           (news_own nodes n l.node p (all_sent program nodes options world r n l at))) in
           let note : l.node.barrier.sent ≡ entry stand'.manager.last n =
           sym (ap (λ last. entry last n) (last_is before.last last) ∙ h.noted n l at none_yet) in

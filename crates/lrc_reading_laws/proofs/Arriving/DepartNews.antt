@@ -18,7 +18,7 @@ use Rattle.lrc_envelope.specs.declared.message.Message.TheVariants.{Arrive, Depa
 use Rattle.lrc_barrier.specs.declared.arrival.Arrival.{Arrival}
 use Rattle.lrc_barrier.specs.declared.departure.Departure.{Departure}
 use Rattle.lrc_barrier.specs.Barrier.{ManagerRecord, arrivals_of, is_news, intervals_of, joined_time, with_arrival}
-use Rattle.lrc_copies.specs.Stamps.{index_of}
+use Rattle.lrc_copies.specs.Stamps.{stamp_index}
 use Rattle.lrc_copies.proofs.Stamping.{covered-le, le-covered}
 use Rattle.lrc_protocol.specs.declared.event.Event.{Event}
 use Rattle.lrc_protocol.specs.Times.{indices_by}
@@ -183,7 +183,7 @@ module _ (program : Program) (nodes : ℕ) (options : OptionsRecord) where
       cut = λ a c covered.
           let within : a.node < nodes = (all_listed program nodes options world made history).among a c in
           let x : (x : Logged) × (slice_get world.nodes a.node ≡ Some x) = node_of a.node within in
-          let known : index_of made_stamps a ≤ entry top a.node = covered-le made_stamps top a covered in
+          let known : stamp_index made_stamps a ≤ entry top a.node = covered-le made_stamps top a covered in
           let same : entry top a.node ≡ entry x.0.node.locks.time a.node = top-is a.node x.0 within x.1 in
           covers-trans top x.0.node.locks.time a.stamp (λ k. top-least a.node k x.0 within x.1)
           ((cuts.times a.node x.0 x.1).cut a c (le-covered made_stamps x.0.node.locks.time a (omega (arith, known, same))));

@@ -8,7 +8,7 @@ use Rattle.lrc_lang.specs.declared.program.Program.{Program}
 use Rattle.lrc_envelope.specs.Envelope.{EnvelopeRecord}
 use Rattle.lrc_envelope.specs.Records.{ChangesRequestRecord, ChangesReplyRecord, IndexedChangesRecord, PageReplyRecord}
 use Rattle.lrc_envelope.specs.declared.message.Message.TheVariants.{ChangesRequest, ChangesReply, PageRequest, PageReply}
-use Rattle.lrc_protocol.specs.Pages.{Base, unneeded, due, come, Asked, Need, asks, awaits_changes, is_due_from, awaits_page}
+use Rattle.lrc_protocol.specs.Pages.{Base, unneeded, due, come, Asked, Need, asks_just, awaits_changes, is_due_from, awaits_page}
 use Rattle.lrc_protocol.specs.Node.{Letter, Wait, nothing, grant, departure, access, upkeep, discard, needs_of, Node, OptionsRecord}
 use Rattle.lrc_protocol.specs.Turn.{letter, changes_request_of, page_request_of, requests_of}
 use Rattle.lrc_protocol.specs.Run.{Logged, World, pending}
@@ -19,7 +19,7 @@ use Rattle.lrc_order_laws.proofs.Reached.{IsReached}
 use Rattle.lrc_node_laws.proofs.Needs.{any_fits}
 use Rattle.lrc_reading_laws.proofs.Laws.{AwaitsBase, AreAwaited, RequestsLaw}
 use Rattle.lrc_reading_laws.proofs.Closed.Stored.{reached}
-use Rattle.lrc_reading_laws.specs.Requested.{Wish, base_copy, changes, asked_in, told_in, same_wish, is_wish}
+use Rattle.lrc_reading_laws.specs.Requested.{Wish, base_copy, changes, wish_in, told_in, same_wish, is_wish}
 use Rattle.lrc_reading_laws.proofs.Asked.Wishes.{wanted_test, request_test, reply_test, awaited}
 use Rattle.lrc_reading_laws.proofs.Asked.Worlds.{AreBalanced, all_balanced}
 use Rattle.lrc_reading_laws.proofs.Asked.Upkeep.{NoBase, no_base_at}
@@ -39,10 +39,10 @@ passes w o a b e =
     and_from (is_wish w o && (a == a)) (b == b) (and_from (is_wish w o) (a == a) (ap (is_wish w) e ∙ same-itself w) (eq-eqb a a refl)) (eq-eqb b b refl)
 
 requested : (es : List EnvelopeRecord) (wait : Wait) (e : EnvelopeRecord) (w : Wish) → AreBalanced es e.from wait → Contains es e
-    → asked_in e.message ≡ Some w → 1 ≤ count_by (wanted_test e.to w) (awaited wait)
+    → wish_in e.message ≡ Some w → 1 ≤ count_by (wanted_test e.to w) (awaited wait)
 requested es wait e w h there is =
     let some : 1 ≤ count_of (request_test e.from e.to w) es =
-    counted_in (λ x. request_test e.from e.to w x.from (letter_in x)) es e there (passes w (asked_in e.message) e.to e.from is) in
+    counted_in (λ x. request_test e.from e.to w x.from (letter_in x)) es e there (passes w (wish_in e.message) e.to e.from is) in
     let all : count_of (request_test e.from e.to w) es + count_of (reply_test e.from e.to w) es ≡ count_by (wanted_test e.to w) (awaited wait) = h e.to w in
     omega (arith, some, all)
 
@@ -64,7 +64,7 @@ later test l letters fails some =
 
 asked_any : (q page p : ℕ) (indices : List ℕ) (asked : List Asked)
     → 1 ≤ count_by (wanted_test q (changes page indices)) (map (changes_request_of p) asked)
-    → ((p == page) ≡ true) × (list_any (asks q indices) asked ≡ true)
+    → ((p == page) ≡ true) × (list_any (asks_just q indices) asked ≡ true)
 asked_any q page p indices [] some =
     let none : count_by (wanted_test q (changes page indices)) [] ≡ 0 = refl in
     absurd (omega (arith, some, none))
@@ -74,14 +74,14 @@ asked_any q page p indices (a ∷ asked) some =
     let outer : _ = and_parts ((p == page) && pointwise ◌==◌ a.indices indices) (a.maker == q) here in
     let inner : _ = and_parts (p == page) (pointwise ◌==◌ a.indices indices) outer.0 in (
       inner.0,
-      or_left (asks q indices a) (list_any (asks q indices) asked)
+      or_left (asks_just q indices a) (list_any (asks_just q indices) asked)
           (and_from (a.maker == q) (pointwise ◌==◌ a.indices indices) outer.1 inner.1),
     ))
     (λ fails.
     let rest : _ =
     asked_any q page p indices asked
     (later (wanted_test q (changes page indices)) (changes_request_of p a) (map (changes_request_of p) asked) fails some) in
-    (rest.0, or_right (asks q indices a) (list_any (asks q indices) asked) rest.1))
+    (rest.0, or_right (asks_just q indices a) (list_any (asks_just q indices) asked) rest.1))
     (cases_Bool (wanted_test q (changes page indices) (changes_request_of p a)))
 
 -- a base copy isn't asked of makers, nor changes of a keeper
@@ -160,7 +160,7 @@ changes_awaited maker page indices needs some =
     let none : count_by (wanted_test maker (changes page indices)) (page_request_of need.page need.base) ≡ 0 =
     no_changes_asked maker page need.page indices need.base in
     let any : _ = asked_any maker page need.page indices need.asked (omega (arith, both, none, some)) in
-    and_from (need.page == page) (list_any (asks maker indices) need.asked) any.0 any.1)
+    and_from (need.page == page) (list_any (asks_just maker indices) need.asked) any.0 any.1)
     needs some
 
 -- ---- a base copy is awaited at a miss
@@ -199,7 +199,7 @@ module _ (program : Program) (nodes : ℕ) (options : OptionsRecord) (world : Wo
       → slice_get world.nodes e.from ≡ Some l → list_any (awaits_page page e.to) (needs_of l.node.mail.wait) ≡ true
   page_request-awaited e page l there is at =
       page_awaited e.to page (needs_of l.node.mail.wait)
-      (requested (pending world) l.node.mail.wait e (base_copy page) (balanced e.from l at) there (ap asked_in is))
+      (requested (pending world) l.node.mail.wait e (base_copy page) (balanced e.from l at) there (ap wish_in is))
 
   pub page_reply-awaited : (e : EnvelopeRecord) (m : PageReplyRecord) (l : Logged) → Contains (pending world) e → e.message ≡ PageReply m
       → slice_get world.nodes e.to ≡ Some l → list_any (awaits_page m.page e.from) (needs_of l.node.mail.wait) ≡ true
@@ -211,7 +211,7 @@ module _ (program : Program) (nodes : ℕ) (options : OptionsRecord) (world : Wo
       → slice_get world.nodes e.from ≡ Some l → list_any (awaits_changes m.page e.to m.indices) (needs_of l.node.mail.wait) ≡ true
   changes_request-awaited e m l there is at =
       changes_awaited e.to m.page m.indices (needs_of l.node.mail.wait)
-      (requested (pending world) l.node.mail.wait e (changes m.page m.indices) (balanced e.from l at) there (ap asked_in is))
+      (requested (pending world) l.node.mail.wait e (changes m.page m.indices) (balanced e.from l at) there (ap wish_in is))
 
   pub changes_reply-awaited : (e : EnvelopeRecord) (m : ChangesReplyRecord) (l : Logged) → Contains (pending world) e → e.message ≡ ChangesReply m
       → slice_get world.nodes e.to ≡ Some l

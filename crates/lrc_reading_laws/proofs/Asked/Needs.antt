@@ -7,7 +7,7 @@ use Rattle.std.proofs.lemmas.Option.{same_Some}
 use Rattle.std.proofs.lemmas.List.Elements.{All-head, All-tail, All-map}
 use Rattle.lrc_store.specs.declared.key.Key.{Key}
 use Rattle.lrc_envelope.specs.declared.message.Message.TheVariants.{ChangesRequest, PageRequest}
-use Rattle.lrc_protocol.specs.Pages.{Memory, Base, unneeded, due, come, Asked, Need, indices_of, some_asked, asked_of, unknown_of, asks}
+use Rattle.lrc_protocol.specs.Pages.{Memory, Base, unneeded, due, come, Asked, Need, indices_of, some_asked, asked_of, unknown_of, asks_just}
 use Rattle.lrc_protocol.specs.Pages.{awaits_changes, is_due, is_due_from, awaits_page, is_nothing, is_met, with_changes, with_page}
 use Rattle.lrc_protocol.specs.Node.{Letter}
 use Rattle.lrc_protocol.specs.Turn.{letter, changes_request_of, page_request_of, requests_of}
@@ -67,7 +67,7 @@ module _ (page from : ℕ) (indices : List ℕ) (test : Letter → Bool) where
       ap (λ b. cond (not b) (a ∷ filter others asked) (filter others asked)) apart
       ∙ ap (λ rest. a ∷ rest) (none-filtered asked (All-tail (λ m. from < m) a.maker (makers asked) h))
 
-  changes-less : (asked : List Asked) → Ascends (makers asked) → list_any (asks from indices) asked ≡ true
+  changes-less : (asked : List Asked) → Ascends (makers asked) → list_any (asks_just from indices) asked ≡ true
       → count_by test (requests asked) ≡ cond (test request) 1 0 + count_by test (requests (filter others asked))
   changes-less [] h e = absurd (false≢true e)
   changes-less (a ∷ asked) h e =
@@ -87,7 +87,7 @@ module _ (page from : ℕ) (indices : List ℕ) (test : Letter → Bool) where
       ∙ ap (λ rest. cond {A = ℕ} (test request) 1 0 + count_by test (requests rest)) (sym gone))
       (λ later.
       let above : a.maker < from =
-      any_fits (λ (b : Asked). a.maker < b.maker) (asks from indices) (a.maker < from)
+      any_fits (λ (b : Asked). a.maker < b.maker) (asks_just from indices) (a.maker < from)
       (λ b lt is. subst (λ k. a.maker < k) (eqb-true b.maker from (and_parts _ _ is).0) lt) asked
       (All-unmap (λ m. a.maker < m) (λ (a : Asked). a.maker) asked h.0) later in
       let stays : filter others (a ∷ asked) ≡ a ∷ filter others asked =
@@ -100,7 +100,7 @@ module _ (page from : ℕ) (indices : List ℕ) (test : Letter → Bool) where
       ≡ cond (test (changes_request_of page a)) 1 0 + count_by test (requests (filter others asked)) =
       ap (λ rest. count_by test (requests rest)) stays ∙ count-cons test (changes_request_of page a) (requests (filter others asked)) in
       omega (arith, rest, x, y))
-      (or_cases (asks from indices a) (list_any (asks from indices) asked) e)
+      (or_cases (asks_just from indices a) (list_any (asks_just from indices) asked) e)
 
 -- ---- one need
 
@@ -118,7 +118,7 @@ page-less from values test need true (due keeper) is e d =
     (eqb-true keeper from d)
 
 asked-less : (from : ℕ) (indices : List ℕ) (test : Letter → Bool) (need : Need) (b : Bool) → b ≡ true → Ascends (makers need.asked)
-    → list_any (asks from indices) need.asked ≡ true
+    → list_any (asks_just from indices) need.asked ≡ true
     → count_by test (requests_of need)
     ≡ cond (test (letter from (ChangesRequest (record { page = need.page; indices = indices })))) 1 0
     + count_by test (requests_of (if b then record need { asked = filter (λ (asked : Asked). not (asked.maker == from)) need.asked } else need))

@@ -8,7 +8,7 @@ use Rattle.lrc_lang.specs.declared.program.Program.{Program}
 use Rattle.lrc_page.specs.Page.{words_of}
 use Rattle.lrc_page.specs.Place.{pages_of}
 use Rattle.lrc_envelope.specs.declared.message.Message.TheVariants.{ChangesRequest, PageRequest}
-use Rattle.lrc_protocol.specs.Pages.{come, Asked, Need, asks, awaits_changes, is_due_from, awaits_page, with_changes, with_page}
+use Rattle.lrc_protocol.specs.Pages.{come, Asked, Need, asks_just, awaits_changes, is_due_from, awaits_page, with_changes, with_page}
 use Rattle.lrc_protocol.specs.Node.{Letter, needs_of, Node, OptionsRecord}
 use Rattle.lrc_protocol.specs.Turn.{letter, requests_of}
 use Rattle.lrc_protocol.specs.Run.{Logged, World, pending}
@@ -37,13 +37,13 @@ after_page q page values need = by_test (need.page == page) refl
     by_test true e = and_right (need.page == page) false refl
     by_test false e = and_left (need.page == page) (is_due_from q need.base) e
 
-none_left : (q : ℕ) (indices : List ℕ) (asked : List Asked) → list_any (asks q indices) (filter (λ (a : Asked). not (a.maker == q)) asked) ≡ false
+none_left : (q : ℕ) (indices : List ℕ) (asked : List Asked) → list_any (asks_just q indices) (filter (λ (a : Asked). not (a.maker == q)) asked) ≡ false
 none_left q indices [] = refl
 none_left q indices (a ∷ asked) =
     let rest : List Asked = filter (λ (a : Asked). not (a.maker == q)) asked in
-    cond_both (not (a.maker == q)) (a ∷ rest) rest (λ l. list_any (asks q indices) l ≡ false)
+    cond_both (not (a.maker == q)) (a ∷ rest) rest (λ l. list_any (asks_just q indices) l ≡ false)
     (λ e.
-    or_from (asks q indices a) (list_any (asks q indices) rest)
+    or_from (asks_just q indices a) (list_any (asks_just q indices) rest)
     (and_left (a.maker == q) (pointwise ◌==◌ a.indices indices) (not-true (a.maker == q) e)) (none_left q indices asked))
     (λ e. none_left q indices asked)
 
@@ -53,8 +53,8 @@ after_changes q page indices need = by_test (need.page == page) refl
     by_test : (b : Bool) → (need.page == page) ≡ b
         → awaits_changes page q indices (if b then record need { asked = filter (λ (a : Asked). not (a.maker == q)) need.asked } else need) ≡ false
     by_test true e =
-        and_right (need.page == page) (list_any (asks q indices) (filter (λ (a : Asked). not (a.maker == q)) need.asked)) (none_left q indices need.asked)
-    by_test false e = and_left (need.page == page) (list_any (asks q indices) need.asked) e
+        and_right (need.page == page) (list_any (asks_just q indices) (filter (λ (a : Asked). not (a.maker == q)) need.asked)) (none_left q indices need.asked)
+    by_test false e = and_left (need.page == page) (list_any (asks_just q indices) need.asked) e
 
 -- ---- how often it is awaited
 

@@ -7,7 +7,7 @@ use Rattle.lrc_envelope.specs.declared.message.Message.{Message}
 use Rattle.lrc_protocol.specs.Pages.{Base, unneeded, due, come, Asked, Need}
 use Rattle.lrc_protocol.specs.Node.{Letter, Wait, needs_of}
 use Rattle.lrc_protocol.specs.Turn.{letter, changes_request_of, page_request_of, requests_of}
-use Rattle.lrc_reading_laws.specs.Requested.{Wish, asked_in, told_in, is_wish}
+use Rattle.lrc_reading_laws.specs.Requested.{Wish, wish_in, told_in, is_wish}
 use Rattle.lrc_order_laws.proofs.Sends.{Came, by_itself, comes}
 use Rattle.lrc_order_laws.proofs.Flows.{came_count, count-cons}
 
@@ -15,10 +15,10 @@ use Rattle.lrc_order_laws.proofs.Flows.{came_count, count-cons}
 
 -- a request for this to node q; the same of node n; and a reply to n with it, of node q
 abbrev pub wanted_test : ℕ → Wish → Letter → Bool
-wanted_test q w l = is_wish w (asked_in l.message) && (l.to == q)
+wanted_test q w l = is_wish w (wish_in l.message) && (l.to == q)
 
 abbrev pub request_test : ℕ → ℕ → Wish → ℕ → Letter → Bool
-request_test n q w from l = (is_wish w (asked_in l.message) && (l.to == q)) && (from == n)
+request_test n q w from l = (is_wish w (wish_in l.message) && (l.to == q)) && (from == n)
 
 abbrev pub reply_test : ℕ → ℕ → Wish → ℕ → Letter → Bool
 reply_test n q w from l = (is_wish w (told_in l.message) && (from == q)) && (l.to == n)
@@ -40,7 +40,7 @@ pub record Steady (me : ℕ) (came : Came) (letters before after : List Letter) 
 
 -- a message that asks for nothing and brings nothing
 abbrev pub IsCalm : Message → Type 0
-IsCalm message = (asked_in message ≡ None) × (told_in message ≡ None)
+IsCalm message = (wish_in message ≡ None) × (told_in message ≡ None)
 
 abbrev pub AreCalm : List Letter → Type 0
 AreCalm [] = Unit {0}
@@ -63,7 +63,7 @@ one_more test l letters one rest =
 calm-requests : (n q : ℕ) (w : Wish) (me : ℕ) (letters : List Letter) → AreCalm letters → count_by (request_test n q w me) letters ≡ 0
 calm-requests n q w me [] h = refl
 calm-requests n q w me (l ∷ letters) h =
-    one_more (request_test n q w me) l letters (unwished w (asked_in l.message) (l.to == q) (me == n) h.0.0) (calm-requests n q w me letters h.1)
+    one_more (request_test n q w me) l letters (unwished w (wish_in l.message) (l.to == q) (me == n) h.0.0) (calm-requests n q w me letters h.1)
 
 calm-replies : (n q : ℕ) (w : Wish) (me : ℕ) (letters : List Letter) → AreCalm letters → count_by (reply_test n q w me) letters ≡ 0
 calm-replies n q w me [] h = refl
@@ -72,7 +72,7 @@ calm-replies n q w me (l ∷ letters) h =
 
 comes-requests : (n q : ℕ) (w : Wish) (me : ℕ) (came : Came) → ComesCalm came → came_count (request_test n q w) me came ≡ 0
 comes-requests n q w me by_itself h = refl
-comes-requests n q w me (comes from message) h = unwished w (asked_in message) (me == q) (from == n) h.0
+comes-requests n q w me (comes from message) h = unwished w (wish_in message) (me == q) (from == n) h.0
 
 comes-replies : (n q : ℕ) (w : Wish) (me : ℕ) (came : Came) → ComesCalm came → came_count (reply_test n q w) me came ≡ 0
 comes-replies n q w me by_itself h = refl
@@ -183,8 +183,8 @@ one_counted test l =
     omega (arith, all, none)
 
 -- the reply takes the place of its request
-pub answers : (me from : ℕ) (request reply : Message) (before : List Letter) → told_in request ≡ None → asked_in reply ≡ None
-    → told_in reply ≡ asked_in request → Steady me (comes from request) (letter from reply ∷ []) before before
+pub answers : (me from : ℕ) (request reply : Message) (before : List Letter) → told_in request ≡ None → wish_in reply ≡ None
+    → told_in reply ≡ wish_in request → Steady me (comes from request) (letter from reply ∷ []) before before
 answers me from request reply before r p e = record {
   own = λ q w.
       let b : came_count (reply_test me q w) me (comes from request) ≡ 0 = unwished w (told_in request) (from == q) (me == me) r in
@@ -204,28 +204,28 @@ answers me from request reply before r p e = record {
         ∙ sym (one_counted (reply_test n q w me) (letter from reply))
 
     none : (n q : ℕ) (w : Wish) → count_by (request_test n q w me) (letter from reply ∷ []) ≡ 0
-    none n q w = one_counted (request_test n q w me) (letter from reply) ∙ unwished w (asked_in reply) (from == q) (me == n) p
+    none n q w = one_counted (request_test n q w me) (letter from reply) ∙ unwished w (wish_in reply) (from == q) (me == n) p
 
 -- ---- a reply comes
 
 -- what it brings is no longer awaited
-pub gets : (me from : ℕ) (reply : Message) (wish : Wish) (asked : Letter) (letters before after : List Letter) → asked_in reply ≡ None
-    → told_in reply ≡ Some wish → asked_in asked.message ≡ Some wish → asked.to ≡ from → AreCalm letters
+pub gets : (me from : ℕ) (reply : Message) (wish : Wish) (asked : Letter) (letters before after : List Letter) → wish_in reply ≡ None
+    → told_in reply ≡ Some wish → wish_in asked.message ≡ Some wish → asked.to ≡ from → AreCalm letters
     → ((test : Letter → Bool) → count_by test before ≡ cond (test asked) 1 0 + count_by test after)
     → Steady me (comes from reply) letters before after
 gets me from reply wish asked letters before after r t a to l less = record {
   own = λ q w.
-      let b : came_count (request_test me q w) me (comes from reply) ≡ 0 = unwished w (asked_in reply) (me == q) (from == me) r in
+      let b : came_count (request_test me q w) me (comes from reply) ≡ 0 = unwished w (wish_in reply) (me == q) (from == me) r in
       let s : came_count (reply_test me q w) me (comes from reply) ≡ cond (wanted_test q w asked) 1 0 =
       with_true (is_wish w (told_in reply) && (from == q)) (me == me) (eq-eqb me me refl)
       ∙ ap (λ o. cond {A = ℕ} (is_wish w o && (from == q)) 1 0) (t ∙ sym a)
-      ∙ ap (λ k. cond {A = ℕ} (is_wish w (asked_in asked.message) && (k == q)) 1 0) (sym to) in
+      ∙ ap (λ k. cond {A = ℕ} (is_wish w (wish_in asked.message) && (k == q)) 1 0) (sym to) in
       let x : count_by (request_test me q w me) letters ≡ 0 = calm-requests me q w me letters l in
       let y : count_by (reply_test me q w me) letters ≡ 0 = calm-replies me q w me letters l in
       let z : count_by (wanted_test q w) before ≡ cond (wanted_test q w asked) 1 0 + count_by (wanted_test q w) after = less (wanted_test q w) in
       omega (arith, b, s, x, y, z);
   other = λ n q w ne.
-      let b : came_count (request_test n q w) me (comes from reply) ≡ 0 = unwished w (asked_in reply) (me == q) (from == n) r in
+      let b : came_count (request_test n q w) me (comes from reply) ≡ 0 = unwished w (wish_in reply) (me == q) (from == n) r in
       let s : came_count (reply_test n q w) me (comes from reply) ≡ 0 =
       with_false (is_wish w (told_in reply) && (from == q)) (me == n) (ne_eqb me n ne) in
       let x : count_by (request_test n q w me) letters ≡ 0 = calm-requests n q w me letters l in

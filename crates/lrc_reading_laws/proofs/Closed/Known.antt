@@ -17,7 +17,7 @@ use Rattle.lrc_envelope.specs.declared.message.Message.TheVariants.{ChangesReque
 use Rattle.lrc_copies.proofs.Members.{Contains-first, Contains-later, cases_Contains, none_Contains}
 use Rattle.lrc_protocol.specs.Times.{indices_by, next_time}
 use Rattle.lrc_protocol.specs.Pages.{Copy, valid, written, invalid, absent, copy_at, with_interval, changes_or_none, with_part}
-use Rattle.lrc_protocol.specs.Turn.{is_expected, closes, grants_of, own_part, changes_reply_to, TurnRecord}
+use Rattle.lrc_protocol.specs.Turn.{is_expected, after_close, grants_of, own_part, changes_reply_to, TurnRecord}
 use Rattle.lrc_lock.specs.declared.state.Pass.{Pass}
 use Rattle.lrc_exec.specs.Meaning.{Next, quiet, prints, reads, writes, acquires, releases, arrives, departs, traps, ends}
 use Rattle.lrc_protocol.specs.Node.{Letter, Node, OptionsRecord}
@@ -232,7 +232,7 @@ module _ (nodes n : ℕ) (node : Node) (made : List StoredRecord) (p : Placed no
   says-replied from (PageReply m) out e s f = silent-replied made out s
 
   run-replied : (next : Next) (out : List EnvelopeRecord) → RunSays Unbound node next (map letter_in out) → AllReplied made out
-  run-replied (releases lock after) out s = grants-replied made out (closes node) _ s
+  run-replied (releases lock after) out s = grants-replied made out (after_close node) _ s
   run-replied (quiet after) out s = silent-replied made out s
   run-replied (prints value after) out s = silent-replied made out s
   run-replied (reads word after) out s = silent-replied made out s

@@ -14,7 +14,7 @@ use Rattle.lrc_store.specs.Store.{StoreRecord, StoredRecord, NoticeRecord, inter
 use Rattle.lrc_store.specs.Store.{added, notice_with, stored_with, attached, discarded, stored_at, notice_of, changes_at}
 use Rattle.lrc_store.proofs.Lookups.{passes-find}
 use Rattle.lrc_envelope.specs.Records.{IndexedChangesRecord}
-use Rattle.lrc_copies.specs.Stamps.{index_of}
+use Rattle.lrc_copies.specs.Stamps.{stamp_index}
 use Rattle.lrc_copies.proofs.Members.{Contains-first, Contains-later, cases_Contains, none_Contains, AllPairs-first, AllPairs-rest}
 use Rattle.lrc_protocol.specs.Times.{next_time}
 use Rattle.lrc_protocol.specs.Pages.{all_changes, closed_interval, with_own, with_interval, with_part}
@@ -94,7 +94,7 @@ changes-more made new key changes e =
 
 -- the changes of a key of an interval that was made
 made-at : (made : List StoredRecord) (m : StoredRecord) (key : Key) → AreFound made → Contains made m → m.node ≡ key.node
-    → index_of made_stamps m ≡ key.index → made_changes made key ≡ changes_in key.page m.notices
+    → stamp_index made_stamps m ≡ key.index → made_changes made key ≡ changes_in key.page m.notices
 made-at made m key found c node index =
     ap (λ o. option_and_then changes_of (option_and_then (notice_of key.page) o))
     (ap (λ n. stored_at made n key.index) (sym node) ∙ ap (stored_at made m.node) (sym index) ∙ found m c)
@@ -170,8 +170,8 @@ module _ (made : List StoredRecord) where
         here : (t : Bool) → is_at key.node key.index s ≡ t
             → IsKnown made (if t then record s { notices = map (notice_with key.page changes) s.notices } else s)
         here true at =
-            let parts : (s.node ≡ key.node) × (index_of made_stamps s ≡ key.index) = is_at-parts key.node key.index s at in
-            let index : index_of made_stamps k.m ≡ key.index = ap (entry k.m.stamp) (sym k.node_is) ∙ ap (λ t. entry t s.node) (sym k.stamp_is) ∙ parts.1 in
+            let parts : (s.node ≡ key.node) × (stamp_index made_stamps s ≡ key.index) = is_at-parts key.node key.index s at in
+            let index : stamp_index made_stamps k.m ≡ key.index = ap (entry k.m.stamp) (sym k.node_is) ∙ ap (λ t. entry t s.node) (sym k.stamp_is) ∙ parts.1 in
             let of_page : changes_in key.page k.m.notices ≡ Some changes =
             sym (made-at made k.m key found k.in_list (sym k.node_is ∙ parts.0) index) ∙ e in
             record {
@@ -269,8 +269,8 @@ module _ (made : List StoredRecord) where
         let s : StoredRecord = inner.0 in
         let k : IsKnown made s =
         All-contains (IsKnown made) store.entries s h (find-in (is_at key.node key.index) store.entries s inner.1) in
-        let parts : (s.node ≡ key.node) × (index_of made_stamps s ≡ key.index) =
+        let parts : (s.node ≡ key.node) × (stamp_index made_stamps s ≡ key.index) =
         is_at-parts key.node key.index s (passes-find (is_at key.node key.index) store.entries s inner.1) in
-        let index : index_of made_stamps k.m ≡ key.index = ap (entry k.m.stamp) (sym k.node_is) ∙ ap (λ t. entry t s.node) (sym k.stamp_is) ∙ parts.1 in
+        let index : stamp_index made_stamps k.m ≡ key.index = ap (entry k.m.stamp) (sym k.node_is) ∙ ap (λ t. entry t s.node) (sym k.stamp_is) ∙ parts.1 in
         made-at made k.m key found k.in_list (sym k.node_is ∙ parts.0) index
         ∙ notices-of key.page changes s.notices k.m.notices k.notices (ap (option_and_then changes_of) inner.2 ∙ outer.2)

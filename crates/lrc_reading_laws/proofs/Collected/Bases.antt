@@ -12,7 +12,7 @@ use Rattle.lrc_page.specs.Place.{pages_of}
 use Rattle.lrc_store.specs.Interval.{IntervalRecord, index_of}
 use Rattle.lrc_store.specs.Store.{StoredRecord, NoticeRecord, interval_of, intervals_of, notice_of}
 use Rattle.lrc_store.proofs.Orders.{cases_Contains, none_Contains}
-use Rattle.lrc_copies.specs.Stamps.{is_covered, IsBetween}
+use Rattle.lrc_copies.specs.Stamps.{stamps_covered, StandsBetween}
 use Rattle.lrc_copies.proofs.Stamping.{covered-le, le-covered}
 use Rattle.lrc_protocol.specs.Pages.{Need, keeper_at}
 use Rattle.lrc_protocol.specs.Barriers.{Collection, kept_pages}
@@ -135,7 +135,7 @@ module _ (program : Program) (nodes : ℕ) (options : OptionsRecord) (world : Wo
     -- between what it has collected and its time no interval names a page that it keeps, and does not keep anew
     none_named : (collection : Collection) → k.node.mail.wait ≡ discard collection → list_any (λ kept. kept == page) collection.kept ≡ false
         → keeper_at k.node.memory page ≡ m → (x : StoredRecord)
-        → IsBetween made_stamps made k.node.memory.collected k.node.locks.time x → names page (interval_of x) ≡ true → ⊥
+        → StandsBetween made_stamps made k.node.memory.collected k.node.locks.time x → names page (interval_of x) ≡ true → ⊥
     none_named collection w kept mine x b e =
         let i : IntervalRecord = interval_of x in
         let me : ℕ = k.node.setting.me in
@@ -165,17 +165,17 @@ module _ (program : Program) (nodes : ℕ) (options : OptionsRecord) (stamps : S
           (subst (λ t. Covers t k.node.memory.collected) (sym time) (exact_at k.node (node_reached program nodes options world reach m k at_m)).below)
 
       unnamed_by : Bound program nodes options world reach l.node k.node page → (x : StoredRecord)
-          → IsBetween made_stamps made (base_bound k.node page) l.node.memory.collected x → (o : Option NoticeRecord) → notice_of page x ≡ o → o ≡ None
+          → StandsBetween made_stamps made (base_bound k.node page) l.node.memory.collected x → (o : Option NoticeRecord) → notice_of page x ≡ o → o ≡ None
       unnamed_by b x between None e = refl
       unnamed_by (equal same) x between (Some notice) e =
-          absurd (between.later (subst (λ t. IsTrue (is_covered made_stamps t x)) (sym same) between.known))
+          absurd (between.later (subst (λ t. IsTrue (stamps_covered made_stamps t x)) (sym same) between.known))
       unnamed_by (older collection w kept same time keepers) x between (Some notice) e =
           let mine : keeper_at k.node.memory page ≡ m =
           ap (λ (l : List ℕ). slice_index l page) (sym keepers) ∙ awaited_keeper program nodes options world reach n l page m at a in
           absurd
           (none_named program nodes options world reach made m k at_m ((stamps world made history).stored m k at_m) page collection w kept mine x
-          (subst (λ since. IsBetween made_stamps made since k.node.locks.time x) same
-          (subst (λ upto. IsBetween made_stamps made (base_bound k.node page) upto x) time between))
+          (subst (λ since. StandsBetween made_stamps made since k.node.locks.time x) same
+          (subst (λ upto. StandsBetween made_stamps made (base_bound k.node page) upto x) time between))
           (notice_names page x notice e))
 
       its_bound : Bound program nodes options world reach l.node k.node page

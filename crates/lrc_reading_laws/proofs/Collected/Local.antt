@@ -13,7 +13,7 @@ use Rattle.lrc_store.specs.Store.{intervals_of, is_missing}
 use Rattle.lrc_store.proofs.Orders.{cases_Contains, none_Contains}
 use Rattle.lrc_protocol.specs.Times.{is_named, next_time}
 use Rattle.lrc_protocol.specs.Pages.{Copy, valid, written, invalid, absent, is_readable, values_of, closed, invalidated, dropped, Memory}
-use Rattle.lrc_protocol.specs.Pages.{copy_at, with_word, with_interval, learned, keeper_at, due, come, Need, base_of, mended, with_changes}
+use Rattle.lrc_protocol.specs.Pages.{copy_at, with_written_word, with_interval, learned, keeper_at, due, come, Need, base_of, mended, with_changes}
 use Rattle.lrc_protocol.specs.Pages.{with_page}
 use Rattle.lrc_protocol.specs.Barriers.{kept_pages, with_keepers, with_base, base_at, Collection, clean_memory}
 use Rattle.lrc_protocol.specs.Node.{Wait, nothing, grant, departure, access, upkeep, discard, Node, OptionsRecord}
@@ -178,7 +178,7 @@ elsewhere-kept v _ (receives from numbers) r n b own h = h
 elsewhere-kept v _ (manages before manager e many) r n b own h = h
 elsewhere-kept v _ (moves course x) r n b own h = h
 elsewhere-kept v _ (puts word value w) r n b own h =
-    still-elsewhere v.setting.me v.memory (with_word v.size word value v.memory) (length-set v.memory.copies (page_of word v.size) _)
+    still-elsewhere v.setting.me v.memory (with_written_word v.size word value v.memory) (length-set v.memory.copies (page_of word v.size) _)
     (λ page.
     set-copy (λ copy. copy ≡ absent → copy_at v.memory page ≡ absent) v.memory.copies (page_of word v.size) page _
     (λ x e. x (written_absent (copy_at v.memory (page_of word v.size)) (offset_of word v.size) value e)) (λ e. e)) refl h

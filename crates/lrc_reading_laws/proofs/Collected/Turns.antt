@@ -20,7 +20,7 @@ use Rattle.lrc_protocol.specs.Pages.{Memory, copy_at, with_interval, learned, ke
 use Rattle.lrc_protocol.specs.Barriers.{least, with_base, base_at, collected_at, Collection, clean_memory}
 use Rattle.lrc_protocol.specs.Node.{Letter, Wait, nothing, grant, departure, access, upkeep, discard, Course, going, Node, Effect, makes, sends}
 use Rattle.lrc_protocol.specs.Node.{acts, acts_by}
-use Rattle.lrc_protocol.specs.Turn.{closes, TurnRecord, taking, is_repeat}
+use Rattle.lrc_protocol.specs.Turn.{after_close, TurnRecord, taking, is_repeat}
 use Rattle.lrc_protocol.specs.Run.{Input, run, taken}
 use Rattle.lrc_protocol.specs.Rules.{page_at, need_at, Brings, brings_changes, brings_base_copy, keeping, collection_at, upkeep_at, RunRule}
 use Rattle.lrc_protocol.specs.Rules.{run_miss, run_repair, run_acquire, run_ask, run_release, run_barrier, TakeRule, take_token, take_depart}
@@ -336,7 +336,7 @@ outside node x came w v c k b copies = steady (record {
 
 module _ (node : Node) where
   closing : (x : Node) → node.mail.wait ≡ nothing → in_collection x.mail.wait ≡ in_collection node.mail.wait
-      → x.memory ≡ (closes node).memory → Kind node x by_itself
+      → x.memory ≡ (after_close node).memory → Kind node x by_itself
   closing x w v m =
       outside node x by_itself (ap in_collection w) (v ∙ ap in_collection w) (ap (λ (m : Memory). m.collected) m)
       (ap (λ (m : Memory). m.keepers) m) (ap (λ (m : Memory). m.bases) m)

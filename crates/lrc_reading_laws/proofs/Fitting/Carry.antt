@@ -7,7 +7,7 @@ use Rattle.lrc_page.specs.Page.{words_of}
 use Rattle.lrc_store.specs.Store.{StoredRecord}
 use Rattle.lrc_store.proofs.Orders.{Contains-first, Contains-later}
 use Rattle.lrc_copies.specs.Page.{IsPageSound, AgreeOnPage}
-use Rattle.lrc_copies.specs.Stamps.{is_covered, covered, IsCut}
+use Rattle.lrc_copies.specs.Stamps.{stamps_covered, covered, IsCut}
 use Rattle.lrc_copies.proofs.Members.{Contains-from_filter}
 use Rattle.lrc_copies.proofs.Paging.{page_fits_agreed, page_sound_agreed, page_untouched}
 use Rattle.lrc_copies.proofs.Stamping.{added_last, cut_longer}
@@ -76,7 +76,7 @@ pub agree-fits : (wrote wrote' : Wrote) (made : List StoredRecord) → ((page : 
     → (time : List ℕ) (page : ℕ) (values : List ℕ) → FitsTime wrote made time page values → FitsTime wrote' made time page values
 agree-fits wrote wrote' made agree time page values f =
     let in_made : (a : StoredRecord) → Contains (covered made_stamps time made) a → Contains made a =
-    λ a c. (Contains-from_filter (is_covered made_stamps time) made a c).0 in
+    λ a c. (Contains-from_filter (stamps_covered made_stamps time) made a c).0 in
     page_fits_agreed (history_on wrote page) (history_on wrote' page) values (covered made_stamps time made)
     (record {
       wrote = λ a offset c. (agree page).wrote a offset (in_made a c);
@@ -94,7 +94,7 @@ agree-sound wrote wrote' made words agree page sound =
 
 -- none of them is covered
 abbrev pub Misses : List StoredRecord → List ℕ → Type 0
-Misses new time = (x : StoredRecord) → Contains new x → IsTrue (is_covered made_stamps time x) → ⊥
+Misses new time = (x : StoredRecord) → Contains new x → IsTrue (stamps_covered made_stamps time x) → ⊥
 
 pub longer-fits : (wrote : Wrote) (new made : List StoredRecord) (time : List ℕ) (page : ℕ) (values : List ℕ) → Misses new time
     → FitsTime wrote made time page values → FitsTime wrote (made ++ new) time page values

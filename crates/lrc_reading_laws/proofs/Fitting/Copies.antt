@@ -10,7 +10,7 @@ use Rattle.lrc_store.specs.declared.key.Key.{Key}
 use Rattle.lrc_store.specs.Interval.{IntervalRecord, index_of}
 use Rattle.lrc_store.specs.Store.{StoredRecord, StoreRecord, IsStore, interval_of, intervals_of, stored_at, notice_of, changes_at}
 use Rattle.lrc_copies.specs.Page.{PageHistory, PageFits, IsPageSound}
-use Rattle.lrc_copies.specs.Stamps.{index_of as stamp_index, covered, page_of_stamps, IsCut, AreStamped, IsBetween}
+use Rattle.lrc_copies.specs.Stamps.{stamp_index, covered, page_of_stamps, IsCut, AreStamped, StandsBetween}
 use Rattle.lrc_copies.proofs.Timing.{untouched_fits}
 use Rattle.lrc_protocol.specs.Pages.{Copy, valid, written, invalid, absent, is_readable, values_of, changes_of, after_write, Base, unneeded}
 use Rattle.lrc_protocol.specs.Pages.{due, come, Need, Memory, copy_at}
@@ -74,7 +74,7 @@ pub record Stored (made : List StoredRecord) (time collected : List ℕ) (store 
 -- ---- a later time
 
 pub later_fits : (wrote : Wrote) (made : List StoredRecord) (words page : ℕ) (since upto values : List ℕ) → length values ≡ words → Covers upto since
-    → ((x : StoredRecord) → IsBetween made_stamps made since upto x → (offset : ℕ) → offset < words → wrote page x offset ≡ None)
+    → ((x : StoredRecord) → StandsBetween made_stamps made since upto x → (offset : ℕ) → offset < words → wrote page x offset ≡ None)
     → FitsTime wrote made since page values → FitsTime wrote made upto page values
 later_fits wrote made words page since upto values long up untouched fits =
     untouched_fits made_stamps (wrote page) (changes_on page) made since upto up values

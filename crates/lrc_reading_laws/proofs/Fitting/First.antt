@@ -13,7 +13,7 @@ use Rattle.lrc_store.specs.Interval.{IntervalRecord, index_of}
 use Rattle.lrc_store.specs.Store.{StoredRecord, interval_of, notice_of}
 use Rattle.lrc_store.proofs.Orders.{cases_Contains, none_Contains}
 use Rattle.lrc_copies.specs.Page.{IsClosedWith}
-use Rattle.lrc_copies.specs.Stamps.{index_of as stamp_index, is_covered, IsCut, IsClosedAt, IsBetween}
+use Rattle.lrc_copies.specs.Stamps.{stamp_index, stamps_covered, IsCut, IsClosedAt, StandsBetween}
 use Rattle.lrc_copies.proofs.Stamping.{covered-le, le-covered, cut_longer}
 use Rattle.lrc_copies.proofs.Timing.{uncovered_fits, untouched_fits_closed, closed_fits}
 use Rattle.lrc_protocol.specs.Times.{next_time, is_named}
@@ -21,8 +21,8 @@ use Rattle.lrc_protocol.specs.Pages.{Copy, valid, written, invalid, absent, chan
 use Rattle.lrc_protocol.specs.Pages.{with_changes, with_page, Memory, copy_at, keeper_at, with_interval, learned}
 use Rattle.lrc_protocol.specs.Node.{Wait, nothing, needs_of}
 use Rattle.lrc_protocol.specs.Turn.{with_needs}
-use Rattle.lrc_node_laws.specs.Ranges.{IsWhole}
-use Rattle.lrc_node_laws.specs.Remembered.{IsBetween as IsRemembered}
+use Rattle.lrc_node_laws.specs.Ranges.{IsWholeCopy}
+use Rattle.lrc_node_laws.specs.Remembered.{StandsBetween as IsRemembered}
 use Rattle.lrc_node_laws.specs.Waits.{NoneWritten}
 use Rattle.lrc_node_laws.proofs.Change.{View, News, is_settled}
 use Rattle.lrc_node_laws.proofs.Lists.{length-placed}
@@ -53,7 +53,7 @@ pub record Shuts (count words : ℕ) (wrote : Wrote) (made : List StoredRecord) 
 
 -- a time that the node's time covers does not cover the interval that it closes
 pub not_yet : (count : ℕ) (made : List StoredRecord) (time since : List ℕ) (x : StoredRecord) → IsClosedAt made_stamps count made time x → Covers time since
-    → IsTrue (is_covered made_stamps since x) → ⊥
+    → IsTrue (stamps_covered made_stamps since x) → ⊥
 not_yet count made time since x at below c =
     let index : stamp_index made_stamps x ≡ entry time x.node + 1 =
     ap (λ stamp. entry stamp x.node) at.stamped ∙ entry-set_same time x.node (entry time x.node + 1) (omega (arith, at.counted, at.long)) in
@@ -62,11 +62,11 @@ not_yet count made time since x at below c =
     omega (arith, index, less, up)
 
 pub whole-long : (nodes words : ℕ) (copies : List Copy) (page : ℕ) (copy : Copy) → slice_index_or copies page absent ≡ copy
-    → All (IsWhole nodes words) copies → IsWhole nodes words copy
+    → All (IsWholeCopy nodes words) copies → IsWholeCopy nodes words copy
 whole-long nodes words copies page copy e h =
     ⊎_elim
-    (λ (lt : page < length copies). subst (IsWhole nodes words) e (h page absent lt))
-    (λ (le : length copies ≤ page). subst (IsWhole nodes words) (sym (get_or_past copies page absent le) ∙ e) tt)
+    (λ (lt : page < length copies). subst (IsWholeCopy nodes words) e (h page absent lt))
+    (λ (le : length copies ≤ page). subst (IsWholeCopy nodes words) (sym (get_or_past copies page absent le) ∙ e) tt)
     (cases_lt page (length copies))
 
 pub not_written : (copy : Copy) (values twin : List ℕ) → changes_of copy ≡ None → copy ≡ written values twin → ⊥
@@ -78,7 +78,7 @@ module _ (count : ℕ) (wrote : Wrote) (made : List StoredRecord) (v : View) (a 
   words = words_of v.size
 
   closed-fits : (page : ℕ) (copy : Copy) → copy_at v.memory page ≡ copy → CopyFits wrote made v.time page copy
-      → IsWhole v.setting.nodes words copy → IsRemembered v.time v.memory page copy → CopyFits wrote (made ++ x ∷ []) x.stamp page (closed copy)
+      → IsWholeCopy v.setting.nodes words copy → IsRemembered v.time v.memory page copy → CopyFits wrote (made ++ x ∷ []) x.stamp page (closed copy)
   closed-fits page (valid values) e f long b =
       untouched_fits_closed made_stamps (wrote page) (changes_on page) count made v.time x shut.at values
       (subst (λ n. (offset : ℕ) → offset < n → wrote page x offset ≡ None) (sym long)
@@ -86,7 +86,7 @@ module _ (count : ℕ) (wrote : Wrote) (made : List StoredRecord) (v : View) (a 
   closed-fits page (written values twin) e f long b =
       closed_fits made_stamps (wrote page) (changes_on page) count made v.time x shut.at twin values (shut.changes page values twin e) f
   closed-fits page (invalid values since) e f long b =
-      let other : IsTrue (is_covered made_stamps since x) → ⊥ = not_yet count made v.time since x shut.at b.1 in
+      let other : IsTrue (stamps_covered made_stamps since x) → ⊥ = not_yet count made v.time since x shut.at b.1 in
       (uncovered_fits made_stamps (wrote page) (changes_on page) made since x values other f.0, cut_longer made_stamps made since x f.1 other)
   closed-fits page absent e f long b = tt
 
@@ -143,7 +143,7 @@ node-within count wrote words made facts x c =
     (cases_lt x.node count)
 
 -- what a time does not cover is above it
-pub above-time : (time : List ℕ) (x : StoredRecord) → (IsTrue (is_covered made_stamps time x) → ⊥) → entry time x.node < stamp_index made_stamps x
+pub above-time : (time : List ℕ) (x : StoredRecord) → (IsTrue (stamps_covered made_stamps time x) → ⊥) → entry time x.node < stamp_index made_stamps x
 above-time time x h =
     ⊎_elim (λ lt. lt) (λ le. absurd (h (le-covered made_stamps time x le))) (cases_lt (entry time x.node) (stamp_index made_stamps x))
 
@@ -161,7 +161,7 @@ module _ (count : ℕ) (wrote : Wrote) (made : List StoredRecord) (v : View) (fa
       subst (Contains intervals) (sym y.is ∙ ap interval_of (sym same)) m.in_list
 
   -- an interval that is new is among those that came
-  new-came : (x : StoredRecord) → IsBetween made_stamps made v.time (joined v.time time) x → Contains intervals (interval_of x)
+  new-came : (x : StoredRecord) → StandsBetween made_stamps made v.time (joined v.time time) x → Contains intervals (interval_of x)
   new-came x b =
       let q : ℕ = x.node in
       let k : ℕ = stamp_index made_stamps x in
@@ -179,14 +179,14 @@ module _ (count : ℕ) (wrote : Wrote) (made : List StoredRecord) (v : View) (fa
       of_two : (a b c k : ℕ) → c ≡ max a b → k ≤ c → a < k → k ≤ b
       of_two a b c k e le lt = omega (arith, e, le, lt)
 
-  new-unnamed : (page : ℕ) → is_named intervals page ≡ false → (x : StoredRecord) → IsBetween made_stamps made v.time (joined v.time time) x
+  new-unnamed : (page : ℕ) → is_named intervals page ≡ false → (x : StoredRecord) → StandsBetween made_stamps made v.time (joined v.time time) x
       → notice_of page x ≡ None
   new-unnamed page off x b =
       unnamed page x (λ n.
       false≢true (sym off ∙ list_any-in (λ (i : IntervalRecord). list_any (λ named. named == page) i.pages) intervals (interval_of x) (new-came x b) n))
 
   learned-fits : (page : ℕ) (copy : Copy) (b : Bool) → is_named intervals page ≡ b → CopyFits wrote made v.time page copy
-      → IsWhole v.setting.nodes (words_of v.size) copy → changes_of copy ≡ None
+      → IsWholeCopy v.setting.nodes (words_of v.size) copy → changes_of copy ≡ None
       → CopyFits wrote made (joined v.time time) page (if b then invalidated v.time copy else copy)
   learned-fits page (valid values) true n f long u = (f, cut)
   learned-fits page (valid values) false n f long u =

@@ -10,7 +10,7 @@ use Rattle.lrc_page.specs.Place.{pages_of}
 use Rattle.lrc_store.specs.Store.{StoredRecord}
 use Rattle.lrc_store.proofs.Orders.{Contains-later, cases_Contains, none_Contains}
 use Rattle.lrc_copies.specs.Page.{PageFits, IsUntouchedBy}
-use Rattle.lrc_copies.specs.Stamps.{index_of, is_covered, covered}
+use Rattle.lrc_copies.specs.Stamps.{stamp_index, stamps_covered, covered}
 use Rattle.lrc_copies.proofs.Members.{Contains-from_filter}
 use Rattle.lrc_copies.proofs.Paging.{zero_page_of_size_fits, page_fits_more, page_open}
 use Rattle.lrc_copies.proofs.Stamping.{covered-le, below-covered}
@@ -108,11 +108,11 @@ module _ (program : Program) (nodes : ℕ) (options : OptionsRecord) (stamps : S
         → IsTrue ((page_history options.size world.acts page).below (open_record l.node) a) → ⊥
     above-all a c under =
         let me : ℕ = l.node.setting.me in
-        let in_made : _ = Contains-from_filter (is_covered made_stamps l.node.locks.time) made a c in
-        let most : index_of made_stamps (open_record l.node) ≤ entry a.stamp me =
+        let in_made : _ = Contains-from_filter (stamps_covered made_stamps l.node.locks.time) made a c in
+        let most : stamp_index made_stamps (open_record l.node) ≤ entry a.stamp me =
         covered-le made_stamps a.stamp (open_record l.node) (below-covered made_stamps (open_record l.node) a under) in
         let up : entry a.stamp me ≤ entry l.node.locks.time me = (stamps world made hist).time n l at a in_made.0 in_made.1 me in
-        let index : index_of made_stamps (open_record l.node) ≡ entry l.node.locks.time me + 1 =
+        let index : stamp_index made_stamps (open_record l.node) ≡ entry l.node.locks.time me + 1 =
         entry-set_same l.node.locks.time me (entry l.node.locks.time me + 1) (omega (arith, p.me, p.within, p.long)) in
         omega (arith, most, up, index)
 

@@ -17,8 +17,8 @@ use Rattle.lrc_store.specs.Store.{notice_of, changes_at, without_changes, is_mis
 use Rattle.lrc_store.proofs.Orders.{Contains-first, Contains-later, cases_Contains, none_Contains, IsAscendingPart-ascending_part}
 use Rattle.lrc_store.proofs.Ranks.{IsStrictWeakOrder-by_weight, Comparable-by_weight}
 use Rattle.lrc_copies.specs.Page.{PageFits, IsPageSound}
-use Rattle.lrc_copies.specs.Stamps.{is_covered, covered, comes_before, page_of_stamps, IsCut, AreStamped, AreLacking}
-use Rattle.lrc_copies.specs.Stamps.{index_of as stamp_index}
+use Rattle.lrc_copies.specs.Stamps.{stamps_covered, covered, comes_before, page_of_stamps, IsCut, AreStamped, AreLacking}
+use Rattle.lrc_copies.specs.Stamps.{stamp_index}
 use Rattle.lrc_copies.proofs.Members.{Contains-filter, Contains-from_filter}
 use Rattle.lrc_copies.proofs.Stamping.{covered-le, le-covered}
 use Rattle.lrc_copies.proofs.Timing.{parts_lacking, repaired_fits}
@@ -140,7 +140,7 @@ module _ (made : List StoredRecord)
         (it.0, it.1, ap interval_of (sym same) ∙ m.interval_is, subst (Contains made) same m.member)
 
     exactly : (a : StoredRecord)
-        → Contains part a ↔ (Contains (covered made_stamps time made) a × IsTrue (names page a && not (is_covered made_stamps since a)))
+        → Contains part a ↔ (Contains (covered made_stamps time made) a × IsTrue (names page a && not (stamps_covered made_stamps since a)))
     unfolding part
     exactly a = (
       λ c.
@@ -148,16 +148,16 @@ module _ (made : List StoredRecord)
           let there : _ = (missing_is.exactly it.0).0 it.1 in
           let stored : _ = (just it.0).0 there.0 in
           let upto : index_of it.0 ≤ entry time it.0.node = stored.2 in (
-            Contains-filter (is_covered made_stamps time) made a it.3
+            Contains-filter (stamps_covered made_stamps time) made a it.3
                 (le-covered made_stamps time a (subst (λ (i : IntervalRecord). index_of i ≤ entry time i.node) (sym it.2) upto)),
             subst (λ (i : IntervalRecord). IsTrue (is_missing page since i)) (sym it.2) there.1,
           ),
       λ h.
           let i : IntervalRecord = interval_of a in
-          let in_made : _ = Contains-from_filter (is_covered made_stamps time) made a h.0 in
-          let tests : _ = and_parts (names page a) (not (is_covered made_stamps since a)) h.1 in
+          let in_made : _ = Contains-from_filter (stamps_covered made_stamps time) made a h.0 in
+          let tests : _ = and_parts (names page a) (not (stamps_covered made_stamps since a)) h.1 in
           let later : entry since a.node < index_of i =
-          leb-false (index_of i) (entry since a.node) (not-true (is_covered made_stamps since a) tests.1) in
+          leb-false (index_of i) (entry since a.node) (not-true (stamps_covered made_stamps since a) tests.1) in
           let low : entry collected a.node ≤ entry since a.node = above a.node in
           let upto : index_of i ≤ entry time a.node = covered-le made_stamps time a in_made.1 in
           let there : Contains (intervals_of store) i = (just i).1 (into_map interval_of made a in_made.0, omega (arith, later, low), upto) in
@@ -185,8 +185,8 @@ module _ (made : List StoredRecord)
     lacks : AreLacking made_stamps wrote words made since time part
     lacks =
         parts_lacking made_stamps wrote (changes_on page) words made (covered made_stamps time made) since time (names page) part
-        (λ a b. Contains-filter (is_covered made_stamps time) made a b.member b.known)
-        (λ a c. Contains-from_filter (is_covered made_stamps time) made a c)
+        (λ a b. Contains-filter (stamps_covered made_stamps time) made a b.member b.known)
+        (λ a c. Contains-from_filter (stamps_covered made_stamps time) made a c)
         (λ a c n. untouched a c (unnamed page a n))
         exactly rises
 

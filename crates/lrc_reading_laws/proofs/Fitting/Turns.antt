@@ -12,7 +12,7 @@ use Rattle.lrc_store.specs.Store.{StoredRecord, interval_of, intervals_of, notic
 use Rattle.lrc_store.proofs.Orders.{filter-Contains, Contains-first}
 use Rattle.lrc_envelope.specs.Records.{PageReplyRecord}
 use Rattle.lrc_envelope.specs.declared.message.Message.TheVariants.{PageReply}
-use Rattle.lrc_copies.specs.Stamps.{IsBetween}
+use Rattle.lrc_copies.specs.Stamps.{StandsBetween}
 use Rattle.lrc_copies.proofs.Stamping.{covered-le}
 use Rattle.lrc_protocol.specs.Times.{next_time, is_named}
 use Rattle.lrc_protocol.specs.Pages.{Copy, valid, written, invalid, absent, dropped, need_of, with_changes, with_page, Memory, copy_at}
@@ -59,7 +59,7 @@ module _ (count : ℕ) (wrote : Wrote) (made : List StoredRecord) (v : View) (fa
 
   -- a page that the node keeps, but not anew, was named by no interval since the last collection
   not_kept : (page : ℕ) → page < length v.memory.keepers → (keeper_at v.memory page == v.setting.me) ≡ true
-      → list_any (λ k. k == page) collection.kept ≡ false → (x : StoredRecord) → IsBetween made_stamps made v.memory.collected v.time x
+      → list_any (λ k. k == page) collection.kept ≡ false → (x : StoredRecord) → StandsBetween made_stamps made v.memory.collected v.time x
       → notice_of page x ≡ None
   not_kept page lt mine none x b =
       let kept : FitsKept v.setting.me v.memory (discard collection) = subst (FitsKept v.setting.me v.memory) w a.needed.kept in

@@ -16,7 +16,7 @@ use Rattle.lrc_envelope.specs.declared.message.Message.{Message}
 use Rattle.lrc_envelope.specs.declared.message.Message.TheVariants.{LockRequest, LockForward, LockGrant, Arrive, Depart, Clean, Discard}
 use Rattle.lrc_envelope.specs.declared.message.Message.TheVariants.{ChangesRequest, ChangesReply, PageRequest, PageReply}
 use Rattle.lrc_copies.specs.Page.{IsPageSound, AgreeOnPage}
-use Rattle.lrc_copies.specs.Stamps.{index_of, is_covered, IsClosedAt}
+use Rattle.lrc_copies.specs.Stamps.{stamp_index, stamps_covered, IsClosedAt}
 use Rattle.lrc_copies.proofs.Stamping.{le-covered}
 use Rattle.lrc_protocol.specs.Pages.{copy_at}
 use Rattle.lrc_protocol.specs.Barriers.{base_at}
@@ -54,7 +54,7 @@ use Rattle.lrc_reading_laws.proofs.Closed.Told.{told-there}
 
 -- what the acts wrote in each interval, page by page
 abbrev pub wrote_in : OptionsRecord → List Act → Wrote
-wrote_in options acts page x offset = last_write acts x.node (index_of made_stamps x) (word_on options.size page offset)
+wrote_in options acts page x offset = last_write acts x.node (stamp_index made_stamps x) (word_on options.size page offset)
 
 -- what was closed is sound, and what each node has fits; and so does what is on its way
 pub record AreFit (options : OptionsRecord) (made : List StoredRecord) (world : World) : Type 0 where
@@ -223,14 +223,14 @@ module _ (program : Program) (nodes : ℕ) (options : OptionsRecord) (stamps : S
     cuts : AreCuts nodes made world
     cuts = all_cuts program nodes options world made hist
 
-    index_is : index_of made_stamps (closed_record l.node) ≡ entry l.node.locks.time l.node.setting.me + 1
+    index_is : stamp_index made_stamps (closed_record l.node) ≡ entry l.node.locks.time l.node.setting.me + 1
     index_is = closed-index nodes n l.node is_here
 
     -- no time that covers only what was made covers it
     full-misses : (time : List ℕ) → IsFull made time → Misses new time
     full-misses time full x c covered =
         unknown_by made time (entry l.node.locks.time l.node.setting.me) (closed_record l.node) full counted index_is
-        (subst (λ y. IsTrue (is_covered made_stamps time y)) (sym (closed-is l.node after.node x c)) covered)
+        (subst (λ y. IsTrue (stamps_covered made_stamps time y)) (sym (closed-is l.node after.node x c)) covered)
 
     closed-at : IsClosedAt made_stamps nodes made l.node.locks.time (closed_record l.node)
     closed-at =
@@ -242,7 +242,7 @@ module _ (program : Program) (nodes : ℕ) (options : OptionsRecord) (stamps : S
           stamped = refl;
           own = λ a c e.
               le-covered made_stamps l.node.locks.time a
-              (subst (λ q. index_of made_stamps a ≤ entry l.node.locks.time q) (sym e) (own_between made me (entry l.node.locks.time me) a counted c e).1);
+              (subst (λ q. stamp_index made_stamps a ≤ entry l.node.locks.time q) (sym e) (own_between made me (entry l.node.locks.time me) a counted c e).1);
           unknown = λ a c.
               unknown_by made a.stamp (entry l.node.locks.time me) (closed_record l.node) (cuts.stamps a c) counted index_is;
         }

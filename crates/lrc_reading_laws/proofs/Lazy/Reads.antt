@@ -30,7 +30,7 @@ use Rattle.lrc_clock.specs.Keeping.{KeepsTime}
 use Rattle.lrc_clock.proofs.Ordering.{order_to_cover, cover_to_order}
 use Rattle.lrc_clock.proofs.Intervals.{interval_of_other}
 use Rattle.lrc_store.specs.Store.{StoredRecord}
-use Rattle.lrc_copies.specs.Stamps.{index_of, is_covered, covered}
+use Rattle.lrc_copies.specs.Stamps.{stamp_index, stamps_covered, covered}
 use Rattle.lrc_copies.specs.Reading.{IsLastWriteIn, ListsWrites}
 use Rattle.lrc_copies.proofs.Members.{Contains-first, Contains-later, cases_Contains, Contains-filter, Contains-from_filter}
 use Rattle.lrc_copies.proofs.Stamping.{covered-le, le-covered}
@@ -50,7 +50,7 @@ use Rattle.lrc_order_laws.proofs.Present.{more_acts, more_times}
 use Rattle.lrc_order_laws.proofs.AllTimely.{Made, made_so}
 use Rattle.lrc_order_laws.proofs.Timed.{keeps, synchronized}
 use Rattle.lrc_order_laws.proofs.Reached.{IsReached}
-use Rattle.lrc_node_laws.specs.Ranges.{IsWhole}
+use Rattle.lrc_node_laws.specs.Ranges.{IsWholeCopy}
 use Rattle.lrc_node_laws.proofs.Always.{whole_at, known_at}
 use Rattle.lrc_node_laws.proofs.Whole.{readable-long}
 use Rattle.lrc_reading_laws.specs.Written.{made_stamps, last_write, word_on, changes_on}
@@ -125,7 +125,7 @@ module _ (program : Program) (nodes : ℕ) (options : OptionsRecord) (stamps : S
     in_nodes q lt = subst (λ k. q < k) (sym (run-whole program nodes options r.events world r.runs).count) lt
 
     -- the read is in the node's open interval
-    opened_index : index_of made_stamps opened ≡ entry time n + 1
+    opened_index : stamp_index made_stamps opened ≡ entry time n + 1
     opened_index =
         let long : length time ≡ nodes = shape.shape.times in
         let lt : n < nodes = kept.in_range j n (Read word value) here in
@@ -139,26 +139,26 @@ module _ (program : Program) (nodes : ℕ) (options : OptionsRecord) (stamps : S
 
     -- what the time covers was closed
     closed_there : (i other : ℕ) (d : Deed) → Does world.acts i other d → interval_at world.acts other i ≤ entry time other
-        → (a : StoredRecord) × Contains xs a × (a.node ≡ other) × (index_of made_stamps a ≡ interval_at world.acts other i)
+        → (a : StoredRecord) × Contains xs a × (a.node ≡ other) × (stamp_index made_stamps a ≡ interval_at world.acts other i)
     closed_there i other d does le =
         let lq : (x : Logged) × (slice_get world.nodes other ≡ Some x) =
         get_within world.nodes other (in_nodes other (kept.in_range i other d does)) in
         let most : entry (time_at world.times j) other ≤ entry lq.0.node.locks.time other =
         own_is_most program nodes options world r other lq.0 j n (Read word value) lq.1 here last_is in
         let upto : entry time other ≤ entry lq.0.node.locks.time other = subst (λ t. entry t other ≤ entry lq.0.node.locks.time other) time_is most in
-        let m : (x : StoredRecord) × Contains made x × (x.node ≡ other) × (index_of made_stamps x ≡ interval_at world.acts other i) =
+        let m : (x : StoredRecord) × Contains made x × (x.node ≡ other) × (stamp_index made_stamps x ≡ interval_at world.acts other i) =
         member_at made world known.are other (interval_at world.acts other i) lq.0 lq.1 (omega arith) (omega (arith, le, upto)) in
-        let under : index_of made_stamps m.0 ≤ entry time m.0.node =
-        subst (λ q. index_of made_stamps m.0 ≤ entry time q) (sym m.2) (omega (arith, le, m.3)) in (
+        let under : stamp_index made_stamps m.0 ≤ entry time m.0.node =
+        subst (λ q. stamp_index made_stamps m.0 ≤ entry time q) (sym m.2) (omega (arith, le, m.3)) in (
           m.0,
           Contains-later opened (covered made_stamps time made) m.0
-              (Contains-filter (is_covered made_stamps time) made m.0 m.1 (le-covered made_stamps time m.0 under)),
+              (Contains-filter (stamps_covered made_stamps time) made m.0 m.1 (le-covered made_stamps time m.0 under)),
           m.2,
           m.3,
         )
 
     own_there : (i : ℕ) (d : Deed) → i < j → Does world.acts i n d
-        → (a : StoredRecord) × Contains xs a × (a.node ≡ n) × (index_of made_stamps a ≡ interval_at world.acts n i)
+        → (a : StoredRecord) × Contains xs a × (a.node ≡ n) × (stamp_index made_stamps a ≡ interval_at world.acts n i)
     own_there i d lt does = elim (cases_lt (entry time n) (interval_at world.acts n i)) [
       | inr le ↦ closed_there i n d does le
       | inl above ↦
@@ -167,29 +167,29 @@ module _ (program : Program) (nodes : ℕ) (options : OptionsRecord) (stamps : S
     ]
 
     listed : (i other v : ℕ) → i < j → Does world.acts i other (Write word v) → (other ≡ n) ⊎ (interval_at world.acts other i ≤ entry time other)
-        → (a : StoredRecord) × Contains xs a × (a.node ≡ other) × (index_of made_stamps a ≡ interval_at world.acts other i)
+        → (a : StoredRecord) × Contains xs a × (a.node ≡ other) × (stamp_index made_stamps a ≡ interval_at world.acts other i)
     listed i other v lt does (inr le) = closed_there i other (Write word v) does le
     listed i other v lt does (inl own) =
-        subst (λ q. (a : StoredRecord) × Contains xs a × (a.node ≡ q) × (index_of made_stamps a ≡ interval_at world.acts q i)) (sym own)
+        subst (λ q. (a : StoredRecord) × Contains xs a × (a.node ≡ q) × (stamp_index made_stamps a ≡ interval_at world.acts q i)) (sym own)
         (own_there i (Write word v) lt (subst (λ q. Does world.acts i q (Write word v)) own does))
 
-    cases_listed : (a : StoredRecord) → Contains xs a → (opened ≡ a) ⊎ (Contains made a × IsTrue (is_covered made_stamps time a))
+    cases_listed : (a : StoredRecord) → Contains xs a → (opened ≡ a) ⊎ (Contains made a × IsTrue (stamps_covered made_stamps time a))
     cases_listed a c = elim (cases_Contains opened (covered made_stamps time made) a c) [
       | inl is ↦ inl is
-      | inr later ↦ inr (Contains-from_filter (is_covered made_stamps time) made a later)
+      | inr later ↦ inr (Contains-from_filter (stamps_covered made_stamps time) made a later)
     ]
 
     -- the open interval is none of those that were closed
-    not_opened : (a b : StoredRecord) → opened ≡ a → IsTrue (is_covered made_stamps time b) → a.node ≡ b.node
-        → index_of made_stamps a ≡ index_of made_stamps b → ⊥
+    not_opened : (a b : StoredRecord) → opened ≡ a → IsTrue (stamps_covered made_stamps time b) → a.node ≡ b.node
+        → stamp_index made_stamps a ≡ stamp_index made_stamps b → ⊥
     not_opened a b is under nodes_are same =
         let own : b.node ≡ n = sym nodes_are ∙ ap (λ (x : StoredRecord). x.node) (sym is) ∙ me in
-        let index : index_of made_stamps a ≡ entry time n + 1 = ap (index_of made_stamps) (sym is) ∙ opened_index in
-        let most : index_of made_stamps b ≤ entry time n =
-        subst (λ q. index_of made_stamps b ≤ entry time q) own (covered-le made_stamps time b under) in
+        let index : stamp_index made_stamps a ≡ entry time n + 1 = ap (stamp_index made_stamps) (sym is) ∙ opened_index in
+        let most : stamp_index made_stamps b ≤ entry time n =
+        subst (λ q. stamp_index made_stamps b ≤ entry time q) own (covered-le made_stamps time b under) in
         omega (arith, index, most, same)
 
-    one : (a b : StoredRecord) → Contains xs a → Contains xs b → a.node ≡ b.node → index_of made_stamps a ≡ index_of made_stamps b → a ≡ b
+    one : (a b : StoredRecord) → Contains xs a → Contains xs b → a.node ≡ b.node → stamp_index made_stamps a ≡ stamp_index made_stamps b → a ≡ b
     one a b a_in b_in nodes_are same = elim (cases_listed a a_in) [
       | inl is ↦
           elim (cases_listed b b_in) [
@@ -213,16 +213,16 @@ module _ (program : Program) (nodes : ℕ) (options : OptionsRecord) (stamps : S
     ]
 
     abbrev wrote : StoredRecord → Option ℕ
-    wrote a = last_write world.acts a.node (index_of made_stamps a) (word_on options.size (page_of word options.size) (offset_of word options.size))
+    wrote a = last_write world.acts a.node (stamp_index made_stamps a) (word_on options.size (page_of word options.size) (offset_of word options.size))
 
-    wrote_is : (a : StoredRecord) → wrote a ≡ last_write world.acts a.node (index_of made_stamps a) word
-    wrote_is a = ap (last_write world.acts a.node (index_of made_stamps a)) (word_is word options.size)
+    wrote_is : (a : StoredRecord) → wrote a ≡ last_write world.acts a.node (stamp_index made_stamps a) word
+    wrote_is a = ap (last_write world.acts a.node (stamp_index made_stamps a)) (word_is word options.size)
 
     wrote_last : (a : StoredRecord) (v : ℕ) → wrote a ≡ Some v
-        → (i : ℕ) × IsLastWriteIn world.acts j word a.node (index_of made_stamps a) i v
+        → (i : ℕ) × IsLastWriteIn world.acts j word a.node (stamp_index made_stamps a) i v
     wrote_last a v e =
-        let found : (i : ℕ) × IsLastIn world.acts a.node (index_of made_stamps a) word i v =
-        last_write-some world.acts a.node (index_of made_stamps a) word v (sym (wrote_is a) ∙ e) in (
+        let found : (i : ℕ) × IsLastIn world.acts a.node (stamp_index made_stamps a) word i v =
+        last_write-some world.acts a.node (stamp_index made_stamps a) word v (sym (wrote_is a) ∙ e) in (
           found.0,
           record {
             write = found.1.writes.write;
@@ -233,14 +233,14 @@ module _ (program : Program) (nodes : ℕ) (options : OptionsRecord) (stamps : S
         )
 
     wrote_none : (a : StoredRecord) → wrote a ≡ None → (i v : ℕ) → Does world.acts i a.node (Write word v)
-        → interval_at world.acts a.node i ≡ index_of made_stamps a → ⊥
+        → interval_at world.acts a.node i ≡ stamp_index made_stamps a → ⊥
     wrote_none a e i v does inside =
-        last_write-none world.acts a.node (index_of made_stamps a) word (sym (wrote_is a) ∙ e) i v (record { write = does; inside = inside })
+        last_write-none world.acts a.node (stamp_index made_stamps a) word (sym (wrote_is a) ∙ e) i v (record { write = does; inside = inside })
 
     -- ---- their stamps
 
     stamp_covers : (b : StoredRecord) (k v : ℕ) → Contains xs b → Does world.acts k b.node (Write word v)
-        → interval_at world.acts b.node k ≡ index_of made_stamps b → Covers b.stamp (time_at world.times k)
+        → interval_at world.acts b.node k ≡ stamp_index made_stamps b → Covers b.stamp (time_at world.times k)
     stamp_covers b k v c does inside = elim (cases_listed b c) [
       | inr there ↦ stamps_cover program nodes options stamps world made h b k word v there.0 does inside
       | inl is ↦
@@ -252,9 +252,9 @@ module _ (program : Program) (nodes : ℕ) (options : OptionsRecord) (stamps : S
     ]
 
     stamped : (a b : StoredRecord) (i k u v : ℕ) → Contains xs a → Contains xs b → (a.node ≡ b.node → ⊥)
-        → Does world.acts i a.node (Write word u) → interval_at world.acts a.node i ≡ index_of made_stamps a
-        → Does world.acts k b.node (Write word v) → interval_at world.acts b.node k ≡ index_of made_stamps b
-        → HappensBefore world.acts i k → IsTrue (is_covered made_stamps b.stamp a)
+        → Does world.acts i a.node (Write word u) → interval_at world.acts a.node i ≡ stamp_index made_stamps a
+        → Does world.acts k b.node (Write word v) → interval_at world.acts b.node k ≡ stamp_index made_stamps b
+        → HappensBefore world.acts i k → IsTrue (stamps_covered made_stamps b.stamp a)
     stamped a b i k u v a_in b_in apart first in_a second in_b before =
         let knows : interval_at world.acts a.node i ≤ entry (time_at world.times k) a.node =
         order_to_cover kept in_order i k a.node b.node (Write word u) (Write word v) apart first second before in
@@ -297,7 +297,7 @@ module _ (program : Program) (nodes : ℕ) (options : OptionsRecord) (stamps : S
 
     long : length (values_of copy) ≡ words_of options.size
     long =
-        let whole : All (IsWhole l.node.setting.nodes (words_of l.node.options.size)) l.node.memory.copies =
+        let whole : All (IsWholeCopy l.node.setting.nodes (words_of l.node.options.size)) l.node.memory.copies =
         (whole_at l.node (reached program nodes options r.events world r.runs n l at)).copies in
         readable-long l.node.setting.nodes (words_of l.node.options.size) copy readable
         (whole page absent (readable-there l.node.memory.copies page readable))
@@ -309,7 +309,7 @@ module _ (program : Program) (nodes : ℕ) (options : OptionsRecord) (stamps : S
         subst (λ k. offset_of word options.size < k) (sym long) (offset_of-within word options.size) in
         subst (MayRead world.acts j word) (sym value_is)
         (copy_may_read world.acts j n word made_stamps
-        (λ x offset. last_write world.acts x.node (index_of made_stamps x) (word_on options.size page offset))
+        (λ x offset. last_write world.acts x.node (stamp_index made_stamps x) (word_on options.size page offset))
         (changes_on page) time xs (offset_of word options.size) lists (values_of copy) within
         ((copies world made h).readable n l page at readable))
 

@@ -6,7 +6,7 @@ use Rattle.lrc_lang.specs.declared.program.Program.{Program}
 use Rattle.lrc_trace.specs.Conflict.{IsRaceFree, IsFirstRace}
 use Rattle.lrc_trace.specs.Synchronization.{IsWellSynchronized}
 use Rattle.lrc_exec.specs.Plain.{plain}
-use Rattle.lrc_plain_laws.specs.Follows.{nodes_of, FollowsText}
+use Rattle.lrc_plain_laws.specs.Follows.{nodes_of_acts, FollowsText}
 use Rattle.lrc_plain_laws.specs.Racing.{HasNoRace, PlainToRace}
 use Rattle.lrc_plain_laws.proofs.UpToRace.{without_race}
 use Rattle.lrc_plain_laws.proofs.Racing.{plain_to_race, race_free}
@@ -25,7 +25,7 @@ module _ (program : Program) (nodes : ℕ) (options : OptionsRecord) (reads : Re
   in_order : IsWellSynchronized nodes world.acts
   in_order = synchronized program nodes options r.events world r.runs
 
-  pub is_plain : IsRaceFree world.acts → plain program nodes (nodes_of world.acts) ≡ Some world.acts
+  pub is_plain : IsRaceFree world.acts → plain program nodes (nodes_of_acts world.acts) ≡ Some world.acts
   is_plain free = without_race program nodes world.acts follows in_order (reads world r) free
 
   pub is_plain_to_race : (position : ℕ) → IsFirstRace world.acts position → PlainToRace program nodes world.acts position

@@ -20,7 +20,7 @@ use Rattle.lrc_clock.proofs.Counting.{own_entry_before, entry_bound}
 use Rattle.lrc_clock.proofs.Intervals.{interval_of_other}
 use Rattle.lrc_clock.proofs.Prefixes.{time_at-prefix}
 use Rattle.lrc_store.specs.Store.{StoredRecord}
-use Rattle.lrc_copies.specs.Stamps.{index_of}
+use Rattle.lrc_copies.specs.Stamps.{stamp_index}
 use Rattle.lrc_copies.proofs.Members.{cases_Contains, none_Contains}
 use Rattle.lrc_protocol.specs.Times.{next_time}
 use Rattle.lrc_protocol.specs.Node.{Wait, nothing, grant, departure, access, upkeep, discard, Node, OptionsRecord}
@@ -86,7 +86,7 @@ module _ (program : Program) (nodes : ℕ) (options : OptionsRecord) (world : Wo
 StampsCover : World → List StoredRecord → Type 0
 StampsCover world made =
     (x : StoredRecord) (k word value : ℕ) → Contains made x → Does world.acts k x.node (Write word value)
-    → interval_at world.acts x.node k ≡ index_of made_stamps x → Covers x.stamp (time_at world.times k)
+    → interval_at world.acts x.node k ≡ stamp_index made_stamps x → Covers x.stamp (time_at world.times k)
 
 -- what a turn closes is the node's open interval
 one_closed : (node : Node) (b : Bool) (x : StoredRecord) → Contains (if b then [] else closed_record node ∷ []) x → x ≡ closed_record node
@@ -117,9 +117,9 @@ module _ (program : Program) (nodes : ℕ) (options : OptionsRecord) (stamps : S
     -- a write of this turn is in an interval that is open after it
     open_write : (x : StoredRecord) (word value : ℕ) → Contains made' x → x.node ≡ n → Does world'.acts (length world.acts) n (Write word value)
         → time_at world'.times (length world.acts) ≡ after.node.locks.time
-        → interval_at world'.acts n (length world.acts) ≡ index_of made_stamps x → ⊥
+        → interval_at world'.acts n (length world.acts) ≡ stamp_index made_stamps x → ⊥
     open_write x word value c own does time_is inside =
-        let most : index_of made_stamps x ≤ entry after.node.locks.time x.node =
+        let most : stamp_index made_stamps x ≤ entry after.node.locks.time x.node =
         index_most made' world' known.are x after c (ap (slice_get world'.nodes) own ∙ there) in
         let next : interval_at world'.acts n (length world.acts) ≡ entry (time_at world'.times (length world.acts)) n + 1 =
         interval_of_other (kept program nodes options world' r') (length world.acts) n (Write word value) does refl in
@@ -129,7 +129,7 @@ module _ (program : Program) (nodes : ℕ) (options : OptionsRecord) (stamps : S
 
     -- a write before this turn
     old_write : (x : StoredRecord) (k word value : ℕ) → Contains made' x → Does world.acts k x.node (Write word value)
-        → interval_at world.acts x.node k ≡ index_of made_stamps x → Covers x.stamp (time_at world.times k)
+        → interval_at world.acts x.node k ≡ stamp_index made_stamps x → Covers x.stamp (time_at world.times k)
     unfolding StampsCover
     old_write x k word value c does inside = elim (Contains-append_cases made (closed_by l.node after.node) x c) [
       | inl old ↦ before x k word value old does inside
@@ -189,6 +189,6 @@ module _ (program : Program) (nodes : ℕ) (options : OptionsRecord) (stamps : S
   -- in every history
   pub stamps_cover : (world : World) (made : List StoredRecord) → History program nodes options world made
       → (x : StoredRecord) (k word value : ℕ) → Contains made x → Does world.acts k x.node (Write word value)
-      → interval_at world.acts x.node k ≡ index_of made_stamps x → Covers x.stamp (time_at world.times k)
+      → interval_at world.acts x.node k ≡ stamp_index made_stamps x → Covers x.stamp (time_at world.times k)
   unfolding StampsCover
   stamps_cover world made h = by_history program nodes options StampsCover cover-first cover-kept world made h

@@ -15,7 +15,7 @@ use Rattle.lrc_protocol.specs.Node.{Letter, Wait, grant, departure, discard, nee
 use Rattle.lrc_protocol.specs.Node.{acts_by}
 use Rattle.lrc_protocol.specs.Turn.{TurnRecord, taking}
 use Rattle.lrc_protocol.specs.Run.{Input}
-use Rattle.lrc_protocol.specs.Rules.{IsReadyFor, Accesses, access_read, access_write, IsOwn, own_quiet, page_at, need_at, Brings}
+use Rattle.lrc_protocol.specs.Rules.{IsReadyFor, AccessesNext, access_read, access_write, IsOwn, own_quiet, page_at, need_at, Brings}
 use Rattle.lrc_protocol.specs.Rules.{brings_changes, brings_base_copy, RunRule, run_hit, run_repair, run_acquire, run_release, run_barrier}
 use Rattle.lrc_protocol.specs.Rules.{run_other, TakeRule, take_token, take_depart, take_last_reply, take_discard, IsSent, with_numbers}
 use Rattle.lrc_protocol.specs.Rules.{TurnRule, by_run, by_repeat, by_message}
@@ -69,11 +69,11 @@ acts-elsewhere : (letters : List Letter) (node : Node) → page_next node.option
 acts-elsewhere letters node none =
     acts_by-reads letters node node.course (λ page e. let never : None ≡ Some page = sym none ∙ e in cc)
 
-access-page : (size : Size) (next : Next) (word : ℕ) → Accesses next word → page_next size (Some next) ≡ Some (page_of word size)
+access-page : (size : Size) (next : Next) (word : ℕ) → AccessesNext next word → page_next size (Some next) ≡ Some (page_of word size)
 access-page size next word (access_read w after) = refl
 access-page size next word (access_write w value after) = refl
 
-access-word : (words : ℕ) (next : Next) (word : ℕ) → Accesses next word → InWords words next → word < words
+access-word : (words : ℕ) (next : Next) (word : ℕ) → AccessesNext next word → InWords words next → word < words
 access-word words next word (access_read w after) lt = lt
 access-word words next word (access_write w value after) lt = lt
 
@@ -93,10 +93,10 @@ module _ (node : Node) (known : Known node) where
   comes : (next : Next) → IsReadyFor node next → page_next size coming ≡ page_next size (Some next)
   comes next r = ap (page_next size) (next-ready node next r)
 
-  to_page : (next : Next) (word : ℕ) → IsReadyFor node next → Accesses next word → page_next size coming ≡ Some (page_at node word)
+  to_page : (next : Next) (word : ℕ) → IsReadyFor node next → AccessesNext next word → page_next size coming ≡ Some (page_at node word)
   to_page next word r a = comes next r ∙ access-page size next word a
 
-  in_range : (next : Next) (word : ℕ) → IsReadyFor node next → Accesses next word → page_at node word < length node.memory.copies
+  in_range : (next : Next) (word : ℕ) → IsReadyFor node next → AccessesNext next word → page_at node word < length node.memory.copies
   in_range next word r a =
       let lt : page_at node word < pages_of node.setting.words size =
       page-in_range word node.setting.words size

@@ -38,7 +38,7 @@ use Rattle.lrc_node_laws.specs.Needs.{FitsBase, FitsNeed}
 use Rattle.lrc_node_laws.specs.Reached.{IsReached as IsReachedNode}
 use Rattle.lrc_node_laws.proofs.Always.{needed_at, others_asked}
 use Rattle.lrc_node_laws.proofs.Change.{view_of, pages_in}
-use Rattle.lrc_reading_laws.specs.Requested.{Wish, asked_in, told_in, is_wish}
+use Rattle.lrc_reading_laws.specs.Requested.{Wish, wish_in, told_in, is_wish}
 use Rattle.lrc_reading_laws.proofs.Asked.Laws.{passes}
 use Rattle.lrc_reading_laws.proofs.Asked.Wishes.{wanted_test, request_test, reply_test, awaited, Steady}
 use Rattle.lrc_reading_laws.proofs.Stamped.Asks.{waiter_in, TurnAsks, turn_asks}
@@ -267,7 +267,7 @@ none_wanted nodes q w (x ∷ letters) h le =
     let lt : x.to < nodes = h.0 in
     let apart : (x.to == q) ≡ false = ne_eqb x.to q (λ e. omega (arith, lt, le, e)) in
     let one : cond {A = ℕ} (wanted_test q w x) 1 0 ≡ 0 =
-    failing (wanted_test q w x) (and_right (is_wish w (asked_in x.message)) (x.to == q) apart) in
+    failing (wanted_test q w x) (and_right (is_wish w (wish_in x.message)) (x.to == q) apart) in
     let rest : count_by (wanted_test q w) letters ≡ 0 = none_wanted nodes q w letters h.1 le in
     let both : count_by (wanted_test q w) (x ∷ letters) ≡ cond (wanted_test q w x) 1 0 + count_by (wanted_test q w) letters =
     count-cons (wanted_test q w) x letters in
@@ -293,19 +293,19 @@ module _ (me nodes : ℕ) (here : me < nodes) (came : Came) (f : IsFromNode node
           let from_n : (from == n) ≡ false = ne_eqb from n (λ e. omega (arith, lt, le_n, e)) in
           let me_n : (me == n) ≡ false = ne_eqb me n (λ e. omega (arith, here, le_n, e)) in (
             failing (request_test me q w from (letter me message))
-                (and_left (is_wish w (asked_in message) && (me == q)) (from == me) (and_right (is_wish w (asked_in message)) (me == q) me_q)),
+                (and_left (is_wish w (wish_in message) && (me == q)) (from == me) (and_right (is_wish w (wish_in message)) (me == q) me_q)),
             failing (reply_test me q w from (letter me message))
                 (and_left (is_wish w (told_in message) && (from == q)) (me == me) (and_right (is_wish w (told_in message)) (from == q) from_q)),
-            failing (request_test n me w from (letter me message)) (and_right (is_wish w (asked_in message) && (me == me)) (from == n) from_n),
+            failing (request_test n me w from (letter me message)) (and_right (is_wish w (wish_in message) && (me == me)) (from == n) from_n),
             failing (reply_test n me w from (letter me message)) (and_right (is_wish w (told_in message) && (from == me)) (me == n) me_n),
           )
 
-  request-to : (x : Letter) (w : Wish) → Contains letters x → asked_in x.message ≡ Some w → x.to < nodes
+  request-to : (x : Letter) (w : Wish) → Contains letters x → wish_in x.message ≡ Some w → x.to < nodes
   request-to x w there is = ⊎_elim
       (λ (lt : x.to < nodes). lt)
       (λ (le : nodes ≤ x.to).
       let some : 1 ≤ count_by (request_test me x.to w me) letters =
-      counted_in (request_test me x.to w me) letters x there (passes w (asked_in x.message) x.to me is) in
+      counted_in (request_test me x.to w me) letters x there (passes w (wish_in x.message) x.to me is) in
       let wanted : count_by (wanted_test x.to w) after ≡ 0 = none_wanted nodes x.to w after asked le in
       let none : _ = none_comes x.to x.to w le le in
       let a : came_count (request_test me x.to w) me came ≡ 0 = none.0 in
@@ -334,8 +334,8 @@ module _ (me nodes : ℕ) (here : me < nodes) (came : Came) (f : IsFromNode node
   other-to x there is = by_message x.message refl is
     where
       by_message : (message : Message) → x.message ≡ message → is_other message ≡ true → x.to < nodes
-      by_message (ChangesRequest m) e o = request-to x _ there (ap asked_in e)
-      by_message (PageRequest page) e o = request-to x _ there (ap asked_in e)
+      by_message (ChangesRequest m) e o = request-to x _ there (ap wish_in e)
+      by_message (PageRequest page) e o = request-to x _ there (ap wish_in e)
       by_message (ChangesReply m) e o = reply-to x _ there (ap told_in e)
       by_message (PageReply m) e o = reply-to x _ there (ap told_in e)
       by_message (LockRequest m) e o = cc

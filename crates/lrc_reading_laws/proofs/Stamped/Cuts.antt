@@ -8,9 +8,9 @@ use Rattle.std.proofs.lemmas.List.{get_or_past, map-append}
 use Rattle.std.proofs.lemmas.List.Elements.{All-contains, Contains-append_left, Contains-push, Contains-push_cases}
 use Rattle.lrc_time.specs.Time.{entry, zeros, joined, Covers}
 use Rattle.lrc_time.proofs.Times.{covers-trans, covers-joined_first, covers-joined_second, entry-zeros, entry-joined, entry-set_other}
-use Rattle.lrc_store.specs.Interval.{IntervalRecord, index_of as interval_index}
+use Rattle.lrc_store.specs.Interval.{IntervalRecord, stamp_index as interval_index}
 use Rattle.lrc_store.specs.Store.{StoredRecord, interval_of}
-use Rattle.lrc_copies.specs.Stamps.{index_of, is_covered, IsCut, AreStamped, IsClosedAt}
+use Rattle.lrc_copies.specs.Stamps.{stamp_index, stamps_covered, IsCut, AreStamped, IsClosedAt}
 use Rattle.lrc_copies.proofs.Members.{none_Contains}
 use Rattle.lrc_copies.proofs.Stamping.{covered-le, le-covered, cut_longer, stamped_longer}
 use Rattle.lrc_protocol.specs.Times.{indices_by, next_time}
@@ -49,9 +49,9 @@ member-more made new q k m = record {
 
 -- no such time covers an interval that is not closed yet
 pub unknown_by : (made : List StoredRecord) (time : List ℕ) (n : ℕ) (x : StoredRecord) → IsFull made time → Counted made x.node n
-    → index_of made_stamps x ≡ n + 1 → IsTrue (is_covered made_stamps time x) → ⊥
+    → stamp_index made_stamps x ≡ n + 1 → IsTrue (stamps_covered made_stamps time x) → ⊥
 unknown_by made time n x full counted e covered =
-    let most : index_of made_stamps x ≤ entry time x.node = covered-le made_stamps time x covered in
+    let most : stamp_index made_stamps x ≤ entry time x.node = covered-le made_stamps time x covered in
     let m : Member x.node (n + 1) (map interval_of made) = full.reach x.node (n + 1) (omega arith) (omega (arith, most, e)) in
     let between : (1 ≤ interval_index m.i) × (interval_index m.i < 1 + n) =
     from_range 1 n (interval_index m.i)
@@ -62,7 +62,7 @@ unknown_by made time n x full counted e covered =
 
 -- so it stays one when that interval is closed
 full_longer : (made : List StoredRecord) (time : List ℕ) (n : ℕ) (x : StoredRecord) → IsFull made time → Counted made x.node n
-    → index_of made_stamps x ≡ n + 1 → IsFull (made ++ x ∷ []) time
+    → stamp_index made_stamps x ≡ n + 1 → IsFull (made ++ x ∷ []) time
 full_longer made time n x full counted e = record {
   cut = cut_longer made_stamps made time x full.cut (unknown_by made time n x full counted e);
   reach = λ q k least most. member-more made (x ∷ []) q k (full.reach q k least most);
@@ -87,13 +87,13 @@ module _ (nodes : ℕ) (made : List StoredRecord) (before time : List ℕ) (inte
       (subst (λ ks. Contains ks k) (sym (t.between q lt))
       (in_range (entry before q + 1) (entry time q - entry before q) k (omega (arith, above)) (omega (arith, above, most))))
 
-  stamp-covered : (a : StoredRecord) → Contains made a → entry before a.node < index_of made_stamps a → index_of made_stamps a ≤ entry time a.node
+  stamp-covered : (a : StoredRecord) → Contains made a → entry before a.node < stamp_index made_stamps a → stamp_index made_stamps a ≤ entry time a.node
       → Covers time a.stamp
   stamp-covered a c above most =
-      let m : Member a.node (index_of made_stamps a) intervals = told_between a.node (index_of made_stamps a) (listed.among a c) above most in
+      let m : Member a.node (stamp_index made_stamps a) intervals = told_between a.node (stamp_index made_stamps a) (listed.among a c) above most in
       let r : HasRecord made m.i = interval-from made m.i (made_at (map interval_of made) intervals m.i t.told m.in_list) in
       let node_is : r.x.node ≡ a.node = ap (λ (i : IntervalRecord). i.node) r.is ∙ m.node_is in
-      let index_is : index_of made_stamps r.x ≡ index_of made_stamps a = ap interval_index r.is ∙ m.index_is in
+      let index_is : stamp_index made_stamps r.x ≡ stamp_index made_stamps a = ap interval_index r.is ∙ m.index_is in
       let same : r.x ≡ a = found_once made r.x a listed.found r.in_list c node_is index_is in
       let stamp_is : m.i.stamp ≡ a.stamp = ap (λ (i : IntervalRecord). i.stamp) (sym r.is) ∙ ap (λ (x : StoredRecord). x.stamp) same in
       subst (Covers time) stamp_is (All-contains (λ (i : IntervalRecord). Covers time i.stamp) intervals m.i t.covered m.in_list)
@@ -101,15 +101,15 @@ module _ (nodes : ℕ) (made : List StoredRecord) (before time : List ℕ) (inte
   pub full_learned : IsFull made (joined before time)
   full_learned = record {
     cut = λ a c covered.
-        let most : index_of made_stamps a ≤ entry (joined before time) a.node = covered-le made_stamps (joined before time) a covered in
+        let most : stamp_index made_stamps a ≤ entry (joined before time) a.node = covered-le made_stamps (joined before time) a covered in
         let join : entry (joined before time) a.node ≡ max (entry before a.node) (entry time a.node) = entry-joined before time a.node in
         ⊎_elim
-        (λ (above : entry before a.node < index_of made_stamps a).
+        (λ (above : entry before a.node < stamp_index made_stamps a).
         covers-trans (joined before time) time a.stamp (covers-joined_second before time)
         (stamp-covered a c above (omega (arith, above, most, join))))
-        (λ (le : index_of made_stamps a ≤ entry before a.node).
+        (λ (le : stamp_index made_stamps a ≤ entry before a.node).
         covers-trans (joined before time) before a.stamp (covers-joined_first before time) (full.cut a c (le-covered made_stamps before a le)))
-        (cases_lt (entry before a.node) (index_of made_stamps a));
+        (cases_lt (entry before a.node) (stamp_index made_stamps a));
     reach = λ q k least most.
         let join : entry (joined before time) q ≡ max (entry before q) (entry time q) = entry-joined before time q in
         ⊎_elim
@@ -147,7 +147,7 @@ module _ (nodes n : ℕ) (node : Node) (made : List StoredRecord) (p : Placed no
   abbrev pub made_with : List ℕ → List StoredRecord
   made_with after = made ++ (if entry after me == entry time me then [] else new ∷ [])
 
-  index_is : index_of made_stamps new ≡ entry time me + 1
+  index_is : stamp_index made_stamps new ≡ entry time me + 1
   index_is = closed-index nodes n node p
 
   pub full_still : (after t : List ℕ) → IsFull made t → IsFull (made_with after) t
@@ -166,7 +166,7 @@ module _ (nodes n : ℕ) (node : Node) (made : List StoredRecord) (p : Placed no
       stamped = refl;
       own = λ a c e.
           le-covered made_stamps time a
-          (subst (λ q. index_of made_stamps a ≤ entry time q) (sym e) (own_between made me (entry time me) a counted c e).1);
+          (subst (λ q. stamp_index made_stamps a ≤ entry time q) (sym e) (own_between made me (entry time me) a counted c e).1);
       unknown = λ a c. unknown_by made a.stamp (entry time me) new (stamps a c) counted index_is;
     }
 
@@ -182,7 +182,7 @@ module _ (nodes n : ℕ) (node : Node) (made : List StoredRecord) (p : Placed no
           (λ (old : k < entry time me + 1).
           member-more made (new ∷ []) q k (full.reach q k least (subst (λ x. k ≤ entry time x) (sym own) (omega (arith, old)))))
           (λ (last : entry time me + 1 ≤ k).
-          let upto : k ≤ index_of made_stamps new = subst (λ x. k ≤ entry (next_time me time) x) own most in
+          let upto : k ≤ stamp_index made_stamps new = subst (λ x. k ≤ entry (next_time me time) x) own most in
           record {
             i = interval_of new;
             in_list = interval-in (made ++ new ∷ []) new (Contains-push made new);

@@ -30,7 +30,7 @@ use Rattle.lrc_protocol.specs.Times.{indices_by, next_time}
 use Rattle.lrc_protocol.specs.Pages.{Copy, valid, written, invalid, absent, Memory, copy_at}
 use Rattle.lrc_protocol.specs.Node.{Letter, Wait, nothing, grant, departure, access, upkeep, discard, is_idle, awaits_grant, Node}
 use Rattle.lrc_protocol.specs.Node.{OptionsRecord}
-use Rattle.lrc_protocol.specs.Turn.{is_learnable, is_expected, grant_of, grants_of, changes_reply_to, arrival_of, begins_of, closes, TurnRecord}
+use Rattle.lrc_protocol.specs.Turn.{is_learnable, is_expected, grant_of, grants_of, changes_reply_to, arrival_of, begins_of, after_close, TurnRecord}
 use Rattle.lrc_protocol.specs.Turn.{done, run_turn, turn_by}
 use Rattle.lrc_protocol.specs.Run.{Input, run, EntryRecord, Logged, World, Flying, fresh_world, with_turn, pending, run_of}
 use Rattle.lrc_protocol.specs.declared.event.Event.{Event}
@@ -332,12 +332,12 @@ module _ (program : Program) (nodes : ℕ) (options : OptionsRecord) where
 
     -- with a release
     by_release : (lock : ℕ) (turn : TurnRecord) (e : EnvelopeRecord) (m : LockGrantRecord) (lb : Logged) → run_turn l.node ≡ done turn after.node
-        → map letter_in turn.out ≡ grants_of (closes l.node) (pass_of (released l.node.locks.held lock (next_time l.node.setting.me l.node.locks.time)))
+        → map letter_in turn.out ≡ grants_of (after_close l.node) (pass_of (released l.node.locks.held lock (next_time l.node.setting.me l.node.locks.time)))
         → Contains turn.out e → e.message ≡ LockGrant m → slice_get next.nodes e.to ≡ Some lb → News e m lb
     by_release lock turn e m lb o letters c is at_b =
         let now : List ℕ = next_time l.node.setting.me l.node.locks.time in
-        let it : IsPassed (closes l.node) (pass_of (released l.node.locks.held lock now)) e m =
-        passed (closes l.node) (pass_of (released l.node.locks.held lock now)) turn.out e m letters c is in
+        let it : IsPassed (after_close l.node) (pass_of (released l.node.locks.held lock now)) e m =
+        passed (after_close l.node) (pass_of (released l.node.locks.held lock now)) turn.out e m letters c is in
         let w : (w : Waiter) × (waiter_in (lock_at l.node.locks.held lock) ≡ Some w) × (pass_to lock w now ≡ it.p) =
         released_pass lock now (lock_at l.node.locks.held lock) it.p it.pass_is in
         let says : Says (pending world) world.nodes e.to it.p.since =
@@ -353,7 +353,7 @@ module _ (program : Program) (nodes : ℕ) (options : OptionsRecord) where
         released_then (site_of l.node) sent.acts after.node.mail.wait after.node.locks after.node.barrier sent.letters sent.sent (letter_in e)
         (subst (λ ls. Contains ls (letter_in e)) sent.out (letter_out turn.out e c)) (ap is_lock_grant is) in
         let upto_is : now ≡ it.p.upto = ap (λ (x : Pass). x.upto) w.2 in
-        granted_to_other e.to lb now (closes l.node).memory it.p m other at_b says
+        granted_to_other e.to lb now (after_close l.node).memory it.p m other at_b says
         (closes-exact nodes 0 l.node.setting.me l.node.locks.time l.node.memory (subst (λ k. k < nodes) (sym p.me) p.within) p.long (exact_at l.node p.reached))
         refl (subst (Covers now) upto_is (covers-refl now))
         (subst (λ t. length t ≡ nodes) upto_is (subst (λ t. length t ≡ nodes) then_time p'.long))
@@ -397,7 +397,7 @@ module _ (program : Program) (nodes : ℕ) (options : OptionsRecord) where
     by_run turn e m lb o (writes word value rest) s c is at_b = silent-none (News e m lb) turn.out s e m c is
     by_run turn e m lb o (acquires lock rest) s c is at_b = silent-none (News e m lb) turn.out s e m c is
     by_run turn e m lb o (arrives rest) s c is at_b =
-        let arrival : Letter = arrival_of (closes l.node) (l.node.barrier.episode + 1) in
+        let arrival : Letter = arrival_of (after_close l.node) (l.node.barrier.episode + 1) in
         let one : arrival ≡ letter_in e = only_letter arrival (letter_in e) (subst (λ ls. Contains ls (letter_in e)) s (letter_out turn.out e c)) in
         absurd (false≢true (ap (λ (x : Letter). is_lock_grant x.message) one ∙ ap is_lock_grant is))
     by_run turn e m lb o (departs rest) s c is at_b = silent-none (News e m lb) turn.out s e m c is

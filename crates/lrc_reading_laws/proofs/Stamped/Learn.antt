@@ -12,14 +12,14 @@ use Rattle.lrc_exec.specs.Plain.{setting_of}
 use Rattle.lrc_time.specs.Time.{entry, Covers, covers}
 use Rattle.lrc_time.proofs.Times.{covers-holds}
 use Rattle.lrc_page.specs.Place.{pages_of}
-use Rattle.lrc_store.specs.Interval.{IntervalRecord, index_of as interval_index}
+use Rattle.lrc_store.specs.Interval.{IntervalRecord, stamp_index as interval_index}
 use Rattle.lrc_store.specs.Store.{StoredRecord, interval_of}
-use Rattle.lrc_copies.specs.Stamps.{index_of}
+use Rattle.lrc_copies.specs.Stamps.{stamp_index}
 use Rattle.lrc_copies.proofs.Members.{Contains-first, Contains-later, none_Contains}
 use Rattle.lrc_copies.proofs.Stamping.{le-covered}
 use Rattle.lrc_protocol.specs.Times.{indices_by, are_between}
 use Rattle.lrc_protocol.specs.Node.{OptionsRecord}
-use Rattle.lrc_protocol.specs.Turn.{is_page, is_interval, is_news, is_learnable}
+use Rattle.lrc_protocol.specs.Turn.{is_page, is_interval, is_news_in_range, is_learnable}
 use Rattle.lrc_protocol.specs.Run.{Logged, World}
 use Rattle.lrc_protocol.specs.Follows.{turns_of}
 use Rattle.lrc_order_laws.proofs.Shape.{NodeShape, shape_at}
@@ -130,7 +130,7 @@ module _ (program : Program) (nodes : ℕ) (options : OptionsRecord) where
 
     pub news_from : (time : List ℕ) (intervals : List IntervalRecord) → length time ≡ nodes → IsFull made time
         → AllMade (map interval_of made) intervals → ((i : IntervalRecord) → Contains intervals i → interval_index i ≤ entry time i.node)
-        → is_news l.node time intervals ≡ true
+        → is_news_in_range l.node time intervals ≡ true
     news_from time intervals long full told upto =
         and_from _ _
         (and_from _ _ (eq-eqb (length time) l.node.setting.nodes (long ∙ sym p.count))
@@ -139,7 +139,7 @@ module _ (program : Program) (nodes : ℕ) (options : OptionsRecord) where
         (λ i c.
         let r : HasRecord made i = interval-from made i (made_at (map interval_of made) intervals i told c) in
         let node_is : r.x.node ≡ i.node = ap (λ (i : IntervalRecord). i.node) r.is in
-        let index_is : index_of made_stamps r.x ≡ interval_index i = ap interval_index r.is in
+        let index_is : stamp_index made_stamps r.x ≡ interval_index i = ap interval_index r.is in
         let known : interval_index i ≤ entry time i.node = upto i c in
         let at_node : entry time r.x.node ≡ entry time i.node = ap (entry time) node_is in
         let covered : Covers time r.x.stamp =

@@ -12,7 +12,7 @@ use Rattle.lrc_store.specs.Store.{StoredRecord, NoticeRecord, interval_of, is_at
 use Rattle.lrc_time.specs.Time.{entry}
 use Rattle.lrc_store.proofs.Orders.{map-map}
 use Rattle.lrc_store.proofs.Lookups.{find-push_other, find-push_here}
-use Rattle.lrc_copies.specs.Stamps.{index_of}
+use Rattle.lrc_copies.specs.Stamps.{stamp_index}
 use Rattle.lrc_copies.proofs.Members.{Contains-first, Contains-later, cases_Contains, none_Contains}
 use Rattle.lrc_protocol.specs.Times.{indices_by, next_time}
 use Rattle.lrc_protocol.specs.Pages.{Copy, changes_of, all_changes, closed_interval}
@@ -51,9 +51,9 @@ interval-from (y ∷ made) i c =
 
 -- what was made of a node has the indices from 1 up to its last
 pub own_between : (made : List StoredRecord) (q n : ℕ) (x : StoredRecord) → indices_by (map interval_of made) q ≡ range_with_len 1 n → Contains made x
-    → x.node ≡ q → (1 ≤ index_of made_stamps x) × (index_of made_stamps x ≤ n)
+    → x.node ≡ q → (1 ≤ stamp_index made_stamps x) × (stamp_index made_stamps x ≤ n)
 own_between made q n x exact c e =
-    let index : ℕ = index_of made_stamps x in
+    let index : ℕ = stamp_index made_stamps x in
     let some : (1 ≤ index) × (index < 1 + n) =
     from_range 1 n index (subst (λ ks. Contains ks index) exact (index_in q (map interval_of made) (interval_of x) (interval-in made x c) e)) in
     let most : index < 1 + n = some.1 in
@@ -63,47 +63,47 @@ own_between made q n x exact c e =
 
 -- each is found by its node and index
 abbrev pub AreFound : List StoredRecord → Type 0
-AreFound made = (x : StoredRecord) → Contains made x → stored_at made x.node (index_of made_stamps x) ≡ Some x
+AreFound made = (x : StoredRecord) → Contains made x → stored_at made x.node (stamp_index made_stamps x) ≡ Some x
 
-pub is_at-parts : (node index : ℕ) (x : StoredRecord) → is_at node index x ≡ true → (x.node ≡ node) × (index_of made_stamps x ≡ index)
+pub is_at-parts : (node index : ℕ) (x : StoredRecord) → is_at node index x ≡ true → (x.node ≡ node) × (stamp_index made_stamps x ≡ index)
 is_at-parts node index x at =
-    let parts : (_ ≡ true) × (_ ≡ true) = and_parts (x.node == node) (index_of made_stamps x == index) at in
+    let parts : (_ ≡ true) × (_ ≡ true) = and_parts (x.node == node) (stamp_index made_stamps x == index) at in
     (eqb-true _ _ parts.0, eqb-true _ _ parts.1)
 
-pub is_at-from : (node index : ℕ) (x : StoredRecord) → x.node ≡ node → index_of made_stamps x ≡ index → is_at node index x ≡ true
-is_at-from node index x e f = and_from (x.node == node) (index_of made_stamps x == index) (eq-eqb x.node node e) (eq-eqb (index_of made_stamps x) index f)
+pub is_at-from : (node index : ℕ) (x : StoredRecord) → x.node ≡ node → stamp_index made_stamps x ≡ index → is_at node index x ≡ true
+is_at-from node index x e f = and_from (x.node == node) (stamp_index made_stamps x == index) (eq-eqb x.node node e) (eq-eqb (stamp_index made_stamps x) index f)
 
 -- one more, with a greater index of its node
 pub found-push : (made : List StoredRecord) (c : StoredRecord) → AreFound made
-    → ((x : StoredRecord) → Contains made x → x.node ≡ c.node → index_of made_stamps x < index_of made_stamps c) → AreFound (made ++ c ∷ [])
+    → ((x : StoredRecord) → Contains made x → x.node ≡ c.node → stamp_index made_stamps x < stamp_index made_stamps c) → AreFound (made ++ c ∷ [])
 found-push made c found above x x_in =
     ⊎_elim
     (λ (old : Contains made x).
-    find-push_other (is_at x.node (index_of made_stamps x)) made c
+    find-push_other (is_at x.node (stamp_index made_stamps x)) made c
     (false_from_ne_true _ (λ at.
-    let parts : _ = is_at-parts x.node (index_of made_stamps x) c at in
-    let less : index_of made_stamps x < index_of made_stamps c = above x old (sym parts.0) in
-    let same : index_of made_stamps c ≡ index_of made_stamps x = parts.1 in
+    let parts : _ = is_at-parts x.node (stamp_index made_stamps x) c at in
+    let less : stamp_index made_stamps x < stamp_index made_stamps c = above x old (sym parts.0) in
+    let same : stamp_index made_stamps c ≡ stamp_index made_stamps x = parts.1 in
     omega (arith, less, same)))
     ∙ found x old)
     (λ (new : c ≡ x).
-    subst (λ (z : StoredRecord). stored_at (made ++ c ∷ []) z.node (index_of made_stamps z) ≡ Some z) new
-    (find-push_here (is_at c.node (index_of made_stamps c)) made c
+    subst (λ (z : StoredRecord). stored_at (made ++ c ∷ []) z.node (stamp_index made_stamps z) ≡ Some z) new
+    (find-push_here (is_at c.node (stamp_index made_stamps c)) made c
     (λ k d within.
     let z : StoredRecord = slice_index_or made k d in
     false_from_ne_true _ (λ at.
-    let parts : _ = is_at-parts c.node (index_of made_stamps c) z at in
-    let less : index_of made_stamps z < index_of made_stamps c = above z (Contains-get_or made k d within) parts.0 in
-    let same : index_of made_stamps z ≡ index_of made_stamps c = parts.1 in
+    let parts : _ = is_at-parts c.node (stamp_index made_stamps c) z at in
+    let less : stamp_index made_stamps z < stamp_index made_stamps c = above z (Contains-get_or made k d within) parts.0 in
+    let same : stamp_index made_stamps z ≡ stamp_index made_stamps c = parts.1 in
     omega (arith, less, same)))
-    (is_at-from c.node (index_of made_stamps c) c refl refl)))
+    (is_at-from c.node (stamp_index made_stamps c) c refl refl)))
     (Contains-push_cases made c x x_in)
 
 -- so two of the same node and index are the same
 pub found_once : (made : List StoredRecord) (x y : StoredRecord) → AreFound made → Contains made x → Contains made y → x.node ≡ y.node
-    → index_of made_stamps x ≡ index_of made_stamps y → x ≡ y
+    → stamp_index made_stamps x ≡ stamp_index made_stamps y → x ≡ y
 found_once made x y found cx cy e f =
-    same_Some x y (sym (found x cx) ∙ ap (λ n. stored_at made n (index_of made_stamps x)) e ∙ ap (stored_at made y.node) f ∙ found y cy)
+    same_Some x y (sym (found x cx) ∙ ap (λ n. stored_at made n (stamp_index made_stamps x)) e ∙ ap (stored_at made y.node) f ∙ found y cy)
 
 -- ---- the interval that a node closes
 

@@ -9,7 +9,7 @@ use Rattle.lrc_lang.specs.declared.program.Program.{Program}
 use Rattle.lrc_time.specs.Time.{entry}
 use Rattle.lrc_time.proofs.Times.{entry-set_same}
 use Rattle.lrc_store.specs.Store.{StoredRecord, NoticeRecord, interval_of}
-use Rattle.lrc_copies.specs.Stamps.{index_of}
+use Rattle.lrc_copies.specs.Stamps.{stamp_index}
 use Rattle.lrc_copies.proofs.Members.{none_Contains}
 use Rattle.lrc_protocol.specs.Times.{indices_by}
 use Rattle.lrc_protocol.specs.Node.{Node, OptionsRecord}
@@ -41,7 +41,7 @@ none_listed nodes = record {
 }
 
 -- the index of an interval that is closed
-pub closed-index : (nodes n : ℕ) (node : Node) → Placed nodes n node → index_of made_stamps (closed_record node) ≡ entry node.locks.time node.setting.me + 1
+pub closed-index : (nodes n : ℕ) (node : Node) → Placed nodes n node → stamp_index made_stamps (closed_record node) ≡ entry node.locks.time node.setting.me + 1
 closed-index nodes n node p =
     entry-set_same node.locks.time node.setting.me (entry node.locks.time node.setting.me + 1) (omega (arith, p.me, p.within, p.long))
 
@@ -54,8 +54,8 @@ one_listed nodes n node made p exact h = record {
   rising = All-push Rises made (closed_record node) h.rising (closed-rising node);
   found = found-push made (closed_record node) h.found (λ x c e.
       let between : _ = own_between made n (entry node.locks.time n) x exact c (e ∙ p.me) in
-      let most : index_of made_stamps x ≤ entry node.locks.time n = between.1 in
-      let index : index_of made_stamps (closed_record node) ≡ entry node.locks.time n + 1 =
+      let most : stamp_index made_stamps x ≤ entry node.locks.time n = between.1 in
+      let index : stamp_index made_stamps (closed_record node) ≡ entry node.locks.time n + 1 =
       closed-index nodes n node p ∙ ap (λ k. entry node.locks.time k + 1) p.me in
       omega (arith, most, index));
   among = λ x c. ⊎_elim

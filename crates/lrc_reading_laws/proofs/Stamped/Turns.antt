@@ -21,8 +21,8 @@ use Rattle.lrc_protocol.specs.Pages.{with_copy, with_interval, learned, Base, un
 use Rattle.lrc_protocol.specs.Barriers.{with_base, collected_at, clean_memory}
 use Rattle.lrc_protocol.specs.Node.{Letter, Course, going, trapped, ended, Node, Effect, acts, acts_by, memory_after}
 use Rattle.lrc_protocol.specs.Turn.{requests_of, page_request_of, changes_request_of, changes_reply_to, grants_of, departure_of, discards_to}
-use Rattle.lrc_protocol.specs.Turn.{arrival_of, charged, closes, TurnRecord, done, run_turn, taking}
-use Rattle.lrc_protocol.specs.Rules.{take_request, Accesses, access_read, access_write, IsOwn, own_quiet, own_print, own_trap, own_end, Brings}
+use Rattle.lrc_protocol.specs.Turn.{arrival_of, charged, after_close, TurnRecord, done, run_turn, taking}
+use Rattle.lrc_protocol.specs.Rules.{take_request, AccessesNext, access_read, access_write, IsOwn, own_quiet, own_print, own_trap, own_end, Brings}
 use Rattle.lrc_protocol.specs.Rules.{brings_changes, brings_base_copy, page_at, need_at, closed_for, keeping, collection_at, upkeep_at, RunRule}
 use Rattle.lrc_protocol.specs.Rules.{run_hit, run_miss, run_repair, run_acquire, run_ask, run_release, run_barrier, run_other, TakeRule}
 use Rattle.lrc_protocol.specs.Rules.{take_forward, take_token, take_arrive, take_last_arrive, take_depart, take_collect, take_collect_at_once}
@@ -230,11 +230,11 @@ module _ (C : List ℕ → Type 0) where
   -- a release may grant the lock, and an arrival is sent; whatever else is begun is silent
   abbrev pub RunSays : Node → Next → List Letter → Type 0
   RunSays node (releases lock after) letters =
-      letters ≡ grants_of (closes node) (pass_of (released node.locks.held lock (next_time node.setting.me node.locks.time)))
-  RunSays node (arrives after) letters = letters ≡ arrival_of (closes node) (node.barrier.episode + 1) ∷ []
+      letters ≡ grants_of (after_close node) (pass_of (released node.locks.held lock (next_time node.setting.me node.locks.time)))
+  RunSays node (arrives after) letters = letters ≡ arrival_of (after_close node) (node.barrier.episode + 1) ∷ []
   RunSays node _ letters = AllSilent letters
 
-  access-says : (node : Node) (next : Next) (word : ℕ) (letters : List Letter) → Accesses next word → AllSilent letters → RunSays node next letters
+  access-says : (node : Node) (next : Next) (word : ℕ) (letters : List Letter) → AccessesNext next word → AllSilent letters → RunSays node next letters
   access-says node next word letters (access_read w after) s = s
   access-says node next word letters (access_write w value after) s = s
 

@@ -20,7 +20,7 @@ use Rattle.lrc_trace.proofs.Intervals.{count_of-rises, never_fall}
 use Rattle.lrc_judge.proofs.Segments.{AccessesBy}
 use Rattle.lrc_clock.specs.Times.{time_at, raised}
 use Rattle.lrc_clock.specs.Keeping.{KeepsTime}
-use Rattle.lrc_clock.specs.Races.{IsSegment}
+use Rattle.lrc_clock.specs.Races.{IsSegmentOf}
 use Rattle.lrc_clock.proofs.Covering.{rises}
 use Rattle.lrc_clock.proofs.Epochs.{earlier_epoch_is_covered}
 use Rattle.lrc_clock.proofs.Rules.{long}
@@ -92,7 +92,7 @@ module _ {nodes : ℕ} {run : List Act} {times : List (List ℕ)} (keeps : Keeps
         let some : HasSome trace.size s = All-contains (HasSome trace.size) trace.segments s is.some there in
         record { is_write = some.1; word = some.0; made = made_at s some.1 some.0 there some.2 }
 
-    pub segment_of : (s : Segment) → Contains trace.segments s → IsSegment run times trace.node s.interval s.time
+    pub segment_of : (s : Segment) → Contains trace.segments s → IsSegmentOf run times trace.node s.interval s.time
     segment_of s there =
         let m : MadeSome s = made_some s there in
         record {

@@ -4,7 +4,7 @@ use Rattle.lrc_trace.specs.declared.act.Act.{Act}
 use Rattle.lrc_page.specs.declared.size.Size.{Size}
 use Rattle.lrc_store.specs.Store.{StoredRecord}
 use Rattle.lrc_copies.specs.Page.{PageHistory}
-use Rattle.lrc_copies.specs.Stamps.{index_of, page_of_stamps}
+use Rattle.lrc_copies.specs.Stamps.{stamp_index, page_of_stamps}
 use Rattle.lrc_protocol.specs.Times.{next_time}
 use Rattle.lrc_protocol.specs.Node.{Node}
 use Rattle.lrc_reading_laws.specs.Written.{made_stamps, changes_on, last_write, word_on}
@@ -12,7 +12,7 @@ use Rattle.lrc_reading_laws.specs.Written.{made_stamps, changes_on, last_write, 
 -- what each interval did to a page, after these acts
 abbrev pub page_history : Size → List Act → ℕ → PageHistory StoredRecord
 page_history size acts page =
-    page_of_stamps made_stamps (λ x offset. last_write acts x.node (index_of made_stamps x) (word_on size page offset)) (changes_on page)
+    page_of_stamps made_stamps (λ x offset. last_write acts x.node (stamp_index made_stamps x) (word_on size page offset)) (changes_on page)
 
 -- a node's open interval: it has no changes yet
 abbrev pub open_record : Node → StoredRecord

@@ -14,7 +14,7 @@ use Rattle.lrc_page.specs.Page.{words_of}
 use Rattle.lrc_time.specs.Time.{entry}
 use Rattle.lrc_plain_laws.specs.Follows.{deeds_of}
 use Rattle.lrc_copies.specs.Page.{IsUntouchedBy, IsMadeOf, IsClosedWith}
-use Rattle.lrc_copies.specs.Stamps.{index_of}
+use Rattle.lrc_copies.specs.Stamps.{stamp_index}
 use Rattle.lrc_store.specs.Store.{StoredRecord, notice_of}
 use Rattle.lrc_protocol.specs.Pages.{written, copy_at}
 use Rattle.lrc_protocol.specs.Node.{grant, OptionsRecord}
@@ -43,7 +43,7 @@ deeds_more turns turn = filter_map-append deed_made turns (turn ∷ [])
 record IsOld (world : World) (x : StoredRecord) : Type 0 where
   l : Logged
   at : slice_get world.nodes x.node ≡ Some l
-  most : index_of made_stamps x ≤ entry l.node.locks.time x.node
+  most : stamp_index made_stamps x ≤ entry l.node.locks.time x.node
 
 abbrev AllOld : List StoredRecord → World → Type 0
 AllOld made world = (x : StoredRecord) → Contains made x → IsOld world x
@@ -162,7 +162,7 @@ module _ (program : Program) (nodes : ℕ) (options : OptionsRecord) (world : Wo
           has = λ offset lt.
               open_page.has offset lt
               ∙ ap (λ o. unwrap_or o (slice_index twin offset))
-              (stays_me (index_of made_stamps (open_record l.node)) (word_on options.size page offset) (inl new.none));
+              (stays_me (stamp_index made_stamps (open_record l.node)) (word_on options.size page offset) (inl new.none));
         };
         changes = closed_changes l.node page values twin e;
       })
@@ -174,7 +174,7 @@ module _ (program : Program) (nodes : ℕ) (options : OptionsRecord) (world : Wo
       let new : IsNew x = closed_new x c in
       subst (λ x. IsUntouchedBy (page_history options.size next.acts page) (words_of options.size) x × (changes_on page x ≡ [])) (sym new.is) (
         λ offset lt.
-            sym (stays_me (index_of made_stamps (open_record l.node)) (word_on options.size page offset) (inl new.none))
+            sym (stays_me (stamp_index made_stamps (open_record l.node)) (word_on options.size page offset) (inl new.none))
             ∙ untouched_by_open program nodes options world r n l at page none offset lt,
         closed_none l.node page none,
       )
@@ -185,13 +185,13 @@ module _ (program : Program) (nodes : ℕ) (options : OptionsRecord) (world : Wo
   old_kept x old = elim (cases_eq n x.node) [
     | inl e ↦
         let same : l ≡ old.l = same_Some l old.l (sym at ∙ ap (slice_get world.nodes) e ∙ old.at) in
-        let bound : index_of made_stamps x ≤ entry l.node.locks.time n =
-        subst (λ k. index_of made_stamps x ≤ entry l.node.locks.time k) (sym e)
-        (subst (λ (l : Logged). index_of made_stamps x ≤ entry l.node.locks.time x.node) (sym same) old.most) in
+        let bound : stamp_index made_stamps x ≤ entry l.node.locks.time n =
+        subst (λ k. stamp_index made_stamps x ≤ entry l.node.locks.time k) (sym e)
+        (subst (λ (l : Logged). stamp_index made_stamps x ≤ entry l.node.locks.time x.node) (sym same) old.most) in
         record {
           l = after;
           at = ap (slice_get next.nodes) (sym e) ∙ there;
-          most = subst (λ k. index_of made_stamps x ≤ entry after.node.locks.time k) e
+          most = subst (λ k. stamp_index made_stamps x ≤ entry after.node.locks.time k) e
               (elim moves [ inl stands ↦ omega (arith, bound, stands) | inr more ↦ omega (arith, bound, more.0) ]);
         }
     | inr ne ↦ record { l = old.l; at = get_set_other world.nodes n x.node after ne ∙ old.at; most = old.most }
@@ -205,24 +205,24 @@ module _ (program : Program) (nodes : ℕ) (options : OptionsRecord) (world : Wo
       (record {
         l = after;
         at = ap (slice_get next.nodes) me ∙ there;
-        most = subst (λ k. index_of made_stamps (open_record l.node) ≤ entry after.node.locks.time k) (sym me)
+        most = subst (λ k. stamp_index made_stamps (open_record l.node) ≤ entry after.node.locks.time k) (sym me)
             (let index : _ = open_index program nodes options world r n l at in omega (arith, index, new.rises));
       })
 
   old_stays : (x : StoredRecord) (word : ℕ) → IsOld world x
-      → last_write world.acts x.node (index_of made_stamps x) word ≡ last_write next.acts x.node (index_of made_stamps x) word
+      → last_write world.acts x.node (stamp_index made_stamps x) word ≡ last_write next.acts x.node (stamp_index made_stamps x) word
   old_stays x word old = elim (cases_eq n x.node) [
     | inl e ↦
         let same : l ≡ old.l = same_Some l old.l (sym at ∙ ap (slice_get world.nodes) e ∙ old.at) in
-        let bound : index_of made_stamps x ≤ entry l.node.locks.time n =
-        subst (λ k. index_of made_stamps x ≤ entry l.node.locks.time k) (sym e)
-        (subst (λ (l : Logged). index_of made_stamps x ≤ entry l.node.locks.time x.node) (sym same) old.most) in
-        subst (λ k. last_write world.acts k (index_of made_stamps x) word ≡ last_write next.acts k (index_of made_stamps x) word) e
-        (stays (index_of made_stamps x) word (closed_apart (index_of made_stamps x) bound))
+        let bound : stamp_index made_stamps x ≤ entry l.node.locks.time n =
+        subst (λ k. stamp_index made_stamps x ≤ entry l.node.locks.time k) (sym e)
+        (subst (λ (l : Logged). stamp_index made_stamps x ≤ entry l.node.locks.time x.node) (sym same) old.most) in
+        subst (λ k. last_write world.acts k (stamp_index made_stamps x) word ≡ last_write next.acts k (stamp_index made_stamps x) word) e
+        (stays (stamp_index made_stamps x) word (closed_apart (stamp_index made_stamps x) bound))
     | inr ne ↦
-        last_scanned world.acts x.node (index_of made_stamps x) word
-        ∙ ap (λ ds. written_in ds (index_of made_stamps x) word) (sym (other_deeds x.node old.l ne old.at))
-        ∙ sym (last_scanned next.acts x.node (index_of made_stamps x) word)
+        last_scanned world.acts x.node (stamp_index made_stamps x) word
+        ∙ ap (λ ds. written_in ds (stamp_index made_stamps x) word) (sym (other_deeds x.node old.l ne old.at))
+        ∙ sym (last_scanned next.acts x.node (stamp_index made_stamps x) word)
   ]
 
   turn_writes : (made : List StoredRecord) → AllOld made world → TurnWrites options made world next l.node (closed_by l.node after.node)

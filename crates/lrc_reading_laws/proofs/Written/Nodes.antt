@@ -14,7 +14,7 @@ use Rattle.lrc_exec.specs.Meaning.{Setting}
 use Rattle.lrc_exec.specs.Plain.{setting_of, start_of}
 use Rattle.lrc_plain_laws.specs.Follows.{deeds_of}
 use Rattle.lrc_copies.specs.Page.{IsMadeOf, IsUntouchedBy}
-use Rattle.lrc_copies.specs.Stamps.{index_of}
+use Rattle.lrc_copies.specs.Stamps.{stamp_index}
 use Rattle.lrc_protocol.specs.Pages.{Copy, valid, written, invalid, absent, copy_at}
 use Rattle.lrc_protocol.specs.Node.{Wait, nothing, grant, departure, access, upkeep, discard, OptionsRecord}
 use Rattle.lrc_protocol.specs.Run.{Logged, World}
@@ -29,7 +29,7 @@ use Rattle.lrc_order_laws.proofs.Waiting.{NodeFits, node-fits, departs_arrived}
 use Rattle.lrc_order_laws.proofs.Shape.{NodeShape, shape_at}
 use Rattle.lrc_order_laws.proofs.OwnEntry.{in_range, own_entry}
 use Rattle.lrc_node_laws.specs.Reached.{LeadsTo}
-use Rattle.lrc_node_laws.specs.Ranges.{IsWhole}
+use Rattle.lrc_node_laws.specs.Ranges.{IsWholeCopy}
 use Rattle.lrc_node_laws.specs.Opened.{on_page, open_writes, open_in, IsMadeBy, AreMadeBy}
 use Rattle.lrc_node_laws.proofs.Wrote.{wrote}
 use Rattle.lrc_node_laws.proofs.Always.{whole_at}
@@ -63,10 +63,10 @@ unwritten size page writes (invalid values since) none h = h
 unwritten size page writes absent none h = h
 
 -- a copy is whole, also one that is not there
-copy-whole : (nodes words : ℕ) (copies : List Copy) (page : ℕ) → All (IsWhole nodes words) copies → IsWhole nodes words (slice_index_or copies page absent)
+copy-whole : (nodes words : ℕ) (copies : List Copy) (page : ℕ) → All (IsWholeCopy nodes words) copies → IsWholeCopy nodes words (slice_index_or copies page absent)
 copy-whole nodes words copies page each = elim (cases_lt page (length copies)) [
-  | inl within ↦ All-get_or (IsWhole nodes words) copies page absent within each
-  | inr past ↦ subst (IsWhole nodes words) (sym (get_or_past copies page absent past)) tt
+  | inl within ↦ All-get_or (IsWholeCopy nodes words) copies page absent within each
+  | inr past ↦ subst (IsWholeCopy nodes words) (sym (get_or_past copies page absent past)) tt
 ]
 
 module _ (program : Program) (nodes : ℕ) (options : OptionsRecord) (world : World) (reached : IsReached program nodes options world) (n : ℕ)
@@ -109,22 +109,22 @@ module _ (program : Program) (nodes : ℕ) (options : OptionsRecord) (world : Wo
       (subst (λ ds. IsMadeBy l.node.options.size page (open_in l.node.mail.wait (open_writes ds)) (copy_at l.node.memory page)) (sym follows.deeds) (here page))
 
   -- the index of the open interval is one more than the own entry
-  pub open_index : index_of made_stamps (open_record l.node) ≡ entry l.node.locks.time n + 1
+  pub open_index : stamp_index made_stamps (open_record l.node) ≡ entry l.node.locks.time n + 1
   open_index =
       entry-set_same l.node.locks.time l.node.setting.me (entry l.node.locks.time l.node.setting.me + 1) me_within
       ∙ ap (λ k. entry l.node.locks.time k + 1) is_me
 
   -- what it wrote by the acts
-  open_last : (word : ℕ) → last_write world.acts (open_record l.node).node (index_of made_stamps (open_record l.node)) word ≡ last_of word None writes
+  open_last : (word : ℕ) → last_write world.acts (open_record l.node).node (stamp_index made_stamps (open_record l.node)) word ≡ last_of word None writes
   open_last word =
       ap (λ i. last_write world.acts l.node.setting.me i word) open_index
       ∙ ap (λ k. last_write world.acts k (entry l.node.locks.time n + 1) word) is_me
       ∙ last_scanned world.acts n (entry l.node.locks.time n + 1) word
       ∙ open_written l.node.mail.wait own_deeds (entry l.node.locks.time n) word own
 
-  whole : (page : ℕ) → IsWhole l.node.setting.nodes (words_of options.size) (copy_at l.node.memory page)
+  whole : (page : ℕ) → IsWholeCopy l.node.setting.nodes (words_of options.size) (copy_at l.node.memory page)
   whole page =
-      subst (λ (o : OptionsRecord). IsWhole l.node.setting.nodes (words_of o.size) (copy_at l.node.memory page)) shape.options
+      subst (λ (o : OptionsRecord). IsWholeCopy l.node.setting.nodes (words_of o.size) (copy_at l.node.memory page)) shape.options
       (copy-whole l.node.setting.nodes (words_of l.node.options.size) l.node.memory.copies page
       (whole_at l.node (record {
         program = program;
@@ -140,8 +140,8 @@ module _ (program : Program) (nodes : ℕ) (options : OptionsRecord) (world : Wo
       → IsMadeOf (page_history options.size world.acts page) (open_record l.node) twin values
   made_of_twin page values twin e =
       let of_copy : IsMadeBy options.size page writes (written values twin) = subst (IsMadeBy options.size page writes) e (made page) in
-      let long : IsWhole l.node.setting.nodes (words_of options.size) (written values twin) =
-      subst (IsWhole l.node.setting.nodes (words_of options.size)) e (whole page) in
+      let long : IsWholeCopy l.node.setting.nodes (words_of options.size) (written values twin) =
+      subst (IsWholeCopy l.node.setting.nodes (words_of options.size)) e (whole page) in
       record {
         long = long.1 ∙ sym long.0;
         has = λ offset lt.

@@ -7,7 +7,7 @@ use Rattle.std.specs.Prelude.{IfErr, Result, Ok, Err}
 use Rattle.lrc_trace.specs.declared.act.Act.{Act}
 use Rattle.lrc_text.specs.Lines.{lines_of}
 use Rattle.lrc_text.proofs.Lines.{lines_at, lines_more}
-use Rattle.lrc_acts.specs.ActsText.{IsBad, IsFirstBad, SayActs, SaysAct, SaysSome, most_bytes, none, words_of}
+use Rattle.lrc_acts.specs.ActsText.{IsBad, IsFirstBad, SayActs, SaysAct, SaysSome, most_bytes, none, words_on}
 use Rattle.lrc_acts.specs.declared.reading.ActsFault.{ActsFault}
 use Rattle.lrc_acts.specs.declared.reading.ActsFault.TheVariants.{NoMemory}
 use Rattle.lrc_acts.proofs.LineLemmas.{say_empty, say_more}
@@ -26,7 +26,7 @@ first_bad nodes lines n m line acts numbers same turn said bad = record {
 }
 
 says_some : (nodes : Option ℕ) (lines : List (List ℕ)) (n m : ℕ) (line : List ℕ) (acts : List Act) (numbers : List ℕ) (act : Act) → n ≡ m
-    → (m < length lines) × (line ≡ get_or lines m line) → SayActs nodes 1 (take n lines) acts numbers → SaysAct nodes (words_of line) act
+    → (m < length lines) × (line ≡ get_or lines m line) → SayActs nodes 1 (take n lines) acts numbers → SaysAct nodes (words_on line) act
     → SaysSome nodes lines
 says_some nodes lines n m line acts numbers act same turn said says = record {
   before = take n lines;

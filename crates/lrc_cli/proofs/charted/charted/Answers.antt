@@ -4,7 +4,7 @@ use Rattle.lrc_judge.specs.FirstPairs.{AreFirstPairs}
 use Rattle.lrc_judge.specs.declared.lanes.Pair.{Pair}
 use Rattle.lrc_trace.specs.declared.act.Act.{Act}
 use Rattle.lrc_portrait.specs.Course.{CourseRecord}
-use Rattle.lrc_turns.specs.Turns.{turns_of}
+use Rattle.lrc_turns.specs.Turns.{turns_told}
 use Rattle.lrc_words.specs.declared.choice.Shape.TheVariants.{Chart}
 use Rattle.lrc_title.specs.Title.{title_text}
 use Rattle.lrc_cli.specs.Charted.{IsChart, IsCourse}
@@ -32,8 +32,8 @@ returns-in_err-part-clause-err c =
     let acts = c.as_slice-acts.result.now in
     let known = course_of_run c.args.text.now c.args.program.now options c.args.run.now.events.items (account_of c.args.run.now.report)
     c.deref-3.result.now acts c.deref-4.result.now c.deref-5.result.now c.deref-6.result.now
-    (c.deref-3.ensures.value ∙ c.in_ok-turns.ensures ∙ ap (λ logs. turns_of (map (λ log. log.items) logs) c.deref-2.result.now) c.deref.ensures.value
-    ∙ ap (turns_of (map (λ log. log.items) c.args.run.now.report.logs.items))
+    (c.deref-3.ensures.value ∙ c.in_ok-turns.ensures ∙ ap (λ logs. turns_told (map (λ log. log.items) logs) c.deref-2.result.now) c.deref.ensures.value
+    ∙ ap (turns_told (map (λ log. log.items) c.args.run.now.report.logs.items))
     (c.deref-2.ensures.value ∙ c.in_ok-order.ensures c.args.program.now options c.requires.reported))
     c.as_slice-acts.ensures.value
     (subst (λ (lines : List ℕ). AreLinesIn c.args.text.now c.args.program.now options.nodes.count acts lines) (sym c.deref-4.ensures.value)
@@ -54,8 +54,8 @@ returns-clause-ok c =
     let known : IsCourse c.args.text.now c.args.program.now options c.args.run.now.events.items (account_of c.args.run.now.report) course =
     course_of_run c.args.text.now c.args.program.now options c.args.run.now.events.items (account_of c.args.run.now.report)
     c.deref-3.result.now acts c.deref-4.result.now c.deref-5.result.now c.deref-6.result.now
-    (c.deref-3.ensures.value ∙ c.in_ok-turns.ensures ∙ ap (λ logs. turns_of (map (λ log. log.items) logs) c.deref-2.result.now) c.deref.ensures.value
-    ∙ ap (turns_of (map (λ log. log.items) c.args.run.now.report.logs.items))
+    (c.deref-3.ensures.value ∙ c.in_ok-turns.ensures ∙ ap (λ logs. turns_told (map (λ log. log.items) logs) c.deref-2.result.now) c.deref.ensures.value
+    ∙ ap (turns_told (map (λ log. log.items) c.args.run.now.report.logs.items))
     (c.deref-2.ensures.value ∙ c.in_ok-order.ensures c.args.program.now options c.requires.reported))
     c.as_slice-acts.ensures.value
     (subst (λ (lines : List ℕ). AreLinesIn c.args.text.now c.args.program.now options.nodes.count acts lines) (sym c.deref-4.ensures.value)

@@ -1,6 +1,6 @@
 use Rattle.std.proofs.Common.{None, refl, sym, subst, inl, inr}
 use Rattle.lrc_words.specs.declared.choice.Way.{Way}
-use Rattle.lrc_cli.specs.Runs.{IsRunFault, IsRunOf, account_of}
+use Rattle.lrc_cli.specs.Runs.{IsRunFault, IsRunOfWay, account_of}
 use Rattle.lrc_cli.proofs.AnswerLemmas.{fault_up, printed_of, text_fault, unshown_of}
 use Rattle.lrc_cli.proofs.threads.show_on_threads.Goals as goal
 
@@ -23,7 +23,7 @@ pub returns-clause-ok : goal.returns-clause-ok
 returns-clause-ok g c =
     printed_of c.args.choice.now c.args.shape c.args.text.now None c.in_ok-program.program c.in_ok-run.run'.events.items (account_of c.in_ok-run.run'.report)
     c.shown.result c.in_ok-program.ensures.program
-    (subst (λ (way : Way). IsRunOf way c.in_ok-program.program c.args.choice.now.options None c.in_ok-run.run'.events.items
+    (subst (λ (way : Way). IsRunOfWay way c.in_ok-program.program c.args.choice.now.options None c.in_ok-run.run'.events.items
     (account_of c.in_ok-run.run'.report)) (sym c.requires) ((c.in_ok-run.run'.report, refl, c.in_ok-run.ensures.threaded), c.in_ok-run.ensures.reported))
     c.shown.ensures.text c.shown.ensures.status
 
@@ -31,6 +31,6 @@ pub returns-clause-err : goal.returns-clause-err
 returns-clause-err g c =
     unshown_of c.args.choice.now c.args.shape c.args.text.now None c.in_ok-program.program c.in_ok-run.run'.events.items (account_of c.in_ok-run.run'.report)
     c.shown.result c.in_ok-program.ensures.program
-    (subst (λ (way : Way). IsRunOf way c.in_ok-program.program c.args.choice.now.options None c.in_ok-run.run'.events.items
+    (subst (λ (way : Way). IsRunOfWay way c.in_ok-program.program c.args.choice.now.options None c.in_ok-run.run'.events.items
     (account_of c.in_ok-run.run'.report)) (sym c.requires) ((c.in_ok-run.run'.report, refl, c.in_ok-run.ensures.threaded), c.in_ok-run.ensures.reported))
     c.shown.ensures.err

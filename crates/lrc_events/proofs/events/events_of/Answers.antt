@@ -7,12 +7,12 @@ use Rattle.std.specs.Prelude.{IfErr, Result, Ok, Err}
 use Rattle.lrc_text.specs.Lines.{lines_of}
 use Rattle.lrc_text.proofs.Lines.{lines_at, lines_more, nil_of}
 use Rattle.lrc_protocol.specs.declared.event.Event.{Event}
-use Rattle.lrc_events.specs.EventsText.{IsBad, IsFirstBad, NameAll, Names, NamesSome, empty, more, most_bytes, none}
+use Rattle.lrc_events.specs.EventsText.{IsBadEvent, IsFirstBadEvent, NameAll, NamesEvent, NamesSome, empty, more, most_events_bytes, none}
 use Rattle.lrc_events.specs.declared.events.EventsFault.{EventsFault}
 use Rattle.lrc_events.specs.declared.events.EventsFault.TheVariants.{NoMemory}
 use Rattle.lrc_events.proofs.events.events_of.Goals as goal
 
-name_more : {lines : List (List ℕ)} {events : List Event} (line : List ℕ) (event : Event) → NameAll lines events → Names line event
+name_more : {lines : List (List ℕ)} {events : List Event} (line : List ℕ) (event : Event) → NameAll lines events → NamesEvent line event
     → NameAll (lines ++ line ∷ []) (events ++ event ∷ [])
 name_more line event none h = more h none
 name_more line event (empty n) h = empty (name_more line event n h)
@@ -28,7 +28,7 @@ some_of [] e is = absurd cc
 some_of (b ∷ line) e is = absurd cc
 
 first_bad : (lines : List (List ℕ)) (n m : ℕ) (line : List ℕ) (events : List Event) → n ≡ m → (m < length lines) × (line ≡ get_or lines m line)
-    → NameAll (take n lines) events → IsBad line → IsFirstBad lines (n + 1)
+    → NameAll (take n lines) events → IsBadEvent line → IsFirstBadEvent lines (n + 1)
 first_bad lines n m line events same turn named bad = record {
   before = take n lines;
   line = line;
@@ -40,7 +40,7 @@ first_bad lines n m line events same turn named bad = record {
 }
 
 names_some : (lines : List (List ℕ)) (n m : ℕ) (line : List ℕ) (events : List Event) (event : Event) → n ≡ m
-    → (m < length lines) × (line ≡ get_or lines m line) → NameAll (take n lines) events → Names line event → NamesSome lines
+    → (m < length lines) × (line ≡ get_or lines m line) → NameAll (take n lines) events → NamesEvent line event → NamesSome lines
 names_some lines n m line events event same turn named names = record {
   before = take n lines;
   line = line;
@@ -50,8 +50,8 @@ names_some lines n m line events event same turn named names = record {
   names = (event, names);
 }
 
-told : {A : Type 0} (r : Result A EventsFault) (text : List ℕ) → (length text ≤ most_bytes) × NamesSome (lines_of text)
-    → IfErr r (λ fault. fault ≡ NoMemory → (length text ≤ most_bytes) × NamesSome (lines_of text))
+told : {A : Type 0} (r : Result A EventsFault) (text : List ℕ) → (length text ≤ most_events_bytes) × NamesSome (lines_of text)
+    → IfErr r (λ fault. fault ≡ NoMemory → (length text ≤ most_events_bytes) × NamesSome (lines_of text))
 told (Ok a) text h = tt
 told (Err fault) text h = λ _. h
 

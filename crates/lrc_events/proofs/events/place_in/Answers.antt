@@ -5,12 +5,12 @@ use Rattle.std.proofs.lemmas.Str.{digit_value_digit}
 use Rattle.std.proofs.lemmas.List.{take_all}
 use Rattle.std.proofs.lemmas.Str.Parse.{digit_at, digits_value-take-le}
 use Rattle.std.proofs.lemmas.Int.Digits.{digits_more, digits_value_more}
-use Rattle.lrc_events.specs.EventsText.{IsPlace}
+use Rattle.lrc_events.specs.EventsText.{IsPlaceNumber}
 use Rattle.lrc_events.proofs.events.place_in.Goals as goal
 
 -- a number that is too large with one digit more is too large with all
 too_large : (digits : List ℕ) (i n : ℕ) → i < length digits → n ≡ digits_value 10 (take i digits) → 4294967296 ≤ n * 10 + digit_value (get_or digits i 0)
-    → (place : ℕ) → ¬ IsPlace digits place
+    → (place : ℕ) → ¬ IsPlaceNumber digits place
 too_large digits i n lt is large place h =
     absurd (omega (arith, digits_value_more 10 digits i lt, digits_value-take-le 10 digits (i + 1) (omega arith), h.value, h.small))
 
@@ -19,8 +19,8 @@ returns-then-not-is_ascii_digit c = λ place h.
     let in_range = digit_at c.args.digits.now c.loop-digit.digit-index h.numeral.1 c.loop-digit-test.true in
     absurd (search (rules, in_range, c.if-not-is_ascii_digit.ensures.cases))
 
-none_is : (r : Option ℕ) (digits : List ℕ) → r ≡ None → ((place : ℕ) → ¬ IsPlace digits place)
-    → MatchOption r ((place : ℕ) → ¬ IsPlace digits place) (IsPlace digits)
+none_is : (r : Option ℕ) (digits : List ℕ) → r ≡ None → ((place : ℕ) → ¬ IsPlaceNumber digits place)
+    → MatchOption r ((place : ℕ) → ¬ IsPlaceNumber digits place) (IsPlaceNumber digits)
 none_is None digits e h = h
 none_is (Some n) digits e h = absurd cc
 

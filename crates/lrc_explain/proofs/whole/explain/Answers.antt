@@ -1,7 +1,7 @@
 -- The parts are those of the nodes' stands and of the first pairs.
 use Rattle.std.proofs.Common.{◌≡◌, ◌∙◌, ◌++◌, All, List, Some, ap, subst, sym}
 use Rattle.lrc_judge.specs.declared.lanes.Pair.{Pair}
-use Rattle.lrc_lines.specs.Walks.{lines_of}
+use Rattle.lrc_lines.specs.Walks.{act_lines}
 use Rattle.lrc_stuck.specs.declared.stand.Stand.{Stand}
 use Rattle.lrc_stuck.specs.Circles.{deadlocks_text}
 use Rattle.lrc_stuck.specs.Followed.{AreFollowed}
@@ -39,9 +39,9 @@ returns c =
     c.in_ok-told.ensures ∙ ap (λ (s : List Stand). fates_text acts s) (c.deref.ensures.value ∙ stands_are) in
     let deadlocks_are : deadlocks ≡ deadlocks_text stands =
     c.in_ok-deadlocks.ensures ∙ ap (λ (s : List Stand). deadlocks_text s) (c.deref-2.ensures.value ∙ stands_are) in
-    let groups_are : c.in_ok-groups.groups.items ≡ groups_text acts (lines_of program nodes lines acts) pairs =
+    let groups_are : c.in_ok-groups.groups.items ≡ groups_text acts (act_lines program nodes lines acts) pairs =
     c.in_ok-groups.ensures ∙ ap (λ l. groups_text acts l c.deref-4.result.now) (c.deref-3.ensures.value ∙ are.lines_are)
-    ∙ ap (λ (ps : List Pair). groups_text acts (lines_of program nodes lines acts) ps) c.deref-4.ensures.value in (
+    ∙ ap (λ (ps : List Pair). groups_text acts (act_lines program nodes lines acts) ps) c.deref-4.ensures.value in (
       pairs,
       c.in_ok-pairs.ensures,
       c.in_ok-parts.ensures ∙ ap (λ t. t ++ deadlocks ++ c.in_ok-groups.groups.items ++ first) told_is

@@ -3,7 +3,7 @@ use Rattle.std.specs.Prelude.{Vec}
 use Rattle.std.specs.declared.alloc.Global.{Global}
 use Rattle.std.proofs.lemmas.Result.{IfOk-weaker}
 use Rattle.lrc_lang.specs.declared.program.Program.{Program}
-use Rattle.lrc_lines.specs.Walks.{lines_of}
+use Rattle.lrc_lines.specs.Walks.{act_lines}
 use Rattle.lrc_show.specs.ActsText.{acts_text}
 use Rattle.lrc_explored.specs.Orders.{order_text}
 use Rattle.lrc_explored.proofs.Led.{as_many_lines}
@@ -19,6 +19,6 @@ returns c =
     let acts = c.args.acts.now in
     let is = ap (acts_text acts)
     (c.deref.ensures.value ∙ c.in_ok-found.ensures
-    ∙ ap (λ (p : Program). lines_of p c.args.nodes c.args.lines.now acts) c.in_ok-code.ensures) in
+    ∙ ap (λ (p : Program). act_lines p c.args.nodes c.args.lines.now acts) c.in_ok-code.ensures) in
     IfOk-weaker c.acts_part.result (λ (text : Vec ℕ Global). text.items ≡ acts_text acts c.deref.result.now)
     (λ text. text.items ≡ order_text c.args.program.now c.args.nodes c.args.lines.now acts) (λ text e. e ∙ is) c.acts_part.ensures

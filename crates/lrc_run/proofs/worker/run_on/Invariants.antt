@@ -1,10 +1,10 @@
 use Rattle.std.proofs.Common.{◌≡◌}
 use Rattle.lrc_protocol.specs.Run.{Logged}
 use Rattle.lrc_node.specs.Logged.{sound}
-use Rattle.lrc_run.specs.Worker.{Goes}
+use Rattle.lrc_run.specs.Worker.{GoesThrough}
 use Rattle.lrc_run.proofs.worker.run_on.Given as goal
 
 -- the steps so far
 abbrev pub invariant-loop-turn : goal.invariant-loop-turn
 invariant-loop-turn g l = (start : Logged) → l.initial.node.logged ≡ sound start
-    → (j : Logged) × (l.node.logged ≡ sound j) × Goes g.M.Mail.puts g.M.Mail.takes l.initial.mail start l.mail j
+    → (j : Logged) × (l.node.logged ≡ sound j) × GoesThrough g.M.Mail.puts g.M.Mail.takes l.initial.mail start l.mail j

@@ -3,7 +3,7 @@ use Rattle.lrc_exec.specs.declared.machine.Ask.TheVariants.{End}
 use Rattle.lrc_exec.specs.Ask.{ask_of}
 use Rattle.lrc_exec.specs.Meaning.{next_of}
 use Rattle.lrc_lines.specs.Seen.{walks_of}
-use Rattle.lrc_lines.specs.Walks.{line_behind, lines_of}
+use Rattle.lrc_lines.specs.Walks.{line_behind, act_lines}
 use Rattle.lrc_lines.proofs.Several.{line_found}
 use Rattle.lrc_stuck.specs.Stand.{ask_behind, coming_of}
 use Rattle.lrc_stuck.proofs.Finding.{found_in, stand_same}

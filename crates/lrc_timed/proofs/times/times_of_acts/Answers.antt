@@ -4,7 +4,7 @@ use Rattle.lrc_trace.specs.declared.act.Act.{Act}
 use Rattle.lrc_trace.specs.declared.act.Deed.TheVariants.{Quiet}
 use Rattle.lrc_clock.specs.Keeping.{KeepsTime}
 use Rattle.lrc_clock.proofs.Computing.{keeps-none, keeps-step}
-use Rattle.lrc_timed.specs.Past.{IsPast}
+use Rattle.lrc_timed.specs.Past.{IsTimedPast}
 use Rattle.lrc_timed.proofs.times.times_of_acts.Goals as goal
 
 abbrev no_act : Act
@@ -15,7 +15,7 @@ loop-position-init c =
     let none = c.new-times.ensures.items in
     record {
       keeps = subst (λ ts. KeepsTime c.args.nodes [] ts) (sym none) (keeps-none c.args.nodes);
-      past = subst (λ ts. IsPast c.args.nodes [] ts c.new-past.result) (sym none) (c.new-past.ensures c.args.nodes);
+      past = subst (λ ts. IsTimedPast c.args.nodes [] ts c.new-past.result) (sym none) (c.new-past.ensures c.args.nodes);
     }
 
 pub loop-position-preserved : goal.loop-position-preserved
@@ -30,7 +30,7 @@ loop-position-preserved c =
     record {
       keeps = keeps-step c.args.nodes run times c.as_slice.result.now c.push.new.self.items n no_act time lt
           (c.requires.in_range n no_act lt) c.loop-position.invariant.keeps c.as_slice.ensures.value c.time_after-time.ensures grown;
-      past = subst (λ xs. IsPast c.args.nodes xs c.push.new.self.items c.note.new.self) (sym (take_more run n no_act lt))
-          (subst (λ ts. IsPast c.args.nodes (take n run ++ act ∷ []) ts c.note.new.self)
+      past = subst (λ xs. IsTimedPast c.args.nodes xs c.push.new.self.items c.note.new.self) (sym (take_more run n no_act lt))
+          (subst (λ ts. IsTimedPast c.args.nodes (take n run ++ act ∷ []) ts c.note.new.self)
           (ap (λ ts. ts ++ time ∷ []) c.as_slice-in-loop-position.ensures.value ∙ sym grown) c.in_ok-note.ensures);
     }

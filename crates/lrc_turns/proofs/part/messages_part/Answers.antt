@@ -1,6 +1,6 @@
 use Rattle.std.proofs.Common.{◌≡◌, ◌∙◌, ◌+◌, ◌++◌, [], List, ap, sym, subst, arith, get_or, map, take}
 use Rattle.lrc_turns.specs.Told.{Tells}
-use Rattle.lrc_turns.specs.Turns.{Made, next, turns_of}
+use Rattle.lrc_turns.specs.Turns.{Made, next, turns_told}
 use Rattle.lrc_turns.specs.TurnsText.{texts_behind}
 use Rattle.lrc_turns.proofs.Telling.{texts_append, turns_next}
 use Rattle.lrc_turns.proofs.part.messages_part.Goals as goal
@@ -11,10 +11,10 @@ loop-node-preserved c =
     let order = c.args.order.now in
     let lines = c.args.lines.now in
     let k = c.loop-node.node-index in
-    let turns = turns_of logs (take k order) in
+    let turns = turns_told logs (take k order) in
     let node = get_or order k 0 in
     let old = c.loop-node.invariant in
-    let more : turns_of logs (take (k + 1) order) ≡ turns ++ next logs turns node = turns_next logs order k 0 c.loop-node-test.true in
+    let more : turns_told logs (take (k + 1) order) ≡ turns ++ next logs turns node = turns_next logs order k 0 c.loop-node-test.true in
     record {
       text =
           c.in_ok-tell_next.ensures.text turns old.told ∙ ap (λ l. l ++ texts_behind lines turns (next logs turns node)) old.text

@@ -6,7 +6,7 @@ use Rattle.lrc_protocol.proofs.Worlds.{run-whole}
 use Rattle.lrc_world.specs.declared.report.SimFault.TheVariants.{BadNodes, BadSteps, Worn}
 use Rattle.lrc_world.specs.declared.rounds.Driver.{Driver}
 use Rattle.lrc_world.specs.declared.world.World.{World}
-use Rattle.lrc_world.specs.Driven.{StandsAt, IsDrivenBy, schedule_of}
+use Rattle.lrc_world.specs.Driven.{DriverStandsAt, IsDrivenBy, schedule_of}
 use Rattle.lrc_world.specs.Led.{Schedule, Led}
 use Rattle.lrc_world.specs.declared.keep.Keep.{Keep}
 use Rattle.lrc_world.specs.World.{Shows, starts_of}
@@ -20,7 +20,7 @@ use Rattle.lrc_world.proofs.simulate.lead.Goals as goal
 -- the driver before any event
 first : (s : Schedule) (program code : Program) (nodes count : ℕ) (options : OptionsRecord) (keep : Keep) (d : Driver) (world : World) → code ≡ program
     → count ≡ nodes → Shows (starts_of code count options keep) world (fresh_world code count options) → d.world ≡ world → d.events.items ≡ []
-    → StandsAt s (starts_of program nodes options keep) (fresh_world program nodes options) s.first d
+    → DriverStandsAt s (starts_of program nodes options keep) (fresh_world program nodes options) s.first d
 first s program code nodes count options keep d world coded counted shows is none =
     at_start s (starts_of program nodes options keep) (fresh_world program nodes options) d world
     (subst (λ p. Shows (starts_of p nodes options keep) world (fresh_world p nodes options)) coded

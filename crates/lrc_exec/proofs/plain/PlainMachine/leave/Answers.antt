@@ -3,7 +3,7 @@ use Rattle.std.proofs.Common.{◌≡◌, ◌∙◌, Some, None, false, sym, ap}
 use Rattle.std.specs.Prelude.{option_map, if◌then◌else◌}
 use Rattle.lrc_exec.specs.declared.plain.Runner.{Runner}
 use Rattle.lrc_exec.specs.Plain.{with_thread}
-use Rattle.lrc_exec.specs.PlainCode.{departed}
+use Rattle.lrc_exec.specs.PlainCode.{thread_departed}
 use Rattle.lrc_exec.proofs.PlainParts.{with_runner, runs_at}
 use Rattle.lrc_exec.proofs.plain.PlainMachine.leave.Goals as goal
 
@@ -17,4 +17,4 @@ returns c =
     with_runner c.self.inside machine node r c.self.view_is (record r { arrived = false })
     ∙ ap (λ b. with_thread machine node (if b then None else Some (record r.machine { arrived = false }))) running
     ∙ ap (λ (x : Runner). with_thread machine node (Some (record x.machine { arrived = false }))) c.index_mut.ensures.value
-    ∙ sym (ap (λ o. with_thread machine node (option_map departed o)) runs.thread_is)
+    ∙ sym (ap (λ o. with_thread machine node (option_map thread_departed o)) runs.thread_is)

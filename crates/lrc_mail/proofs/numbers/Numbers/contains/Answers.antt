@@ -3,7 +3,7 @@ use Rattle.std.specs.Prelude.{◌==◌, nat_le}
 use Rattle.std.specs.List.{list_any}
 use Rattle.std.proofs.lemmas.Bool.{ltb-true, ltb-false}
 use Rattle.lrc_mail.specs.declared.numbers.Span.{Span}
-use Rattle.lrc_mail.specs.Spans.{numbers_of, AreSpans}
+use Rattle.lrc_mail.specs.Spans.{spanned, AreSpans}
 use Rattle.lrc_mail.proofs.Spans.{begins_by, found_at, begins_by-at, begins_by-past}
 use Rattle.lrc_mail.proofs.numbers.Numbers.contains.Goals as goal
 use Rattle.lrc_mail.proofs.numbers.Numbers.contains.Goals.{After-get}
@@ -12,7 +12,7 @@ found : (c : After-get) → begins_by c.args.number c.as_slice-spans.result.now 
 found c =
     found_at c.args.number 0 c.as_slice-spans.result.now c.place_of.result
     (subst AreSpans (sym c.as_slice-spans.ensures.value) c.self.invariant) c.place_of.ensures.before c.place_of.ensures.from
-    ∙ ap (λ l. list_any (λ n. n == c.args.number) (numbers_of l)) c.as_slice-spans.ensures.value
+    ∙ ap (λ l. list_any (λ n. n == c.args.number) (spanned l)) c.as_slice-spans.ensures.value
     ∙ ap (λ l. list_any (λ n. n == c.args.number) l) c.self.view_is
 
 pub returns-in-Some : goal.returns-in-Some

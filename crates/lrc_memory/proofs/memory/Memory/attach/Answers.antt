@@ -7,7 +7,7 @@ use Rattle.lrc_page.specs.Page.{words_of}
 use Rattle.lrc_store.specs.Store.{StoreRecord, notice_at, unread, attached}
 use Rattle.lrc_envelope.specs.Records.{IndexedChangesRecord, AreParts}
 use Rattle.lrc_protocol.specs.Pages.{with_part}
-use Rattle.lrc_memory.specs.View.{NodeMemory, with_memory}
+use Rattle.lrc_memory.specs.View.{NodeMemory, with_known}
 use Rattle.lrc_memory.proofs.Attaches.{part_key, still-awaited}
 use Rattle.lrc_memory.proofs.Learns.{same-same, same-trans}
 use Rattle.lrc_memory.proofs.memory.Memory.attach.Goals as goal
@@ -49,12 +49,12 @@ loop-part-preserved c =
     let changes : c.in_ok-duplicate.field-0 ≡ item.changes = c.in_ok-duplicate.ensures ∙ ap (λ (p : IndexedChangesRecord). p.changes) c.part.view_is in
     let before = fold (with_part maker page) n.memory.store (take k items) in record {
       so_far = c.keep.ensures.kept
-          ∙ ap (λ (m : NodeMemory). with_memory m
+          ∙ ap (λ (m : NodeMemory). with_known m
           (record m.memory { store = attached m.memory.store (part_key maker page c.part.inside.index) c.in_ok-duplicate.field-0 }))
           c.loop-part.invariant.so_far
-          ∙ ap (λ i. with_memory n (record n.memory { store = attached before (part_key maker page i) c.in_ok-duplicate.field-0 })) index
-          ∙ ap (λ (cs : List Change). with_memory n (record n.memory { store = attached before (part_key maker page item.index) cs })) changes
-          ∙ ap (λ (s : StoreRecord). with_memory n (record n.memory { store = s }))
+          ∙ ap (λ i. with_known n (record n.memory { store = attached before (part_key maker page i) c.in_ok-duplicate.field-0 })) index
+          ∙ ap (λ (cs : List Change). with_known n (record n.memory { store = attached before (part_key maker page item.index) cs })) changes
+          ∙ ap (λ (s : StoreRecord). with_known n (record n.memory { store = s }))
           (ap (with_part maker page before) c.part-item.is ∙ sym (fold_more (with_part maker page) n.memory.store items k item c.loop-part-test.true));
       same = same-trans n c.loop-part.self c.keep.new.self c.loop-part.invariant.same c.keep.ensures.same;
     }
@@ -63,5 +63,5 @@ pub returns-clause-ok : goal.returns-clause-ok
 returns-clause-ok c =
     let n = c.args.self.now in
     c.loop-part.invariant.so_far
-    ∙ ap (λ (ps : List IndexedChangesRecord). with_memory n (record n.memory { store = fold (with_part c.args.maker c.args.page) n.memory.store ps }))
+    ∙ ap (λ (ps : List IndexedChangesRecord). with_known n (record n.memory { store = fold (with_part c.args.maker c.args.page) n.memory.store ps }))
     (take_all c.loop-part.part-index c.as_slice-part-items.result.now c.loop-part-test.false ∙ c.as_slice-part-items.ensures.all)

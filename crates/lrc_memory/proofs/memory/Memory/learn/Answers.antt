@@ -6,7 +6,7 @@ use Rattle.lrc_store.specs.Interval.{IntervalRecord}
 use Rattle.lrc_protocol.specs.Pages.{Memory}
 use Rattle.lrc_memory.specs.Steps.{learned_one}
 use Rattle.lrc_memory.specs.Turns.{CanBeAdded}
-use Rattle.lrc_memory.specs.View.{NodeMemory, WasLast, with_memory}
+use Rattle.lrc_memory.specs.View.{NodeMemory, WasLast, with_known}
 use Rattle.lrc_memory.proofs.Inside.{kept}
 use Rattle.lrc_memory.proofs.InStep.{was-added, was-now, was-seen}
 use Rattle.lrc_memory.proofs.Learns.{can-at, can-go_on, head-next, learned-all, same-same, same-trans}
@@ -47,8 +47,8 @@ loop-interval-preserved c =
     let items = c.as_slice-interval-items.result.now in
     let can = can-at c.loop-interval.self.memory.store items k item c.loop-interval-test.true c.interval-item.is c.loop-interval.invariant.rest in record {
       so_far = c.in_ok-learn_one.ensures.ok
-          ∙ ap (λ (m : NodeMemory). with_memory m (learned_one before m.memory item)) c.loop-interval.invariant.so_far
-          ∙ ap (λ (m : Memory). with_memory n m)
+          ∙ ap (λ (m : NodeMemory). with_known m (learned_one before m.memory item)) c.loop-interval.invariant.so_far
+          ∙ ap (λ (m : Memory). with_known n m)
           (ap (learned_one before (fold (learned_one before) n.memory (take k items))) c.interval-item.is
           ∙ sym (fold_more (learned_one before) n.memory items k item c.loop-interval-test.true));
       rest = subst (λ (m : NodeMemory). CanBeAdded m.memory.store (drop (k + 1) items)) (sym c.in_ok-learn_one.ensures.ok)
@@ -66,6 +66,6 @@ returns-clause-ok c =
     let n = c.args.self.now in
     let items = c.as_slice-interval-items.result.now in
     c.loop-interval.invariant.so_far
-    ∙ ap (λ (is : List IntervalRecord). with_memory n (fold (learned_one before) n.memory is))
+    ∙ ap (λ (is : List IntervalRecord). with_known n (fold (learned_one before) n.memory is))
     (take_all c.loop-interval.interval-index items c.loop-interval-test.false ∙ c.as_slice-interval-items.ensures.all)
-    ∙ ap (λ (m : Memory). with_memory n m) (learned-all before c.args.intervals.now n.memory)
+    ∙ ap (λ (m : Memory). with_known n m) (learned-all before c.args.intervals.now n.memory)

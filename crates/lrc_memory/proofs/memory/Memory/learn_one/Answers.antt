@@ -5,7 +5,7 @@ use Rattle.lrc_protocol.specs.Pages.{Copy}
 use Rattle.lrc_time.specs.Time.{entry}
 use Rattle.lrc_store.specs.Interval.{IntervalRecord, index_of}
 use Rattle.lrc_store.specs.Store.{StoreRecord, IsStore, added}
-use Rattle.lrc_memory.specs.View.{NodeMemory, IsKept, WasLast, node_seen, with_memory}
+use Rattle.lrc_memory.specs.View.{NodeMemory, IsKept, WasLast, node_seen, with_known}
 use Rattle.lrc_memory.specs.Steps.{invalidated_on}
 use Rattle.lrc_memory.proofs.Inside.{kept}
 use Rattle.lrc_memory.proofs.InStep.{was-added}
@@ -31,7 +31,7 @@ loop-page-init c =
           ∙ seen-added k c.args.interval.now c.self.invariant
           (subst (λ (n : NodeMemory). index_of c.args.interval.now ≡ entry n.memory.store.last c.args.interval.now.node + 1)
           (sym c.self.view_is) c.requires.next)
-          ∙ ap (λ (n : NodeMemory). with_memory n (record n.memory { store = added n.memory.store c.args.interval.now })) c.self.view_is;
+          ∙ ap (λ (n : NodeMemory). with_known n (record n.memory { store = added n.memory.store c.args.interval.now })) c.self.view_is;
       same = same-seen k (record k { store = c.add.new.self }) _ c.self.view_is refl refl refl
           (ap (λ (s : StoreRecord). length s.last) store ∙ length-set k.store.last c.args.interval.now.node (index_of c.args.interval.now));
     }
@@ -54,9 +54,9 @@ loop-page-preserved c =
     let n = c.args.self.now in
     let items = c.as_slice-page-items.result.now in record {
       so_far = c.in_ok-invalidate.ensures.ok
-          ∙ ap (λ (m : NodeMemory). with_memory m (record m.memory { copies = invalidated_on before m.memory.copies (get_or items c.loop-page.page-index 0) }))
+          ∙ ap (λ (m : NodeMemory). with_known m (record m.memory { copies = invalidated_on before m.memory.copies (get_or items c.loop-page.page-index 0) }))
           c.loop-page.invariant.so_far
-          ∙ ap (λ (cs : List Copy). with_memory n (record n.memory { store = added n.memory.store c.args.interval.now; copies = cs }))
+          ∙ ap (λ (cs : List Copy). with_known n (record n.memory { store = added n.memory.store c.args.interval.now; copies = cs }))
           (sym (fold_more (invalidated_on before) n.memory.copies items c.loop-page.page-index 0 c.loop-page-test.true));
       same = same-trans n c.loop-page.self c.invalidate.new.self c.loop-page.invariant.same c.invalidate.ensures.same;
     }

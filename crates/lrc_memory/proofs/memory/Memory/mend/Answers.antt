@@ -6,7 +6,7 @@ use Rattle.lrc_protocol.specs.Pages as machine
 use Rattle.lrc_protocol.specs.Pages.{first_values}
 use Rattle.lrc_need.specs.Seen.{seen_base}
 use Rattle.lrc_memory.specs.Turns.{is_mendable}
-use Rattle.lrc_memory.specs.View.{NodeMemory, IsKept, node_seen, with_memory}
+use Rattle.lrc_memory.specs.View.{NodeMemory, IsKept, node_seen, with_known}
 use Rattle.lrc_memory.proofs.Inside.{kept}
 use Rattle.lrc_memory.proofs.Copies.{within-seen}
 use Rattle.lrc_memory.proofs.Mending.{fits-seen, kept-mended, seen-mended, table-mended}
@@ -62,13 +62,13 @@ returns-clause-mended c =
     rw (page, c.missing.ensures) c.requires.of_page in
     ap (λ (t : Table). node_seen (with_table k t)) table
     ∙ seen-mended k c.page-page.result base missing within c.size-whole.ensures.whole (fits-seen k _ _ _ c.self.view_is within fit) of_page
-    ∙ ap (λ (n : NodeMemory). with_memory n (machine.with_copy n.memory c.page-page.result
+    ∙ ap (λ (n : NodeMemory). with_known n (machine.with_copy n.memory c.page-page.result
     (machine.valid (machine.repaired n.memory.store (first_values (machine.copy_at n.memory c.page-page.result) base) missing)))) c.self.view_is
-    ∙ ap (λ p. with_memory c.args.self.now (machine.with_copy c.args.self.now.memory p
+    ∙ ap (λ p. with_known c.args.self.now (machine.with_copy c.args.self.now.memory p
     (machine.valid (machine.repaired c.args.self.now.memory.store (first_values (machine.copy_at c.args.self.now.memory p) base) missing)))) page
-    ∙ ap (λ b. with_memory c.args.self.now (machine.with_copy c.args.self.now.memory c.args.need.now.page
+    ∙ ap (λ b. with_known c.args.self.now (machine.with_copy c.args.self.now.memory c.args.need.now.page
     (machine.valid (machine.repaired c.args.self.now.memory.store
     (first_values (machine.copy_at c.args.self.now.memory c.args.need.now.page) b) missing)))) c.base.ensures
-    ∙ ap (λ (keys : List Key). with_memory c.args.self.now (machine.with_copy c.args.self.now.memory c.args.need.now.page
+    ∙ ap (λ (keys : List Key). with_known c.args.self.now (machine.with_copy c.args.self.now.memory c.args.need.now.page
     (machine.valid (machine.repaired c.args.self.now.memory.store
     (first_values (machine.copy_at c.args.self.now.memory c.args.need.now.page) c.args.need.now.base) keys)))) c.missing.ensures

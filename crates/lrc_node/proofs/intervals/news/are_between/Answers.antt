@@ -4,7 +4,7 @@ use Rattle.std.proofs.lemmas.Bool.{cases_Bool, eqb-true, false≢true}
 use Rattle.std.proofs.lemmas.List.{take_all}
 use Rattle.lrc_store.specs.Interval.{IntervalRecord, index_of}
 use Rattle.lrc_protocol.specs.Times.{are_between}
-use Rattle.lrc_node.specs.News.{IsRunOf}
+use Rattle.lrc_node.specs.News.{IsUnbrokenRun}
 use Rattle.lrc_node.proofs.Runs.{run-own, run-other, between-holds, between-only, between-broken, cut, one_more}
 use Rattle.lrc_node.proofs.intervals.news.are_between.Goals as goal
 use Rattle.lrc_node.proofs.intervals.news.are_between.Goals.{then-interval-node+else-last-index, else-interval-node}
@@ -15,7 +15,7 @@ after_it last index e = omega arith
 before_it : (last index : ℕ) → 1 ≤ index → last ≡ index - 1 → index ≡ last + 1
 before_it last index begun e = omega arith
 
-tested : (xs : List IntervalRecord) (q above last upto most : ℕ) → IsRunOf xs q above last → most ≡ max above upto
+tested : (xs : List IntervalRecord) (q above last upto most : ℕ) → IsUnbrokenRun xs q above last → most ≡ max above upto
     → (last == most) ≡ are_between xs q above upto
 tested xs q above last upto most is e =
     ⊎_elim
@@ -61,5 +61,5 @@ pub returns : goal.returns
 returns c =
     let whole : take c.loop-interval.interval-index c.args.intervals.now ≡ c.args.intervals.now = take_all _ _ c.loop-interval-test.false in
     tested c.args.intervals.now c.args.node c.args.above c.loop-interval.last c.args.upto c.max.result
-    (subst (λ ys. IsRunOf ys c.args.node c.args.above c.loop-interval.last) whole c.loop-interval.invariant)
+    (subst (λ ys. IsUnbrokenRun ys c.args.node c.args.above c.loop-interval.last) whole c.loop-interval.invariant)
     c.max.ensures

@@ -8,12 +8,12 @@ use lib.Pointwise.{pointwise}
 use Rattle.lrc_time.specs.Time.{entry, joined}
 use Rattle.lrc_store.specs.Interval.{IntervalRecord}
 use Rattle.lrc_protocol.specs.Times.{are_between}
-use Rattle.lrc_node.specs.News.{AreRuns}
+use Rattle.lrc_node.specs.News.{AreUnbroken}
 use Rattle.lrc_node.proofs.Runs.{all_between, all_between-only, none_between}
 use Rattle.lrc_node.proofs.intervals.news.lead.Goals as goal
 
 -- the test of the times is that of the intervals
-tested : (known time : List ℕ) (xs : List IntervalRecord) (reached all : List ℕ) → AreRuns known xs reached → length time ≡ length known
+tested : (known time : List ℕ) (xs : List IntervalRecord) (reached all : List ℕ) → AreUnbroken known xs reached → length time ≡ length known
     → all ≡ joined known time
     → pointwise ◌==◌ reached all ≡ list_all (λ q. are_between xs q (entry known q) (entry time q)) (range_with_len 0 (length known))
 tested known time xs reached all are counted e =

@@ -4,7 +4,7 @@ use Rattle.lrc_protocol.specs.Run.{run}
 use Rattle.lrc_node_laws.specs.Traced.{IsTraced}
 use Rattle.lrc_node_laws.proofs.Noting.{traced_turn}
 use Rattle.lrc_node.specs.Fault.{is_final}
-use Rattle.lrc_node.specs.Node.{Answers}
+use Rattle.lrc_node.specs.Node.{AnswersTurn}
 use Rattle.lrc_node.proofs.Outcomes.{answers_run, may_run, traced_run, seen_there, seen_turn}
 use Rattle.lrc_node.proofs.node.Node.run.Goals as goal
 
@@ -32,7 +32,7 @@ pub returns-in-Err-clause-refused : goal.returns-in-Err-clause-refused
 returns-in-Err-clause-refused c = λ node e.
     let same = seen_there c.self.inside.failed c.self.inside.state node c.self.inside.trace c.args.self.now c.if-self.false c.self.view_is e in
     rw c.is_final-self-inside.ensures
-    (subst (λ n. Answers (run_turn n) n c.in-Err.fault (cond (is_final c.in-Err.fault) None (Some c.run_noting.new.self))) same
+    (subst (λ n. AnswersTurn (run_turn n) n c.in-Err.fault (cond (is_final c.in-Err.fault) None (Some c.run_noting.new.self))) same
     (answers_run c.self.inside.state c.run_noting.new.self c.in-Err.ensures.refused (λ n. (c.run_noting.ensures.ready n).1)))
 
 pub returns-in-Err-clause-fault : goal.returns-in-Err-clause-fault

@@ -4,7 +4,7 @@ use Rattle.lrc_protocol.specs.Run.{taken}
 use Rattle.lrc_node_laws.specs.Traced.{IsTraced}
 use Rattle.lrc_node_laws.proofs.Noting.{traced_turn}
 use Rattle.lrc_node.specs.Fault.{is_final}
-use Rattle.lrc_node.specs.Node.{Answers}
+use Rattle.lrc_node.specs.Node.{AnswersTurn}
 use Rattle.lrc_node.proofs.Takes.{answers_take, may_take, traced_take}
 use Rattle.lrc_node.proofs.Outcomes.{seen_there, seen_turn}
 use Rattle.lrc_node.proofs.node.Node.take.Goals as goal
@@ -34,7 +34,7 @@ pub returns-in-Err-clause-refused : goal.returns-in-Err-clause-refused
 returns-in-Err-clause-refused c = λ node e.
     let same = seen_there c.self.inside.failed c.self.inside.state node c.self.inside.trace c.args.self.now c.if-self.false c.self.view_is e in
     rw c.is_final-self-inside.ensures
-    (subst (λ n. Answers (take_turn n c.args.envelope.now) n c.in-Err.fault (cond (is_final c.in-Err.fault) None (Some c.take_noting.new.self))) same
+    (subst (λ n. AnswersTurn (take_turn n c.args.envelope.now) n c.in-Err.fault (cond (is_final c.in-Err.fault) None (Some c.take_noting.new.self))) same
     (answers_take c.self.inside.state c.take_noting.new.self c.in-Err.ensures.refused))
 
 pub returns-in-Err-clause-fault : goal.returns-in-Err-clause-fault

@@ -3,7 +3,7 @@ use Rattle.std.specs.Int.{w64}
 use Rattle.std.proofs.lemmas.List.{append-nil, length-append}
 use Rattle.std.proofs.lemmas.Result.{err_from_is_err_and}
 use Rattle.lrc_page.specs.declared.changes.Change.{Change}
-use Rattle.lrc_wire.specs.Runs.{changes_of}
+use Rattle.lrc_wire.specs.Runs.{changes_in_run}
 use Rattle.lrc_wire.specs.Reading.{elements_at, number_at, values_at}
 use Rattle.lrc_wire.proofs.Elements.{with_nothing, goes_on, ends, is_done}
 use Rattle.lrc_envelope.proofs.Last.{last_pushed}
@@ -46,7 +46,7 @@ loop-offset-preserved c =
       put = rw (
         c.in_ok-push.ensures.ok,
         c.loop-offset.invariant.put,
-      ) (append_assoc c.args.changes.now (changes_of (record { first = first; values = vs })) (record {
+      ) (append_assoc c.args.changes.now (changes_in_run (record { first = first; values = vs })) (record {
         offset = offset;
         value =
             value;

@@ -2,7 +2,7 @@ use Rattle.std.proofs.Common.{◌≡◌, ◌∙◌, ◌-◌, List, [], ◌∷◌
 use Rattle.std.proofs.lemmas.List.{flat_map_more}
 use Rattle.std.proofs.lemmas.Result.{err_from_is_err_and}
 use Rattle.lrc_page.specs.declared.changes.Change.{Change}
-use Rattle.lrc_wire.specs.Runs.{changes_of}
+use Rattle.lrc_wire.specs.Runs.{changes_in_run}
 use Rattle.lrc_wire.specs.Reading.{elements_at, next_run_at, last_of, whole_runs}
 use Rattle.lrc_wire.proofs.Elements.{with_nothing, goes_on, ends, is_done}
 use Rattle.lrc_wire.proofs.reading.changes.read_runs_of.Goals as goal
@@ -30,7 +30,7 @@ loop-preserved c =
     let put = c.in_ok-last.ensures.put in
     record {
       runs = c.loop.invariant.runs ++ put.0 ∷ [];
-      put = put.2 ∙ ap (λ (cs : List Change). cs ++ changes_of put.0) c.loop.invariant.put ∙ flat_map_more changes_of [] c.loop.invariant.runs put.0;
+      put = put.2 ∙ ap (λ (cs : List Change). cs ++ changes_in_run put.0) c.loop.invariant.put ∙ flat_map_more changes_in_run [] c.loop.invariant.runs put.0;
       last = c.in_ok-last.ensures.last;
       read = rw put.3 (goes_on next_run_at
           (λ _ run. Some (last_of run)) c.loop.invariant.runs c.args.count c.loop.counter c.loop.before c.loop.bytes.now put.0 c.read_run.new.bytes.now _

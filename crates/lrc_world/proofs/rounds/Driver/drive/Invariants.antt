@@ -1,13 +1,13 @@
 use Rattle.std.proofs.Common.{◌-◌, ◌≤◌, length, vec_len}
 use Rattle.lrc_world.specs.declared.report.TheConstants.{MOST_EVENTS}
-use Rattle.lrc_world.specs.Driven.{Goes}
+use Rattle.lrc_world.specs.Driven.{IsDrivenOn}
 use Rattle.lrc_world.specs.Rounds.{schedule_of_rounds, at_node}
 use Rattle.lrc_world.proofs.rounds.Driver.drive.Given as goal
 
 -- whole rounds so far
 abbrev pub invariant-rounds : goal.invariant-rounds
 invariant-rounds l = record {
-  goes : Goes (schedule_of_rounds l.picker l.nodes) (at_node 0) (at_node 0) l.initial.self l.self;
+  goes : IsDrivenOn (schedule_of_rounds l.picker l.nodes) (at_node 0) (at_node 0) l.initial.self l.self;
   few : length l.self.events.items ≤ MOST_EVENTS;
 }
 

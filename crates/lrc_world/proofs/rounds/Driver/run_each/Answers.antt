@@ -1,6 +1,6 @@
 use Rattle.std.proofs.Common.{◌≡◌, ◌<◌, ◌+◌, refl, subst, arith}
 use Rattle.lrc_envelope.specs.declared.picker.Picker.TheVariants.{Oldest}
-use Rattle.lrc_world.specs.Driven.{Goes}
+use Rattle.lrc_world.specs.Driven.{IsDrivenOn}
 use Rattle.lrc_world.specs.Rounds.{schedule_of_rounds, at_node}
 use Rattle.lrc_world.proofs.Driven.{goes-nowhere, goes-twice, fails-after, asleep-more}
 use Rattle.lrc_world.proofs.rounds.Driver.run_each.Goals as goal
@@ -37,4 +37,4 @@ loop-node-preserved c =
 pub returns-clause-goes : goal.returns-clause-goes
 returns-clause-goes c = λ picker.
     let all : c.loop-node.node ≡ c.args.nodes = omega arith in
-    subst (λ n. Goes (schedule_of_rounds picker c.args.nodes) (at_node 0) (at_node n) c.args.self.now c.loop-node.self) all (c.loop-node.invariant.goes picker)
+    subst (λ n. IsDrivenOn (schedule_of_rounds picker c.args.nodes) (at_node 0) (at_node n) c.args.self.now c.loop-node.self) all (c.loop-node.invariant.goes picker)
