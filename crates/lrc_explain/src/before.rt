@@ -4,10 +4,10 @@ ghost use Rattle.std.specs.Prelude.{◌≡◌, ◌<◌, All, IfOk, length, unwra
 ghost use Rattle.std.specs.BTreeMap.{get};
 ghost use Rattle.std.specs.Ordering.{nat_cmp};
 ghost use Rattle.lrc_judge.specs.declared.TheConstants.{NODES};
-ghost use Rattle.lrc_judge.specs.Races.{word_of};
 ghost use Rattle.lrc_explain.specs.Before.{AreLefts, IsBeforeActs};
 
 use lrc_judge::intervals_of;
+use lrc_judge::races::word_of;
 use lrc_trace::act::{Act, Deed};
 use std::alloc::{AllocError, Global};
 use std::collections::BTreeMap;
@@ -17,16 +17,6 @@ use std::collections::BTreeMap;
 pub(crate) struct Before {
     pub(crate) intervals: Vec<u64>,
     pub(crate) lefts: Vec<u64>,
-}
-
-/// The word of an access; of another deed 0.
-pub(crate) fn word_of(deed: Deed) -> u32
-    ensures { result ≡ word_of deed }
-{
-    match deed {
-        Deed::Read(word, _) | Deed::Write(word, _) => word,
-        _ => 0,
-    }
 }
 
 // What a word has.

@@ -10,9 +10,10 @@ ghost use Rattle.lrc_explain.specs.Before.{IsBeforeActs};
 ghost use Rattle.lrc_explain.specs.Site.{site_cmp};
 
 use crate::access::push_access;
-use crate::before::{Before, word_of};
+use crate::before::Before;
 use crate::site::{Site, act_at, site_of};
 use lrc_judge::first_pairs::Pair;
+use lrc_judge::races::word_of;
 use lrc_text::push_number;
 use lrc_trace::act::Act;
 use std::alloc::{AllocError, Global};

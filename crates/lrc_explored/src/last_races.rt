@@ -2,12 +2,12 @@
 
 ghost use Rattle.std.specs.Prelude.{◌≡◌, ◌==◌, ◌&&◌, ◌<◌, ◌≤◌, ◌++◌, All, IfOk, OnOk, length};
 ghost use Rattle.std.specs.List.{flat_map};
-ghost use Rattle.lrc_judge.specs.Races.{race_of_places, word_of};
 ghost use Rattle.lrc_judge.specs.declared.TheConstants.{NODES};
 ghost use Rattle.lrc_trace.specs.Interval.{closes, interval_at};
 ghost use Rattle.lrc_explored.specs.LastRaces.{AreRacesAt, race_ending_at, race_of_pair};
 
 use lrc_judge::pairs::{Pair, racing_pairs};
+use lrc_judge::races::{race_of_places, word_of};
 use lrc_trace::act::{Act, Deed};
 use lrc_trace::race::Race;
 use std::alloc::{AllocError, Global};
@@ -110,28 +110,4 @@ fn closes(deed: Deed) -> bool
     ensures { result ≡ closes deed }
 {
     matches!(deed, Deed::Acquire(_) | Deed::Release(_) | Deed::Arrive)
-}
-
-// The word of an access; of another deed 0.
-fn word_of(deed: Deed) -> u32
-    ensures { result ≡ word_of deed }
-{
-    match deed {
-        Deed::Read(word, _) | Deed::Write(word, _) => word,
-        _ => 0,
-    }
-}
-
-// The race of accesses of two nodes in these intervals, the lower node first.
-fn race_of_places(word: u32, p: u8, i: u64, q: u8, j: u64) -> Race
-    ensures { result ≡ race_of_places word p i q j }
-{
-    let (node_a, interval_a, node_b, interval_b) = if p < q { (p, i, q, j) } else { (q, j, p, i) };
-    Race {
-        word,
-        node_a,
-        node_b,
-        interval_a,
-        interval_b,
-    }
 }

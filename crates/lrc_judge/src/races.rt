@@ -15,8 +15,8 @@ use lrc_trace::act::{Act, Deed};
 use lrc_trace::race::Race;
 use std::alloc::{AllocError, Global};
 
-// The word of an access; of another deed 0.
-pub(crate) fn word_of(deed: Deed) -> u32
+/// The word of an access; of another deed 0.
+pub fn word_of(deed: Deed) -> u32
     ensures { result ≡ word_of deed }
 {
     match deed {
@@ -25,8 +25,8 @@ pub(crate) fn word_of(deed: Deed) -> u32
     }
 }
 
-// The race of accesses of two nodes in these intervals, the lower node first.
-pub(crate) fn race_of_places(word: u32, p: u8, i: u64, q: u8, j: u64) -> Race
+/// The race on a word of accesses of two nodes in these intervals, the lower node first.
+pub fn race_of_places(word: u32, p: u8, i: u64, q: u8, j: u64) -> Race
     ensures { result ≡ race_of_places word p i q j }
 {
     if p < q {

@@ -2,7 +2,6 @@
 
 ghost use Rattle.std.specs.Prelude.{◌≡◌, ◌++◌, [], IfOk, OnOk, if◌then◌else◌, map, take};
 ghost use Rattle.std.specs.List.{list_any};
-ghost use Rattle.lrc_judge.specs.Races.{word_of};
 ghost use Rattle.lrc_explain.specs.Groups.{access_kind_text, is_of_site};
 ghost use Rattle.lrc_explain.specs.declared.site.Site.{Site as SiteRecord};
 ghost use Rattle.lrc_portrait.specs.Races.{comes_first, hint_of, label_of, race_at, race_between, race_if, shown_races};
@@ -12,9 +11,10 @@ use crate::part::row_of_act;
 use lrc_chart::Row as Place;
 use lrc_explain::{Site, act_at, site_of};
 use lrc_judge::first_pairs::Pair;
+use lrc_judge::races::word_of;
 use lrc_picture::Race;
 use lrc_text::push_number;
-use lrc_trace::act::{Act, Deed};
+use lrc_trace::act::Act;
 use std::alloc::{AllocError, Global};
 
 fn is_of_site(acts: &[Act], lines: &[u32], site: Site, pair: Pair) -> bool
@@ -56,15 +56,6 @@ fn label_of(alloc: Global, site: Site) -> Result<Vec<u8>, AllocError>
     push_number(&mut label, b", line ", u64::from(site.later_line))?;
     label.extend_from_slice(kind_of(site.later_writes))?;
     Ok(label)
-}
-
-fn word_of(deed: Deed) -> u32
-    ensures { result ≡ word_of deed }
-{
-    match deed {
-        Deed::Read(word, _) | Deed::Write(word, _) => word,
-        _ => 0,
-    }
 }
 
 // The word of two acts, and their positions.

@@ -6,7 +6,6 @@ ghost use Rattle.lrc_trace.specs.Run.{IsDone};
 ghost use Rattle.lrc_judge.specs.declared.TheConstants.{NODES};
 ghost use Rattle.lrc_judge.specs.InOrder.{IsFirstOutOfOrder};
 ghost use Rattle.lrc_judge.specs.Pairs.{AreRacingPairs};
-ghost use Rattle.lrc_judge.specs.Races.{word_of};
 ghost use Rattle.lrc_judge.specs.Reading.{IsFirstMisread};
 ghost use Rattle.lrc_verdict.specs.Judgement.{AddsText, TellsLazyReading, TellsOrder, TellsRaces, TellsSynchronization, accesses_at, place_at, writes};
 
@@ -16,7 +15,7 @@ use lrc_acts::judge_lines::{
 use lrc_judge::NODES;
 use lrc_judge::in_order::{OutOfOrder, first_out_of_order};
 use lrc_judge::pairs::{Pair, racing_pairs};
-use lrc_judge::races::named_races;
+use lrc_judge::races::{named_races, word_of};
 use lrc_judge::reading::{first_fault_of_reading, values_allowed};
 use lrc_judge::synchronization::first_fault_of_synchronization;
 use lrc_text::races_part;
@@ -218,14 +217,4 @@ fn writes(deed: Deed) -> bool
     ensures { result ≡ writes deed }
 {
     matches!(deed, Deed::Write(_, _))
-}
-
-// The word that a deed accesses, or 0 where it accesses none.
-fn word_of(deed: Deed) -> u32
-    ensures { result ≡ word_of deed }
-{
-    match deed {
-        Deed::Read(word, _) | Deed::Write(word, _) => word,
-        _ => 0,
-    }
 }
