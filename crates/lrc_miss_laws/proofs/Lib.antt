@@ -1,0 +1,4 @@
+pub mod Unread
+pub mod Unfetched
+pub mod Kept
+pub mod Missing
