@@ -3,6 +3,8 @@ pub mod PlaceLists
 pub mod PlaceOrder
 pub mod Stretches
 pub mod Leaving
+pub mod InRows
+pub mod Parts
 pub mod Found
 pub mod Agreement
 pub mod OfRuns

@@ -12,6 +12,7 @@ ghost use Rattle.lrc_race.specs.Pairs.{IsLane, AreLanes, AreWithin, HaveEntries,
 
 use crate::places::{TouchedPlace, places_of, without};
 use crate::rising::all_rise;
+use crate::spans::places_near;
 use lrc_trace::race::Race;
 use lrc_trace::trace::{Segment, Trace};
 use std::alloc::{AllocError, Global};
@@ -155,9 +156,9 @@ fn add_stretch(
     Ok(())
 }
 
-// Adds the races of places of one trace with places of another. Where times rise along both, the places that are not
+// Adds the races of places of one trace with places of another, in one walk along both. Where times rise along both, the places that are not
 // ordered with one are a stretch of the other's, which moves on with it.
-fn add_races(
+fn add_races_along(
     races: &mut Vec<Race>,
     rise: bool,
     a: &Trace,
@@ -178,6 +179,30 @@ fn add_races(
         start = skip(rise, a, *x, b, ys, start);
         add_stretch(races, rise, a, *x, b, ys, start)?;
     }
+    Ok(())
+}
+
+// Adds the races of places of one trace with places of another. What the one has of words before or after all of the
+// other is left out first.
+fn add_races(
+    races: &mut Vec<Race>,
+    rise: bool,
+    a: &Trace,
+    xs: &[TouchedPlace],
+    b: &Trace,
+    ys: &[TouchedPlace],
+) -> Result<(), AllocError>
+    requires first { AreWithin a.now xs.now }
+    requires second { AreWithin b.now ys.now }
+    requires first_sorted { AreInOrder xs.now }
+    requires second_sorted { AreInOrder ys.now }
+    requires entries { HaveEntries a.now b.now }
+    requires rising { IsTrue rise → RisesAlong a.now × RisesAlong b.now }
+    ensures { OnOk result (Adds races.old.items races.new.items (IsRaceOfLists a.now xs.now b.now ys.now)) }
+{
+    let near = places_near(xs, ys);
+    let others = places_near(ys, near);
+    add_races_along(races, rise, a, near, b, others)?;
     Ok(())
 }
 

@@ -8,6 +8,8 @@ mod epochs;
 pub mod laws;
 mod places;
 mod rising;
+mod rows;
+mod spans;
 
 pub use detector::races;
 pub use entries::are_traces_of;

@@ -3,7 +3,7 @@ use Rattle.std.specs.Prelude.{slice_get}
 use Rattle.lrc_race.specs.declared.places.TouchedPlace.{TouchedPlace}
 use Rattle.lrc_judge.specs.Adding.{Adds, IsOfSome}
 use Rattle.lrc_race.specs.Pairs.{IsBehind, IsRaceOfPlaces}
-use Rattle.lrc_race.proofs.detector.add_races.Given as goal
+use Rattle.lrc_race.proofs.detector.add_races_along.Given as goal
 
 -- The races of the places so far are added, and what was passed by is behind all that follow.
 abbrev pub invariant-loop-x : goal.invariant-loop-x

@@ -1,0 +1,57 @@
+// Places in rows.
+
+ghost use Rattle.std.specs.Prelude.{◌≡◌, IfOk, OnOk, []};
+ghost use Rattle.lrc_judge.specs.Adding.{Adds};
+
+use crate::places::TouchedPlace;
+use std::alloc::{AllocError, Global};
+use std::marker::Model;
+
+/// Places in 256 rows, one row after the other. In each they stand in the order of adding.
+#[derive(Drop)]
+pub struct Rows {
+    rows: Vec<Vec<TouchedPlace>>,
+}
+
+impl Model for Rows {
+    ghost use Rattle.std.specs.Prelude.{◌≡◌, List, flat_map, length};
+    ghost use Rattle.lrc_race.specs.declared.places.TouchedPlace.{TouchedPlace};
+
+    ghost Value = { List TouchedPlace };
+
+    ghost view = { λ r. flat_map (λ row. row.items) r.rows.items };
+
+    ghost invariant = { λ r. length r.rows.items ≡ 256 };
+}
+
+impl Rows {
+    /// No places.
+    pub fn new(alloc: Global) -> Result<Self, AllocError>
+        ensures { IfOk result (λ rows. rows ≡ []) }
+    {
+        let mut rows = Vec::with_capacity(alloc, 256)?;
+        for _ in 0..256_usize {
+            rows.push(Vec::new(alloc))?;
+        }
+        Ok(Rows { rows })
+    }
+
+    /// Adds a place to a row.
+    pub fn push(&mut self, row: u8, place: TouchedPlace) -> Result<(), AllocError>
+        ensures { OnOk result (Adds self.old self.new (λ p. p ≡ place)) }
+    {
+        self.rows[usize::from(row)].push(place)?;
+        Ok(())
+    }
+
+    /// The places, row by row.
+    pub fn joined(&self, alloc: Global) -> Result<Vec<TouchedPlace>, AllocError>
+        ensures { IfOk result (λ places. places.items ≡ self.now) }
+    {
+        let mut places = Vec::new(alloc);
+        for row in self.rows.as_slice() {
+            places.extend_from_slice(row.as_slice())?;
+        }
+        Ok(places)
+    }
+}
