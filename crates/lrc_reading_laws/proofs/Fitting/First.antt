@@ -22,7 +22,7 @@ use Rattle.lrc_protocol.specs.Pages.{with_changes, with_page, Memory, copy_at, k
 use Rattle.lrc_protocol.specs.Node.{Wait, nothing, needs_of}
 use Rattle.lrc_protocol.specs.Turn.{with_needs}
 use Rattle.lrc_node_laws.specs.Ranges.{IsWholeCopy}
-use Rattle.lrc_node_laws.specs.Remembered.{StandsBetween as IsRemembered}
+use Rattle.lrc_node_laws.specs.Remembered.{IsBetween as IsRemembered}
 use Rattle.lrc_node_laws.specs.Waits.{NoneWritten}
 use Rattle.lrc_node_laws.proofs.Change.{View, News, is_settled}
 use Rattle.lrc_node_laws.proofs.Lists.{length-placed}

@@ -2,7 +2,7 @@
 use Rattle.std.proofs.Common.{◌≡◌, ℕ, ◌≤◌, List, map, refl, sym, ap, subst, ◌∙◌, arith}
 use Rattle.std.specs.Prelude.{Some, Contains, slice_get}
 use Rattle.lrc_time.specs.Time.{entry}
-use Rattle.lrc_store.specs.Interval.{IntervalRecord, stamp_index as index_of_interval}
+use Rattle.lrc_store.specs.Interval.{IntervalRecord, index_of as index_of_interval}
 use Rattle.lrc_store.specs.Store.{StoredRecord, interval_of}
 use Rattle.lrc_copies.specs.Stamps.{stamp_index}
 use Rattle.lrc_protocol.specs.Run.{Logged, World}

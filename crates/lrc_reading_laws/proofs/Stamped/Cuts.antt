@@ -8,7 +8,7 @@ use Rattle.std.proofs.lemmas.List.{get_or_past, map-append}
 use Rattle.std.proofs.lemmas.List.Elements.{All-contains, Contains-append_left, Contains-push, Contains-push_cases}
 use Rattle.lrc_time.specs.Time.{entry, zeros, joined, Covers}
 use Rattle.lrc_time.proofs.Times.{covers-trans, covers-joined_first, covers-joined_second, entry-zeros, entry-joined, entry-set_other}
-use Rattle.lrc_store.specs.Interval.{IntervalRecord, stamp_index as interval_index}
+use Rattle.lrc_store.specs.Interval.{IntervalRecord, index_of as interval_index}
 use Rattle.lrc_store.specs.Store.{StoredRecord, interval_of}
 use Rattle.lrc_copies.specs.Stamps.{stamp_index, stamps_covered, IsCut, AreStamped, IsClosedAt}
 use Rattle.lrc_copies.proofs.Members.{none_Contains}

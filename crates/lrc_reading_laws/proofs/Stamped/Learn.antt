@@ -12,7 +12,7 @@ use Rattle.lrc_exec.specs.Plain.{setting_of}
 use Rattle.lrc_time.specs.Time.{entry, Covers, covers}
 use Rattle.lrc_time.proofs.Times.{covers-holds}
 use Rattle.lrc_page.specs.Place.{pages_of}
-use Rattle.lrc_store.specs.Interval.{IntervalRecord, stamp_index as interval_index}
+use Rattle.lrc_store.specs.Interval.{IntervalRecord, index_of as interval_index}
 use Rattle.lrc_store.specs.Store.{StoredRecord, interval_of}
 use Rattle.lrc_copies.specs.Stamps.{stamp_index}
 use Rattle.lrc_copies.proofs.Members.{Contains-first, Contains-later, none_Contains}
