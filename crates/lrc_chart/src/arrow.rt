@@ -30,6 +30,7 @@ pub fn takes(turn: &TurnOf<'_>, envelope: &Envelope) -> bool
     match &entry.input {
         Input::Run => false,
         Input::Taken(taken) => {
+            let taken: &Envelope = taken;
             turn.node == envelope.to
                 && taken.from == envelope.from
                 && taken.number == envelope.number

@@ -36,7 +36,7 @@ pub record TracedLog : Type 0 where
 -- what makes a turn, as the protocol has it
 abbrev pub seen_input : Given → Input
 seen_input Run = run
-seen_input (Taken envelope) = taken envelope
+seen_input (Taken envelope) = taken envelope.value
 
 -- What comes of an input to a node that has not failed: the turn is logged; or it is refused and nothing changes; or a
 -- number is too large, or no memory is left, and the node has failed.

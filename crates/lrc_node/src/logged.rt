@@ -1,6 +1,6 @@
 // A node with its log.
 
-ghost use Rattle.std.specs.Prelude.{◌≡◌, Err, IfErr, MatchResult, None, [], false, true};
+ghost use Rattle.std.specs.Prelude.{◌≡◌, Err, IfErr, IfOk, MatchResult, None, Ok, [], false, true};
 ghost use Rattle.lrc_protocol.specs.Run as log;
 ghost use Rattle.lrc_protocol.specs.Turn.{is_ready};
 ghost use Rattle.lrc_node.specs.Fault.{MayAnswer, is_final};
@@ -24,7 +24,7 @@ pub enum Input {
     /// The node is named.
     Run,
     /// A message is delivered.
-    Taken(Envelope),
+    Taken(Box<Envelope>),
 }
 
 /// An input, the stamp of its turn, and the turn.
@@ -107,9 +107,9 @@ impl<'c> Logged<'c> {
         ensures fault { IfErr result (MayAnswer (log.taken envelope)) }
         ensures notes_failing { NotesFailing self.old (log.taken envelope) self.new result }
     {
-        self.make_room()?;
-        let outcome = self.node.take(&envelope);
-        self.settle(Input::Taken(envelope), stamp, outcome)
+        let boxed = self.make_room_for(envelope)?;
+        let outcome = self.node.take(&boxed);
+        self.settle(Input::Taken(boxed), stamp, outcome)
     }
 
     /// Makes room in the log for one turn more. Without memory the node fails.
@@ -125,6 +125,22 @@ impl<'c> Logged<'c> {
             return Err(NodeFault::NoMemory);
         }
         Ok(())
+    }
+
+    // Makes room in the log for one turn more, and for the message that is taken in it. Without memory the node fails.
+    fn make_room_for(&mut self, envelope: Envelope) -> Result<Box<Envelope>, NodeFault>
+        ensures boxed { IfOk result (λ boxed. boxed.value ≡ envelope) }
+        ensures room { MatchResult result
+            (λ boxed. MakesRoom self.old.logged self.new.logged (Ok tt))
+            (λ fault. MakesRoom self.old.logged self.new.logged (Err fault)) }
+        ensures trace { self.new.trace ≡ self.old.trace }
+    {
+        self.make_room()?;
+        let Ok(boxed) = Box::new(*self.log.allocator(), envelope) else {
+            self.node.fail();
+            return Err(NodeFault::NoMemory);
+        };
+        Ok(boxed)
     }
 
     /// Adds a turn that was made; a refusal adds nothing.

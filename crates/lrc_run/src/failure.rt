@@ -167,7 +167,7 @@ fn input_behind(alloc: Global, log: &[Entry], history: &[Wire]) -> Result<Input,
         return Ok(Input::Run);
     };
     match decode(alloc, bytes) {
-        Ok(envelope) => Ok(Input::Taken(envelope)),
+        Ok(envelope) => Ok(Input::Taken(Box::new(alloc, envelope)?)),
         Err(WireFault::NoMemory) => Err(AllocError),
         Err(_fault) => Ok(Input::Run),
     }

@@ -3,7 +3,7 @@
 ghost use Rattle.std.specs.Prelude.{◌≡◌, ◌++◌, ◌∷◌, [], List, IfOk, OnOk, false, vec_len};
 ghost use Rattle.lrc_envelope.specs.declared.limits.TheConstants.{MOST_NODES};
 
-use lrc_envelope::MOST_NODES;
+use lrc_envelope::{Envelope, MOST_NODES};
 use lrc_mail::Numbers;
 use lrc_node::{Entry, Input};
 use std::alloc::{AllocError, Global};
@@ -37,6 +37,7 @@ impl Seen {
         match &entry.input {
             Input::Run => false,
             Input::Taken(envelope) => {
+                let envelope: &Envelope = envelope;
                 self.numbers[usize::from(envelope.from)].contains(envelope.number)
             }
         }
@@ -50,6 +51,7 @@ impl Seen {
         match &entry.input {
             Input::Run => Ok(()),
             Input::Taken(envelope) => {
+                let envelope: &Envelope = envelope;
                 self.numbers[usize::from(envelope.from)].add(envelope.number)
             }
         }

@@ -6,6 +6,7 @@ ghost use Rattle.lrc_turns.specs.Told.{Tells, holds_input, holds_key};
 ghost use Rattle.lrc_turns.specs.Turns.{Made};
 ghost use Rattle.lrc_turns.specs.TurnsText.{took_before, takes_numbered};
 
+use lrc_envelope::Envelope;
 use lrc_node::{Entry, Input};
 use std::alloc::{AllocError, Global};
 use std::collections::HashSet;
@@ -31,7 +32,10 @@ fn note_taken(
 {
     match input {
         Input::Run => Ok(false),
-        Input::Taken(envelope) => Ok(!taken.insert((node, (envelope.from, envelope.number)))?),
+        Input::Taken(envelope) => {
+            let envelope: &Envelope = envelope;
+            Ok(!taken.insert((node, (envelope.from, envelope.number)))?)
+        }
     }
 }
 

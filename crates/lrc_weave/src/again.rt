@@ -6,6 +6,7 @@ ghost use Rattle.lrc_envelope.specs.Envelope.{EnvelopeRecord};
 ghost use Rattle.lrc_weave.specs.Again.{AreAgain, AreAllAgain, has_key, is_noted};
 ghost use Rattle.lrc_weave.specs.Woven.{takes_same};
 
+use lrc_envelope::Envelope;
 use lrc_node::{Entry, Input};
 use std::alloc::{AllocError, Global};
 use std::collections::HashSet;
@@ -44,6 +45,9 @@ fn note(seen: &mut HashSet<(u8, u32)>, input: &Input) -> Result<bool, AllocError
 {
     match input {
         Input::Run => Ok(false),
-        Input::Taken(envelope) => Ok(!seen.insert((envelope.from, envelope.number))?),
+        Input::Taken(envelope) => {
+            let envelope: &Envelope = envelope;
+            Ok(!seen.insert((envelope.from, envelope.number))?)
+        }
     }
 }

@@ -8,6 +8,6 @@ use Rattle.lrc_weave.proofs.again.note.Goals as goal
 
 pub returns-in_ok-insert-in-Taken-clause-more : goal.returns-in_ok-insert-in-Taken-clause-more
 returns-in_ok-insert-in-Taken-clause-more c = λ message.
-    noted_one message c.in-Taken.envelope c.envelope.inside.from c.envelope.inside.number c.args.seen.now.keys c.insert.new.self.keys
+    noted_one message c.in-Taken.envelope.value c.envelope.inside.from c.envelope.inside.number c.args.seen.now.keys c.insert.new.self.keys
     (c.in_ok-insert-in-Taken.ensures.updates.0 (message.from, message.number)) (search rules) (search rules)
     ∙ ap (λ i. takes_same message (seen_input i) || has_key c.args.seen.now.keys message) (sym c.in-Taken.is)

@@ -2,7 +2,7 @@ use Rattle.std.proofs.Common.{◌≡◌, ◌∙◌, ◌-◌, ◌<◌, List, arit
 use Rattle.std.specs.Prelude.{slice_index_or, vec_len}
 use Rattle.lrc_protocol.specs.Run.{EntryRecord}
 use Rattle.lrc_node.specs.Logged.{LoggedNode, TracedLog, newest}
-use Rattle.lrc_node.proofs.Newest.{newest-few, newest-first, newest-stamp}
+use Rattle.lrc_node.proofs.Newest.{newest-few, newest-first}
 use Rattle.lrc_node.proofs.logged.Logged.forget.Goals as goal
 
 pub returns-then-count-gt1-clause-log : goal.returns-then-count-gt1-clause-log

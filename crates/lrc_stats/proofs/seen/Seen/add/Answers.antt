@@ -7,7 +7,7 @@ use Rattle.lrc_stats.proofs.seen.Seen.add.Goals as goal
 pub returns-in-Taken : goal.returns-in-Taken
 returns-in-Taken c =
     let items = c.args.self.now.numbers.items in
-    let e = c.in-Taken.envelope in
+    let e = c.in-Taken.envelope.value in
     let viewed = c.entry.view_is in
     let matched = c.in-Taken.is in
     let seen_is = c.envelope.view_is in
