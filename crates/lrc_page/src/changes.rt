@@ -5,20 +5,24 @@ ghost use Rattle.std.specs.Cmp.Lexicographic.{pointwise};
 ghost use Rattle.lrc_page.specs.Changes.{IsAscending, same_change, same_changes_equiv, last_change, applied, changes_between};
 
 use crate::{MOST_PAGE_WORDS, Page};
+use smallvec::SmallVec;
 use std::alloc::{AllocError, Global};
 use std::marker::Model;
 
 /// A new value of the word at an offset of a page.
-#[derive(Clone, Copy, Debug, PartialEq, Eq)]
+#[derive(Clone, Copy, Debug, Default, PartialEq, Eq)]
 pub struct Change {
     pub offset: u8,
     pub value: u64,
 }
 
+// How many changes stand in the list itself, which asks for memory where there are more. A counter or a flag is one word.
+const FEW_CHANGES: usize = 1;
+
 /// Changes of one page, at most one for each offset, the offsets ascending.
 #[derive(Drop)]
 pub struct Changes {
-    list: Vec<Change>,
+    list: SmallVec<Change, FEW_CHANGES>,
 }
 
 impl Model for Changes {
@@ -58,7 +62,7 @@ impl Changes {
         ensures { result ≡ [] }
     {
         Changes {
-            list: Vec::new(alloc),
+            list: SmallVec::new(alloc),
         }
     }
 
@@ -102,7 +106,7 @@ impl Changes {
         requires { All (λ c. c.offset < length page.old) self.now }
         ensures { page.new ≡ applied page.old self.now }
     {
-        for change in &self.list {
+        for change in self.list.as_slice() {
             page.set(change.offset, change.value);
         }
     }
@@ -112,7 +116,7 @@ impl Changes {
         requires { All (λ c. c.offset < length page.old) self.now }
         ensures { page.new ≡ applied page.old self.now }
     {
-        for change in &self.list {
+        for change in self.list.as_slice() {
             page[usize::from(change.offset)] = change.value;
         }
     }
@@ -138,7 +142,7 @@ impl Changes {
         requires { place < length self.now }
         ensures { slice_get self.now place ≡ Some result }
     {
-        self.list[place]
+        self.list.as_slice()[place]
     }
 
     /// A second list of the same changes.
@@ -146,7 +150,7 @@ impl Changes {
         ensures { IfOk result (λ changes. changes ≡ self.now) }
     {
         Ok(Changes {
-            list: self.list.clone()?,
+            list: SmallVec::from_slice(*self.list.allocator(), self.list.as_slice())?,
         })
     }
 }

@@ -6,14 +6,18 @@ ghost use Rattle.lrc_page.specs.Page.{same_values_equiv};
 ghost use Rattle.lrc_page.specs.Pages.{IsRising, last_page};
 
 use crate::MOST_PAGES;
+use smallvec::SmallVec;
 use std::alloc::{AllocError, Global};
 use std::marker::Model;
+
+// How many pages stand in the list itself, which asks for memory where there are more. Most intervals write fewer.
+const FEW_PAGES: usize = 8;
 
 /// Numbers of pages, ascending, each at most once. A write notice names a page of its interval, and the pages of an
 /// interval are such a list (Keleher, Cox and Zwaenepoel 1992).
 #[derive(Drop)]
 pub struct Pages {
-    list: Vec<u16>,
+    list: SmallVec<u16, FEW_PAGES>,
 }
 
 impl Model for Pages {
@@ -51,7 +55,7 @@ impl Pages {
         ensures { result ≡ [] }
     {
         Pages {
-            list: Vec::new(alloc),
+            list: SmallVec::new(alloc),
         }
     }
 
@@ -107,7 +111,7 @@ impl Pages {
         requires { place < length self.now }
         ensures { slice_get self.now place ≡ Some result }
     {
-        self.list[place]
+        self.list.as_slice()[place]
     }
 
     /// The pages, ascending.
@@ -122,7 +126,7 @@ impl Pages {
         ensures { IfOk result (λ pages. pages ≡ self.now) }
     {
         Ok(Pages {
-            list: self.list.clone()?,
+            list: SmallVec::from_slice(*self.list.allocator(), self.list.as_slice())?,
         })
     }
 }

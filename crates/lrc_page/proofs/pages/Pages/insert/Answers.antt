@@ -6,15 +6,15 @@ use Rattle.lrc_page.proofs.pages.Pages.insert.Goals as goal
 pub invariant_of-self-2 : goal.invariant_of-self-2
 invariant_of-self-2 c =
     let items = c.self.inside.list.items in
-    let place : IsPlaceOf items c.args.page c.place_of-place.result = rw (← c.as_slice.ensures.value) c.place_of-place.ensures in
-    rw c.in_ok-insert.ensures.items (
+    let place : IsPlaceOf items c.args.page c.place_of-place.result = rw (← c.as_slice.ensures) c.place_of-place.ensures in
+    rw c.in_ok-insert.ensures.ok (
       rising-insert items c.place_of-place.result c.args.page c.self.invariant.0 place,
       all-insert (λ page. page < MOST_PAGES) items c.place_of-place.result c.args.page c.self.invariant.1 c.requires.in_range,
     )
 
 pub returns-clause-members : goal.returns-clause-members
 returns-clause-members c = λ p.
-    rw (c.in_ok-insert.ensures.items, ← c.self.view_is) (contains-insert c.self.inside.list.items c.place_of-place.result c.args.page p)
+    rw (c.in_ok-insert.ensures.ok, ← c.self.view_is) (contains-insert c.self.inside.list.items c.place_of-place.result c.args.page p)
 
 pub returns-clause-rising : goal.returns-clause-rising
 returns-clause-rising c = (invariant_of-self-2 c).0
