@@ -11,7 +11,7 @@ use Rattle.lrc_table.specs.declared.slot.State.{State}
 use Rattle.lrc_table.specs.declared.slot.State.TheVariants.{Valid, Written, Invalid, Absent}
 use Rattle.lrc_table.specs.PageCopy.{pending_changes}
 use Rattle.lrc_table.specs.Table.{copy_at}
-use Rattle.lrc_protocol.specs.Pages.{lacking, lacking_in, keeper_at, Base, Need, base_of, asked_of, unknown_of, need_of}
+use Rattle.lrc_protocol.specs.Pages.{missing_at, missing_in, keeper_at, Base, Need, base_of, asked_of, unknown_of, need_of}
 use Rattle.lrc_memory.specs.Steps.{base_in}
 use Rattle.lrc_memory.proofs.Mending.{changes-over, unmade-none}
 use Rattle.lrc_protocol.specs.Pages as memory
@@ -27,26 +27,26 @@ missing-seen kept page since =
 -- by the state of the copy
 pub lacking-in : (kept : Kept) (n : NodeMemory) (page : ℕ) (state : State) → node_seen kept ≡ n → page < length kept.table.copies
     → (copy_at kept.table page).state ≡ state
-    → lacking n.memory page ≡ lacking_in (seen kept) page (seen_in state (get_or kept.since page []) (copy_at kept.table page))
+    → missing_at n.memory page ≡ missing_in (seen kept) page (seen_in state (get_or kept.since page []) (copy_at kept.table page))
 lacking-in kept n page state is within state_is =
-    ap (λ (n : NodeMemory). lacking n.memory page) (sym is)
-    ∙ ap (lacking_in (seen kept) page) (copy-seen kept page within ∙ ap (λ s. seen_in s (get_or kept.since page []) (copy_at kept.table page)) state_is)
+    ap (λ (n : NodeMemory). missing_at n.memory page) (sym is)
+    ∙ ap (missing_in (seen kept) page) (copy-seen kept page within ∙ ap (λ s. seen_in s (get_or kept.since page []) (copy_at kept.table page)) state_is)
 
 pub lacking-invalid : (kept : Kept) (n : NodeMemory) (page : ℕ) → node_seen kept ≡ n → page < length kept.table.copies
-    → (copy_at kept.table page).state ≡ Invalid → lacking n.memory page ≡ missing_of kept.store page (get_or kept.since page [])
+    → (copy_at kept.table page).state ≡ Invalid → missing_at n.memory page ≡ missing_of kept.store page (get_or kept.since page [])
 lacking-invalid kept n page is within state = lacking-in kept n page Invalid is within state ∙ missing-seen kept page (get_or kept.since page [])
 
 pub lacking-absent : (kept : Kept) (n : NodeMemory) (page : ℕ) → node_seen kept ≡ n → page < length kept.table.copies
-    → (copy_at kept.table page).state ≡ Absent → lacking n.memory page ≡ missing_of kept.store page kept.collected
+    → (copy_at kept.table page).state ≡ Absent → missing_at n.memory page ≡ missing_of kept.store page kept.collected
 lacking-absent kept n page is within state = lacking-in kept n page Absent is within state ∙ missing-seen kept page kept.collected
 
 pub lacking-none : (kept : Kept) (n : NodeMemory) (page : ℕ) → node_seen kept ≡ n → page < length kept.table.copies
-    → (copy_at kept.table page).state ≢ Invalid → (copy_at kept.table page).state ≢ Absent → lacking n.memory page ≡ []
+    → (copy_at kept.table page).state ≢ Invalid → (copy_at kept.table page).state ≢ Absent → missing_at n.memory page ≡ []
 lacking-none kept n page is within not_invalid not_absent =
     lacking-in kept n page (copy_at kept.table page).state is within refl ∙ by_state (copy_at kept.table page).state not_invalid not_absent
   where
     by_state : (state : State) → state ≢ Invalid → state ≢ Absent
-        → lacking_in (seen kept) page (seen_in state (get_or kept.since page []) (copy_at kept.table page)) ≡ []
+        → missing_in (seen kept) page (seen_in state (get_or kept.since page []) (copy_at kept.table page)) ≡ []
     by_state Valid a b = refl
     by_state Written a b = refl
     by_state Invalid a b = absurd (a refl)
@@ -67,26 +67,26 @@ of-page : (page : ℕ) (intervals : List IntervalRecord) → All (λ (key : Key)
 of-page page intervals = All-map (λ (key : Key). key.page ≡ page) (key_of page) intervals (λ k d within. refl)
 
 pub unknown-lacking : (kept : Kept) (page : ℕ) → page < length kept.table.copies
-    → unknown_of kept.store (lacking (seen kept) page) ≡ unknown_of (seen kept).store (lacking (seen kept) page)
+    → unknown_of kept.store (missing_at (seen kept) page) ≡ unknown_of (seen kept).store (missing_at (seen kept) page)
 unknown-lacking kept page within = by_state (copy_at kept.table page).state refl
   where
     at : (state : State) → (copy_at kept.table page).state ≡ state
-        → lacking (seen kept) page ≡ lacking_in (seen kept) page (seen_in state (get_or kept.since page []) (copy_at kept.table page))
+        → missing_at (seen kept) page ≡ missing_in (seen kept) page (seen_in state (get_or kept.since page []) (copy_at kept.table page))
     at state is = lacking-in kept (node_seen kept) page state refl within is
 
-    some : (since : List ℕ) → pending_changes (copy_at kept.table page) ≡ None → lacking (seen kept) page ≡ missing_of (seen kept).store page since
-        → unknown_of kept.store (lacking (seen kept) page) ≡ unknown_of (seen kept).store (lacking (seen kept) page)
+    some : (since : List ℕ) → pending_changes (copy_at kept.table page) ≡ None → missing_at (seen kept) page ≡ missing_of (seen kept).store page since
+        → unknown_of kept.store (missing_at (seen kept) page) ≡ unknown_of (seen kept).store (missing_at (seen kept) page)
     some since none is =
-        unknown-seen kept page (lacking (seen kept) page)
+        unknown-seen kept page (missing_at (seen kept) page)
         (subst (All (λ (key : Key). key.page ≡ page)) (sym is)
         (of-page page (ascending_part by_weight (is_missing page since) (intervals_of (seen kept).store))))
         none
 
-    nothing : lacking (seen kept) page ≡ [] → unknown_of kept.store (lacking (seen kept) page) ≡ unknown_of (seen kept).store (lacking (seen kept) page)
+    nothing : missing_at (seen kept) page ≡ [] → unknown_of kept.store (missing_at (seen kept) page) ≡ unknown_of (seen kept).store (missing_at (seen kept) page)
     nothing is = ap (unknown_of kept.store) is ∙ sym (ap (unknown_of (seen kept).store) is)
 
     by_state : (state : State) → (copy_at kept.table page).state ≡ state
-        → unknown_of kept.store (lacking (seen kept) page) ≡ unknown_of (seen kept).store (lacking (seen kept) page)
+        → unknown_of kept.store (missing_at (seen kept) page) ≡ unknown_of (seen kept).store (missing_at (seen kept) page)
     by_state Valid is = nothing (at Valid is)
     by_state Written is = nothing (at Written is)
     by_state Invalid is = some (get_or kept.since page []) (ap (λ s. pending_changes (record (copy_at kept.table page) { state = s })) is) (at Invalid is)
@@ -102,13 +102,13 @@ base-in kept page keeper Absent = refl
 -- the parts of a need make it
 pub need-made : (kept : Kept) (n : NodeMemory) (page nodes keeper : ℕ) (missing unknown : List Key) (base : Base) (need : Need) → node_seen kept ≡ n
     → page < length kept.table.copies → nodes ≡ length n.memory.store.last → keeper ≡ keeper_at n.memory page
-    → missing ≡ lacking n.memory page → unknown ≡ unknown_of kept.store missing → base ≡ base_in (copy_at kept.table page).state keeper
+    → missing ≡ missing_at n.memory page → unknown ≡ unknown_of kept.store missing → base ≡ base_in (copy_at kept.table page).state keeper
     → need ≡ record { page = page; base = base; asked = asked_of nodes unknown; missing = missing }
     → need ≡ need_of (length n.memory.store.last) n.memory page
 need-made kept n page nodes keeper missing unknown base need is within nodes_are keeper_is missing_are unknown_are base_is need_is =
-    let all_unknown : unknown ≡ unknown_of n.memory.store (lacking n.memory page) =
-    unknown_are ∙ ap (unknown_of kept.store) (missing_are ∙ ap (λ (n : NodeMemory). lacking n.memory page) (sym is))
-    ∙ unknown-lacking kept page within ∙ ap (λ (n : NodeMemory). unknown_of n.memory.store (lacking n.memory page)) is in
+    let all_unknown : unknown ≡ unknown_of n.memory.store (missing_at n.memory page) =
+    unknown_are ∙ ap (unknown_of kept.store) (missing_are ∙ ap (λ (n : NodeMemory). missing_at n.memory page) (sym is))
+    ∙ unknown-lacking kept page within ∙ ap (λ (n : NodeMemory). unknown_of n.memory.store (missing_at n.memory page)) is in
     let the_base : base ≡ base_of (keeper_at n.memory page) (memory.copy_at n.memory page) =
     base_is ∙ base-in kept page keeper (copy_at kept.table page).state
     ∙ ap (base_of keeper) (sym (copy-seen kept page within) ∙ ap (λ (n : NodeMemory). memory.copy_at n.memory page) is)
@@ -125,12 +125,12 @@ need-made kept n page nodes keeper missing unknown base need is within nodes_are
     ∙ ap (λ k. record {
       page = page;
       base = base_of (keeper_at n.memory page) (memory.copy_at n.memory page);
-      asked = asked_of k (unknown_of n.memory.store (lacking n.memory page));
+      asked = asked_of k (unknown_of n.memory.store (missing_at n.memory page));
       missing = missing;
     }) nodes_are
     ∙ ap (λ (ks : List Key). record {
       page = page;
       base = base_of (keeper_at n.memory page) (memory.copy_at n.memory page);
-      asked = asked_of (length n.memory.store.last) (unknown_of n.memory.store (lacking n.memory page));
+      asked = asked_of (length n.memory.store.last) (unknown_of n.memory.store (missing_at n.memory page));
       missing = ks;
     }) missing_are

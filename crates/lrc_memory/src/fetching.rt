@@ -1,7 +1,7 @@
 // What a node gives to others, and takes from them.
 
 ghost use Rattle.std.specs.Prelude.{◌≡◌, ◌<◌, Some, All, IfOk, IsTrue, OnOk, fold, length, true, []};
-ghost use Rattle.lrc_protocol.specs.Pages.{changes_or_none, copy_at, keeper_at, lacking, mended, need_of, unknown_of, with_part};
+ghost use Rattle.lrc_protocol.specs.Pages.{changes_or_none, copy_at, keeper_at, missing_at, repaired, need_of, unknown_of, with_part};
 ghost use Rattle.lrc_page.specs.Page.{words_of};
 ghost use Rattle.lrc_store.specs.Lists.{KnowsTheFirst};
 ghost use Rattle.lrc_store.specs.Store.{IsMissing, attached, missing_of, notice_at, unread};
@@ -83,7 +83,7 @@ impl Memory {
     // The notices of a page that its copy lacks, in the order in which their changes are applied.
     fn lacking(&self, page: u16) -> Result<Vec<Key>, AllocError>
         requires { page < length self.now.memory.copies }
-        ensures keys { IfOk result (λ keys. keys.items ≡ lacking self.now.memory page) }
+        ensures keys { IfOk result (λ keys. keys.items ≡ missing_at self.now.memory page) }
         ensures askable { IfOk result (λ keys. AreAskable keys.items) }
     {
         match self.table.state(page) {
@@ -102,7 +102,7 @@ impl Memory {
         requires in_range { need.now.page < length self.old.memory.copies }
         requires fit { is_mendable self.old.size (copy_at self.old.memory need.now.page) need.now.base ≡ true }
         requires of_page { All (λ key. key.page ≡ need.now.page) need.now.missing }
-        ensures mended { self.new ≡ with_known self.old (mended self.old.memory need.now) }
+        ensures mended { self.new ≡ with_known self.old (repaired self.old.memory need.now) }
         ensures same { SameMemory self.old self.new }
     {
         let page = need.page();

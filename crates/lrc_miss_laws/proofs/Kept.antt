@@ -9,8 +9,8 @@ use Rattle.lrc_page.specs.Place.{page_of, pages_of, offset_of}
 use Rattle.lrc_lang.specs.declared.program.Program.{Program}
 use Rattle.lrc_store.specs.Store.{StoreRecord}
 use Rattle.lrc_protocol.specs.Times.{next_time}
-use Rattle.lrc_protocol.specs.Pages.{Copy, valid, absent, Memory, fresh_memory, copy_at, with_written_word, Need, awaits_changes, with_changes, with_page}
-use Rattle.lrc_protocol.specs.Pages.{with_part, mended}
+use Rattle.lrc_protocol.specs.Pages.{Copy, valid, absent, Memory, fresh_memory, copy_at, with_written_word, Need, awaits_changes, changes_came, page_came}
+use Rattle.lrc_protocol.specs.Pages.{with_part, repaired}
 use Rattle.lrc_protocol.specs.Barriers.{with_keepers, clean_memory}
 use Rattle.lrc_protocol.specs.Node.{Wait, access, needs_of, OptionsRecord}
 use Rattle.lrc_protocol.specs.Turn.{with_needs}
@@ -71,16 +71,16 @@ module _ (v : View) (ranged : Ranged v) (needed : Needed v) (h : AreUnfetched v)
 
   -- with all that it waits for
   mended-unfetched : (needs : List Need) → needs_of v.wait ≡ needs → (page : ℕ)
-      → IsUnfetched v.setting.me page v.memory (copy_at (fold mended v.memory needs) page)
+      → IsUnfetched v.setting.me page v.memory (copy_at (fold repaired v.memory needs) page)
   mended-unfetched needs e page =
       mends-unfetched v.setting.me page (pages_in v) v.memory needs v.memory ranged.memory.copies
       (subst (All (λ (need : Need). need.page < pages_in v)) e within)
       (λ n. h page (ap (λ needs. is_needed needs page) e ∙ n))
 
   mends-one : (need : Need) → v.wait ≡ access need → (page : ℕ)
-      → IsUnfetched v.setting.me page (mended v.memory need) (copy_at (mended v.memory need) page)
+      → IsUnfetched v.setting.me page (repaired v.memory need) (copy_at (repaired v.memory need) page)
   mends-one need w page =
-      unfetched-still v.setting.me page v.memory (mended v.memory need) (copy_at (mended v.memory need) page) refl (λ since u. u)
+      unfetched-still v.setting.me page v.memory (repaired v.memory need) (copy_at (repaired v.memory need) page) refl (λ since u. u)
       (mended-unfetched (need ∷ []) (ap needs_of w) page)
 
   cleans-unfetched : (needs : List Need) (kept : List ℕ) → needs_of v.wait ≡ needs → (page : ℕ)
@@ -91,7 +91,7 @@ module _ (v : View) (ranged : Ranged v) (needed : Needed v) (h : AreUnfetched v)
       unfetched-still v.setting.me page v.memory now (copy_at now page) rest.collected
       (λ since u. subst (λ (store : StoreRecord). AreUnread v.setting.me page since store) (sym rest.store) u)
       (subst (λ (copies : List Copy). IsUnfetched v.setting.me page v.memory (slice_index_or copies page absent))
-      (sym (bases-copies kept (fold mended v.memory needs)))
+      (sym (bases-copies kept (fold repaired v.memory needs)))
       (mended-unfetched needs e page))
 
 -- ---- every change
@@ -121,13 +121,13 @@ unfetched-kept v _ (misses page w lt b next) r s n h = λ page free. unfetched-a
 unfetched-kept v _ (mends need w met) r s n h = λ page free. mends-one v r n h need w page
 unfetched-kept v _ (gets_changes from m e) r s n h = λ page free.
     let now : Memory = record v.memory { store = fold (with_part from m.page) v.memory.store m.parts } in
-    let before : is_needed (needs_of v.wait) page ≡ false = same-needed (with_changes m.page from) (changed_page m.page from) v.wait page free in
+    let before : is_needed (needs_of v.wait) page ≡ false = same-needed (changes_came m.page from) (changed_page m.page from) v.wait page free in
     let other : m.page ≡ page → ⊥ = λ same.
     false≢true (sym before ∙ ap (is_needed (needs_of v.wait)) (sym same) ∙ awaited-needed m.page from _ (needs_of v.wait) e.asked) in
     unfetched-still v.setting.me page v.memory now (copy_at v.memory page) refl
     (λ since u. parts-unread v.setting.me page since from m.page m.parts v.memory.store other u) (h page before)
 unfetched-kept v _ (gets_page from sent values e) r s n h = λ page free.
-    h page (same-needed (with_page sent values) (sent_page sent values) v.wait page free)
+    h page (same-needed (page_came sent values) (sent_page sent values) v.wait page free)
 
 -- ---- a fresh node
 

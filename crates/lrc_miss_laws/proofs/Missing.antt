@@ -5,10 +5,10 @@ use Rattle.std.proofs.lemmas.Bool.{and_parts}
 use Rattle.std.proofs.lemmas.List.Elements.{All-map}
 use Rattle.lrc_time.specs.Time.{joined}
 use Rattle.lrc_envelope.specs.Records.{DepartRecord}
-use Rattle.lrc_protocol.specs.Pages.{is_readable, copy_at, learned, lacking, unknown_of, asked_of, Need, need_of}
+use Rattle.lrc_protocol.specs.Pages.{is_readable, copy_at, learned, missing_at, unknown_of, asked_of, Need, need_of}
 use Rattle.lrc_protocol.specs.Node.{Node, Wait, nothing, grant, departure, access, upkeep, discard, awaits_departure, needs_of}
 use Rattle.lrc_protocol.specs.Rules.{keeping, collection_at, need_at, upkeep_at}
-use Rattle.lrc_protocol.specs.Turn.{is_departure}
+use Rattle.lrc_protocol.specs.Turn.{expects_departure}
 use Rattle.lrc_node_laws.specs.Reached.{IsReached}
 use Rattle.lrc_node_laws.proofs.Change.{View, view_of, Walk, goes, learns, news, is_open}
 use Rattle.lrc_node_laws.proofs.Reach.{first_view}
@@ -21,7 +21,7 @@ use Rattle.lrc_miss_laws.proofs.Kept.{unfetched-all, unfetched}
 -- ---- where nothing is needed
 
 pub none-known : (node : Node) (page : ℕ) → IsReached node → needs_of node.mail.wait ≡ []
-    → unknown_of node.memory.store (lacking node.memory page) ≡ lacking node.memory page
+    → unknown_of node.memory.store (missing_at node.memory page) ≡ missing_at node.memory page
 none-known node page r none =
     all-unknown node.setting.me page node.memory (copied_at node r)
     (unfetched-all (view_of node) none (unfetched r.program r.nodes r.options r.me r.leads.among (view_of node) (come_to node r).walked) page)
@@ -40,7 +40,7 @@ departing-open (access need) e = cc
 departing-open (upkeep collection needs) e = cc
 departing-open (discard collection) e = cc
 
-module _ (node : Node) (from : ℕ) (m : DepartRecord) (r : IsReached node) (e : is_departure node from m ≡ true) where
+module _ (node : Node) (from : ℕ) (m : DepartRecord) (r : IsReached node) (e : expects_departure node from m ≡ true) where
   abbrev knowing : View
   knowing = record (view_of node) {
     time = joined node.locks.time m.time;
@@ -53,7 +53,7 @@ module _ (node : Node) (from : ℕ) (m : DepartRecord) (r : IsReached node) (e :
   walked : Walk (first_view r.program r.nodes r.options r.me r.leads.among) knowing
   walked = goes (come_to node r).walked (learns m.time m.intervals waits_open (news node m.time m.intervals (and_parts _ _ e).1))
 
-  pub none-known_then : (page : ℕ) → unknown_of (keeping node m).memory.store (lacking (keeping node m).memory page) ≡ lacking (keeping node m).memory page
+  pub none-known_then : (page : ℕ) → unknown_of (keeping node m).memory.store (missing_at (keeping node m).memory page) ≡ missing_at (keeping node m).memory page
   none-known_then page =
       all-unknown node.setting.me page (keeping node m).memory (copied_own r.program r.nodes r.options r.me r.leads.among knowing walked)
       (unfetched-still node.setting.me page knowing.memory (keeping node m).memory (copy_at knowing.memory page) refl (λ since u. u)

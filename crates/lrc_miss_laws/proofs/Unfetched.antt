@@ -11,8 +11,8 @@ use Rattle.lrc_store.specs.Interval.{IntervalRecord}
 use Rattle.lrc_store.specs.Store.{added, changes_at}
 use Rattle.lrc_protocol.specs.Times.{is_named}
 use Rattle.lrc_protocol.specs.Pages.{Copy, valid, written, invalid, absent, after_write, closed, invalidated, dropped, Memory, copy_at}
-use Rattle.lrc_protocol.specs.Pages.{all_changes, closed_interval, with_interval, learned, lacking, lacking_in, unknown_of, repaired, Need}
-use Rattle.lrc_protocol.specs.Pages.{first_values, mended}
+use Rattle.lrc_protocol.specs.Pages.{all_changes, closed_interval, with_interval, learned, missing_at, missing_in, unknown_of, all_applied, Need}
+use Rattle.lrc_protocol.specs.Pages.{first_values, repaired}
 use Rattle.lrc_protocol.specs.Barriers.{collected_at}
 use Rattle.lrc_node_laws.specs.Stored.{StoresExactly}
 use Rattle.lrc_node_laws.specs.Own.{OwnCopied}
@@ -111,13 +111,13 @@ needed-next need needs page ne e = or_from (need.page == page) _ (ne_eqb need.pa
 pub mends-unfetched : (me page pages : ℕ) (a : Memory) (needs : List Need) (memory : Memory) → length memory.copies ≡ pages
     → All (λ (need : Need). need.page < pages) needs
     → (list_any (λ named. named == page) (map (λ (need : Need). need.page) needs) ≡ false → IsUnfetched me page a (copy_at memory page))
-    → IsUnfetched me page a (copy_at (fold mended memory needs) page)
+    → IsUnfetched me page a (copy_at (fold repaired memory needs) page)
 mends-unfetched me page pages a [] memory long within h = h refl
 mends-unfetched me page pages a (need ∷ needs) memory long within h =
     let Within : Need → Type 0 = λ need. need.page < pages in
-    let mend : Copy = valid (repaired memory.store (first_values (copy_at memory need.page) need.base) need.missing) in
+    let mend : Copy = valid (all_applied memory.store (first_values (copy_at memory need.page) need.base) need.missing) in
     let lt : need.page < length memory.copies = omega (arith, long, All-head Within need needs within) in
-    mends-unfetched me page pages a needs (mended memory need) (length-set memory.copies need.page mend ∙ long) (All-tail Within need needs within)
+    mends-unfetched me page pages a needs (repaired memory need) (length-set memory.copies need.page mend ∙ long) (All-tail Within need needs within)
     (λ e.
     ⊎_elim
     (λ (here : need.page ≡ page).
@@ -146,7 +146,7 @@ filter_all test (x ∷ xs) h =
     ∙ ap (λ l. x ∷ l) (filter_all test xs (All-tail (λ x. test x ≡ true) x xs h))
 
 lacking-unknown : (me page : ℕ) (memory : Memory) (copy : Copy) → IsUnfetched me page memory copy
-    → All (λ (key : Key). (key.node ≡ me → ⊥) → is_none (changes_at memory.store key) ≡ true) (lacking_in memory page copy)
+    → All (λ (key : Key). (key.node ≡ me → ⊥) → is_none (changes_at memory.store key) ≡ true) (missing_in memory page copy)
 lacking-unknown me page memory (valid values) h =
     All-nil (λ (key : Key). (key.node ≡ me → ⊥) → is_none (changes_at memory.store key) ≡ true)
 lacking-unknown me page memory (written values twin) h =
@@ -155,9 +155,9 @@ lacking-unknown me page memory (invalid values since) h = missing-unknown me pag
 lacking-unknown me page memory absent h = missing-unknown me page memory.collected memory.store h
 
 pub all-unknown : (me page : ℕ) (memory : Memory) → OwnCopied me memory → IsUnfetched me page memory (copy_at memory page)
-    → unknown_of memory.store (lacking memory page) ≡ lacking memory page
+    → unknown_of memory.store (missing_at memory page) ≡ missing_at memory page
 all-unknown me page memory own h =
-    let others : All (λ (key : Key). key.node ≡ me → ⊥) (lacking memory page) = lacking-other me page memory (copy_at memory page) refl own in
-    let unknown : All (λ (key : Key). (key.node ≡ me → ⊥) → is_none (changes_at memory.store key) ≡ true) (lacking memory page) =
+    let others : All (λ (key : Key). key.node ≡ me → ⊥) (missing_at memory page) = lacking-other me page memory (copy_at memory page) refl own in
+    let unknown : All (λ (key : Key). (key.node ≡ me → ⊥) → is_none (changes_at memory.store key) ≡ true) (missing_at memory page) =
     lacking-unknown me page memory (copy_at memory page) h in
-    filter_all (λ (key : Key). is_none (changes_at memory.store key)) (lacking memory page) (λ k d within. unknown k d within (others k d within))
+    filter_all (λ (key : Key). is_none (changes_at memory.store key)) (missing_at memory page) (λ k d within. unknown k d within (others k d within))

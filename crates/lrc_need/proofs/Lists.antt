@@ -6,7 +6,7 @@ use Rattle.std.specs.List.{All, AllPairs}
 use Rattle.std.proofs.lemmas.List.{ext_get_or, get_or_default}
 use Rattle.std.proofs.lemmas.Bool.{false_from_ne_true, ne_eqb}
 use lib.Pointwise.{pointwise, bytes_decides}
-use Rattle.lrc_protocol.specs.Pages.{Need, come, with_page}
+use Rattle.lrc_protocol.specs.Pages.{Need, come, page_came}
 
 -- ---- the first elements changed, the others as they were
 
@@ -59,7 +59,7 @@ lists_agree xs ys long h = sym ((bytes_decides xs ys).1 (ext_get_or 0 xs ys long
 -- ---- needs
 
 -- a need of another page stays
-pub page-other : (page : ℕ) (values : List ℕ) (need : Need) → need.page ≢ page → with_page page values need ≡ need
+pub page-other : (page : ℕ) (values : List ℕ) (need : Need) → need.page ≢ page → page_came page values need ≡ need
 page-other page values need other =
     by_test (need.page == page) (ne_eqb need.page page other)
   where
@@ -77,9 +77,9 @@ apart_by (suc j) (suc i) other =
 -- where no two needs are of one page, one need of a page is changed
 pub page-one : (page : ℕ) (values : List ℕ) (needs : List Need) (i : ℕ) (d : Need) → i < length needs
     → (slice_index_or needs i d).page ≡ page → AllPairs (λ a b. a.page ≢ b.page) needs
-    → slice_set needs i (with_page page values (slice_index_or needs i d)) ≡ map (with_page page values) needs
+    → slice_set needs i (page_came page values (slice_index_or needs i d)) ≡ map (page_came page values) needs
 page-one page values needs i d within here apart =
-    map-one (λ need. need.page ≢ page) (with_page page values) (page-other page values) needs i d within
+    map-one (λ need. need.page ≢ page) (page_came page values) (page-other page values) needs i d within
     (λ j e inside other same. ⊎_elim
     (λ below. apart j i d below within (ap (λ (n : Need). n.page) (get_or_default needs j d e inside) ∙ same ∙ sym here))
     (λ above. apart i j d above inside (here ∙ sym same ∙ ap (λ (n : Need). n.page) (get_or_default needs j e d inside)))

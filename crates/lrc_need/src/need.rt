@@ -2,7 +2,7 @@
 
 ghost use Rattle.std.specs.Prelude.{◌≡◌, ◌<◌, ◌≤◌, All, IfOk, length, map};
 ghost use Rattle.lrc_page.specs.declared.TheConstants.{MOST_PAGES};
-ghost use Rattle.lrc_protocol.specs.Pages.{asked_of, is_met, awaits_changes, awaits_page, with_changes, with_page};
+ghost use Rattle.lrc_protocol.specs.Pages.{asked_of, is_met, awaits_changes, awaits_page, changes_came, page_came};
 
 use crate::asked::{Asked, ask, drop_maker, is_any_of};
 use crate::base::Base;
@@ -115,7 +115,7 @@ impl Need {
 
     /// The changes of this page that were asked of this maker have come. A need of another page stays as it is.
     pub fn take_changes(&mut self, page: u16, maker: u8)
-        ensures { self.new ≡ with_changes page maker self.old }
+        ensures { self.new ≡ changes_came page maker self.old }
     {
         if self.page == page {
             drop_maker(&mut self.asked, maker);
@@ -124,7 +124,7 @@ impl Need {
 
     /// The page's base copy has come.
     pub fn take_page(&mut self, copy: Box<Page>)
-        ensures { self.new ≡ with_page self.old.page copy.value self.old }
+        ensures { self.new ≡ page_came self.old.page copy.value self.old }
     {
         self.base = Base::Come(copy);
     }

@@ -3,8 +3,9 @@
 ghost use Rattle.std.specs.Prelude.{◌≡◌, ◌≢◌, AllPairs, map};
 ghost use Rattle.std.specs.List.{list_any, list_all};
 ghost use Rattle.std.specs.Option.{option_copied};
-ghost use Rattle.lrc_protocol.specs.Pages.{awaits_changes, awaits_page, with_changes, with_page};
-ghost use Rattle.lrc_protocol.specs.Node.{is_idle, needs_of, awaits_grant, awaits_departure, awaits_discard, collection_of};
+ghost use Rattle.lrc_protocol.specs.Pages.{awaits_changes, awaits_page, changes_came, page_came};
+ghost use Rattle.lrc_protocol.specs.Node.{is_idle, needs_of, awaits_grant, awaits_departure, collection_of};
+ghost use Rattle.lrc_protocol.specs.Follows.{awaits_discard};
 ghost use Rattle.lrc_protocol.specs.Turn.{with_needs};
 
 use crate::need::Need;
@@ -110,7 +111,7 @@ impl Wait {
 
     /// The changes of this page that were asked of this maker have come.
     pub fn take_changes(&mut self, page: u16, maker: u8)
-        ensures { seen_wait self.new ≡ with_needs (with_changes page maker) (seen_wait self.old) }
+        ensures { seen_wait self.new ≡ with_needs (changes_came page maker) (seen_wait self.old) }
     {
         match self {
             Wait::Access(need) => need.take_changes(page, maker),
@@ -122,7 +123,7 @@ impl Wait {
     /// This page's base copy has come. No two needs are of one page.
     pub fn take_page(&mut self, page: u16, copy: Box<Page>)
         requires { AllPairs (λ a b. a.page ≢ b.page) (needs_of (seen_wait self.old)) }
-        ensures { seen_wait self.new ≡ with_needs (with_page page copy.value) (seen_wait self.old) }
+        ensures { seen_wait self.new ≡ with_needs (page_came page copy.value) (seen_wait self.old) }
     {
         match self {
             Wait::Access(need) => {
@@ -138,7 +139,7 @@ impl Wait {
 
 // The changes of this page that were asked of this maker have come.
 fn take_changes_of_all(needs: &mut [Need], page: u16, maker: u8)
-    ensures { needs.new ≡ map (with_changes page maker) needs.old }
+    ensures { needs.new ≡ map (changes_came page maker) needs.old }
 {
     for need in needs.iter_mut() {
         need.take_changes(page, maker);
@@ -148,7 +149,7 @@ fn take_changes_of_all(needs: &mut [Need], page: u16, maker: u8)
 // This page's base copy has come. No two needs are of one page.
 fn take_page_of_all(needs: &mut [Need], page: u16, copy: Box<Page>)
     requires { AllPairs (λ a b. a.page ≢ b.page) needs.old }
-    ensures { needs.new ≡ map (with_page page copy.value) needs.old }
+    ensures { needs.new ≡ map (page_came page copy.value) needs.old }
 {
     for need in needs.iter_mut() {
         if need.page() == page {

@@ -8,9 +8,11 @@ use Rattle.lrc_exec.specs.declared.machine.Ask.TheVariants.{Acquire, Barrier}
 use Rattle.lrc_exec.specs.Ask.{ask_of}
 use Rattle.lrc_exec.specs.Meaning.{Next, quiet, prints, reads, writes, acquires, releases, arrives, departs, traps, ends}
 use Rattle.lrc_store.specs.Interval.{IntervalRecord}
-use Rattle.lrc_protocol.specs.Node.{Wait, nothing, grant, departure, access, upkeep, discard, awaits_grant, awaits_departure, awaits_discard}
+use Rattle.lrc_protocol.specs.Node.{Wait, nothing, grant, departure, access, upkeep, discard, awaits_grant, awaits_departure}
+use Rattle.lrc_protocol.specs.Follows.{awaits_discard}
 use Rattle.lrc_protocol.specs.Node.{Node, with_taken, needs_of}
-use Rattle.lrc_protocol.specs.Turn.{is_learnable, is_expected, is_page, is_interval, are_arriving, learns, with_needs}
+use Rattle.lrc_protocol.specs.Turn.{is_learnable, is_page, is_interval, are_arriving, learns, with_needs}
+use Rattle.lrc_protocol.specs.Follows.{is_expected}
 use Rattle.lrc_order_laws.specs.Waiting.{next_in, acquiring, is_departing, FixesNext}
 use Rattle.lrc_node_laws.specs.Reached.{IsReached}
 use Rattle.lrc_node_laws.specs.Ranges.{CollectsAt}
@@ -27,7 +29,7 @@ use Rattle.lrc_envelope.specs.declared.message.Message.{Message}
 use Rattle.lrc_envelope.specs.declared.message.Message.TheVariants.{LockRequest, LockForward, LockGrant, Arrive, Depart, Clean, Discard}
 use Rattle.lrc_envelope.specs.declared.message.Message.TheVariants.{ChangesRequest, ChangesReply, PageRequest, PageReply}
 use Rattle.lrc_barrier.specs.Barrier.{IsArrival}
-use Rattle.lrc_protocol.specs.Pages.{Need, Memory, learned, with_changes, with_page}
+use Rattle.lrc_protocol.specs.Pages.{Need, Memory, learned, changes_came, page_came}
 use Rattle.lrc_node_laws.proofs.Tests.{each_passes}
 use Rattle.lrc_node_laws.proofs.Awaited.{ascends-pairs}
 use Rattle.lrc_node_laws.proofs.Always.{awaited_at, needed_at}
@@ -244,7 +246,7 @@ can_take node r from sender number (ChangesRequest m) e = below_copies node r m.
 can_take node r from sender number (ChangesReply m) e = (
   awaited_at node r from m (fulfilled node from (ChangesReply m) e),
   whatever_mail (with_parts from m node) (with_taken sender number node.mail)
-      (with_needs (with_changes m.page from) node.mail.wait) (changes_go_on node r from m (fulfilled node from (ChangesReply m) e)),
+      (with_needs (changes_came m.page from) node.mail.wait) (changes_go_on node r from m (fulfilled node from (ChangesReply m) e)),
 )
 can_take node r from sender number (PageRequest page) e =
     let a = and_parts _ _ (fulfilled node from (PageRequest page) e) in
@@ -252,7 +254,7 @@ can_take node r from sender number (PageRequest page) e =
 can_take node r from sender number (PageReply m) e =
     let a = and_parts _ _ (fulfilled node from (PageReply m) e) in (
       apart_pairs (needs_of node.mail.wait) (ascends-pairs (map (λ (need : Need). need.page) (needs_of node.mail.wait)) (needed_at node r).apart),
-      whatever_mail node (with_taken sender number node.mail) (with_needs (with_page m.page m.values) node.mail.wait)
+      whatever_mail node (with_taken sender number node.mail) (with_needs (page_came m.page m.values) node.mail.wait)
           (page_goes_on node r from m.page m.values (eqb-true _ _ (and_parts _ _ a.0).1) a.1),
     )
 

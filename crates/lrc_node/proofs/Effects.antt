@@ -10,7 +10,7 @@ use Rattle.lrc_envelope.specs.Envelope.{EnvelopeRecord}
 use Rattle.lrc_exec.specs.Ask.{ask_of}
 use Rattle.lrc_exec.specs.Meaning.{Thread, Next, quiet, prints, reads, writes, acquires, releases, arrives, departs, traps, ends, next_of}
 use Rattle.lrc_protocol.specs.Node.{Course, going, trapped, ended, deed_of, course_of, Letter, is_idle, Node, Effect, acts, acts_by, makes}
-use Rattle.lrc_protocol.specs.Turn.{begins_of, begins, may_begin, run_effect, charged, run_turn, turn_by, turn_if, turn_of, turn_with}
+use Rattle.lrc_protocol.specs.Turn.{begins_of, begins, may_begin, run_effect, charged, run_turn, turn_by, turn_or, turn_of, turn_with}
 use Rattle.lrc_protocol.specs.Turn.{not_ready, worn}
 use Rattle.lrc_node.specs.Text.{asked_in, cost_to_begin}
 use Rattle.lrc_node.specs.Effects.{value_asked, memory_asked, acted, deed_next, effect_asked, begun_node, CanBegin, RefusesRun, too_large, without_memory}
@@ -99,11 +99,11 @@ by_next node (traps cause) h = refl
 by_next node ends h = refl
 
 by_begun : (node : Node) (o : Option Next) (ask : Ask) → NotDeparting o → option_map ask_of o ≡ Some ask
-    → turn_by node o ≡ turn_if (effect_asked (record node { left = node.left - cost_to_begin o }) ask)
+    → turn_by node o ≡ turn_or worn (effect_asked (record node { left = node.left - cost_to_begin o }) ask)
 unfolding NotDeparting
 by_begun node None ask h e = cc
 by_begun node (Some next) ask h e =
-    ap turn_if (by_next (charged node next) next h ∙ ap (effect_asked (charged node next)) (same_Some _ _ e))
+    ap (turn_or worn) (by_next (charged node next) next h ∙ ap (effect_asked (charged node next)) (same_Some _ _ e))
 
 none_begun : (node : Node) (o : Option Next) → option_map ask_of o ≡ None → turn_by node o ≡ not_ready
 none_begun node None e = refl
@@ -115,7 +115,7 @@ idle_no_departure node true = begun_no_departure node.left node.course
 idle_no_departure node false = tt
 
 -- the turn of a node by what it begins
-pub run_asked : (node : Node) (ask : Ask) → option_map ask_of (begins node) ≡ Some ask → run_turn node ≡ turn_if (effect_asked (begun_node node) ask)
+pub run_asked : (node : Node) (ask : Ask) → option_map ask_of (begins node) ≡ Some ask → run_turn node ≡ turn_or worn (effect_asked (begun_node node) ask)
 run_asked node ask e = by_begun node (begins node) ask (idle_no_departure node (is_idle node.mail.wait)) e
 
 pub run_none : (node : Node) → option_map ask_of (begins node) ≡ None → run_turn node ≡ not_ready
@@ -147,7 +147,7 @@ numbered_not_ready : (effect : Effect) (sent : Option (List EnvelopeRecord × Li
 numbered_not_ready effect None e = cc
 numbered_not_ready effect (Some (envelopes, sent)) e = cc
 
-turn_not_ready : (o : Option Effect) → turn_if o ≡ not_ready → ⊥
+turn_not_ready : (o : Option Effect) → turn_or worn o ≡ not_ready → ⊥
 turn_not_ready None e = cc
 turn_not_ready (Some effect) e = numbered_not_ready effect _ e
 
@@ -168,10 +168,10 @@ can_begun node (Ask_Trap cause) h = h
 can_begun node Ask_End h = h
 
 -- why it doesn't go on, by what would come of what it begins
-pub refuses_begun : (node : Node) (ask : Ask) (o : Option Effect) (fault : NodeFault) → run_turn node ≡ turn_if o
+pub refuses_begun : (node : Node) (ask : Ask) (o : Option Effect) (fault : NodeFault) → run_turn node ≡ turn_or worn o
     → (fault ≡ Worn × o ≡ None) ⊎ (fault ≡ NoMemory) → RefusesRun (run_turn node) fault
 refuses_begun node ask o fault e (inl (f, none)) =
-    let is : run_turn node ≡ worn = e ∙ ap turn_if none in
+    let is : run_turn node ≡ worn = e ∙ ap (turn_or worn) none in
     subst (λ g. RefusesRun (run_turn node) g) (sym f) (subst (λ t. RefusesRun t Worn) (sym is) too_large)
 refuses_begun node ask o fault e (inr f) = subst (λ g. RefusesRun (run_turn node) g) (sym f) without_memory
 

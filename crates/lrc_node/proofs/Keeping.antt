@@ -12,7 +12,7 @@ use Rattle.lrc_page.specs.Place.{pages_of}
 use Rattle.lrc_store.specs.declared.key.Key.{Key}
 use Rattle.lrc_memory.specs.Turns.{is_mendable}
 use Rattle.lrc_protocol.specs.Pages.{Copy, valid, written, invalid, absent, is_readable, changes_of, Base, unneeded, due, come, Need, need_of}
-use Rattle.lrc_protocol.specs.Pages.{is_due, is_met, mended, Memory, copy_at, keeper_at}
+use Rattle.lrc_protocol.specs.Pages.{is_due, is_met, repaired, Memory, copy_at, keeper_at}
 use Rattle.lrc_protocol.specs.Barriers.{Collection, kept_pages, with_base, with_keepers}
 use Rattle.lrc_protocol.specs.Node.{Letter, upkeep, Node, with_memory}
 use Rattle.lrc_protocol.specs.Turn.{requests_of, needs_to_keep}
@@ -35,10 +35,10 @@ use Rattle.lrc_node.proofs.Misses.{lacking_of_page, requests_for}
 
 -- to repair other pages leaves a copy as it is
 other_copies : (needs : List Need) (memory : Memory) (page : ℕ) → All (λ (n : Need). n.page ≢ page) needs
-    → copy_at (fold mended memory needs) page ≡ copy_at memory page
+    → copy_at (fold repaired memory needs) page ≡ copy_at memory page
 other_copies [] memory page h = refl
 other_copies (need ∷ needs) memory page h =
-    other_copies needs (mended memory need) page (All-tail (λ (n : Need). n.page ≢ page) need needs h)
+    other_copies needs (repaired memory need) page (All-tail (λ (n : Need). n.page ≢ page) need needs h)
     ∙ get_or-set_other memory.copies need.page page _ absent (λ e. All-head (λ (n : Need). n.page ≢ page) need needs h (sym e))
 
 before_apart : (needs : List Need) (k : ℕ) (d : Need) → AllPairs (λ (a b : Need). a.page ≢ b.page) needs → k < length needs
@@ -50,7 +50,7 @@ before_apart needs k d h lt = λ i e within.
 
 -- each page can be repaired once those before it are
 pub can_mend_next : (size : Size) (memory : Memory) (needs : List Need) (k : ℕ) (d : Need) → AllPairs (λ (a b : Need). a.page ≢ b.page) needs
-    → All (CanMend size memory) needs → k < length needs → CanMend size (fold mended memory (take k needs)) (get_or needs k d)
+    → All (CanMend size memory) needs → k < length needs → CanMend size (fold repaired memory (take k needs)) (get_or needs k d)
 can_mend_next size memory needs k d apart can lt =
     let it : CanMend size memory (get_or needs k d) = can k d lt in
     record {
@@ -106,11 +106,11 @@ apart_pairs needs h = λ i j d before within same.
     omega arith
 
 none_written : (node : Node) (memory : Memory) (kept : List ℕ) (needs : List Need) → list_all is_met needs ≡ true → NoneWritten memory
-    → NoneWritten (fold mended memory needs)
+    → NoneWritten (fold repaired memory needs)
 none_written node memory kept needs met none =
     let collection : Collection = record { time = []; kept = kept } in
     let v : View = record (view_of node) { wait = upkeep collection needs; memory = memory } in
-    subst (All (λ copy. changes_of copy ≡ None)) (bases-copies kept (fold mended memory needs)) (quiet-kept v _ (cleans collection needs refl met) none)
+    subst (All (λ copy. changes_of copy ≡ None)) (bases-copies kept (fold repaired memory needs)) (quiet-kept v _ (cleans collection needs refl met) none)
 
 -- a node that has arrived, has nothing written, and needs just those of the pages that it keeps that may not be read, can clean
 -- its copies once all has come
@@ -122,7 +122,7 @@ pub can_clean : (node : Node) (pages : ℕ) (kept : List ℕ) (needs : List Need
     → NoneWritten node.memory → list_all is_met needs ≡ true → CanClean node kept needs
 can_clean node pages kept needs arrived long ascends fits below same none met =
     let mets : All (λ (need : Need). is_met need ≡ true) needs = each_passes is_met (λ (need : Need). is_met need ≡ true) (λ need t. t) needs met in
-    let after : Memory = fold mended node.memory needs in
+    let after : Memory = fold repaired node.memory needs in
     record {
       arrived = arrived;
       apart = apart_pairs needs (ascends-pairs (map (λ (need : Need). need.page) needs) ascends);

@@ -13,21 +13,21 @@ use Rattle.lrc_memory.specs.Turns.{is_mendable}
 use Rattle.lrc_need.specs.Need.{DueBelow}
 use Rattle.lrc_need.proofs.Asking.{asked-below}
 use Rattle.lrc_mail.proofs.Receivers.{requests-below}
-use Rattle.lrc_protocol.specs.Pages.{Copy, valid, written, invalid, absent, is_readable, Memory, copy_at, lacking, lacking_in, keeper_at, Need}
-use Rattle.lrc_protocol.specs.Pages.{base_of, is_due, is_met, need_of, unknown_of, mended}
+use Rattle.lrc_protocol.specs.Pages.{Copy, valid, written, invalid, absent, is_readable, Memory, copy_at, missing_at, missing_in, keeper_at, Need}
+use Rattle.lrc_protocol.specs.Pages.{base_of, is_due, is_met, need_of, unknown_of, repaired}
 use Rattle.lrc_protocol.specs.Node.{Letter, access, nothing, Node, acts, sends, waiting, with_memory}
 use Rattle.lrc_protocol.specs.Turn.{requests_of, reaches, fetches}
 use Rattle.lrc_node.specs.Effects.{AccessesPage, CanAccess}
 use Rattle.lrc_node.specs.State.{AreFor}
 
-lacking_on : (memory : Memory) (page : ℕ) (copy : Copy) → All (λ (key : Key). key.page ≡ page) (lacking_in memory page copy)
+lacking_on : (memory : Memory) (page : ℕ) (copy : Copy) → All (λ (key : Key). key.page ≡ page) (missing_in memory page copy)
 lacking_on memory page (valid values) = All-nil (λ (key : Key). key.page ≡ page)
 lacking_on memory page (written values twin) = All-nil (λ (key : Key). key.page ≡ page)
 lacking_on memory page (invalid values since) = All-map (λ (key : Key). key.page ≡ page) (key_of page) _ (λ k d h. refl)
 lacking_on memory page absent = All-map (λ (key : Key). key.page ≡ page) (key_of page) _ (λ k d h. refl)
 
 -- what a copy lacks is of its page
-pub lacking_of_page : (memory : Memory) (page : ℕ) → All (λ (key : Key). key.page ≡ page) (lacking memory page)
+pub lacking_of_page : (memory : Memory) (page : ℕ) → All (λ (key : Key). key.page ≡ page) (missing_at memory page)
 lacking_of_page memory page = lacking_on memory page (copy_at memory page)
 
 fits : (size : Size) (keeper : ℕ) (copy : Copy) → is_readable copy ≡ false → is_due (base_of keeper copy) ≡ false
@@ -49,7 +49,7 @@ fits_at_once size nodes memory page r met =
     (not_true (is_due (base_of (keeper_at memory page) (copy_at memory page))) (and_parts _ _ met).0)
 
 -- a page that is repaired can be read
-pub readable_mended : (memory : Memory) (need : Need) → need.page < length memory.copies → is_readable (copy_at (mended memory need) need.page) ≡ true
+pub readable_mended : (memory : Memory) (need : Need) → need.page < length memory.copies → is_readable (copy_at (repaired memory need) need.page) ≡ true
 readable_mended memory need within = ap is_readable (get_or-set_same memory.copies need.page _ absent within)
 
 -- with its page readable an access can be made
@@ -76,7 +76,7 @@ due_below nodes keeper absent lt = lt
 pub requests_for : (nodes : ℕ) (memory : Memory) (page : ℕ) → keeper_at memory page < nodes → AreFor nodes (requests_of (need_of nodes memory page))
 requests_for nodes memory page lt =
     requests-below nodes (need_of nodes memory page) (due_below nodes (keeper_at memory page) (copy_at memory page) lt)
-    (asked-below nodes (unknown_of memory.store (lacking memory page)))
+    (asked-below nodes (unknown_of memory.store (missing_at memory page)))
 
 -- ---- what a miss does
 
@@ -93,11 +93,11 @@ reaches_missing node page need r e =
     ∙ sym (ap (λ n. fetches (requests_of n) node n) e)
 
 met_at : (letters : List Letter) (node : Node) (need : Need) (met : Bool) → met ≡ true
-    → (if met then acts letters (waiting nothing (with_memory node (mended node.memory need))) else sends letters (waiting (access need) node))
-    ≡ acts letters (waiting nothing (with_memory node (mended node.memory need)))
+    → (if met then acts letters (waiting nothing (with_memory node (repaired node.memory need))) else sends letters (waiting (access need) node))
+    ≡ acts letters (waiting nothing (with_memory node (repaired node.memory need)))
 met_at letters node need true e = refl
 met_at letters node need false e = cc
 
 pub access_met : (letters : List Letter) (node : Node) (need : Need) → is_met need ≡ true
-    → fetches letters node need ≡ acts letters (waiting nothing (with_memory node (mended node.memory need)))
+    → fetches letters node need ≡ acts letters (waiting nothing (with_memory node (repaired node.memory need)))
 access_met letters node need e = met_at letters node need (is_met need) e

@@ -11,10 +11,10 @@ use Rattle.lrc_exec.specs.Ask.{ask_of}
 use Rattle.lrc_exec.specs.Meaning.{Next, quiet, prints, reads, writes, acquires, releases, arrives, departs, traps, ends}
 use Rattle.lrc_store.specs.declared.key.Key.{Key}
 use Rattle.lrc_envelope.specs.Records.{IndexedChangesRecord, ChangesReplyRecord}
-use Rattle.lrc_protocol.specs.Pages.{Copy, absent, is_readable, changes_of, Memory, copy_at, Need, is_due, is_met, with_changes, with_page}
+use Rattle.lrc_protocol.specs.Pages.{Copy, absent, is_readable, changes_of, Memory, copy_at, Need, is_due, is_met, changes_came, page_came}
 use Rattle.lrc_protocol.specs.Pages.{awaits_page, with_part}
 use Rattle.lrc_protocol.specs.Node.{Mail, Wait, nothing, grant, departure, access, upkeep, discard, needs_of, Node, with_memory}
-use Rattle.lrc_protocol.specs.Turn.{is_changes_reply, with_needs}
+use Rattle.lrc_protocol.specs.Turn.{expects_changes_reply, with_needs}
 use Rattle.lrc_order_laws.specs.Waiting.{next_in}
 use Rattle.lrc_node_laws.specs.Reached.{IsReached}
 use Rattle.lrc_node_laws.specs.Needs.{FitsNeed, FitsKept, page_next, ReachesFor}
@@ -97,8 +97,8 @@ goes_on_access node r memory change same keeps (upkeep collection needs) waits f
 goes_on_access node r memory change same keeps (discard collection) waits fits = tt
 
 -- once changes have come
-pub changes_go_on : (node : Node) → IsReached node → (from : ℕ) (m : ChangesReplyRecord) → is_changes_reply node from m ≡ true
-    → CanGoOn (with_parts from m node) (with_needs (with_changes m.page from) node.mail.wait)
+pub changes_go_on : (node : Node) → IsReached node → (from : ℕ) (m : ChangesReplyRecord) → expects_changes_reply node from m ≡ true
+    → CanGoOn (with_parts from m node) (with_needs (changes_came m.page from) node.mail.wait)
 changes_go_on node r from m e =
     let it : Reply (view_of node) from m = reply node from m e in
     let nodes = node.setting.nodes in
@@ -107,15 +107,15 @@ changes_go_on node r from m e =
     let fits = (needed_at node r).each in
     let asked = asked-exactly nodes pages words node.memory (needs_of node.mail.wait) m.page from
     (map (λ (part : IndexedChangesRecord). part.index) m.parts) fits it.asked in
-    goes_on_access node r (record node.memory { store = fold (with_part from m.page) node.memory.store m.parts }) (with_changes m.page from) refl
+    goes_on_access node r (record node.memory { store = fold (with_part from m.page) node.memory.store m.parts }) (changes_came m.page from) refl
     (changed_page m.page from) node.mail.wait (waits_at node r)
     (changes-fit nodes pages words node.memory from m.page m.parts (is_store_at node r) asked (needs_of node.mail.wait) fits)
 
 -- once a base copy has come
 pub page_goes_on : (node : Node) → IsReached node → (from page : ℕ) (values : List ℕ) → length values ≡ words_of node.options.size
-    → list_any (awaits_page page from) (needs_of node.mail.wait) ≡ true → CanGoOn node (with_needs (with_page page values) node.mail.wait)
+    → list_any (awaits_page page from) (needs_of node.mail.wait) ≡ true → CanGoOn node (with_needs (page_came page values) node.mail.wait)
 page_goes_on node r from page values long e =
-    goes_on_access node r node.memory (with_page page values) refl (sent_page page values) node.mail.wait (waits_at node r)
+    goes_on_access node r node.memory (page_came page values) refl (sent_page page values) node.mail.wait (waits_at node r)
     (page-fits node.setting.nodes (pages_of node.setting.words node.options.size) (words_of node.options.size) node.memory (needs_of node.mail.wait)
     page from values (needed_at node r).each e long)
 

@@ -9,10 +9,12 @@ use Rattle.lrc_envelope.specs.declared.message.Message.TheVariants.{ChangesReque
 use Rattle.lrc_barrier.specs.Barrier.{ManagerRecord, arrived, cleaned}
 use Rattle.lrc_trace.specs.Trace.{TraceRecord}
 use Rattle.lrc_node_laws.specs.Traced.{IsTraced}
-use Rattle.lrc_protocol.specs.Node.{Node, Effect, awaits_discard}
-use Rattle.lrc_protocol.specs.Turn.{is_expected, Outcome, done, unexpected, worn, empty_turn, take_turn, take_anew, taking, is_addressed}
-use Rattle.lrc_protocol.specs.Turn.{is_repeat, is_request, is_forward, is_grant, are_arriving, arrive_by, is_departure, clean_by}
-use Rattle.lrc_protocol.specs.Turn.{is_changes_request, is_changes_reply, is_page_request, is_page_reply, takes, turn_taking}
+use Rattle.lrc_protocol.specs.Node.{Node, Effect}
+use Rattle.lrc_protocol.specs.Follows.{awaits_discard}
+use Rattle.lrc_protocol.specs.Turn.{Outcome, done, unexpected, worn, empty_turn, take_turn, take_anew, taking, is_addressed}
+use Rattle.lrc_protocol.specs.Follows.{is_expected}
+use Rattle.lrc_protocol.specs.Turn.{is_repeat, expects_request, expects_forward, expects_grant, are_arriving, arrive_by, expects_departure, clean_by}
+use Rattle.lrc_protocol.specs.Turn.{expects_changes_request, expects_changes_reply, expects_page_request, expects_page_reply, takes, turn_or}
 use Rattle.lrc_protocol.specs.Run.{taken}
 use Rattle.lrc_protocol.specs.Barriers.{arrival_in}
 use Rattle.lrc_protocol.proofs.Expecting.{given-made, expects, fulfilled, still_expected}
@@ -54,23 +56,23 @@ at_manager step go (Some manager) = refl
 
 -- an expected message does just that
 takes-made : (node : Node) (from : ℕ) (message : Message) → expects node from message ≡ true → takes node from message ≡ effect_of node from message
-takes-made node from (LockRequest m) e = given-made (is_request node m) _ e
-takes-made node from (LockForward m) e = given-made (is_forward node from m) _ (and_parts _ _ e).0
-takes-made node from (LockGrant m) e = given-made (is_grant node m) _ e
+takes-made node from (LockRequest m) e = given-made (expects_request node m) _ e
+takes-made node from (LockForward m) e = given-made (expects_forward node from m) _ (and_parts _ _ e).0
+takes-made node from (LockGrant m) e = given-made (expects_grant node m) _ e
 takes-made node from (Arrive m) e =
     given-made (are_arriving node from m.time m.intervals) _ (and_parts _ _ e).1
     ∙ at_manager (λ manager. arrived manager from (arrival_in m)) (arrive_by node) node.barrier.manager
-takes-made node from (Depart m) e = given-made (is_departure node from m) _ e
+takes-made node from (Depart m) e = given-made (expects_departure node from m) _ e
 takes-made node from (Clean episode) e = at_manager (λ manager. cleaned manager from episode) (clean_by node) node.barrier.manager
 takes-made node from (Discard episode) e =
     let outer = and_parts ((from == 0) && awaits_discard node.mail.wait) (episode == node.barrier.episode) e in
     let first = and_parts (from == 0) (awaits_discard node.mail.wait) outer.0 in
     given-made ((from == 0) && (episode == node.barrier.episode)) _
     (and_from (from == 0) (episode == node.barrier.episode) first.0 outer.1)
-takes-made node from (ChangesRequest m) e = given-made (is_changes_request node m) _ e
-takes-made node from (ChangesReply m) e = given-made (is_changes_reply node from m) _ e
-takes-made node from (PageRequest page) e = given-made (is_page_request node from page) _ (and_parts _ _ e).0
-takes-made node from (PageReply m) e = given-made (is_page_reply node from m) _ e
+takes-made node from (ChangesRequest m) e = given-made (expects_changes_request node m) _ e
+takes-made node from (ChangesReply m) e = given-made (expects_changes_reply node from m) _ e
+takes-made node from (PageRequest page) e = given-made (expects_page_request node from page) _ (and_parts _ _ e).0
+takes-made node from (PageReply m) e = given-made (expects_page_reply node from m) _ e
 
 none_there : {X : Type 0} (o : Option X) → is_some o ≡ false → o ≡ None
 none_there None e = refl
@@ -78,16 +80,16 @@ none_there (Some x) e = cc
 
 -- what comes of a message that is expected, and of one that is not
 pub awaited : (node : Node) (envelope : EnvelopeRecord) → is_expected node envelope.from envelope.message ≡ true
-    → take_anew node envelope ≡ turn_taking (effect_of (taking node envelope) envelope.from envelope.message)
+    → take_anew node envelope ≡ turn_or unexpected (effect_of (taking node envelope) envelope.from envelope.message)
 awaited node envelope e =
-    ap turn_taking
+    ap (turn_or unexpected)
     (takes-made (taking node envelope) envelope.from envelope.message
     (fulfilled (taking node envelope) envelope.from envelope.message (still_expected node envelope envelope.from envelope.message ∙ e)))
 
 pub unawaited_so : (node : Node) (envelope : EnvelopeRecord) → is_expected node envelope.from envelope.message ≡ false
     → take_anew node envelope ≡ unexpected
 unawaited_so node envelope e =
-    ap turn_taking
+    ap (turn_or unexpected)
     (none_there (takes (taking node envelope) envelope.from envelope.message) (still_expected node envelope envelope.from envelope.message ∙ e))
 
 -- why an expected message is not taken

@@ -4,7 +4,7 @@ use Rattle.lrc_page.specs.declared.size.Size.{Size}
 use Rattle.lrc_page.specs.Place.{pages_of}
 use Rattle.lrc_node_laws.specs.Ranges.{HasRanges}
 use Rattle.lrc_memory.specs.Turns.{is_mendable, NoneIsWritten}
-use Rattle.lrc_protocol.specs.Pages.{is_readable, changes_of, Need, mended, Memory, copy_at}
+use Rattle.lrc_protocol.specs.Pages.{is_readable, changes_of, Need, repaired, Memory, copy_at}
 use Rattle.lrc_protocol.specs.Node.{Node}
 
 -- a page for which all has come can be repaired: it is one of the memory's, its base copy fits, and its keys are of it
@@ -25,7 +25,7 @@ pub record CanClean (node : Node) (kept : List ℕ) (needs : List Need) : Type 0
   pub arrived : 1 ≤ node.barrier.episode
   pub apart : AllPairs (λ a b. a.page ≢ b.page) needs
   pub mends : All (CanMend node.options.size node.memory) needs
-  pub keeps : All (CanKeep (fold mended node.memory needs)) kept
+  pub keeps : All (CanKeep (fold repaired node.memory needs)) kept
 
 -- a node can begin a collection: it has arrived at a barrier, what its memory has is in range, and no page is written
 pub record CanCollect (node : Node) : Type 0 where

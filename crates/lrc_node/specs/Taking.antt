@@ -11,9 +11,10 @@ use Rattle.lrc_order_laws.specs.Tokens.{is_awaited}
 use Rattle.lrc_lock.specs.Held.{forwarded, lock_at, is_taken}
 use Rattle.lrc_lock.specs.Lock.{manager_of}
 use Rattle.lrc_memory.specs.Turns.{AreAwaited, CanBeAdded, NoneIsWritten}
-use Rattle.lrc_protocol.specs.Pages.{with_changes, with_page}
+use Rattle.lrc_protocol.specs.Pages.{changes_came, page_came}
 use Rattle.lrc_protocol.specs.Barriers.{Collection, arrival_in, base_at}
-use Rattle.lrc_protocol.specs.Node.{awaits_discard, discard, needs_of, Node, Effect, collection_of, sends}
+use Rattle.lrc_protocol.specs.Node.{discard, needs_of, Node, Effect, collection_of, sends}
+use Rattle.lrc_protocol.specs.Follows.{awaits_discard}
 use Rattle.lrc_protocol.specs.Turn.{learns, with_needs, page_reply_by, take_page, passes_on, forward_by, take_grant, arrive_by, take_departure}
 use Rattle.lrc_protocol.specs.Turn.{clean_by, discard_by, changes_reply_to, take_changes}
 use Rattle.lrc_node.specs.Barrier.{arrive_step, clean_step}
@@ -50,11 +51,11 @@ CanTake node from (Discard episode) = CanDiscard node
 CanTake node from (ChangesRequest m) = m.page < length node.memory.copies
 CanTake node from (ChangesReply m) =
     AreAwaited node.options.size node.memory.store from m.page m.parts
-    × CanGoOn (with_parts from m node) (with_needs (with_changes m.page from) node.mail.wait)
+    × CanGoOn (with_parts from m node) (with_needs (changes_came m.page from) node.mail.wait)
 CanTake node from (PageRequest page) = (page < length node.memory.copies) × IsTrue (is_some (base_at node.memory page))
 CanTake node from (PageReply m) =
     AllPairs (λ a b. a.page ≢ b.page) (needs_of node.mail.wait)
-    × CanGoOn node (with_needs (with_page m.page m.values) node.mail.wait)
+    × CanGoOn node (with_needs (page_came m.page m.values) node.mail.wait)
 
 -- what a message does that the node expects
 abbrev pub effect_of : Node → ℕ → Message → Option Effect

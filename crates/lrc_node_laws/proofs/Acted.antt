@@ -13,7 +13,7 @@ use Rattle.lrc_envelope.specs.Envelope.{EnvelopeRecord}
 use Rattle.lrc_envelope.specs.declared.message.Message.{Message}
 use Rattle.lrc_protocol.specs.Times.{next_time}
 use Rattle.lrc_protocol.specs.Pages.{Copy, valid, written, invalid, absent, is_readable, changes_of, Memory, copy_at, with_written_word, Base, Need}
-use Rattle.lrc_protocol.specs.Pages.{mended}
+use Rattle.lrc_protocol.specs.Pages.{repaired}
 use Rattle.lrc_protocol.specs.Barriers.{collected_at}
 use Rattle.lrc_protocol.specs.Node.{Letter, Wait, nothing, grant, departure, access, upkeep, discard, needs_of, Course, going, trapped, ended}
 use Rattle.lrc_protocol.specs.Node.{Node, Effect, makes, acts, acts_by, with_memory, waiting}
@@ -157,10 +157,10 @@ module _ (ws : List (ℕ × ℕ)) where
   run-made node e k m (run_miss r a away unmet) = waits-made node nothing r.idle m
   run-made node e k m (run_repair {next = next} {word = word} r a away met) =
       let need : Need = need_at node (page_at node word) in
-      let repaired : Memory = mended node.memory need in
+      let mended : Memory = repaired node.memory need in
       let lt : page_at node word < pages_of node.setting.words node.options.size = access-in_range node next word k.text r a in
-      acts-made (requests_of need) (waiting nothing (with_memory (charged node next) repaired)) next (next-ready node next r) (λ x. refl)
-      (access-before node.options.size repaired next word a (is-mended node.memory need (page_at node word) refl (omega (arith, lt, k.copies)))
+      acts-made (requests_of need) (waiting nothing (with_memory (charged node next) mended)) next (next-ready node next r) (λ x. refl)
+      (access-before node.options.size mended next word a (is-mended node.memory need (page_at node word) refl (omega (arith, lt, k.copies)))
       (mends-made node.options.size node.memory need ws (unreadable (copy_at node.memory (page_at node word)) away)
       (waits-made node nothing r.idle m)))
   run-made node e k m (run_acquire lock after r room here) =
@@ -197,7 +197,7 @@ module _ (ws : List (ℕ × ℕ)) where
   -- with the last reply at a miss the page is mended, and the access made
   mended-made : (node : Node) (memory : Memory) (change : Need → Need) (need : Need) → Known node → node.mail.wait ≡ access need
       → Brought node.memory memory change → AreMadeBy node.options.size memory ws
-      → After (acts [] (waiting nothing (with_memory node (mended memory (change need)))))
+      → After (acts [] (waiting nothing (with_memory node (repaired memory (change need)))))
   mended-made node memory change need k at b m =
       let size : Size = node.options.size in
       let Fits : Need → Type 0 = FitsNeed node.setting.nodes (pages_of node.setting.words size) (words_of size) node.memory in
@@ -208,7 +208,7 @@ module _ (ws : List (ℕ × ℕ)) where
       ∙ ap (λ (copies : List Copy). changes_of (slice_index_or copies need.page absent)) b.copies
       ∙ fits-unwritten node.setting.nodes (words_of size) (copy_at node.memory need.page) need.base fits.base in
       acts-made [] _ next.0 next.1 (λ x. refl)
-      (next.2 (mended memory (change need))
+      (next.2 (repaired memory (change need))
       (is-mended memory (change need) need.page (b.page need) (omega (arith, fits.in_range, k.copies, ap (λ (l : List Copy). length l) b.copies)))
       (mends-made size memory (change need) ws unread m))
 

@@ -14,9 +14,9 @@ use Rattle.lrc_page.specs.Place.{pages_of}
 use Rattle.lrc_store.specs.Interval.{IntervalRecord}
 use Rattle.lrc_store.specs.Store.{IsStore}
 use Rattle.lrc_protocol.specs.Times.{indices_by, next_time}
-use Rattle.lrc_protocol.specs.Pages.{fresh_memory, indices_of, unknown_of, lacking, Copy, valid, absent, Asked, Need, copy_at, is_met, Memory}
+use Rattle.lrc_protocol.specs.Pages.{fresh_memory, indices_of, unknown_of, missing_at, Copy, valid, absent, Asked, Need, copy_at, is_met, Memory}
 use Rattle.lrc_protocol.specs.Node.{Node, OptionsRecord, going, Wait, nothing, grant, departure, access, upkeep, discard, needs_of}
-use Rattle.lrc_protocol.specs.Turn.{is_learnable, is_changes_reply}
+use Rattle.lrc_protocol.specs.Turn.{is_learnable, expects_changes_reply}
 use Rattle.lrc_node_laws.specs.Ranges.{InRange}
 use Rattle.lrc_node_laws.specs.Reached.{IsReached}
 use Rattle.lrc_node_laws.specs.Stored.{StoresExactly}
@@ -272,13 +272,13 @@ needed_at node r = needed r.program r.nodes r.options r.me r.leads.among (view_o
 pub reaching_at : (node : Node) → IsReached node → ReachesFor node.options.size (next_in node.course) node.mail.wait
 reaching_at node r = reaching r.program r.nodes r.options r.me r.leads.among (view_of node) (come_to node r).walked
 
-pub awaited_at : (node : Node) → IsReached node → (from : ℕ) (m : ChangesReplyRecord) → is_changes_reply node from m ≡ true
+pub awaited_at : (node : Node) → IsReached node → (from : ℕ) (m : ChangesReplyRecord) → expects_changes_reply node from m ≡ true
     → All (λ (part : IndexedChangesRecord). (notice_at node.memory.store (record { node = from; index = part.index; page = m.page }) ≡ Some (unread m.page))
     × All (λ (change : Change). change.offset < words_of node.options.size) part.changes) m.parts
 awaited_at node r from m e =
     let it : Reply (view_of node) from m = reply node from m e in
     let P : ℕ → Type 0 = λ index. notice_at node.memory.store (record { node = from; index = index; page = m.page }) ≡ Some (unread m.page) in
-    let just : map (λ (part : IndexedChangesRecord). part.index) m.parts ≡ indices_of (unknown_of node.memory.store (lacking node.memory m.page)) from =
+    let just : map (λ (part : IndexedChangesRecord). part.index) m.parts ≡ indices_of (unknown_of node.memory.store (missing_at node.memory m.page)) from =
     asked-exactly node.setting.nodes (pages_in (view_of node)) (words_of node.options.size) node.memory (needs_of node.mail.wait) m.page from
     (map (λ (part : IndexedChangesRecord). part.index) m.parts) (needed_at node r).each it.asked in
     let unread_all : All (λ (part : IndexedChangesRecord). P part.index) m.parts =
@@ -297,7 +297,7 @@ attached_at node r = attached_own r.program r.nodes r.options r.me r.leads.among
 pub copied_at : (node : Node) → IsReached node → OwnCopied node.setting.me node.memory
 copied_at node r = copied_own r.program r.nodes r.options r.me r.leads.among (view_of node) (come_to node r).walked
 
-pub others_lack : (node : Node) → IsReached node → (page : ℕ) → All (λ (key : Key). key.node ≡ node.setting.me → ⊥) (lacking node.memory page)
+pub others_lack : (node : Node) → IsReached node → (page : ℕ) → All (λ (key : Key). key.node ≡ node.setting.me → ⊥) (missing_at node.memory page)
 others_lack node r page = lacking-other node.setting.me page node.memory (copy_at node.memory page) refl (copied_at node r)
 
 pub others_asked : (node : Node) → IsReached node

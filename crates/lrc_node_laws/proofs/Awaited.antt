@@ -7,7 +7,7 @@ use Rattle.std.proofs.lemmas.List.Kept.{AllPairs-cons}
 use Rattle.lrc_page.specs.declared.changes.Change.{Change}
 use Rattle.lrc_store.specs.declared.key.Key.{Key}
 use Rattle.lrc_store.specs.Store.{NoticeRecord, StoreRecord, IsStore, stored_at, notice_at, changes_at, unread}
-use Rattle.lrc_protocol.specs.Pages.{Memory, copy_at, lacking, indices_of, unknown_of}
+use Rattle.lrc_protocol.specs.Pages.{Memory, copy_at, missing_at, indices_of, unknown_of}
 use Rattle.lrc_node_laws.proofs.Indices.{Ascends}
 use Rattle.lrc_node_laws.proofs.Keys.{IsNoticed, All-part, notice_page}
 use Rattle.lrc_node_laws.proofs.Needs.{filter-both}
@@ -39,10 +39,10 @@ notice_unread store key n u =
 -- what is asked of a maker for a page
 pub asked-unread : (memory : Memory) (page from : ℕ) → IsStore memory.store
     → All (λ index. notice_at memory.store (record { node = from; index = index; page = page }) ≡ Some (unread page))
-    (indices_of (unknown_of memory.store (lacking memory page)) from)
+    (indices_of (unknown_of memory.store (missing_at memory page)) from)
 asked-unread memory page from s =
     let store : StoreRecord = memory.store in
-    let unknown : List Key = unknown_of store (lacking memory page) in
+    let unknown : List Key = unknown_of store (missing_at memory page) in
     let P : ℕ → Type 0 = λ index. notice_at store (record { node = from; index = index; page = page }) ≡ Some (unread page) in
     All-part nat_lt (λ index. true) P P (λ index p e. p) (map (λ (key : Key). key.index) (filter (λ (key : Key). key.node == from) unknown))
     (All-map P (λ (key : Key). key.index) (filter (λ (key : Key). key.node == from) unknown)
@@ -56,5 +56,5 @@ asked-unread memory page from s =
     (notice_unread store key is.0.0.1 is.0.1)))
     (filter (λ (key : Key). key.node == from) unknown)
     (filter-both (λ (key : Key). key.node == from) (λ (key : Key). ((key.page ≡ page) × IsNoticed store key) × (is_none (changes_at store key) ≡ true)) unknown
-    (filter-both (λ (key : Key). is_none (changes_at store key)) (λ (key : Key). (key.page ≡ page) × IsNoticed store key) (lacking memory page)
+    (filter-both (λ (key : Key). is_none (changes_at store key)) (λ (key : Key). (key.page ≡ page) × IsNoticed store key) (missing_at memory page)
     (lacking-noticed memory page (copy_at memory page) s)))))

@@ -14,11 +14,11 @@ use Rattle.lrc_store.specs.Interval.{IntervalRecord}
 use Rattle.lrc_envelope.specs.Records.{IndexedChangesRecord, ChangesReplyRecord}
 use Rattle.lrc_barrier.specs.Barrier.{ManagerRecord}
 use Rattle.lrc_protocol.specs.Times.{next_time, indices_by, are_between}
-use Rattle.lrc_protocol.specs.Pages.{is_readable, Memory, copy_at, with_written_word, with_interval, learned, Need, need_of, is_met, mended}
-use Rattle.lrc_protocol.specs.Pages.{awaits_changes, awaits_page, with_changes, with_page, with_part}
+use Rattle.lrc_protocol.specs.Pages.{is_readable, Memory, copy_at, with_written_word, with_interval, learned, Need, need_of, is_met, repaired}
+use Rattle.lrc_protocol.specs.Pages.{awaits_changes, awaits_page, changes_came, page_came, with_part}
 use Rattle.lrc_protocol.specs.Barriers.{with_keepers, kept_pages, collected_at, Collection, clean_memory}
 use Rattle.lrc_protocol.specs.Node.{Wait, nothing, grant, departure, access, upkeep, discard, needs_of, Course, Node}
-use Rattle.lrc_protocol.specs.Turn.{with_needs, is_page, is_interval, are_changes, is_learnable, is_changes_reply}
+use Rattle.lrc_protocol.specs.Turn.{with_needs, is_page, is_interval, are_changes, is_learnable, expects_changes_reply}
 use Rattle.lrc_order_laws.specs.Waiting.{next_in}
 use Rattle.lrc_node_laws.specs.Ranges.{InRange}
 use Rattle.lrc_node_laws.specs.Needs.{page_next}
@@ -127,16 +127,16 @@ pub data Change (v : View) : View → Type 0 where
       → page_next v.size (next_in v.course) ≡ Some page
       → Change v (record v { wait = access (need_of v.setting.nodes v.memory page) })
   mends : (need : Need) → v.wait ≡ access need → is_met need ≡ true
-      → Change v (record v { wait = nothing; memory = mended v.memory need })
+      → Change v (record v { wait = nothing; memory = repaired v.memory need })
   -- what pages need comes
   gets_changes : (from : ℕ) (m : ChangesReplyRecord) → Reply v from m
       → Change v
       (record v {
-        wait = with_needs (with_changes m.page from) v.wait;
+        wait = with_needs (changes_came m.page from) v.wait;
         memory = record v.memory { store = fold (with_part from m.page) v.memory.store m.parts };
       })
   gets_page : (from page : ℕ) (values : List ℕ) → Sent v from page values
-      → Change v (record v { wait = with_needs (with_page page values) v.wait })
+      → Change v (record v { wait = with_needs (page_came page values) v.wait })
 
 -- changes one after another
 pub data Walk (start : View) : View → Type 0 where
@@ -181,7 +181,7 @@ reply_in node from m lt all some = record {
   asked = some;
 }
 
-pub reply : (node : Node) (from : ℕ) (m : ChangesReplyRecord) → is_changes_reply node from m ≡ true → Reply (view_of node) from m
+pub reply : (node : Node) (from : ℕ) (m : ChangesReplyRecord) → expects_changes_reply node from m ≡ true → Reply (view_of node) from m
 reply node from m e =
     let outer : _ = and_parts _ _ e in
     let inner : _ = and_parts _ _ outer.0 in

@@ -4,7 +4,7 @@ use Rattle.std.specs.Prelude.{Option, Some, None, All, slice_index_or}
 use Rattle.std.proofs.lemmas.Bool.{and_parts, eqb-true, ltb-true}
 use Rattle.std.proofs.lemmas.Option.{same_Some}
 use Rattle.std.proofs.lemmas.List.Elements.{All-head, All-weaker}
-use Rattle.lrc_protocol.specs.Pages.{Copy, absent, copy_at, lacking, Need, with_changes, with_page}
+use Rattle.lrc_protocol.specs.Pages.{Copy, absent, copy_at, missing_at, Need, changes_came, page_came}
 use Rattle.lrc_exec.specs.Meaning.{Setting, Next, quiet, prints, reads, writes, acquires, releases, arrives, departs, traps, ends}
 use Rattle.lrc_page.specs.declared.size.Size.{Size}
 use Rattle.lrc_page.specs.Page.{words_of}
@@ -13,7 +13,8 @@ use Rattle.lrc_store.specs.declared.key.Key.{Key}
 use Rattle.lrc_store.specs.Store.{IsStore}
 use Rattle.lrc_envelope.specs.Records.{ChangesReplyRecord, PageReplyRecord}
 use Rattle.lrc_protocol.specs.Node.{access, needs_of, Node}
-use Rattle.lrc_protocol.specs.Turn.{with_needs, is_changes_reply, is_expected}
+use Rattle.lrc_protocol.specs.Turn.{with_needs, expects_changes_reply}
+use Rattle.lrc_protocol.specs.Follows.{is_expected}
 use Rattle.lrc_protocol.proofs.Expecting.{fulfilled}
 use Rattle.lrc_envelope.specs.declared.message.Message.TheVariants.{PageReply}
 use Rattle.lrc_order_laws.specs.Waiting.{next_in}
@@ -70,18 +71,18 @@ repairs node r after c s z t k need w =
       of_page =
           subst (All (λ (key : Key). key.page ≡ need.page)) (sym fits.missing)
           (All-weaker (λ (key : Key). (key.page ≡ need.page) × IsNoticed after.memory.store key) (λ (key : Key). key.page ≡ need.page) (λ key is. is.0)
-          (lacking after.memory need.page) (lacking-noticed after.memory need.page (copy_at after.memory need.page) stored));
+          (missing_at after.memory need.page) (lacking-noticed after.memory need.page (copy_at after.memory need.page) stored));
       next = goes_to node.options.size node.setting.words need.page (next_in node.course)
           (λ next n. next-in_words node.setting node.course next (known_at node r).text n) page;
     }
 
-pub changes_repair : (node : Node) → IsReached node → (from : ℕ) (m : ChangesReplyRecord) → is_changes_reply node from m ≡ true → (need : Need)
-    → with_needs (with_changes m.page from) node.mail.wait ≡ access need → CanBeRepaired node need
+pub changes_repair : (node : Node) → IsReached node → (from : ℕ) (m : ChangesReplyRecord) → expects_changes_reply node from m ≡ true → (need : Need)
+    → with_needs (changes_came m.page from) node.mail.wait ≡ access need → CanBeRepaired node need
 changes_repair node r from m e need w =
     repairs node r _ (gets_changes from m (reply node from m e)) refl refl refl refl need w
 
 pub page_repairs : (node : Node) → IsReached node → (from : ℕ) (m : PageReplyRecord) → is_expected node from (PageReply m) ≡ true → (need : Need)
-    → with_needs (with_page m.page m.values) node.mail.wait ≡ access need → CanBeRepaired node need
+    → with_needs (page_came m.page m.values) node.mail.wait ≡ access need → CanBeRepaired node need
 page_repairs node r from m e need w =
     let outer : _ = and_parts _ _ (fulfilled node from (PageReply m) e) in
     let inner : _ = and_parts _ _ outer.0 in

@@ -5,7 +5,11 @@ use Rattle.std.proofs.lemmas.List.Sums.{fold-append}
 use Rattle.lrc_lang.specs.declared.program.Program.{Program}
 use Rattle.lrc_protocol.specs.Node.{Node, OptionsRecord, fresh_node}
 use Rattle.lrc_protocol.specs.Turn.{TurnRecord, done}
-use Rattle.lrc_protocol.specs.Run.{Input, Local, outcome_of, local, local_step, local_after}
+use Rattle.lrc_protocol.specs.Run.{Input, outcome_of}
+use Rattle.lrc_protocol.specs.Follows.{local}
+use Rattle.lrc_protocol.specs.Follows.{local_step}
+use Rattle.lrc_protocol.specs.Follows.{local_after}
+use Rattle.lrc_protocol.specs.Follows.{Local}
 use Rattle.lrc_node_laws.specs.Reached.{LeadsTo, IsReached}
 
 pub at_start : (program : Program) (nodes : ℕ) (options : OptionsRecord) (me : ℕ) → me < nodes

@@ -8,7 +8,7 @@ use Rattle.lrc_store.specs.declared.key.Key.{Key}
 use Rattle.lrc_store.specs.Interval.{IntervalRecord, by_weight}
 use Rattle.lrc_store.specs.Store.{StoreRecord, intervals_of, changes_at, is_missing, key_of, missing_of}
 use Rattle.lrc_store.proofs.Orders.{none_Contains, filter-Contains}
-use Rattle.lrc_protocol.specs.Pages.{Copy, valid, written, invalid, absent, Memory, copy_at, lacking_in, Asked, Need, indices_of, some_asked}
+use Rattle.lrc_protocol.specs.Pages.{Copy, valid, written, invalid, absent, Memory, copy_at, missing_in, Asked, Need, indices_of, some_asked}
 use Rattle.lrc_protocol.specs.Pages.{asked_of, unknown_of, is_due, is_nothing, is_met}
 use Rattle.lrc_node_laws.specs.Ranges.{InRange, HasRanges}
 use Rattle.lrc_node_laws.specs.Needs.{FitsNeed}
@@ -52,7 +52,7 @@ missing-below nodes pages page since store h =
     (All-part by_weight (is_missing page since) (InRange nodes pages) (λ (i : IntervalRecord). i.node < nodes) (λ i r e. r.node) (intervals_of store) h)
 
 pub lacking-below : (nodes pages page : ℕ) (memory : Memory) (copy : Copy) → All (InRange nodes pages) (intervals_of memory.store)
-    → All (λ (key : Key). key.node < nodes) (lacking_in memory page copy)
+    → All (λ (key : Key). key.node < nodes) (missing_in memory page copy)
 lacking-below nodes pages page memory (valid values) h = All-nil (λ (key : Key). key.node < nodes)
 lacking-below nodes pages page memory (written values twin) h = All-nil (λ (key : Key). key.node < nodes)
 lacking-below nodes pages page memory (invalid values since) h = missing-below nodes pages page since memory.store h

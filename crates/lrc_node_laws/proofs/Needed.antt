@@ -6,7 +6,7 @@ use Rattle.std.proofs.lemmas.List.Elements.{All-nil, All-cons, All-weaker, All-c
 use Rattle.lrc_page.specs.Page.{words_of}
 use Rattle.lrc_store.specs.Store.{IsStore, intervals_of}
 use Rattle.lrc_protocol.specs.Times.{is_named}
-use Rattle.lrc_protocol.specs.Pages.{is_readable, Memory, copy_at, keeper_at, with_written_word, come, Need, need_of, with_changes, with_page}
+use Rattle.lrc_protocol.specs.Pages.{is_readable, Memory, copy_at, keeper_at, with_written_word, come, Need, need_of, changes_came, page_came}
 use Rattle.lrc_protocol.specs.Pages.{with_part}
 use Rattle.lrc_protocol.specs.Barriers.{kept_pages, with_keepers, clean_memory}
 use Rattle.lrc_protocol.specs.Node.{Wait, upkeep, needs_of}
@@ -38,14 +38,14 @@ idle v s = record {
   kept = settled-kept v.setting.me v.memory v.wait s;
 }
 
-pub changed_page : (page from : ℕ) (need : Need) → (with_changes page from need).page ≡ need.page
+pub changed_page : (page from : ℕ) (need : Need) → (changes_came page from need).page ≡ need.page
 changed_page page from need = by_test (need.page == page)
   where
     by_test : (b : Bool) → (if b then record need { asked = filter (λ asked. not (asked.maker == from)) need.asked } else need).page ≡ need.page
     by_test true = refl
     by_test false = refl
 
-pub sent_page : (page : ℕ) (values : List ℕ) (need : Need) → (with_page page values need).page ≡ need.page
+pub sent_page : (page : ℕ) (values : List ℕ) (need : Need) → (page_came page values need).page ≡ need.page
 sent_page page values need = by_test (need.page == page)
   where
     by_test : (b : Bool) → (if b then record need { base = come values } else need).page ≡ need.page
@@ -116,19 +116,19 @@ needed-kept v _ (gets_changes from m e) r s h =
     let store_is : IsStore v.memory.store = is_store v.setting.nodes (pages_in v) v.time v.memory r.memory s in
     record {
       each =
-          subst (All (FitsNeed v.setting.nodes (pages_in v) (words_of v.size) now)) (sym (needs-with (with_changes m.page from) v.wait))
+          subst (All (FitsNeed v.setting.nodes (pages_in v) (words_of v.size) now)) (sym (needs-with (changes_came m.page from) v.wait))
           (changes-fit v.setting.nodes (pages_in v) (words_of v.size) v.memory from m.page m.parts store_is
           (asked-exactly v.setting.nodes (pages_in v) (words_of v.size) v.memory (needs_of v.wait) m.page from _ h.each e.asked)
           (needs_of v.wait) h.each);
-      apart = apart-with (with_changes m.page from) (changed_page m.page from) v.wait h.apart;
+      apart = apart-with (changes_came m.page from) (changed_page m.page from) v.wait h.apart;
       kept =
-          kept-same v.setting.me (with_changes m.page from) v.memory now (changed_page m.page from)
+          kept-same v.setting.me (changes_came m.page from) v.memory now (changed_page m.page from)
           (kept-by v.setting.me v.memory now (parts-same from m.page m.parts v.memory.store).intervals refl) refl v.wait h.kept;
     }
 needed-kept v _ (gets_page from page values e) r s h = record {
   each =
-      subst (All (FitsNeed v.setting.nodes (pages_in v) (words_of v.size) v.memory)) (sym (needs-with (with_page page values) v.wait))
+      subst (All (FitsNeed v.setting.nodes (pages_in v) (words_of v.size) v.memory)) (sym (needs-with (page_came page values) v.wait))
       (page-fits v.setting.nodes (pages_in v) (words_of v.size) v.memory (needs_of v.wait) page from values h.each e.asked e.whole);
-  apart = apart-with (with_page page values) (sent_page page values) v.wait h.apart;
-  kept = kept-same v.setting.me (with_page page values) v.memory v.memory (sent_page page values) refl refl v.wait h.kept;
+  apart = apart-with (page_came page values) (sent_page page values) v.wait h.apart;
+  kept = kept-same v.setting.me (page_came page values) v.memory v.memory (sent_page page values) refl refl v.wait h.kept;
 }

@@ -10,7 +10,7 @@ use Rattle.lrc_page.specs.Place.{page_of, offset_of}
 use Rattle.lrc_store.specs.Interval.{IntervalRecord}
 use Rattle.lrc_protocol.specs.Times.{is_named}
 use Rattle.lrc_protocol.specs.Pages.{Copy, valid, written, invalid, absent, is_readable, changes_of, after_write, closed, invalidated, dropped}
-use Rattle.lrc_protocol.specs.Pages.{Memory, copy_at, with_written_word, with_interval, learned, repaired, Need, first_values, mended}
+use Rattle.lrc_protocol.specs.Pages.{Memory, copy_at, with_written_word, with_interval, learned, all_applied, Need, first_values, repaired}
 use Rattle.lrc_protocol.specs.Barriers.{collected_at, clean_memory}
 use Rattle.lrc_node_laws.specs.Waits.{NoneWritten}
 use Rattle.lrc_node_laws.specs.Opened.{on_page, put, IsMadeBy, AreMadeBy}
@@ -149,9 +149,9 @@ valid-made size page writes absent values u h = h
 
 pub mends-made : (size : Size) (memory : Memory) (need : Need) (writes : List (ℕ × ℕ)) → changes_of (copy_at memory need.page) ≡ None
     → AreMadeBy size memory writes
-    → AreMadeBy size (mended memory need) writes
+    → AreMadeBy size (repaired memory need) writes
 mends-made size memory need writes u h page =
-    let new : Copy = valid (repaired memory.store (first_values (copy_at memory need.page) need.base) need.missing) in
+    let new : Copy = valid (all_applied memory.store (first_values (copy_at memory need.page) need.base) need.missing) in
     elim (cases_eq need.page page) [
       | inl here ↦
           subst (λ p. IsMadeBy size p writes (slice_index_or (slice_set memory.copies need.page new) p absent)) here
@@ -168,16 +168,16 @@ unwritten-at memory page h =
     (cases_lt page (length memory.copies))
 
 needs-made : (size : Size) (needs : List Need) (memory : Memory) (writes : List (ℕ × ℕ)) → NoneWritten memory → AreMadeBy size memory writes
-    → AreMadeBy size (fold mended memory needs) writes
+    → AreMadeBy size (fold repaired memory needs) writes
 needs-made size [] memory writes u h = h
 needs-made size (need ∷ needs) memory writes u h =
-    needs-made size needs (mended memory need) writes
+    needs-made size needs (repaired memory need) writes
     (All-set (λ copy. changes_of copy ≡ None) memory.copies need.page
-    (valid (repaired memory.store (first_values (copy_at memory need.page) need.base) need.missing)) refl u)
+    (valid (all_applied memory.store (first_values (copy_at memory need.page) need.base) need.missing)) refl u)
     (mends-made size memory need writes (unwritten-at memory need.page u) h)
 
 pub cleans-made : (size : Size) (needs : List Need) (kept : List ℕ) (memory : Memory) (writes : List (ℕ × ℕ)) → NoneWritten memory
     → AreMadeBy size memory writes → AreMadeBy size (clean_memory needs kept memory) writes
 cleans-made size needs kept memory writes u h page =
-    subst (λ (copies : List Copy). IsMadeBy size page writes (slice_index_or copies page absent)) (sym (bases-copies kept (fold mended memory needs)))
+    subst (λ (copies : List Copy). IsMadeBy size page writes (slice_index_or copies page absent)) (sym (bases-copies kept (fold repaired memory needs)))
     (needs-made size needs memory writes u h page)

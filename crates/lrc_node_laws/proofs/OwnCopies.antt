@@ -16,7 +16,7 @@ use Rattle.lrc_store.proofs.Stores.{intervals_of-added}
 use Rattle.lrc_page.specs.Place.{page_of, offset_of}
 use Rattle.lrc_protocol.specs.Times.{is_named, next_time}
 use Rattle.lrc_protocol.specs.Pages.{Copy, valid, written, invalid, absent, changes_of, after_write, closed, invalidated, Memory, copy_at}
-use Rattle.lrc_protocol.specs.Pages.{with_written_word, all_changes, closed_interval, with_interval, learned, lacking_in, Need, mended}
+use Rattle.lrc_protocol.specs.Pages.{with_written_word, all_changes, closed_interval, with_interval, learned, missing_in, Need, repaired}
 use Rattle.lrc_protocol.specs.Barriers.{collected_at, clean_memory}
 use Rattle.lrc_node_laws.specs.Ranges.{CollectsAt}
 use Rattle.lrc_node_laws.specs.Stored.{StoresExactly}
@@ -113,10 +113,10 @@ own-copies me time a b same s keeps h =
     (λ page x. keeps (index_of i) page below x) i.pages (h k d within e))
 
 mends-own : (me index : ℕ) (needs : List Need) (memory : Memory) (page : ℕ) → HasOwn me index (copy_at memory page)
-    → HasOwn me index (copy_at (fold mended memory needs) page)
+    → HasOwn me index (copy_at (fold repaired memory needs) page)
 mends-own me index [] memory page h = h
 mends-own me index (need ∷ needs) memory page h =
-    mends-own me index needs (mended memory need) page (set-copy (HasOwn me index) memory.copies need.page page _ (λ x. tt) h)
+    mends-own me index needs (repaired memory need) page (set-copy (HasOwn me index) memory.copies need.page page _ (λ x. tt) h)
 
 -- ---- the node closes an interval
 
@@ -212,7 +212,7 @@ own-kept v _ (cleans collection needs w met) r s h =
     own-copies v.setting.me v.time v.memory (clean_memory needs collection.kept v.memory) (ap intervals_of (clean-same needs collection.kept v.memory).store) s
     (λ index page le x.
     subst (λ (copies : List Copy). HasOwn v.setting.me index (slice_index_or copies page absent))
-    (sym (bases-copies collection.kept (fold mended v.memory needs)))
+    (sym (bases-copies collection.kept (fold repaired v.memory needs)))
     (mends-own v.setting.me index needs v.memory page x)) h
 own-kept v _ (discards collection w) r s h =
     let same : collection.time ≡ v.time = subst (CollectsAt v.time) w r.present in
@@ -222,7 +222,7 @@ own-kept v _ (discards collection w) r s h =
     (All-nil (Own v.setting.me (collected_at v.setting.me collection.time v.memory)))
 own-kept v _ (misses page w lt b n) r s h = h
 own-kept v _ (mends need w met) r s h =
-    own-copies v.setting.me v.time v.memory (mended v.memory need) refl s
+    own-copies v.setting.me v.time v.memory (repaired v.memory need) refl s
     (λ index page le x. set-copy (HasOwn v.setting.me index) v.memory.copies need.page page _ (λ y. tt) x) h
 own-kept v _ (gets_changes from m e) r s h =
     subst (All (Own v.setting.me v.memory)) (sym (parts-same from m.page m.parts v.memory.store).intervals) h
@@ -255,7 +255,7 @@ missing-other me page memory since h covers =
     (intervals_of memory.store) h)
 
 pub lacking-other : (me page : ℕ) (memory : Memory) (copy : Copy) → copy_at memory page ≡ copy → OwnCopied me memory
-    → All (λ (key : Key). key.node ≡ me → ⊥) (lacking_in memory page copy)
+    → All (λ (key : Key). key.node ≡ me → ⊥) (missing_in memory page copy)
 lacking-other me page memory (valid values) e h = All-nil (λ (key : Key). key.node ≡ me → ⊥)
 lacking-other me page memory (written values twin) e h = All-nil (λ (key : Key). key.node ≡ me → ⊥)
 lacking-other me page memory (invalid values since) e h = missing-other me page memory since h (λ index x. subst (HasOwn me index) e x)

@@ -4,7 +4,7 @@ use Rattle.std.specs.Prelude.{None, All, fold, map, if◌then◌else◌}
 use Rattle.std.proofs.lemmas.List.Elements.{All-map, All-set}
 use Rattle.lrc_protocol.specs.Times.{is_named}
 use Rattle.lrc_protocol.specs.Pages.{Copy, valid, written, invalid, absent, changes_of, closed, invalidated, Memory, copy_at, learned}
-use Rattle.lrc_protocol.specs.Pages.{with_written_word, repaired, Need, mended, first_values}
+use Rattle.lrc_protocol.specs.Pages.{with_written_word, all_applied, Need, repaired, first_values}
 use Rattle.lrc_protocol.specs.Barriers.{with_base}
 use Rattle.lrc_protocol.specs.Node.{Wait, nothing, grant, departure, access, upkeep, discard}
 use Rattle.lrc_protocol.specs.Turn.{with_needs}
@@ -41,11 +41,11 @@ learned-none before intervals memory h =
     All-placed Unwritten Unwritten (λ place. if is_named intervals place.0 then invalidated before place.1 else place.1)
     (λ page copy u. invalidated_if before (is_named intervals page) copy u) 0 memory.copies h
 
-mends-none : (needs : List Need) (memory : Memory) → NoneWritten memory → NoneWritten (fold mended memory needs)
+mends-none : (needs : List Need) (memory : Memory) → NoneWritten memory → NoneWritten (fold repaired memory needs)
 mends-none [] memory h = h
 mends-none (need ∷ needs) memory h =
-    mends-none needs (mended memory need) (All-set Unwritten memory.copies need.page
-    (valid (repaired memory.store (first_values (copy_at memory need.page) need.base) need.missing)) refl h)
+    mends-none needs (repaired memory need) (All-set Unwritten memory.copies need.page
+    (valid (all_applied memory.store (first_values (copy_at memory need.page) need.base) need.missing)) refl h)
 
 bases-none : (kept : List ℕ) (memory : Memory) → NoneWritten memory → NoneWritten (fold with_base memory kept)
 bases-none [] memory h = h
@@ -85,7 +85,7 @@ quiet-kept v _ (learns time intervals o news) h = open-none v.wait v.memory _ o 
 quiet-kept v _ (resumes o) h = tt
 quiet-kept v _ (begins before time w t c long) h = subst (λ w. IsQuiet w v.memory) w h
 quiet-kept v _ (cleans collection needs w met) h =
-    bases-none collection.kept (fold mended v.memory needs) (mends-none needs v.memory (subst (λ w. IsQuiet w v.memory) w h))
+    bases-none collection.kept (fold repaired v.memory needs) (mends-none needs v.memory (subst (λ w. IsQuiet w v.memory) w h))
 quiet-kept v _ (discards collection w) h = tt
 quiet-kept v _ (misses page w lt b n) h = tt
 quiet-kept v _ (mends need w met) h = tt

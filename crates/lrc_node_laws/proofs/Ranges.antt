@@ -13,7 +13,7 @@ use Rattle.lrc_store.specs.Store.{StoreRecord, intervals_of, added, is_covered}
 use Rattle.lrc_store.proofs.Stores.{intervals_of-added, intervals_of-discarded}
 use Rattle.lrc_protocol.specs.Times.{is_named, next_time}
 use Rattle.lrc_protocol.specs.Pages.{Copy, changes_of, closed, invalidated, dropped, Memory, with_copy, all_changes, closed_interval}
-use Rattle.lrc_protocol.specs.Pages.{with_interval, learned, keeper_at, Need, mended}
+use Rattle.lrc_protocol.specs.Pages.{with_interval, learned, keeper_at, Need, repaired}
 use Rattle.lrc_protocol.specs.Barriers.{least, namers_of, with_keepers, with_base, collected_at, clean_memory}
 use Rattle.lrc_protocol.specs.Node.{Wait, nothing, grant, departure, access, upkeep, discard}
 use Rattle.lrc_protocol.specs.Turn.{with_needs}
@@ -48,10 +48,10 @@ then_same a b c x y = record {
 pub copy-same : (memory : Memory) (page : ℕ) (copy : Copy) → SameRest memory (with_copy memory page copy)
 copy-same memory page copy = record { copies = length-set memory.copies page copy; bases = refl; keepers = refl; store = refl; collected = refl }
 
-pub mends-same : (needs : List Need) (memory : Memory) → SameRest memory (fold mended memory needs)
+pub mends-same : (needs : List Need) (memory : Memory) → SameRest memory (fold repaired memory needs)
 mends-same [] memory = same_rest memory
 mends-same (need ∷ needs) memory =
-    then_same memory (mended memory need) (fold mended (mended memory need) needs) (copy-same memory need.page _) (mends-same needs (mended memory need))
+    then_same memory (repaired memory need) (fold repaired (repaired memory need) needs) (copy-same memory need.page _) (mends-same needs (repaired memory need))
 
 pub bases-same : (kept : List ℕ) (memory : Memory) → SameRest memory (fold with_base memory kept)
 bases-same [] memory = same_rest memory
@@ -62,7 +62,7 @@ bases-same (page ∷ kept) memory =
 
 pub clean-same : (needs : List Need) (kept : List ℕ) (memory : Memory) → SameRest memory (clean_memory needs kept memory)
 clean-same needs kept memory =
-    then_same memory (fold mended memory needs) (clean_memory needs kept memory) (mends-same needs memory) (bases-same kept (fold mended memory needs))
+    then_same memory (fold repaired memory needs) (clean_memory needs kept memory) (mends-same needs memory) (bases-same kept (fold repaired memory needs))
 
 -- ---- ranges
 

@@ -8,7 +8,10 @@ use Rattle.lrc_exec.specs.Meaning.{Setting}
 use Rattle.lrc_exec.specs.Plain.{setting_of}
 use Rattle.lrc_protocol.specs.Node.{Node, OptionsRecord, fresh_node}
 use Rattle.lrc_protocol.specs.Turn.{TurnRecord, Outcome, done, not_ready, unexpected, worn}
-use Rattle.lrc_protocol.specs.Run.{Input, outcome_of, Local, local_after, local_step}
+use Rattle.lrc_protocol.specs.Run.{Input, outcome_of}
+use Rattle.lrc_protocol.specs.Follows.{local_step}
+use Rattle.lrc_protocol.specs.Follows.{local_after}
+use Rattle.lrc_protocol.specs.Follows.{Local}
 use Rattle.lrc_protocol.proofs.Turned.{Turns, turns}
 use Rattle.lrc_order_laws.proofs.Shift.{part_of, Shifted, ShiftedIf, shifts}
 use Rattle.lrc_order_laws.proofs.TextHolds.{TextIs}

@@ -3,7 +3,7 @@ use Rattle.std.proofs.Common.{◌≡◌, [], true, sym, ap, ◌∙◌}
 use Rattle.std.specs.Prelude.{Option, Some}
 use Rattle.lrc_page.specs.declared.size.Size.{Size}
 use Rattle.lrc_exec.specs.Meaning.{Next}
-use Rattle.lrc_protocol.specs.Pages.{Need, with_changes, with_page}
+use Rattle.lrc_protocol.specs.Pages.{Need, changes_came, page_came}
 use Rattle.lrc_protocol.specs.Node.{Wait, nothing, grant, departure, access, upkeep, discard, needs_of}
 use Rattle.lrc_protocol.specs.Turn.{with_needs}
 use Rattle.lrc_order_laws.specs.Waiting.{next_in}
@@ -50,5 +50,5 @@ reaches-kept v _ (cleans collection needs w met) h = tt
 reaches-kept v _ (discards collection w) h = tt
 reaches-kept v _ (misses page w lt b n) h = n
 reaches-kept v _ (mends need w met) h = tt
-reaches-kept v _ (gets_changes from m r) h = still-reaches v.size (next_in v.course) (with_changes m.page from) (changed_page m.page from) v.wait h
-reaches-kept v _ (gets_page from page values s) h = still-reaches v.size (next_in v.course) (with_page page values) (sent_page page values) v.wait h
+reaches-kept v _ (gets_changes from m r) h = still-reaches v.size (next_in v.course) (changes_came m.page from) (changed_page m.page from) v.wait h
+reaches-kept v _ (gets_page from page values s) h = still-reaches v.size (next_in v.course) (page_came page values) (sent_page page values) v.wait h

@@ -14,7 +14,7 @@ use Rattle.lrc_store.proofs.Stores.{intervals_of-added}
 use Rattle.lrc_page.specs.Place.{page_of, offset_of}
 use Rattle.lrc_protocol.specs.Times.{is_named, next_time}
 use Rattle.lrc_protocol.specs.Pages.{Copy, valid, written, invalid, absent, after_write, closed, invalidated, dropped, Memory, copy_at}
-use Rattle.lrc_protocol.specs.Pages.{with_written_word, all_changes, closed_interval, with_interval, learned, Need, mended, with_part}
+use Rattle.lrc_protocol.specs.Pages.{with_written_word, all_changes, closed_interval, with_interval, learned, Need, repaired, with_part}
 use Rattle.lrc_protocol.specs.Barriers.{with_keepers, collected_at, clean_memory}
 use Rattle.lrc_node_laws.specs.Stored.{StoresExactly}
 use Rattle.lrc_node_laws.specs.Remembered.{IsBetween}
@@ -67,10 +67,10 @@ dropped-between time memory page (invalid values since) = tt
 dropped-between time memory page absent = tt
 
 mends-between : (time : List ℕ) (a : Memory) (page : ℕ) (needs : List Need) (memory : Memory)
-    → IsBetween time a page (copy_at memory page) → IsBetween time a page (copy_at (fold mended memory needs) page)
+    → IsBetween time a page (copy_at memory page) → IsBetween time a page (copy_at (fold repaired memory needs) page)
 mends-between time a page [] memory h = h
 mends-between time a page (need ∷ needs) memory h =
-    mends-between time a page needs (mended memory need) (set-copy (IsBetween time a page) memory.copies need.page page _ (λ x. tt) h)
+    mends-between time a page needs (repaired memory need) (set-copy (IsBetween time a page) memory.copies need.page page _ (λ x. tt) h)
 
 -- ---- news
 
@@ -169,7 +169,7 @@ cleans-between v needs kept h page =
     let now : Memory = clean_memory needs kept v.memory in
     let rest : SameRest v.memory now = clean-same needs kept v.memory in
     same v.time v.memory now page (copy_at now page) rest.collected (ap intervals_of rest.store)
-    (subst (λ (copies : List Copy). IsBetween v.time v.memory page (slice_index_or copies page absent)) (sym (bases-copies kept (fold mended v.memory needs)))
+    (subst (λ (copies : List Copy). IsBetween v.time v.memory page (slice_index_or copies page absent)) (sym (bases-copies kept (fold repaired v.memory needs)))
     (mends-between v.time v.memory page needs v.memory (h page)))
 
 pub between-kept : (v after : View) → Change v after → Ranged v → StoresExactly v.time v.memory → Between v → Between after
@@ -191,7 +191,7 @@ between-kept v _ (discards collection w) r s h = λ page.
     subst (IsBetween v.time now page) (sym (map-copy dropped refl v.memory.copies page)) (dropped-between v.time now page (copy_at v.memory page))
 between-kept v _ (misses page w lt b n) r s h = h
 between-kept v _ (mends need w met) r s h = λ page.
-    let now : Memory = mended v.memory need in
+    let now : Memory = repaired v.memory need in
     same v.time v.memory now page (copy_at now page) refl refl
     (set-copy (IsBetween v.time v.memory page) v.memory.copies need.page page _ (λ x. tt) (h page))
 between-kept v _ (gets_changes from m e) r s h = λ page.

@@ -12,9 +12,9 @@ use Rattle.lrc_store.specs.Order.{ascending_part}
 use Rattle.lrc_store.specs.Store.{StoreRecord, IsStore, intervals_of, is_missing, key_of}
 use Rattle.lrc_store.proofs.Orders.{cases_Contains, none_Contains, filter-Contains}
 use Rattle.lrc_envelope.specs.Records.{IndexedChangesRecord}
-use Rattle.lrc_protocol.specs.Pages.{Copy, valid, written, invalid, absent, is_readable, Memory, copy_at, lacking, lacking_in, repaired, Base}
+use Rattle.lrc_protocol.specs.Pages.{Copy, valid, written, invalid, absent, is_readable, Memory, copy_at, missing_at, missing_in, all_applied, Base}
 use Rattle.lrc_protocol.specs.Pages.{unneeded, due, come, Asked, Need, indices_of, some_asked, asked_of, unknown_of, asks_just, awaits_changes}
-use Rattle.lrc_protocol.specs.Pages.{is_due_from, awaits_page, with_changes, with_page, first_values, mended, with_part}
+use Rattle.lrc_protocol.specs.Pages.{is_due_from, awaits_page, changes_came, page_came, first_values, repaired, with_part}
 use Rattle.lrc_protocol.specs.Barriers.{with_base, clean_memory}
 use Rattle.lrc_node_laws.specs.Needs.{FitsBase, FitsNeed}
 use Rattle.lrc_node_laws.proofs.Tests.{same_numbers}
@@ -27,14 +27,14 @@ use Rattle.lrc_node_laws.proofs.Needs.{any_fits}
 -- ---- what a copy lacks
 
 pub lacking-noticed : (memory : Memory) (page : ℕ) (copy : Copy) → IsStore memory.store
-    → All (λ (key : Key). (key.page ≡ page) × IsNoticed memory.store key) (lacking_in memory page copy)
+    → All (λ (key : Key). (key.page ≡ page) × IsNoticed memory.store key) (missing_in memory page copy)
 lacking-noticed memory page (valid values) s = All-nil (λ (key : Key). (key.page ≡ page) × IsNoticed memory.store key)
 lacking-noticed memory page (written values twin) s = All-nil (λ (key : Key). (key.page ≡ page) × IsNoticed memory.store key)
 lacking-noticed memory page (invalid values since) s = missing-noticed memory.store page since s
 lacking-noticed memory page absent s = missing-noticed memory.store page memory.collected s
 
 pub lacking-same : (memory : Memory) (store : StoreRecord) (page : ℕ) (copy : Copy) → intervals_of store ≡ intervals_of memory.store
-    → lacking_in (record memory { store = store }) page copy ≡ lacking_in memory page copy
+    → missing_in (record memory { store = store }) page copy ≡ missing_in memory page copy
 lacking-same memory store page (valid values) e = refl
 lacking-same memory store page (written values twin) e = refl
 lacking-same memory store page (invalid values since) e = ap (λ l. map (key_of page) (ascending_part by_weight (is_missing page since) l)) e
@@ -63,9 +63,9 @@ asks-just keys from indices asked is e =
 -- an awaited reply has just the changes that are not known
 pub asked-exactly : (nodes pages words : ℕ) (memory : Memory) (needs : List Need) (page from : ℕ) (indices : List ℕ)
     → All (FitsNeed nodes pages words memory) needs → list_any (awaits_changes page from indices) needs ≡ true
-    → indices ≡ indices_of (unknown_of memory.store (lacking memory page)) from
+    → indices ≡ indices_of (unknown_of memory.store (missing_at memory page)) from
 asked-exactly nodes pages words memory needs page from indices h e =
-    any_fits (FitsNeed nodes pages words memory) (awaits_changes page from indices) (indices ≡ indices_of (unknown_of memory.store (lacking memory page)) from)
+    any_fits (FitsNeed nodes pages words memory) (awaits_changes page from indices) (indices ≡ indices_of (unknown_of memory.store (missing_at memory page)) from)
     (λ need fits awaited.
     let parts : _ = and_parts _ _ awaited in
     let here : need.page ≡ page = eqb-true need.page page parts.0 in
@@ -74,22 +74,22 @@ asked-exactly nodes pages words memory needs page from indices h e =
     any_fits (λ (asked : Asked). asked.indices ≡ indices_of keys asked.maker) (asks_just from indices) (indices ≡ indices_of keys from)
     (λ asked is e. asks-just keys from indices asked is e) need.asked
     (subst (All (λ (asked : Asked). asked.indices ≡ indices_of keys asked.maker)) (sym fits.asked) (asked-indices nodes keys)) parts.1 in
-    just ∙ ap (λ l. indices_of (unknown_of memory.store l) from) (fits.missing ∙ ap (lacking memory) here))
+    just ∙ ap (λ l. indices_of (unknown_of memory.store l) from) (fits.missing ∙ ap (missing_at memory) here))
     needs h e
 
 -- ---- a maker's changes came
 
 module _ (nodes pages words : ℕ) (memory : Memory) (from page : ℕ) (parts : List IndexedChangesRecord) (s : IsStore memory.store)
-    (asked : map (λ (part : IndexedChangesRecord). part.index) parts ≡ indices_of (unknown_of memory.store (lacking memory page)) from) where
+    (asked : map (λ (part : IndexedChangesRecord). part.index) parts ≡ indices_of (unknown_of memory.store (missing_at memory page)) from) where
   abbrev now : Memory
   now = record memory { store = fold (with_part from page) memory.store parts }
 
-  still-lacking : (need : Need) → need.missing ≡ lacking memory need.page → need.missing ≡ lacking now need.page
+  still-lacking : (need : Need) → need.missing ≡ missing_at memory need.page → need.missing ≡ missing_at now need.page
   still-lacking need e =
       e ∙ sym (lacking-same memory (fold (with_part from page) memory.store parts) need.page (copy_at memory need.page)
       (parts-same from page parts memory.store).intervals)
 
-  noticed : (need : Need) → need.missing ≡ lacking memory need.page → All (λ (key : Key). (key.page ≡ need.page) × IsNoticed memory.store key) need.missing
+  noticed : (need : Need) → need.missing ≡ missing_at memory need.page → All (λ (key : Key). (key.page ≡ need.page) × IsNoticed memory.store key) need.missing
   noticed need e =
       subst (All (λ (key : Key). (key.page ≡ need.page) × IsNoticed memory.store key)) (sym e)
       (lacking-noticed memory need.page (copy_at memory need.page) s)
@@ -103,7 +103,7 @@ module _ (nodes pages words : ℕ) (memory : Memory) (from page : ℕ) (parts : 
       unknown-left from page parts memory.store need.missing
       (All-weaker (λ (key : Key). (key.page ≡ need.page) × IsNoticed memory.store key) (λ (key : Key). (key.page ≡ page) × IsNoticed memory.store key)
       (λ key is. (is.0 ∙ here, is.1)) need.missing (noticed need h.missing))
-      (asked ∙ ap (λ l. indices_of (unknown_of memory.store l) from) (ap (lacking memory) (sym here) ∙ sym h.missing)) in
+      (asked ∙ ap (λ l. indices_of (unknown_of memory.store l) from) (ap (missing_at memory) (sym here) ∙ sym h.missing)) in
       record {
         in_range = h.in_range;
         base = h.base;
@@ -126,10 +126,10 @@ module _ (nodes pages words : ℕ) (memory : Memory) (from page : ℕ) (parts : 
       }
 
   pub changes-fit : (needs : List Need) → All (FitsNeed nodes pages words memory) needs
-      → All (FitsNeed nodes pages words now) (map (with_changes page from) needs)
+      → All (FitsNeed nodes pages words now) (map (changes_came page from) needs)
   changes-fit needs h =
-      All-map (FitsNeed nodes pages words now) (with_changes page from) needs
-      (All-weaker (FitsNeed nodes pages words memory) (λ need. FitsNeed nodes pages words now (with_changes page from need))
+      All-map (FitsNeed nodes pages words now) (changes_came page from) needs
+      (All-weaker (FitsNeed nodes pages words memory) (λ need. FitsNeed nodes pages words now (changes_came page from need))
       (λ need fits. changes-by need (need.page == page) refl fits) needs h)
 
 -- ---- a base copy came
@@ -156,7 +156,7 @@ page-by nodes pages words memory page values came need false e h = h
 
 pub page-fits : (nodes pages words : ℕ) (memory : Memory) (needs : List Need) (page from : ℕ) (values : List ℕ)
     → All (FitsNeed nodes pages words memory) needs → list_any (awaits_page page from) needs ≡ true → length values ≡ words
-    → All (FitsNeed nodes pages words memory) (map (with_page page values) needs)
+    → All (FitsNeed nodes pages words memory) (map (page_came page values) needs)
 page-fits nodes pages words memory needs page from values h e long =
     let came : FitsBase nodes words (copy_at memory page) (come values) =
     any_fits (FitsNeed nodes pages words memory) (awaits_page page from) (FitsBase nodes words (copy_at memory page) (come values))
@@ -165,30 +165,30 @@ page-fits nodes pages words memory needs page from values h e long =
     subst (λ p. FitsBase nodes words (copy_at memory p) (come values)) (eqb-true need.page page parts.0)
     (due-come nodes words from values (copy_at memory need.page) need.base fits.base parts.1 long))
     needs h e in
-    All-map (FitsNeed nodes pages words memory) (with_page page values) needs
-    (All-weaker (FitsNeed nodes pages words memory) (λ need. FitsNeed nodes pages words memory (with_page page values need))
+    All-map (FitsNeed nodes pages words memory) (page_came page values) needs
+    (All-weaker (FitsNeed nodes pages words memory) (λ need. FitsNeed nodes pages words memory (page_came page values need))
     (λ need fits. page-by nodes pages words memory page values came need (need.page == page) refl fits) needs h)
 
 -- ---- pages are mended
 
 pub is-mended : (memory : Memory) (need : Need) (page : ℕ) → need.page ≡ page → page < length memory.copies
-    → is_readable (copy_at (mended memory need) page) ≡ true
+    → is_readable (copy_at (repaired memory need) page) ≡ true
 is-mended memory need page e lt =
-    let mend : Copy = valid (repaired memory.store (first_values (copy_at memory need.page) need.base) need.missing) in
+    let mend : Copy = valid (all_applied memory.store (first_values (copy_at memory need.page) need.base) need.missing) in
     ap is_readable (subst (λ p. slice_index_or (slice_set memory.copies p mend) page absent ≡ mend) (sym e) (get_or-set_same memory.copies page mend absent lt))
 
-not-mended : (memory : Memory) (need : Need) (page : ℕ) → (need.page ≡ page → ⊥) → copy_at (mended memory need) page ≡ copy_at memory page
+not-mended : (memory : Memory) (need : Need) (page : ℕ) → (need.page ≡ page → ⊥) → copy_at (repaired memory need) page ≡ copy_at memory page
 not-mended memory need page ne = get_or-set_other memory.copies need.page page _ absent (λ e. ne (sym e))
 
 still-readable : (needs : List Need) (memory : Memory) (page : ℕ) → page < length memory.copies → is_readable (copy_at memory page) ≡ true
-    → is_readable (copy_at (fold mended memory needs) page) ≡ true
+    → is_readable (copy_at (fold repaired memory needs) page) ≡ true
 still-readable [] memory page lt r = r
 still-readable (need ∷ needs) memory page lt r =
-    still-readable needs (mended memory need) page (omega (
+    still-readable needs (repaired memory need) page (omega (
       arith,
       lt,
       length-set memory.copies need.page
-          (valid (repaired memory.store (first_values (copy_at memory need.page) need.base) need.missing)),
+          (valid (all_applied memory.store (first_values (copy_at memory need.page) need.base) need.missing)),
     ))
     (⊎_elim
     (λ (here : need.page ≡ page). is-mended memory need page here lt)
@@ -196,14 +196,14 @@ still-readable (need ∷ needs) memory page lt r =
     (cases_eq need.page page))
 
 now-readable : (needs : List Need) (memory : Memory) (page : ℕ) → page < length memory.copies → Contains (map (λ (need : Need). need.page) needs) page
-    → is_readable (copy_at (fold mended memory needs) page) ≡ true
+    → is_readable (copy_at (fold repaired memory needs) page) ≡ true
 now-readable [] memory page lt there = absurd (none_Contains page there)
 now-readable (need ∷ needs) memory page lt there =
-    let within : page < length (mended memory need).copies =
-    omega (arith, lt, length-set memory.copies need.page (valid (repaired memory.store (first_values (copy_at memory need.page) need.base) need.missing))) in
+    let within : page < length (repaired memory need).copies =
+    omega (arith, lt, length-set memory.copies need.page (valid (all_applied memory.store (first_values (copy_at memory need.page) need.base) need.missing))) in
     ⊎_elim
-    (λ (here : need.page ≡ page). still-readable needs (mended memory need) page within (is-mended memory need page here lt))
-    (λ later. now-readable needs (mended memory need) page within later)
+    (λ (here : need.page ≡ page). still-readable needs (repaired memory need) page within (is-mended memory need page here lt))
+    (λ later. now-readable needs (repaired memory need) page within later)
     (cases_Contains need.page (map (λ (need : Need). need.page) needs) page there)
 
 pub bases-copies : (kept : List ℕ) (memory : Memory) → (fold with_base memory kept).copies ≡ memory.copies
@@ -215,7 +215,7 @@ pub clean-readable : (memory : Memory) (needs : List Need) (kept : List ℕ) (pa
     → map (λ (need : Need). need.page) needs ≡ filter (λ page. not (is_readable (copy_at memory page))) kept
     → is_readable (copy_at (clean_memory needs kept memory) page) ≡ true
 clean-readable memory needs kept page lt there e =
-    ap (λ (copies : List Copy). is_readable (slice_index_or copies page absent)) (bases-copies kept (fold mended memory needs))
+    ap (λ (copies : List Copy). is_readable (slice_index_or copies page absent)) (bases-copies kept (fold repaired memory needs))
     ∙ ⊎_elim
     (λ (r : is_readable (copy_at memory page) ≡ true). still-readable needs memory page lt r)
     (λ (r : is_readable (copy_at memory page) ≡ false).

@@ -13,12 +13,13 @@ use Rattle.lrc_envelope.specs.declared.message.Message.{Message}
 use Rattle.lrc_envelope.specs.declared.message.Message.TheVariants.{LockGrant, Depart, PageReply}
 use Rattle.lrc_barrier.specs.Barrier.{ManagerRecord}
 use Rattle.lrc_protocol.specs.Times.{next_time}
-use Rattle.lrc_protocol.specs.Pages.{is_readable, Memory, copy_at, with_written_word, with_interval, learned, Need, need_of, is_met, mended}
-use Rattle.lrc_protocol.specs.Pages.{with_changes, with_page, with_part}
+use Rattle.lrc_protocol.specs.Pages.{is_readable, Memory, copy_at, with_written_word, with_interval, learned, Need, need_of, is_met, repaired}
+use Rattle.lrc_protocol.specs.Pages.{changes_came, page_came, with_part}
 use Rattle.lrc_protocol.specs.Barriers.{with_keepers, collected_at, Collection, clean_memory, arrival_in}
 use Rattle.lrc_protocol.specs.Node.{Letter, Wait, nothing, grant, departure, access, upkeep, discard, needs_of, Course, going, trapped, ended}
 use Rattle.lrc_protocol.specs.Node.{Node, Effect, makes, acts, acts_by, with_memory, waiting}
-use Rattle.lrc_protocol.specs.Turn.{with_needs, is_expected, charged, TurnRecord, Outcome, done, not_ready, unexpected, worn, taking, is_repeat}
+use Rattle.lrc_protocol.specs.Turn.{with_needs, charged, TurnRecord, Outcome, done, not_ready, unexpected, worn, taking, is_repeat}
+use Rattle.lrc_protocol.specs.Follows.{is_expected}
 use Rattle.lrc_protocol.specs.Run.{Input, run, taken as taken_in, outcome_of}
 use Rattle.lrc_protocol.specs.Rules.{take_request, IsReadyFor, AccessesNext, IsDepartureDue, Brings as Replies, brings_changes, brings_base_copy}
 use Rattle.lrc_protocol.specs.Rules.{page_at, need_at, keeping, collection_at, upkeep_at, RunRule, run_hit, run_miss, run_repair, run_acquire}
@@ -90,11 +91,11 @@ pub data First (came : Came) (v : View) : View → Type 0 where
   gets_changes : (from : ℕ) (m : ChangesReplyRecord) → Reply v from m
       → First came v
       (record v {
-        wait = with_needs (with_changes m.page from) v.wait;
+        wait = with_needs (changes_came m.page from) v.wait;
         memory = record v.memory { store = fold (with_part from m.page) v.memory.store m.parts };
       })
   gets_page : (from : ℕ) (m : PageReplyRecord) → came ≡ comes from (PageReply m) → Sent v from m.page m.values
-      → First came v (record v { wait = with_needs (with_page m.page m.values) v.wait })
+      → First came v (record v { wait = with_needs (page_came m.page m.values) v.wait })
 
 -- what may follow in the same turn
 pub data Later (v : View) : View → Type 0 where
@@ -103,7 +104,7 @@ pub data Later (v : View) : View → Type 0 where
   cleans : (collection : Collection) (needs : List Need) → v.wait ≡ upkeep collection needs → list_all is_met needs ≡ true
       → Later v (record v { wait = discard collection; memory = clean_memory needs collection.kept v.memory })
   mends : (need : Need) → v.wait ≡ access need → is_met need ≡ true
-      → Later v (record v { wait = nothing; memory = mended v.memory need })
+      → Later v (record v { wait = nothing; memory = repaired v.memory need })
 
 pub data Played (came : Came) (v : View) : View → Type 0 where
   begun : {after : View} → First came v after → Played came v after

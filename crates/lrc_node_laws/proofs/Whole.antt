@@ -9,8 +9,8 @@ use Rattle.lrc_page.specs.Place.{page_of, offset_of}
 use Rattle.lrc_page.proofs.ChangeLists.{length-fold-applied}
 use Rattle.lrc_protocol.specs.Times.{is_named}
 use Rattle.lrc_protocol.specs.Pages.{Copy, valid, written, invalid, absent, is_readable, values_of, after_write, closed, invalidated, dropped}
-use Rattle.lrc_protocol.specs.Pages.{Memory, copy_at, keeper_at, changes_or_none, repaired, Base, unneeded, due, come, Need, is_due, is_met}
-use Rattle.lrc_protocol.specs.Pages.{first_values, mended}
+use Rattle.lrc_protocol.specs.Pages.{Memory, copy_at, keeper_at, changes_or_none, all_applied, Base, unneeded, due, come, Need, is_due, is_met}
+use Rattle.lrc_protocol.specs.Pages.{first_values, repaired}
 use Rattle.lrc_protocol.specs.Barriers.{with_base, clean_memory}
 use Rattle.lrc_protocol.specs.Node.{upkeep, needs_of}
 use Rattle.lrc_node_laws.specs.Ranges.{IsWholeCopy, IsWholeBase}
@@ -95,50 +95,50 @@ then-long words copy (due keeper) values h long = long
 then-long words copy unneeded values h long = long
 
 mended-long : (words : ℕ) (memory : Memory) (need : Need) → length (first_values (copy_at memory need.page) need.base) ≡ words
-    → length (repaired memory.store (first_values (copy_at memory need.page) need.base) need.missing) ≡ words
+    → length (all_applied memory.store (first_values (copy_at memory need.page) need.base) need.missing) ≡ words
 mended-long words memory need h =
     length-fold-applied (first_values (copy_at memory need.page) need.base) (map (changes_or_none memory.store) need.missing) ∙ h
 
 mended-whole : (nodes words : ℕ) (memory : Memory) (need : Need) → length (first_values (copy_at memory need.page) need.base) ≡ words
-    → All (IsWholeCopy nodes words) memory.copies → All (IsWholeCopy nodes words) (mended memory need).copies
+    → All (IsWholeCopy nodes words) memory.copies → All (IsWholeCopy nodes words) (repaired memory need).copies
 mended-whole nodes words memory need long h =
-    All-set (IsWholeCopy nodes words) memory.copies need.page (valid (repaired memory.store (first_values (copy_at memory need.page) need.base) need.missing))
+    All-set (IsWholeCopy nodes words) memory.copies need.page (valid (all_applied memory.store (first_values (copy_at memory need.page) need.base) need.missing))
     (mended-long words memory need long) h
 
 -- of the copy at a place, once another place is written
 other-long : (words : ℕ) (memory : Memory) (need other : Need) → length (first_values (copy_at memory need.page) need.base) ≡ words
-    → length (first_values (copy_at memory other.page) other.base) ≡ words → length (first_values (copy_at (mended memory need) other.page) other.base) ≡ words
+    → length (first_values (copy_at memory other.page) other.base) ≡ words → length (first_values (copy_at (repaired memory need) other.page) other.base) ≡ words
 other-long words memory need other h g =
-    let values : List ℕ = repaired memory.store (first_values (copy_at memory need.page) need.base) need.missing in
+    let values : List ℕ = all_applied memory.store (first_values (copy_at memory need.page) need.base) need.missing in
     ⊎_elim
     (λ (here : need.page ≡ other.page).
     ⊎_elim
     (λ (lt : need.page < length memory.copies).
-    let it : copy_at (mended memory need) need.page ≡ valid values = get_or-set_same memory.copies need.page (valid values) absent lt in
-    subst (λ p. length (first_values (copy_at (mended memory need) p) other.base) ≡ words) here
+    let it : copy_at (repaired memory need) need.page ≡ valid values = get_or-set_same memory.copies need.page (valid values) absent lt in
+    subst (λ p. length (first_values (copy_at (repaired memory need) p) other.base) ≡ words) here
     (ap (λ c. length (first_values c other.base)) it ∙ then-long words (copy_at memory other.page) other.base values g (mended-long words memory need h)))
     (λ (le : length memory.copies ≤ need.page).
-    let past : copy_at (mended memory need) other.page ≡ absent =
+    let past : copy_at (repaired memory need) other.page ≡ absent =
     get_or_past (slice_set memory.copies need.page (valid values)) other.page absent
     (omega (arith, here, le, length-set memory.copies need.page (valid values))) in
     let was : copy_at memory other.page ≡ absent = get_or_past memory.copies other.page absent (omega (arith, here, le)) in
     ap (λ c. length (first_values c other.base)) (past ∙ sym was) ∙ g)
     (cases_lt need.page (length memory.copies)))
     (λ differ.
-    let same : copy_at (mended memory need) other.page ≡ copy_at memory other.page =
+    let same : copy_at (repaired memory need) other.page ≡ copy_at memory other.page =
     get_or-set_other memory.copies need.page other.page (valid values) absent (λ e. differ (sym e)) in
     ap (λ c. length (first_values c other.base)) same ∙ g)
     (cases_eq need.page other.page)
 
 mends-whole : (nodes words : ℕ) (needs : List Need) (memory : Memory)
     → All (λ (need : Need). length (first_values (copy_at memory need.page) need.base) ≡ words) needs
-    → All (IsWholeCopy nodes words) memory.copies → All (IsWholeCopy nodes words) (fold mended memory needs).copies
+    → All (IsWholeCopy nodes words) memory.copies → All (IsWholeCopy nodes words) (fold repaired memory needs).copies
 mends-whole nodes words [] memory f h = h
 mends-whole nodes words (need ∷ needs) memory f h =
     let P : Need → Type 0 = λ need. length (first_values (copy_at memory need.page) need.base) ≡ words in
     let first : length (first_values (copy_at memory need.page) need.base) ≡ words = All-head P need needs f in
-    mends-whole nodes words needs (mended memory need)
-    (All-weaker P (λ (other : Need). length (first_values (copy_at (mended memory need) other.page) other.base) ≡ words)
+    mends-whole nodes words needs (repaired memory need)
+    (All-weaker P (λ (other : Need). length (first_values (copy_at (repaired memory need) other.page) other.base) ≡ words)
     (λ other g. other-long words memory need other first g) needs (All-tail P need needs f))
     (mended-whole nodes words memory need first h)
 
@@ -150,9 +150,9 @@ bases-whole words (page ∷ kept) memory f h =
     bases-whole words kept (with_base memory page) (All-tail P page kept f)
     (All-set (IsWholeBase words) memory.bases page (Some (values_of (copy_at memory page))) (All-head P page kept f) h)
 
-mends-bases : (needs : List Need) (memory : Memory) → (fold mended memory needs).bases ≡ memory.bases
+mends-bases : (needs : List Need) (memory : Memory) → (fold repaired memory needs).bases ≡ memory.bases
 mends-bases [] memory = refl
-mends-bases (need ∷ needs) memory = mends-bases needs (mended memory need)
+mends-bases (need ∷ needs) memory = mends-bases needs (repaired memory need)
 
 -- ---- every change
 
@@ -203,24 +203,24 @@ whole-kept v _ (cleans collection needs w met) r n h =
     let each : All (FitsNeed nodes (pages_in v) words v.memory) needs = subst (λ w. All (FitsNeed nodes (pages_in v) words v.memory) (needs_of w)) w n.each in
     let kept : FitsKept v.setting.me v.memory (upkeep collection needs) = subst (FitsKept v.setting.me v.memory) w n.kept in
     let came : All (λ (need : Need). is_met need ≡ true) needs = each_passes is_met (λ need. is_met need ≡ true) (λ need e. e) needs met in
-    let copies : All (IsWholeCopy nodes words) (fold mended v.memory needs).copies =
+    let copies : All (IsWholeCopy nodes words) (fold repaired v.memory needs).copies =
     mends-whole nodes words needs v.memory
     (λ k d within. met-long nodes (pages_in v) words v.memory (slice_index_or needs k d) h.copies (each k d within) (came k d within)) h.copies in
     let below : All (λ page. page < pages_in v) collection.kept =
     subst (All (λ page. page < pages_in v)) (sym kept.0) (kept-below v.setting.me (pages_in v) v.memory r.memory.keepers) in
-    let same : (clean_memory needs collection.kept v.memory).copies ≡ (fold mended v.memory needs).copies =
-    bases-copies collection.kept (fold mended v.memory needs) in
+    let same : (clean_memory needs collection.kept v.memory).copies ≡ (fold repaired v.memory needs).copies =
+    bases-copies collection.kept (fold repaired v.memory needs) in
     record {
       copies = subst (All (IsWholeCopy nodes words)) (sym same) copies;
       bases =
-          bases-whole words collection.kept (fold mended v.memory needs)
+          bases-whole words collection.kept (fold repaired v.memory needs)
           (λ k d within.
           let page : ℕ = slice_index_or collection.kept k d in
-          readable-long nodes words (copy_at (fold mended v.memory needs) page)
+          readable-long nodes words (copy_at (fold repaired v.memory needs) page)
           (ap (λ (copies : List Copy). is_readable (slice_index_or copies page absent)) (sym same)
           ∙ clean-readable v.memory needs collection.kept page (omega (arith, below k d within, r.memory.copies))
           (All-contains_itself collection.kept k d within) kept.1)
-          (whole-at nodes words (fold mended v.memory needs).copies page copies))
+          (whole-at nodes words (fold repaired v.memory needs).copies page copies))
           (subst (All (IsWholeBase words)) (sym (mends-bases needs v.memory)) h.bases);
     }
 whole-kept v _ (discards collection w) r n h = record {

@@ -13,7 +13,10 @@ use Rattle.lrc_protocol.specs.Pages.{Copy, valid, absent, Memory, copy_at}
 use Rattle.lrc_protocol.specs.Node.{OptionsRecord, fresh_node}
 use Rattle.lrc_protocol.specs.Turn.{TurnRecord, Outcome, done, not_ready, unexpected, worn}
 use Rattle.lrc_protocol.specs.Follows.{deeds_in}
-use Rattle.lrc_protocol.specs.Run.{Input, outcome_of, Local, local_after, local_step}
+use Rattle.lrc_protocol.specs.Run.{Input, outcome_of}
+use Rattle.lrc_protocol.specs.Follows.{local_step}
+use Rattle.lrc_protocol.specs.Follows.{local_after}
+use Rattle.lrc_protocol.specs.Follows.{Local}
 use Rattle.lrc_protocol.proofs.Ruled.{by_rule}
 use Rattle.lrc_order_laws.proofs.Shift.{deed_made}
 use Rattle.lrc_node_laws.specs.Reached.{LeadsTo}

@@ -3,7 +3,7 @@ use Rattle.std.specs.Prelude.{◌≡◌, ℕ, ◌<◌, true, not, Option, Some, 
 use Rattle.lrc_page.specs.declared.size.Size.{Size}
 use Rattle.lrc_page.specs.Place.{page_of}
 use Rattle.lrc_exec.specs.Meaning.{Next, reads, writes}
-use Rattle.lrc_protocol.specs.Pages.{Copy, valid, written, invalid, absent, is_readable, Memory, copy_at, lacking, Base, unneeded, due, come}
+use Rattle.lrc_protocol.specs.Pages.{Copy, valid, written, invalid, absent, is_readable, Memory, copy_at, missing_at, Base, unneeded, due, come}
 use Rattle.lrc_protocol.specs.Pages.{Need, asked_of, unknown_of}
 use Rattle.lrc_protocol.specs.Barriers.{kept_pages}
 use Rattle.lrc_protocol.specs.Node.{Wait, access, upkeep, discard}
@@ -24,7 +24,7 @@ FitsBase nodes words (written values twin) _ = ⊥
 pub record FitsNeed (nodes pages words : ℕ) (memory : Memory) (need : Need) : Type 0 where
   pub in_range : need.page < pages
   pub base : FitsBase nodes words (copy_at memory need.page) need.base
-  pub missing : need.missing ≡ lacking memory need.page
+  pub missing : need.missing ≡ missing_at memory need.page
   pub asked : need.asked ≡ asked_of nodes (unknown_of memory.store need.missing)
 
 -- the pages that are kept are those that were named and that the node keeps; those that are not readable are needed, and none

@@ -3,7 +3,9 @@ use Rattle.std.specs.Prelude.{◌≡◌, ℕ, ◌<◌, List, Some}
 use Rattle.lrc_lang.specs.declared.program.Program.{Program}
 use Rattle.lrc_protocol.specs.Node.{Node, OptionsRecord}
 use Rattle.lrc_protocol.specs.Turn.{TurnRecord}
-use Rattle.lrc_protocol.specs.Run.{Input, Local, local}
+use Rattle.lrc_protocol.specs.Run.{Input}
+use Rattle.lrc_protocol.specs.Follows.{local}
+use Rattle.lrc_protocol.specs.Follows.{Local}
 
 -- with these turns, which some inputs make
 pub record LeadsTo (program : Program) (nodes : ℕ) (options : OptionsRecord) (me : ℕ) (l : Local) : Type 0 where

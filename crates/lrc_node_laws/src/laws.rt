@@ -10,7 +10,8 @@ ghost use Rattle.lrc_order_laws.specs.Tokens.{is_awaited};
 ghost use Rattle.lrc_order_laws.specs.Waiting.{next_in, acquiring, FixesNext};
 ghost use Rattle.lrc_lang.specs.declared.program.Program.{Program};
 ghost use Rattle.lrc_node_laws.specs.Comes.{CanBeRepaired};
-ghost use Rattle.lrc_protocol.specs.Turn.{with_needs, is_learnable, is_changes_reply, is_expected, TurnRecord, done};
+ghost use Rattle.lrc_protocol.specs.Turn.{with_needs, is_learnable, expects_changes_reply, TurnRecord, done};
+ghost use Rattle.lrc_protocol.specs.Follows.{is_expected};
 ghost use Rattle.lrc_protocol.specs.Turn.{run_turn, take_turn};
 ghost use Rattle.lrc_envelope.specs.declared.message.Message.TheVariants.{PageReply};
 ghost use Rattle.lrc_node_laws.specs.Needs.{FitsNeed, FitsKept, ReachesFor};
@@ -30,9 +31,10 @@ ghost use Rattle.lrc_page.specs.Page.{words_of};
 ghost use Rattle.lrc_page.specs.Place.{pages_of};
 ghost use Rattle.lrc_page.specs.declared.changes.Change.{Change};
 ghost use Rattle.lrc_protocol.specs.Times.{indices_by, next_time};
-ghost use Rattle.lrc_protocol.specs.Pages.{Need, Asked, is_met, with_changes, with_page, lacking, copy_at};
+ghost use Rattle.lrc_protocol.specs.Pages.{Need, Asked, is_met, changes_came, page_came, missing_at, copy_at};
 ghost use Rattle.lrc_protocol.specs.Node.{going, nothing, grant, needs_of, access, Node, OptionsRecord, fresh_node};
-ghost use Rattle.lrc_protocol.specs.Run.{Input, Local, outcome_of};
+ghost use Rattle.lrc_protocol.specs.Run.{Input, outcome_of};
+ghost use Rattle.lrc_protocol.specs.Follows.{Local};
 ghost use Rattle.lrc_protocol.specs.Traced.{untraced, with_act};
 ghost use Rattle.lrc_trace.specs.Trace.{TraceRecord};
 ghost use Rattle.lrc_store.specs.Interval.{IntervalRecord};
@@ -140,7 +142,7 @@ pub fn needs_fit_the_memory()
 
 /// The changes in a reply that a node expects are of stored notices of which no changes are known, and of words of a page.
 pub fn replies_are_of_unread_notices()
-    ensures { (node : Node) (from : ℕ) (m : ChangesReplyRecord) → IsReached node → is_changes_reply node from m ≡ true
+    ensures { (node : Node) (from : ℕ) (m : ChangesReplyRecord) → IsReached node → expects_changes_reply node from m ≡ true
         → All (λ (part : IndexedChangesRecord).
         (notice_at node.memory.store (record { node = from; index = part.index; page = m.page }) ≡ Some (unread m.page))
         × All (λ (change : Change). change.offset < words_of node.options.size) part.changes) m.parts }
@@ -163,7 +165,7 @@ pub fn own_changes_are_attached()
         → is_some (notice_at node.memory.store (record { node = node.setting.me; index = index; page = page })) ≡ true
         → is_some (changes_at node.memory.store (record { node = node.setting.me; index = index; page = page })) ≡ true }
     ensures lacking { (node : Node) (page : ℕ) → IsReached node
-        → All (λ (key : Key). key.node ≡ node.setting.me → ⊥) (lacking node.memory page) }
+        → All (λ (key : Key). key.node ≡ node.setting.me → ⊥) (missing_at node.memory page) }
     ensures asked { (node : Node) → IsReached node
         → All (λ (need : Need). All (λ (asked : Asked). (asked.maker < node.setting.nodes) × (asked.maker ≡ node.setting.me → ⊥)) need.asked)
         (needs_of node.mail.wait) }
@@ -192,10 +194,10 @@ pub fn copies_are_made_by_the_open_interval()
 /// or has come just where the copy is absent, the keys that it lacks are of it, and the text's next access is on it.
 pub fn what_comes_can_be_repaired()
     ensures changes { (node : Node) (from : ℕ) (m : ChangesReplyRecord) (need : Need) → IsReached node
-        → is_changes_reply node from m ≡ true → with_needs (with_changes m.page from) node.mail.wait ≡ access need
+        → expects_changes_reply node from m ≡ true → with_needs (changes_came m.page from) node.mail.wait ≡ access need
         → CanBeRepaired node need }
     ensures page { (node : Node) (from : ℕ) (m : PageReplyRecord) (need : Need) → IsReached node
-        → is_expected node from (PageReply m) ≡ true → with_needs (with_page m.page m.values) node.mail.wait ≡ access need
+        → is_expected node from (PageReply m) ≡ true → with_needs (page_came m.page m.values) node.mail.wait ≡ access need
         → CanBeRepaired node need }
 {}
 

@@ -17,7 +17,8 @@ use Rattle.lrc_protocol.specs.Locks.{Locks}
 use Rattle.lrc_protocol.specs.Barriers.{arrival_in, Barrier}
 use Rattle.lrc_protocol.specs.Node.{Letter, Wait, nothing, OptionsRecord}
 use Rattle.lrc_protocol.specs.Turn.{letter, departure_of, discards_to}
-use Rattle.lrc_protocol.specs.Run.{Input, EntryRecord, Logged, World, Flying, fresh_world, with_turn, pending, run_of}
+use Rattle.lrc_protocol.specs.Run.{Input, EntryRecord, Logged, World, Flying, fresh_world, with_turn, run_of}
+use Rattle.lrc_protocol.specs.Follows.{pending}
 use Rattle.lrc_protocol.proofs.Worlds.{IsEntry, get_set_same, get_set_other}
 use Rattle.lrc_protocol.proofs.Induction.{Comes}
 use Rattle.lrc_order_laws.specs.Barriers.{says_arrive, says_clean, says_discard, arrive_from, depart_to, clean_from}

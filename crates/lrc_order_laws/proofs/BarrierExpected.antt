@@ -19,9 +19,11 @@ use Rattle.lrc_barrier.specs.Barrier.{ManagerRecord, refuses, waits, departs, is
 use Rattle.lrc_barrier.specs.Barrier.{is_next, has_arrived, arrived, refuses_clean, awaits, discards, cleaned_by, cleaned, is_clean}
 use Rattle.lrc_protocol.specs.declared.event.Event.{Event}
 use Rattle.lrc_protocol.specs.Barriers.{arrival_in}
-use Rattle.lrc_protocol.specs.Node.{Wait, nothing, grant, departure, access, upkeep, discard, awaits_departure, awaits_discard, OptionsRecord}
-use Rattle.lrc_protocol.specs.Turn.{is_expected}
-use Rattle.lrc_protocol.specs.Run.{Logged, World, pending, run_of}
+use Rattle.lrc_protocol.specs.Node.{Wait, nothing, grant, departure, access, upkeep, discard, awaits_departure, OptionsRecord}
+use Rattle.lrc_protocol.specs.Follows.{awaits_discard}
+use Rattle.lrc_protocol.specs.Follows.{is_expected}
+use Rattle.lrc_protocol.specs.Run.{Logged, World, run_of}
+use Rattle.lrc_protocol.specs.Follows.{pending}
 use Rattle.lrc_protocol.proofs.Expecting.{conditions}
 use Rattle.lrc_order_laws.specs.Barriers.{accepts_arrival, says_clean, says_discard, arrive_from, depart_to, clean_from, discard_to}
 use Rattle.lrc_order_laws.specs.Barriers.{kept_of, noted_of, awaits_depart, awaits_word, IsNewestTime}

@@ -22,7 +22,8 @@ use Rattle.lrc_protocol.specs.Locks.{Locks}
 use Rattle.lrc_protocol.specs.Barriers.{Collection, Barrier}
 use Rattle.lrc_protocol.specs.Node.{Wait, Letter, nothing, grant, departure, access, discard, Node, OptionsRecord}
 use Rattle.lrc_protocol.specs.Turn.{TurnRecord}
-use Rattle.lrc_protocol.specs.Run.{Logged, World, with_turn, pending, run_of}
+use Rattle.lrc_protocol.specs.Run.{Logged, World, with_turn, run_of}
+use Rattle.lrc_protocol.specs.Follows.{pending}
 use Rattle.lrc_protocol.proofs.Worlds.{get_set_same}
 use Rattle.lrc_order_laws.specs.Counts.{is_inside}
 use Rattle.lrc_order_laws.specs.Present.{IsPresent}

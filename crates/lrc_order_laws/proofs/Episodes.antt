@@ -10,7 +10,8 @@ use Rattle.lrc_plain_laws.specs.Follows.{deeds_of}
 use Rattle.lrc_protocol.specs.declared.event.Event.{Event}
 use Rattle.lrc_protocol.specs.Locks.{Locks}
 use Rattle.lrc_protocol.specs.Node.{Course, deed_of, Wait, nothing, grant, departure, access, upkeep, discard, OptionsRecord, fresh_node}
-use Rattle.lrc_protocol.specs.Run.{Local, Logged, World, run_of}
+use Rattle.lrc_protocol.specs.Run.{Logged, World, run_of}
+use Rattle.lrc_protocol.specs.Follows.{Local}
 use Rattle.lrc_protocol.specs.Follows.{turns_of, deeds_in}
 use Rattle.lrc_protocol.proofs.Texts.{follows_at}
 use Rattle.lrc_order_laws.specs.Waiting.{next_in, FixesNext}

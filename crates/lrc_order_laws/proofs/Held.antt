@@ -13,7 +13,8 @@ use Rattle.lrc_lock.specs.Lock.{manager_of}
 use Rattle.lrc_lock.specs.Held.{is_held, first_state}
 use Rattle.lrc_protocol.specs.declared.event.Event.{Event}
 use Rattle.lrc_protocol.specs.Node.{OptionsRecord, fresh_node}
-use Rattle.lrc_protocol.specs.Run.{Local, Logged, World, run_of}
+use Rattle.lrc_protocol.specs.Run.{Logged, World, run_of}
+use Rattle.lrc_protocol.specs.Follows.{Local}
 use Rattle.lrc_protocol.specs.Follows.{turns_of}
 use Rattle.lrc_order_laws.specs.Tokens.{is_awaited, HoldsTokens, AwaitsOne}
 use Rattle.lrc_order_laws.proofs.Shift.{part_of}

@@ -6,7 +6,11 @@ use Rattle.lrc_lang.specs.declared.program.Program.{Program}
 use Rattle.lrc_protocol.specs.declared.event.Event.{Event}
 use Rattle.lrc_protocol.specs.Node.{Node, OptionsRecord, fresh_node}
 use Rattle.lrc_protocol.specs.Turn.{TurnRecord, Outcome, done, not_ready, unexpected, worn}
-use Rattle.lrc_protocol.specs.Run.{Input, outcome_of, Logged, Local, local_after, local_step, local, World, run_of}
+use Rattle.lrc_protocol.specs.Run.{Input, outcome_of, Logged, World, run_of}
+use Rattle.lrc_protocol.specs.Follows.{local}
+use Rattle.lrc_protocol.specs.Follows.{local_step}
+use Rattle.lrc_protocol.specs.Follows.{local_after}
+use Rattle.lrc_protocol.specs.Follows.{Local}
 use Rattle.lrc_protocol.specs.Follows.{inputs_of, turns_of}
 use Rattle.lrc_protocol.proofs.Texts.{follows_at}
 use Rattle.lrc_protocol.proofs.Turned.{Turned, Turns, turns}

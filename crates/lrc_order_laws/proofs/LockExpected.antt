@@ -17,8 +17,10 @@ use Rattle.lrc_lock.specs.Lock.{manager_of}
 use Rattle.lrc_lock.specs.Held.{refuses, lock_at, forwarded_at, is_taken}
 use Rattle.lrc_protocol.specs.declared.event.Event.{Event}
 use Rattle.lrc_protocol.specs.Node.{awaits_grant, Node, OptionsRecord}
-use Rattle.lrc_protocol.specs.Turn.{TurnRecord, is_expected}
-use Rattle.lrc_protocol.specs.Run.{Logged, World, with_turn, pending, run_of}
+use Rattle.lrc_protocol.specs.Turn.{TurnRecord}
+use Rattle.lrc_protocol.specs.Follows.{is_expected}
+use Rattle.lrc_protocol.specs.Run.{Logged, World, with_turn, run_of}
+use Rattle.lrc_protocol.specs.Follows.{pending}
 use Rattle.lrc_protocol.specs.Follows.{turns_of}
 use Rattle.lrc_protocol.proofs.Worlds.{get_set_same}
 use Rattle.lrc_protocol.proofs.Expecting.{conditions}

@@ -18,7 +18,8 @@ use Rattle.lrc_envelope.specs.Envelope.{EnvelopeRecord}
 use Rattle.lrc_protocol.specs.declared.event.Event.{Event}
 use Rattle.lrc_protocol.specs.Node.{Node, OptionsRecord, fresh_node}
 use Rattle.lrc_protocol.specs.Turn.{TurnRecord}
-use Rattle.lrc_protocol.specs.Run.{Logged, World, fresh_world, with_turn, pending, run_of}
+use Rattle.lrc_protocol.specs.Run.{Logged, World, fresh_world, with_turn, run_of}
+use Rattle.lrc_protocol.specs.Follows.{pending}
 use Rattle.lrc_protocol.specs.Follows.{turns_of}
 use Rattle.lrc_protocol.proofs.Worlds.{get_set_same, get_set_other, fresh_at, run-whole}
 use Rattle.lrc_order_laws.specs.Shape.{HasShape}

@@ -14,8 +14,10 @@ use Rattle.lrc_envelope.specs.Envelope.{EnvelopeRecord}
 use Rattle.lrc_protocol.specs.declared.event.Event.{Event}
 use Rattle.lrc_protocol.specs.Follows.{numbers_to}
 use Rattle.lrc_protocol.specs.Node.{Node, Effect, OptionsRecord}
-use Rattle.lrc_protocol.specs.Turn.{TurnRecord, done, run_turn, take_turn, is_repeat, taking, is_expected}
-use Rattle.lrc_protocol.specs.Run.{Input, run, taken, EntryRecord, Logged, World, Flying, fresh_world, with_turn, sent_by, pending, run_of}
+use Rattle.lrc_protocol.specs.Turn.{TurnRecord, done, run_turn, take_turn, is_repeat, taking}
+use Rattle.lrc_protocol.specs.Follows.{is_expected}
+use Rattle.lrc_protocol.specs.Run.{Input, run, taken, EntryRecord, Logged, World, Flying, fresh_world, with_turn, sent_by, run_of}
+use Rattle.lrc_protocol.specs.Follows.{pending}
 use Rattle.lrc_protocol.specs.Rules.{RunRule, TakeRule, IsSent, IsFor, TurnRule, by_run, by_repeat, by_message}
 use Rattle.lrc_protocol.proofs.Ruled.{by_rule}
 use Rattle.lrc_protocol.proofs.Allowed.{expected_by_rule}

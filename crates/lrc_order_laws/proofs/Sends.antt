@@ -19,7 +19,7 @@ use Rattle.lrc_barrier.specs.declared.departure.Departure.{Departure}
 use Rattle.lrc_barrier.specs.Barrier.{ManagerRecord, waits, departs as all_depart, arrived, awaits, discards, cleaned}
 use Rattle.lrc_protocol.specs.Times.{MOST_NUMBER, next_time}
 use Rattle.lrc_protocol.specs.Pages.{Memory, Base, unneeded, due, come, Asked, Need}
-use Rattle.lrc_protocol.specs.Locks.{Locks, ticked, with_time, with_held, with_managed}
+use Rattle.lrc_protocol.specs.Locks.{Locks, ticked, with_joined_time, with_held, with_managed}
 use Rattle.lrc_protocol.specs.Barriers.{arrival_in, Collection, Barrier, with_arrive, with_manager}
 use Rattle.lrc_protocol.specs.Node.{envelope_of, numbered, Letter, Wait, nothing, grant, departure, access, upkeep, discard, Course, going}
 use Rattle.lrc_protocol.specs.Node.{trapped, ended, deed_of, course_of, Node, Effect, sends, acts, acts_by, value_read}
@@ -134,7 +134,7 @@ pub data Sends (s : Site) : Came → Bool → Wait → Locks → Barrier → Lis
   -- and a grant makes the acquire.
   grants : (from : ℕ) (m : LockGrantRecord) → m.lock < s.tokens → s.wait ≡ grant m.lock → Learnable (part_in s) m.time
       → Sends s (comes from (LockGrant m)) true nothing
-      (with_time m.time (with_held (held_after s.locks.held m.lock (granted s.locks.held m.lock)) s.locks)) s.barrier []
+      (with_joined_time m.time (with_held (held_after s.locks.held m.lock (granted s.locks.held m.lock)) s.locks)) s.barrier []
   -- With a message on barriers: the manager keeps an arrival, or with the last one lets all depart;
   gathers : (from : ℕ) (m : ArriveRecord) (before after : ManagerRecord) → s.barrier.manager ≡ Some before → length m.time ≡ s.nodes
       → arrived before from (arrival_in m) ≡ waits after → Sends s (comes from (Arrive m)) false s.wait s.locks (with_manager after s.barrier) []
@@ -143,12 +143,12 @@ pub data Sends (s : Site) : Came → Bool → Wait → Locks → Barrier → Lis
       → Sends s (comes from (Arrive m)) false s.wait s.locks (with_manager after s.barrier) (map departure_of departures)
   -- who is told departs, or first collects: it asks for what its pages need, or is clean at once;
   departing : (from : ℕ) (m : DepartRecord) → Accepted s from m → m.collect ≡ false
-      → Sends s (comes from (Depart m)) true nothing (with_time m.time s.locks) s.barrier []
+      → Sends s (comes from (Depart m)) true nothing (with_joined_time m.time s.locks) s.barrier []
   collecting : (from : ℕ) (m : DepartRecord) {collection : Collection} {needs : List Need} {letters : List Letter} → Accepted s from m
       → m.collect ≡ true → collection.time ≡ m.time → AreOthers letters
-      → Sends s (comes from (Depart m)) false (upkeep collection needs) (with_time m.time s.locks) s.barrier letters
+      → Sends s (comes from (Depart m)) false (upkeep collection needs) (with_joined_time m.time s.locks) s.barrier letters
   clean_at_once : (from : ℕ) (m : DepartRecord) {collection : Collection} → Accepted s from m → m.collect ≡ true → collection.time ≡ m.time
-      → Sends s (comes from (Depart m)) false (discard collection) (with_time m.time s.locks) s.barrier
+      → Sends s (comes from (Depart m)) false (discard collection) (with_joined_time m.time s.locks) s.barrier
       (letter 0 (Clean s.barrier.episode) ∷ [])
   -- the manager notes who is clean, or with the last one lets all discard;
   notes_clean : (from episode : ℕ) (before after : ManagerRecord) → s.barrier.manager ≡ Some before → cleaned before from episode ≡ awaits after

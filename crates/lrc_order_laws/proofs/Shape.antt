@@ -16,10 +16,11 @@ use Rattle.lrc_lock.specs.Managed.{ManagedRecord, SameManager, with_asker}
 use Rattle.lrc_exec.specs.Meaning.{Setting}
 use Rattle.lrc_exec.specs.Plain.{setting_of}
 use Rattle.lrc_protocol.specs.Times.{next_time}
-use Rattle.lrc_protocol.specs.Locks.{Locks, fresh_locks, ticked, with_time, with_held, with_managed}
+use Rattle.lrc_protocol.specs.Locks.{Locks, fresh_locks, ticked, with_joined_time, with_held, with_managed}
 use Rattle.lrc_protocol.specs.Node.{Wait, OptionsRecord, fresh_node}
 use Rattle.lrc_protocol.specs.declared.event.Event.{Event}
-use Rattle.lrc_protocol.specs.Run.{Local, Logged, World, run_of}
+use Rattle.lrc_protocol.specs.Run.{Logged, World, run_of}
+use Rattle.lrc_protocol.specs.Follows.{Local}
 use Rattle.lrc_protocol.specs.Follows.{turns_of}
 use Rattle.lrc_order_laws.specs.Shape.{HasShape}
 use Rattle.lrc_order_laws.proofs.Shift.{Part, part_of, Shift, plain, misses, takes, asks, releasing, arriving, manages, forwarding, grants, departing}
@@ -85,7 +86,7 @@ manages_so s locks managed p h = record {
   askers = p.locks ∙ h.askers;
 }
 
-learns_so : (s : Setting) (locks : Locks) (time : List ℕ) → length time ≡ s.nodes → HasShape s locks → HasShape s (with_time time locks)
+learns_so : (s : Setting) (locks : Locks) (time : List ℕ) → length time ≡ s.nodes → HasShape s locks → HasShape s (with_joined_time time locks)
 learns_so s locks time e h = record {
   times = length-joined_same locks.time time (h.times ∙ sym e) ∙ h.times;
   holder = h.holder;

@@ -15,7 +15,7 @@ use Rattle.lrc_lock.specs.Held.{lock_at, is_free, taken, asked, released, forwar
 use Rattle.lrc_lock.specs.Managed.{with_asker}
 use Rattle.lrc_protocol.specs.Times.{MOST_NUMBER, next_time}
 use Rattle.lrc_protocol.specs.Pages.{Need}
-use Rattle.lrc_protocol.specs.Locks.{Locks, ticked, with_time, with_held, with_managed}
+use Rattle.lrc_protocol.specs.Locks.{Locks, ticked, with_joined_time, with_held, with_managed}
 use Rattle.lrc_protocol.specs.Barriers.{Collection}
 use Rattle.lrc_protocol.specs.Node.{envelope_of, numbered, Letter, Wait, nothing, grant, departure, access, upkeep, discard, Course, going}
 use Rattle.lrc_protocol.specs.Node.{trapped, ended, deed_of, course_of, Node, Effect, sends, acts, acts_by, value_read}
@@ -113,12 +113,12 @@ pub data Shift (p : Part) : Bool → Wait → Locks → ℕ → Type 0 where
   forwarding : (lock asker : ℕ) (time : List ℕ)
       → Shift p false p.wait (with_held (held_after p.locks.held lock (forwarded p.locks.held lock asker time)) p.locks) p.episode
   grants : (lock : ℕ) (time : List ℕ) → p.wait ≡ grant lock → Learnable p time
-      → Shift p true nothing (with_time time (with_held (held_after p.locks.held lock (granted p.locks.held lock)) p.locks)) p.episode
-  departing : (time : List ℕ) → p.wait ≡ departure → Learnable p time → Shift p true nothing (with_time time p.locks) p.episode
+      → Shift p true nothing (with_joined_time time (with_held (held_after p.locks.held lock (granted p.locks.held lock)) p.locks)) p.episode
+  departing : (time : List ℕ) → p.wait ≡ departure → Learnable p time → Shift p true nothing (with_joined_time time p.locks) p.episode
   collecting : (time : List ℕ) {collection : Collection} {needs : List Need} → p.wait ≡ departure → Learnable p time → collection.time ≡ time
-      → Shift p false (upkeep collection needs) (with_time time p.locks) p.episode
+      → Shift p false (upkeep collection needs) (with_joined_time time p.locks) p.episode
   clean_at_once : (time : List ℕ) {collection : Collection} → p.wait ≡ departure → Learnable p time → collection.time ≡ time
-      → Shift p false (discard collection) (with_time time p.locks) p.episode
+      → Shift p false (discard collection) (with_joined_time time p.locks) p.episode
   discarding : (collection : Collection) → p.wait ≡ discard collection → Shift p true nothing p.locks p.episode
   accessing : (need : Need) → p.wait ≡ access need → Shift p true nothing p.locks p.episode
   still_misses : (before : Need) {need : Need} → p.wait ≡ access before → Shift p false (access need) p.locks p.episode

@@ -8,7 +8,9 @@ use Rattle.lrc_store.specs.Order.{placed}
 use Rattle.lrc_envelope.specs.Envelope.{EnvelopeRecord}
 use Rattle.lrc_protocol.specs.Node.{Node}
 use Rattle.lrc_protocol.specs.Turn.{is_repeat}
-use Rattle.lrc_protocol.specs.Run.{Logged, World, Flying, is_taken_in, pending}
+use Rattle.lrc_protocol.specs.Run.{Logged, World, Flying}
+use Rattle.lrc_protocol.specs.Follows.{pending}
+use Rattle.lrc_protocol.specs.Follows.{is_taken_in}
 use Rattle.lrc_protocol.proofs.Worlds.{get_set_other}
 use Rattle.lrc_order_laws.specs.Numbers.{numbers_between, Rises, Below}
 use Rattle.lrc_order_laws.proofs.Numbers.{envelopes_in, are_between, map_cond}

@@ -24,7 +24,8 @@ use Rattle.lrc_barrier.specs.declared.departure.Departure.{Departure}
 use Rattle.lrc_barrier.specs.Barrier.{ManagerRecord, with_arrival, arrivals_of, departure_to, joined_time}
 use Rattle.lrc_protocol.specs.Node.{Letter, Wait, nothing, grant, departure, access, upkeep, discard, OptionsRecord}
 use Rattle.lrc_protocol.specs.Turn.{departure_of}
-use Rattle.lrc_protocol.specs.Run.{Logged, World, pending}
+use Rattle.lrc_protocol.specs.Run.{Logged, World}
+use Rattle.lrc_protocol.specs.Follows.{pending}
 use Rattle.lrc_protocol.proofs.Worlds.{run-whole}
 use Rattle.lrc_protocol.specs.Barriers.{arrival_in}
 use Rattle.lrc_order_laws.specs.Barriers.{says_arrive, says_depart, arrive_from, depart_to, kept_of, awaits_depart, time_in, IsNewestTime}

@@ -13,8 +13,9 @@ ghost use Rattle.lrc_envelope.specs.declared.message.Message.TheVariants.{Arrive
 ghost use Rattle.lrc_trace.specs.Run.{Does, arrives_before, departs_before};
 ghost use Rattle.lrc_protocol.specs.declared.event.Event.{Event};
 ghost use Rattle.lrc_protocol.specs.Node.{departure, awaits_departure, OptionsRecord};
-ghost use Rattle.lrc_protocol.specs.Turn.{is_expected};
-ghost use Rattle.lrc_protocol.specs.Run.{Logged, World, pending, run_of};
+ghost use Rattle.lrc_protocol.specs.Follows.{is_expected};
+ghost use Rattle.lrc_protocol.specs.Run.{Logged, World, run_of};
+ghost use Rattle.lrc_protocol.specs.Follows.{pending};
 ghost use Rattle.lrc_order_laws.specs.Barriers.{accepts_arrival, arrive_from, clean_from, discard_to, kept_of, is_collecting, StandsAt, time_in, IsNewestTime};
 ghost use Rattle.lrc_order_laws.specs.Counts.{is_inside};
 

@@ -12,8 +12,9 @@ ghost use Rattle.lrc_lock.specs.declared.state.LockState.TheVariants.{Free};
 ghost use Rattle.lrc_lock.specs.Held.{lock_at, is_held};
 ghost use Rattle.lrc_protocol.specs.declared.event.Event.{Event};
 ghost use Rattle.lrc_protocol.specs.Node.{awaits_grant, OptionsRecord};
-ghost use Rattle.lrc_protocol.specs.Turn.{is_expected};
-ghost use Rattle.lrc_protocol.specs.Run.{Logged, World, pending, run_of};
+ghost use Rattle.lrc_protocol.specs.Follows.{is_expected};
+ghost use Rattle.lrc_protocol.specs.Run.{Logged, World, run_of};
+ghost use Rattle.lrc_protocol.specs.Follows.{pending};
 ghost use Rattle.lrc_order_laws.specs.Tokens.{grants_of_lock, tokens_at_nodes};
 ghost use Rattle.lrc_order_laws.specs.LockLines.{KeepsLocks};
 

@@ -15,10 +15,11 @@ use Rattle.lrc_protocol.specs.Pages.{is_readable, Memory, copy_at, Need, is_met}
 use Rattle.lrc_protocol.specs.Barriers.{arrival_in}
 use Rattle.lrc_protocol.specs.Node.{Wait, is_idle, awaits_grant, awaits_departure, collection_of, cost_of, Node, Effect, sends, acts}
 use Rattle.lrc_protocol.specs.Node.{with_memory, with_tokens, own_index}
-use Rattle.lrc_protocol.specs.Turn.{may_begin, begins_of, with_needs, takes_reply, reaches, run_effect, charged, grants_of, is_request}
-use Rattle.lrc_protocol.specs.Turn.{is_forward, forward_by, is_grant, are_arriving, arrive_by, is_departure, take_departure, clean_by}
-use Rattle.lrc_protocol.specs.Turn.{discard_by, is_changes_request, is_changes_reply, is_page_request, page_reply_by, is_page_reply, takes}
-use Rattle.lrc_protocol.specs.Turn.{is_expected, TurnRecord, done, turn_with, turn_of, turn_if, turn_by, run_turn, turn_taking, is_addressed}
+use Rattle.lrc_protocol.specs.Turn.{may_begin, begins_of, with_needs, takes_reply, reaches, run_effect, charged, grants_of, expects_request}
+use Rattle.lrc_protocol.specs.Turn.{expects_forward, forward_by, expects_grant, are_arriving, arrive_by, expects_departure, take_departure, clean_by}
+use Rattle.lrc_protocol.specs.Turn.{discard_by, expects_changes_request, expects_changes_reply, expects_page_request, page_reply_by, expects_page_reply, takes}
+use Rattle.lrc_protocol.specs.Turn.{TurnRecord, done, turn_with, turn_of, turn_or, worn, unexpected, turn_by, run_turn, is_addressed}
+use Rattle.lrc_protocol.specs.Follows.{is_expected}
 use Rattle.lrc_protocol.specs.Turn.{is_repeat, taking}
 use Rattle.lrc_protocol.specs.Run.{Input, outcome_of}
 use Rattle.lrc_protocol.specs.Rules.{take_request, IsReadyFor, AccessesNext, access_read, access_write, IsOwn, own_quiet, own_print, own_trap}
@@ -52,7 +53,7 @@ begun-made node next effect ready may is =
     ∙ ap (λ c. turn_by node (begins_of node.left c)) ready.goes
     ∙ ap (λ (n : Next). turn_by node (if may_begin node.left n then Some n else None)) ready.next_is
     ∙ ap (λ (b : Bool). turn_by node (if b then Some next else None)) (may ∙ le-leb (cost_of next) node.left ready.paid)
-    ∙ ap turn_if is
+    ∙ ap (turn_or worn) is
 
 access-may : (left : ℕ) (next : Next) (word : ℕ) → AccessesNext next word → may_begin left next ≡ nat_le (cost_of next) left
 access-may left next word (access_read w after) = refl
@@ -130,7 +131,7 @@ clean-made node from episode before step at is =
 depart-made : (node : Node) (from : ℕ) (m : DepartRecord) → IsDepartureDue node from m
     → takes node from (Depart m) ≡ Some (take_departure node m.collect m.time m.intervals)
 depart-made node from m d =
-    made (is_departure node from m) _
+    made (expects_departure node from m) _
     (and_from _ _
     (and_from _ _
     (and_from _ _ (and_from _ _ (eq-eqb _ _ d.from_manager) (ap awaits_departure d.awaited)) (eq-eqb _ _ d.episode))
@@ -140,9 +141,9 @@ depart-made node from m d =
 reply-made : (node : Node) (from : ℕ) (message : Message) (memory : Memory) (change : Need → Need) → Brings node from message memory change
     → takes node from message ≡ Some (takes_reply (with_memory node memory) (with_needs change node.mail.wait))
 reply-made node from message memory change (brings_changes m lt all some) =
-    made (is_changes_reply node from m) _ (and_from _ _ (and_from _ _ (lt-ltb _ _ lt) all) some)
+    made (expects_changes_reply node from m) _ (and_from _ _ (and_from _ _ (lt-ltb _ _ lt) all) some)
 reply-made node from message memory change (brings_base_copy m lt counted some) =
-    made (is_page_reply node from m) _ (and_from _ _ (and_from _ _ (lt-ltb _ _ lt) (eq-eqb _ _ counted)) some)
+    made (expects_page_reply node from m) _ (and_from _ _ (and_from _ _ (lt-ltb _ _ lt) (eq-eqb _ _ counted)) some)
 
 -- the same where this is awaited
 reply-goes : (node : Node) (from : ℕ) (message : Message) (memory : Memory) (change : Need → Need) (w : Wait) (effect : Effect)
@@ -157,13 +158,13 @@ reply-goes node from message memory change w effect b at is =
 take-made : (node : Node) (from : ℕ) (message : Message) (effect : Effect) → TakeRule node from message effect
     → takes node from message ≡ Some effect
 take-made node from message effect (take_request m lt counted mine) =
-    made (is_request node m) _ (and_from _ _ (and_from _ _ (lt-ltb _ _ lt) (eq-eqb _ _ counted)) (eq-eqb _ _ mine))
+    made (expects_request node m) _ (and_from _ _ (and_from _ _ (lt-ltb _ _ lt) (eq-eqb _ _ counted)) (eq-eqb _ _ mine))
 take-made node from message effect (take_forward m lt asker counted managed taken) =
-    made (is_forward node from m) _
+    made (expects_forward node from m) _
     (and_from _ _ (and_from _ _ (and_from _ _ (lt-ltb _ _ lt) (lt-ltb _ _ asker)) (eq-eqb _ _ counted)) (eq-eqb _ _ managed))
     ∙ forward-made node m.lock (forwarded node.locks.held m.lock m.asker m.time) taken
 take-made node from message effect (take_token m lt at news) =
-    made (is_grant node m) _ (and_from _ _ (and_from _ _ (lt-ltb _ _ lt) (ap (awaits_grant m.lock) at ∙ eq-eqb m.lock m.lock refl)) news)
+    made (expects_grant node m) _ (and_from _ _ (and_from _ _ (lt-ltb _ _ lt) (ap (awaits_grant m.lock) at ∙ eq-eqb m.lock m.lock refl)) news)
 take-made node from message effect (take_arrive m before after at news is) = arrive-made node from m before _ at news is
 take-made node from message effect (take_last_arrive m before after departures at news is) = arrive-made node from m before _ at news is
 take-made node from message effect (take_depart m d c) = depart-made node from m d ∙ ap Some (else_one m.collect _ _ c)
@@ -184,9 +185,9 @@ take-made node from message effect (take_last_clean episode over before after at
 take-made node from message effect (take_discard episode collection f at k) =
     made ((from == 0) && (episode == node.barrier.episode)) _ (and_from _ _ (eq-eqb _ _ f) (eq-eqb _ _ k))
     ∙ ap (λ (w : Wait). discard_by node (collection_of w)) at
-take-made node from message effect (take_changes_request m lt all) = made (is_changes_request node m) _ (and_from _ _ (lt-ltb _ _ lt) all)
+take-made node from message effect (take_changes_request m lt all) = made (expects_changes_request node m) _ (and_from _ _ (lt-ltb _ _ lt) all)
 take-made node from message effect (take_page_request page values lt other at) =
-    made (is_page_request node from page) _ (and_from _ _ (lt-ltb _ _ lt) (ap not (ne_eqb _ _ other))) ∙ ap (page_reply_by node from page) at
+    made (expects_page_request node from page) _ (and_from _ _ (lt-ltb _ _ lt) (ap not (ne_eqb _ _ other))) ∙ ap (page_reply_by node from page) at
 
 -- a message that a rule takes, its number taken, was expected
 pub expected_by_rule : (node : Node) (envelope : EnvelopeRecord) (effect : Effect)
@@ -207,5 +208,5 @@ allowed node input turn after (by_repeat envelope f again) =
 allowed node input turn after (by_message envelope {effect = effect} f new r s) =
     then_one (is_addressed node envelope) _ _ (and_from _ _ (eq-eqb _ _ f.to_it) (lt-ltb _ _ f.from_one))
     ∙ else_one (is_repeat node envelope) _ _ new
-    ∙ ap turn_taking (take-made (taking node envelope) envelope.from envelope.message effect r)
+    ∙ ap (turn_or unexpected) (take-made (taking node envelope) envelope.from envelope.message effect r)
     ∙ sent-made effect turn after s

@@ -10,10 +10,12 @@ use Rattle.lrc_lock.specs.Held.{LockStep, refuses, stays, passes, forwarded, is_
 use Rattle.lrc_barrier.specs.Barrier.{ManagerRecord, ArriveStep, refuses as refuses_arrival, waits, departs as all_depart, arrived, is_accepted}
 use Rattle.lrc_barrier.specs.Barrier.{CleanStep, refuses_clean, awaits, discards, cleaned, is_clean}
 use Rattle.lrc_protocol.specs.Barriers.{Collection, arrival_in, base_at}
-use Rattle.lrc_protocol.specs.Node.{Node, Effect, awaits_discard, collection_of, numbered}
-use Rattle.lrc_protocol.specs.Turn.{given, forward_by, arrive_by, clean_by, discard_by, page_reply_by, takes, is_expected, taking, is_request}
-use Rattle.lrc_protocol.specs.Turn.{is_forward, is_grant, are_arriving, is_departure, is_changes_request, is_changes_reply, is_page_request}
-use Rattle.lrc_protocol.specs.Turn.{is_page_reply, unexpected, turn_with, turn_taking, take_anew}
+use Rattle.lrc_protocol.specs.Node.{Node, Effect, collection_of, numbered}
+use Rattle.lrc_protocol.specs.Follows.{awaits_discard}
+use Rattle.lrc_protocol.specs.Turn.{given, forward_by, arrive_by, clean_by, discard_by, page_reply_by, takes, taking, expects_request}
+use Rattle.lrc_protocol.specs.Follows.{is_expected}
+use Rattle.lrc_protocol.specs.Turn.{expects_forward, expects_grant, are_arriving, expects_departure, expects_changes_request, expects_changes_reply, expects_page_request}
+use Rattle.lrc_protocol.specs.Turn.{expects_page_reply, unexpected, turn_with, turn_or, take_anew}
 
 -- the manager is here, and accepts the arrival
 abbrev pub accepts : Node → ℕ → ArriveRecord → Bool
@@ -24,17 +26,17 @@ abbrev pub accepts_clean : Node → ℕ → ℕ → Bool
 accepts_clean node from episode = unwrap_or (option_map is_clean (option_map (λ manager. cleaned manager from episode) node.barrier.manager)) false
 
 abbrev pub expects : Node → ℕ → Message → Bool
-expects node from (LockRequest m) = is_request node m
-expects node from (LockForward m) = is_forward node from m && is_taken (forwarded node.locks.held m.lock m.asker m.time)
-expects node from (LockGrant m) = is_grant node m
+expects node from (LockRequest m) = expects_request node m
+expects node from (LockForward m) = expects_forward node from m && is_taken (forwarded node.locks.held m.lock m.asker m.time)
+expects node from (LockGrant m) = expects_grant node m
 expects node from (Arrive m) = accepts node from m && are_arriving node from m.time m.intervals
-expects node from (Depart m) = is_departure node from m
+expects node from (Depart m) = expects_departure node from m
 expects node from (Clean episode) = accepts_clean node from episode
 expects node from (Discard episode) = (from == 0) && awaits_discard node.mail.wait && (episode == node.barrier.episode)
-expects node from (ChangesRequest m) = is_changes_request node m
-expects node from (ChangesReply m) = is_changes_reply node from m
-expects node from (PageRequest page) = is_page_request node from page && is_some (base_at node.memory page)
-expects node from (PageReply m) = is_page_reply node from m
+expects node from (ChangesRequest m) = expects_changes_request node m
+expects node from (ChangesReply m) = expects_changes_reply node from m
+expects node from (PageRequest page) = expects_page_request node from page && is_some (base_at node.memory page)
+expects node from (PageReply m) = expects_page_reply node from m
 
 pub given-made : (condition : Bool) (effect : Option Effect) → condition ≡ true → given condition effect ≡ effect
 given-made true effect e = refl
@@ -96,21 +98,21 @@ page-some node from page (Some values) = refl
 
 -- a message is expected where its conditions hold
 pub conditions : (node : Node) (from : ℕ) (message : Message) → is_expected node from message ≡ expects node from message
-conditions node from (LockRequest m) = given-some (is_request node m) _
-conditions node from (LockForward m) = given-both (is_forward node from m) _ _ (forwards-some node m.lock (forwarded node.locks.held m.lock m.asker m.time))
-conditions node from (LockGrant m) = given-some (is_grant node m) _
+conditions node from (LockRequest m) = given-some (expects_request node m) _
+conditions node from (LockForward m) = given-both (expects_forward node from m) _ _ (forwards-some node m.lock (forwarded node.locks.held m.lock m.asker m.time))
+conditions node from (LockGrant m) = given-some (expects_grant node m) _
 conditions node from (Arrive m) =
     given-both (are_arriving node from m.time m.intervals) _ _ (arrival-some node from m node.barrier.manager)
     ∙ swapped (are_arriving node from m.time m.intervals) (accepts node from m)
-conditions node from (Depart m) = given-some (is_departure node from m) _
+conditions node from (Depart m) = given-some (expects_departure node from m) _
 conditions node from (Clean episode) = clean-some node from episode node.barrier.manager
 conditions node from (Discard episode) =
     given-both ((from == 0) && (episode == node.barrier.episode)) _ _ (discard-some node (collection_of node.mail.wait))
     ∙ last_first (from == 0) (episode == node.barrier.episode) (awaits_discard node.mail.wait)
-conditions node from (ChangesRequest m) = given-some (is_changes_request node m) _
-conditions node from (ChangesReply m) = given-some (is_changes_reply node from m) _
-conditions node from (PageRequest page) = given-both (is_page_request node from page) _ _ (page-some node from page (base_at node.memory page))
-conditions node from (PageReply m) = given-some (is_page_reply node from m) _
+conditions node from (ChangesRequest m) = given-some (expects_changes_request node m) _
+conditions node from (ChangesReply m) = given-some (expects_changes_reply node from m) _
+conditions node from (PageRequest page) = given-both (expects_page_request node from page) _ _ (page-some node from page (base_at node.memory page))
+conditions node from (PageReply m) = given-some (expects_page_reply node from m) _
 
 -- what an expected message fulfills
 pub fulfilled : (node : Node) (from : ℕ) (message : Message) → is_expected node from message ≡ true → expects node from message ≡ true
@@ -141,7 +143,7 @@ with-letters : (effect : Effect) (sent : Option (List EnvelopeRecord × List ℕ
 with-letters effect None e = cc
 with-letters effect (Some sent) e = cc
 
-pub never-unexpected : (o : Option Effect) → is_some o ≡ true → turn_taking o ≡ unexpected → ⊥
+pub never-unexpected : (o : Option Effect) → is_some o ≡ true → turn_or unexpected o ≡ unexpected → ⊥
 never-unexpected None some e = cc
 never-unexpected (Some effect) some e =
     with-letters effect (numbered effect.node.setting.me effect.node.options.first effect.node.mail.sent effect.letters) e

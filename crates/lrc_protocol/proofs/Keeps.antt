@@ -13,15 +13,16 @@ use Rattle.lrc_barrier.specs.Barrier.{ManagerRecord, ArriveStep, refuses as refu
 use Rattle.lrc_barrier.specs.Barrier.{refuses_clean, awaits, discards, cleaned}
 use Rattle.lrc_plain_laws.specs.Follows.{Goes, quietly, printing, reading, writing, acquiring, releasing, arriving, departing, trapping, ending}
 use Rattle.lrc_protocol.specs.Times.{MOST_NUMBER}
-use Rattle.lrc_protocol.specs.Pages.{is_readable, copy_at, Need, need_of, is_met, with_changes, with_page, with_part}
+use Rattle.lrc_protocol.specs.Pages.{is_readable, copy_at, Need, need_of, is_met, changes_came, page_came, with_part}
 use Rattle.lrc_protocol.specs.Barriers.{arrival_in, kept_pages, with_keepers, base_at, Collection}
 use Rattle.lrc_protocol.specs.Node.{Letter, Wait, nothing, grant, departure, access, upkeep, discard, collection_of, Course, going, trapped}
-use Rattle.lrc_protocol.specs.Node.{ended, thread_of, deed_of, course_of, Node, OptionsRecord, Effect, sends, acts, acts_by, value_read}
+use Rattle.lrc_protocol.specs.Node.{ended, deed_of, course_of, Node, OptionsRecord, Effect, sends, acts, acts_by, value_read}
+use Rattle.lrc_protocol.specs.Follows.{thread_of}
 use Rattle.lrc_protocol.specs.Node.{with_memory, waiting, own_index}
 use Rattle.lrc_protocol.specs.Turn.{requests_of, fetches, keeps_up, takes_reply, with_needs, after_close, closing, reaches, acquire_at, release_at, arrive_at}
-use Rattle.lrc_protocol.specs.Turn.{run_effect, learns, given, is_request, is_forward, forward_by, is_grant, are_arriving, arrive_by}
-use Rattle.lrc_protocol.specs.Turn.{is_departure, needs_to_keep, collects, clean_by, discard_by, is_changes_request, is_changes_reply}
-use Rattle.lrc_protocol.specs.Turn.{is_page_request, page_reply_by, is_page_reply, takes}
+use Rattle.lrc_protocol.specs.Turn.{run_effect, learns, given, expects_request, expects_forward, forward_by, expects_grant, are_arriving, arrive_by}
+use Rattle.lrc_protocol.specs.Turn.{expects_departure, needs_to_keep, collects, clean_by, discard_by, expects_changes_request, expects_changes_reply}
+use Rattle.lrc_protocol.specs.Turn.{expects_page_request, page_reply_by, expects_page_reply, takes}
 use Rattle.lrc_page.specs.Place.{page_of}
 
 -- a text stays where it is, or moves on by its next deed
@@ -163,27 +164,27 @@ collects-keeps time node =
     keeps_up-keeps (flat_map requests_of needs) keeping (record { time = time; kept = kept }) needs
 
 pub take-keeps : (node : Node) (from : ℕ) (message : Message) → KeptIf node (takes node from message)
-take-keeps node from (LockRequest m) = given-keeps node (is_request node m) _ (sends-keeps _ _)
+take-keeps node from (LockRequest m) = given-keeps node (expects_request node m) _ (sends-keeps _ _)
 take-keeps node from (LockForward m) =
-    given-keeps node (is_forward node from m) _ (forward-keeps node m.lock (forwarded node.locks.held m.lock m.asker m.time))
-take-keeps node from (LockGrant m) = given-keeps node (is_grant node m) _ (acts-keeps [] _)
+    given-keeps node (expects_forward node from m) _ (forward-keeps node m.lock (forwarded node.locks.held m.lock m.asker m.time))
+take-keeps node from (LockGrant m) = given-keeps node (expects_grant node m) _ (acts-keeps [] _)
 take-keeps node from (Arrive m) =
     given-keeps node (are_arriving node from m.time m.intervals) _
     (at_manager-keeps node _ (λ manager. arrive-keeps node (arrived manager from (arrival_in m))) node.barrier.manager)
 take-keeps node from (Depart m) =
     let knowing : Node = learns m.time m.intervals node in
-    given-keeps node (is_departure node from m) _
+    given-keeps node (expects_departure node from m) _
     (either node m.collect _ _ (collects-keeps m.time knowing) (acts-keeps [] (waiting nothing knowing)))
 take-keeps node from (Clean episode) =
     at_manager-keeps node _ (λ manager. clean-keeps node (cleaned manager from episode)) node.barrier.manager
 take-keeps node from (Discard episode) =
     given-keeps node ((from == 0) && (episode == node.barrier.episode)) _ (discard-keeps node (collection_of node.mail.wait))
-take-keeps node from (ChangesRequest m) = given-keeps node (is_changes_request node m) _ (sends-keeps _ node)
+take-keeps node from (ChangesRequest m) = given-keeps node (expects_changes_request node m) _ (sends-keeps _ node)
 take-keeps node from (ChangesReply m) =
-    given-keeps node (is_changes_reply node from m) _
+    given-keeps node (expects_changes_reply node from m) _
     (takes_reply-keeps
     (with_memory node (record node.memory { store = fold (with_part from m.page) node.memory.store m.parts }))
-    (with_needs (with_changes m.page from) node.mail.wait))
-take-keeps node from (PageRequest page) = given-keeps node (is_page_request node from page) _ (reply-keeps node from page (base_at node.memory page))
+    (with_needs (changes_came m.page from) node.mail.wait))
+take-keeps node from (PageRequest page) = given-keeps node (expects_page_request node from page) _ (reply-keeps node from page (base_at node.memory page))
 take-keeps node from (PageReply m) =
-    given-keeps node (is_page_reply node from m) _ (takes_reply-keeps node (with_needs (with_page m.page m.values) node.mail.wait))
+    given-keeps node (expects_page_reply node from m) _ (takes_reply-keeps node (with_needs (page_came m.page m.values) node.mail.wait))

@@ -12,9 +12,14 @@ use Rattle.lrc_trace.specs.Run.{act_of}
 use Rattle.lrc_exec.specs.Meaning.{Setting, Thread}
 use Rattle.lrc_exec.specs.Plain.{setting_of, start_of}
 use Rattle.lrc_envelope.specs.Envelope.{EnvelopeRecord}
-use Rattle.lrc_protocol.specs.Node.{Course, thread_of, Node, OptionsRecord, fresh_node}
+use Rattle.lrc_protocol.specs.Node.{Course, Node, OptionsRecord, fresh_node}
+use Rattle.lrc_protocol.specs.Follows.{thread_of}
 use Rattle.lrc_protocol.specs.Turn.{TurnRecord, Outcome, done, not_ready, unexpected, worn}
-use Rattle.lrc_protocol.specs.Run.{Input, outcome_of, Local, local_after, local_step, local}
+use Rattle.lrc_protocol.specs.Run.{Input, outcome_of}
+use Rattle.lrc_protocol.specs.Follows.{local}
+use Rattle.lrc_protocol.specs.Follows.{local_step}
+use Rattle.lrc_protocol.specs.Follows.{local_after}
+use Rattle.lrc_protocol.specs.Follows.{Local}
 use Rattle.lrc_protocol.specs.Follows.{MakesTo, no_more, one_more, deeds_in, numbers_to, sent_in}
 use Rattle.lrc_protocol.proofs.Keeps.{Moves, stays, goes}
 use Rattle.lrc_protocol.proofs.Numbers.{GoOn, ranges-append}

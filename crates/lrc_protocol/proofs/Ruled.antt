@@ -1,5 +1,5 @@
 -- Each turn that the machine makes is made by a rule.
-use Rattle.std.proofs.Common.{◌≡◌, ℕ, ◌<◌, ◌≤◌, List, [], Bool, true, false, length, refl, ap, subst}
+use Rattle.std.proofs.Common.{◌≡◌, ℕ, ◌<◌, ◌≤◌, List, Bool, true, false, length, refl, ap, subst}
 use Rattle.std.specs.Prelude.{◌==◌, ◌&&◌, ◌≢◌, Option, Some, None, IfSome, option_and_then, nat_lt, map, if◌then◌else◌}
 use Rattle.std.specs.List.{list_all, list_any}
 use Rattle.std.proofs.lemmas.Bool.{and_parts, eqb-true, eqb-false, ltb-true, leb-true, not-true}
@@ -15,16 +15,16 @@ use Rattle.lrc_lock.specs.Held.{LockStep, refuses, stays, passes, forwarded, is_
 use Rattle.lrc_barrier.specs.Barrier.{ManagerRecord, ArriveStep, refuses as refuses_arrival, waits, departs as all_depart, arrived, CleanStep}
 use Rattle.lrc_barrier.specs.Barrier.{refuses_clean, awaits, discards, cleaned}
 use Rattle.lrc_protocol.specs.Times.{MOST_NUMBER}
-use Rattle.lrc_protocol.specs.Pages.{is_readable, Memory, copy_at, Need, is_met, with_page}
+use Rattle.lrc_protocol.specs.Pages.{is_readable, Memory, copy_at, Need, is_met, page_came}
 use Rattle.lrc_protocol.specs.Barriers.{base_at, arrival_in}
 use Rattle.lrc_protocol.specs.Node.{Wait, nothing, grant, departure, access, upkeep, discard, needs_of, numbered, is_idle, awaits_grant}
 use Rattle.lrc_protocol.specs.Node.{awaits_departure, collection_of, Course, going, trapped, ended, cost_of, Node, Effect, sends, with_memory}
 use Rattle.lrc_protocol.specs.Node.{with_tokens, own_index}
 use Rattle.lrc_protocol.specs.Turn.{may_begin, begins_of, with_needs, takes_reply, after_close, reaches, acquire_at, release_at, arrive_at}
-use Rattle.lrc_protocol.specs.Turn.{run_effect, charged, grants_of, given, is_request, is_forward, forward_by, is_grant, are_arriving}
-use Rattle.lrc_protocol.specs.Turn.{arrive_by, is_departure, clean_by, discard_by, is_changes_request, is_changes_reply, is_page_request}
-use Rattle.lrc_protocol.specs.Turn.{page_reply_by, is_page_reply, takes, TurnRecord, Outcome, done, not_ready, unexpected, worn, turn_with}
-use Rattle.lrc_protocol.specs.Turn.{turn_of, turn_if, turn_by, turn_taking, take_anew, take_turn, taking, is_addressed, is_repeat, empty_turn}
+use Rattle.lrc_protocol.specs.Turn.{run_effect, charged, grants_of, given, expects_request, expects_forward, forward_by, expects_grant, are_arriving}
+use Rattle.lrc_protocol.specs.Turn.{arrive_by, expects_departure, clean_by, discard_by, expects_changes_request, expects_changes_reply, expects_page_request}
+use Rattle.lrc_protocol.specs.Turn.{page_reply_by, expects_page_reply, takes, TurnRecord, Outcome, done, not_ready, unexpected, worn, turn_with}
+use Rattle.lrc_protocol.specs.Turn.{turn_of, turn_or, turn_by, take_anew, take_turn, taking, is_addressed, is_repeat, empty_turn}
 use Rattle.lrc_protocol.specs.Run.{Input, run, taken as taken_in, outcome_of}
 use Rattle.lrc_protocol.specs.Rules.{take_request, IsReadyFor, AccessesNext, access_read, access_write, own_quiet, own_print, own_trap, own_end}
 use Rattle.lrc_protocol.specs.Rules.{page_at, need_at, RunRule, run_hit, run_miss, run_repair, run_acquire, run_ask, run_release, run_barrier}
@@ -191,13 +191,13 @@ reply-ruled node from message memory change test (discard collection) b at some 
 
 take-ruled : (node : Node) (from : ℕ) (message : Message) → IfSome (takes node from message) (TakeRule node from message)
 take-ruled node from (LockRequest m) =
-    given-ruled (TakeRule node from (LockRequest m)) (is_request node m) _
+    given-ruled (TakeRule node from (LockRequest m)) (expects_request node m) _
     (λ e.
     let outer : _ = and_parts _ _ e in
     let inner : _ = and_parts _ _ outer.0 in
     take_request m (ltb-true _ _ inner.0) (eqb-true _ _ inner.1) (eqb-true _ _ outer.1))
 take-ruled node from (LockForward m) =
-    given-ruled (TakeRule node from (LockForward m)) (is_forward node from m) _
+    given-ruled (TakeRule node from (LockForward m)) (expects_forward node from m) _
     (λ e.
     let managed : _ = and_parts _ _ e in
     let timed : _ = and_parts _ _ managed.0 in
@@ -205,7 +205,7 @@ take-ruled node from (LockForward m) =
     forward-ruled node from m (forwarded node.locks.held m.lock m.asker m.time)
     (ltb-true _ _ askers.0) (ltb-true _ _ askers.1) (eqb-true _ _ timed.1) (eqb-true _ _ managed.1) refl)
 take-ruled node from (LockGrant m) =
-    given-ruled (TakeRule node from (LockGrant m)) (is_grant node m) _
+    given-ruled (TakeRule node from (LockGrant m)) (expects_grant node m) _
     (λ e.
     let outer : _ = and_parts _ _ e in
     let inner : _ = and_parts _ _ outer.0 in
@@ -214,7 +214,7 @@ take-ruled node from (Arrive m) =
     given-ruled (TakeRule node from (Arrive m)) (are_arriving node from m.time m.intervals) _
     (λ news. arrivals-ruled node from m node.barrier.manager refl news)
 take-ruled node from (Depart m) =
-    given-ruled (TakeRule node from (Depart m)) (is_departure node from m) _
+    given-ruled (TakeRule node from (Depart m)) (expects_departure node from m) _
     (λ e.
     let outer : _ = and_parts _ _ e in
     let covered : _ = and_parts _ _ outer.0 in
@@ -239,25 +239,25 @@ take-ruled node from (Discard episode) =
     let both : _ = and_parts _ _ e in
     discard-ruled node from episode node.mail.wait refl (eqb-true _ _ both.0) (eqb-true _ _ both.1))
 take-ruled node from (ChangesRequest m) =
-    given-ruled (TakeRule node from (ChangesRequest m)) (is_changes_request node m) _
+    given-ruled (TakeRule node from (ChangesRequest m)) (expects_changes_request node m) _
     (λ e. let outer : _ = and_parts _ _ e in take_changes_request m (ltb-true _ _ outer.0) outer.1)
 take-ruled node from (ChangesReply m) =
-    given-ruled (TakeRule node from (ChangesReply m)) (is_changes_reply node from m) _
+    given-ruled (TakeRule node from (ChangesReply m)) (expects_changes_reply node from m) _
     (λ e.
     let outer : _ = and_parts _ _ e in
     let inner : _ = and_parts _ _ outer.0 in
     reply-ruled node from (ChangesReply m) _ _ _ node.mail.wait (brings_changes m (ltb-true _ _ inner.0) inner.1 outer.1) refl outer.1)
 take-ruled node from (PageRequest page) =
-    given-ruled (TakeRule node from (PageRequest page)) (is_page_request node from page) _
+    given-ruled (TakeRule node from (PageRequest page)) (expects_page_request node from page) _
     (λ e.
     let both : _ = and_parts _ _ e in
     page-ruled node from page (base_at node.memory page) refl (ltb-true _ _ both.0) (eqb-false _ _ (not-true _ both.1)))
 take-ruled node from (PageReply m) =
-    given-ruled (TakeRule node from (PageReply m)) (is_page_reply node from m) _
+    given-ruled (TakeRule node from (PageReply m)) (expects_page_reply node from m) _
     (λ e.
     let outer : _ = and_parts _ _ e in
     let inner : _ = and_parts _ _ outer.0 in
-    reply-ruled node from (PageReply m) node.memory (with_page m.page m.values) _ node.mail.wait
+    reply-ruled node from (PageReply m) node.memory (page_came m.page m.values) _ node.mail.wait
     (brings_base_copy m (ltb-true _ _ inner.0) (eqb-true _ _ inner.1) outer.1) refl outer.1)
 
 -- ---- turns
@@ -281,7 +281,7 @@ effect-ruled : (node : Node) (input : Input) (e : Effect)
 effect-ruled node input e k =
     numbered-ruled node input e k (numbered e.node.setting.me e.node.options.first e.node.mail.sent e.letters) refl
 
-effect_if-ruled : (node : Node) (o : Option Effect) → RunRuleIf node o → RuledIf node run (turn_if o)
+effect_if-ruled : (node : Node) (o : Option Effect) → RunRuleIf node o → RuledIf node run (turn_or worn o)
 effect_if-ruled node None r = tt
 effect_if-ruled node (Some e) r = effect-ruled node run e (λ turn after s. by_run r s)
 
@@ -320,7 +320,7 @@ repeated_or_not node envelope true o f e h = by_repeat envelope f e
 repeated_or_not node envelope false o f e h = h e
 
 taking-ruled : (node : Node) (envelope : EnvelopeRecord) → IsFor node envelope → is_repeat node envelope ≡ false → (o : Option Effect)
-    → IfSome o (TakeRule (taking node envelope) envelope.from envelope.message) → RuledIf node (taken_in envelope) (turn_taking o)
+    → IfSome o (TakeRule (taking node envelope) envelope.from envelope.message) → RuledIf node (taken_in envelope) (turn_or unexpected o)
 taking-ruled node envelope f new None r = tt
 taking-ruled node envelope f new (Some effect) r =
     effect-ruled node (taken_in envelope) effect (λ turn after s. by_message envelope f new r s)

@@ -8,7 +8,7 @@ use Rattle.lrc_envelope.specs.Envelope.{EnvelopeRecord}
 use Rattle.lrc_protocol.specs.declared.event.Event.TheVariants.{Run, Deliver, Repeat}
 use Rattle.lrc_protocol.specs.Node.{going, trapped, ended, is_idle, Node, Effect}
 use Rattle.lrc_protocol.specs.Turn.{begins_of, begins, may_begin, run_effect, charged, TurnRecord, Outcome, done, not_ready, unexpected, worn}
-use Rattle.lrc_protocol.specs.Turn.{turn_with, turn_if, turn_by, run_turn, take_turn, take_anew, empty_turn, is_ready, is_addressed, is_repeat}
+use Rattle.lrc_protocol.specs.Turn.{turn_with, turn_or, turn_by, run_turn, take_turn, take_anew, empty_turn, is_ready, is_addressed, is_repeat}
 use Rattle.lrc_protocol.specs.Run.{Input, run, taken, EntryRecord, Logged, Logging, logged, refused, too_large, outcome_of, logging, logs}
 use Rattle.lrc_protocol.specs.Run.{next_stamp, World, Flying, with_turn, with_mark, after_input, input_to, delivers, event_on}
 use Rattle.lrc_protocol.proofs.Worlds.{Entries, logs-entries}
@@ -60,13 +60,13 @@ turn_with-done : (effect : Effect) (n : _) → turn_with effect n ≢ not_ready
 turn_with-done effect None e = cc
 turn_with-done effect (Some (out, sent)) e = cc
 
-turn_if-done : (o : Option Effect) → turn_if o ≢ not_ready
-turn_if-done None e = cc
-turn_if-done (Some effect) e = turn_with-done effect _ e
+turn_or-done : (o : Option Effect) → turn_or worn o ≢ not_ready
+turn_or-done None e = cc
+turn_or-done (Some effect) e = turn_with-done effect _ e
 
 turn_by-done : (node : Node) (o : Option Next) → is_some o ≡ true → turn_by node o ≢ not_ready
 turn_by-done node None s e = cc
-turn_by-done node (Some next) s e = turn_if-done (run_effect (charged node next) next) e
+turn_by-done node (Some next) s e = turn_or-done (run_effect (charged node next) next) e
 
 pub ready-goes_on : (node : Node) → is_ready node ≡ true → run_turn node ≢ not_ready
 ready-goes_on node s e = turn_by-done node (begins node) s e

@@ -8,7 +8,8 @@ use Rattle.lrc_exec.specs.Meaning.{Thread}
 use Rattle.lrc_exec.specs.Plain.{setting_of, start_of}
 use Rattle.lrc_plain_laws.specs.Follows.{Makes, nothing_more, and_then, deeds_of, FollowsText}
 use Rattle.lrc_protocol.specs.declared.event.Event.{Event}
-use Rattle.lrc_protocol.specs.Node.{thread_of, OptionsRecord, fresh_node}
+use Rattle.lrc_protocol.specs.Node.{OptionsRecord, fresh_node}
+use Rattle.lrc_protocol.specs.Follows.{thread_of}
 use Rattle.lrc_protocol.specs.Run.{Logged, World, run_of}
 use Rattle.lrc_protocol.specs.Follows.{MakesTo, no_more, one_more, inputs_of, turns_of}
 use Rattle.lrc_protocol.proofs.Locally.{Proper, local-proper}

@@ -6,7 +6,11 @@ use Rattle.std.proofs.lemmas.List.Sums.{fold-append}
 use Rattle.lrc_lang.specs.declared.program.Program.{Program}
 use Rattle.lrc_protocol.specs.Node.{Node, OptionsRecord, fresh_node}
 use Rattle.lrc_protocol.specs.Turn.{TurnRecord, Outcome, done, not_ready, unexpected, worn}
-use Rattle.lrc_protocol.specs.Run.{Input, EntryRecord, Logged, outcome_of, Local, local_after, local_step, local}
+use Rattle.lrc_protocol.specs.Run.{Input, EntryRecord, Logged, outcome_of}
+use Rattle.lrc_protocol.specs.Follows.{local}
+use Rattle.lrc_protocol.specs.Follows.{local_step}
+use Rattle.lrc_protocol.specs.Follows.{local_after}
+use Rattle.lrc_protocol.specs.Follows.{Local}
 use Rattle.lrc_protocol.specs.Follows.{inputs_of, turns_of}
 use Rattle.lrc_protocol.specs.Traced.{Traced, untraced, traced_by, traced_step, traced, with_act, trace_of}
 use Rattle.lrc_protocol.proofs.Worlds.{IsEntry}

@@ -7,7 +7,7 @@ use Rattle.lrc_exec.specs.Meaning.{Setting, Next}
 use Rattle.lrc_envelope.specs.Envelope.{EnvelopeRecord}
 use Rattle.lrc_protocol.specs.Node.{numbered, Node, OptionsRecord, Effect}
 use Rattle.lrc_protocol.specs.Turn.{begins, run_effect, charged, takes, TurnRecord, Outcome, done, not_ready, unexpected, worn, turn_with}
-use Rattle.lrc_protocol.specs.Turn.{turn_of, turn_if, turn_by, turn_taking, take_anew, take_turn, taking, is_addressed, is_repeat, empty_turn}
+use Rattle.lrc_protocol.specs.Turn.{turn_of, turn_or, turn_by, take_anew, take_turn, taking, is_addressed, is_repeat, empty_turn}
 use Rattle.lrc_protocol.specs.Run.{Input, run, taken, outcome_of}
 use Rattle.lrc_protocol.proofs.Keeps.{Moves, stays, Kept, KeptIf, run-keeps, take-keeps}
 use Rattle.lrc_protocol.proofs.Numbers.{AreNumbered, Numbered, are_numbered, nothing_sent}
@@ -49,7 +49,7 @@ turned node effect k =
     (numbered effect.node.setting.me effect.node.options.first effect.node.mail.sent effect.letters)
     (are_numbered effect.node.setting.me effect.node.options.first effect.node.mail.sent effect.letters)
 
-turned_if : (node : Node) (o : Option Effect) → KeptIf node o → Turns node (turn_if o)
+turned_if : (node : Node) (o : Option Effect) → KeptIf node o → Turns node (turn_or worn o)
 turned_if node None k = tt
 turned_if node (Some effect) k = turned node effect k
 
@@ -72,7 +72,7 @@ repeated_or_not node true o h = record {
 }
 repeated_or_not node false o h = h
 
-taking_turns : (node : Node) (envelope : EnvelopeRecord) (o : Option Effect) → KeptIf (taking node envelope) o → Turns node (turn_taking o)
+taking_turns : (node : Node) (envelope : EnvelopeRecord) (o : Option Effect) → KeptIf (taking node envelope) o → Turns node (turn_or unexpected o)
 taking_turns node envelope None k = tt
 taking_turns node envelope (Some effect) k = turned node effect k
 

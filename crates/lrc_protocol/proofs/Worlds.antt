@@ -23,7 +23,11 @@ use Rattle.lrc_protocol.specs.declared.event.Event.TheVariants.{Run, Deliver, Re
 use Rattle.lrc_protocol.specs.Node.{Node, OptionsRecord, fresh_node}
 use Rattle.lrc_protocol.specs.Turn.{TurnRecord, Outcome, done, not_ready, unexpected, worn}
 use Rattle.lrc_protocol.specs.Run.{Input, run, taken, EntryRecord, Logged, Logging, logged, refused, too_large, outcome_of, MOST_STAMP, logging}
-use Rattle.lrc_protocol.specs.Run.{logs, next_stamp, Local, local_after, local_step, local, World, Flying, fresh_world, with_turn, after_input}
+use Rattle.lrc_protocol.specs.Run.{logs, next_stamp, World, Flying, fresh_world, with_turn, after_input}
+use Rattle.lrc_protocol.specs.Follows.{local}
+use Rattle.lrc_protocol.specs.Follows.{local_step}
+use Rattle.lrc_protocol.specs.Follows.{local_after}
+use Rattle.lrc_protocol.specs.Follows.{Local}
 use Rattle.lrc_protocol.specs.Run.{input_to, delivers, with_mark, event_on, step_of, run_of}
 use Rattle.lrc_protocol.specs.Follows.{inputs_of, turns_of, deeds_in}
 use Rattle.lrc_protocol.proofs.Turned.{Turned, Turns, turns}

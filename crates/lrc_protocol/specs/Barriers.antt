@@ -8,7 +8,7 @@ use Rattle.lrc_envelope.specs.Records.{ArriveRecord}
 use Rattle.lrc_barrier.specs.Barrier.{first_manager, ManagerRecord}
 use Rattle.lrc_barrier.specs.declared.arrival.Arrival.{Arrival}
 use Rattle.lrc_protocol.specs.Times.{is_named}
-use Rattle.lrc_protocol.specs.Pages.{copy_at, dropped, keeper_at, Memory, mended, Need, values_of}
+use Rattle.lrc_protocol.specs.Pages.{copy_at, dropped, keeper_at, Memory, repaired, Need, values_of}
 
 -- ---- barriers
 
@@ -78,7 +78,7 @@ base_at memory page = slice_index_or memory.bases page None
 
 -- the memory once these pages are repaired, and then base copies kept of those
 abbrev pub clean_memory : List Need → List ℕ → Memory → Memory
-clean_memory needs kept memory = fold with_base (fold mended memory needs) kept
+clean_memory needs kept memory = fold with_base (fold repaired memory needs) kept
 
 -- the memory once all up to this time is collected: no interval that it covers is left, no base copy of a page that
 -- another node keeps, and no invalid copy

@@ -1,11 +1,16 @@
--- What the turns of a node say together: the deeds that its text makes, and the numbers of its messages; and the logs of all nodes.
-use Rattle.std.specs.Prelude.{ℕ, ◌==◌, Option, Some, List, [], ◌∷◌, ◌++◌, option_map, map, filter, filter_map, flat_map, slice_get, slice_index_or}
+-- What the laws say of a node's turns: those that its own inputs give, the deeds that its text makes, and the numbers of its
+-- messages; and of the logs of all nodes.
+use Rattle.std.specs.Prelude.{ℕ, ◌==◌, Bool, Option, Some, None, List, [], ◌∷◌, ◌++◌, option_map, map, filter, filter_map, flat_map, fold}
+use Rattle.std.specs.Prelude.{false, is_some, not, slice_get, slice_index_or, unwrap_or}
+use Rattle.lrc_lang.specs.declared.program.Program.{Program}
 use Rattle.lrc_trace.specs.declared.act.Deed.{Deed}
 use Rattle.lrc_exec.specs.Meaning.{Thread, next_of}
 use Rattle.lrc_envelope.specs.Envelope.{EnvelopeRecord}
+use Rattle.lrc_envelope.specs.declared.message.Message.{Message}
 use Rattle.lrc_plain_laws.specs.Follows.{Goes}
-use Rattle.lrc_protocol.specs.Turn.{TurnRecord}
-use Rattle.lrc_protocol.specs.Run.{Input, EntryRecord}
+use Rattle.lrc_protocol.specs.Node.{collection_of, Course, ended, fresh_node, going, Node, OptionsRecord, trapped, Wait}
+use Rattle.lrc_protocol.specs.Turn.{done, is_repeat, not_ready, Outcome, takes, TurnRecord, unexpected, worn}
+use Rattle.lrc_protocol.specs.Run.{EntryRecord, Flying, Input, outcome_of, World}
 
 -- A thread makes these deeds one after another, and then it is this one, or none once it has stopped.
 pub data MakesTo (start : Option Thread) : List Deed → Option Thread → Type 0 where
@@ -31,6 +36,56 @@ numbers_to to sent = map (λ envelope. envelope.number) (filter (λ envelope. en
 -- what these turns send, in order
 abbrev pub sent_in : List TurnRecord → List EnvelopeRecord
 sent_in turns = flat_map (λ turn. turn.out) turns
+
+-- ---- a node by itself
+
+-- a node and its turns
+pub record Local : Type 0 where
+  pub node : Node
+  pub turns : List TurnRecord
+
+-- the same after one outcome more, if it is a turn
+abbrev pub local_after : List TurnRecord → Outcome → Option Local
+local_after turns (done turn node) = Some (record { node = node; turns = turns ++ turn ∷ [] })
+local_after turns not_ready = None
+local_after turns unexpected = None
+local_after turns worn = None
+
+-- the same after one input more
+abbrev pub local_step : Option Local → Input → Option Local
+local_step None input = None
+local_step (Some l) input = local_after l.turns (outcome_of l.node input)
+
+-- the turns of a node of a program after these inputs, and the node after them; none where one of them is no turn
+abbrev pub local : Program → ℕ → OptionsRecord → ℕ → List Input → Option Local
+local program nodes options me inputs =
+    fold local_step (Some (record { node = fresh_node program nodes options me; turns = [] })) inputs
+
+-- the thread of a text, and none once it has stopped
+abbrev pub thread_of : Course → Option Thread
+thread_of (going thread) = Some thread
+thread_of (trapped cause) = None
+thread_of ended = None
+
+-- whether a node expects a message
+abbrev pub is_expected : Node → ℕ → Message → Bool
+is_expected node from message = is_some (takes node from message)
+
+-- whether the word to discard is awaited
+abbrev pub awaits_discard : Wait → Bool
+awaits_discard wait = is_some (collection_of wait)
+
+-- ---- messages that are still to be taken
+
+-- whether its receiver has taken the message's number
+abbrev pub is_taken_in : World → Flying → Bool
+is_taken_in world flying =
+    unwrap_or (option_map (λ l. is_repeat l.node flying.envelope) (slice_get world.nodes flying.envelope.to)) false
+
+-- the messages that were sent and whose numbers their receivers have not taken. (What is delivered and taken leaves the
+-- flight, or stays there as a repeat.)
+abbrev pub pending : World → List EnvelopeRecord
+pending world = map (λ flying. flying.envelope) (filter (λ flying. not (is_taken_in world flying)) world.flight)
 
 -- ---- the logs of all nodes, gone through turn by turn
 

@@ -1,5 +1,5 @@
 -- A node: its text, the shared memory as it knows it, its locks, its part in barriers, and its mail.
-use Rattle.std.specs.Prelude.{[], ℕ, ◌+◌, ◌==◌, ◌∷◌, Bool, false, if◌then◌else◌, is_some, List, nat_le, nat_lt, None, Option}
+use Rattle.std.specs.Prelude.{[], ℕ, ◌+◌, ◌==◌, ◌∷◌, Bool, false, if◌then◌else◌, List, nat_le, nat_lt, None, Option}
 use Rattle.std.specs.Prelude.{option_map, replicate, slice_index, slice_index_or, slice_set, Some, true}
 use Rattle.std.specs.List.{list_any}
 use Rattle.lrc_lang.specs.declared.program.Program.{Program}
@@ -31,13 +31,8 @@ pub data Course : Type 0 where
   trapped : Cause → Course
   ended : Course
 
--- the thread, and none once it has stopped
-abbrev pub thread_of : Course → Option Thread
-thread_of (going thread) = Some thread
-thread_of (trapped cause) = None
-thread_of ended = None
-
--- the deed of what a thread does next, a read giving this value
+-- The deed of what a thread does next, a read giving this value. A departure stands apart, since a thread asks for nothing
+-- by it: the message that lets it go makes it.
 abbrev pub deed_of : ℕ → Next → Deed
 deed_of value (departs after) = Depart
 deed_of value next = deed_asked value (ask_of next)
@@ -55,7 +50,7 @@ course_of value (departs after) = going after
 course_of value (traps cause) = trapped cause
 course_of value ends = ended
 
--- what it counts of a node's steps to begin this
+-- how many of a node's steps it costs to begin this
 abbrev pub cost_of : Next → ℕ
 cost_of next = steps_of (deed_of 0 next)
 
@@ -100,10 +95,6 @@ awaits_departure _ = false
 abbrev pub collection_of : Wait → Option Collection
 collection_of (discard collection) = Some collection
 collection_of _ = None
-
--- whether the word to discard is awaited
-abbrev pub awaits_discard : Wait → Bool
-awaits_discard wait = is_some (collection_of wait)
 
 -- what it waits for; how many messages it has sent to each node; the numbers that it has taken from each, ascending
 pub record Mail : Type 0 where
@@ -153,6 +144,8 @@ pub record OptionsRecord : Type 0 where
   pub first : ℕ
   pub size : Size
 
+-- what does not change: the nodes, the words, the locks, and which node it is, and the options; how far its text has come, and
+-- the steps left; and its parts in what the chapters before tell
 pub record Node : Type 0 where
   pub setting : Setting
   pub options : OptionsRecord
@@ -184,6 +177,7 @@ fresh_node program nodes options me = first_node options (setting_of program nod
 abbrev pub own_index : Node → ℕ
 own_index node = entry node.locks.time node.setting.me
 
+-- the node with other locks, another part in barriers, other memory, or other tokens
 abbrev pub with_locks : Node → Locks → Node
 with_locks node locks = record node { locks = locks }
 
@@ -196,7 +190,7 @@ with_memory node memory = record node { memory = memory }
 abbrev pub with_tokens : Node → HeldRecord → Node
 with_tokens node held = with_locks node (with_held held node.locks)
 
--- the node waits for this
+-- the node with another wait
 abbrev pub waiting : Wait → Node → Node
 waiting wait node = record node { mail = record node.mail { wait = wait } }
 
@@ -222,7 +216,7 @@ abbrev pub memory_after : Node → Next → Memory
 memory_after node (writes word value after) = with_written_word node.options.size word value node.memory
 memory_after node _ = node.memory
 
--- makes the act that a thread does next
+-- makes the act that a thread does next: the access is made in the node's copy, and the text goes on
 abbrev pub makes : List Letter → Node → Next → Effect
 makes letters node next =
     let value = value_read node next in
@@ -232,7 +226,9 @@ makes letters node next =
       node = record node { course = course_of value next; memory = memory_after node next };
     }
 
--- makes the act that the node's text is at
+-- Makes the act that the node's text is at. A message that ends a wait does so too: since the node began to wait its text stands
+-- before the statement for which it waits, so a grant makes the acquire, the last reply the access, and a departure or the word to
+-- discard the depart, which is what a thread does next once it has arrived.
 abbrev pub acts_by : List Letter → Node → Course → Effect
 acts_by letters node (going thread) = makes letters node (next_of thread)
 acts_by letters node (trapped cause) = sends letters node

@@ -78,7 +78,8 @@ pub record Memory : Type 0 where
   pub keepers : List ℕ
   pub collected : List ℕ
 
--- at the start every node has a valid copy of zeros of every page, and node 0 keeps each
+-- At the start every node has a valid copy of zeros of every page. Node 0 is the keeper of each, and no base copy is kept
+-- yet: nobody can ask for one before the first collection.
 abbrev pub fresh_memory : ℕ → ℕ → Size → Memory
 fresh_memory nodes pages size = record {
   store = empty_store nodes pages;
@@ -138,22 +139,23 @@ learned before intervals memory = record memory {
 -- ---- what a copy lacks
 
 -- the notices of a page that a copy of it lacks, in the order in which their changes are applied: by weight, node, index.
--- An invalid copy has what its remembered time covers, an absent one what was collected.
-abbrev pub lacking_in : Memory → ℕ → Copy → List Key
-lacking_in memory page (invalid values since) = missing_of memory.store page since
-lacking_in memory page absent = missing_of memory.store page memory.collected
-lacking_in memory page _ = []
+-- An invalid copy has what its remembered time covers. An absent one has nothing; what was collected will come with the base
+-- copy.
+abbrev pub missing_in : Memory → ℕ → Copy → List Key
+missing_in memory page (invalid values since) = missing_of memory.store page since
+missing_in memory page absent = missing_of memory.store page memory.collected
+missing_in memory page _ = []
 
-abbrev pub lacking : Memory → ℕ → List Key
-lacking memory page = lacking_in memory page (copy_at memory page)
+abbrev pub missing_at : Memory → ℕ → List Key
+missing_at memory page = missing_in memory page (copy_at memory page)
 
 -- what is known of the changes of a key, and nothing where they are not known
 abbrev pub changes_or_none : StoreRecord → Key → List Change
 changes_or_none store key = unwrap_or (changes_at store key) []
 
 -- these values with the changes of the keys, in their order
-abbrev pub repaired : StoreRecord → List ℕ → List Key → List ℕ
-repaired store values keys = fold applied values (map (changes_or_none store) keys)
+abbrev pub all_applied : StoreRecord → List ℕ → List Key → List ℕ
+all_applied store values keys = fold applied values (map (changes_or_none store) keys)
 
 -- the store with the changes of a page that one interval of a maker made
 abbrev pub with_part : ℕ → ℕ → StoreRecord → IndexedChangesRecord → StoreRecord
@@ -162,7 +164,7 @@ with_part maker page store part =
 
 -- ---- what a page needs before it can be read
 
--- a base copy: not asked for, asked of its keeper, or come
+-- where the base copy is that a page needs: not asked for, asked of its keeper, or come
 pub data Base : Type 0 where
   unneeded : Base
   due : (keeper : ℕ) → Base
@@ -173,8 +175,8 @@ pub record Asked : Type 0 where
   pub maker : ℕ
   pub indices : List ℕ
 
--- what one page needs before it can be read: a base copy, changes that have not come yet, and, in the order in which they
--- are applied, the keys of all changes that the copy lacks
+-- what one page needs before it can be read: a base copy, the changes that are asked for and have not come, and, in the order
+-- in which they are applied, the keys of all changes that the copy lacks, come or not
 pub record Need : Type 0 where
   pub page : ℕ
   pub base : Base
@@ -210,7 +212,7 @@ unknown_of store keys = filter (λ key. is_none (changes_at store key)) keys
 -- what a page needs, with so many nodes: only what is not known is asked for
 abbrev pub need_of : ℕ → Memory → ℕ → Need
 need_of nodes memory page =
-    let missing = lacking memory page in
+    let missing = missing_at memory page in
     record {
       page = page;
       base = base_of (keeper_at memory page) (copy_at memory page);
@@ -251,14 +253,14 @@ is_due_from keeper _ = false
 abbrev pub awaits_page : ℕ → ℕ → Need → Bool
 awaits_page page keeper need = (need.page == page) && is_due_from keeper need.base
 
--- the need once a maker's changes of the page came
-abbrev pub with_changes : ℕ → ℕ → Need → Need
-with_changes page maker need =
+-- the need once a maker's changes of the page came: they are no longer asked for, and stand in the store
+abbrev pub changes_came : ℕ → ℕ → Need → Need
+changes_came page maker need =
     if need.page == page then record need { asked = filter (λ asked. not (asked.maker == maker)) need.asked } else need
 
 -- the need once the page's base copy came
-abbrev pub with_page : ℕ → List ℕ → Need → Need
-with_page page values need = if need.page == page then record need { base = come values } else need
+abbrev pub page_came : ℕ → List ℕ → Need → Need
+page_came page values need = if need.page == page then record need { base = come values } else need
 
 -- ---- repair
 
@@ -267,8 +269,8 @@ abbrev pub first_values : Copy → Base → List ℕ
 first_values copy (come values) = values
 first_values copy _ = values_of copy
 
--- the memory once the page is repaired: valid, with all that its copy lacked applied in order
-abbrev pub mended : Memory → Need → Memory
-mended memory need =
+-- the memory once the page is repaired: its copy is valid, with all that it lacked applied in order
+abbrev pub repaired : Memory → Need → Memory
+repaired memory need =
     let values = first_values (copy_at memory need.page) need.base in
-    with_copy memory need.page (valid (repaired memory.store values need.missing))
+    with_copy memory need.page (valid (all_applied memory.store values need.missing))

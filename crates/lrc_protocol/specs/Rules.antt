@@ -21,8 +21,8 @@ use Rattle.lrc_lock.specs.Managed.{recent_asker, with_asker}
 use Rattle.lrc_barrier.specs.declared.departure.Departure.{Departure}
 use Rattle.lrc_barrier.specs.Barrier.{ManagerRecord, waits, departs, arrived, awaits, discards, cleaned}
 use Rattle.lrc_protocol.specs.Times.{MOST_NUMBER}
-use Rattle.lrc_protocol.specs.Pages.{is_readable, Memory, copy_at, Need, need_of, is_met, mended, awaits_changes, awaits_page, with_changes}
-use Rattle.lrc_protocol.specs.Pages.{with_page, with_part}
+use Rattle.lrc_protocol.specs.Pages.{is_readable, Memory, copy_at, Need, need_of, is_met, repaired, awaits_changes, awaits_page, changes_came}
+use Rattle.lrc_protocol.specs.Pages.{page_came, with_part}
 use Rattle.lrc_protocol.specs.Locks.{with_managed}
 use Rattle.lrc_protocol.specs.Barriers.{arrival_in, with_keepers, kept_pages, base_at, collected_at, Collection, with_arrive, with_manager}
 use Rattle.lrc_protocol.specs.Node.{nothing, grant, departure, access, upkeep, discard, needs_of, numbered, going, cost_of, Node, Effect}
@@ -82,7 +82,7 @@ pub data RunRule (node : Node) : Effect → Type 0 where
       → is_readable (copy_at node.memory (page_at node word)) ≡ false → is_met (need_at node (page_at node word)) ≡ true
       → RunRule node
       (acts (requests_of (need_at node (page_at node word)))
-      (waiting nothing (with_memory (charged node next) (mended node.memory (need_at node (page_at node word))))))
+      (waiting nothing (with_memory (charged node next) (repaired node.memory (need_at node (page_at node word))))))
   -- an acquire, the token here and free: it closes the interval
   run_acquire : (lock : ℕ) (after : Thread) → IsReadyFor node (acquires lock after) → own_index node < MOST_NUMBER
       → is_free (lock_at node.locks.held lock) ≡ true
@@ -126,10 +126,10 @@ pub data Brings (node : Node) (from : ℕ) : Message → Memory → (Need → Ne
       → list_all (are_changes node) m.parts ≡ true
       → list_any (awaits_changes m.page from (map (λ part. part.index) m.parts)) (needs_of node.mail.wait) ≡ true
       → Brings node from (ChangesReply m) (record node.memory { store = fold (with_part from m.page) node.memory.store m.parts })
-      (with_changes m.page from)
+      (changes_came m.page from)
   brings_base_copy : (m : PageReplyRecord) → m.page < pages_of node.setting.words node.options.size
       → length m.values ≡ words_of node.options.size → list_any (awaits_page m.page from) (needs_of node.mail.wait) ≡ true
-      → Brings node from (PageReply m) node.memory (with_page m.page m.values)
+      → Brings node from (PageReply m) node.memory (page_came m.page m.values)
 
 -- a collection begins at a node that has learnt the news: the pages that were named have new keepers
 abbrev pub keeping : Node → DepartRecord → Node
@@ -189,7 +189,7 @@ pub data TakeRule (node : Node) (from : ℕ) : Message → Effect → Type 0 whe
   -- with the last one the page is repaired, and the access made
   take_last_reply : {message : Message} {memory : Memory} {change : Need → Need} (need : Need) → Brings node from message memory change
       → node.mail.wait ≡ access need → is_met (change need) ≡ true
-      → TakeRule node from message (acts [] (waiting nothing (with_memory node (mended memory (change need)))))
+      → TakeRule node from message (acts [] (waiting nothing (with_memory node (repaired memory (change need)))))
   -- a reply in a collection: it is kept;
   take_kept_reply : {message : Message} {memory : Memory} {change : Need → Need} (collection : Collection) (needs : List Need)
       → Brings node from message memory change → node.mail.wait ≡ upkeep collection needs

@@ -1,14 +1,14 @@
 -- The run: a node with the log of its turns, which depend on its own inputs alone; and all nodes with the messages in flight,
 -- what each event does, and the run of a list of events.
-use Rattle.std.specs.Prelude.{[], ℕ, ◌++◌, ◌+◌, ◌==◌, ◌∷◌, Bool, false, filter, fold, if◌then◌else◌, List, map, max, nat_le}
-use Rattle.std.specs.Prelude.{None, not, Option, option_map, remove, slice_get, slice_set, Some, true, unwrap_or}
+use Rattle.std.specs.Prelude.{[], ℕ, ◌++◌, ◌+◌, ◌==◌, ◌∷◌, Bool, false, fold, if◌then◌else◌, List, map, max, nat_le}
+use Rattle.std.specs.Prelude.{None, Option, remove, slice_get, slice_set, Some, true}
 use Rattle.std.specs.Option.{option_to_list}
 use Rattle.std.specs.List.{enumerate_from, range_with_len}
 use Rattle.lrc_lang.specs.declared.program.Program.{Program}
 use Rattle.lrc_trace.specs.declared.act.Act.{Act}
 use Rattle.lrc_envelope.specs.Envelope.{EnvelopeRecord}
 use Rattle.lrc_protocol.specs.Node.{fresh_node, Node, OptionsRecord}
-use Rattle.lrc_protocol.specs.Turn.{done, is_repeat, not_ready, Outcome, run_turn, take_turn, TurnRecord, unexpected, worn}
+use Rattle.lrc_protocol.specs.Turn.{done, not_ready, Outcome, run_turn, take_turn, TurnRecord, unexpected, worn}
 use Rattle.lrc_protocol.specs.declared.event.Event.{Event}
 use Rattle.lrc_protocol.specs.declared.event.Event.TheVariants.{Deliver, Repeat, Run}
 
@@ -19,7 +19,8 @@ pub data Input : Type 0 where
   run : Input
   taken : EnvelopeRecord → Input
 
--- an input, the stamp of its turn, and the turn
+-- An input, its turn, and the turn's stamp: a number that is greater than those of all turns that it follows (Lamport 1978).
+-- An interval's stamp is another thing, a vector time.
 pub record EntryRecord : Type 0 where
   pub input : Input
   pub stamp : ℕ
@@ -67,33 +68,9 @@ logging input stamp log not_ready = refused
 logging input stamp log unexpected = refused
 logging input stamp log worn = too_large
 
--- an input to a node with its log; a message comes with the stamp of the turn that sent it, and a run with 0
+-- an input to a node with its log; a message comes with the stamp of the turn that sent it, and the node's name with 0
 abbrev pub logs : Logged → Input → ℕ → Logging
 logs l input came = logging input (next_stamp l.log came) l.log (outcome_of l.node input)
-
--- ---- the local view
-
--- a node and its turns
-pub record Local : Type 0 where
-  pub node : Node
-  pub turns : List TurnRecord
-
--- the same after one outcome more, if it is a turn
-abbrev pub local_after : List TurnRecord → Outcome → Option Local
-local_after turns (done turn node) = Some (record { node = node; turns = turns ++ turn ∷ [] })
-local_after turns not_ready = None
-local_after turns unexpected = None
-local_after turns worn = None
-
--- the same after one input more
-abbrev pub local_step : Option Local → Input → Option Local
-local_step None input = None
-local_step (Some l) input = local_after l.turns (outcome_of l.node input)
-
--- the turns of a node of a program after these inputs, and the node after them; none where one of them is no turn
-abbrev pub local : Program → ℕ → OptionsRecord → ℕ → List Input → Option Local
-local program nodes options me inputs =
-    fold local_step (Some (record { node = fresh_node program nodes options me; turns = [] })) inputs
 
 -- ---- all nodes
 
@@ -144,18 +121,18 @@ after_input world flight n (logged entry l) = Some (with_turn world flight n ent
 after_input world flight n refused = Some world
 after_input world flight n too_large = None
 
--- an input to a node, with the messages that are in flight then; nothing where there is no such node
+-- the world after an input to a node, with the messages that are in flight then; nothing changes where there is no such node
 abbrev pub input_to : World → List Flying → ℕ → Input → ℕ → Option Logged → Option World
 input_to world flight n input stamp None = Some world
 input_to world flight n input stamp (Some l) = after_input world flight n (logs l input stamp)
 
-abbrev pub inputs : World → List Flying → ℕ → Input → ℕ → Option World
-inputs world flight n input stamp = input_to world flight n input stamp (slice_get world.nodes n)
+abbrev pub with_input : World → List Flying → ℕ → Input → ℕ → Option World
+with_input world flight n input stamp = input_to world flight n input stamp (slice_get world.nodes n)
 
 -- a message is delivered to its receiver, with the messages that are in flight then; nothing where there is none
 abbrev pub delivers : World → List Flying → Option Flying → Option World
 delivers world flight None = Some world
-delivers world flight (Some flying) = inputs world flight flying.envelope.to (taken flying.envelope) flying.stamp
+delivers world flight (Some flying) = with_input world flight flying.envelope.to (taken flying.envelope) flying.stamp
 
 -- the message stays in flight, marked as delivered
 abbrev pub marked : Flying → Flying
@@ -170,7 +147,7 @@ with_mark flight place = map (λ at. if at.0 == place then marked at.1 else at.1
 -- What an event does: one turn where it names a ready node, or a message in flight that its receiver takes; and nothing
 -- else. None where a number would be too large.
 abbrev pub event_on : World → Event → Option World
-event_on world (Run n) = inputs world world.flight n run 0
+event_on world (Run n) = with_input world world.flight n run 0
 event_on world (Deliver place) = delivers world (remove world.flight place) (slice_get world.flight place)
 event_on world (Repeat place) = delivers world (with_mark world.flight place) (slice_get world.flight place)
 
@@ -186,15 +163,3 @@ played world events = fold step_of (Some world) events
 -- the run of the events of a program on so many nodes; none where a number would be too large
 abbrev pub run_of : Program → ℕ → OptionsRecord → List Event → Option World
 run_of program nodes options events = played (fresh_world program nodes options) events
-
--- ---- messages that are still to be taken
-
--- whether its receiver has taken the message's number
-abbrev pub is_taken_in : World → Flying → Bool
-is_taken_in world flying =
-    unwrap_or (option_map (λ l. is_repeat l.node flying.envelope) (slice_get world.nodes flying.envelope.to)) false
-
--- the messages that were sent and whose numbers their receivers have not taken. (What is delivered and taken leaves the
--- flight, or stays there as a repeat.)
-abbrev pub pending : World → List EnvelopeRecord
-pending world = map (λ flying. flying.envelope) (filter (λ flying. not (is_taken_in world flying)) world.flight)

@@ -6,7 +6,7 @@ use lib.Pointwise.{pointwise}
 use Rattle.lrc_time.specs.Time.{entry}
 use Rattle.lrc_store.specs.Interval.{index_of, IntervalRecord}
 
--- how large a message number, an episode or an interval's index may be
+-- how large a message's number or an interval's index may be
 abbrev pub MOST_NUMBER : ℕ
 MOST_NUMBER = 4294967295
 

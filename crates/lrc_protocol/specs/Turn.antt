@@ -1,4 +1,5 @@
--- A turn: a node goes on by itself, or it takes a message. What it does stands in the order of the table in docs/protocol.md.
+-- A turn: a node goes on by itself, or it takes a message. Below stands first what it does by itself, then each message with the
+-- condition where it is expected and what it does, and at last how a turn is made of that. docs/protocol.md says it in two tables.
 use Rattle.std.specs.Prelude.{[], ℕ, ◌&&◌, ◌++◌, ◌+◌, ◌-◌, ◌==◌, ◌∷◌, Bool, false, filter, flat_map, fold, if◌then◌else◌}
 use Rattle.std.specs.Prelude.{is_some, length, List, map, nat_le, nat_lt, None, not, Option, option_and_then, option_map}
 use Rattle.std.specs.Prelude.{slice_set, Some}
@@ -19,24 +20,37 @@ use Rattle.lrc_envelope.specs.declared.message.Message.{Message}
 use Rattle.lrc_envelope.specs.declared.message.Message.TheVariants.{Arrive, ChangesReply, ChangesRequest, Clean, Depart}
 use Rattle.lrc_envelope.specs.declared.message.Message.TheVariants.{Discard, LockForward, LockGrant, LockRequest, PageReply}
 use Rattle.lrc_envelope.specs.declared.message.Message.TheVariants.{PageRequest}
-use Rattle.lrc_lock.specs.Held.{asked, forwarded, granted, held_after, is_free, lock_at, LockStep, pass_of, passes, refuses, released, stays}
-use Rattle.lrc_lock.specs.Held.{taken, with_lock}
+use Rattle.lrc_lock.specs.Held.{asked, forwarded, granted, held_after, is_free, is_taken, lock_at, LockStep, pass_of, released, taken}
 use Rattle.lrc_lock.specs.Lock.{manager_of}
 use Rattle.lrc_lock.specs.Managed.{recent_asker, with_asker}
-use Rattle.lrc_lock.specs.declared.state.LockState.TheVariants.{Away}
 use Rattle.lrc_lock.specs.declared.state.Pass.{Pass}
 use Rattle.lrc_barrier.specs.Barrier.{arrived, ArriveStep, awaits, cleaned, CleanStep, departs as all_depart, discards}
 use Rattle.lrc_barrier.specs.Barrier.{refuses as refuses_arrival, refuses_clean, waits}
 use Rattle.lrc_barrier.specs.declared.departure.Departure.{Departure}
 use Rattle.lrc_protocol.specs.Times.{are_between, MOST_NUMBER}
 use Rattle.lrc_protocol.specs.Pages.{Asked, awaits_changes, awaits_page, Base, changes_or_none, copy_at, due, is_met, is_readable, learned}
-use Rattle.lrc_protocol.specs.Pages.{mended, Need, need_of, with_changes, with_interval, with_page, with_part}
-use Rattle.lrc_protocol.specs.Locks.{ticked, with_managed, with_time}
+use Rattle.lrc_protocol.specs.Pages.{repaired, Need, need_of, changes_came, with_interval, page_came, with_part}
+use Rattle.lrc_protocol.specs.Locks.{ticked, with_managed, with_joined_time}
 use Rattle.lrc_protocol.specs.Barriers.{arrival_in, base_at, clean_memory, collected_at, Collection, kept_pages, last_arrived, with_arrive}
 use Rattle.lrc_protocol.specs.Barriers.{with_keepers, with_manager}
 use Rattle.lrc_protocol.specs.Node.{access, acts, awaits_departure, awaits_grant, collection_of, cost_of, Course, departure, discard, Effect}
 use Rattle.lrc_protocol.specs.Node.{ended, going, grant, is_idle, Letter, needs_of, Node, nothing, numbered, own_index, sends, trapped, upkeep}
 use Rattle.lrc_protocol.specs.Node.{Wait, waiting, was_taken, with_barrier, with_locks, with_memory, with_taken, with_tokens}
+
+-- ---- what comes of a turn
+
+-- the act of a turn if it makes one, and what it sends, in order
+pub record TurnRecord : Type 0 where
+  pub act : Option Act
+  pub out : List EnvelopeRecord
+
+-- What comes of a turn: it is done; the node isn't ready to go on; it doesn't expect the message; or a number would be too
+-- large.
+pub data Outcome : Type 0 where
+  done : TurnRecord → Node → Outcome
+  not_ready : Outcome
+  unexpected : Outcome
+  worn : Outcome
 
 -- ---- going on by itself
 
@@ -45,12 +59,13 @@ abbrev pub may_begin : ℕ → Next → Bool
 may_begin left (departs after) = false
 may_begin left next = nat_le (cost_of next) left
 
--- what the node begins if it is named; none where it has stopped, waits, or has used its steps
+-- what a text that is at this begins, with so many steps left; none where it has stopped, or its steps are used
 abbrev pub begins_of : ℕ → Course → Option Next
 begins_of left (going thread) = if may_begin left (next_of thread) then Some (next_of thread) else None
 begins_of left (trapped cause) = None
 begins_of left ended = None
 
+-- what the node begins if it is named; none where it waits, too
 abbrev pub begins : Node → Option Next
 begins node = if is_idle node.mail.wait then begins_of node.left node.course else None
 
@@ -92,7 +107,7 @@ requests_of need = page_request_of need.page need.base ++ map (changes_request_o
 abbrev pub fetches : List Letter → Node → Need → Effect
 fetches letters node need =
     if is_met need
-    then acts letters (waiting nothing (with_memory node (mended node.memory need)))
+    then acts letters (waiting nothing (with_memory node (repaired node.memory need)))
     else sends letters (waiting (access need) node)
 
 -- a hit makes the access at once; a miss asks for what the page needs
@@ -201,7 +216,7 @@ is_learnable node time intervals =
 -- the node learns news: intervals are stored, the pages that they name become invalid, and the times are joined
 abbrev pub learns : List ℕ → List IntervalRecord → Node → Node
 learns time intervals node = record node {
-  locks = with_time time node.locks;
+  locks = with_joined_time time node.locks;
   memory = learned node.locks.time intervals node.memory;
 }
 
@@ -216,8 +231,8 @@ abbrev pub forward_to : ℕ → ℕ → ℕ → List ℕ → Letter
 forward_to to lock asker time = letter to (LockForward (record { lock = lock; asker = asker; time = time }))
 
 -- LockRequest is expected where this node manages the lock,
-abbrev pub is_request : Node → LockRequestRecord → Bool
-is_request node m = is_lock node m.lock && is_time node m.time && (manager_of node.setting.nodes m.lock == node.setting.me)
+abbrev pub expects_request : Node → LockRequestRecord → Bool
+expects_request node m = is_lock node m.lock && is_time node m.time && (manager_of node.setting.nodes m.lock == node.setting.me)
 
 -- and goes on to who asked last
 abbrev pub passes_on : Node → ℕ → LockRequestRecord → Effect
@@ -226,22 +241,22 @@ passes_on node from m =
     (with_locks node (with_managed (with_asker node.locks.managed m.lock from) node.locks))
 
 -- LockForward is expected where its sender manages the lock,
-abbrev pub is_forward : Node → ℕ → LockForwardRecord → Bool
-is_forward node from m =
+abbrev pub expects_forward : Node → ℕ → LockForwardRecord → Bool
+expects_forward node from m =
     is_lock node m.lock && is_node node m.asker && is_time node m.time && (manager_of node.setting.nodes m.lock == from)
 
 -- and the token, here or awaited, has no successor: the lock is granted at once, with the time of the last release here, or
 -- the asker is kept as successor
 abbrev pub forward_by : Node → ℕ → LockStep → Option Effect
-forward_by node lock (refuses fault) = None
-forward_by node lock (stays state) = Some (sends [] (with_tokens node (with_lock node.locks.held lock state)))
-forward_by node lock (passes pass) = Some (sends (grant_of node pass ∷ []) (with_tokens node (with_lock node.locks.held lock Away)))
+forward_by node lock step =
+    given (is_taken step) (Some (sends (grants_of node (pass_of step)) (with_tokens node (held_after node.locks.held lock step))))
 
 -- LockGrant is expected where this node awaits that lock, and can learn the news;
-abbrev pub is_grant : Node → LockGrantRecord → Bool
-is_grant node m = is_lock node m.lock && awaits_grant m.lock node.mail.wait && is_learnable node m.time m.intervals
+abbrev pub expects_grant : Node → LockGrantRecord → Bool
+expects_grant node m = is_lock node m.lock && awaits_grant m.lock node.mail.wait && is_learnable node m.time m.intervals
 
--- it brings the token and news, and the acquire is made
+-- it brings the token and news, and the acquire is made (who awaits a lock's grant has asked for its token, so that
+-- `granted` is no refusal here)
 abbrev pub take_grant : Node → LockGrantRecord → Effect
 take_grant node m =
     acts []
@@ -271,8 +286,8 @@ arrive_by node (all_depart departures manager) =
 
 -- Depart is expected from node 0, for the episode from which this node awaits to depart, where its time covers the node's and
 -- the node can learn the news
-abbrev pub is_departure : Node → ℕ → DepartRecord → Bool
-is_departure node from m =
+abbrev pub expects_departure : Node → ℕ → DepartRecord → Bool
+expects_departure node from m =
     (from == 0) && awaits_departure node.mail.wait && (m.episode == node.barrier.episode)
     && covers m.time node.locks.time && is_learnable node m.time m.intervals
 
@@ -332,8 +347,8 @@ discard_by node (Some collection) =
 -- ---- ChangesRequest, ChangesReply
 
 -- ChangesRequest is expected where each index is of a stored interval of this node that names the page,
-abbrev pub is_changes_request : Node → ChangesRequestRecord → Bool
-is_changes_request node m =
+abbrev pub expects_changes_request : Node → ChangesRequestRecord → Bool
+expects_changes_request node m =
     is_page node m.page
     && list_all (λ index. is_some (notice_at node.memory.store (record { node = node.setting.me; index = index; page = m.page }))) m.indices
 
@@ -365,8 +380,8 @@ takes_reply node (upkeep collection needs) = keeps_up [] node collection needs
 takes_reply node wait = sends [] (waiting wait node)
 
 -- ChangesReply is expected where just these changes of that page are awaited from its sender, of offsets on a page:
-abbrev pub is_changes_reply : Node → ℕ → ChangesReplyRecord → Bool
-is_changes_reply node from m =
+abbrev pub expects_changes_reply : Node → ℕ → ChangesReplyRecord → Bool
+expects_changes_reply node from m =
     is_page node m.page
     && list_all (are_changes node) m.parts
     && list_any (awaits_changes m.page from (map (λ part. part.index) m.parts)) (needs_of node.mail.wait)
@@ -375,13 +390,13 @@ is_changes_reply node from m =
 abbrev pub take_changes : Node → ℕ → ChangesReplyRecord → Effect
 take_changes node from m =
     let memory = record node.memory { store = fold (with_part from m.page) node.memory.store m.parts } in
-    takes_reply (with_memory node memory) (with_needs (with_changes m.page from) node.mail.wait)
+    takes_reply (with_memory node memory) (with_needs (changes_came m.page from) node.mail.wait)
 
 -- ---- PageRequest, PageReply
 
 -- PageRequest is expected from another node,
-abbrev pub is_page_request : Node → ℕ → ℕ → Bool
-is_page_request node from page = is_page node page && not (from == node.setting.me)
+abbrev pub expects_page_request : Node → ℕ → ℕ → Bool
+expects_page_request node from page = is_page node page && not (from == node.setting.me)
 
 -- the reply to a request of a base copy
 abbrev pub page_reply_to : ℕ → ℕ → List ℕ → Letter
@@ -393,52 +408,35 @@ page_reply_by node from page None = None
 page_reply_by node from page (Some values) = Some (sends (page_reply_to from page values ∷ []) node)
 
 -- PageReply is expected where that page is awaited from its sender, and it has a value for each word:
-abbrev pub is_page_reply : Node → ℕ → PageReplyRecord → Bool
-is_page_reply node from m =
+abbrev pub expects_page_reply : Node → ℕ → PageReplyRecord → Bool
+expects_page_reply node from m =
     is_page node m.page && (length m.values == words_of node.options.size)
     && list_any (awaits_page m.page from) (needs_of node.mail.wait)
 
 -- it is kept until the page is repaired
 abbrev pub take_page : Node → PageReplyRecord → Effect
-take_page node m = takes_reply node (with_needs (with_page m.page m.values) node.mail.wait)
+take_page node m = takes_reply node (with_needs (page_came m.page m.values) node.mail.wait)
 
 -- ---- each kind of message
 
--- what a node does with a message from another; none where it does not expect it
+-- what a node does with a message from a node, also from itself; none where it does not expect it
 abbrev pub takes : Node → ℕ → Message → Option Effect
-takes node from (LockRequest m) = given (is_request node m) (Some (passes_on node from m))
-takes node from (LockForward m) = given (is_forward node from m) (forward_by node m.lock (forwarded node.locks.held m.lock m.asker m.time))
-takes node from (LockGrant m) = given (is_grant node m) (Some (take_grant node m))
+takes node from (LockRequest m) = given (expects_request node m) (Some (passes_on node from m))
+takes node from (LockForward m) = given (expects_forward node from m) (forward_by node m.lock (forwarded node.locks.held m.lock m.asker m.time))
+takes node from (LockGrant m) = given (expects_grant node m) (Some (take_grant node m))
 takes node from (Arrive m) =
     given (are_arriving node from m.time m.intervals)
     (option_and_then (λ manager. arrive_by node (arrived manager from (arrival_in m))) node.barrier.manager)
-takes node from (Depart m) = given (is_departure node from m) (Some (take_departure node m.collect m.time m.intervals))
+takes node from (Depart m) = given (expects_departure node from m) (Some (take_departure node m.collect m.time m.intervals))
 takes node from (Clean episode) = option_and_then (λ manager. clean_by node (cleaned manager from episode)) node.barrier.manager
 takes node from (Discard episode) =
     given ((from == 0) && (episode == node.barrier.episode)) (discard_by node (collection_of node.mail.wait))
-takes node from (ChangesRequest m) = given (is_changes_request node m) (Some (sends (changes_reply_to node from m.page m.indices ∷ []) node))
-takes node from (ChangesReply m) = given (is_changes_reply node from m) (Some (take_changes node from m))
-takes node from (PageRequest page) = given (is_page_request node from page) (page_reply_by node from page (base_at node.memory page))
-takes node from (PageReply m) = given (is_page_reply node from m) (Some (take_page node m))
-
--- whether a node expects a message
-abbrev pub is_expected : Node → ℕ → Message → Bool
-is_expected node from message = is_some (takes node from message)
+takes node from (ChangesRequest m) = given (expects_changes_request node m) (Some (sends (changes_reply_to node from m.page m.indices ∷ []) node))
+takes node from (ChangesReply m) = given (expects_changes_reply node from m) (Some (take_changes node from m))
+takes node from (PageRequest page) = given (expects_page_request node from page) (page_reply_by node from page (base_at node.memory page))
+takes node from (PageReply m) = given (expects_page_reply node from m) (Some (take_page node m))
 
 -- ---- turns
-
--- the act of a turn if it makes one, and what it sends, in order
-pub record TurnRecord : Type 0 where
-  pub act : Option Act
-  pub out : List EnvelopeRecord
-
--- What comes of a turn: it is done; the node isn't ready to go on; it doesn't expect the message; or a number would be too
--- large.
-pub data Outcome : Type 0 where
-  done : TurnRecord → Node → Outcome
-  not_ready : Outcome
-  unexpected : Outcome
-  worn : Outcome
 
 -- the node once so many messages were sent
 abbrev pub with_sent : Node → List ℕ → Node
@@ -458,15 +456,15 @@ turn_of effect =
     let node = effect.node in
     turn_with effect (numbered node.setting.me node.options.first node.mail.sent effect.letters)
 
--- the turn of an effect, where no index is too large
-abbrev pub turn_if : Option Effect → Outcome
-turn_if None = worn
-turn_if (Some effect) = turn_of effect
+-- the turn of an effect, and this where there is none
+abbrev pub turn_or : Outcome → Option Effect → Outcome
+turn_or otherwise None = otherwise
+turn_or otherwise (Some effect) = turn_of effect
 
--- the turn of a node that begins this
+-- the turn of a node that begins this; there is no effect where an index would be too large
 abbrev pub turn_by : Node → Option Next → Outcome
 turn_by node None = not_ready
-turn_by node (Some next) = turn_if (run_effect (charged node next) next)
+turn_by node (Some next) = turn_or worn (run_effect (charged node next) next)
 
 -- the node goes on by itself
 abbrev pub run_turn : Node → Outcome
@@ -492,14 +490,9 @@ is_repeat node envelope = was_taken node.mail envelope.from envelope.number
 abbrev pub taking : Node → EnvelopeRecord → Node
 taking node envelope = record node { mail = with_taken envelope.from envelope.number node.mail }
 
--- the turn of what a message does; where it does nothing it was not expected
-abbrev pub turn_taking : Option Effect → Outcome
-turn_taking None = unexpected
-turn_taking (Some effect) = turn_of effect
-
--- the node takes a message that it hasn't taken before
+-- the node takes a message that it hasn't taken before; where there is no effect it does not expect it
 abbrev pub take_anew : Node → EnvelopeRecord → Outcome
-take_anew node envelope = turn_taking (takes (taking node envelope) envelope.from envelope.message)
+take_anew node envelope = turn_or unexpected (takes (taking node envelope) envelope.from envelope.message)
 
 -- the node takes a message; a repeat is an empty turn
 abbrev pub take_turn : Node → EnvelopeRecord → Outcome

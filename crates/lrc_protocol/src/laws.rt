@@ -10,10 +10,12 @@ ghost use Rattle.lrc_envelope.specs.Envelope.{EnvelopeRecord};
 ghost use Rattle.lrc_plain_laws.specs.Follows.{deeds_of, FollowsText};
 ghost use Rattle.lrc_protocol.specs.declared.event.Event.{Event};
 ghost use Rattle.lrc_protocol.specs.declared.event.Event.TheVariants.{Run, Deliver, Repeat};
-ghost use Rattle.lrc_protocol.specs.Node.{going, trapped, ended, thread_of, is_idle, Node, OptionsRecord};
+ghost use Rattle.lrc_protocol.specs.Node.{going, trapped, ended, is_idle, Node, OptionsRecord};
+ghost use Rattle.lrc_protocol.specs.Follows.{thread_of};
 ghost use Rattle.lrc_protocol.specs.Turn.{TurnRecord, done, not_ready, unexpected, run_turn, take_turn, empty_turn};
 ghost use Rattle.lrc_protocol.specs.Turn.{is_ready, is_addressed, is_repeat};
-ghost use Rattle.lrc_protocol.specs.Run.{Input, Logged, local, outcome_of, World, Flying, event_on, run_of};
+ghost use Rattle.lrc_protocol.specs.Run.{Input, Logged, outcome_of, World, Flying, event_on, run_of};
+ghost use Rattle.lrc_protocol.specs.Follows.{local};
 ghost use Rattle.lrc_protocol.specs.Rules.{TurnRule};
 ghost use Rattle.lrc_protocol.specs.Follows.{MakesTo, inputs_of, turns_of, deeds_in, numbers_to, sent_in};
 

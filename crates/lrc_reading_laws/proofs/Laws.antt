@@ -14,7 +14,8 @@ use Rattle.lrc_envelope.specs.Records.{PageReplyRecord}
 use Rattle.lrc_envelope.specs.declared.message.Message.TheVariants.{PageRequest, PageReply}
 use Rattle.lrc_protocol.specs.Pages.{written, is_readable, values_of, Need, due, copy_at}
 use Rattle.lrc_protocol.specs.Node.{Wait, access, discard, Node, OptionsRecord}
-use Rattle.lrc_protocol.specs.Run.{Input, EntryRecord, Logged, World, Flying, with_turn, pending}
+use Rattle.lrc_protocol.specs.Run.{Input, EntryRecord, Logged, World, Flying, with_turn}
+use Rattle.lrc_protocol.specs.Follows.{pending}
 use Rattle.lrc_protocol.proofs.Worlds.{IsEntry}
 use Rattle.lrc_protocol.proofs.Induction.{Comes}
 use Rattle.lrc_order_laws.proofs.Reached.{IsReached}

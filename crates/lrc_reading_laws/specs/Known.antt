@@ -8,7 +8,8 @@ use Rattle.lrc_envelope.specs.Envelope.{EnvelopeRecord}
 use Rattle.lrc_envelope.specs.Records.{IndexedChangesRecord, ChangesReplyRecord}
 use Rattle.lrc_envelope.specs.declared.message.Message.TheVariants.{ChangesReply}
 use Rattle.lrc_protocol.specs.Pages.{invalid, copy_at}
-use Rattle.lrc_protocol.specs.Run.{Logged, World, pending}
+use Rattle.lrc_protocol.specs.Run.{Logged, World}
+use Rattle.lrc_protocol.specs.Follows.{pending}
 use Rattle.lrc_node_laws.specs.Own.{IsAttached}
 use Rattle.lrc_reading_laws.specs.Made.{AreMade, StoresJust}
 use Rattle.lrc_reading_laws.specs.Written.{made_stamps, made_changes}

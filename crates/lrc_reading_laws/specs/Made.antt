@@ -11,7 +11,8 @@ use Rattle.lrc_barrier.specs.declared.arrival.Arrival.{Arrival}
 use Rattle.lrc_barrier.specs.Barrier.{ManagerRecord}
 use Rattle.lrc_protocol.specs.Times.{indices_by}
 use Rattle.lrc_protocol.specs.Node.{Node}
-use Rattle.lrc_protocol.specs.Run.{Logged, World, pending}
+use Rattle.lrc_protocol.specs.Run.{Logged, World}
+use Rattle.lrc_protocol.specs.Follows.{pending}
 
 -- each of these intervals was made
 abbrev pub AllMade : List IntervalRecord → List IntervalRecord → Type 0

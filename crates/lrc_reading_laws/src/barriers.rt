@@ -7,8 +7,9 @@ ghost use Rattle.lrc_envelope.specs.Records.{ArriveRecord, DepartRecord};
 ghost use Rattle.lrc_envelope.specs.declared.message.Message.TheVariants.{Arrive, Depart};
 ghost use Rattle.lrc_protocol.specs.declared.event.Event.{Event};
 ghost use Rattle.lrc_protocol.specs.Node.{OptionsRecord};
-ghost use Rattle.lrc_protocol.specs.Turn.{is_expected};
-ghost use Rattle.lrc_protocol.specs.Run.{Logged, World, pending, run_of};
+ghost use Rattle.lrc_protocol.specs.Follows.{is_expected};
+ghost use Rattle.lrc_protocol.specs.Run.{Logged, World, run_of};
+ghost use Rattle.lrc_protocol.specs.Follows.{pending};
 
 /// In every run each pending arrival would be accepted by its receiver now, the manager of barriers: it is the next of that node,
 /// and tells of just the node's own intervals above the last that came with an arrival and up to the node's time. (Keleher, Cox

@@ -7,8 +7,9 @@ ghost use Rattle.lrc_envelope.specs.Records.{LockGrantRecord};
 ghost use Rattle.lrc_envelope.specs.declared.message.Message.TheVariants.{LockGrant};
 ghost use Rattle.lrc_protocol.specs.declared.event.Event.{Event};
 ghost use Rattle.lrc_protocol.specs.Node.{OptionsRecord};
-ghost use Rattle.lrc_protocol.specs.Turn.{is_expected};
-ghost use Rattle.lrc_protocol.specs.Run.{Logged, World, pending, run_of};
+ghost use Rattle.lrc_protocol.specs.Follows.{is_expected};
+ghost use Rattle.lrc_protocol.specs.Run.{Logged, World, run_of};
+ghost use Rattle.lrc_protocol.specs.Follows.{pending};
 
 /// In every run each pending grant would be accepted by its receiver now: it awaits the token of that lock, and the grant tells of
 /// just the intervals, of each node, above the receiver's time and up to the grant's. (Keleher, Cox and Zwaenepoel 1992.)

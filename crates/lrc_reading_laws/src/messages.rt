@@ -5,8 +5,10 @@ ghost use Rattle.lrc_lang.specs.declared.program.Program.{Program};
 ghost use Rattle.lrc_envelope.specs.Envelope.{EnvelopeRecord};
 ghost use Rattle.lrc_protocol.specs.declared.event.Event.{Event};
 ghost use Rattle.lrc_protocol.specs.Node.{OptionsRecord};
-ghost use Rattle.lrc_protocol.specs.Turn.{is_expected, take_turn, unexpected};
-ghost use Rattle.lrc_protocol.specs.Run.{Logged, World, Flying, pending, run_of};
+ghost use Rattle.lrc_protocol.specs.Turn.{take_turn, unexpected};
+ghost use Rattle.lrc_protocol.specs.Follows.{is_expected};
+ghost use Rattle.lrc_protocol.specs.Run.{Logged, World, Flying, run_of};
+ghost use Rattle.lrc_protocol.specs.Follows.{pending};
 
 /// In every run no message is unexpected, of whatever kind and in whatever order it comes: each pending message would be accepted
 /// by its receiver now; and none in flight, also one that was taken before, is refused as unexpected.

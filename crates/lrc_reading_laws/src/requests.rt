@@ -10,8 +10,9 @@ ghost use Rattle.lrc_envelope.specs.declared.message.Message.TheVariants.{Change
 ghost use Rattle.lrc_protocol.specs.declared.event.Event.{Event};
 ghost use Rattle.lrc_protocol.specs.Pages.{Need, due, awaits_changes};
 ghost use Rattle.lrc_protocol.specs.Node.{access, needs_of, OptionsRecord};
-ghost use Rattle.lrc_protocol.specs.Turn.{is_expected};
-ghost use Rattle.lrc_protocol.specs.Run.{Logged, World, pending, run_of};
+ghost use Rattle.lrc_protocol.specs.Follows.{is_expected};
+ghost use Rattle.lrc_protocol.specs.Run.{Logged, World, run_of};
+ghost use Rattle.lrc_protocol.specs.Follows.{pending};
 ghost use Rattle.lrc_reading_laws.specs.Requested.{Wish, asks_for, brings, awaits};
 
 /// In every run each thing that a node awaits of another for a page, a base copy of a keeper or the changes of a maker, is on its

@@ -13,7 +13,7 @@ use Rattle.lrc_protocol.specs.declared.event.Event.{Event}
 use Rattle.lrc_protocol.specs.Node.{Node, OptionsRecord, fresh_node}
 use Rattle.lrc_protocol.specs.Turn.{TurnRecord, Outcome, done, not_ready, unexpected, worn}
 use Rattle.lrc_protocol.specs.Run.{Input, run, taken, EntryRecord, Logged, logged, too_large, logs as logs', logging, next_stamp, outcome_of}
-use Rattle.lrc_protocol.specs.Run.{MOST_STAMP, World, Flying, fresh_world, with_turn, with_mark, sent_by, inputs, input_to, after_input}
+use Rattle.lrc_protocol.specs.Run.{MOST_STAMP, World, Flying, fresh_world, with_turn, with_mark, sent_by, with_input, input_to, after_input}
 use Rattle.lrc_protocol.specs.Run.{delivers, event_on, step_of, run_of}
 use Rattle.lrc_protocol.proofs.Worlds.{get_set_same, get_set_other}
 use Rattle.lrc_weave.specs.Logs.{GoesOnBy, MayCome, AreLogs}
@@ -121,7 +121,7 @@ module _ (logs : List (List EntryRecord)) where
       let made : logs' l (taken flying.envelope) flying.stamp ≡ logged entry after =
       same_stamp l (taken flying.envelope) came flying.stamp stamps ∙ ap (λ i. logs' l i came) (sym t.input) ∙ turned in
       ap (delivers world left) (ap (λ f. slice_get f place) flown ∙ t.there)
-      ∙ ap (λ to. inputs world left to (taken flying.envelope) flying.stamp) t.receiver
+      ∙ ap (λ to. with_input world left to (taken flying.envelope) flying.stamp) t.receiver
       ∙ ap (input_to world left n (taken flying.envelope) flying.stamp) there
       ∙ ap (after_input world left n) made
 
@@ -130,7 +130,7 @@ module _ (logs : List (List EntryRecord)) where
       → world.flight ≡ flight → slice_get world.nodes n ≡ Some l → l.log ≡ before → MayCome entry.input came → logs' l entry.input came ≡ logged entry after
       → MakesNextTurn n before later entry flight event left → event_on world event ≡ Some (with_turn world left n entry after)
   event_is world flight left n came entry l after before later event flown there log_is may turned (runs i) =
-      ap (λ f. inputs world f n run 0) flown ∙ ap (input_to world flight n run 0) there
+      ap (λ f. with_input world f n run 0) flown ∙ ap (input_to world flight n run 0) there
       ∙ ap (after_input world flight n) (no_stamp l entry.input came entry after i may turned)
   event_is world flight left n came entry l after before later event flown there log_is may turned (takes_last {place = place} {flying = flying} t no_more) =
       ap (λ f. delivers world (remove f place) (slice_get world.flight place)) flown

@@ -11,7 +11,8 @@ use Rattle.lrc_clock.proofs.Intervals.{other_complete, other_sound}
 use Rattle.lrc_clock.proofs.Ordering.{cover_to_order, order_to_cover}
 use Rattle.lrc_protocol.specs.declared.event.Event.{Event}
 use Rattle.lrc_protocol.specs.Node.{OptionsRecord}
-use Rattle.lrc_protocol.specs.Run.{Logged, World as Run, pending, run_of}
+use Rattle.lrc_protocol.specs.Run.{Logged, World as Run, run_of}
+use Rattle.lrc_protocol.specs.Follows.{pending}
 use Rattle.lrc_protocol.proofs.Worlds.{run-whole}
 use Rattle.lrc_order_laws.specs.Tokens.{grants_of_lock}
 use Rattle.lrc_order_laws.proofs.Timed.{keeps, synchronized}

@@ -7,7 +7,7 @@ use Rattle.std.specs.Option.{option_to_list}
 use Rattle.lrc_envelope.specs.Envelope.{EnvelopeRecord}
 use Rattle.lrc_wire.specs.Reading.{envelope_of}
 use Rattle.lrc_protocol.specs.Run.{Input, taken, EntryRecord, Logged, Logging, logged, refused, too_large, logs, World as Run, Flying as Sent}
-use Rattle.lrc_protocol.specs.Run.{inputs, delivers, input_to, after_input, with_turn, sent_by}
+use Rattle.lrc_protocol.specs.Run.{with_input, delivers, input_to, after_input, with_turn, sent_by}
 use Rattle.lrc_protocol.proofs.Worlds.{IsEntry, get_set_same}
 use Rattle.lrc_node.specs.Logged.{TracedLog}
 use Rattle.lrc_node.specs.declared.fault.NodeFault.{NodeFault}
@@ -35,7 +35,7 @@ module _ (starts : Starts) (old mid new : World) (run : Run) (flight : List Sent
   entered : IsEntry l input entry after
   entered = entry_of l input came entry after turn
 
-  outcome_is : inputs run flight n input came ≡ Some (with_turn run flight n entry after)
+  outcome_is : with_input run flight n input came ≡ Some (with_turn run flight n entry after)
   outcome_is = ap (input_to run flight n input came) there ∙ ap (after_input run flight n) turn
 
   stands : slice_get (map (kept_node starts) (enumerate_from 0 run.nodes)) n ≡ Some before
@@ -75,7 +75,7 @@ module _ (starts : Starts) (old mid new : World) (run : Run) (flight : List Sent
   long holds = some-set log_is_long run.nodes n l after there (ap (list_any entry_is_long) entered.log_is ∙ some-end entry_is_long l.log entry holds)
 
   pub comes : (result : Result (Unit {0}) SimFault) → ((e : EntryRecord) → NodeLogsLast mid n e → AddsTo mid new n e result)
-      → PlaysTo starts new (inputs run flight n input came) result
+      → PlaysTo starts new (with_input run flight n input came) result
   comes (Ok u) follows = (with_turn run flight n entry after, outcome_is, adds (follows entry last))
   comes (Err Worn) follows = inr (with_turn run flight n entry after, outcome_is, long (follows entry last))
   comes (Err NoMemory) follows = tt
@@ -122,7 +122,7 @@ whole starts old mid run n input came outcome shows turns =
 pub goes : (starts : Starts) (old mid new : World) (run : Run) (n : ℕ) (input : Input) (came : ℕ) (outcome : Result (Unit {0}) NodeFault)
     (result : Result (Unit {0}) SimFault) → Shows starts old run → TurnsTo old.nodes.items mid.nodes.items n input came outcome
     → turn_made outcome ≡ Ok true → mid.flight ≡ old.flight → mid.acts ≡ old.acts → mid.keep ≡ old.keep → ((e : EntryRecord) → NodeLogsLast mid n e → AddsTo mid new n e result)
-    → PlaysTo starts new (inputs run run.flight n input came) result
+    → PlaysTo starts new (with_input run run.flight n input came) result
 goes starts old mid new run n input came outcome result shows turns made flight acts kept follows =
     let ok = made_turn outcome made in
     let by = subst (TurnsBy old.nodes.items mid.nodes.items n input came (slice_get run.nodes n)) ok.1
@@ -135,7 +135,7 @@ goes starts old mid new run n input came outcome result shows turns made flight 
 module _ (starts : Starts) (old mid : World) (run : Run) (n : ℕ) (input : Input) (came : ℕ) (shows : Shows starts old run)
     (flight : mid.flight ≡ old.flight) (acts : mid.acts ≡ old.acts) (kept : mid.keep ≡ old.keep) where
   abbrev After : Option Run
-  After = inputs run run.flight n input came
+  After = with_input run run.flight n input came
 
   after_none : slice_get run.nodes n ≡ None → After ≡ Some run
   after_none at = ap (input_to run run.flight n input came) at

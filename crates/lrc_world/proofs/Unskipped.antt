@@ -17,7 +17,7 @@ use Rattle.lrc_protocol.specs.declared.event.Event.{Event}
 use Rattle.lrc_protocol.specs.declared.event.Event.TheVariants as events
 use Rattle.lrc_protocol.specs.Node.{Node, OptionsRecord, Effect}
 use Rattle.lrc_protocol.specs.Turn.{begins, run_effect, charged, TurnRecord, Outcome, done, not_ready, unexpected, worn, turn_with, turn_of}
-use Rattle.lrc_protocol.specs.Turn.{turn_if, turn_by, run_turn, take_turn, is_ready, is_addressed, is_repeat, taking, empty_turn, turn_taking}
+use Rattle.lrc_protocol.specs.Turn.{turn_or, turn_by, run_turn, take_turn, is_ready, is_addressed, is_repeat, taking, empty_turn}
 use Rattle.lrc_protocol.specs.Turn.{takes}
 use Rattle.lrc_protocol.specs.Run.{Input, EntryRecord, Logged, Logging, logged, refused, too_large, logs, logging, next_stamp, MOST_STAMP}
 use Rattle.lrc_protocol.specs.Run.{World as Run, Flying as Sent, fresh_world, marked, sent_by, with_turn, with_mark, after_input, input_to}
@@ -59,7 +59,7 @@ with-ready : (effect : Effect) (o : Option (List EnvelopeRecord × List ℕ)) �
 with-ready effect None e = cc
 with-ready effect (Some (envelopes, sent)) e = cc
 
-if-expected : (o : Option Effect) → turn_if o ≡ unexpected → ⊥
+if-expected : (o : Option Effect) → turn_or worn o ≡ unexpected → ⊥
 if-expected None e = cc
 if-expected (Some effect) e = with-expected effect _ e
 
@@ -68,12 +68,12 @@ by-expected : (node : Node) (o : Option Next) → turn_by node o ≡ unexpected 
 by-expected node None e = cc
 by-expected node (Some next) e = if-expected (run_effect (charged node next) next) e
 
-taking-ready : (o : Option Effect) → turn_taking o ≡ not_ready → ⊥
+taking-ready : (o : Option Effect) → turn_or unexpected o ≡ not_ready → ⊥
 taking-ready None e = cc
 taking-ready (Some effect) e = with-ready effect _ e
 
 take_by : (addressed repeated : Bool) (node : Node) (o : Option Effect)
-    → cond addressed (cond repeated (done empty_turn node) (turn_taking o)) unexpected ≡ not_ready → ⊥
+    → cond addressed (cond repeated (done empty_turn node) (turn_or unexpected o)) unexpected ≡ not_ready → ⊥
 take_by true true node o e = cc
 take_by true false node o e = taking-ready o e
 take_by false repeated node o e = cc

@@ -12,7 +12,8 @@ use Rattle.lrc_envelope.specs.Envelope.{EnvelopeRecord}
 use Rattle.lrc_protocol.specs.declared.event.Event.{Event}
 use Rattle.lrc_protocol.specs.Node.{OptionsRecord}
 use Rattle.lrc_protocol.specs.Turn.{take_turn, unexpected}
-use Rattle.lrc_protocol.specs.Run.{Logged, World as Run, Flying, pending, run_of}
+use Rattle.lrc_protocol.specs.Run.{Logged, World as Run, Flying, run_of}
+use Rattle.lrc_protocol.specs.Follows.{pending}
 use Rattle.lrc_order_laws.specs.Tokens.{grants_of_lock, tokens_at_nodes}
 
 -- so it is at each moment of a program's run of these events: after the first of them, however many

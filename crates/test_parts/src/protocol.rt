@@ -3,7 +3,7 @@
 ghost use Rattle.std.specs.Prelude.{◌≡◌, ℕ, true, false, List, [], ◌∷◌, Some, None, length};
 ghost use Rattle.lrc_trace.specs.declared.act.Deed.TheVariants.{Quiet, Print, Read, Write, Acquire, Release, Arrive, Depart, End};
 ghost use Rattle.lrc_envelope.specs.declared.message.Message.TheVariants as message;
-ghost use Rattle.lrc_protocol.specs.Pages.{is_readable, copy_at, lacking};
+ghost use Rattle.lrc_protocol.specs.Pages.{is_readable, copy_at, missing_at};
 ghost use Rattle.test_parts.specs.Protocol.{deeds, deeds_by, sent, messages, of_nodes, interval, key, part, change, barrier_run, late_grant_run};
 ghost use Rattle.test_parts.specs.Protocol.{repeated_run, third_node_run, silent_run, repair_run, unread_run, collecting_run, collected_run, counted_run};
 ghost use Rattle.test_parts.specs.Protocol.{uncollected_run, late_repeat_run, worn_run};
@@ -85,7 +85,7 @@ fn a_silent_write_is_named()
 /// Changes are applied by weight: node 3 lacks three intervals of weights 1, 5 and 9, and reads what the last one wrote,
 /// although its changes come first.
 fn changes_are_applied_by_weight()
-    ensures order { of_nodes (λ node. lacking node.memory 0) unread_run ≡ Some (
+    ensures order { of_nodes (λ node. missing_at node.memory 0) unread_run ≡ Some (
         []
         ∷ (key 0 3 ∷ [])
         ∷ (key 1 2 ∷ key 0 3 ∷ [])

@@ -7,7 +7,7 @@ ghost use Rattle.lrc_exec.specs.declared.machine.Ask.TheVariants.{Barrier};
 ghost use Rattle.lrc_memory.specs.Turns.{CanBeAdded};
 ghost use Rattle.lrc_protocol.specs.Node.{nothing, acts, waiting};
 ghost use Rattle.lrc_protocol.specs.Turn.{are_arriving, departure_of, arrive_by, collects, learns, take_departure};
-ghost use Rattle.lrc_protocol.specs.Turn.{is_departure};
+ghost use Rattle.lrc_protocol.specs.Turn.{expects_departure};
 ghost use Rattle.lrc_protocol.specs.Barriers.{arrival_in};
 ghost use Rattle.lrc_node.specs.Barrier.{AreDepartures, arrive_step};
 ghost use Rattle.lrc_node.specs.Keeping.{CanCollect};
@@ -93,7 +93,7 @@ impl NodeState<'_> {
     /// Whether a departure is expected: it is from node 0, for the episode from which the node awaits to depart; its time
     /// covers the node's, and the node can learn the news.
     pub(crate) fn expects_departure(&self, from: u8, m: &Depart) -> bool
-        ensures { result ≡ is_departure self.now from m.now }
+        ensures { result ≡ expects_departure self.now from m.now }
     {
         from == 0
             && self.mail.wait().awaits_departure()

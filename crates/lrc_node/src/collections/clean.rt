@@ -3,7 +3,7 @@
 ghost use Rattle.std.specs.Prelude.{◌≡◌, ◌≢◌, All, AllPairs, IfOk, OnOk, [], fold};
 ghost use Rattle.std.specs.List.{list_all};
 ghost use Rattle.lrc_memory.specs.View.{SameMemory, with_known};
-ghost use Rattle.lrc_protocol.specs.Pages.{is_met, mended};
+ghost use Rattle.lrc_protocol.specs.Pages.{is_met, repaired};
 ghost use Rattle.lrc_protocol.specs.Barriers.{with_base};
 ghost use Rattle.lrc_protocol.specs.Node.{upkeep};
 ghost use Rattle.lrc_protocol.specs.Turn.{cleans, keeps_up};
@@ -31,7 +31,7 @@ fn are_met(needs: &[Need]) -> bool
 fn mend_all(memory: &mut Memory, needs: &[Need])
     requires apart { AllPairs (λ a b. a.page ≢ b.page) needs.now }
     requires can { All (CanMend memory.old.size memory.old.memory) needs.now }
-    ensures mended { memory.new ≡ with_known memory.old (fold mended memory.old.memory needs.now) }
+    ensures mended { memory.new ≡ with_known memory.old (fold repaired memory.old.memory needs.now) }
     ensures same { SameMemory memory.old memory.new }
 {
     for need in needs {

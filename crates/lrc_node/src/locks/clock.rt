@@ -8,7 +8,7 @@ ghost use Rattle.lrc_lock.specs.Lock.{IsPass, manager_of};
 ghost use Rattle.lrc_lock.specs.Managed.{managed_after, requested, request_answer};
 ghost use Rattle.lrc_lock.specs.declared.state.LockState.TheVariants.{Away};
 ghost use Rattle.lrc_protocol.specs.Times.{next_time, MOST_NUMBER};
-ghost use Rattle.lrc_protocol.specs.Locks.{fresh_locks, ticked, with_held, with_managed, with_time};
+ghost use Rattle.lrc_protocol.specs.Locks.{fresh_locks, ticked, with_held, with_managed, with_joined_time};
 ghost use Rattle.lrc_node.specs.Clock.{IsClock, SameClock};
 
 use lrc_lock::{Held, Managed, Pass};
@@ -92,7 +92,7 @@ impl Clock {
     /// The node learns what this time knows.
     pub(crate) fn learn(&mut self, time: &Time)
         requires { length time.now ≡ length self.old.time }
-        ensures clock { self.new ≡ with_time time.now self.old }
+        ensures clock { self.new ≡ with_joined_time time.now self.old }
         ensures same { SameClock self.old self.new }
     {
         self.time.join(time);

@@ -6,7 +6,7 @@ ghost use Rattle.lrc_order_laws.specs.Tokens.{is_awaited};
 ghost use Rattle.lrc_lock.specs.Held.{forwarded, lock_at, is_taken};
 ghost use Rattle.lrc_lock.specs.Lock.{manager_of};
 ghost use Rattle.lrc_memory.specs.Turns.{CanBeAdded};
-ghost use Rattle.lrc_protocol.specs.Turn.{forward_by, take_grant, is_request, is_forward, is_grant, passes_on};
+ghost use Rattle.lrc_protocol.specs.Turn.{forward_by, take_grant, expects_request, expects_forward, expects_grant, passes_on};
 ghost use Rattle.lrc_node.specs.State.{seen_effect, AreFor};
 ghost use Rattle.lrc_node.specs.Text.{asked_in};
 
@@ -20,7 +20,7 @@ use std::alloc::AllocError;
 impl NodeState<'_> {
     /// Whether a request of a lock is expected: this node manages it.
     pub(crate) fn expects_request(&self, m: &LockRequest) -> bool
-        ensures { result ≡ is_request self.now m.now }
+        ensures { result ≡ expects_request self.now m.now }
     {
         m.lock < self.locks && m.time.nodes() == self.nodes && m.lock % self.nodes == self.me
     }
@@ -51,7 +51,7 @@ impl NodeState<'_> {
     /// Whether a forwarded request is expected: its sender manages the lock, and the token is here or awaited, with no
     /// successor yet.
     pub(crate) fn expects_forward(&self, from: u8, m: &LockForward) -> bool
-        ensures { result ≡ (is_forward self.now from m.now
+        ensures { result ≡ (expects_forward self.now from m.now
             && is_taken (forwarded self.now.locks.held m.now.lock m.now.asker m.now.time)) }
     {
         m.lock < self.locks
@@ -79,7 +79,7 @@ impl NodeState<'_> {
 
     /// Whether a grant is expected: this node awaits it, and can learn the news.
     pub(crate) fn expects_grant(&self, m: &LockGrant) -> bool
-        ensures { result ≡ is_grant self.now m.now }
+        ensures { result ≡ expects_grant self.now m.now }
     {
         m.lock < self.locks && self.mail.wait().awaits_grant(m.lock) && self.can_learn(&m.news)
     }

@@ -2,7 +2,7 @@
 
 ghost use Rattle.std.specs.Prelude.{◌≡◌, ◌<◌, All, IfOk, length, true, false};
 ghost use Rattle.lrc_memory.specs.Turns.{is_mendable};
-ghost use Rattle.lrc_protocol.specs.Pages.{is_met, mended, copy_at};
+ghost use Rattle.lrc_protocol.specs.Pages.{is_met, repaired, copy_at};
 ghost use Rattle.lrc_protocol.specs.Node.{nothing, acts, waiting, with_memory};
 ghost use Rattle.lrc_protocol.specs.Turn.{fetches, reaches};
 ghost use Rattle.lrc_node.specs.Effects.{AccessesPage};
@@ -43,7 +43,7 @@ impl NodeState<'_> {
         requires of_page { All (λ key. key.page ≡ need.now.page) need.now.missing }
         requires next { AccessesPage self.old need.now.page (asked_in self.old.course) }
         ensures effect { IfOk result (λ effect.
-            acts letters.items (waiting nothing (with_memory self.old (mended self.old.memory need.now))) ≡ seen_effect effect self.new) }
+            acts letters.items (waiting nothing (with_memory self.old (repaired self.old.memory need.now))) ≡ seen_effect effect self.new) }
         ensures letters { IfOk result (λ effect. effect.letters ≡ letters) }
         ensures setting { self.new.setting ≡ self.old.setting }
     {

@@ -4,10 +4,10 @@ ghost use Rattle.std.specs.Prelude.{◌≡◌, ◌≢◌, AllPairs, IfOk, [], na
 ghost use Rattle.std.specs.List.{list_all};
 ghost use Rattle.lrc_need.specs.Wait.{seen_wait};
 ghost use Rattle.lrc_memory.specs.Turns.{AreAwaited};
-ghost use Rattle.lrc_protocol.specs.Pages.{with_changes, with_page};
+ghost use Rattle.lrc_protocol.specs.Pages.{changes_came, page_came};
 ghost use Rattle.lrc_protocol.specs.Node.{access, needs_of};
-ghost use Rattle.lrc_protocol.specs.Turn.{fetches, take_changes, take_page, takes_reply, with_needs, is_changes_reply};
-ghost use Rattle.lrc_protocol.specs.Turn.{is_page_reply};
+ghost use Rattle.lrc_protocol.specs.Turn.{fetches, take_changes, take_page, takes_reply, with_needs, expects_changes_reply};
+ghost use Rattle.lrc_protocol.specs.Turn.{expects_page_reply};
 ghost use Rattle.lrc_node.specs.Effects.{CanGoOn, with_parts};
 ghost use Rattle.lrc_node.specs.State.{seen_effect, AreFor};
 
@@ -71,7 +71,7 @@ impl NodeState<'_> {
 
     /// Whether changes are expected: just these of that page are awaited from their sender.
     pub(crate) fn expects_changes(&self, from: u8, m: &ChangesReply) -> bool
-        ensures { result ≡ is_changes_reply self.now from m.now }
+        ensures { result ≡ expects_changes_reply self.now from m.now }
     {
         let parts = m.parts.as_slice();
         m.page < self.pages()
@@ -86,7 +86,7 @@ impl NodeState<'_> {
         reply: &ChangesReply,
     ) -> Result<Effect, AllocError>
         requires awaited { AreAwaited self.old.options.size self.old.memory.store from reply.now.page reply.now.parts }
-        requires ready { CanGoOn (with_parts from reply.now self.old) (with_needs (with_changes reply.now.page from) self.old.mail.wait) }
+        requires ready { CanGoOn (with_parts from reply.now self.old) (with_needs (changes_came reply.now.page from) self.old.mail.wait) }
         ensures effect { IfOk result (λ effect. take_changes self.old from reply.now ≡ seen_effect effect self.new) }
         ensures to { IfOk result (λ effect. AreFor self.new.setting.nodes effect.letters.items) }
     {
@@ -98,7 +98,7 @@ impl NodeState<'_> {
 
     /// Whether a base copy is expected: it is awaited from its sender, and has a value for each word of a page.
     pub(crate) fn expects_page(&self, from: u8, m: &PageReply) -> bool
-        ensures { result ≡ is_page_reply self.now from m.now }
+        ensures { result ≡ expects_page_reply self.now from m.now }
     {
         m.page < self.pages()
             && m.copy.words().len() == usize::from(self.options.size.words())
@@ -108,7 +108,7 @@ impl NodeState<'_> {
     /// A base copy comes that was asked of its keeper.
     pub(crate) fn take_page(&mut self, reply: &PageReply) -> Result<Effect, AllocError>
         requires apart { AllPairs (λ a b. a.page ≢ b.page) (needs_of self.old.mail.wait) }
-        requires ready { CanGoOn self.old (with_needs (with_page reply.now.page reply.now.values) self.old.mail.wait) }
+        requires ready { CanGoOn self.old (with_needs (page_came reply.now.page reply.now.values) self.old.mail.wait) }
         ensures effect { IfOk result (λ effect. take_page self.old reply.now ≡ seen_effect effect self.new) }
         ensures to { IfOk result (λ effect. AreFor self.new.setting.nodes effect.letters.items) }
     {

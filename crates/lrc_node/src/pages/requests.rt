@@ -5,7 +5,7 @@ ghost use Rattle.std.specs.List.{list_all};
 ghost use Rattle.lrc_store.specs.Store.{notice_at};
 ghost use Rattle.lrc_protocol.specs.Barriers.{base_at};
 ghost use Rattle.lrc_protocol.specs.Node.{sends};
-ghost use Rattle.lrc_protocol.specs.Turn.{changes_reply_to, page_reply_by, is_changes_request, is_page_request};
+ghost use Rattle.lrc_protocol.specs.Turn.{changes_reply_to, page_reply_by, expects_changes_request, expects_page_request};
 ghost use Rattle.lrc_memory.specs.View.{SameMemory};
 ghost use Rattle.lrc_node.specs.Requests.{part_in};
 ghost use Rattle.lrc_node.specs.State.{seen_effect, AreFor};
@@ -60,7 +60,7 @@ fn parts_of(
 impl NodeState<'_> {
     /// Whether a request of changes is expected: each index is of a stored interval of this node that names the page.
     pub(crate) fn expects_changes_request(&self, m: &ChangesRequest) -> bool
-        ensures { result ≡ is_changes_request self.now m.now }
+        ensures { result ≡ expects_changes_request self.now m.now }
     {
         m.page < self.pages() && has_notices(&self.memory, self.me, m.page, m.indices.as_slice())
     }
@@ -86,7 +86,7 @@ impl NodeState<'_> {
 
     /// Whether a request of a base copy is expected: it is from another node, and one is kept here.
     pub(crate) fn expects_page_request(&self, from: u8, m: &PageRequest) -> bool
-        ensures { result ≡ (is_page_request self.now from m.now && is_some (base_at self.now.memory m.now)) }
+        ensures { result ≡ (expects_page_request self.now from m.now && is_some (base_at self.now.memory m.now)) }
     {
         m.page < self.pages() && from != self.me && self.memory.base(m.page).is_some()
     }

@@ -1,7 +1,7 @@
 // Each kind of message: whether a node expects it, and what it does with it.
 
 ghost use Rattle.std.specs.Prelude.{◌≡◌, ◌<◌, IfOk, Some};
-ghost use Rattle.lrc_protocol.specs.Turn.{is_expected};
+ghost use Rattle.lrc_protocol.specs.Follows.{is_expected};
 ghost use Rattle.lrc_node.specs.State.{seen_effect, AreFor};
 ghost use Rattle.lrc_node.specs.Taking.{CanTake, effect_of};
 

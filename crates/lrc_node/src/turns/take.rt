@@ -2,8 +2,9 @@
 
 ghost use Rattle.std.specs.Prelude.{◌≡◌, ◌⊎◌, ◌<◌, true, false, IfErr, IfOk, Err};
 ghost use Rattle.lrc_node_laws.specs.Reached.{IsReached};
-ghost use Rattle.lrc_protocol.specs.Turn.{is_expected, done, is_addressed, is_repeat, take_turn, taking, unexpected, worn};
-ghost use Rattle.lrc_protocol.specs.Turn.{turn_taking};
+ghost use Rattle.lrc_protocol.specs.Turn.{done, is_addressed, is_repeat, take_turn, taking, unexpected, worn};
+ghost use Rattle.lrc_protocol.specs.Follows.{is_expected};
+ghost use Rattle.lrc_protocol.specs.Turn.{turn_or};
 ghost use Rattle.lrc_node.specs.Taking.{effect_of};
 ghost use Rattle.lrc_node.specs.Taken.{RefusesTake};
 ghost use Rattle.lrc_node.specs.declared.fault.NodeFault.TheVariants.{NoMemory, Unexpected, Worn};
@@ -60,9 +61,9 @@ impl NodeState<'_> {
         requires from { envelope.now.from < self.old.setting.nodes }
         requires anew { is_repeat self.old envelope.now ≡ false }
         requires expected { is_expected self.old envelope.now.from envelope.now.message ≡ true }
-        ensures done { IfOk result (λ turn. turn_taking (effect_of (taking self.old envelope.now) envelope.now.from envelope.now.message) ≡ done turn self.new) }
+        ensures done { IfOk result (λ turn. turn_or unexpected (effect_of (taking self.old envelope.now) envelope.now.from envelope.now.message) ≡ done turn self.new) }
         ensures refused { IfErr result (λ fault.
-            ((fault ≡ Worn) × (turn_taking (effect_of (taking self.old envelope.now) envelope.now.from envelope.now.message) ≡ worn)) ⊎ (fault ≡ NoMemory)) }
+            ((fault ≡ Worn) × (turn_or unexpected (effect_of (taking self.old envelope.now) envelope.now.from envelope.now.message) ≡ worn)) ⊎ (fault ≡ NoMemory)) }
     {
         self.mail.note_taken(envelope.from, envelope.number)?;
         let effect = self.take_message(envelope.from, &envelope.message)?;

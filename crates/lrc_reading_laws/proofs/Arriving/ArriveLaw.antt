@@ -16,8 +16,10 @@ use Rattle.lrc_barrier.specs.Barrier.{ManagerRecord}
 use Rattle.lrc_protocol.specs.Times.{are_between}
 use Rattle.lrc_protocol.specs.Barriers.{last_arrived}
 use Rattle.lrc_protocol.specs.Node.{OptionsRecord}
-use Rattle.lrc_protocol.specs.Turn.{is_expected, are_arriving}
-use Rattle.lrc_protocol.specs.Run.{Logged, World, pending, run_of}
+use Rattle.lrc_protocol.specs.Turn.{are_arriving}
+use Rattle.lrc_protocol.specs.Follows.{is_expected}
+use Rattle.lrc_protocol.specs.Run.{Logged, World, run_of}
+use Rattle.lrc_protocol.specs.Follows.{pending}
 use Rattle.lrc_protocol.specs.declared.event.Event.{Event}
 use Rattle.lrc_protocol.proofs.Expecting.{conditions}
 use Rattle.lrc_order_laws.specs.Barriers.{accepts_arrival}

@@ -25,8 +25,10 @@ use Rattle.lrc_protocol.specs.Times.{indices_by}
 use Rattle.lrc_protocol.specs.Locks.{Locks}
 use Rattle.lrc_protocol.specs.Barriers.{arrival_in, Barrier}
 use Rattle.lrc_protocol.specs.Node.{Letter, Wait, nothing, departure, OptionsRecord}
-use Rattle.lrc_protocol.specs.Turn.{is_learnable, is_expected, departure_of}
-use Rattle.lrc_protocol.specs.Run.{Input, EntryRecord, Logged, World, Flying, with_turn, pending, run_of}
+use Rattle.lrc_protocol.specs.Turn.{is_learnable, departure_of}
+use Rattle.lrc_protocol.specs.Follows.{is_expected}
+use Rattle.lrc_protocol.specs.Run.{Input, EntryRecord, Logged, World, Flying, with_turn, run_of}
+use Rattle.lrc_protocol.specs.Follows.{pending}
 use Rattle.lrc_protocol.proofs.Worlds.{IsEntry, get_set_same, get_set_other}
 use Rattle.lrc_protocol.proofs.Induction.{Comes}
 use Rattle.lrc_protocol.proofs.Expecting.{conditions}

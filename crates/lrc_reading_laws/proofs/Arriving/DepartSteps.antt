@@ -16,8 +16,10 @@ use Rattle.lrc_barrier.specs.declared.arrival.Arrival.{Arrival}
 use Rattle.lrc_barrier.specs.Barrier.{ManagerRecord, is_accepted, arrived}
 use Rattle.lrc_protocol.specs.Times.{indices_by}
 use Rattle.lrc_protocol.specs.Node.{Letter, Node, OptionsRecord}
-use Rattle.lrc_protocol.specs.Turn.{is_expected, TurnRecord, is_repeat, empty_turn, done}
-use Rattle.lrc_protocol.specs.Run.{Input, EntryRecord, Logged, outcome_of, World, Flying, with_turn, pending}
+use Rattle.lrc_protocol.specs.Turn.{TurnRecord, is_repeat, empty_turn, done}
+use Rattle.lrc_protocol.specs.Follows.{is_expected}
+use Rattle.lrc_protocol.specs.Run.{Input, EntryRecord, Logged, outcome_of, World, Flying, with_turn}
+use Rattle.lrc_protocol.specs.Follows.{pending}
 use Rattle.lrc_protocol.specs.Follows.{turns_of}
 use Rattle.lrc_protocol.proofs.Worlds.{IsEntry}
 use Rattle.lrc_protocol.proofs.Induction.{Comes}

@@ -14,8 +14,10 @@ use Rattle.lrc_envelope.specs.Records.{ChangesReplyRecord, IndexedChangesRecord,
 use Rattle.lrc_envelope.specs.declared.message.Message.TheVariants.{ChangesReply, PageReply}
 use Rattle.lrc_protocol.specs.Pages.{Need, awaits_changes, awaits_page}
 use Rattle.lrc_protocol.specs.Node.{needs_of, Node, OptionsRecord}
-use Rattle.lrc_protocol.specs.Turn.{is_page, are_changes, is_expected}
-use Rattle.lrc_protocol.specs.Run.{Logged, World, pending}
+use Rattle.lrc_protocol.specs.Turn.{is_page, are_changes}
+use Rattle.lrc_protocol.specs.Follows.{is_expected}
+use Rattle.lrc_protocol.specs.Run.{Logged, World}
+use Rattle.lrc_protocol.specs.Follows.{pending}
 use Rattle.lrc_protocol.specs.Follows.{turns_of}
 use Rattle.lrc_protocol.proofs.Expecting.{conditions}
 use Rattle.lrc_order_laws.proofs.Shape.{NodeShape, shape_at}

@@ -12,8 +12,10 @@ use Rattle.lrc_envelope.specs.declared.message.Message.TheVariants.{PageRequest}
 use Rattle.lrc_protocol.specs.Pages.{Copy, valid, written, invalid, absent, copy_at, due, awaits_page}
 use Rattle.lrc_protocol.specs.Barriers.{base_at}
 use Rattle.lrc_protocol.specs.Node.{needs_of, Node, OptionsRecord}
-use Rattle.lrc_protocol.specs.Turn.{is_page, is_expected}
-use Rattle.lrc_protocol.specs.Run.{Logged, World, pending}
+use Rattle.lrc_protocol.specs.Turn.{is_page}
+use Rattle.lrc_protocol.specs.Follows.{is_expected}
+use Rattle.lrc_protocol.specs.Run.{Logged, World}
+use Rattle.lrc_protocol.specs.Follows.{pending}
 use Rattle.lrc_protocol.proofs.Expecting.{conditions}
 use Rattle.lrc_order_laws.proofs.Reached.{IsReached}
 use Rattle.lrc_node_laws.specs.Needs.{FitsBase, FitsNeed}

@@ -13,10 +13,12 @@ use Rattle.lrc_store.specs.Store.{notice_at}
 use Rattle.lrc_envelope.specs.Envelope.{EnvelopeRecord}
 use Rattle.lrc_envelope.specs.Records.{ChangesRequestRecord}
 use Rattle.lrc_envelope.specs.declared.message.Message.TheVariants.{ChangesRequest}
-use Rattle.lrc_protocol.specs.Pages.{lacking, Need, awaits_changes, indices_of, unknown_of}
+use Rattle.lrc_protocol.specs.Pages.{missing_at, Need, awaits_changes, indices_of, unknown_of}
 use Rattle.lrc_protocol.specs.Node.{Wait, nothing, grant, departure, access, upkeep, discard, needs_of, OptionsRecord}
-use Rattle.lrc_protocol.specs.Turn.{is_page, is_expected}
-use Rattle.lrc_protocol.specs.Run.{Logged, World, pending}
+use Rattle.lrc_protocol.specs.Turn.{is_page}
+use Rattle.lrc_protocol.specs.Follows.{is_expected}
+use Rattle.lrc_protocol.specs.Run.{Logged, World}
+use Rattle.lrc_protocol.specs.Follows.{pending}
 use Rattle.lrc_protocol.proofs.Worlds.{run-whole}
 use Rattle.lrc_protocol.proofs.Expecting.{conditions}
 use Rattle.lrc_order_laws.proofs.Pending.{get_within}
@@ -76,14 +78,14 @@ module _ (program : Program) (nodes : ℕ) (options : OptionsRecord) (world : Wo
       let asker_reached = reached program nodes options r.events world r.runs e.from l by.1 in
       let page : is_page l.node m.page ≡ true =
       needed_page l.node asker_reached m.page (awaits_changes m.page e.to m.indices) (λ need is. eqb-true need.page m.page (and_parts _ _ is).0) awaits in
-      let just : m.indices ≡ indices_of (unknown_of l.node.memory.store (lacking l.node.memory m.page)) e.to =
+      let just : m.indices ≡ indices_of (unknown_of l.node.memory.store (missing_at l.node.memory m.page)) e.to =
       asked-exactly l.node.setting.nodes (pages_of l.node.setting.words l.node.options.size) (words_of l.node.options.size) l.node.memory
       (needs_of l.node.mail.wait) m.page e.to m.indices (needed_at l.node asker_reached).each awaits in
       let covers : Covers l.node.memory.collected k.node.memory.collected =
       newest e.from e.to l k by.1 at l.node.mail.wait refl (awaits_changes m.page e.to m.indices) awaits in
       let stored : All (λ index. is_some (notice_at k.node.memory.store (record { node = k.node.setting.me; index = index; page = m.page })) ≡ true) m.indices =
       subst (All (λ index. is_some (notice_at k.node.memory.store (record { node = k.node.setting.me; index = index; page = m.page })) ≡ true))
-      (ap (indices_of (unknown_of l.node.memory.store (lacking l.node.memory m.page))) me ∙ sym just)
+      (ap (indices_of (unknown_of l.node.memory.store (missing_at l.node.memory m.page))) me ∙ sym just)
       (asked_stored made l.node k.node asker_reached (reached program nodes options r.events world r.runs e.to k at)
       (stores_just program nodes options r.events world r.runs made are e.from l by.1)
       (stores_just program nodes options r.events world r.runs made are e.to k at)

@@ -19,7 +19,8 @@ use Rattle.lrc_barrier.specs.declared.departure.Departure.{Departure}
 use Rattle.lrc_barrier.specs.Barrier.{ManagerRecord, first_manager, with_arrival, arrivals_of, departed}
 use Rattle.lrc_protocol.specs.Node.{Letter, nothing, departure, OptionsRecord, fresh_node}
 use Rattle.lrc_protocol.specs.Turn.{departure_of}
-use Rattle.lrc_protocol.specs.Run.{Input, EntryRecord, Logged, World, Flying, fresh_world, with_turn, pending}
+use Rattle.lrc_protocol.specs.Run.{Input, EntryRecord, Logged, World, Flying, fresh_world, with_turn}
+use Rattle.lrc_protocol.specs.Follows.{pending}
 use Rattle.lrc_protocol.specs.Follows.{turns_of}
 use Rattle.lrc_protocol.proofs.Worlds.{IsEntry, get_set_same, get_set_other, fresh_at}
 use Rattle.lrc_protocol.proofs.Induction.{Comes}

@@ -11,7 +11,8 @@ use Rattle.lrc_envelope.specs.declared.message.Message.TheVariants.{ChangesReque
 use Rattle.lrc_protocol.specs.Pages.{Base, unneeded, due, come, Asked, Need, asks_just, awaits_changes, is_due_from, awaits_page}
 use Rattle.lrc_protocol.specs.Node.{Letter, Wait, nothing, grant, departure, access, upkeep, discard, needs_of, Node, OptionsRecord}
 use Rattle.lrc_protocol.specs.Turn.{letter, changes_request_of, page_request_of, requests_of}
-use Rattle.lrc_protocol.specs.Run.{Logged, World, pending}
+use Rattle.lrc_protocol.specs.Run.{Logged, World}
+use Rattle.lrc_protocol.specs.Follows.{pending}
 use Rattle.lrc_order_laws.proofs.Sends.{letter_in}
 use Rattle.lrc_order_laws.proofs.Flows.{count_of, count-append, count-cons}
 use Rattle.lrc_order_laws.proofs.Moves.{counted_in}

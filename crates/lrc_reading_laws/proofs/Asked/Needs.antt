@@ -8,7 +8,7 @@ use Rattle.std.proofs.lemmas.List.Elements.{All-head, All-tail, All-map}
 use Rattle.lrc_store.specs.declared.key.Key.{Key}
 use Rattle.lrc_envelope.specs.declared.message.Message.TheVariants.{ChangesRequest, PageRequest}
 use Rattle.lrc_protocol.specs.Pages.{Memory, Base, unneeded, due, come, Asked, Need, indices_of, some_asked, asked_of, unknown_of, asks_just}
-use Rattle.lrc_protocol.specs.Pages.{awaits_changes, is_due, is_due_from, awaits_page, is_nothing, is_met, with_changes, with_page}
+use Rattle.lrc_protocol.specs.Pages.{awaits_changes, is_due, is_due_from, awaits_page, is_nothing, is_met, changes_came, page_came}
 use Rattle.lrc_protocol.specs.Node.{Letter}
 use Rattle.lrc_protocol.specs.Turn.{letter, changes_request_of, page_request_of, requests_of}
 use Rattle.lrc_node_laws.specs.Needs.{FitsNeed}
@@ -187,16 +187,16 @@ module _ (Fits : Need → Type 0) (change : Need → Need) (page : ℕ) (awaits 
 pub page_comes : (from page : ℕ) (values : List ℕ) (test : Letter → Bool) (needs : List Need) → Ascends (map (λ (need : Need). need.page) needs)
     → list_any (awaits_page page from) needs ≡ true
     → count_by test (flat_map requests_of needs)
-    ≡ cond (test (letter from (PageRequest page))) 1 0 + count_by test (flat_map requests_of (map (with_page page values) needs))
+    ≡ cond (test (letter from (PageRequest page))) 1 0 + count_by test (flat_map requests_of (map (page_came page values) needs))
 page_comes from page values test needs h e =
-    needs-less (λ need. Unit {0}) (with_page page values) page (awaits_page page from) test (cond (test (letter from (PageRequest page))) 1 0)
+    needs-less (λ need. Unit {0}) (page_came page values) page (awaits_page page from) test (cond (test (letter from (PageRequest page))) 1 0)
     (λ need ne. unchanged need (record need { base = come values }) (need.page == page) (ne_eqb need.page page ne))
     (λ need u is.
     let parts : _ = and_parts _ _ is in
     let here : need.page ≡ page = eqb-true need.page page parts.0 in (
       here,
       page-less from values test need (need.page == page) need.base refl parts.0 parts.1
-          ∙ ap (λ p. cond {A = ℕ} (test (letter from (PageRequest p))) 1 0 + count_by test (requests_of (with_page page values need))) here,
+          ∙ ap (λ p. cond {A = ℕ} (test (letter from (PageRequest p))) 1 0 + count_by test (requests_of (page_came page values need))) here,
     ))
     needs (λ k d within. tt) h e
 
@@ -206,9 +206,9 @@ pub changes_come : (nodes size words : ℕ) (memory : Memory) (from page : ℕ) 
     → list_any (awaits_changes page from indices) needs ≡ true
     → count_by test (flat_map requests_of needs)
     ≡ cond (test (letter from (ChangesRequest (record { page = page; indices = indices })))) 1 0
-    + count_by test (flat_map requests_of (map (with_changes page from) needs))
+    + count_by test (flat_map requests_of (map (changes_came page from) needs))
 changes_come nodes size words memory from page indices test needs f h e =
-    needs-less (FitsNeed nodes size words memory) (with_changes page from) page (awaits_changes page from indices) test
+    needs-less (FitsNeed nodes size words memory) (changes_came page from) page (awaits_changes page from indices) test
     (cond (test (letter from (ChangesRequest (record { page = page; indices = indices })))) 1 0)
     (λ need ne.
     unchanged need (record need { asked = filter (λ (asked : Asked). not (asked.maker == from)) need.asked }) (need.page == page) (ne_eqb need.page page ne))
@@ -220,7 +220,7 @@ changes_come nodes size words memory from page indices test needs f h e =
           (subst (λ asked. Ascends (makers asked)) (sym fits.asked) (asked-ascend nodes (unknown_of memory.store need.missing))) parts.1
           ∙ ap
           (λ p. cond {A = ℕ} (test (letter from (ChangesRequest (record { page = p; indices = indices })))) 1 0
-          + count_by test (requests_of (with_changes page from need))) here,
+          + count_by test (requests_of (changes_came page from need))) here,
     ))
     needs f h e
 

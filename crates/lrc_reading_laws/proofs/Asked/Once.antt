@@ -8,10 +8,11 @@ use Rattle.lrc_lang.specs.declared.program.Program.{Program}
 use Rattle.lrc_page.specs.Page.{words_of}
 use Rattle.lrc_page.specs.Place.{pages_of}
 use Rattle.lrc_envelope.specs.declared.message.Message.TheVariants.{ChangesRequest, PageRequest}
-use Rattle.lrc_protocol.specs.Pages.{come, Asked, Need, asks_just, awaits_changes, is_due_from, awaits_page, with_changes, with_page}
+use Rattle.lrc_protocol.specs.Pages.{come, Asked, Need, asks_just, awaits_changes, is_due_from, awaits_page, changes_came, page_came}
 use Rattle.lrc_protocol.specs.Node.{Letter, needs_of, Node, OptionsRecord}
 use Rattle.lrc_protocol.specs.Turn.{letter, requests_of}
-use Rattle.lrc_protocol.specs.Run.{Logged, World, pending}
+use Rattle.lrc_protocol.specs.Run.{Logged, World}
+use Rattle.lrc_protocol.specs.Follows.{pending}
 use Rattle.lrc_order_laws.proofs.Reached.{IsReached}
 use Rattle.lrc_node_laws.specs.Reached.{IsReached as IsReachedNode}
 use Rattle.lrc_node_laws.proofs.Always.{needed_at}
@@ -30,7 +31,7 @@ none_awaits awaits change h [] = refl
 none_awaits awaits change h (need ∷ needs) =
     or_from (awaits (change need)) (list_any awaits (map change needs)) (h need) (none_awaits awaits change h needs)
 
-after_page : (q page : ℕ) (values : List ℕ) (need : Need) → awaits_page page q (with_page page values need) ≡ false
+after_page : (q page : ℕ) (values : List ℕ) (need : Need) → awaits_page page q (page_came page values need) ≡ false
 after_page q page values need = by_test (need.page == page) refl
   where
     by_test : (b : Bool) → (need.page == page) ≡ b → awaits_page page q (if b then record need { base = come values } else need) ≡ false
@@ -47,7 +48,7 @@ none_left q indices (a ∷ asked) =
     (and_left (a.maker == q) (pointwise ◌==◌ a.indices indices) (not-true (a.maker == q) e)) (none_left q indices asked))
     (λ e. none_left q indices asked)
 
-after_changes : (q page : ℕ) (indices : List ℕ) (need : Need) → awaits_changes page q indices (with_changes page q need) ≡ false
+after_changes : (q page : ℕ) (indices : List ℕ) (need : Need) → awaits_changes page q indices (changes_came page q need) ≡ false
 after_changes q page indices need = by_test (need.page == page) refl
   where
     by_test : (b : Bool) → (need.page == page) ≡ b
@@ -89,12 +90,12 @@ passes q w b e = and_from b (q == q) e (eq-eqb q q refl)
 counted : (node : Node) → IsReachedNode node → (q : ℕ) (w : Wish)
     → count_by (wanted_test q w) (awaited node.mail.wait) ≡ cond (list_any (awaits q w) (needs_of node.mail.wait)) 1 0
 counted node r q (base_copy page) =
-    once (wanted_test q (base_copy page)) (awaits_page page q) (with_page page []) (needs_of node.mail.wait) (letter q (PageRequest page))
+    once (wanted_test q (base_copy page)) (awaits_page page q) (page_came page []) (needs_of node.mail.wait) (letter q (PageRequest page))
     (passes q (base_copy page) (page == page) (same-itself (base_copy page)))
     (λ e. page_comes q page [] (wanted_test q (base_copy page)) (needs_of node.mail.wait) (needed_at node r).apart e)
     (after_page q page []) (λ some h. page_awaited q page some h)
 counted node r q (changes page indices) =
-    once (wanted_test q (changes page indices)) (awaits_changes page q indices) (with_changes page q) (needs_of node.mail.wait)
+    once (wanted_test q (changes page indices)) (awaits_changes page q indices) (changes_came page q) (needs_of node.mail.wait)
     (letter q (ChangesRequest (record { page = page; indices = indices })))
     (passes q (changes page indices) ((page == page) && pointwise ◌==◌ indices indices) (same-itself (changes page indices)))
     (λ e.

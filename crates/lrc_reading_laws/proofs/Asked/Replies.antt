@@ -11,7 +11,8 @@ use Rattle.lrc_lock.specs.Held.{LockStep, released, pass_of, held_after}
 use Rattle.lrc_protocol.specs.Pages.{Need}
 use Rattle.lrc_protocol.specs.Barriers.{base_at}
 use Rattle.lrc_protocol.specs.Node.{Letter, Node, Effect, with_tokens, acts}
-use Rattle.lrc_protocol.specs.Turn.{arrival_of, grants_of, requests_of, changes_reply_to, page_reply_to, is_expected, charged, TurnRecord}
+use Rattle.lrc_protocol.specs.Turn.{arrival_of, grants_of, requests_of, changes_reply_to, page_reply_to, charged, TurnRecord}
+use Rattle.lrc_protocol.specs.Follows.{is_expected}
 use Rattle.lrc_protocol.specs.Turn.{taking}
 use Rattle.lrc_protocol.specs.Run.{Input}
 use Rattle.lrc_protocol.specs.Rules.{take_request, page_at, need_at, closed_for, upkeep_at, RunRule, run_hit, run_miss, run_repair, run_acquire}

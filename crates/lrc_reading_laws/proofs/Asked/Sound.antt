@@ -26,7 +26,8 @@ use Rattle.lrc_envelope.specs.declared.message.Message.TheVariants.{ChangesReque
 use Rattle.lrc_protocol.specs.declared.event.Event.{Event}
 use Rattle.lrc_protocol.specs.Node.{Letter, Node, OptionsRecord}
 use Rattle.lrc_protocol.specs.Turn.{own_part, changes_reply_to, page_reply_to}
-use Rattle.lrc_protocol.specs.Run.{World, fresh_world, with_turn, pending, run_of}
+use Rattle.lrc_protocol.specs.Run.{World, fresh_world, with_turn, run_of}
+use Rattle.lrc_protocol.specs.Follows.{pending}
 use Rattle.lrc_protocol.specs.Follows.{turns_of}
 use Rattle.lrc_order_laws.proofs.Shape.{NodeShape, shape_at}
 use Rattle.lrc_order_laws.proofs.Sends.{letter_in}

@@ -10,7 +10,7 @@ use Rattle.lrc_store.specs.Interval.{IntervalRecord, index_of, by_weight}
 use Rattle.lrc_store.specs.Order.{placed, ascending_part}
 use Rattle.lrc_store.specs.Store.{intervals_of, notice_at, changes_at, is_missing, key_of, missing_of}
 use Rattle.lrc_store.proofs.Orders.{Contains-first, Contains-later, cases_Contains, none_Contains}
-use Rattle.lrc_protocol.specs.Pages.{Copy, valid, written, invalid, absent, copy_at, lacking, lacking_in, indices_of, unknown_of}
+use Rattle.lrc_protocol.specs.Pages.{Copy, valid, written, invalid, absent, copy_at, missing_at, missing_in, indices_of, unknown_of}
 use Rattle.lrc_protocol.specs.Node.{Node}
 use Rattle.lrc_node_laws.specs.Reached.{IsReached}
 use Rattle.lrc_node_laws.specs.Remembered.{IsBetween}
@@ -101,7 +101,7 @@ module _ (made : List IntervalRecord) (asker maker : Node) (r : IsReached asker)
       (λ i there missing. interval_stored since above i there missing)
       (intervals_of asker.memory.store) (All-contains_itself (intervals_of asker.memory.store)))
 
-  lacking_stored : (copy : Copy) → IsBetween asker.locks.time asker.memory page copy → All Stored (lacking_in asker.memory page copy)
+  lacking_stored : (copy : Copy) → IsBetween asker.locks.time asker.memory page copy → All Stored (missing_in asker.memory page copy)
   lacking_stored (valid values) b = All-nil Stored
   lacking_stored (written values twin) b = All-nil Stored
   lacking_stored (invalid values since) b = missing_stored since (b.0 maker.setting.me)
@@ -109,15 +109,15 @@ module _ (made : List IntervalRecord) (asker maker : Node) (r : IsReached asker)
 
   -- what is asked of the maker
   pub asked_stored : All (λ index. is_some (notice_at maker.memory.store (record { node = maker.setting.me; index = index; page = page })) ≡ true)
-      (indices_of (unknown_of asker.memory.store (lacking asker.memory page)) maker.setting.me)
+      (indices_of (unknown_of asker.memory.store (missing_at asker.memory page)) maker.setting.me)
   unfolding Stored Named
   asked_stored =
-      let keys : List Key = unknown_of asker.memory.store (lacking asker.memory page) in
+      let keys : List Key = unknown_of asker.memory.store (missing_at asker.memory page) in
       let mine : Key → Bool = λ (key : Key). key.node == maker.setting.me in
       All-part nat_lt (λ index. true) Named Named (λ index named e. named) (map (λ (key : Key). key.index) (filter mine keys))
       (All-map Named (λ (key : Key). key.index) (filter mine keys)
       (All-weaker (λ (key : Key). Stored key × (mine key ≡ true)) (λ (key : Key). Named key.index)
       (λ key is. is.0 (eqb-true key.node maker.setting.me is.1)) (filter mine keys)
       (filter-both mine Stored keys
-      (All-filter (λ (key : Key). is_none (changes_at asker.memory.store key)) Stored (lacking asker.memory page)
+      (All-filter (λ (key : Key). is_none (changes_at asker.memory.store key)) Stored (missing_at asker.memory page)
       (lacking_stored (copy_at asker.memory page) (between_at asker r page))))))

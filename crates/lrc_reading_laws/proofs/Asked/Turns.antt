@@ -12,7 +12,7 @@ use Rattle.lrc_envelope.specs.declared.message.Message.TheVariants.{ChangesReque
 use Rattle.lrc_lock.specs.declared.state.Pass.{Pass}
 use Rattle.lrc_lock.specs.Held.{LockStep, released, pass_of, held_after}
 use Rattle.lrc_barrier.specs.declared.departure.Departure.{Departure}
-use Rattle.lrc_protocol.specs.Pages.{Memory, Need, with_changes, with_page}
+use Rattle.lrc_protocol.specs.Pages.{Memory, Need, changes_came, page_came}
 use Rattle.lrc_protocol.specs.Node.{Letter, Wait, nothing, access, upkeep, needs_of, Course, going, trapped, ended, Node, Effect, with_tokens}
 use Rattle.lrc_protocol.specs.Node.{acts, acts_by}
 use Rattle.lrc_protocol.specs.Turn.{letter, arrival_of, grants_of, departure_of, discards_to, requests_of, own_part, with_needs, charged}
@@ -121,14 +121,14 @@ module _ (node : Node) where
         changes_come node.setting.nodes (pages_in (view_of node)) (words_of node.options.size) node.memory from m.page indices test
         (needs_of node.mail.wait) needed.each needed.apart some
         ∙ ap (λ after. cond {A = ℕ} (test asked) 1 0 + count_by test after)
-        (sym (ap (flat_map requests_of) (needs-with (with_changes m.page from) node.mail.wait))))
+        (sym (ap (flat_map requests_of) (needs-with (changes_came m.page from) node.mail.wait))))
     gets-keep message memory change (brings_base_copy m lt counted some) letters l =
         let asked : Letter = letter from (PageRequest m.page) in
         gets me from (PageReply m) (base_copy m.page) asked letters was _ refl refl refl refl l
         (λ test.
         page_comes from m.page m.values test (needs_of node.mail.wait) needed.apart some
         ∙ ap (λ after. cond {A = ℕ} (test asked) 1 0 + count_by test after)
-        (sym (ap (flat_map requests_of) (needs-with (with_page m.page m.values) node.mail.wait))))
+        (sym (ap (flat_map requests_of) (needs-with (page_came m.page m.values) node.mail.wait))))
 
     -- of a node that waits so
     reply-keep : (message : Message) (memory : Memory) (change : Need → Need) (wait : Wait) → Brings now from message memory change

@@ -12,7 +12,7 @@ use Rattle.lrc_store.specs.Interval.{IntervalRecord, index_of}
 use Rattle.lrc_store.specs.Store.{intervals_of}
 use Rattle.lrc_protocol.specs.Times.{is_named}
 use Rattle.lrc_protocol.specs.Pages.{Copy, valid, written, invalid, absent, is_readable, Memory, copy_at, keeper_at, unneeded, Asked, Need}
-use Rattle.lrc_protocol.specs.Pages.{base_of, need_of, is_due_from, awaits_page, with_changes, with_page}
+use Rattle.lrc_protocol.specs.Pages.{base_of, need_of, is_due_from, awaits_page, changes_came, page_came}
 use Rattle.lrc_protocol.specs.Barriers.{least, namers_of, kept_pages, with_keepers}
 use Rattle.lrc_protocol.specs.Node.{Wait, nothing, grant, departure, access, upkeep, discard, needs_of, Node, OptionsRecord}
 use Rattle.lrc_protocol.specs.Turn.{with_needs}
@@ -154,27 +154,27 @@ settled-none (access need) s = tt
 settled-none (upkeep collection needs) s = cc
 settled-none (discard collection) s = tt
 
-same-base : (page from : ℕ) (need : Need) → (with_changes page from need).base ≡ need.base
+same-base : (page from : ℕ) (need : Need) → (changes_came page from need).base ≡ need.base
 same-base page from need = by_test (need.page == page)
   where
     by_test : (b : Bool) → (if b then record need { asked = filter (λ (asked : Asked). not (asked.maker == from)) need.asked } else need).base ≡ need.base
     by_test true = refl
     by_test false = refl
 
-changes-none : (page from : ℕ) (w : Wait) → NoBase w → NoBase (with_needs (with_changes page from) w)
+changes-none : (page from : ℕ) (w : Wait) → NoBase w → NoBase (with_needs (changes_came page from) w)
 changes-none page from nothing h = tt
 changes-none page from (grant lock) h = tt
 changes-none page from departure h = tt
 changes-none page from (access need) h = tt
 changes-none page from (upkeep collection needs) h =
-    All-map (λ (need : Need). need.base ≡ unneeded) (with_changes page from) needs
-    (All-weaker (λ (need : Need). need.base ≡ unneeded) (λ (need : Need). (with_changes page from need).base ≡ unneeded)
+    All-map (λ (need : Need). need.base ≡ unneeded) (changes_came page from) needs
+    (All-weaker (λ (need : Need). need.base ≡ unneeded) (λ (need : Need). (changes_came page from need).base ≡ unneeded)
     (λ need is. same-base page from need ∙ is) needs h)
 changes-none page from (discard collection) h = tt
 
 -- a base copy that comes was asked for
 page-none : (page from : ℕ) (values : List ℕ) (w : Wait) → list_any (awaits_page page from) (needs_of w) ≡ true → NoBase w
-    → NoBase (with_needs (with_page page values) w)
+    → NoBase (with_needs (page_came page values) w)
 page-none page from values nothing e h = tt
 page-none page from values (grant lock) e h = tt
 page-none page from values departure e h = tt

@@ -10,7 +10,8 @@ use Rattle.lrc_envelope.specs.Envelope.{EnvelopeRecord}
 use Rattle.lrc_protocol.specs.declared.event.Event.{Event}
 use Rattle.lrc_protocol.specs.Node.{Wait, Letter, Node, OptionsRecord}
 use Rattle.lrc_protocol.specs.Turn.{TurnRecord, is_repeat}
-use Rattle.lrc_protocol.specs.Run.{Input, Logged, World, fresh_world, with_turn, pending, run_of}
+use Rattle.lrc_protocol.specs.Run.{Input, Logged, World, fresh_world, with_turn, run_of}
+use Rattle.lrc_protocol.specs.Follows.{pending}
 use Rattle.lrc_protocol.specs.Follows.{turns_of}
 use Rattle.lrc_protocol.proofs.Ruled.{by_rule}
 use Rattle.lrc_protocol.proofs.Worlds.{get_set_same, get_set_other, fresh_at}

@@ -17,11 +17,13 @@ use Rattle.lrc_envelope.specs.declared.message.Message.TheVariants.{ChangesReque
 use Rattle.lrc_copies.proofs.Members.{Contains-first, Contains-later, cases_Contains, none_Contains}
 use Rattle.lrc_protocol.specs.Times.{indices_by, next_time}
 use Rattle.lrc_protocol.specs.Pages.{Copy, valid, written, invalid, absent, copy_at, with_interval, changes_or_none, with_part}
-use Rattle.lrc_protocol.specs.Turn.{is_expected, after_close, grants_of, own_part, changes_reply_to, TurnRecord}
+use Rattle.lrc_protocol.specs.Turn.{after_close, grants_of, own_part, changes_reply_to, TurnRecord}
+use Rattle.lrc_protocol.specs.Follows.{is_expected}
 use Rattle.lrc_lock.specs.declared.state.Pass.{Pass}
 use Rattle.lrc_exec.specs.Meaning.{Next, quiet, prints, reads, writes, acquires, releases, arrives, departs, traps, ends}
 use Rattle.lrc_protocol.specs.Node.{Letter, Node, OptionsRecord}
-use Rattle.lrc_protocol.specs.Run.{Input, Logged, World, fresh_world, with_turn, pending}
+use Rattle.lrc_protocol.specs.Run.{Input, Logged, World, fresh_world, with_turn}
+use Rattle.lrc_protocol.specs.Follows.{pending}
 use Rattle.lrc_protocol.proofs.Worlds.{get_set_same, fresh_at}
 use Rattle.lrc_protocol.proofs.Expecting.{fulfilled}
 use Rattle.lrc_order_laws.proofs.Shift.{AllFrom}

@@ -12,7 +12,7 @@ use Rattle.lrc_envelope.specs.declared.message.Message.TheVariants.{LockGrant, A
 use Rattle.lrc_lock.specs.declared.state.Pass.{Pass}
 use Rattle.lrc_barrier.specs.declared.departure.Departure.{Departure}
 use Rattle.lrc_protocol.specs.Times.{next_time}
-use Rattle.lrc_protocol.specs.Pages.{Memory, with_interval, changes_or_none, Base, unneeded, due, come, Asked, Need, mended, with_part}
+use Rattle.lrc_protocol.specs.Pages.{Memory, with_interval, changes_or_none, Base, unneeded, due, come, Asked, Need, repaired, with_part}
 use Rattle.lrc_protocol.specs.Barriers.{with_base, Collection, clean_memory}
 use Rattle.lrc_protocol.specs.Node.{Letter, Course, going, trapped, ended, Node, Effect, sends, acts, acts_by, memory_after, with_memory}
 use Rattle.lrc_protocol.specs.Turn.{requests_of, page_request_of, changes_request_of, grants_of, departure_of, discards_to, cleans, charged}
@@ -136,12 +136,12 @@ bases-store : (kept : List ℕ) (memory : Memory) → (fold with_base memory kep
 bases-store [] memory = refl
 bases-store (page ∷ kept) memory = bases-store kept (with_base memory page)
 
-mends-store : (needs : List Need) (memory : Memory) → (fold mended memory needs).store ≡ memory.store
+mends-store : (needs : List Need) (memory : Memory) → (fold repaired memory needs).store ≡ memory.store
 mends-store [] memory = refl
-mends-store (need ∷ needs) memory = mends-store needs (mended memory need)
+mends-store (need ∷ needs) memory = mends-store needs (repaired memory need)
 
 clean-store : (needs : List Need) (kept : List ℕ) (memory : Memory) → (clean_memory needs kept memory).store ≡ memory.store
-clean-store needs kept memory = bases-store kept (fold mended memory needs) ∙ mends-store needs memory
+clean-store needs kept memory = bases-store kept (fold repaired memory needs) ∙ mends-store needs memory
 
 -- ---- effects
 

@@ -14,7 +14,8 @@ use Rattle.lrc_barrier.specs.Barrier.{ManagerRecord}
 use Rattle.lrc_protocol.specs.Barriers.{Barrier}
 use Rattle.lrc_protocol.specs.Node.{departure, OptionsRecord}
 use Rattle.lrc_protocol.specs.Turn.{done, is_repeat}
-use Rattle.lrc_protocol.specs.Run.{Input, taken, outcome_of, EntryRecord, Logged, World, Flying, with_turn, pending}
+use Rattle.lrc_protocol.specs.Run.{Input, taken, outcome_of, EntryRecord, Logged, World, Flying, with_turn}
+use Rattle.lrc_protocol.specs.Follows.{pending}
 use Rattle.lrc_protocol.proofs.Worlds.{IsEntry, get_set_same}
 use Rattle.lrc_protocol.proofs.Induction.{Comes}
 use Rattle.lrc_order_laws.specs.Barriers.{says_clean, clean_from, discard_to, noted_of, awaits_depart, awaits_word}

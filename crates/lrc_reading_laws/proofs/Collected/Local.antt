@@ -13,8 +13,8 @@ use Rattle.lrc_store.specs.Store.{intervals_of, is_missing}
 use Rattle.lrc_store.proofs.Orders.{cases_Contains, none_Contains}
 use Rattle.lrc_protocol.specs.Times.{is_named, next_time}
 use Rattle.lrc_protocol.specs.Pages.{Copy, valid, written, invalid, absent, is_readable, values_of, closed, invalidated, dropped, Memory}
-use Rattle.lrc_protocol.specs.Pages.{copy_at, with_written_word, with_interval, learned, keeper_at, due, come, Need, base_of, mended, with_changes}
-use Rattle.lrc_protocol.specs.Pages.{with_page}
+use Rattle.lrc_protocol.specs.Pages.{copy_at, with_written_word, with_interval, learned, keeper_at, due, come, Need, base_of, repaired, changes_came}
+use Rattle.lrc_protocol.specs.Pages.{page_came}
 use Rattle.lrc_protocol.specs.Barriers.{kept_pages, with_keepers, with_base, base_at, Collection, clean_memory}
 use Rattle.lrc_protocol.specs.Node.{Wait, nothing, grant, departure, access, upkeep, discard, Node, OptionsRecord}
 use Rattle.lrc_protocol.specs.Turn.{with_needs}
@@ -71,7 +71,7 @@ still-due keepers change k departure h = tt
 still-due keepers change k (upkeep collection needs) h = tt
 still-due keepers change k (discard collection) h = tt
 
-changes-due : (page from : ℕ) → KeepsDue (with_changes page from)
+changes-due : (page from : ℕ) → KeepsDue (changes_came page from)
 changes-due page from need keeper e = by_test (need.page == page) e
   where
     by_test : (b : Bool)
@@ -81,7 +81,7 @@ changes-due page from need keeper e = by_test (need.page == page) e
     by_test true e = (e, refl)
     by_test false e = (e, refl)
 
-page-due : (page : ℕ) (values : List ℕ) → KeepsDue (with_page page values)
+page-due : (page : ℕ) (values : List ℕ) → KeepsDue (page_came page values)
 page-due page values need keeper e = by_test (need.page == page) e
   where
     by_test : (b : Bool) → (if b then record need { base = come values } else need).base ≡ due keeper
@@ -108,8 +108,8 @@ due-kept v _ (cleans collection needs w met) h = tt
 due-kept v _ (discards collection w) h = tt
 due-kept v _ (misses page w lt b n) h = λ keeper e. base_of-due (keeper_at v.memory page) keeper (copy_at v.memory page) e
 due-kept v _ (mends need w met) h = tt
-due-kept v _ (gets_changes from m r) h = still-due v.memory.keepers (with_changes m.page from) (changes-due m.page from) v.wait h
-due-kept v _ (gets_page from page values s) h = still-due v.memory.keepers (with_page page values) (page-due page values) v.wait h
+due-kept v _ (gets_changes from m r) h = still-due v.memory.keepers (changes_came m.page from) (changes-due m.page from) v.wait h
+due-kept v _ (gets_page from page values s) h = still-due v.memory.keepers (page_came page values) (page-due page values) v.wait h
 
 -- ---- no page that a node keeps is absent there
 
@@ -201,7 +201,7 @@ elsewhere-kept v _ (discards collection w) r n b own h = λ page lt e mine.
     (dropped_absent (copy_at v.memory page) (sym (map-copy dropped refl v.memory.copies page) ∙ e)) mine
 elsewhere-kept v _ (misses page w lt x y) r n b own h = h
 elsewhere-kept v _ (mends need w met) r n b own h =
-    still-elsewhere v.setting.me v.memory (mended v.memory need) (length-set v.memory.copies need.page _) (mended-keeps v.memory need) refl h
+    still-elsewhere v.setting.me v.memory (repaired v.memory need) (length-set v.memory.copies need.page _) (mended-keeps v.memory need) refl h
 elsewhere-kept v _ (gets_changes from m e) r n b own h = h
 elsewhere-kept v _ (gets_page from page values e) r n b own h = h
 
@@ -249,7 +249,7 @@ cleans-has : (v : View) (collection : Collection) (needs : List Need) → Ranged
 cleans-has v collection needs r n w = λ page there.
     let kept : FitsKept v.setting.me v.memory (upkeep collection needs) = subst (FitsKept v.setting.me v.memory) w n.kept in
     let is : IsKept v.setting.me v.memory page = from_kept v.setting.me v.memory page (subst (λ l. Contains l page) kept.0 there) in
-    base-there collection.kept (fold mended v.memory needs) page
+    base-there collection.kept (fold repaired v.memory needs) page
     (omega (arith, is.in_range, r.memory.keepers, r.memory.bases, (mends-same needs v.memory).bases)) there
 
 has-kept : (v after : View) → Change v after → Ranged v → Needed v → HasKept v.memory.bases v.wait → HasKept after.memory.bases after.wait
@@ -265,8 +265,8 @@ has-kept v _ (cleans collection needs w met) r n h = cleans-has v collection nee
 has-kept v _ (discards collection w) r n h = tt
 has-kept v _ (misses page w lt x y) r n h = tt
 has-kept v _ (mends need w met) r n h = tt
-has-kept v _ (gets_changes from m e) r n h = still-has v.memory.bases (with_changes m.page from) v.wait h
-has-kept v _ (gets_page from page values e) r n h = still-has v.memory.bases (with_page page values) v.wait h
+has-kept v _ (gets_changes from m e) r n h = still-has v.memory.bases (changes_came m.page from) v.wait h
+has-kept v _ (gets_page from page values e) r n h = still-has v.memory.bases (page_came page values) v.wait h
 
 -- ---- every node that is reached
 

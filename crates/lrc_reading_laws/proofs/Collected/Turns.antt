@@ -16,7 +16,7 @@ use Rattle.lrc_envelope.specs.declared.message.Message.{Message}
 use Rattle.lrc_envelope.specs.declared.message.Message.TheVariants.{Depart, Discard}
 use Rattle.lrc_protocol.specs.Times.{is_named, next_time}
 use Rattle.lrc_protocol.specs.Pages.{Copy, valid, written, invalid, absent, is_readable, values_of, after_write, closed, invalidated, dropped}
-use Rattle.lrc_protocol.specs.Pages.{Memory, copy_at, with_interval, learned, keeper_at, Need, mended}
+use Rattle.lrc_protocol.specs.Pages.{Memory, copy_at, with_interval, learned, keeper_at, Need, repaired}
 use Rattle.lrc_protocol.specs.Barriers.{least, with_base, base_at, collected_at, Collection, clean_memory}
 use Rattle.lrc_protocol.specs.Node.{Letter, Wait, nothing, grant, departure, access, upkeep, discard, Course, going, Node, Effect, makes, sends}
 use Rattle.lrc_protocol.specs.Node.{acts, acts_by}
@@ -85,18 +85,18 @@ dropped_absent absent e = refl
 pub no_valid : {Y : Type 0} (values : List ℕ) → valid values ≡ absent → Y
 no_valid values e = let never : ⊥ = cc in absurd never
 
-pub mended-keeps : (memory : Memory) (need : Need) → KeepsCopies memory (mended memory need)
+pub mended-keeps : (memory : Memory) (need : Need) → KeepsCopies memory (repaired memory need)
 mended-keeps memory need page =
     set-copy (λ copy. copy ≡ absent → copy_at memory page ≡ absent) memory.copies need.page page _ (λ r e. no_valid _ e) (λ e. e)
 
-pub mends-keeps : (needs : List Need) (memory : Memory) → KeepsCopies memory (fold mended memory needs)
+pub mends-keeps : (needs : List Need) (memory : Memory) → KeepsCopies memory (fold repaired memory needs)
 mends-keeps [] memory page e = e
-mends-keeps (need ∷ needs) memory page e = mended-keeps memory need page (mends-keeps needs (mended memory need) page e)
+mends-keeps (need ∷ needs) memory page e = mended-keeps memory need page (mends-keeps needs (repaired memory need) page e)
 
 pub clean-keeps : (needs : List Need) (kept : List ℕ) (memory : Memory) → KeepsCopies memory (clean_memory needs kept memory)
 clean-keeps needs kept memory page e =
     mends-keeps needs memory page
-    (subst (λ (copies : List Copy). slice_index_or copies page absent ≡ absent) (bases-copies kept (fold mended memory needs)) e)
+    (subst (λ (copies : List Copy). slice_index_or copies page absent ≡ absent) (bases-copies kept (fold repaired memory needs)) e)
 
 pub learned-keeps : (before : List ℕ) (intervals : List IntervalRecord) (memory : Memory) → KeepsCopies memory (learned before intervals memory)
 learned-keeps before intervals memory page e =
@@ -134,13 +134,13 @@ pub bases-keep : (kept : List ℕ) (memory : Memory) → KeepsBases memory (fold
 bases-keep [] memory page h = h
 bases-keep (at ∷ kept) memory page h = bases-keep kept (with_base memory at) page (base-keeps memory at page h)
 
-pub mends-bases : (needs : List Need) (memory : Memory) → (fold mended memory needs).bases ≡ memory.bases
+pub mends-bases : (needs : List Need) (memory : Memory) → (fold repaired memory needs).bases ≡ memory.bases
 mends-bases [] memory = refl
-mends-bases (need ∷ needs) memory = mends-bases needs (mended memory need)
+mends-bases (need ∷ needs) memory = mends-bases needs (repaired memory need)
 
 clean-bases : (needs : List Need) (kept : List ℕ) (memory : Memory) → KeepsBases memory (clean_memory needs kept memory)
 clean-bases needs kept memory page h =
-    bases-keep kept (fold mended memory needs) page
+    bases-keep kept (fold repaired memory needs) page
     (ap (λ (bases : List (Option (List ℕ))). is_some (slice_index_or bases page None)) (mends-bases needs memory) ∙ h)
 
 -- a node goes on keeping the base copies of the pages that it keeps
@@ -181,7 +181,7 @@ then_alike a b c x y = record {
   bases = λ page h. y.bases page (x.bases page h);
 }
 
-mended-alike : (memory : Memory) (need : Need) → Alike memory (mended memory need)
+mended-alike : (memory : Memory) (need : Need) → Alike memory (repaired memory need)
 mended-alike memory need =
     record { collected = refl; keepers = refl; intervals = refl; copies = mended-keeps memory need; bases = λ page h. h }
 
@@ -401,7 +401,7 @@ module _ (node : Node) (envelope : EnvelopeRecord) where
   take-kind from message e (take_last_reply {memory = memory} {change = change} need b at met) =
       acted node _ [] _
       (stays node _ _ refl (sym (ap in_collection at))
-      (then_alike node.memory memory (mended memory (change need)) (brings-alike from message memory change b) (mended-alike memory (change need))))
+      (then_alike node.memory memory (repaired memory (change need)) (brings-alike from message memory change b) (mended-alike memory (change need))))
   take-kind from message e (take_kept_reply {memory = memory} {change = change} collection needs b at unmet) =
       rested node _ [] _ (stays node _ _ refl (sym (ap in_collection at)) (brings-alike from message memory change b))
   take-kind from message e (take_last_kept_reply {memory = memory} {change = change} collection needs b at met) =

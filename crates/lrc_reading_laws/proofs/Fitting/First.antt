@@ -18,7 +18,7 @@ use Rattle.lrc_copies.proofs.Stamping.{covered-le, le-covered, cut_longer}
 use Rattle.lrc_copies.proofs.Timing.{uncovered_fits, untouched_fits_closed, closed_fits}
 use Rattle.lrc_protocol.specs.Times.{next_time, is_named}
 use Rattle.lrc_protocol.specs.Pages.{Copy, valid, written, invalid, absent, changes_of, closed, invalidated, come, Need, base_of, need_of}
-use Rattle.lrc_protocol.specs.Pages.{with_changes, with_page, Memory, copy_at, keeper_at, with_interval, learned}
+use Rattle.lrc_protocol.specs.Pages.{changes_came, page_came, Memory, copy_at, keeper_at, with_interval, learned}
 use Rattle.lrc_protocol.specs.Node.{Wait, nothing, needs_of}
 use Rattle.lrc_protocol.specs.Turn.{with_needs}
 use Rattle.lrc_node_laws.specs.Ranges.{IsWholeCopy}
@@ -232,11 +232,11 @@ new-needs wrote made collected nodes memory pages =
     (λ k d within. base_of-fits wrote made collected _ (keeper_at memory _) (copy_at memory _))
 
 pub changed-needs : (wrote : Wrote) (made : List StoredRecord) (collected : List ℕ) (page from : ℕ) (wait : Wait)
-    → All (NeedFits wrote made collected) (needs_of wait) → All (NeedFits wrote made collected) (needs_of (with_needs (with_changes page from) wait))
+    → All (NeedFits wrote made collected) (needs_of wait) → All (NeedFits wrote made collected) (needs_of (with_needs (changes_came page from) wait))
 changed-needs wrote made collected page from wait h =
-    subst (All (NeedFits wrote made collected)) (sym (needs-with (with_changes page from) wait))
-    (All-map (NeedFits wrote made collected) (with_changes page from) (needs_of wait)
-    (All-weaker (NeedFits wrote made collected) (λ need. NeedFits wrote made collected (with_changes page from need))
+    subst (All (NeedFits wrote made collected)) (sym (needs-with (changes_came page from) wait))
+    (All-map (NeedFits wrote made collected) (changes_came page from) (needs_of wait)
+    (All-weaker (NeedFits wrote made collected) (λ need. NeedFits wrote made collected (changes_came page from need))
     (λ need f. by_test need f (need.page == page)) (needs_of wait) h))
   where
     by_test : (need : Need) → NeedFits wrote made collected need → (b : Bool)
@@ -246,11 +246,11 @@ changed-needs wrote made collected page from wait h =
 
 pub sent-needs : (wrote : Wrote) (made : List StoredRecord) (collected : List ℕ) (page : ℕ) (values : List ℕ) (wait : Wait)
     → FitsTime wrote made collected page values → All (NeedFits wrote made collected) (needs_of wait)
-    → All (NeedFits wrote made collected) (needs_of (with_needs (with_page page values) wait))
+    → All (NeedFits wrote made collected) (needs_of (with_needs (page_came page values) wait))
 sent-needs wrote made collected page values wait fits h =
-    subst (All (NeedFits wrote made collected)) (sym (needs-with (with_page page values) wait))
-    (All-map (NeedFits wrote made collected) (with_page page values) (needs_of wait)
-    (All-weaker (NeedFits wrote made collected) (λ need. NeedFits wrote made collected (with_page page values need))
+    subst (All (NeedFits wrote made collected)) (sym (needs-with (page_came page values) wait))
+    (All-map (NeedFits wrote made collected) (page_came page values) (needs_of wait)
+    (All-weaker (NeedFits wrote made collected) (λ need. NeedFits wrote made collected (page_came page values need))
     (λ need f. by_test need f (need.page == page) refl) (needs_of wait) h))
   where
     by_test : (need : Need) → NeedFits wrote made collected need → (b : Bool) → (need.page == page) ≡ b

@@ -14,7 +14,7 @@ use Rattle.lrc_page.specs.Place.{page_of, offset_of}
 use Rattle.lrc_store.specs.declared.key.Key.{Key}
 use Rattle.lrc_store.specs.Store.{StoredRecord, changes_at}
 use Rattle.lrc_protocol.specs.Pages.{Copy, valid, written, invalid, absent, is_readable, values_of, Base, unneeded, due, come, Need, is_due}
-use Rattle.lrc_protocol.specs.Pages.{is_met, first_values, mended, Memory, copy_at, lacking_in, repaired}
+use Rattle.lrc_protocol.specs.Pages.{is_met, first_values, repaired, Memory, copy_at, missing_in, all_applied}
 use Rattle.lrc_protocol.specs.Barriers.{Collection, base_at, clean_memory}
 use Rattle.lrc_protocol.specs.Node.{nothing, access, upkeep, discard, needs_of, OptionsRecord}
 use Rattle.lrc_node_laws.specs.Needs.{FitsBase, FitsNeed}
@@ -79,8 +79,8 @@ module _ (count words : ℕ) (wrote : Wrote) (made : List StoredRecord) (facts :
     (s : Stored made time memory.collected memory.store) (below : Covers time memory.collected) where
   mend-fits : (page : ℕ) (copy : Copy) (base : Base) → FitsBase nodes words copy base → is_due base ≡ false → length (first_values copy base) ≡ words
       → CopyFits wrote made time page copy → BaseFits wrote made memory.collected page base → IsBetween time memory page copy
-      → All (λ (key : Key). is_none (changes_at memory.store key) ≡ false) (lacking_in memory page copy)
-      → FitsTime wrote made time page (repaired memory.store (first_values copy base) (lacking_in memory page copy))
+      → All (λ (key : Key). is_none (changes_at memory.store key) ≡ false) (missing_in memory page copy)
+      → FitsTime wrote made time page (all_applied memory.store (first_values copy base) (missing_in memory page copy))
   mend-fits page (invalid values since) unneeded f d long c b w k =
       repair_fits made facts.found page words (wrote page) (facts.untouched page) memory.store memory.collected time since s.is_store s.just w.0
       s.known k count values facts.stamped long (facts.sound page) c.1 s.time_cut w.1 c.0
@@ -97,30 +97,30 @@ module _ (count words : ℕ) (wrote : Wrote) (made : List StoredRecord) (facts :
 -- what a page is mended to
 abbrev MendsTo : Wrote → List StoredRecord → List ℕ → Memory → Need → Type 0
 MendsTo wrote made time memory need =
-    FitsTime wrote made time need.page (repaired memory.store (first_values (copy_at memory need.page) need.base) need.missing)
+    FitsTime wrote made time need.page (all_applied memory.store (first_values (copy_at memory need.page) need.base) need.missing)
 
 -- pages are mended one after another
 all_mended : (wrote : Wrote) (made : List StoredRecord) (time : List ℕ) (needs : List Need) (memory : Memory)
     → ((page : ℕ) → CopyFits wrote made time page (copy_at memory page)) → All (MendsTo wrote made time memory) needs
-    → Ascends (map (λ (need : Need). need.page) needs) → (page : ℕ) → CopyFits wrote made time page (copy_at (fold mended memory needs) page)
+    → Ascends (map (λ (need : Need). need.page) needs) → (page : ℕ) → CopyFits wrote made time page (copy_at (fold repaired memory needs) page)
 all_mended wrote made time [] memory h m apart = h
 all_mended wrote made time (need ∷ needs) memory h m apart =
-    let mend : Copy = valid (repaired memory.store (first_values (copy_at memory need.page) need.base) need.missing) in
+    let mend : Copy = valid (all_applied memory.store (first_values (copy_at memory need.page) need.base) need.missing) in
     let others : All (λ (other : Need). need.page < other.page) needs =
     All-unmap (λ page. need.page < page) (λ (other : Need). other.page) needs apart.0 in
     let rest : All (MendsTo wrote made time memory) needs = All-tail (MendsTo wrote made time memory) need needs m in
-    all_mended wrote made time needs (mended memory need)
+    all_mended wrote made time needs (repaired memory need)
     (set_fits wrote made time memory.copies need.page mend (All-head (MendsTo wrote made time memory) need needs m) h)
     (λ k d within.
     let other : Need = slice_index_or needs k d in
     let later : need.page < other.page = others k d within in
-    subst (λ copy. FitsTime wrote made time other.page (repaired memory.store (first_values copy other.base) other.missing))
+    subst (λ copy. FitsTime wrote made time other.page (all_applied memory.store (first_values copy other.base) other.missing))
     (sym (get_or-set_other memory.copies need.page other.page mend absent (λ e. omega (arith, later, e)))) (rest k d within))
     apart.1
 
-mends-bases : (needs : List Need) (memory : Memory) → (fold mended memory needs).bases ≡ memory.bases
+mends-bases : (needs : List Need) (memory : Memory) → (fold repaired memory needs).bases ≡ memory.bases
 mends-bases [] memory = refl
-mends-bases (need ∷ needs) memory = mends-bases needs (mended memory need)
+mends-bases (need ∷ needs) memory = mends-bases needs (repaired memory need)
 
 -- ---- what follows in a turn
 
@@ -133,7 +133,7 @@ module _ (count : ℕ) (wrote : Wrote) (made : List StoredRecord) (v : View) (fa
       → MendsTo wrote made v.time v.memory need
   need-mends need f met b =
       let parts : _ = and_parts (not (is_due need.base)) _ met in
-      subst (λ keys. FitsTime wrote made v.time need.page (repaired v.memory.store (first_values (copy_at v.memory need.page) need.base) keys)) (sym f.missing)
+      subst (λ keys. FitsTime wrote made v.time need.page (all_applied v.memory.store (first_values (copy_at v.memory need.page) need.base) keys)) (sym f.missing)
       (mend-fits count (words_of v.size) wrote made facts v.setting.nodes v.time v.memory s a.exact.below need.page (copy_at v.memory need.page) need.base
       f.base (not-true (is_due need.base) parts.0)
       (met-long v.setting.nodes (pages_in v) (words_of v.size) v.memory need a.whole.copies f met)
@@ -141,7 +141,7 @@ module _ (count : ℕ) (wrote : Wrote) (made : List StoredRecord) (v : View) (fa
       (subst (All (λ (key : Key). is_none (changes_at v.memory.store key) ≡ false)) f.missing
       (met-known v.setting.nodes (pages_in v) (words_of v.size) v.memory need a.ranged.memory f met)))
 
-  mends-fit : (need : Need) → v.wait ≡ access need → is_met need ≡ true → Fit wrote made v.time nothing (mended v.memory need)
+  mends-fit : (need : Need) → v.wait ≡ access need → is_met need ≡ true → Fit wrote made v.time nothing (repaired v.memory need)
   mends-fit need w met =
       let f : Needs need = All-head Needs need [] (subst (λ w. All Needs (needs_of w)) w a.needed.each) in
       let Comes : Need → Type 0 = λ need. BaseFits wrote made v.memory.collected need.page need.base in
@@ -159,7 +159,7 @@ module _ (count : ℕ) (wrote : Wrote) (made : List StoredRecord) (v : View) (fa
     clean = clean_memory needs collection.kept v.memory
 
     abbrev mended_all : Memory
-    mended_all = fold mended v.memory needs
+    mended_all = fold repaired v.memory needs
 
     same_copies : (page : ℕ) → copy_at clean page ≡ copy_at mended_all page
     same_copies page = ap (λ (copies : List Copy). slice_index_or copies page absent) (bases-copies collection.kept mended_all)

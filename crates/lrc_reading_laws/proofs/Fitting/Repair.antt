@@ -22,7 +22,7 @@ use Rattle.lrc_copies.specs.Stamps.{stamp_index}
 use Rattle.lrc_copies.proofs.Members.{Contains-filter, Contains-from_filter}
 use Rattle.lrc_copies.proofs.Stamping.{covered-le, le-covered}
 use Rattle.lrc_copies.proofs.Timing.{parts_lacking, repaired_fits}
-use Rattle.lrc_protocol.specs.Pages.{changes_or_none, repaired}
+use Rattle.lrc_protocol.specs.Pages.{changes_or_none, all_applied}
 use Rattle.lrc_node_laws.proofs.Awaited.{All-unmap}
 use Rattle.lrc_reading_laws.specs.Written.{made_stamps, changes_on, made_changes}
 
@@ -219,7 +219,7 @@ module _ (made : List StoredRecord)
         → IsPageSound (page_of_stamps made_stamps wrote (changes_on page)) words made
         → IsCut made_stamps made since → IsCut made_stamps made time → Covers time since
         → PageFits (page_of_stamps made_stamps wrote (changes_on page)) values (covered made_stamps since made)
-        → PageFits (page_of_stamps made_stamps wrote (changes_on page)) (repaired store values (missing_of store page since))
+        → PageFits (page_of_stamps made_stamps wrote (changes_on page)) (all_applied store values (missing_of store page since))
         (covered made_stamps time made)
     repair_fits nodes values stamped long sound since_cut time_cut up fits =
         subst

@@ -14,7 +14,8 @@ use Rattle.lrc_protocol.specs.Pages.{Need}
 use Rattle.lrc_protocol.specs.Barriers.{Collection, clean_memory}
 use Rattle.lrc_protocol.specs.Node.{Wait, access, discard, Node, OptionsRecord}
 use Rattle.lrc_protocol.specs.Turn.{TurnRecord, taking}
-use Rattle.lrc_protocol.specs.Run.{Input, taken, EntryRecord, Logged, World, Flying, with_turn, pending}
+use Rattle.lrc_protocol.specs.Run.{Input, taken, EntryRecord, Logged, World, Flying, with_turn}
+use Rattle.lrc_protocol.specs.Follows.{pending}
 use Rattle.lrc_protocol.specs.Rules.{TurnRule}
 use Rattle.lrc_protocol.proofs.Worlds.{get_set_same, get_set_other}
 use Rattle.lrc_protocol.proofs.Induction.{Comes}

@@ -15,7 +15,7 @@ use Rattle.lrc_envelope.specs.declared.message.Message.TheVariants.{PageReply}
 use Rattle.lrc_copies.specs.Stamps.{StandsBetween}
 use Rattle.lrc_copies.proofs.Stamping.{covered-le}
 use Rattle.lrc_protocol.specs.Times.{next_time, is_named}
-use Rattle.lrc_protocol.specs.Pages.{Copy, valid, written, invalid, absent, dropped, need_of, with_changes, with_page, Memory, copy_at}
+use Rattle.lrc_protocol.specs.Pages.{Copy, valid, written, invalid, absent, dropped, need_of, changes_came, page_came, Memory, copy_at}
 use Rattle.lrc_protocol.specs.Pages.{keeper_at, learned, with_interval, with_part}
 use Rattle.lrc_protocol.specs.Barriers.{Collection, base_at, kept_pages, collected_at, with_keepers}
 use Rattle.lrc_protocol.specs.Node.{Wait, nothing, grant, departure, access, upkeep, discard}
@@ -208,22 +208,22 @@ module _ (came : Came) (count : ℕ) (wrote : Wrote) (made : List StoredRecord) 
   first-fit _ (gets_changes from m r) shut =
       stays
       (record v {
-        wait = with_needs (with_changes m.page from) v.wait;
+        wait = with_needs (changes_came m.page from) v.wait;
         memory = record v.memory { store = fold (with_part from m.page) v.memory.store m.parts };
       }) refl
       (record {
         copies = h.copies;
         bases = λ page values e.
-            subst (λ time. FitsTime wrote made time page values) (sym (bound-with (with_changes m.page from) v.wait v.memory.collected page))
+            subst (λ time. FitsTime wrote made time page values) (sym (bound-with (changes_came m.page from) v.wait v.memory.collected page))
             (h.bases page values e);
         needs = changed-needs wrote made v.memory.collected m.page from v.wait h.needs;
       })
   first-fit _ (gets_page from m is r) shut =
-      stays (record v { wait = with_needs (with_page m.page m.values) v.wait }) refl
+      stays (record v { wait = with_needs (page_came m.page m.values) v.wait }) refl
       (record {
         copies = h.copies;
         bases = λ page values e.
-            subst (λ time. FitsTime wrote made time page values) (sym (bound-with (with_page m.page m.values) v.wait v.memory.collected page))
+            subst (λ time. FitsTime wrote made time page values) (sym (bound-with (page_came m.page m.values) v.wait v.memory.collected page))
             (h.bases page values e);
         needs = sent-needs wrote made v.memory.collected m.page m.values v.wait (sent from m is) h.needs;
       })

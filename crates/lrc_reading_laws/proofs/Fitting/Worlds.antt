@@ -22,7 +22,8 @@ use Rattle.lrc_protocol.specs.Pages.{copy_at}
 use Rattle.lrc_protocol.specs.Barriers.{base_at}
 use Rattle.lrc_protocol.specs.Node.{Node, OptionsRecord}
 use Rattle.lrc_protocol.specs.Turn.{is_repeat, taking}
-use Rattle.lrc_protocol.specs.Run.{Input, run, taken, EntryRecord, Logged, World, Flying, with_turn, pending}
+use Rattle.lrc_protocol.specs.Run.{Input, run, taken, EntryRecord, Logged, World, Flying, with_turn}
+use Rattle.lrc_protocol.specs.Follows.{pending}
 use Rattle.lrc_protocol.proofs.Worlds.{IsEntry, get_set_same}
 use Rattle.lrc_protocol.proofs.Induction.{Comes, named, delivered, repeated}
 use Rattle.lrc_order_laws.proofs.Pending.{Lost, Goes, new_of, pending-goes, all_pending}

@@ -12,8 +12,10 @@ use Rattle.lrc_envelope.specs.declared.message.Message.TheVariants.{ChangesReque
 use Rattle.lrc_copies.proofs.Members.{Contains-filter}
 use Rattle.lrc_protocol.specs.declared.event.Event.{Event}
 use Rattle.lrc_protocol.specs.Node.{Node, Effect, OptionsRecord}
-use Rattle.lrc_protocol.specs.Turn.{is_expected, done, unexpected, empty_turn, is_addressed, is_repeat, take_turn, turn_taking, takes, taking}
-use Rattle.lrc_protocol.specs.Run.{Logged, World, Flying, pending, run_of}
+use Rattle.lrc_protocol.specs.Turn.{done, unexpected, empty_turn, is_addressed, is_repeat, take_turn, turn_or, takes, taking}
+use Rattle.lrc_protocol.specs.Follows.{is_expected}
+use Rattle.lrc_protocol.specs.Run.{Logged, World, Flying, run_of}
+use Rattle.lrc_protocol.specs.Follows.{pending}
 use Rattle.lrc_protocol.proofs.Expecting.{never-unexpected, still_expected}
 use Rattle.lrc_order_laws.proofs.Addressed.{all_addressed}
 use Rattle.lrc_order_laws.proofs.BarrierExpected.{clean_expected, discard_expected}
@@ -36,7 +38,7 @@ use Rattle.lrc_reading_laws.proofs.Stamped.Worlds.{Placed, placed}
 -- ---- a turn with a message
 
 by_tests : (node : Node) (o : Option Effect) (a b : Bool) → a ≡ true → (b ≡ false → is_some o ≡ true)
-    → (if a then (if b then done empty_turn node else turn_taking o) else unexpected) ≡ unexpected → ⊥
+    → (if a then (if b then done empty_turn node else turn_or unexpected o) else unexpected) ≡ unexpected → ⊥
 by_tests node o true true is h e = cc
 by_tests node o true false is h e = never-unexpected o (h refl) e
 by_tests node o false b is h e = absurd (false≢true is)

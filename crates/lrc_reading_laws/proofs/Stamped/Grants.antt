@@ -30,9 +30,11 @@ use Rattle.lrc_protocol.specs.Times.{indices_by, next_time}
 use Rattle.lrc_protocol.specs.Pages.{Copy, valid, written, invalid, absent, Memory, copy_at}
 use Rattle.lrc_protocol.specs.Node.{Letter, Wait, nothing, grant, departure, access, upkeep, discard, is_idle, awaits_grant, Node}
 use Rattle.lrc_protocol.specs.Node.{OptionsRecord}
-use Rattle.lrc_protocol.specs.Turn.{is_learnable, is_expected, grant_of, grants_of, changes_reply_to, arrival_of, begins_of, after_close, TurnRecord}
+use Rattle.lrc_protocol.specs.Turn.{is_learnable, grant_of, grants_of, changes_reply_to, arrival_of, begins_of, after_close, TurnRecord}
+use Rattle.lrc_protocol.specs.Follows.{is_expected}
 use Rattle.lrc_protocol.specs.Turn.{done, run_turn, turn_by}
-use Rattle.lrc_protocol.specs.Run.{Input, run, EntryRecord, Logged, World, Flying, fresh_world, with_turn, pending, run_of}
+use Rattle.lrc_protocol.specs.Run.{Input, run, EntryRecord, Logged, World, Flying, fresh_world, with_turn, run_of}
+use Rattle.lrc_protocol.specs.Follows.{pending}
 use Rattle.lrc_protocol.specs.declared.event.Event.{Event}
 use Rattle.lrc_protocol.specs.Follows.{turns_of}
 use Rattle.lrc_protocol.proofs.Worlds.{IsEntry, get_set_same, get_set_other, fresh_at}

@@ -10,7 +10,8 @@ use Rattle.lrc_protocol.specs.Locks.{Locks}
 use Rattle.lrc_protocol.specs.Barriers.{Collection}
 use Rattle.lrc_protocol.specs.Node.{Wait, nothing, discard, Node, OptionsRecord}
 use Rattle.lrc_protocol.specs.Turn.{TurnRecord}
-use Rattle.lrc_protocol.specs.Run.{Input, Logged, World, fresh_world, with_turn, pending}
+use Rattle.lrc_protocol.specs.Run.{Input, Logged, World, fresh_world, with_turn}
+use Rattle.lrc_protocol.specs.Follows.{pending}
 use Rattle.lrc_protocol.proofs.Ruled.{by_rule}
 use Rattle.lrc_protocol.proofs.Worlds.{fresh_at}
 use Rattle.lrc_order_laws.specs.Counts.{is_inside}

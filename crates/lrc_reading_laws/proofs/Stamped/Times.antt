@@ -16,8 +16,10 @@ use Rattle.lrc_copies.specs.Stamps.{AreStamped}
 use Rattle.lrc_copies.proofs.Members.{none_Contains}
 use Rattle.lrc_protocol.specs.Pages.{Copy, valid, written, invalid, absent, Memory, copy_at}
 use Rattle.lrc_protocol.specs.Node.{Node, OptionsRecord}
-use Rattle.lrc_protocol.specs.Turn.{is_expected, is_learnable, TurnRecord}
-use Rattle.lrc_protocol.specs.Run.{Input, Logged, World, fresh_world, with_turn, pending}
+use Rattle.lrc_protocol.specs.Turn.{is_learnable, TurnRecord}
+use Rattle.lrc_protocol.specs.Follows.{is_expected}
+use Rattle.lrc_protocol.specs.Run.{Input, Logged, World, fresh_world, with_turn}
+use Rattle.lrc_protocol.specs.Follows.{pending}
 use Rattle.lrc_protocol.proofs.Worlds.{fresh_at}
 use Rattle.lrc_protocol.proofs.Expecting.{fulfilled}
 use Rattle.lrc_order_laws.proofs.Sends.{Came, by_itself, comes}

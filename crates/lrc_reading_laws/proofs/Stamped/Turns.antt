@@ -17,7 +17,7 @@ use Rattle.lrc_lock.specs.Held.{released, forwarded, pass_of}
 use Rattle.lrc_barrier.specs.declared.departure.Departure.{Departure}
 use Rattle.lrc_protocol.specs.Times.{is_named, next_time}
 use Rattle.lrc_protocol.specs.Pages.{Copy, valid, written, invalid, absent, after_write, closed, invalidated, dropped, Memory, copy_at}
-use Rattle.lrc_protocol.specs.Pages.{with_copy, with_interval, learned, Base, unneeded, due, come, Asked, Need, mended}
+use Rattle.lrc_protocol.specs.Pages.{with_copy, with_interval, learned, Base, unneeded, due, come, Asked, Need, repaired}
 use Rattle.lrc_protocol.specs.Barriers.{with_base, collected_at, clean_memory}
 use Rattle.lrc_protocol.specs.Node.{Letter, Course, going, trapped, ended, Node, Effect, acts, acts_by, memory_after}
 use Rattle.lrc_protocol.specs.Turn.{requests_of, page_request_of, changes_request_of, changes_reply_to, grants_of, departure_of, discards_to}
@@ -121,16 +121,16 @@ module _ (C : List ℕ → Type 0) where
   write-since (invalid values since) offset value h = h
   write-since absent offset value h = tt
 
-  mends-timely : (needs : List Need) (memory : Memory) → Timely memory → Timely (fold mended memory needs)
+  mends-timely : (needs : List Need) (memory : Memory) → Timely memory → Timely (fold repaired memory needs)
   mends-timely [] memory h = h
-  mends-timely (need ∷ needs) memory h = mends-timely needs (mended memory need) (copy-timely memory need.page _ (λ s. tt) h)
+  mends-timely (need ∷ needs) memory h = mends-timely needs (repaired memory need) (copy-timely memory need.page _ (λ s. tt) h)
 
   bases-timely : (kept : List ℕ) (memory : Memory) → Timely memory → Timely (fold with_base memory kept)
   bases-timely [] memory h = h
   bases-timely (page ∷ kept) memory h = bases-timely kept (with_base memory page) (record { collected = h.collected; since = h.since })
 
   clean-timely : (needs : List Need) (kept : List ℕ) (memory : Memory) → Timely memory → Timely (clean_memory needs kept memory)
-  clean-timely needs kept memory h = bases-timely kept (fold mended memory needs) (mends-timely needs memory h)
+  clean-timely needs kept memory h = bases-timely kept (fold repaired memory needs) (mends-timely needs memory h)
 
   closed-since : (copy : Copy) → SinceIn copy → SinceIn (closed copy)
   closed-since (valid values) h = tt

@@ -9,7 +9,8 @@ use Rattle.lrc_exec.specs.Plain.{setting_of}
 use Rattle.lrc_envelope.specs.Envelope.{EnvelopeRecord}
 use Rattle.lrc_protocol.specs.Node.{Node, OptionsRecord}
 use Rattle.lrc_protocol.specs.Turn.{TurnRecord, done, run_turn, is_repeat, empty_turn}
-use Rattle.lrc_protocol.specs.Run.{Input, run, taken, EntryRecord, Logged, outcome_of, World, Flying, with_turn, pending}
+use Rattle.lrc_protocol.specs.Run.{Input, run, taken, EntryRecord, Logged, outcome_of, World, Flying, with_turn}
+use Rattle.lrc_protocol.specs.Follows.{pending}
 use Rattle.lrc_protocol.specs.Follows.{turns_of}
 use Rattle.lrc_protocol.proofs.Ruled.{by_rule}
 use Rattle.lrc_protocol.proofs.Induction.{Comes}

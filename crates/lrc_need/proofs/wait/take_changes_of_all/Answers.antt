@@ -1,12 +1,12 @@
 use Rattle.std.proofs.Common.{◌≡◌, ◌++◌, map, take, drop, add-one, sym, ap, ◌∙◌, subst}
 use Rattle.std.specs.Prelude.{slice_index_or, slice_set}
-use Rattle.lrc_protocol.specs.Pages.{Need, with_changes}
+use Rattle.lrc_protocol.specs.Pages.{Need, changes_came}
 use Rattle.lrc_need.proofs.Lists.{changed_at, changed_more}
 use Rattle.lrc_need.proofs.wait.take_changes_of_all.Goals as goal
 
 pub loop-need-preserved : goal.loop-need-preserved
 loop-need-preserved c =
-    let f : Need → Need = with_changes c.args.page c.args.maker in
+    let f : Need → Need = changes_came c.args.page c.args.maker in
     let xs = c.args.needs.now in
     let i = c.loop-need.need-index in
     let item = c.need-item.result in

@@ -1,6 +1,6 @@
 use Rattle.std.proofs.Common.{◌≡◌, ◌≢◌, arith, sym, ap, ◌∙◌, ⊎_elim}
 use Rattle.std.specs.Prelude.{slice_index_or, slice_set}
-use Rattle.lrc_protocol.specs.Pages.{Need, with_page}
+use Rattle.lrc_protocol.specs.Pages.{Need, page_came}
 use Rattle.std.proofs.lemmas.List.{get_or_default, set-get_or}
 use Rattle.std.proofs.lemmas.Bool.{cases_eq}
 use Rattle.lrc_need.proofs.Lists.{map-same, page-one, page-other}
@@ -25,17 +25,17 @@ returns-then-page c =
     let xs = c.args.needs.now in
     let i = c.loop-need.need-index in
     let item = c.need-item.result in
-    let f : Need → Need = λ need. with_page need.page c.args.copy.value need in
+    let f : Need → Need = λ need. page_came need.page c.args.copy.value need in
     let same : c.loop-need.needs ≡ xs = c.loop-need.invariant.0 in
     let here : (slice_index_or xs i item).page ≡ c.args.page =
     ap (λ l. (slice_index_or l i item).page) (sym same) ∙ sym c.page.ensures.page ∙ c.if-page.true in
     ap (λ l. slice_set l i c.take_page.new.self) same
     ∙ ap (λ x. slice_set xs i x) (c.take_page.ensures ∙ ap (λ l. f (slice_index_or l i item)) same
-    ∙ ap (λ page. with_page page c.args.copy.value (slice_index_or xs i item)) here)
+    ∙ ap (λ page. page_came page c.args.copy.value (slice_index_or xs i item)) here)
     ∙ page-one c.args.page c.args.copy.value xs i item c.loop-need-test.true here c.requires
 
 pub returns : goal.returns
 returns c =
     c.loop-need.invariant.0
-    ∙ sym (map-same (λ need. need.page ≢ c.args.page) (with_page c.args.page c.args.copy.value) (page-other c.args.page c.args.copy.value) c.args.needs.now
+    ∙ sym (map-same (λ need. need.page ≢ c.args.page) (page_came c.args.page c.args.copy.value) (page-other c.args.page c.args.copy.value) c.args.needs.now
     (λ k d lt. c.loop-need.invariant.1 k d (omega (arith, lt, c.loop-need-test.false))))

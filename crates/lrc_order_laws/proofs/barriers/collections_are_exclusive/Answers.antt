@@ -2,7 +2,7 @@ use Rattle.std.proofs.Common.{◌≡◌, ◌+◌, sym, subst, ap, ◌∙◌}
 use Rattle.std.specs.Prelude.{count_by}
 use Rattle.std.proofs.lemmas.Option.{same_Some}
 use Rattle.lrc_barrier.specs.Barrier.{ManagerRecord}
-use Rattle.lrc_protocol.specs.Run.{pending}
+use Rattle.lrc_protocol.specs.Follows.{pending}
 use Rattle.lrc_order_laws.specs.Counts.{is_inside}
 use Rattle.lrc_order_laws.specs.Barriers.{arrive_from, discard_to, kept_of}
 use Rattle.lrc_order_laws.proofs.Exclusive.{Exclusive, all_exclusive}

@@ -1,4 +1,4 @@
-use Rattle.lrc_protocol.specs.Run.{pending}
+use Rattle.lrc_protocol.specs.Follows.{pending}
 use Rattle.lrc_order_laws.specs.Tokens.{grants_of_lock}
 use Rattle.lrc_order_laws.proofs.TokenWorlds.{all_tokens, some_node}
 use Rattle.lrc_order_laws.proofs.TokenCounts.{free_time, grant_time}

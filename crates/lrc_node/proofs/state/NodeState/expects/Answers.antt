@@ -2,7 +2,7 @@
 use Rattle.std.proofs.Common.{sym, ap, ◌∙◌}
 use Rattle.lrc_envelope.specs.declared.message.Message.TheVariants.{LockRequest, LockForward, LockGrant, Arrive, Depart, Clean, Discard}
 use Rattle.lrc_envelope.specs.declared.message.Message.TheVariants.{ChangesRequest, ChangesReply, PageRequest, PageReply}
-use Rattle.lrc_protocol.specs.Turn.{is_expected}
+use Rattle.lrc_protocol.specs.Follows.{is_expected}
 use Rattle.lrc_protocol.proofs.Expecting.{conditions}
 use Rattle.lrc_node.proofs.state.NodeState.expects.Goals as goal
 

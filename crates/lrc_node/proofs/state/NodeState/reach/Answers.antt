@@ -1,7 +1,7 @@
 use Rattle.std.proofs.Common.{◌≡◌, ◌<◌, length, sym, ◌∙◌, ap, subst}
 use Rattle.std.specs.Prelude.{All}
 use Rattle.lrc_store.specs.declared.key.Key.{Key}
-use Rattle.lrc_protocol.specs.Pages.{Need, need_of, keeper_at, mended}
+use Rattle.lrc_protocol.specs.Pages.{Need, need_of, keeper_at, repaired}
 use Rattle.lrc_protocol.specs.Turn.{requests_of, reaches}
 use Rattle.lrc_exec.specs.Meaning.{Setting}
 use Rattle.lrc_protocol.specs.Node.{nothing, Node, acts, waiting, with_memory}
@@ -24,9 +24,9 @@ returns-then-is_met-clause-effect c =
     let e = reaches_missing node c.args.page need (sym c.is_readable.ensures ∙ c.if-is_readable.false) is
     ∙ access_met (requests_of need) node need (sym c.is_met.ensures ∙ c.if-is_met.true) in
     let here = subst (λ (n : Node). reaches n c.args.page ≡ acts (requests_of need)
-    (waiting nothing (with_memory n (mended n.memory need)))) c.self.view_is e in
+    (waiting nothing (with_memory n (repaired n.memory need)))) c.self.view_is e in
     let now : Node = c.args.self.now in
-    let sent = ap (λ letters. acts letters (waiting nothing (with_memory now (mended now.memory need)))) (sym c.in_ok-letters.ensures) in
+    let sent = ap (λ letters. acts letters (waiting nothing (with_memory now (repaired now.memory need)))) (sym c.in_ok-letters.ensures) in
     rw (here ∙ sent) c.repair.ensures.effect
 
 pub returns-else-is_met-clause-to : goal.returns-else-is_met-clause-to

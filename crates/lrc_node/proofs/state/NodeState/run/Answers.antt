@@ -3,7 +3,7 @@ use Rattle.std.specs.Prelude.{None, option_map}
 use Rattle.std.proofs.lemmas.Result.{IfErr-weaker}
 use Rattle.lrc_exec.specs.Ask.{ask_of}
 use Rattle.lrc_protocol.specs.Node.{Node}
-use Rattle.lrc_protocol.specs.Turn.{begins, turn_if, run_turn}
+use Rattle.lrc_protocol.specs.Turn.{begins, turn_or, worn, run_turn}
 use Rattle.lrc_node.specs.declared.fault.NodeFault.TheVariants.{NotReady}
 use Rattle.lrc_node.specs.Effects.{effect_asked, CanBegin, RefusesRun, unready}
 use Rattle.lrc_node.specs.State.{seen_effect}
@@ -34,7 +34,7 @@ returns-in_err-effect-clause-ready c =
 pub returns-in_err-effect-clause-refused : goal.returns-in_err-effect-clause-refused
 returns-in_err-effect-clause-refused c =
     let e = run_asked c.args.self.now c.in-Some.ask (sym c.next.ensures.asked ∙ c.in-Some.is)
-    ∙ ap (λ n. turn_if (effect_asked n c.in-Some.ask)) (sym c.next.ensures.node) in
+    ∙ ap (λ n. turn_or worn (effect_asked n c.in-Some.ask)) (sym c.next.ensures.node) in
     fault_up c.from_residual.result c.in_err-effect.field-0.0 (λ fault. RefusesRun (run_turn c.args.self.now) fault)
     (c.from_residual.ensures.1)
     (refuses_begun c.args.self.now c.in-Some.ask (effect_asked c.next.new.self c.in-Some.ask) c.in_err-effect.field-0.0 e c.in_err-effect.ensures.refused)
@@ -42,8 +42,8 @@ returns-in_err-effect-clause-refused c =
 pub returns-clause-done : goal.returns-clause-done
 returns-clause-done c =
     let e = run_asked c.args.self.now c.in-Some.ask (sym c.next.ensures.asked ∙ c.in-Some.is)
-    ∙ ap (λ n. turn_if (effect_asked n c.in-Some.ask)) (sym c.next.ensures.node)
-    ∙ ap turn_if c.in_ok-effect.ensures.effect in
+    ∙ ap (λ n. turn_or worn (effect_asked n c.in-Some.ask)) (sym c.next.ensures.node)
+    ∙ ap (turn_or worn) c.in_ok-effect.ensures.effect in
     rw e c.send.ensures.sent
 
 pub returns-clause-ready : goal.returns-clause-ready
@@ -53,6 +53,6 @@ returns-clause-ready c =
 pub returns-clause-refused : goal.returns-clause-refused
 returns-clause-refused c =
     let e = run_asked c.args.self.now c.in-Some.ask (sym c.next.ensures.asked ∙ c.in-Some.is)
-    ∙ ap (λ n. turn_if (effect_asked n c.in-Some.ask)) (sym c.next.ensures.node)
-    ∙ ap turn_if c.in_ok-effect.ensures.effect in
+    ∙ ap (λ n. turn_or worn (effect_asked n c.in-Some.ask)) (sym c.next.ensures.node)
+    ∙ ap (turn_or worn) c.in_ok-effect.ensures.effect in
     IfErr-weaker c.send.result _ _ (λ fault. refuses_sent c.args.self.now (seen_effect c.in_ok-effect.effect c.begin.new.self) fault e) c.send.ensures.refused

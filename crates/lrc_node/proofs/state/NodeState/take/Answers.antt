@@ -1,7 +1,8 @@
 use Rattle.std.proofs.Common.{◌≡◌, true, false, IfErr, rules, sym, ap, ◌∙◌, subst, IfOk}
 use Rattle.lrc_envelope.specs.Envelope.{EnvelopeRecord}
 use Rattle.lrc_protocol.specs.Node.{Node}
-use Rattle.lrc_protocol.specs.Turn.{is_expected, Outcome, unexpected, take_turn, taking, turn_taking, done}
+use Rattle.lrc_protocol.specs.Turn.{Outcome, unexpected, take_turn, taking, turn_or, done}
+use Rattle.lrc_protocol.specs.Follows.{is_expected}
 use Rattle.lrc_protocol.proofs.Expecting.{taken-anew}
 use Rattle.lrc_node.specs.Taken.{RefusesTake, unawaited}
 use Rattle.lrc_node.specs.declared.fault.NodeFault.TheVariants.{Unexpected}
@@ -23,7 +24,7 @@ returns-clause-done c =
     let y : c.expects.result ≡ true = search rules in
     let x : is_expected node envelope.from envelope.message ≡ true =
     ap (λ (v : EnvelopeRecord). is_expected node v.from v.message) (sym c.envelope.view_is) ∙ sym c.expects.ensures ∙ y in
-    let same : take_turn node envelope ≡ turn_taking (effect_of (taking node envelope) envelope.from envelope.message) =
+    let same : take_turn node envelope ≡ turn_or unexpected (effect_of (taking node envelope) envelope.from envelope.message) =
     addressed node envelope (sym c.is_addressed.ensures.addressed ∙ e) (sym c.is_repeat.ensures ∙ c.if-is_repeat.false) ∙ awaited node envelope x in
     subst (λ (o : Outcome). IfOk c.take_anew.result (λ turn. o ≡ done turn c.take_anew.new.self)) (sym same) c.take_anew.ensures.done
 
@@ -46,7 +47,7 @@ returns-clause-refused c =
     let y : c.expects.result ≡ true = search rules in
     let x : is_expected node envelope.from envelope.message ≡ true =
     ap (λ (v : EnvelopeRecord). is_expected node v.from v.message) (sym c.envelope.view_is) ∙ sym c.expects.ensures ∙ y in
-    let same : take_turn node envelope ≡ turn_taking (effect_of (taking node envelope) envelope.from envelope.message) =
+    let same : take_turn node envelope ≡ turn_or unexpected (effect_of (taking node envelope) envelope.from envelope.message) =
     addressed node envelope (sym c.is_addressed.ensures.addressed ∙ e) (sym c.is_repeat.ensures ∙ c.if-is_repeat.false) ∙ awaited node envelope x in
     subst (λ (o : Outcome). IfErr c.take_anew.result (λ fault. RefusesTake o node fault c.take_anew.new.self)) (sym same)
     (weaker c.take_anew.result _ _ (λ fault h. refuses_anew _ node c.take_anew.new.self fault h) c.take_anew.ensures.refused)
