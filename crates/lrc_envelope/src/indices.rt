@@ -1,6 +1,6 @@
 //! Intervals of one node, by their indices.
 
-ghost use Rattle.std.specs.Prelude.{◌≡◌, ◌≤◌, ◌<◌, ◌↔◌, IsTrue, All, OnOk, OnErr, Some, [], ◌∷◌, ◌++◌, length, slice_get};
+ghost use Rattle.std.specs.Prelude.{◌≡◌, ◌≤◌, ◌<◌, ◌↔◌, IsTrue, All, IfOk, OnOk, OnErr, Some, [], ◌∷◌, ◌++◌, length, slice_get};
 ghost use Rattle.std.specs.Option.{ForSome};
 ghost use Rattle.std.specs.List.Sorted.{IsStrictlyIncreasing};
 ghost use Rattle.lrc_envelope.specs.Records.{AreIndices, last_index};
@@ -9,8 +9,8 @@ use smallvec::SmallVec;
 use std::alloc::{AllocError, Global};
 use std::marker::Model;
 
-// How many indices stand in the list itself, which asks for memory where there are more. Most requests name fewer.
-const FEW_INDICES: usize = 4;
+/// How many indices stand in a list itself, which asks for memory where there are more. Most requests name fewer.
+pub const FEW_INDICES: usize = 4;
 
 /// Indices of intervals of one node, each at least 1, strictly ascending.
 #[derive(Drop)]
@@ -47,6 +47,14 @@ impl Indices {
         Indices {
             list: SmallVec::from_vec(list),
         }
+    }
+
+    /// These indices, which ascend from 1 or above, from a list that keeps a few in itself.
+    pub fn from_short(list: SmallVec<u32, FEW_INDICES>) -> Self
+        requires { AreIndices list.items }
+        ensures { result ≡ list.items }
+    {
+        Indices { list }
     }
 
     /// Adds an index above all others. An error leaves the indices as they were.
@@ -89,5 +97,14 @@ impl Indices {
         ensures are { AreIndices self.now }
     {
         self.list.as_slice()
+    }
+
+    /// A second list of the same indices.
+    pub fn duplicate(&self) -> Result<Self, AllocError>
+        ensures { IfOk result (λ indices. indices ≡ self.now) }
+    {
+        Ok(Indices {
+            list: SmallVec::from_slice(*self.list.allocator(), self.list.as_slice())?,
+        })
     }
 }
