@@ -5,7 +5,7 @@ ghost use Rattle.std.specs.Prelude.{map, min, option_map, unwrap_or};
 ghost use Rattle.lrc_time.specs.Time.{entry};
 ghost use Rattle.lrc_protocol.specs.Times.{is_named};
 ghost use Rattle.lrc_protocol.specs.Pages.{is_readable, changes_of, copy_at};
-ghost use Rattle.lrc_protocol.specs.Barriers.{with_base, base_at, kept_pages, with_keepers, collected_at, least, namers_of};
+ghost use Rattle.lrc_protocol.specs.Barriers.{with_base, base_at, kept_pages, with_keepers, after_collection, least, namers_of};
 ghost use Rattle.std.specs.List.{enumerate_from, range_with_len};
 ghost use Rattle.lrc_store.specs.Store.{intervals_of};
 ghost use Rattle.lrc_memory.specs.Notes.{keepers_of, named_of, since_of};
@@ -67,7 +67,7 @@ impl Memory {
         requires time { length time.now ≡ length self.old.memory.store.last }
         requires closed { NoneIsWritten self.old.memory }
         requires own { entry self.old.memory.store.last self.old.me ≤ entry time.now self.old.me }
-        ensures collected { self.new ≡ with_known self.old (collected_at self.old.me time.now self.old.memory) }
+        ensures collected { self.new ≡ with_known self.old (after_collection self.old.me time.now self.old.memory) }
         ensures same { SameMemory self.old self.new }
     {
         let in_step = is_last(&self.store, time);

@@ -13,7 +13,7 @@ use Rattle.lrc_protocol.specs.Times.{is_named}
 use Rattle.lrc_protocol.specs.Pages.{Copy, valid, written, invalid, absent, after_write, closed, invalidated, dropped, Memory, copy_at}
 use Rattle.lrc_protocol.specs.Pages.{all_changes, closed_interval, with_interval, learned, missing_at, missing_in, unknown_of, all_applied, Need}
 use Rattle.lrc_protocol.specs.Pages.{first_values, repaired}
-use Rattle.lrc_protocol.specs.Barriers.{collected_at}
+use Rattle.lrc_protocol.specs.Barriers.{after_collection}
 use Rattle.lrc_node_laws.specs.Stored.{StoresExactly}
 use Rattle.lrc_node_laws.specs.Own.{OwnCopied}
 use Rattle.lrc_node_laws.proofs.Lists.{length-placed}
@@ -131,9 +131,9 @@ mends-unfetched me page pages a (need ∷ needs) memory long within h =
 -- ---- all is collected
 
 pub discards-unfetched : (me page : ℕ) (time : List ℕ) (memory : Memory) → StoresExactly time memory
-    → IsUnfetched me page (collected_at me time memory) (copy_at (collected_at me time memory) page)
+    → IsUnfetched me page (after_collection me time memory) (copy_at (after_collection me time memory) page)
 discards-unfetched me page time memory s =
-    let now : Memory = collected_at me time memory in
+    let now : Memory = after_collection me time memory in
     subst (IsUnfetched me page now) (sym (map-copy dropped refl memory.copies page))
     (dropped-unfetched me page now (copy_at memory page) (left-known me page time memory s))
 

@@ -15,7 +15,7 @@ use Rattle.lrc_protocol.specs.Pages.{Copy, valid, written, invalid, absent, is_r
 use Rattle.lrc_protocol.specs.Pages.{is_due, is_met, repaired, Memory, copy_at, keeper_at}
 use Rattle.lrc_protocol.specs.Barriers.{Collection, kept_pages, with_base, with_keepers}
 use Rattle.lrc_protocol.specs.Node.{Letter, upkeep, Node, with_memory}
-use Rattle.lrc_protocol.specs.Turn.{requests_of, needs_to_keep}
+use Rattle.lrc_protocol.specs.Turn.{requests_of, needs_of_kept}
 use Rattle.lrc_node_laws.specs.Needs.{FitsBase, FitsNeed}
 use Rattle.lrc_node_laws.specs.Ranges.{HasRanges}
 use Rattle.lrc_node_laws.proofs.Needs.{ascends-filter, kept-ascends, kept-below, needs-fit, pages_needed}
@@ -156,16 +156,16 @@ kept_within node can = subst (λ n. All (λ page. page < n) (kept_pages node.set
 
 -- where all has come at once, its copies can be cleaned
 pub begins_clean : (node : Node) → CanCollect node
-    → list_all is_met (needs_to_keep (with_memory node (with_keepers node.memory)) (kept_pages node.setting.me (with_keepers node.memory))) ≡ true
+    → list_all is_met (needs_of_kept (with_memory node (with_keepers node.memory)) (kept_pages node.setting.me (with_keepers node.memory))) ≡ true
     → CanClean (with_memory node (with_keepers node.memory)) (kept_pages node.setting.me (with_keepers node.memory))
-    (needs_to_keep (with_memory node (with_keepers node.memory)) (kept_pages node.setting.me (with_keepers node.memory)))
+    (needs_of_kept (with_memory node (with_keepers node.memory)) (kept_pages node.setting.me (with_keepers node.memory)))
 begins_clean node can met =
     let keeping : Memory = with_keepers node.memory in
     let pages : ℕ = pages_of node.setting.words node.options.size in
     let kept : List ℕ = kept_pages node.setting.me keeping in
     let unread : ℕ → Bool = λ page. not (is_readable (copy_at keeping page)) in
     let ranges : HasRanges node.setting.nodes pages keeping = keeps-ranges node.setting.nodes pages node.memory can.ranges in
-    let needs : List Need = needs_to_keep (with_memory node keeping) kept in
+    let needs : List Need = needs_of_kept (with_memory node keeping) kept in
     let same : map (λ (need : Need). need.page) needs ≡ filter unread kept = pages_needed node.setting.nodes keeping (filter unread kept) in
     can_clean (with_memory node keeping) pages kept needs can.arrived ranges.copies
     (subst Ascends (sym same) (ascends-filter unread kept (kept-ascends node.setting.me keeping)))
@@ -183,7 +183,7 @@ all_requests nodes memory (page ∷ pages) h =
 -- the requests go to nodes
 pub begins_for : (node : Node) → CanCollect node
     → AreFor node.setting.nodes (flat_map requests_of
-    (needs_to_keep (with_memory node (with_keepers node.memory)) (kept_pages node.setting.me (with_keepers node.memory))))
+    (needs_of_kept (with_memory node (with_keepers node.memory)) (kept_pages node.setting.me (with_keepers node.memory))))
 begins_for node can =
     let keeping : Memory = with_keepers node.memory in
     let pages : ℕ = pages_of node.setting.words node.options.size in

@@ -14,7 +14,7 @@ use Rattle.lrc_envelope.specs.declared.message.Message.{Message}
 use Rattle.lrc_protocol.specs.Times.{next_time}
 use Rattle.lrc_protocol.specs.Pages.{Copy, valid, written, invalid, absent, is_readable, changes_of, Memory, copy_at, with_written_word, Base, Need}
 use Rattle.lrc_protocol.specs.Pages.{repaired}
-use Rattle.lrc_protocol.specs.Barriers.{collected_at}
+use Rattle.lrc_protocol.specs.Barriers.{after_collection}
 use Rattle.lrc_protocol.specs.Node.{Letter, Wait, nothing, grant, departure, access, upkeep, discard, needs_of, Course, going, trapped, ended}
 use Rattle.lrc_protocol.specs.Node.{Node, Effect, makes, acts, acts_by, with_memory, waiting}
 use Rattle.lrc_protocol.specs.Turn.{requests_of, charged, learns as learns_news, TurnRecord, taking}
@@ -248,7 +248,7 @@ module _ (ws : List (ℕ × ℕ)) where
   take-made node from message e k made (take_clean episode before after at is) = made
   take-made node from message e k made (take_last_clean episode over before after at is) = made
   take-made node from message e k made (take_discard episode collection f at is) =
-      leaves-made (waiting nothing (with_memory node (collected_at node.setting.me collection.time node.memory)))
+      leaves-made (waiting nothing (with_memory node (after_collection node.setting.me collection.time node.memory)))
       (subst (λ w. FixesNext w (next_in node.course)) at k.fits) (λ x. refl)
       (discards-made node.options.size node.setting.me collection.time node.memory ws (waits-made node (discard collection) at made))
   take-made node from message e k made (take_changes_request m lt all) = made

@@ -16,7 +16,7 @@ use Rattle.lrc_barrier.specs.Barrier.{ManagerRecord}
 use Rattle.lrc_protocol.specs.Times.{next_time, indices_by, are_between}
 use Rattle.lrc_protocol.specs.Pages.{is_readable, Memory, copy_at, with_written_word, with_interval, learned, Need, need_of, is_met, repaired}
 use Rattle.lrc_protocol.specs.Pages.{awaits_changes, awaits_page, changes_came, page_came, with_part}
-use Rattle.lrc_protocol.specs.Barriers.{with_keepers, kept_pages, collected_at, Collection, clean_memory}
+use Rattle.lrc_protocol.specs.Barriers.{with_keepers, kept_pages, after_collection, Collection, clean_memory}
 use Rattle.lrc_protocol.specs.Node.{Wait, nothing, grant, departure, access, upkeep, discard, needs_of, Course, Node}
 use Rattle.lrc_protocol.specs.Turn.{with_needs, is_page, is_interval, are_changes, is_learnable, expects_changes_reply}
 use Rattle.lrc_order_laws.specs.Waiting.{next_in}
@@ -121,7 +121,7 @@ pub data Change (v : View) : View → Type 0 where
   cleans : (collection : Collection) (needs : List Need) → v.wait ≡ upkeep collection needs → list_all is_met needs ≡ true
       → Change v (record v { wait = discard collection; memory = clean_memory needs collection.kept v.memory })
   discards : (collection : Collection) → v.wait ≡ discard collection
-      → Change v (record v { wait = nothing; memory = collected_at v.setting.me collection.time v.memory })
+      → Change v (record v { wait = nothing; memory = after_collection v.setting.me collection.time v.memory })
   -- an access misses, and its page is mended
   misses : (page : ℕ) → v.wait ≡ nothing → page < pages_in v → is_readable (copy_at v.memory page) ≡ false
       → page_next v.size (next_in v.course) ≡ Some page

@@ -13,7 +13,7 @@ use Rattle.lrc_store.specs.Store.{StoreRecord, IsStore, intervals_of, added, dis
 use Rattle.lrc_store.proofs.Stores.{intervals_of-added, intervals_of-discarded}
 use Rattle.lrc_protocol.specs.Times.{indices_by, next_time}
 use Rattle.lrc_protocol.specs.Pages.{Memory, all_changes, closed_interval, with_interval, learned}
-use Rattle.lrc_protocol.specs.Barriers.{collected_at}
+use Rattle.lrc_protocol.specs.Barriers.{after_collection}
 use Rattle.lrc_node_laws.specs.Ranges.{InRange, HasRanges, CollectsAt}
 use Rattle.lrc_node_laws.specs.Stored.{StoresExactly}
 use Rattle.lrc_node_laws.proofs.Stores.{SameIntervals, append_none, own-same, parts-same, Longer, learned-longer, length-last_with, last_with}
@@ -162,7 +162,7 @@ pub nothing-left : (time : List ℕ) (memory : Memory) → StoresExactly time me
 nothing-left time memory h =
     intervals_of-discarded memory.store time ∙ none_left time (intervals_of memory.store) (stored-within time memory h)
 
-discards-exact : (me : ℕ) (time : List ℕ) (memory : Memory) → StoresExactly time memory → StoresExactly time (collected_at me time memory)
+discards-exact : (me : ℕ) (time : List ℕ) (memory : Memory) → StoresExactly time memory → StoresExactly time (after_collection me time memory)
 discards-exact me time memory h = record {
   last = h.last;
   below = covers-refl time;
@@ -185,7 +185,7 @@ exact-kept v _ (begins before time w t c long) r h = exact-same v.time v.memory 
 exact-kept v _ (cleans collection needs w met) r h = exact-rest v.time v.memory _ (clean-same needs collection.kept v.memory) h
 exact-kept v _ (discards collection w) r h =
     let same : collection.time ≡ v.time = subst (CollectsAt v.time) w r.present in
-    subst (λ t. StoresExactly v.time (collected_at v.setting.me t v.memory)) (sym same) (discards-exact v.setting.me v.time v.memory h)
+    subst (λ t. StoresExactly v.time (after_collection v.setting.me t v.memory)) (sym same) (discards-exact v.setting.me v.time v.memory h)
 exact-kept v _ (misses page w lt b n) r h = h
 exact-kept v _ (mends need w met) r h = exact-rest v.time v.memory _ (copy-same v.memory _ _) h
 exact-kept v _ (gets_changes from m e) r h = exact-same v.time v.memory _ (parts-same from m.page m.parts v.memory.store) refl h

@@ -9,7 +9,7 @@ use Rattle.lrc_store.specs.Interval.{IntervalRecord, by_weight}
 use Rattle.lrc_store.specs.Store.{StoreRecord, intervals_of, changes_at, is_missing, key_of, missing_of}
 use Rattle.lrc_store.proofs.Orders.{none_Contains, filter-Contains}
 use Rattle.lrc_protocol.specs.Pages.{Copy, valid, written, invalid, absent, Memory, copy_at, missing_in, Asked, Need, indices_of, some_asked}
-use Rattle.lrc_protocol.specs.Pages.{asked_of, unknown_of, is_due, is_nothing, is_met}
+use Rattle.lrc_protocol.specs.Pages.{asked_of, unknown_of, is_due, is_empty_list, is_met}
 use Rattle.lrc_node_laws.specs.Ranges.{InRange, HasRanges}
 use Rattle.lrc_node_laws.specs.Needs.{FitsNeed}
 use Rattle.lrc_node_laws.proofs.Keys.{IsKnown, All-part}
@@ -58,7 +58,7 @@ lacking-below nodes pages page memory (written values twin) h = All-nil (λ (key
 lacking-below nodes pages page memory (invalid values since) h = missing-below nodes pages page since memory.store h
 lacking-below nodes pages page memory absent h = missing-below nodes pages page memory.collected memory.store h
 
-nothing-asked : (asked : List Asked) → is_nothing asked ≡ true → asked ≡ []
+nothing-asked : (asked : List Asked) → is_empty_list asked ≡ true → asked ≡ []
 nothing-asked [] e = refl
 nothing-asked (a ∷ asked) e = cc
 

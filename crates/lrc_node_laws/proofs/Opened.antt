@@ -11,7 +11,7 @@ use Rattle.lrc_store.specs.Interval.{IntervalRecord}
 use Rattle.lrc_protocol.specs.Times.{is_named}
 use Rattle.lrc_protocol.specs.Pages.{Copy, valid, written, invalid, absent, is_readable, changes_of, after_write, closed, invalidated, dropped}
 use Rattle.lrc_protocol.specs.Pages.{Memory, copy_at, with_written_word, with_interval, learned, all_applied, Need, first_values, repaired}
-use Rattle.lrc_protocol.specs.Barriers.{collected_at, clean_memory}
+use Rattle.lrc_protocol.specs.Barriers.{after_collection, clean_memory}
 use Rattle.lrc_node_laws.specs.Waits.{NoneWritten}
 use Rattle.lrc_node_laws.specs.Opened.{on_page, put, IsMadeBy, AreMadeBy}
 use Rattle.lrc_node_laws.proofs.Lists.{length-placed}
@@ -133,7 +133,7 @@ learns-made size before intervals memory writes h page =
     (cases_lt page (length memory.copies))
 
 pub discards-made : (size : Size) (me : ℕ) (time : List ℕ) (memory : Memory) (writes : List (ℕ × ℕ)) → AreMadeBy size memory writes
-    → AreMadeBy size (collected_at me time memory) writes
+    → AreMadeBy size (after_collection me time memory) writes
 discards-made size me time memory writes h page =
     subst (IsMadeBy size page writes) (sym (map-copy dropped refl memory.copies page)) (dropped-made size page writes (copy_at memory page) (h page))
 

@@ -17,7 +17,7 @@ use Rattle.lrc_page.specs.Place.{page_of, offset_of}
 use Rattle.lrc_protocol.specs.Times.{is_named, next_time}
 use Rattle.lrc_protocol.specs.Pages.{Copy, valid, written, invalid, absent, changes_of, after_write, closed, invalidated, Memory, copy_at}
 use Rattle.lrc_protocol.specs.Pages.{with_written_word, all_changes, closed_interval, with_interval, learned, missing_in, Need, repaired}
-use Rattle.lrc_protocol.specs.Barriers.{collected_at, clean_memory}
+use Rattle.lrc_protocol.specs.Barriers.{after_collection, clean_memory}
 use Rattle.lrc_node_laws.specs.Ranges.{CollectsAt}
 use Rattle.lrc_node_laws.specs.Stored.{StoresExactly}
 use Rattle.lrc_node_laws.specs.Own.{HasOwn, OwnCopied}
@@ -218,8 +218,8 @@ own-kept v _ (discards collection w) r s h =
     let same : collection.time ≡ v.time = subst (CollectsAt v.time) w r.present in
     let none : intervals_of (discarded v.memory.store collection.time) ≡ [] =
     ap (λ t. intervals_of (discarded v.memory.store t)) same ∙ nothing-left v.time v.memory s in
-    subst (All (Own v.setting.me (collected_at v.setting.me collection.time v.memory))) (sym none)
-    (All-nil (Own v.setting.me (collected_at v.setting.me collection.time v.memory)))
+    subst (All (Own v.setting.me (after_collection v.setting.me collection.time v.memory))) (sym none)
+    (All-nil (Own v.setting.me (after_collection v.setting.me collection.time v.memory)))
 own-kept v _ (misses page w lt b n) r s h = h
 own-kept v _ (mends need w met) r s h =
     own-copies v.setting.me v.time v.memory (repaired v.memory need) refl s

@@ -14,7 +14,7 @@ use Rattle.lrc_store.proofs.Stores.{intervals_of-added, intervals_of-discarded}
 use Rattle.lrc_protocol.specs.Times.{is_named, next_time}
 use Rattle.lrc_protocol.specs.Pages.{Copy, changes_of, closed, invalidated, dropped, Memory, with_copy, all_changes, closed_interval}
 use Rattle.lrc_protocol.specs.Pages.{with_interval, learned, keeper_at, Need, repaired}
-use Rattle.lrc_protocol.specs.Barriers.{least, namers_of, with_keepers, with_base, collected_at, clean_memory}
+use Rattle.lrc_protocol.specs.Barriers.{least, namers_of, with_keepers, with_base, after_collection, clean_memory}
 use Rattle.lrc_protocol.specs.Node.{Wait, nothing, grant, departure, access, upkeep, discard}
 use Rattle.lrc_protocol.specs.Turn.{with_needs}
 use Rattle.lrc_node_laws.specs.Ranges.{InRange, HasRanges, CollectsAt}
@@ -164,7 +164,7 @@ keeps-ranges nodes pages memory h = record {
 }
 
 discards-ranges : (nodes pages me : ℕ) (time : List ℕ) (memory : Memory) → length time ≡ nodes → HasRanges nodes pages memory
-    → HasRanges nodes pages (collected_at me time memory)
+    → HasRanges nodes pages (after_collection me time memory)
 discards-ranges nodes pages me time memory long h = record {
   copies = length-map memory.copies dropped ∙ h.copies;
   bases = length-placed (λ (place : ℕ × Option (List ℕ)). if keeper_at memory place.0 == me then place.1 else None) memory.bases ∙ h.bases;

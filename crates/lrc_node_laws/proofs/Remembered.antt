@@ -15,7 +15,7 @@ use Rattle.lrc_page.specs.Place.{page_of, offset_of}
 use Rattle.lrc_protocol.specs.Times.{is_named, next_time}
 use Rattle.lrc_protocol.specs.Pages.{Copy, valid, written, invalid, absent, after_write, closed, invalidated, dropped, Memory, copy_at}
 use Rattle.lrc_protocol.specs.Pages.{with_written_word, all_changes, closed_interval, with_interval, learned, Need, repaired, with_part}
-use Rattle.lrc_protocol.specs.Barriers.{with_keepers, collected_at, clean_memory}
+use Rattle.lrc_protocol.specs.Barriers.{with_keepers, after_collection, clean_memory}
 use Rattle.lrc_node_laws.specs.Stored.{StoresExactly}
 use Rattle.lrc_node_laws.specs.Remembered.{IsBetween}
 use Rattle.lrc_node_laws.proofs.Lists.{length-placed}
@@ -187,7 +187,7 @@ between-kept v _ (resumes o) r s h = h
 between-kept v _ (begins before time w t c long) r s h = λ page. same v.time v.memory (with_keepers v.memory) page (copy_at v.memory page) refl refl (h page)
 between-kept v _ (cleans collection needs w met) r s h = cleans-between v needs collection.kept h
 between-kept v _ (discards collection w) r s h = λ page.
-    let now : Memory = collected_at v.setting.me collection.time v.memory in
+    let now : Memory = after_collection v.setting.me collection.time v.memory in
     subst (IsBetween v.time now page) (sym (map-copy dropped refl v.memory.copies page)) (dropped-between v.time now page (copy_at v.memory page))
 between-kept v _ (misses page w lt b n) r s h = h
 between-kept v _ (mends need w met) r s h = λ page.

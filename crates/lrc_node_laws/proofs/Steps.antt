@@ -11,7 +11,7 @@ use Rattle.lrc_time.proofs.Times.{entry-set_same, entry-joined}
 use Rattle.lrc_exec.specs.Meaning.{Thread, Next, quiet, prints, reads, writes, acquires, releases, arrives, departs, traps, ends, next_of}
 use Rattle.lrc_store.specs.Interval.{IntervalRecord}
 use Rattle.lrc_envelope.specs.declared.message.Message.{Message}
-use Rattle.lrc_protocol.specs.Barriers.{collected_at}
+use Rattle.lrc_protocol.specs.Barriers.{after_collection}
 use Rattle.lrc_protocol.specs.Node.{Letter, Wait, nothing, access, Course, going, trapped, ended, deed_of, cost_of, Node, Effect, value_read}
 use Rattle.lrc_protocol.specs.Node.{acts, acts_by, with_memory, waiting, own_index}
 use Rattle.lrc_protocol.specs.Turn.{is_learnable, after_close, charged, learns, TurnRecord, taking}
@@ -173,7 +173,7 @@ module _ (most : ℕ) where
   take-spends node from message e f h (take_clean episode before after at is) = omega (arith, h)
   take-spends node from message e f h (take_last_clean episode over before after at is) = omega (arith, h)
   take-spends node from message e f h (take_discard episode collection from_manager at is) =
-      leaves-spends (waiting nothing (with_memory node (collected_at node.setting.me collection.time node.memory)))
+      leaves-spends (waiting nothing (with_memory node (after_collection node.setting.me collection.time node.memory)))
       (subst (λ w. FixesNext w (next_in node.course)) at f) (omega (arith, h))
   take-spends node from message e f h (take_changes_request m lt all) = omega (arith, h)
   take-spends node from message e f h (take_page_request page values lt other at) = omega (arith, h)

@@ -15,7 +15,7 @@ use Rattle.lrc_barrier.specs.Barrier.{ManagerRecord}
 use Rattle.lrc_protocol.specs.Times.{next_time}
 use Rattle.lrc_protocol.specs.Pages.{is_readable, Memory, copy_at, with_written_word, with_interval, learned, Need, need_of, is_met, repaired}
 use Rattle.lrc_protocol.specs.Pages.{changes_came, page_came, with_part}
-use Rattle.lrc_protocol.specs.Barriers.{with_keepers, collected_at, Collection, clean_memory, arrival_in}
+use Rattle.lrc_protocol.specs.Barriers.{with_keepers, after_collection, Collection, clean_memory, arrival_in}
 use Rattle.lrc_protocol.specs.Node.{Letter, Wait, nothing, grant, departure, access, upkeep, discard, needs_of, Course, going, trapped, ended}
 use Rattle.lrc_protocol.specs.Node.{Node, Effect, makes, acts, acts_by, with_memory, waiting}
 use Rattle.lrc_protocol.specs.Turn.{with_needs, charged, TurnRecord, Outcome, done, not_ready, unexpected, worn, taking, is_repeat}
@@ -84,7 +84,7 @@ pub data First (came : Came) (v : View) : View → Type 0 where
         memory = with_keepers (knowing v time intervals).memory;
       })
   discards : (collection : Collection) → v.wait ≡ discard collection
-      → First came v (record v { wait = nothing; memory = collected_at v.setting.me collection.time v.memory })
+      → First came v (record v { wait = nothing; memory = after_collection v.setting.me collection.time v.memory })
   misses : (page : ℕ) → v.wait ≡ nothing → page < pages_in v → is_readable (copy_at v.memory page) ≡ false
       → page_next v.size (next_in v.course) ≡ Some page
       → First came v (record v { wait = access (need_of v.setting.nodes v.memory page) })

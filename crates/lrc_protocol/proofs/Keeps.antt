@@ -21,7 +21,7 @@ use Rattle.lrc_protocol.specs.Follows.{thread_of}
 use Rattle.lrc_protocol.specs.Node.{with_memory, waiting, own_index}
 use Rattle.lrc_protocol.specs.Turn.{requests_of, fetches, keeps_up, takes_reply, with_needs, after_close, closing, reaches, acquire_at, release_at, arrive_at}
 use Rattle.lrc_protocol.specs.Turn.{run_effect, learns, given, expects_request, expects_forward, forward_by, expects_grant, are_arriving, arrive_by}
-use Rattle.lrc_protocol.specs.Turn.{expects_departure, needs_to_keep, collects, clean_by, discard_by, expects_changes_request, expects_changes_reply}
+use Rattle.lrc_protocol.specs.Turn.{expects_departure, needs_of_kept, collects, clean_by, discard_by, expects_changes_request, expects_changes_reply}
 use Rattle.lrc_protocol.specs.Turn.{expects_page_request, page_reply_by, expects_page_reply, takes}
 use Rattle.lrc_page.specs.Place.{page_of}
 
@@ -160,7 +160,7 @@ collects-keeps : (time : List ℕ) (node : Node) → Kept node (collects time no
 collects-keeps time node =
     let keeping : Node = with_memory node (with_keepers node.memory) in
     let kept : List ℕ = kept_pages node.setting.me keeping.memory in
-    let needs : List Need = needs_to_keep keeping kept in
+    let needs : List Need = needs_of_kept keeping kept in
     keeps_up-keeps (flat_map requests_of needs) keeping (record { time = time; kept = kept }) needs
 
 pub take-keeps : (node : Node) (from : ℕ) (message : Message) → KeptIf node (takes node from message)

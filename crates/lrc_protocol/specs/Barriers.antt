@@ -1,5 +1,5 @@
--- Barriers and collections. The manager is node 0: arrivals are kept beside its state, and reach it by its own departure. A
--- collection drops what all nodes know (Amza et al. 1996).
+-- Barriers and collections. The manager is a part of node 0. It keeps what arrives by itself: node 0's time and memory learn of
+-- it by its own departure alone. A collection drops what all nodes know (Amza et al. 1996).
 use Rattle.std.specs.Prelude.{[], ℕ, ◌&&◌, ◌+◌, ◌==◌, ◌∷◌, filter, filter_map, fold, if◌then◌else◌, length, List, map, min}
 use Rattle.std.specs.Prelude.{None, Option, option_map, slice_index, slice_index_or, slice_set, Some, unwrap_or}
 use Rattle.std.specs.List.{enumerate_from, range_with_len}
@@ -46,7 +46,6 @@ pub record Collection : Type 0 where
   pub time : List ℕ
   pub kept : List ℕ
 
--- ---- collection
 -- the least of some numbers
 abbrev pub least : List ℕ → Option ℕ
 least [] = None
@@ -57,7 +56,8 @@ abbrev pub namers_of : StoreRecord → ℕ → List ℕ
 namers_of store page = filter_map (λ i. if is_named (i ∷ []) page then Some i.node else None) (intervals_of store)
 
 -- the memory with the keepers after a collection: the lowest node that named the page since the last one, and else the
--- one before. The store has just the intervals since the last collection.
+-- one before. The store has just the intervals since the last collection, and it is the same at all nodes, which have just taken
+-- their departures: so all name the same keepers.
 abbrev pub with_keepers : Memory → Memory
 with_keepers memory = record memory {
   keepers = map (λ place. unwrap_or (least (namers_of memory.store place.0)) place.1) (enumerate_from 0 memory.keepers);
@@ -82,11 +82,10 @@ clean_memory needs kept memory = fold with_base (fold repaired memory needs) kep
 
 -- the memory once all up to this time is collected: no interval that it covers is left, no base copy of a page that
 -- another node keeps, and no invalid copy
-abbrev pub collected_at : ℕ → List ℕ → Memory → Memory
-collected_at me time memory = record {
+abbrev pub after_collection : ℕ → List ℕ → Memory → Memory
+after_collection me time memory = record memory {
   store = discarded memory.store time;
   copies = map dropped memory.copies;
   bases = map (λ place. if keeper_at memory place.0 == me then place.1 else None) (enumerate_from 0 memory.bases);
-  keepers = memory.keepers;
   collected = time;
 }

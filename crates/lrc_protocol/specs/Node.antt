@@ -31,8 +31,8 @@ pub data Course : Type 0 where
   trapped : Cause → Course
   ended : Course
 
--- The deed of what a thread does next, a read giving this value. A departure stands apart, since a thread asks for nothing
--- by it: the message that lets it go makes it.
+-- The deed of what a thread does next, a read giving this value. A departure stands apart: arriving and departing are one ask,
+-- Barrier, whose deed is the Arrive.
 abbrev pub deed_of : ℕ → Next → Deed
 deed_of value (departs after) = Depart
 deed_of value next = deed_asked value (ask_of next)
@@ -67,7 +67,7 @@ pub data Wait : Type 0 where
   access : (need : Need) → Wait
   -- what the pages need that it keeps, in a collection,
   upkeep : (collection : Collection) → (needs : List Need) → Wait
-  -- or, its copies being clean, the word to discard.
+  -- or, the pages that it keeps being clean, the word to discard.
   discard : (collection : Collection) → Wait
 
 -- whether nothing is awaited
@@ -144,8 +144,8 @@ pub record OptionsRecord : Type 0 where
   pub first : ℕ
   pub size : Size
 
--- what does not change: the nodes, the words, the locks, and which node it is, and the options; how far its text has come, and
--- the steps left; and its parts in what the chapters before tell
+-- what does not change: which node it is, of how many, the words, the locks, and the options; how far its text has come, and the
+-- steps left; and its locks, its part in barriers, its memory and its mail
 pub record Node : Type 0 where
   pub setting : Setting
   pub options : OptionsRecord
@@ -177,7 +177,8 @@ fresh_node program nodes options me = first_node options (setting_of program nod
 abbrev pub own_index : Node → ℕ
 own_index node = entry node.locks.time node.setting.me
 
--- the node with other locks, another part in barriers, other memory, or other tokens
+-- The node with other locks, another part in barriers, other memory, or other tokens. (What changes a node's part takes the part
+-- last, what changes a node takes the node first.)
 abbrev pub with_locks : Node → Locks → Node
 with_locks node locks = record node { locks = locks }
 
@@ -196,7 +197,7 @@ waiting wait node = record node { mail = record node.mail { wait = wait } }
 
 -- ---- effects
 
--- what a turn does: its deed if it makes an act, what it sends, and the node after it
+-- what a turn does: its deed if it makes an act (a deed with its node), what it sends, and the node after it
 pub record Effect : Type 0 where
   pub deed : Option Deed
   pub letters : List Letter
@@ -226,9 +227,9 @@ makes letters node next =
       node = record node { course = course_of value next; memory = memory_after node next };
     }
 
--- Makes the act that the node's text is at. A message that ends a wait does so too: since the node began to wait its text stands
--- before the statement for which it waits, so a grant makes the acquire, the last reply the access, and a departure or the word to
--- discard the depart, which is what a thread does next once it has arrived.
+-- Makes the act that the node's text is at. A message that ends a wait does so too, since the text has not moved while the node
+-- waited: a grant makes the acquire, the last reply the access, and a departure or the word to discard the depart, which is next
+-- for a thread that has arrived. A text that has stopped is never asked: it neither begins nor waits.
 abbrev pub acts_by : List Letter → Node → Course → Effect
 acts_by letters node (going thread) = makes letters node (next_of thread)
 acts_by letters node (trapped cause) = sends letters node

@@ -57,7 +57,8 @@ abbrev pub closed : Copy → Copy
 closed (written values twin) = valid values
 closed copy = copy
 
--- the copy once a notice of another node's write came, at a node whose time was this just before
+-- The copy once a notice of another node's write came, at a node whose time was this just before. No copy is written then: news
+-- comes between a close and the next write. An invalid one keeps its earlier time, and lacks all that came since.
 abbrev pub invalidated : List ℕ → Copy → Copy
 invalidated before (valid values) = invalid values before
 invalidated before copy = copy
@@ -109,18 +110,19 @@ with_written_word size word value memory =
 
 -- ---- intervals
 
--- each page written in the open interval with its changes, the pages ascending
+-- each page written in the open interval with its changes, the pages ascending (a place is a pair: a number, and what stands
+-- there)
 abbrev pub all_changes : Memory → List (ℕ × List Change)
 all_changes memory =
     filter_map (λ place. option_map (λ changes. (place.0, changes)) (changes_of place.1)) (enumerate_from 0 memory.copies)
 
 -- the interval that a node closes: it names each page written in it, also where nothing changed
 abbrev pub closed_interval : ℕ → List ℕ → Memory → IntervalRecord
-closed_interval me stamp memory = record { node = me; stamp = stamp; pages = map (λ page. page.0) (all_changes memory) }
+closed_interval me stamp memory = record { node = me; stamp = stamp; pages = map (λ written. written.0) (all_changes memory) }
 
 -- the store with the changes that a node's interval made to a page
 abbrev pub with_own : ℕ → ℕ → StoreRecord → ℕ × List Change → StoreRecord
-with_own me index store page = attached store (record { node = me; index = index; page = page.0 }) page.1
+with_own me index store change = attached store (record { node = me; index = index; page = change.0 }) change.1
 
 -- the memory once the node closed the interval with this stamp: it is stored with its changes, and no twin is left
 abbrev pub with_interval : ℕ → List ℕ → Memory → Memory
@@ -129,7 +131,8 @@ with_interval me stamp memory = record memory {
   copies = map closed memory.copies;
 }
 
--- the memory once these intervals of other nodes came, at a node whose time was `before`: their pages become invalid
+-- the memory once these intervals of other nodes came, at a node whose time was `before`: valid copies of their pages become
+-- invalid
 abbrev pub learned : List ℕ → List IntervalRecord → Memory → Memory
 learned before intervals memory = record memory {
   store = fold added memory.store intervals;
@@ -164,13 +167,14 @@ with_part maker page store part =
 
 -- ---- what a page needs before it can be read
 
--- where the base copy is that a page needs: not asked for, asked of its keeper, or come
+-- the base copy of a page: not needed, since the node has a copy of its own; due from its keeper; or come
 pub data Base : Type 0 where
   unneeded : Base
   due : (keeper : ℕ) → Base
   come : (values : List ℕ) → Base
 
--- the changes that are asked of a maker: those of its intervals with these indices, ascending
+-- the changes that are asked of their maker, the node whose intervals they are of: those of the intervals with these indices,
+-- ascending
 pub record Asked : Type 0 where
   pub maker : ℕ
   pub indices : List ℕ
@@ -228,13 +232,13 @@ is_due (due keeper) = true
 is_due _ = false
 
 -- whether there is nothing in a list
-abbrev pub is_nothing : {X : Type 0} → List X → Bool
-is_nothing [] = true
-is_nothing (x ∷ xs) = false
+abbrev pub is_empty_list : {X : Type 0} → List X → Bool
+is_empty_list [] = true
+is_empty_list (x ∷ xs) = false
 
 -- whether all has come that the page needs
 abbrev pub is_met : Need → Bool
-is_met need = not (is_due need.base) && is_nothing need.asked
+is_met need = not (is_due need.base) && is_empty_list need.asked
 
 -- these are the changes that are asked of a maker
 abbrev pub asks_just : ℕ → List ℕ → Asked → Bool
@@ -253,7 +257,7 @@ is_due_from keeper _ = false
 abbrev pub awaits_page : ℕ → ℕ → Need → Bool
 awaits_page page keeper need = (need.page == page) && is_due_from keeper need.base
 
--- the need once a maker's changes of the page came: they are no longer asked for, and stand in the store
+-- the need once a maker's changes of the page came: they are no longer asked for
 abbrev pub changes_came : ℕ → ℕ → Need → Need
 changes_came page maker need =
     if need.page == page then record need { asked = filter (λ asked. not (asked.maker == maker)) need.asked } else need

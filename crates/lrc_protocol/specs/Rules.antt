@@ -24,11 +24,11 @@ use Rattle.lrc_protocol.specs.Times.{MOST_NUMBER}
 use Rattle.lrc_protocol.specs.Pages.{is_readable, Memory, copy_at, Need, need_of, is_met, repaired, awaits_changes, awaits_page, changes_came}
 use Rattle.lrc_protocol.specs.Pages.{page_came, with_part}
 use Rattle.lrc_protocol.specs.Locks.{with_managed}
-use Rattle.lrc_protocol.specs.Barriers.{arrival_in, with_keepers, kept_pages, base_at, collected_at, Collection, with_arrive, with_manager}
+use Rattle.lrc_protocol.specs.Barriers.{arrival_in, with_keepers, kept_pages, base_at, after_collection, Collection, with_arrive, with_manager}
 use Rattle.lrc_protocol.specs.Node.{nothing, grant, departure, access, upkeep, discard, needs_of, numbered, going, cost_of, Node, Effect}
 use Rattle.lrc_protocol.specs.Node.{with_locks, with_barrier, with_memory, with_tokens, waiting, sends, acts, own_index}
 use Rattle.lrc_protocol.specs.Turn.{request_of, forward_to, grants_of, arrival_of, departure_of, discards_to, requests_of, changes_reply_to}
-use Rattle.lrc_protocol.specs.Turn.{page_reply_to, cleans, after_close, charged, is_learnable, are_arriving, are_changes, learns, needs_to_keep}
+use Rattle.lrc_protocol.specs.Turn.{page_reply_to, cleans, after_close, charged, is_learnable, are_arriving, are_changes, learns, needs_of_kept}
 use Rattle.lrc_protocol.specs.Turn.{TurnRecord, with_sent, empty_turn, is_repeat, taking}
 use Rattle.lrc_protocol.specs.Run.{Input, run, taken as taken_in}
 
@@ -140,7 +140,7 @@ abbrev pub collection_at : Node → DepartRecord → Collection
 collection_at node m = record { time = m.time; kept = kept_pages node.setting.me (keeping node m).memory }
 
 abbrev pub upkeep_at : Node → DepartRecord → List Need
-upkeep_at node m = needs_to_keep (keeping node m) (collection_at node m).kept
+upkeep_at node m = needs_of_kept (keeping node m) (collection_at node m).kept
 
 -- the rules of a node that takes a message from another, its number taken
 pub data TakeRule (node : Node) (from : ℕ) : Message → Effect → Type 0 where
@@ -212,7 +212,7 @@ pub data TakeRule (node : Node) (from : ℕ) : Message → Effect → Type 0 whe
   -- Discard, from node 0, where the node has sent its Clean of that episode: it drops what was collected
   take_discard : (episode : ℕ) (collection : Collection) → from ≡ 0 → node.mail.wait ≡ discard collection → episode ≡ node.barrier.episode
       → TakeRule node from (Discard episode)
-      (acts [] (waiting nothing (with_memory node (collected_at node.setting.me collection.time node.memory))))
+      (acts [] (waiting nothing (with_memory node (after_collection node.setting.me collection.time node.memory))))
   -- ChangesRequest, where each index is of a stored interval of this node that names the page: the changes go to who asks
   take_changes_request : (m : ChangesRequestRecord) → m.page < pages_of node.setting.words node.options.size
       → list_all

@@ -14,7 +14,7 @@ use Rattle.lrc_protocol.specs.declared.event.Event.TheVariants.{Deliver, Repeat,
 
 -- ---- a node with its log
 
--- what makes a turn: the node is named, or a message is delivered
+-- what makes a turn: a Run names the node, or a message is delivered
 pub data Input : Type 0 where
   run : Input
   taken : EnvelopeRecord → Input
@@ -68,13 +68,14 @@ logging input stamp log not_ready = refused
 logging input stamp log unexpected = refused
 logging input stamp log worn = too_large
 
--- an input to a node with its log; a message comes with the stamp of the turn that sent it, and the node's name with 0
+-- an input to a node with its log; a message comes with the stamp of the turn that sent it, a Run with 0
 abbrev pub logs : Logged → Input → ℕ → Logging
 logs l input came = logging input (next_stamp l.log came) l.log (outcome_of l.node input)
 
 -- ---- all nodes
 
--- a message in flight, with the stamp of the turn that sent it, and whether it was delivered already
+-- a message in flight, with the stamp of the turn that sent it, and whether it was delivered already (only a schedule looks at
+-- that)
 pub record Flying : Type 0 where
   pub envelope : EnvelopeRecord
   pub stamp : ℕ

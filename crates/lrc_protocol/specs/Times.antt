@@ -22,6 +22,7 @@ is_named intervals page = list_any (λ interval. list_any (λ named. named == pa
 abbrev pub indices_by : List IntervalRecord → ℕ → List ℕ
 indices_by intervals q = map index_of (filter (λ interval. interval.node == q) intervals)
 
--- the intervals of a node are exactly those above this index and up to that one
+-- the intervals of a node are exactly those above this index and up to that one; none where that one is not greater, since ◌-◌
+-- gives no less than 0
 abbrev pub are_between : List IntervalRecord → ℕ → ℕ → ℕ → Bool
 are_between intervals q above upto = pointwise ◌==◌ (indices_by intervals q) (range_with_len (above + 1) (upto - above))

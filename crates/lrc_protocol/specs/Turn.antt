@@ -1,5 +1,8 @@
--- A turn: a node goes on by itself, or it takes a message. Below stands first what it does by itself, then each message with the
--- condition where it is expected and what it does, and at last how a turn is made of that. docs/protocol.md says it in two tables.
+-- A turn: a node goes on by itself, or it takes a message. Below stands first what it does by itself (`run_effect`), then each
+-- message with the condition where it is expected and what it does (`takes`), and at last how a turn is made of that: the letters of
+-- an Effect get their numbers, which gives an Outcome. No effect means an interval's index too large where a node goes on by
+-- itself, and "not expected" where it takes a message. A name that ends in _by goes on from what a step of a lower crate, or an
+-- option, says. docs/protocol.md says it in two tables.
 use Rattle.std.specs.Prelude.{[], ℕ, ◌&&◌, ◌++◌, ◌+◌, ◌-◌, ◌==◌, ◌∷◌, Bool, false, filter, flat_map, fold, if◌then◌else◌}
 use Rattle.std.specs.Prelude.{is_some, length, List, map, nat_le, nat_lt, None, not, Option, option_and_then, option_map}
 use Rattle.std.specs.Prelude.{slice_set, Some}
@@ -31,7 +34,7 @@ use Rattle.lrc_protocol.specs.Times.{are_between, MOST_NUMBER}
 use Rattle.lrc_protocol.specs.Pages.{Asked, awaits_changes, awaits_page, Base, changes_or_none, copy_at, due, is_met, is_readable, learned}
 use Rattle.lrc_protocol.specs.Pages.{repaired, Need, need_of, changes_came, with_interval, page_came, with_part}
 use Rattle.lrc_protocol.specs.Locks.{ticked, with_managed, with_joined_time}
-use Rattle.lrc_protocol.specs.Barriers.{arrival_in, base_at, clean_memory, collected_at, Collection, kept_pages, last_arrived, with_arrive}
+use Rattle.lrc_protocol.specs.Barriers.{arrival_in, base_at, clean_memory, after_collection, Collection, kept_pages, last_arrived, with_arrive}
 use Rattle.lrc_protocol.specs.Barriers.{with_keepers, with_manager}
 use Rattle.lrc_protocol.specs.Node.{access, acts, awaits_departure, awaits_grant, collection_of, cost_of, Course, departure, discard, Effect}
 use Rattle.lrc_protocol.specs.Node.{ended, going, grant, is_idle, Letter, needs_of, Node, nothing, numbered, own_index, sends, trapped, upkeep}
@@ -65,7 +68,7 @@ begins_of left (going thread) = if may_begin left (next_of thread) then Some (ne
 begins_of left (trapped cause) = None
 begins_of left ended = None
 
--- what the node begins if it is named; none where it waits, too
+-- what the node begins if a Run names it; none where it waits, too
 abbrev pub begins : Node → Option Next
 begins node = if is_idle node.mail.wait then begins_of node.left node.course else None
 
@@ -102,8 +105,8 @@ page_request_of page _ = []
 abbrev pub requests_of : Need → List Letter
 requests_of need = page_request_of need.page need.base ++ map (changes_request_of need.page) need.asked
 
--- A miss: the letters go out, and the node waits for what the page needs; where all has come, the page is repaired and the
--- access is made.
+-- A miss: the letters go out, and the node waits for what the page needs; where all has come, and so no letter goes out, the page is
+-- repaired and the access is made.
 abbrev pub fetches : List Letter → Node → Need → Effect
 fetches letters node need =
     if is_met need
@@ -167,7 +170,7 @@ arrive_at node =
     acts (arrival_of node (node.barrier.episode + 1) ∷ [])
     (waiting departure (with_barrier node (with_arrive (own_index node) node.barrier)))
 
--- the effect of what a thread does next; none where a number would be too large. A trap closes nothing.
+-- the effect of what a thread does next; none where its interval's index would be too large. A trap closes nothing.
 abbrev pub run_effect : Node → Next → Option Effect
 run_effect node (reads word after) = Some (reaches node (page_of word node.options.size))
 run_effect node (writes word value after) = Some (reaches node (page_of word node.options.size))
@@ -234,7 +237,7 @@ forward_to to lock asker time = letter to (LockForward (record { lock = lock; as
 abbrev pub expects_request : Node → LockRequestRecord → Bool
 expects_request node m = is_lock node m.lock && is_time node m.time && (manager_of node.setting.nodes m.lock == node.setting.me)
 
--- and goes on to who asked last
+-- and goes on to who asked last (`requested` of the crate of locks, the manager being here)
 abbrev pub passes_on : Node → ℕ → LockRequestRecord → Effect
 passes_on node from m =
     sends (forward_to (recent_asker node.locks.managed m.lock) m.lock from m.time ∷ [])
@@ -245,8 +248,8 @@ abbrev pub expects_forward : Node → ℕ → LockForwardRecord → Bool
 expects_forward node from m =
     is_lock node m.lock && is_node node m.asker && is_time node m.time && (manager_of node.setting.nodes m.lock == from)
 
--- and the token, here or awaited, has no successor: the lock is granted at once, with the time of the last release here, or
--- the asker is kept as successor
+-- the token is here or awaited, without a successor, and the asker is another node: the lock is granted at once, with the time of
+-- the last release here, or the asker is kept as successor
 abbrev pub forward_by : Node → ℕ → LockStep → Option Effect
 forward_by node lock step =
     given (is_taken step) (Some (sends (grants_of node (pass_of step)) (with_tokens node (held_after node.locks.held lock step))))
@@ -292,18 +295,19 @@ expects_departure node from m =
     && covers m.time node.locks.time && is_learnable node m.time m.intervals
 
 -- what the pages need that a node keeps, where their copies are not readable
-abbrev pub needs_to_keep : Node → List ℕ → List Need
-needs_to_keep node kept =
+abbrev pub needs_of_kept : Node → List ℕ → List Need
+needs_of_kept node kept =
     map (need_of node.setting.nodes node.memory) (filter (λ page. not (is_readable (copy_at node.memory page))) kept)
 
--- the node's copies are clean: it keeps its base copies, tells node 0, and waits for the word to discard
+-- all has come: the pages that the node keeps are repaired, it keeps base copies of them, tells node 0, and waits for the word to
+-- discard
 abbrev pub cleans : Node → Collection → List Need → Effect
 cleans node collection needs =
     sends (letter 0 (Clean node.barrier.episode) ∷ [])
     (waiting (discard collection) (with_memory node (clean_memory needs collection.kept node.memory)))
 
--- Upkeep in a collection: the letters go out, and the node waits for what the pages need that it keeps; where all has come, its
--- copies are clean.
+-- Upkeep in a collection: the letters go out, and the node waits for what the pages need that it keeps; where all has come it
+-- cleans.
 abbrev pub keeps_up : List Letter → Node → Collection → List Need → Effect
 keeps_up letters node collection needs =
     if list_all is_met needs
@@ -315,7 +319,7 @@ abbrev pub collects : List ℕ → Node → Effect
 collects time node =
     let keeping = with_memory node (with_keepers node.memory) in
     let kept = kept_pages node.setting.me keeping.memory in
-    let needs = needs_to_keep keeping kept in
+    let needs = needs_of_kept keeping kept in
     keeps_up (flat_map requests_of needs) keeping (record { time = time; kept = kept }) needs
 
 -- the departure brings news, and the depart is made, or first a collection
@@ -342,7 +346,7 @@ clean_by node (discards episode manager) =
 abbrev pub discard_by : Node → Option Collection → Option Effect
 discard_by node None = None
 discard_by node (Some collection) =
-    Some (acts [] (waiting nothing (with_memory node (collected_at node.setting.me collection.time node.memory))))
+    Some (acts [] (waiting nothing (with_memory node (after_collection node.setting.me collection.time node.memory))))
 
 -- ---- ChangesRequest, ChangesReply
 
@@ -373,7 +377,8 @@ with_needs change (access need) = access (change need)
 with_needs change (upkeep collection needs) = upkeep collection (map change needs)
 with_needs change wait = wait
 
--- A reply: the node that waits for it goes on, or waits for what is still to come.
+-- A reply: the node that waits for it goes on, or waits for what is still to come. The wait is the node's own, with what came noted in
+-- it; no reply is expected in another wait than these two.
 abbrev pub takes_reply : Node → Wait → Effect
 takes_reply node (access need) = fetches [] node need
 takes_reply node (upkeep collection needs) = keeps_up [] node collection needs
@@ -470,7 +475,7 @@ turn_by node (Some next) = turn_or worn (run_effect (charged node next) next)
 abbrev pub run_turn : Node → Outcome
 run_turn node = turn_by node (begins node)
 
--- whether the node would go on if it were named
+-- whether the node would go on if a Run named it
 abbrev pub is_ready : Node → Bool
 is_ready node = is_some (begins node)
 

@@ -4,7 +4,7 @@ ghost use Rattle.std.specs.Prelude.{◌≡◌, ◌<◌, All, IfOk, filter, lengt
 ghost use Rattle.lrc_protocol.specs.Pages.{is_readable, need_of, copy_at};
 ghost use Rattle.lrc_protocol.specs.Barriers.{kept_pages, with_keepers};
 ghost use Rattle.lrc_protocol.specs.Node.{with_memory as with_node_memory};
-ghost use Rattle.lrc_protocol.specs.Turn.{collects, needs_to_keep};
+ghost use Rattle.lrc_protocol.specs.Turn.{collects, needs_of_kept};
 ghost use Rattle.lrc_node.specs.Keeping.{CanCollect};
 ghost use Rattle.lrc_node.specs.State.{seen_effect, AreFor};
 
@@ -50,7 +50,7 @@ impl NodeState<'_> {
     // What those of the pages that the node keeps need that may not be read.
     fn needs_to_keep(&self, kept: &Pages) -> Result<Vec<Need>, AllocError>
         requires { All (λ page. page < length self.now.memory.copies) kept.now }
-        ensures { IfOk result (λ needs. needs.items ≡ needs_to_keep self.now kept.now) }
+        ensures { IfOk result (λ needs. needs.items ≡ needs_of_kept self.now kept.now) }
     {
         unread_needs(self.alloc, &self.memory, kept.as_slice())
     }

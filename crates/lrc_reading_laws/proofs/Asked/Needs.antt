@@ -8,7 +8,7 @@ use Rattle.std.proofs.lemmas.List.Elements.{All-head, All-tail, All-map}
 use Rattle.lrc_store.specs.declared.key.Key.{Key}
 use Rattle.lrc_envelope.specs.declared.message.Message.TheVariants.{ChangesRequest, PageRequest}
 use Rattle.lrc_protocol.specs.Pages.{Memory, Base, unneeded, due, come, Asked, Need, indices_of, some_asked, asked_of, unknown_of, asks_just}
-use Rattle.lrc_protocol.specs.Pages.{awaits_changes, is_due, is_due_from, awaits_page, is_nothing, is_met, changes_came, page_came}
+use Rattle.lrc_protocol.specs.Pages.{awaits_changes, is_due, is_due_from, awaits_page, is_empty_list, is_met, changes_came, page_came}
 use Rattle.lrc_protocol.specs.Node.{Letter}
 use Rattle.lrc_protocol.specs.Turn.{letter, changes_request_of, page_request_of, requests_of}
 use Rattle.lrc_node_laws.specs.Needs.{FitsNeed}
@@ -231,7 +231,7 @@ met-base page unneeded e = refl
 met-base page (due keeper) e = cc
 met-base page (come values) e = refl
 
-met-asked : (page : ℕ) (asked : List Asked) → is_nothing asked ≡ true → map (changes_request_of page) asked ≡ []
+met-asked : (page : ℕ) (asked : List Asked) → is_empty_list asked ≡ true → map (changes_request_of page) asked ≡ []
 met-asked page [] e = refl
 met-asked page (a ∷ asked) e = cc
 

@@ -17,7 +17,7 @@ use Rattle.lrc_envelope.specs.declared.message.Message.TheVariants.{Depart, Disc
 use Rattle.lrc_protocol.specs.Times.{is_named, next_time}
 use Rattle.lrc_protocol.specs.Pages.{Copy, valid, written, invalid, absent, is_readable, values_of, after_write, closed, invalidated, dropped}
 use Rattle.lrc_protocol.specs.Pages.{Memory, copy_at, with_interval, learned, keeper_at, Need, repaired}
-use Rattle.lrc_protocol.specs.Barriers.{least, with_base, base_at, collected_at, Collection, clean_memory}
+use Rattle.lrc_protocol.specs.Barriers.{least, with_base, base_at, after_collection, Collection, clean_memory}
 use Rattle.lrc_protocol.specs.Node.{Letter, Wait, nothing, grant, departure, access, upkeep, discard, Course, going, Node, Effect, makes, sends}
 use Rattle.lrc_protocol.specs.Node.{acts, acts_by}
 use Rattle.lrc_protocol.specs.Turn.{after_close, TurnRecord, taking, is_repeat}
@@ -145,13 +145,13 @@ clean-bases needs kept memory page h =
 
 -- a node goes on keeping the base copies of the pages that it keeps
 collected-bases : (me : ℕ) (time : List ℕ) (memory : Memory) (page : ℕ) → (keeper_at memory page == me) ≡ true
-    → is_some (base_at memory page) ≡ true → is_some (base_at (collected_at me time memory) page) ≡ true
+    → is_some (base_at memory page) ≡ true → is_some (base_at (after_collection me time memory) page) ≡ true
 collected-bases me time memory page mine h =
     ⊎_elim
     (λ (lt : page < length memory.bases).
     let f : ℕ × Option (List ℕ) → Option (List ℕ) = λ place. if keeper_at memory place.0 == me then place.1 else None in
     let same : 0 + page ≡ page = omega arith in
-    let now : base_at (collected_at me time memory) page ≡ (if keeper_at memory page == me then base_at memory page else None) =
+    let now : base_at (after_collection me time memory) page ≡ (if keeper_at memory page == me then base_at memory page else None) =
     get_or-map f (enumerate_from 0 memory.bases) page (0, None) None (omega (arith, lt, length-enumerate_from 0 memory.bases))
     ∙ ap f (get_or-enumerate_from 0 memory.bases page (0, None) lt)
     ∙ ap (λ k. f (k, base_at memory page)) same in

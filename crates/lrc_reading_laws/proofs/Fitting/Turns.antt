@@ -17,7 +17,7 @@ use Rattle.lrc_copies.proofs.Stamping.{covered-le}
 use Rattle.lrc_protocol.specs.Times.{next_time, is_named}
 use Rattle.lrc_protocol.specs.Pages.{Copy, valid, written, invalid, absent, dropped, need_of, changes_came, page_came, Memory, copy_at}
 use Rattle.lrc_protocol.specs.Pages.{keeper_at, learned, with_interval, with_part}
-use Rattle.lrc_protocol.specs.Barriers.{Collection, base_at, kept_pages, collected_at, with_keepers}
+use Rattle.lrc_protocol.specs.Barriers.{Collection, base_at, kept_pages, after_collection, with_keepers}
 use Rattle.lrc_protocol.specs.Node.{Wait, nothing, grant, departure, access, upkeep, discard}
 use Rattle.lrc_protocol.specs.Turn.{with_needs}
 use Rattle.lrc_order_laws.proofs.Sends.{Came, comes}
@@ -94,10 +94,10 @@ module _ (count : ℕ) (wrote : Wrote) (made : List StoredRecord) (v : View) (fa
       (subst (λ w. FitsTime wrote made (bound_in w v.memory.collected page) page values) w (h.bases page values e))
   left-fits page values lt false mine e = absurd (no_base_left values e)
 
-  discards-fit : Fit wrote made v.time nothing (collected_at v.setting.me collection.time v.memory)
+  discards-fit : Fit wrote made v.time nothing (after_collection v.setting.me collection.time v.memory)
   discards-fit =
       let f : ℕ × Option (List ℕ) → Option (List ℕ) = λ place. if keeper_at v.memory place.0 == v.setting.me then place.1 else None in
-      let after : Memory = collected_at v.setting.me collection.time v.memory in
+      let after : Memory = after_collection v.setting.me collection.time v.memory in
       record {
         copies = λ page.
             subst (CopyFits wrote made v.time page) (sym (map-copy dropped refl v.memory.copies page))
@@ -193,7 +193,7 @@ module _ (came : Came) (count : ℕ) (wrote : Wrote) (made : List StoredRecord) 
         needs = new-needs wrote made v.memory.collected v.setting.nodes (with_keepers (knowing v time intervals).memory) _;
       })
   first-fit _ (discards collection e) shut =
-      stays (record v { wait = nothing; memory = collected_at v.setting.me collection.time v.memory }) refl
+      stays (record v { wait = nothing; memory = after_collection v.setting.me collection.time v.memory }) refl
       (discards-fit count wrote made v facts a s h collection e)
   first-fit _ (misses page e lt b n) shut =
       stays (record v { wait = access (need_of v.setting.nodes v.memory page) }) refl

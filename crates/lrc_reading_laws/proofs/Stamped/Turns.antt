@@ -18,7 +18,7 @@ use Rattle.lrc_barrier.specs.declared.departure.Departure.{Departure}
 use Rattle.lrc_protocol.specs.Times.{is_named, next_time}
 use Rattle.lrc_protocol.specs.Pages.{Copy, valid, written, invalid, absent, after_write, closed, invalidated, dropped, Memory, copy_at}
 use Rattle.lrc_protocol.specs.Pages.{with_copy, with_interval, learned, Base, unneeded, due, come, Asked, Need, repaired}
-use Rattle.lrc_protocol.specs.Barriers.{with_base, collected_at, clean_memory}
+use Rattle.lrc_protocol.specs.Barriers.{with_base, after_collection, clean_memory}
 use Rattle.lrc_protocol.specs.Node.{Letter, Course, going, trapped, ended, Node, Effect, acts, acts_by, memory_after}
 use Rattle.lrc_protocol.specs.Turn.{requests_of, page_request_of, changes_request_of, changes_reply_to, grants_of, departure_of, discards_to}
 use Rattle.lrc_protocol.specs.Turn.{arrival_of, charged, after_close, TurnRecord, done, run_turn, taking}
@@ -182,7 +182,7 @@ module _ (C : List ℕ → Type 0) where
   dropped-since (invalid values since) = tt
   dropped-since absent = tt
 
-  collected-timely : (me : ℕ) (time : List ℕ) (memory : Memory) → C time → Timely (collected_at me time memory)
+  collected-timely : (me : ℕ) (time : List ℕ) (memory : Memory) → C time → Timely (after_collection me time memory)
   collected-timely me time memory c = record {
     collected = c;
     since = λ page. subst SinceIn (sym (map-copy dropped refl memory.copies page)) (dropped-since (copy_at memory page));

@@ -4,7 +4,7 @@ use Rattle.std.specs.List.{list_all}
 use Rattle.lrc_protocol.specs.Pages.{Need, is_met}
 use Rattle.lrc_protocol.specs.Barriers.{kept_pages}
 use Rattle.lrc_protocol.specs.Node.{Letter, Node}
-use Rattle.lrc_protocol.specs.Turn.{requests_of, needs_to_keep, keeps_up}
+use Rattle.lrc_protocol.specs.Turn.{requests_of, needs_of_kept, keeps_up}
 use Rattle.lrc_node.specs.Keeping.{CanClean}
 use Rattle.lrc_node.specs.State.{AreFor}
 use Rattle.lrc_node.proofs.Keeping.{kept_within, begins_clean, begins_for}
@@ -20,9 +20,9 @@ pub keep_up-requires-clause-can : goal.keep_up-requires-clause-can
 keep_up-requires-clause-can c =
     let now : Node = c.take_keepers.new.self in
     subst (λ (needs : List Need). list_all is_met needs ≡ true → CanClean now c.in_ok-kept.kept needs) (sym c.in_ok-needs.ensures)
-    (subst (λ (kept : List ℕ). list_all is_met (needs_to_keep now kept) ≡ true → CanClean now kept (needs_to_keep now kept)) (sym c.in_ok-kept.ensures)
-    (subst (λ (n : Node). list_all is_met (needs_to_keep n (kept_pages n.setting.me n.memory)) ≡ true
-    → CanClean n (kept_pages n.setting.me n.memory) (needs_to_keep n (kept_pages n.setting.me n.memory))) (sym c.take_keepers.ensures)
+    (subst (λ (kept : List ℕ). list_all is_met (needs_of_kept now kept) ≡ true → CanClean now kept (needs_of_kept now kept)) (sym c.in_ok-kept.ensures)
+    (subst (λ (n : Node). list_all is_met (needs_of_kept n (kept_pages n.setting.me n.memory)) ≡ true
+    → CanClean n (kept_pages n.setting.me n.memory) (needs_of_kept n (kept_pages n.setting.me n.memory))) (sym c.take_keepers.ensures)
     (begins_clean c.args.self.now c.requires)))
 
 pub keep_up-requires-clause-to : goal.keep_up-requires-clause-to
@@ -32,8 +32,8 @@ keep_up-requires-clause-to c =
     ∙ ap (flat_map requests_of) c.deref.ensures.value in
     subst (AreFor now.setting.nodes) (sym sent)
     (subst (λ (needs : List Need). AreFor now.setting.nodes (flat_map requests_of needs)) (sym c.in_ok-needs.ensures)
-    (subst (λ (kept : List ℕ). AreFor now.setting.nodes (flat_map requests_of (needs_to_keep now kept))) (sym c.in_ok-kept.ensures)
-    (subst (λ (n : Node). AreFor n.setting.nodes (flat_map requests_of (needs_to_keep n (kept_pages n.setting.me n.memory)))) (sym c.take_keepers.ensures)
+    (subst (λ (kept : List ℕ). AreFor now.setting.nodes (flat_map requests_of (needs_of_kept now kept))) (sym c.in_ok-kept.ensures)
+    (subst (λ (n : Node). AreFor n.setting.nodes (flat_map requests_of (needs_of_kept n (kept_pages n.setting.me n.memory)))) (sym c.take_keepers.ensures)
     (begins_for c.args.self.now c.requires))))
 
 pub returns-clause-effect : goal.returns-clause-effect
@@ -43,10 +43,10 @@ returns-clause-effect c =
     let sent : c.in_ok-letters.letters.items ≡ flat_map requests_of c.in_ok-needs.needs.items = c.in_ok-letters.ensures
     ∙ ap (flat_map requests_of) c.deref.ensures.value in
     let node = ap (λ (n : Node). let kept = kept_pages n.setting.me n.memory in
-    keeps_up (flat_map requests_of (needs_to_keep n kept)) n
-    (record { time = time; kept = kept }) (needs_to_keep n kept)) (sym c.take_keepers.ensures) in
-    let kept = ap (λ (kept : List ℕ). keeps_up (flat_map requests_of (needs_to_keep now kept)) now
-    (record { time = time; kept = kept }) (needs_to_keep now kept))
+    keeps_up (flat_map requests_of (needs_of_kept n kept)) n
+    (record { time = time; kept = kept }) (needs_of_kept n kept)) (sym c.take_keepers.ensures) in
+    let kept = ap (λ (kept : List ℕ). keeps_up (flat_map requests_of (needs_of_kept now kept)) now
+    (record { time = time; kept = kept }) (needs_of_kept now kept))
     (sym c.in_ok-kept.ensures) in
     let needs = ap (λ (needs : List Need). keeps_up (flat_map requests_of needs) now
     (record { time = time; kept = c.in_ok-kept.kept }) needs) (sym c.in_ok-needs.ensures) in
