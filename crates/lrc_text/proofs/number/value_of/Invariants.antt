@@ -1,6 +1,6 @@
 use Rattle.std.proofs.Common.{◌≡◌, ◌≤◌, take}
 use Rattle.std.specs.Str.Parse.{AllDigits, digits_value}
-use Rattle.lrc_acts.proofs.numbers.value_of.Given as goal
+use Rattle.lrc_text.proofs.number.value_of.Given as goal
 
 abbrev pub invariant-loop-digit : goal.invariant-loop-digit
 invariant-loop-digit l = record {
