@@ -13,7 +13,8 @@ use Rattle.lrc_trace.specs.declared.act.Deed.{Deed}
 use Rattle.lrc_trace.specs.declared.act.Deed.TheVariants.{Quiet, Print, Read, Write, Acquire, Release, Arrive, Depart, Trap, End}
 use Rattle.lrc_text.specs.ActText.{act_line, act_text, cause_number, deed_text}
 use Rattle.lrc_text.specs.Lines.{lines_of}
-use Rattle.lrc_acts.specs.ActsText.{IsNumber, SayActs, SaysAct, SaysDeed, empty, more, none, is_blank, words_between, words_on}
+use Rattle.lrc_text.proofs.Numbers.{decimal_is_number}
+use Rattle.lrc_acts.specs.ActsText.{SayActs, SaysAct, SaysDeed, empty, more, none, is_blank, words_between, words_on}
 use Rattle.lrc_acts.proofs.WordLemmas.{is_some_word, some_word, take_one}
 use Rattle.lrc_acts.specs.Printed.{IsPrinted, nothing, line_more, IsRanged, IsRangedDeed, IsValue, numbers_from}
 
@@ -80,11 +81,6 @@ free_number n h = free_digits is_blank digit_no_blank (decimal n) (spelled n h).
 signless_number : (n : ℕ) → IsValue n → IsFree is_sign (decimal n)
 signless_number n h = free_digits is_sign digit_no_sign (decimal n) (spelled n h).1
 
-is_number : (n greatest : ℕ) → n ≤ greatest → greatest ≤ 18446744073709551615 → IsNumber (decimal n) greatest n
-is_number n greatest h k =
-    let is = decimal_is_IsNumeral n (omega (arith, h, k)) in
-    record { numeral = is.0; value = sym is.1; small = h }
-
 -- ---- deeds
 
 -- a space, as bytes
@@ -131,38 +127,38 @@ deed_said Quiet h = word_first (codes "quiet") [] (free_of is_blank (codes "quie
 deed_said (Print v) h = record {
   digits = decimal v;
   whole = one_number (codes "print") (codes "print ") refl (free_of is_blank (codes "print") refl) refl v h;
-  says = is_number v 18446744073709551615 h (omega arith);
+  says = decimal_is_number v 18446744073709551615 h (omega arith);
 }
 deed_said (Read w v) h = record {
   word_digits = decimal w;
   value_digits = decimal v;
   whole = two_numbers (codes "read") (codes "read ") refl (free_of is_blank (codes "read") refl) refl w v (omega (arith, h.0)) h.1;
-  says_word = is_number w 4294967295 h.0 (omega arith);
-  says_value = is_number v 18446744073709551615 h.1 (omega arith);
+  says_word = decimal_is_number w 4294967295 h.0 (omega arith);
+  says_value = decimal_is_number v 18446744073709551615 h.1 (omega arith);
 }
 deed_said (Write w v) h = record {
   word_digits = decimal w;
   value_digits = decimal v;
   whole = two_numbers (codes "write") (codes "write ") refl (free_of is_blank (codes "write") refl) refl w v (omega (arith, h.0)) h.1;
-  says_word = is_number w 4294967295 h.0 (omega arith);
-  says_value = is_number v 18446744073709551615 h.1 (omega arith);
+  says_word = decimal_is_number w 4294967295 h.0 (omega arith);
+  says_value = decimal_is_number v 18446744073709551615 h.1 (omega arith);
 }
 deed_said (Acquire l) h = record {
   digits = decimal l;
   whole = one_number (codes "acquire") (codes "acquire ") refl (free_of is_blank (codes "acquire") refl) refl l (omega (arith, h));
-  says = is_number l 255 h (omega arith);
+  says = decimal_is_number l 255 h (omega arith);
 }
 deed_said (Release l) h = record {
   digits = decimal l;
   whole = one_number (codes "release") (codes "release ") refl (free_of is_blank (codes "release") refl) refl l (omega (arith, h));
-  says = is_number l 255 h (omega arith);
+  says = decimal_is_number l 255 h (omega arith);
 }
 deed_said Arrive h = word_first (codes "arrive") [] (free_of is_blank (codes "arrive") refl) refl
 deed_said Depart h = word_first (codes "depart") [] (free_of is_blank (codes "depart") refl) refl
 deed_said (Trap cause) h = record {
   digits = decimal (cause_number cause);
   whole = one_number (codes "trap") (codes "trap ") refl (free_of is_blank (codes "trap") refl) refl (cause_number cause) (omega (arith, cause_value cause));
-  says = is_number (cause_number cause) 5 (cause_value cause) (omega arith);
+  says = decimal_is_number (cause_number cause) 5 (cause_value cause) (omega arith);
 }
 deed_said End h = word_first (codes "end") [] (free_of is_blank (codes "end") refl) refl
 
@@ -242,7 +238,7 @@ act_said act line h = record {
   digits = decimal act.node;
   rest = words_between (deed_text act.deed ++ 32 ∷ []);
   whole = words_said act line h;
-  node = is_number act.node 15 h.node (omega arith);
+  node = decimal_is_number act.node 15 h.node (omega arith);
   among = tt;
   deed = deed_said act.deed h.deed;
 }

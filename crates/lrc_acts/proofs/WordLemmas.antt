@@ -1,12 +1,12 @@
 -- A text that blanks part: what its first word leaves.
-use Rattle.std.proofs.Common.{◌≡◌, ◌∙◌, ◌<◌, ◌≤◌, ◌+◌, ◌==◌, ℕ, Bool, true, false, not, ltb, ltb-false, List, [], ◌∷◌, length, take, drop, Some, None}
+use Rattle.std.proofs.Common.{◌≡◌, ◌∙◌, ◌<◌, ◌≤◌, ◌+◌, ◌==◌, ℕ, Bool, true, false, not, ltb, ltb-false, List, [], ◌∷◌, length, take, drop, Option, Some, None}
 use Rattle.std.proofs.Common.{refl, sym, ap, ap₂, subst, cond, unwrap_or, arith, rules, tests, suc, zero, one-add}
 use Rattle.std.specs.Prelude.{filter}
 use Rattle.std.specs.List.{slice_split, position_or_len}
 use Rattle.std.proofs.lemmas.List.Splits.{slice_split-cons_yes, slice_split-cons_no}
 use Rattle.lrc_acts.specs.ActsText.{is_blank, words_between}
 
-pub position-le : {A : Type 0} (p : A → Bool) (xs : List A) → position_or_len p xs ≤ length xs
+position-le : {A : Type 0} (p : A → Bool) (xs : List A) → position_or_len p xs ≤ length xs
 position-le p [] = omega arith
 position-le p (x ∷ xs) = go (p x) (position_or_len p xs) (length xs) (position-le p xs)
   where
@@ -18,9 +18,16 @@ found_at : (b : Bool) (n len : ℕ) → ltb n len ≡ b → n ≤ len → unwrap
 found_at true n len e h = refl
 found_at false n len e h = omega (arith, ltb-false n len e)
 
--- the place of the first, or the length
-pub found_or_len : (n len : ℕ) → n ≤ len → unwrap_or (cond (ltb n len) (Some n) None) len ≡ n
-found_or_len n len h = found_at (ltb n len) n len refl h
+-- what a search for the first byte that passes gives, or else the length
+pub place_is : (p : ℕ → Bool) (text : List ℕ) (found : Option ℕ) (place : ℕ)
+    → found ≡ cond (ltb (position_or_len p text) (length text)) (Some (position_or_len p text)) None → place ≡ unwrap_or found (length text)
+    → place ≡ position_or_len p text
+place_is p text found place at is =
+    is ∙ ap (λ f. unwrap_or f (length text)) at ∙ found_at (ltb (position_or_len p text) (length text)) _ _ refl (position-le p text)
+
+-- such a place is in the text, or its end
+pub place-le : (p : ℕ → Bool) (text : List ℕ) (place : ℕ) → place ≡ position_or_len p text → place ≤ length text
+place-le p text place is = subst (λ n. n ≤ length text) (sym is) (position-le p text)
 
 pub take_one : (n : ℕ) (x : ℕ) (xs : List ℕ) → take (1 + n) (x ∷ xs) ≡ x ∷ take n xs
 take_one n x xs = rw (one-add n) refl

@@ -2,11 +2,11 @@
 use Rattle.std.specs.Prelude.{◌≡◌, ◌<◌, ◌≤◌, ◌+◌, ◌==◌, ◌||◌, ◌⊎◌, ℕ, Bool, not, List, [], ◌∷◌, ◌++◌, length, codes}
 use Rattle.std.specs.Prelude.{filter, Option, Some, None, Result, Ok, Err}
 use Rattle.std.specs.List.{before_first, slice_split}
-use Rattle.std.specs.Str.Parse.{IsNumeral, digits_value}
 use Rattle.lrc_trace.specs.declared.act.Act.{Act}
 use Rattle.lrc_trace.specs.declared.act.Deed.{Deed}
 use Rattle.lrc_trace.specs.declared.act.Deed.TheVariants.{Quiet, Print, Read, Write, Acquire, Release, Arrive, Depart, Trap, End}
 use Rattle.lrc_text.specs.ActText.{cause_number}
+use Rattle.lrc_text.specs.Digits.{IsNumber}
 use Rattle.lrc_text.specs.Lines.{lines_of}
 use Rattle.lrc_acts.specs.declared.reading.ActsFault.{ActsFault}
 use Rattle.lrc_acts.specs.declared.reading.ActsFault.TheVariants.{BadAct, NoMemory}
@@ -23,12 +23,6 @@ words_between text = filter (λ word. not (length word == 0)) (slice_split is_bl
 -- the words of a line: those before the sign # that begins its comment
 abbrev pub words_on : List ℕ → List (List ℕ)
 words_on line = words_between (before_first (λ byte. byte == 35) line)
-
--- one or more decimal digits, and nothing else, write this number, which is no greater than the greatest of its kind
-pub record IsNumber (digits : List ℕ) (greatest number : ℕ) : Type 0 where
-  pub numeral : IsNumeral 10 digits
-  pub value : number ≡ digits_value 10 digits
-  pub small : number ≤ greatest
 
 -- the words are this name and one number
 pub record IsNamedWithOne (name : List ℕ) (words : List (List ℕ)) (greatest number : ℕ) : Type 0 where

@@ -6,8 +6,8 @@ ghost use Rattle.lrc_trace.specs.declared.act.Deed.{Deed as AnyDeed};
 ghost use Rattle.lrc_text.specs.ActText.{cause_number};
 ghost use Rattle.lrc_acts.specs.ActsText.{SaysDeed, words_between};
 
-use crate::numbers::number_in;
 use crate::words::first_word;
+use lrc_text::read_number;
 use lrc_trace::act::{Cause, Deed};
 
 const GREATEST_WORD: u64 = 4_294_967_295;
@@ -64,16 +64,16 @@ fn with_one(name: &[u8], digits: &[u8]) -> Option<Deed>
         (λ deed. SaysDeed (name.now ∷ digits.now ∷ []) deed) }
 {
     if is_named(name, b"print") {
-        return Some(Deed::Print(number_in(digits, u64::MAX)?));
+        return Some(Deed::Print(read_number(digits, u64::MAX)?));
     }
     if is_named(name, b"acquire") {
-        return Some(Deed::Acquire(number_in(digits, GREATEST_LOCK)? as u8));
+        return Some(Deed::Acquire(read_number(digits, GREATEST_LOCK)? as u8));
     }
     if is_named(name, b"release") {
-        return Some(Deed::Release(number_in(digits, GREATEST_LOCK)? as u8));
+        return Some(Deed::Release(read_number(digits, GREATEST_LOCK)? as u8));
     }
     if is_named(name, b"trap") {
-        return Some(Deed::Trap(cause_of(number_in(digits, GREATEST_CAUSE)?)?));
+        return Some(Deed::Trap(cause_of(read_number(digits, GREATEST_CAUSE)?)?));
     }
     None
 }
@@ -85,12 +85,12 @@ fn with_two(name: &[u8], word: &[u8], value: &[u8]) -> Option<Deed>
 {
     match name {
         b"read" => {
-            let word = number_in(word, GREATEST_WORD)? as u32;
-            Some(Deed::Read(word, number_in(value, u64::MAX)?))
+            let word = read_number(word, GREATEST_WORD)? as u32;
+            Some(Deed::Read(word, read_number(value, u64::MAX)?))
         }
         b"write" => {
-            let word = number_in(word, GREATEST_WORD)? as u32;
-            Some(Deed::Write(word, number_in(value, u64::MAX)?))
+            let word = read_number(word, GREATEST_WORD)? as u32;
+            Some(Deed::Write(word, read_number(value, u64::MAX)?))
         }
         _ => None,
     }

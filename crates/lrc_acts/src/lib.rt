@@ -4,6 +4,5 @@
 mod deeds;
 pub mod judge_lines;
 pub mod laws;
-mod numbers;
 pub mod reading;
 mod words;

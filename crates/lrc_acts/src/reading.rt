@@ -7,8 +7,8 @@ ghost use Rattle.lrc_acts.specs.ActsText.{IsAmong, ReadsActs, SaysAct, SaysSome,
 ghost use Rattle.lrc_acts.specs.declared.reading.ActsFault.TheVariants.{NoMemory};
 
 use crate::deeds::deed_in;
-use crate::numbers::number_in;
 use crate::words::{before_comment, first_word};
+use lrc_text::read_number;
 use lrc_trace::act::Act;
 use std::alloc::{AllocError, AllocFailed, Global};
 
@@ -102,7 +102,7 @@ fn act_on(line: &[u8], nodes: Option<u32>) -> Option<Act>
     ensures { MatchOption result ((act : AnyAct) → ¬ SaysAct nodes (words_on line.now) act) (λ act. SaysAct nodes (words_on line.now) act) }
 {
     let (digits, rest) = first_word(before_comment(line))?;
-    let node = number_in(digits, GREATEST_NODE)?;
+    let node = read_number(digits, GREATEST_NODE)?;
     if !is_among(nodes, node) {
         return None;
     }

@@ -1,5 +1,5 @@
 -- What is written of events is read again.
-use Rattle.std.proofs.Common.{◌≡◌, ◌∙◌, ◌≤◌, ◌<◌, ◌==◌, false, ℕ, suc, refl, sym, ap, subst, arith, List, [], ◌∷◌, ◌++◌, get_or}
+use Rattle.std.proofs.Common.{◌≡◌, ◌∙◌, ◌≤◌, ◌==◌, false, ℕ, suc, refl, sym, ap, subst, arith, List, [], ◌∷◌, ◌++◌, get_or}
 use Rattle.std.proofs.lemmas.Bool.{ne_eqb}
 use Rattle.std.specs.Prelude.{All, codes, decimal}
 use Rattle.std.specs.List.{AllByRecursion}
@@ -11,7 +11,8 @@ use Rattle.std.proofs.lemmas.Str.Parse.{digit_at}
 use Rattle.lrc_protocol.specs.declared.event.Event.{Event}
 use Rattle.lrc_protocol.specs.declared.event.Event.TheVariants.{Run, Deliver, Repeat}
 use Rattle.lrc_text.specs.Lines.{lines_of}
-use Rattle.lrc_events.specs.EventsText.{IsLine, IsPlaceNumber, NameAll, NamesEvent, empty, more, none}
+use Rattle.lrc_text.proofs.Numbers.{decimal_is_number}
+use Rattle.lrc_events.specs.EventsText.{IsLine, NameAll, NamesEvent, empty, more, none}
 use Rattle.lrc_events.specs.Writing.{AreEvents, event_text, events_text, number_in}
 
 -- the byte is no line feed, and none of these bytes is one
@@ -40,13 +41,8 @@ event_unbroken (Deliver n) few =
 event_unbroken (Repeat n) few =
     All-append NoFeed (codes "repeat ") (decimal n) (unbroken (codes "repeat ") (refl, (refl, (refl, (refl, (refl, (refl, (refl, tt)))))))) (decimal_unbroken n few)
 
-place_of : (n : ℕ) → n ≤ 4294967295 → IsPlaceNumber (decimal n) n
-place_of n few =
-    let numeral = decimal_is_IsNumeral n (omega arith) in
-    record { numeral = numeral.0; value = sym numeral.1; small = few }
-
 line_of : (word : List ℕ) (n : ℕ) → n ≤ 4294967295 → IsLine word (word ++ decimal n) n
-line_of word n few = record { digits = decimal n; whole = refl; number = place_of n few }
+line_of word n few = record { digits = decimal n; whole = refl; number = decimal_is_number n 4294967295 few (omega arith) }
 
 named : (event : Event) → number_in event ≤ 4294967295 → NamesEvent (event_text event) event
 named (Run n) few = line_of (codes "run ") n few

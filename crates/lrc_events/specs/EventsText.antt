@@ -1,23 +1,17 @@
 -- The text of a list of events, one on a line.
 use Rattle.std.specs.Prelude.{◌≡◌, ◌≢◌, ◌<◌, ◌≤◌, ◌+◌, ◌⊎◌, ℕ, List, [], ◌∷◌, ◌++◌, length, codes, Result, Ok, Err}
-use Rattle.std.specs.Str.Parse.{IsNumeral, digits_value}
+use Rattle.lrc_text.specs.Digits.{IsNumber}
 use Rattle.lrc_text.specs.Lines.{lines_of}
 use Rattle.lrc_protocol.specs.declared.event.Event.{Event}
 use Rattle.lrc_protocol.specs.declared.event.Event.TheVariants.{Run, Deliver, Repeat}
 use Rattle.lrc_events.specs.declared.events.EventsFault.{EventsFault}
 use Rattle.lrc_events.specs.declared.events.EventsFault.TheVariants.{BadEvent, NoMemory}
 
--- one or more decimal digits, and nothing else, write this number of an event
-pub record IsPlaceNumber (digits : List ℕ) (place : ℕ) : Type 0 where
-  pub numeral : IsNumeral 10 digits
-  pub value : place ≡ digits_value 10 digits
-  pub small : place ≤ 4294967295
-
--- the line is this word, and then the number
+-- the line is this word, and then the number of an event in decimal digits
 pub record IsLine (word line : List ℕ) (place : ℕ) : Type 0 where
   pub digits : List ℕ
   pub whole : line ≡ word ++ digits
-  pub number : IsPlaceNumber digits place
+  pub number : IsNumber digits 4294967295 place
 
 -- the line names this event
 abbrev pub NamesEvent : List ℕ → Event → Type 0

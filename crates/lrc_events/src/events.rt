@@ -1,16 +1,20 @@
 // The text of a list of events.
 
 ghost use Rattle.std.specs.Prelude.{◌≡◌, ◌≤◌, ℕ, IfErr, IfOk, MatchOption, Err, Ok, length};
+ghost use Rattle.lrc_text.specs.Digits.{IsNumber};
 ghost use Rattle.lrc_text.specs.Lines.{lines_of};
 ghost use Rattle.lrc_protocol.specs.declared.event.Event.{Event};
-ghost use Rattle.lrc_events.specs.EventsText.{IsPlaceNumber, NamesEvent, NamesSome, ReadsEvents, most_events_bytes};
+ghost use Rattle.lrc_events.specs.EventsText.{NamesEvent, NamesSome, ReadsEvents, most_events_bytes};
 ghost use Rattle.lrc_events.specs.declared.events.EventsFault.TheVariants.{NoMemory};
 
 use lrc_protocol::Event;
+use lrc_text::read_number;
 use std::alloc::{AllocFailed, Global};
 
 /// The longest text of events, in bytes.
 pub const MOST_BYTES: usize = 16_777_216;
+
+const GREATEST_PLACE: u64 = 4_294_967_295;
 
 /// Why a text gives no events.
 #[derive(Clone, Copy, Debug, PartialEq, Eq)]
@@ -69,17 +73,7 @@ fn event_on(line: &[u8]) -> Option<Event>
 }
 
 fn place_in(digits: &[u8]) -> Option<u32>
-    ensures { MatchOption result ((place : ℕ) → ¬ IsPlaceNumber digits.now place) (λ place. IsPlaceNumber digits.now place) }
+    ensures { MatchOption result ((place : ℕ) → ¬ IsNumber digits.now 4294967295 place) (λ place. IsNumber digits.now 4294967295 place) }
 {
-    if digits.is_empty() {
-        return None;
-    }
-    let mut place = 0u32;
-    for digit in digits {
-        if !digit.is_ascii_digit() {
-            return None;
-        }
-        place = place.checked_mul(10)?.checked_add(u32::from(digit - b'0'))?;
-    }
-    Some(place)
+    Some(read_number(digits, GREATEST_PLACE)? as u32)
 }

@@ -1,4 +1,4 @@
-//! Texts of a run in parts: numbers, acts and races in words.
+//! Texts of a run in parts: numbers, acts and races in words, and numbers read from digits.
 #![tactic(auto)]
 
 mod act;
@@ -6,5 +6,5 @@ mod number;
 mod race;
 
 pub use act::{push_act, push_act_line, push_deed};
-pub use number::push_number;
+pub use number::{push_number, read_number};
 pub use race::{first_race_part, push_race, races_part};

@@ -5,8 +5,8 @@ use Rattle.std.proofs.lemmas.Str.{digit_value_digit}
 use Rattle.std.proofs.lemmas.List.{take_all}
 use Rattle.std.proofs.lemmas.Str.Parse.{digit_at, digits_value-take-le}
 use Rattle.std.proofs.lemmas.Int.Digits.{digits_more, digits_value_more}
-use Rattle.lrc_acts.specs.ActsText.{IsNumber}
-use Rattle.lrc_acts.proofs.numbers.value_of.Goals as goal
+use Rattle.lrc_text.specs.Digits.{IsNumber}
+use Rattle.lrc_text.proofs.number.value_of.Goals as goal
 
 -- a number that is too large with one digit more is too large with all
 too_large : (digits : List ℕ) (i n : ℕ) → i < length digits → n ≡ digits_value 10 (take i digits)
