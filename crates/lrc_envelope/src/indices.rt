@@ -5,13 +5,17 @@ ghost use Rattle.std.specs.Option.{ForSome};
 ghost use Rattle.std.specs.List.Sorted.{IsStrictlyIncreasing};
 ghost use Rattle.lrc_envelope.specs.Records.{AreIndices, last_index};
 
+use smallvec::SmallVec;
 use std::alloc::{AllocError, Global};
 use std::marker::Model;
+
+// How many indices stand in the list itself, which asks for memory where there are more. Most requests name fewer.
+const FEW_INDICES: usize = 4;
 
 /// Indices of intervals of one node, each at least 1, strictly ascending.
 #[derive(Drop)]
 pub struct Indices {
-    list: Vec<u32>,
+    list: SmallVec<u32, FEW_INDICES>,
 }
 
 impl Model for Indices {
@@ -31,7 +35,7 @@ impl Indices {
         ensures { result ≡ [] }
     {
         Indices {
-            list: Vec::new(alloc),
+            list: SmallVec::new(alloc),
         }
     }
 
@@ -40,7 +44,9 @@ impl Indices {
         requires { AreIndices list.items }
         ensures { result ≡ list.items }
     {
-        Indices { list }
+        Indices {
+            list: SmallVec::from_vec(list),
+        }
     }
 
     /// Adds an index above all others. An error leaves the indices as they were.
@@ -74,7 +80,7 @@ impl Indices {
         requires { place < length self.now }
         ensures { slice_get self.now place ≡ Some result }
     {
-        self.list[place]
+        self.list.as_slice()[place]
     }
 
     /// The indices, ascending.

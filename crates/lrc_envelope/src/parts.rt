@@ -5,7 +5,9 @@ ghost use Rattle.std.specs.Option.{ForSome};
 ghost use Rattle.lrc_envelope.specs.Records.{AreParts, last_part};
 
 use lrc_page::Changes;
+use smallvec::SmallVec;
 use std::alloc::{AllocError, Global};
+use std::default::MadeWith;
 use std::marker::Model;
 
 /// What one interval changed in a page.
@@ -26,10 +28,23 @@ impl Model for IndexedChanges {
     ghost invariant = { λ p. IsIndexedChanges (record { index = p.index; changes = p.changes }) };
 }
 
+/// A part whose changes are none, for the places of a list that are not taken.
+impl MadeWith<Global> for IndexedChanges {
+    fn made_with(alloc: Global) -> Self {
+        IndexedChanges {
+            index: 1,
+            changes: Changes::empty(alloc),
+        }
+    }
+}
+
+// How many parts stand in the list itself, which asks for memory where there are more. Most replies have one.
+const FEW_PARTS: usize = 1;
+
 /// What some intervals of one node changed in a page, strictly ascending by index.
 #[derive(Drop)]
 pub struct Parts {
-    list: Vec<IndexedChanges>,
+    list: SmallVec<IndexedChanges, FEW_PARTS>,
 }
 
 impl Model for Parts {
@@ -49,7 +64,7 @@ impl Parts {
         ensures { result ≡ [] }
     {
         Parts {
-            list: Vec::new(alloc),
+            list: SmallVec::new(alloc),
         }
     }
 
@@ -58,7 +73,9 @@ impl Parts {
         requires { AreParts list.items }
         ensures { result ≡ list.items }
     {
-        Parts { list }
+        Parts {
+            list: SmallVec::from_vec(list),
+        }
     }
 
     /// Adds a part of an index above all others. An error leaves the parts as they were.
@@ -91,7 +108,7 @@ impl Parts {
         requires { place < length self.now }
         ensures { slice_get self.now place ≡ Some result.now }
     {
-        &self.list[place]
+        &self.list.as_slice()[place]
     }
 
     /// The parts in order.

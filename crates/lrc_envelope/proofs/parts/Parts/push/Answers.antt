@@ -7,5 +7,5 @@ pub invariant_of-self-2 : goal.invariant_of-self-2
 invariant_of-self-2 c =
     let xs = c.self.inside.list.items in
     let below = rw (← c.self.view_is) at c.requires in
-    rw c.in_ok-push.ensures.items
+    rw c.in_ok-push.ensures.ok
     (all_pairs_push (λ a b. a.index < b.index) xs c.args.part c.self.invariant (last_above (λ p. p.index) xs c.args.part.index c.self.invariant below))
