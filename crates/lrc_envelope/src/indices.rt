@@ -9,8 +9,8 @@ use smallvec::SmallVec;
 use std::alloc::{AllocError, Global};
 use std::marker::Model;
 
-// How many indices stand in the list itself, which asks for memory where there are more. Most requests name fewer.
-const FEW_INDICES: usize = 4;
+/// How many indices stand in a list itself, which asks for memory where there are more. Most requests name fewer.
+pub const FEW_INDICES: usize = 4;
 
 /// Indices of intervals of one node, each at least 1, strictly ascending.
 #[derive(Drop)]
@@ -47,6 +47,14 @@ impl Indices {
         Indices {
             list: SmallVec::from_vec(list),
         }
+    }
+
+    /// These indices, which ascend from 1 or above, from a list that keeps a few in itself.
+    pub fn from_short(list: SmallVec<u32, FEW_INDICES>) -> Self
+        requires { AreIndices list.items }
+        ensures { result ≡ list.items }
+    {
+        Indices { list }
     }
 
     /// Adds an index above all others. An error leaves the indices as they were.

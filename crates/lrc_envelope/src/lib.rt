@@ -12,12 +12,12 @@ mod parts;
 mod picker;
 
 pub use envelope::Envelope;
-pub use indices::Indices;
+pub use indices::{FEW_INDICES, Indices};
 pub use limits::{MOST_LOCKS, MOST_NODES};
 pub use message::{
     Arrive, ChangesReply, ChangesRequest, Clean, Depart, Discard, LockForward, LockGrant,
     LockRequest, Message, PageReply, PageRequest,
 };
 pub use news::News;
-pub use parts::{IndexedChanges, Parts};
+pub use parts::{FEW_PARTS, IndexedChanges, Parts};
 pub use picker::Picker;

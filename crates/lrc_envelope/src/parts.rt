@@ -38,8 +38,8 @@ impl MadeWith<Global> for IndexedChanges {
     }
 }
 
-// How many parts stand in the list itself, which asks for memory where there are more. Most replies have one.
-const FEW_PARTS: usize = 1;
+/// How many parts stand in a list itself, which asks for memory where there are more. Most replies have one.
+pub const FEW_PARTS: usize = 1;
 
 /// What some intervals of one node changed in a page, strictly ascending by index.
 #[derive(Drop)]
@@ -76,6 +76,14 @@ impl Parts {
         Parts {
             list: SmallVec::from_vec(list),
         }
+    }
+
+    /// These parts, which ascend by index, from a list that keeps one in itself.
+    pub fn from_short(list: SmallVec<IndexedChanges, FEW_PARTS>) -> Self
+        requires { AreParts list.items }
+        ensures { result ≡ list.items }
+    {
+        Parts { list }
     }
 
     /// Adds a part of an index above all others. An error leaves the parts as they were.
