@@ -1,6 +1,6 @@
 //! Intervals of one node, by their indices.
 
-ghost use Rattle.std.specs.Prelude.{◌≡◌, ◌≤◌, ◌<◌, ◌↔◌, IsTrue, All, IfOk, OnOk, OnErr, Some, [], ◌∷◌, ◌++◌, length, slice_get};
+ghost use Rattle.std.specs.Prelude.{◌≡◌, ◌≤◌, ◌<◌, ◌↔◌, IsTrue, All, OnOk, OnErr, Some, [], ◌∷◌, ◌++◌, length, slice_get};
 ghost use Rattle.std.specs.Option.{ForSome};
 ghost use Rattle.std.specs.List.Sorted.{IsStrictlyIncreasing};
 ghost use Rattle.lrc_envelope.specs.Records.{AreIndices, last_index};
@@ -97,14 +97,5 @@ impl Indices {
         ensures are { AreIndices self.now }
     {
         self.list.as_slice()
-    }
-
-    /// A second list of the same indices.
-    pub fn duplicate(&self) -> Result<Self, AllocError>
-        ensures { IfOk result (λ indices. indices ≡ self.now) }
-    {
-        Ok(Indices {
-            list: SmallVec::from_slice(*self.list.allocator(), self.list.as_slice())?,
-        })
     }
 }
