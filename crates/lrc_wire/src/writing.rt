@@ -68,10 +68,10 @@ fn put_envelope(out: &mut Vec<u8>, envelope: &Envelope, body_len: usize) -> Resu
     Ok(())
 }
 
-/// The bytes of an envelope, in version 2. `TooLong` exactly where the body would have more than `MOST_BODY_BYTES`
-/// bytes.
-pub fn encode(alloc: Global, envelope: &Envelope) -> Result<Bytes, EncodeFault>
-    ensures written { IfOk result (λ bytes. Spells Two envelope.now bytes) }
+/// The bytes of an envelope, in version 2, for who keeps them alone. `TooLong` exactly where the body would have more
+/// than `MOST_BODY_BYTES` bytes.
+pub fn spell(alloc: Global, envelope: &Envelope) -> Result<Vec<u8>, EncodeFault>
+    ensures written { IfOk result (λ bytes. Spells Two envelope.now bytes.items) }
     ensures too_long { IsErrOf result EncodeFault.TooLong ↔ (MOST_BODY_BYTES < length (body Two runs_of envelope.now.message)) }
 {
     let Some(body_len) = body_len(&envelope.message) else {
@@ -79,5 +79,15 @@ pub fn encode(alloc: Global, envelope: &Envelope) -> Result<Bytes, EncodeFault>
     };
     let mut out = Vec::with_capacity(alloc, HEADER_BYTES + body_len)?;
     put_envelope(&mut out, envelope, body_len)?;
-    Ok(Bytes::from_vec(out)?)
+    Ok(out)
+}
+
+/// The bytes of an envelope, in version 2. `TooLong` exactly where the body would have more than `MOST_BODY_BYTES`
+/// bytes.
+pub fn encode(alloc: Global, envelope: &Envelope) -> Result<Bytes, EncodeFault>
+    ensures written { IfOk result (λ bytes. Spells Two envelope.now bytes) }
+    ensures too_long { IsErrOf result EncodeFault.TooLong ↔ (MOST_BODY_BYTES < length (body Two runs_of envelope.now.message)) }
+{
+    let bytes = spell(alloc, envelope)?;
+    Ok(Bytes::from_vec(bytes)?)
 }

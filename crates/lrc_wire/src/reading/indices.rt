@@ -7,7 +7,8 @@ use super::fields::read_count;
 use super::numbers::read_u32;
 use super::room;
 use crate::fault::WireFault;
-use lrc_envelope::Indices;
+use lrc_envelope::{FEW_INDICES, Indices};
+use smallvec::SmallVec;
 use std::alloc::Global;
 
 /// An index after another.
@@ -26,10 +27,14 @@ pub(super) fn read_next_index(before: Option<u32>, bytes: &mut &[u8]) -> Result<
     Ok(index)
 }
 
-fn read_indices_of(alloc: Global, count: u32, bytes: &mut &[u8]) -> Result<Vec<u32>, WireFault>
+fn read_indices_of(
+    alloc: Global,
+    count: u32,
+    bytes: &mut &[u8],
+) -> Result<SmallVec<u32, FEW_INDICES>, WireFault>
     ensures { Gives (λ v. (v.items, bytes.new.now)) result (elements_at next_index_at (λ _ index. Some index) count None bytes.old.now) }
 {
-    let mut indices = Vec::with_capacity(alloc, room(count, bytes, 4))?;
+    let mut indices = SmallVec::with_capacity(alloc, room(count, bytes, 4))?;
     let mut before = None;
     for _ in 0..count {
         let index = read_next_index(before, bytes)?;
@@ -47,5 +52,5 @@ pub(super) fn read_indices(alloc: Global, bytes: &mut &[u8]) -> Result<Indices, 
 {
     let count = read_count(bytes)?;
     let list = read_indices_of(alloc, count, bytes)?;
-    Ok(Indices::from_ascending(list))
+    Ok(Indices::from_short(list))
 }

@@ -9,7 +9,8 @@ use super::indices::read_next_index;
 use super::room;
 use crate::fault::WireFault;
 use crate::version::Version;
-use lrc_envelope::{IndexedChanges, Parts};
+use lrc_envelope::{FEW_PARTS, IndexedChanges, Parts};
+use smallvec::SmallVec;
 use std::alloc::Global;
 
 // What an interval changed, after another of a lower index.
@@ -38,10 +39,10 @@ fn read_parts_of(
     version: Version,
     count: u32,
     bytes: &mut &[u8],
-) -> Result<Vec<IndexedChanges>, WireFault>
+) -> Result<SmallVec<IndexedChanges, FEW_PARTS>, WireFault>
     ensures { Gives (λ v. (v.items, bytes.new.now)) result (elements_at (next_part_at version) (λ _ part. Some part.index) count None bytes.old.now) }
 {
-    let mut parts = Vec::with_capacity(alloc, room(count, bytes, 5))?;
+    let mut parts = SmallVec::with_capacity(alloc, room(count, bytes, 5))?;
     let mut before = None;
     for _ in 0..count {
         let part = read_next_part(alloc, version, before, bytes)?;
@@ -63,5 +64,5 @@ pub(super) fn read_parts(
 {
     let count = read_count(bytes)?;
     let list = read_parts_of(alloc, version, count, bytes)?;
-    Ok(Parts::from_ascending(list))
+    Ok(Parts::from_short(list))
 }

@@ -1,8 +1,8 @@
 use Rattle.lrc_wire.proofs.Shapes.{indices_long, indices_begun, indices_increase}
 use Rattle.lrc_wire.proofs.reading.indices.read_indices.Goals as goal
 
-pub from_ascending-requires : goal.from_ascending-requires
-from_ascending-requires c =
+pub from_short-requires : goal.from_short-requires
+from_short-requires c =
     record {
       begun = indices_begun _ _ c.in_ok-list.list.items _ c.in_ok-list.ensures;
       ascending =
@@ -10,4 +10,4 @@ from_ascending-requires c =
     }
 
 pub returns-clause-some : goal.returns-clause-some
-returns-clause-some c = rw (c.from_ascending.ensures, indices_long _ _ c.in_ok-list.list.items _ c.in_ok-list.ensures) c.in_ok-count.ensures.fits
+returns-clause-some c = rw (c.from_short.ensures, indices_long _ _ c.in_ok-list.list.items _ c.in_ok-list.ensures) c.in_ok-count.ensures.fits

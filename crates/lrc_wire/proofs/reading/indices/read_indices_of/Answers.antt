@@ -13,7 +13,7 @@ returns-in_err-index c =
 
 pub loop-preserved : goal.loop-preserved
 loop-preserved c =
-    rw c.in_ok-push.ensures.items
+    rw c.in_ok-push.ensures.ok
     (goes_on next_index_at
     (λ _ index. Some index) c.loop.indices.items c.args.count c.loop.counter c.loop.before c.loop.bytes.now c.in_ok-index.index
     c.read_next_index.new.bytes.now _ c.loop-test.true c.in_ok-index.ensures.exact c.loop.invariant)

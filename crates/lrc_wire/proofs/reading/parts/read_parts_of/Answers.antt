@@ -14,7 +14,7 @@ returns-in_err-part c =
 pub loop-preserved : goal.loop-preserved
 loop-preserved c =
     rw (
-      c.in_ok-push.ensures.items,
+      c.in_ok-push.ensures.ok,
       c.index_of.ensures,
     ) (goes_on (next_part_at c.args.version)
     (λ _ part. Some part.index) c.loop.parts.items c.args.count c.loop.counter c.loop.before c.loop.bytes.now c.in_ok-part.part
