@@ -9,6 +9,7 @@ ghost use Rattle.lrc_need.specs.Need.{AreAskable};
 
 use lrc_envelope::{IndexedChanges, Indices};
 use lrc_store::Key;
+use smallvec::SmallVec;
 use std::alloc::{AllocError, Global};
 use std::marker::Model;
 
@@ -41,8 +42,8 @@ impl Asked {
     pub fn duplicate_indices(&self, alloc: Global) -> Result<Indices, AllocError>
         ensures { IfOk result (λ indices. indices ≡ self.now.indices) }
     {
-        let list = Vec::from_slice(alloc, self.indices.as_slice())?;
-        Ok(Indices::from_ascending(list))
+        let list = SmallVec::from_slice(alloc, self.indices.as_slice())?;
+        Ok(Indices::from_short(list))
     }
 }
 
