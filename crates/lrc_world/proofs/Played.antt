@@ -275,7 +275,7 @@ delivered starts old taking mid new run place to others result shows t nodes act
 -- the message that its bytes spell is taken by its receiver
 pub taken_at : (starts : Starts) (old mid : World) (run : Run) (place : ℕ) (f : Flying) (envelope : EnvelopeRecord) (to : ℕ)
     (outcome : Result (Unit {0}) NodeFault) → Shows starts old run
-    → place < length old.flight.items → f ≡ slice_index_or old.flight.items place f → envelope_of f.bytes ≡ Ok envelope
+    → place < length old.flight.items → f ≡ slice_index_or old.flight.items place f → envelope_of f.bytes.items ≡ Ok envelope
     → to ≡ envelope.to → TurnsTo old.nodes.items mid.nodes.items to (taken envelope) f.stamp outcome → mid.flight ≡ old.flight → mid.acts ≡ old.acts → mid.keep ≡ old.keep
     → ReceivesTo starts old mid run place (received to (turn_made outcome))
 taken_at starts old mid run place f envelope to outcome shows within is spelled here turns flight acts kept =

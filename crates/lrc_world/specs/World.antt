@@ -34,7 +34,7 @@ Seen = Result EnvelopeRecord WireFault × (ℕ × Bool)
 
 -- a message as it is kept, and as the protocol has it
 abbrev pub seen_flying : Flying → Seen
-seen_flying flying = (envelope_of flying.bytes, (flying.stamp, flying.delivered))
+seen_flying flying = (envelope_of flying.bytes.items, (flying.stamp, flying.delivered))
 
 abbrev pub seen_sent : Sent → Seen
 seen_sent sent = (Ok sent.envelope, (sent.stamp, sent.delivered))

@@ -3,17 +3,15 @@
 ghost use Rattle.std.specs.Prelude.{IsOk};
 ghost use Rattle.lrc_wire.specs.Reading.{envelope_of};
 
-use bytes::Bytes;
-
 /// A message in flight.
 #[derive(Drop)]
 pub(crate) struct Flying {
     /// The bytes of its envelope.
-    pub bytes: Bytes,
+    pub bytes: Vec<u8>,
     /// The stamp of the turn that sent it.
     pub stamp: u64,
     /// Whether it was delivered already.
     pub delivered: bool,
     /// The bytes are those of an envelope.
-    pub ghost spelled: { IsOk (envelope_of bytes) },
+    pub ghost spelled: { IsOk (envelope_of bytes.items) },
 }

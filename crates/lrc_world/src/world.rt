@@ -22,7 +22,6 @@ ghost use Rattle.lrc_trace.specs.Conflict.{IsFirstRace, IsRaceFree};
 use crate::flying::Flying;
 use crate::keep::Keep;
 use crate::report::{Report, SimFault};
-use bytes::Bytes;
 use lrc_envelope::{Envelope, Picker};
 use lrc_exec::code::Code;
 use lrc_node::{End, Entry, Logged, Node, NodeFault, Options};
@@ -31,7 +30,7 @@ use lrc_race::{first_race, races};
 use lrc_trace::act::Act;
 use lrc_trace::race::Race;
 use lrc_trace::trace::Trace;
-use lrc_wire::{EncodeFault, WireFault, decode, encode};
+use lrc_wire::{EncodeFault, WireFault, decode, spell};
 use std::alloc::{AllocError, Global};
 use std::collections::VecDeque;
 
@@ -316,12 +315,12 @@ fn send(
 }
 
 // The bytes of a message.
-fn bytes_of(alloc: Global, envelope: &Envelope) -> Result<Bytes, SimFault>
-    ensures written { IfOk result (λ bytes. envelope_of bytes ≡ Ok envelope.now) }
+fn bytes_of(alloc: Global, envelope: &Envelope) -> Result<Vec<u8>, SimFault>
+    ensures written { IfOk result (λ bytes. envelope_of bytes.items ≡ Ok envelope.now) }
     ensures short { OnOk result (is_long envelope.now ≡ false) }
     ensures err { IfErr result (IsSendFault (envelope.now ∷ [])) }
 {
-    match encode(alloc, envelope) {
+    match spell(alloc, envelope) {
         Ok(bytes) => Ok(bytes),
         Err(EncodeFault::TooLong) => Err(SimFault::Worn),
         Err(EncodeFault::NoMemory) => Err(SimFault::NoMemory),

@@ -13,7 +13,7 @@ returns-then-place-len c = λ sent e.
     let s = sent_at c.args.flight.now.items sent c.args.place c.index_mut.result.now e
     (omega (arith, c.if-place-len.true, c.len.ensures)) c.index_mut.ensures.value in
     map-set seen_flying c.args.flight.now.items c.args.place _
-    ∙ ap (λ xs. slice_set xs c.args.place (envelope_of c.index_mut.result.now.bytes, (c.index_mut.result.now.stamp, true))) e
+    ∙ ap (λ xs. slice_set xs c.args.place (envelope_of c.index_mut.result.now.bytes.items, (c.index_mut.result.now.stamp, true))) e
     ∙ ap (slice_set (map seen_sent sent) c.args.place) (ap (λ (x : Seen). (x.0, (x.1.0, true))) s.2)
     ∙ sym (map-set seen_sent sent c.args.place (marked s.0))
     ∙ ap (map seen_sent) (sym (mark-set sent c.args.place s.0 s.1))
