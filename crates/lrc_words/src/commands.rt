@@ -1,7 +1,7 @@
 // The commands and their options, as clap is told of them.
 
 ghost use Rattle.std.specs.Prelude.{◌≡◌, [], IfOk, false};
-ghost use Rattle.clap.specs.Words.{app_of, rule_of};
+ghost use Rattle.clap.specs.Words.{App, Rule, app_of, rule_of, with_rule, with_subcommand};
 ghost use Rattle.clap.specs.declared.builder.command.Command.TheViews.{out-Command as fields_of};
 ghost use Rattle.lrc_words.specs.Commands.{bare_number, chart_command, check_command, collect, explain_command, explore_command, file, flag_option, form, judge_command, most, nodes, number_option, option, order};
 ghost use Rattle.lrc_words.specs.Commands.{page, plain_command, run_command, sim_command, stats_command, steps, trace_command, treadmarks, treadmarks_shape};
@@ -83,40 +83,67 @@ pub(crate) fn command_line<'w>(alloc: Global) -> Result<Command<'w>, AllocError>
 fn bare_command_line<'w>(alloc: Global) -> Result<Command<'w>, AllocError>
     ensures { IfOk result (λ command. app_of command ≡ record { top = treadmarks_shape; subs = [] }) }
 {
-    Ok(
-        Command::new(alloc, "treadmarks")
-            .bin_name("treadmarks")?
-            .about("Runs programs on lazy-release-consistent shared memory. With no words: `sim -`")
-            .after_help(STATUSES)
-            .version(VERSION)
-            .no_binary_name(true)
-            .subcommand_required(true)
-            .disable_help_subcommand(true),
-    )
+    Command::new(alloc, "treadmarks")
+        .about("Runs programs on lazy-release-consistent shared memory. With no words: `sim -`")
+        .after_help(STATUSES)
+        .version(VERSION)
+        .no_binary_name(true)
+        .subcommand_required(true)
+        .disable_help_subcommand(true)
+        .bin_name("treadmarks")
 }
 
 // Adds the commands that check, and that report of a run.
 fn taking_reports<'w>(alloc: Global, command: Command<'w>) -> Result<Command<'w>, AllocError>
     ensures { IfOk result (λ given. app_of given ≡ with_reports (app_of command.entry)) }
 {
-    command
-        .subcommand(check_command(alloc)?)?
-        .subcommand(plain_command(alloc)?)?
-        .subcommand(sim_command(alloc)?)?
-        .subcommand(run_command(alloc)?)
+    let command = having(Ok(command), check_command(alloc));
+    let command = having(command, plain_command(alloc));
+    let command = having(command, sim_command(alloc));
+    having(command, run_command(alloc))
 }
 
 // Adds those that ask more of a run, of acts or of a program.
 fn taking_questions<'w>(alloc: Global, command: Command<'w>) -> Result<Command<'w>, AllocError>
     ensures { IfOk result (λ given. app_of given ≡ with_questions (app_of command.entry)) }
 {
-    command
-        .subcommand(trace_command(alloc)?)?
-        .subcommand(explain_command(alloc)?)?
-        .subcommand(stats_command(alloc)?)?
-        .subcommand(chart_command(alloc)?)?
-        .subcommand(judge_command(alloc)?)?
-        .subcommand(explore_command(alloc)?)
+    let command = having(Ok(command), trace_command(alloc));
+    let command = having(command, explain_command(alloc));
+    let command = having(command, stats_command(alloc));
+    let command = having(command, chart_command(alloc));
+    let command = having(command, judge_command(alloc));
+    having(command, explore_command(alloc))
+}
+
+// The command with another one below it, where memory lasted for both.
+fn having<'w>(
+    command: Result<Command<'w>, AllocError>,
+    below: Result<Command<'w>, AllocError>,
+) -> Result<Command<'w>, AllocError>
+    ensures { (app sub : App) → IfOk command.entry (λ command. app_of command ≡ app)
+        → IfOk below.entry (λ below. app_of below ≡ sub) → IfOk below.entry (λ below. (fields_of below).has_globals ≡ false)
+        → IfOk result (λ given. app_of given ≡ with_subcommand app sub.top) }
+{
+    match below {
+        Ok(below) => command?.subcommand(below),
+        Err(error) => Err(error),
+    }
+}
+
+// The command with one argument more, where memory lasted for it.
+fn taking<'w>(
+    command: Result<Command<'w>, AllocError>,
+    arg: Arg<'w>,
+) -> Result<Command<'w>, AllocError>
+    ensures app { (app : App) (rule : Rule) → arg.entry.global ≡ false → rule_of arg.entry ≡ rule
+        → IfOk command.entry (λ command. app_of command ≡ app) → IfOk result (λ given. app_of given ≡ with_rule app rule) }
+    ensures local { arg.entry.global ≡ false → IfOk command.entry (λ command. (fields_of command).has_globals ≡ false)
+        → IfOk result (λ given. (fields_of given).has_globals ≡ false) }
+{
+    match command {
+        Ok(command) => command.arg(arg),
+        Err(error) => Err(error),
+    }
 }
 
 fn check_command<'w>(alloc: Global) -> Result<Command<'w>, AllocError>
@@ -132,13 +159,12 @@ fn plain_command<'w>(alloc: Global) -> Result<Command<'w>, AllocError>
     ensures app { IfOk result (λ command. app_of command ≡ plain_command) }
     ensures local { IfOk result (λ command. (fields_of command).has_globals ≡ false) }
 {
-    Command::new(alloc, "plain")
-        .about(
-            "Runs the program of FILE over one flat memory, each node in turn, and looks for no race",
-        )
-        .arg(file(alloc, FILE_HELP))?
-        .arg(nodes(alloc))?
-        .arg(steps(alloc))
+    let command = Command::new(alloc, "plain").about(
+        "Runs the program of FILE over one flat memory, each node in turn, and looks for no race",
+    );
+    let command = taking(Ok(command), file(alloc, FILE_HELP));
+    let command = taking(command, nodes(alloc));
+    taking(command, steps(alloc))
 }
 
 fn sim_command<'w>(alloc: Global) -> Result<Command<'w>, AllocError>
@@ -166,9 +192,9 @@ fn trace_command<'w>(alloc: Global) -> Result<Command<'w>, AllocError>
     ensures local { IfOk result (λ command. (fields_of command).has_globals ≡ false) }
 {
     let command = Command::new(alloc, "trace").about("Shows the acts of a run, one on each line");
-    taking_showing_options(alloc, command)?
-        .arg(form(alloc))?
-        .arg(flag_option(alloc, "messages", MESSAGES_HELP))
+    let command = taking_showing_options(alloc, command);
+    let command = taking(command, form(alloc));
+    taking(command, flag_option(alloc, "messages", MESSAGES_HELP))
 }
 
 fn explain_command<'w>(alloc: Global) -> Result<Command<'w>, AllocError>
@@ -196,37 +222,35 @@ fn chart_command<'w>(alloc: Global) -> Result<Command<'w>, AllocError>
     ensures local { IfOk result (λ command. (fields_of command).has_globals ≡ false) }
 {
     let command = Command::new(alloc, "chart").about("Draws a run as a picture, an SVG document");
-    taking_showing_options(alloc, command)?
-        .arg(flag_option(alloc, "text", TEXT_HELP))?
-        .arg(bare_number(alloc, "from", "P", FROM_HELP))?
-        .arg(bare_number(alloc, "to", "Q", TO_HELP))
+    let command = taking_showing_options(alloc, command);
+    let command = taking(command, flag_option(alloc, "text", TEXT_HELP));
+    let command = taking(command, bare_number(alloc, "from", "P", FROM_HELP));
+    taking(command, bare_number(alloc, "to", "Q", TO_HELP))
 }
 
 fn judge_command<'w>(alloc: Global) -> Result<Command<'w>, AllocError>
     ensures app { IfOk result (λ command. app_of command ≡ judge_command) }
     ensures local { IfOk result (λ command. (fields_of command).has_globals ≡ false) }
 {
-    Command::new(alloc, "judge")
-        .about(
-            "Says whether the acts of FILE, in the form of `trace`, are a run of this memory, and which race",
-        )
-        .arg(file(alloc, ACTS_FILE_HELP))?
-        .arg(bare_number(alloc, "nodes", "N", ACTS_NODES_HELP))?
-        .arg(flag_option(alloc, "pairs", PAIRS_HELP))
+    let command = Command::new(alloc, "judge").about(
+        "Says whether the acts of FILE, in the form of `trace`, are a run of this memory, and which race",
+    );
+    let command = taking(Ok(command), file(alloc, ACTS_FILE_HELP));
+    let command = taking(command, bare_number(alloc, "nodes", "N", ACTS_NODES_HELP));
+    taking(command, flag_option(alloc, "pairs", PAIRS_HELP))
 }
 
 fn explore_command<'w>(alloc: Global) -> Result<Command<'w>, AllocError>
     ensures app { IfOk result (λ command. app_of command ≡ explore_command) }
     ensures local { IfOk result (λ command. (fields_of command).has_globals ≡ false) }
 {
-    Command::new(alloc, "explore")
-        .about(
-            "Looks at every order in which the nodes may make their acts, for a race and for nodes that get stuck",
-        )
-        .arg(file(alloc, FILE_HELP))?
-        .arg(nodes(alloc))?
-        .arg(number_option(alloc, "most", "1000000", MOST_HELP))?
-        .arg(flag_option(alloc, "outcomes", OUTCOMES_HELP))
+    let command = Command::new(alloc, "explore").about(
+        "Looks at every order in which the nodes may make their acts, for a race and for nodes that get stuck",
+    );
+    let command = taking(Ok(command), file(alloc, FILE_HELP));
+    let command = taking(command, nodes(alloc));
+    let command = taking(command, number_option(alloc, "most", "1000000", MOST_HELP));
+    taking(command, flag_option(alloc, "outcomes", OUTCOMES_HELP))
 }
 
 // Adds what the commands have in common that show something of a run in any way.
@@ -238,7 +262,8 @@ fn taking_showing_options<'w>(
     ensures app { IfOk result (λ given. app_of given ≡ with_showing_options (app_of command.entry)) }
     ensures local { IfOk result (λ given. (fields_of given).has_globals ≡ false) }
 {
-    taking_way_options(alloc, command)?.arg(flag_option(alloc, "threads", THREADS_HELP))
+    let command = taking_way_options(alloc, command);
+    taking(command, flag_option(alloc, "threads", THREADS_HELP))
 }
 
 // Adds what they have in common with `sim`.
@@ -247,9 +272,9 @@ fn taking_way_options<'w>(alloc: Global, command: Command<'w>) -> Result<Command
     ensures app { IfOk result (λ given. app_of given ≡ with_way_options (app_of command.entry)) }
     ensures local { IfOk result (λ given. (fields_of given).has_globals ≡ false) }
 {
-    taking_run_options(alloc, command, ORDER_HELP)?
-        .arg(text(alloc, "events", "PATH", EVENTS_HELP))?
-        .arg(bare_number(alloc, "seed", "X", SEED_HELP))
+    let command = taking_run_options(alloc, command, ORDER_HELP);
+    let command = taking(command, text(alloc, "events", "PATH", EVENTS_HELP));
+    taking(command, bare_number(alloc, "seed", "X", SEED_HELP))
 }
 
 // Adds what they have in common with `run`, whose orders are others.
@@ -262,13 +287,12 @@ fn taking_run_options<'w>(
     ensures app { IfOk result (λ given. app_of given ≡ with_run_options (app_of command.entry)) }
     ensures local { IfOk result (λ given. (fields_of given).has_globals ≡ false) }
 {
-    command
-        .arg(file(alloc, FILE_HELP))?
-        .arg(nodes(alloc))?
-        .arg(steps(alloc))?
-        .arg(collect(alloc))?
-        .arg(order(alloc, orders))?
-        .arg(page(alloc))
+    let command = taking(Ok(command), file(alloc, FILE_HELP));
+    let command = taking(command, nodes(alloc));
+    let command = taking(command, steps(alloc));
+    let command = taking(command, collect(alloc));
+    let command = taking(command, order(alloc, orders));
+    taking(command, page(alloc))
 }
 
 fn file<'w>(alloc: Global, help: &'w str) -> Arg<'w>

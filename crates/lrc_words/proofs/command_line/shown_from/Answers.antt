@@ -1,14 +1,9 @@
-use Rattle.std.proofs.Common.{◌≡◌, ◌∙◌, List, Result, Ok, Err, IfErr, IsErrAnd, IsSomeAnd, codes, false, inl, inr, refl, subst, sym}
+use Rattle.std.proofs.Common.{◌∙◌, List, IsSomeAnd, codes, false, inl, inr, refl, subst, sym}
 use Rattle.clap.specs.Words.{Row, found_of, rows_of, subcommand_rows_of}
 use Rattle.clap.specs.declared.parser.matches.ArgMatches.TheViews.{out-ArgMatches}
 use Rattle.lrc_words.specs.CommandLine.{HasMisfitOfRun, HasShowMisfit, HasThreadsMisfit}
-use Rattle.lrc_words.specs.declared.misfit.Misfit.{Misfit}
-use Rattle.lrc_words.proofs.FoundLemmas.{found_by, name_before}
+use Rattle.lrc_words.proofs.FoundLemmas.{found_by, misfit_up, name_before}
 use Rattle.lrc_words.proofs.command_line.shown_from.Goals as goal
-
-misfit_up : {T : Type 0} (r : Result T Misfit) (misfit : Misfit) (P : Misfit → Type 0) → IsErrAnd r (λ m. m ≡ misfit) → P misfit → IfErr r P
-misfit_up (Ok x) misfit P is h = tt
-misfit_up (Err m) misfit P is h = subst P (sym is) h
 
 pub returns-in_err-run_choice-clause-err : goal.returns-in_err-run_choice-clause-err
 returns-in_err-run_choice-clause-err c =

@@ -1,15 +1,10 @@
-use Rattle.std.proofs.Common.{ap, ap₂, ◌∙◌}
-use Rattle.std.proofs.lemmas.Result.{IfOk-weaker}
-use Rattle.clap.specs.Words.{App, app_of, with_subcommand}
+use Rattle.std.proofs.Common.{refl}
+use Rattle.clap.specs.Words.{app_of}
 use Rattle.lrc_words.proofs.commands.taking_reports.Goals as goal
 
 pub returns : goal.returns
 returns c =
-    let check_is = ap (λ (a : App). a.top) c.in_ok-check_command.ensures.app in
-    let plain_is = ap (λ (a : App). a.top) c.in_ok-plain_command.ensures.app in
-    let sim_is = ap (λ (a : App). a.top) c.in_ok-sim_command.ensures.app in
-    let run_is = ap (λ (a : App). a.top) c.in_ok-run_command.ensures.app in
-    let one = c.in_ok-subcommand.ensures.shape c.in_ok-check_command.ensures.local ∙ ap (with_subcommand (app_of c.args.command)) check_is in
-    let two = c.in_ok-subcommand-2.ensures.shape c.in_ok-plain_command.ensures.local ∙ ap₂ with_subcommand one plain_is in
-    let three = c.in_ok-subcommand-3.ensures.shape c.in_ok-sim_command.ensures.local ∙ ap₂ with_subcommand two sim_is in
-    IfOk-weaker c.subcommand-4.result _ _ (λ r h. h.shape c.in_ok-run_command.ensures.local ∙ ap₂ with_subcommand three run_is) c.subcommand-4.ensures
+    let one = c.having-command.ensures (app_of c.args.command) _ refl c.check_command.ensures.app c.check_command.ensures.local in
+    let two = c.having-command-2.ensures _ _ one c.plain_command.ensures.app c.plain_command.ensures.local in
+    let three = c.having-command-3.ensures _ _ two c.sim_command.ensures.app c.sim_command.ensures.local in
+    c.having.ensures _ _ three c.run_command.ensures.app c.run_command.ensures.local
