@@ -259,7 +259,7 @@ kept-collected kept time now is long last = record {
 
 pub seen-collected : (kept : Kept) (n : NodeMemory) (time : List ℕ) (in_step : Bool) → node_seen kept ≡ n → IsKept kept → NoneIsWritten n.memory
     → entry n.memory.store.last n.me ≤ entry time n.me
-    → node_seen (collected kept time in_step) ≡ with_known n (barriers.collected_at n.me time n.memory)
+    → node_seen (collected kept time in_step) ≡ with_known n (barriers.after_collection n.me time n.memory)
 seen-collected kept n time in_step is sound closed own =
     let after = collected kept time in_step in
     let count = length kept.table.copies in
@@ -286,7 +286,7 @@ seen-collected kept n time in_step is sound closed own =
     ∙ ap (λ bs. with_known (node_seen kept)
     (record (seen after) { store = discarded (seen kept).store time; copies = map machine.dropped (seen kept).copies; bases = bs }))
     (bases-swept kept)
-    ∙ ap (λ (n : NodeMemory). with_known n (barriers.collected_at n.me time n.memory)) is
+    ∙ ap (λ (n : NodeMemory). with_known n (barriers.after_collection n.me time n.memory)) is
   where
     nothing : Option (List Change)
     nothing = None

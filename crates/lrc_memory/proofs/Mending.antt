@@ -142,7 +142,7 @@ module _ (kept : Kept) (page : ℕ) (base : Base) (missing : List Key) where
       → All (λ (key : Key). key.page ≡ page) missing
       → node_seen (changed kept page done)
       ≡ with_known (node_seen kept) (machine.with_copy (seen kept) page
-      (machine.valid (machine.repaired (seen kept).store (first_values (machine.copy_at (seen kept) page) base) missing)))
+      (machine.valid (machine.all_applied (seen kept).store (first_values (machine.copy_at (seen kept) page) base) missing)))
   seen-mended within whole fit of_page =
       seen-changed kept page done within (nothing-before fit) (nothing-after (whole page (fresh []) within) fit) base-after
       ∙ ap (λ vs. with_known (node_seen kept) (machine.with_copy (seen kept) page (machine.valid vs)))

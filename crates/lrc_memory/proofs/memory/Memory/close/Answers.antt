@@ -42,7 +42,7 @@ name_pages-requires c =
     (written-below c.self.inside.table (length c.self.inside.notes.items) c.in_ok-pages.pages c.in_ok-pages.ensures.pages
     (sym c.self.invariant.named ∙ long-named c.self.inside.notes.items))
 
-done : (c : goal.After-drop-interval-inside-2)
+done : (c : goal.Joined-interval-2)
     → noting (record (kept c.self.inside) { store = c.add.new.self; table = c.close.new.self }) c.name_pages.new.notes.items
     ≡ closed_at (kept c.self.inside) c.args.stamp.now
 done c =
@@ -57,7 +57,7 @@ done c =
     c.index.ensures.index
     c.name_pages.ensures.named
 
-next : (c : goal.After-drop-interval-inside-2)
+next : (c : goal.Joined-interval-2)
     → entry c.args.stamp.now c.self.inside.me ≡ entry c.self.inside.store.last c.self.inside.me + 1
 next c =
     subst (λ (n : NodeMemory). entry c.args.stamp.now n.me ≡ entry n.memory.store.last n.me + 1) (sym c.self.view_is) c.requires.next

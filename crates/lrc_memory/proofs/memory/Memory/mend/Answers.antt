@@ -63,12 +63,12 @@ returns-clause-mended c =
     ap (λ (t : Table). node_seen (with_table k t)) table
     ∙ seen-mended k c.page-page.result base missing within c.size-whole.ensures.whole (fits-seen k _ _ _ c.self.view_is within fit) of_page
     ∙ ap (λ (n : NodeMemory). with_known n (machine.with_copy n.memory c.page-page.result
-    (machine.valid (machine.repaired n.memory.store (first_values (machine.copy_at n.memory c.page-page.result) base) missing)))) c.self.view_is
+    (machine.valid (machine.all_applied n.memory.store (first_values (machine.copy_at n.memory c.page-page.result) base) missing)))) c.self.view_is
     ∙ ap (λ p. with_known c.args.self.now (machine.with_copy c.args.self.now.memory p
-    (machine.valid (machine.repaired c.args.self.now.memory.store (first_values (machine.copy_at c.args.self.now.memory p) base) missing)))) page
+    (machine.valid (machine.all_applied c.args.self.now.memory.store (first_values (machine.copy_at c.args.self.now.memory p) base) missing)))) page
     ∙ ap (λ b. with_known c.args.self.now (machine.with_copy c.args.self.now.memory c.args.need.now.page
-    (machine.valid (machine.repaired c.args.self.now.memory.store
+    (machine.valid (machine.all_applied c.args.self.now.memory.store
     (first_values (machine.copy_at c.args.self.now.memory c.args.need.now.page) b) missing)))) c.base.ensures
     ∙ ap (λ (keys : List Key). with_known c.args.self.now (machine.with_copy c.args.self.now.memory c.args.need.now.page
-    (machine.valid (machine.repaired c.args.self.now.memory.store
+    (machine.valid (machine.all_applied c.args.self.now.memory.store
     (first_values (machine.copy_at c.args.self.now.memory c.args.need.now.page) c.args.need.now.base) keys)))) c.missing.ensures
