@@ -22,7 +22,7 @@ use lrc_protocol::Event;
 use lrc_weave::{WeaveFault, events_of};
 use lrc_wire::{WireFault, decode};
 use lrc_world::report::SimFault;
-use lrc_world::simulate::replay;
+use lrc_world::simulate::replay_briefly;
 use std::alloc::{AllocError, Global};
 
 /// What nodes left behind: their turns, and the mailboxes of the post between them.
@@ -78,7 +78,7 @@ fn fault_of_events(alloc: Global, setting: &Setting<'_>, events: &[Event]) -> Ru
     requires range { AreNodes setting.now.nodes × AreSteps setting.now.options.steps }
     ensures { AnswersEvents setting.now.program.now setting.now.nodes setting.now.options events.now result }
 {
-    let fault = match replay(
+    let fault = match replay_briefly(
         alloc,
         setting.program,
         u32::from(setting.nodes),

@@ -5,6 +5,7 @@ ghost use Rattle.lrc_post.specs.declared.parcel.Parcel.{Parcel as AnyParcel};
 
 use lrc_post::{Parcel, Post, PostFault};
 use std::sync::Wait;
+use std::thread;
 
 /// What a node's thread needs of the post. Its ghost members say what was put and taken between two states.
 pub trait Mail {
@@ -53,7 +54,13 @@ impl<'p, R: Wait> Mail for Line<'p, R> {
         self.post.poll(self.rt, self.me)
     }
 
+    // A thread that gives way once before it waits is rarely put to sleep: what it waits for mostly comes meanwhile.
     fn take(&mut self) -> Result<Option<Parcel>, PostFault> {
+        let here = self.poll()?;
+        if here.is_some() {
+            return Ok(here);
+        }
+        thread::yield_now();
         self.post.take(self.rt, self.me)
     }
 }

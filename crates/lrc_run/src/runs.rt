@@ -25,8 +25,8 @@ use lrc_post::{Mailbox, Post, Wires};
 use lrc_protocol::Event;
 use lrc_weave::weave;
 use lrc_world::range::node_count;
-use lrc_world::report::{Report, SimFault};
-use lrc_world::simulate::replay;
+use lrc_world::report::{Brief, Report, SimFault};
+use lrc_world::simulate::replay_briefly;
 use std::alloc::Global;
 use std::sync::Wait;
 use std::thread::Threads;
@@ -96,7 +96,7 @@ pub fn run_gated<G: Gate + Sync, R: Threads + Wait + Sync>(
         options: *options,
     };
     let (logs, wires) = live(rt, alloc, &setting, picker, gate)?;
-    let (report, _events) = told(alloc, &setting, logs.as_slice(), wires.mailboxes())?;
+    let (report, _events) = told(alloc, &setting, logs, wires.mailboxes())?;
     Ok((report, wires))
 }
 
@@ -125,7 +125,7 @@ pub fn run_with_events<R: Threads + Wait + Sync>(
         options: *options,
     };
     let (logs, wires) = live(rt, alloc, &setting, picker, &OpenGate)?;
-    let (report, events) = told(alloc, &setting, logs.as_slice(), wires.mailboxes())?;
+    let (report, events) = told(alloc, &setting, logs, wires.mailboxes())?;
     Ok((report, wires, events))
 }
 
@@ -166,14 +166,15 @@ fn live<G: Gate + Sync, R: Threads + Wait + Sync>(
 }
 
 // The report of the nodes' turns and the events that make them, where what the post kept agrees with them, and nothing was left to do.
+// The turns are those of the threads: the events make the same once more, which are not kept.
 fn told(
     alloc: Global,
     setting: &Setting<'_>,
-    logs: &[Vec<Entry>],
+    logs: Vec<Vec<Entry>>,
     wires: &[Mailbox],
 ) -> Result<(Report, Vec<Event>), RunFault>
     requires few { setting.now.nodes ≤ 16 }
-    requires logs { AreLogs setting.now.program.now setting.now.nodes setting.now.options (map (λ log. log.items) logs.now) }
+    requires logs { AreLogs setting.now.program.now setting.now.nodes setting.now.options (map (λ log. log.items) logs.items) }
     requires wires { length wires.now ≡ setting.now.nodes }
     ensures woven { IfOk result (λ told.
         IsWovenReport setting.now.program.now setting.now.nodes setting.now.options told.1.items told.0) }
@@ -186,17 +187,40 @@ fn told(
     ensures soon { result ≡ Err RunFault.Worn → WearsOutSoon setting.now.program.now setting.now.nodes setting.now.options }
     ensures late { IfErr result IsLate }
 {
-    let events = weave(alloc, logs, wires)?;
+    let events = weave(alloc, logs.as_slice(), wires)?;
     let turns = events.as_slice();
     // For the proof: there are fewer than 2^64.
     let _count = count_of(turns);
     let nodes = u32::from(setting.nodes);
-    match replay(alloc, setting.program, nodes, &setting.options, turns) {
-        Ok((report, true)) => Ok((report, events)),
+    match replay_briefly(alloc, setting.program, nodes, &setting.options, turns) {
+        Ok((brief, true)) => Ok((with_logs(brief, logs), events)),
         Err(SimFault::NoMemory) => Err(RunFault::NoMemory),
         // The events are those of a run, and each message was sent, so no other fault comes.
         Err(SimFault::Worn) => Err(RunFault::Worn),
         Ok(_) | Err(_) => Err(RunFault::Mismatch),
+    }
+}
+
+// What is said of a run in brief, with the turns of its nodes.
+fn with_logs(brief: Brief, logs: Vec<Vec<Entry>>) -> Report
+    ensures acts { result.acts ≡ brief.acts }
+    ensures ends { result.ends ≡ brief.ends }
+    ensures races { result.races ≡ brief.races }
+    ensures logs { result.logs ≡ logs }
+    ensures first { result.first_race ≡ brief.first_race }
+{
+    let Brief {
+        acts,
+        ends,
+        races,
+        first_race,
+    } = brief;
+    Report {
+        acts,
+        ends,
+        races,
+        logs,
+        first_race,
     }
 }
 

@@ -11,14 +11,14 @@ use Rattle.lrc_plain_laws.proofs.Ahead.{take_ahead}
 use Rattle.lrc_world.specs.declared.world.World.{World}
 use Rattle.lrc_world.specs.declared.report.SimFault.{SimFault}
 use Rattle.lrc_world.specs.declared.report.SimFault.TheVariants.{Worn}
-use Rattle.lrc_world.specs.declared.keep.Keep.TheVariants.{All}
+use Rattle.lrc_world.specs.declared.keep.Keep.{Keep}
 use Rattle.lrc_world.specs.World.{Starts, Shows, PlaysTo, starts_of}
 use Rattle.lrc_world.specs.Report.{IsWornBy}
 
 -- the run of the events so far, which the world shows
-abbrev pub Runs : Program → ℕ → OptionsRecord → List Event → World → Type 0
-Runs program nodes options events world =
-    (run : Run) × (run_of program nodes options events ≡ Some run) × Shows (starts_of program nodes options All) world run
+abbrev pub Runs : Keep → Program → ℕ → OptionsRecord → List Event → World → Type 0
+Runs keep program nodes options events world =
+    (run : Run) × (run_of program nodes options events ≡ Some run) × Shows (starts_of program nodes options keep) world run
 
 module _ (program : Program) (nodes : ℕ) (options : OptionsRecord) (events : List Event) (k : ℕ) (event : Event) (at : slice_get events k ≡ Some event) where
   one_more : (run : Run) → run_of program nodes options (take k events) ≡ Some run
@@ -30,11 +30,12 @@ module _ (program : Program) (nodes : ℕ) (options : OptionsRecord) (events : L
       ∙ fold-append step_of (Some (fresh_world program nodes options)) (take k events) (event ∷ [])
       ∙ ap (λ w. step_of w event) so_far
 
-  pub goes_on : (old new : World) (result : Result (Unit {0}) SimFault) (u : Unit {0}) → Runs program nodes options (take k events) old
+  pub goes_on : (keep : Keep) (old new : World) (result : Result (Unit {0}) SimFault) (u : Unit {0})
+      → Runs keep program nodes options (take k events) old
       → ((starts : Starts) (run : Run) → Shows starts old run → PlaysTo starts new (event_on run event) result) → result ≡ Ok u
-      → Runs program nodes options (take (k + 1) events) new
-  goes_on old new result u runs plays ok =
-      let first = starts_of program nodes options All in
+      → Runs keep program nodes options (take (k + 1) events) new
+  goes_on keep old new result u runs plays ok =
+      let first = starts_of program nodes options keep in
       let p = subst (PlaysTo first new (event_on runs.0 event)) ok (plays first runs.0 runs.2) in
       (p.0, one_more runs.0 runs.1 ∙ p.1, p.2)
 
@@ -44,10 +45,10 @@ split_at (y ∷ xs) zero x at = let same : y ≡ x = cc in ap (λ z. z ∷ xs) s
 split_at (y ∷ xs) (suc k) x at = ap (λ more. y ∷ more) (split_at xs k x at)
 
 pub wears_out : (program : Program) (nodes : ℕ) (options : OptionsRecord) (events : List Event) (k : ℕ) (event : Event) → slice_get events k ≡ Some event
-    → (old new : World) (result : Result (Unit {0}) SimFault) → Runs program nodes options (take k events) old
+    → (keep : Keep) (old new : World) (result : Result (Unit {0}) SimFault) → Runs keep program nodes options (take k events) old
     → ((starts : Starts) (run : Run) → Shows starts old run → PlaysTo starts new (event_on run event) result) → result ≡ Err Worn
     → IsWornBy program nodes options events
-wears_out program nodes options events k event at old new result runs plays worn = record {
+wears_out program nodes options events k event at keep old new result runs plays worn = record {
   before = take k events;
   event = event;
   after = drop (suc k) events;
@@ -55,7 +56,7 @@ wears_out program nodes options events k event at old new result runs plays worn
   split = split_at events k event at;
   plays = runs.1;
   wears =
-      subst (PlaysTo (starts_of program nodes options All) new (event_on runs.0 event)) worn (plays (starts_of program nodes options All) runs.0 runs.2);
+      subst (PlaysTo (starts_of program nodes options keep) new (event_on runs.0 event)) worn (plays (starts_of program nodes options keep) runs.0 runs.2);
 }
 
 -- a fault that is handed on

@@ -47,7 +47,3 @@ module _ (program : Program) (nodes : ℕ) (options : OptionsRecord) (events : L
   -- the theorem, of what is reported
   pub reports_consistently : IsConsistent program nodes report.acts.items
   reports_consistently = consistent_acts program nodes options events report.acts.items is.0 is.1 is.2.acts
-
-  -- all that is promised of what is reported
-  pub report_kept : 0 < nodes → AreKept program nodes options events report.acts.items report.ends.items
-  report_kept some = all_kept program nodes options events report.acts.items is.0 is.1 is.2.acts some report.ends.items is.2.ends

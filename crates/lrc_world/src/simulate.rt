@@ -75,14 +75,30 @@ pub fn replay(
     ensures bad_nodes { (result ≡ Err SimFault.BadNodes) ↔ (¬ AreNodes nodes) }
     ensures bad_steps { (result ≡ Err SimFault.BadSteps) ↔ (AreNodes nodes × ¬ AreSteps options.now.steps) }
 {
-    let count = node_count(nodes, options)?;
-    let code = Code::new(alloc, program)?;
-    let mut world = World::new(alloc, &code, count, options, Keep::All)?;
-    for event in events {
-        world.play(*event)?;
+    play_all(alloc, program, nodes, options, events, Keep::All)
+}
+
+/// The same without the turns of the nodes, which are not kept while the events are played.
+pub fn replay_briefly(
+    alloc: Global,
+    program: &Program,
+    nodes: u32,
+    options: &Options,
+    events: &[Event],
+) -> Result<(Brief, bool), SimFault>
+    ensures report { IfOk result (λ done. IsBriefOf program.now nodes options.now events.now done.0) }
+    ensures races { IfOk result (λ done. AreNamedRaces done.0.acts.items done.0.races.items) }
+    ensures kept { IfOk result (λ done. AreKept program.now nodes options.now events.now done.0.acts.items done.0.ends.items) }
+
+    ensures over { IfOk result (λ done. (done.1 ≡ true) ↔ AreAll program.now nodes options.now events.now) }
+    ensures worn { result ≡ Err SimFault.Worn → IsWornBy program.now nodes options.now events.now }
+    ensures bad_nodes { (result ≡ Err SimFault.BadNodes) ↔ (¬ AreNodes nodes) }
+    ensures bad_steps { (result ≡ Err SimFault.BadSteps) ↔ (AreNodes nodes × ¬ AreSteps options.now.steps) }
+{
+    match play_all(alloc, program, nodes, options, events, Keep::Newest) {
+        Ok((report, is_over)) => Ok((brief_of(report), is_over)),
+        Err(fault) => Err(fault),
     }
-    let is_over = world.is_over();
-    Ok((world.report()?, is_over))
 }
 
 /// A run in rounds: in each, every ready node from 0 up goes on once, and then as many messages are delivered as are in
@@ -201,6 +217,34 @@ pub fn wander_briefly(
         Ok((events, report)) => Ok((events, brief_of(report))),
         Err(fault) => Err(fault),
     }
+}
+
+// The run of events, with what is kept of the logs, and whether nothing is left to do after them.
+fn play_all(
+    alloc: Global,
+    program: &Program,
+    nodes: u32,
+    options: &Options,
+    events: &[Event],
+    keep: Keep,
+) -> Result<(Report, bool), SimFault>
+    ensures report { IfOk result (λ done. IsKeptReportOf keep program.now nodes options.now events.now done.0) }
+    ensures races { IfOk result (λ done. AreNamedRaces done.0.acts.items done.0.races.items) }
+    ensures kept { IfOk result (λ done. AreKept program.now nodes options.now events.now done.0.acts.items done.0.ends.items) }
+
+    ensures over { IfOk result (λ done. (done.1 ≡ true) ↔ AreAll program.now nodes options.now events.now) }
+    ensures worn { result ≡ Err SimFault.Worn → IsWornBy program.now nodes options.now events.now }
+    ensures bad_nodes { (result ≡ Err SimFault.BadNodes) ↔ (¬ AreNodes nodes) }
+    ensures bad_steps { (result ≡ Err SimFault.BadSteps) ↔ (AreNodes nodes × ¬ AreSteps options.now.steps) }
+{
+    let count = node_count(nodes, options)?;
+    let code = Code::new(alloc, program)?;
+    let mut world = World::new(alloc, &code, count, options, keep)?;
+    for event in events {
+        world.play(*event)?;
+    }
+    let is_over = world.is_over();
+    Ok((world.report()?, is_over))
 }
 
 // The run that goes on in an order, its events, with what is kept of the logs, and what all its promises follow from.

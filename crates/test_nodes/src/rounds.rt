@@ -6,7 +6,7 @@ use lrc_node::Options;
 use lrc_page::Size;
 use lrc_protocol::Event;
 use lrc_world::report::SimFault;
-use lrc_world::simulate::{drive, drive_briefly, simulate, wander, wander_briefly};
+use lrc_world::simulate::{drive, drive_briefly, replay_briefly, simulate, wander, wander_briefly};
 use std::alloc::Global;
 
 const TOLD_AT_A_BARRIER: &[u8] =
@@ -73,6 +73,22 @@ fn races_in_brief(alloc: Global, text: &[u8]) -> Result<Option<(usize, usize)>, 
     }
 }
 
+// Whether the events of a run say the same where they are played over without the turns of the nodes, and whether something is left to do
+// after all of them, and after all but the last.
+fn replayed_in_brief(alloc: Global, text: &[u8]) -> Result<(bool, bool, bool), SimFault> {
+    let program = parse(alloc, text).map_err(|_fault| SimFault::NoMemory)?;
+    let options = options(1_000_000, 0, 0);
+    let (mut events, report) = drive(alloc, &program, 3, &options, Picker::Oldest)?;
+    let (brief, is_over) = replay_briefly(alloc, &program, 3, &options, events.as_slice())?;
+    let is_same = brief.acts == report.acts
+        && brief.ends == report.ends
+        && brief.races == report.races
+        && brief.first_race == report.first_race;
+    events.pop();
+    let (_shorter, was_over) = replay_briefly(alloc, &program, 3, &options, events.as_slice())?;
+    Ok((is_same, !is_over, !was_over))
+}
+
 // The fault of a run.
 fn fault(alloc: Global, nodes: u32, options: Options) -> Option<SimFault> {
     delivered(alloc, nodes, options, TOLD_AT_A_BARRIER, Picker::Oldest).err()
@@ -134,4 +150,10 @@ fn numbers_out_of_range_have_no_run(rt: HostRuntime) {
 fn brief_runs_say_the_same(rt: HostRuntime) {
     assert!(rt; races_in_brief(rt.alloc(), WRITTEN_BY_ONE) == Ok(Some((0, 0))));
     assert!(rt; races_in_brief(rt.alloc(), READ_WITHOUT_ORDER) == Ok(Some((2, 2))));
+}
+
+#[test]
+fn replays_say_the_same(rt: HostRuntime) {
+    assert!(rt; replayed_in_brief(rt.alloc(), WRITTEN_BY_ONE) == Ok((true, false, true)));
+    assert!(rt; replayed_in_brief(rt.alloc(), READ_WITHOUT_ORDER) == Ok((true, false, true)));
 }

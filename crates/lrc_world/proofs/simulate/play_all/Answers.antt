@@ -1,0 +1,64 @@
+use Rattle.std.proofs.Common.{◌≡◌, ◌∙◌, sym, ap, rules, arith, take}
+use Rattle.lrc_world.specs.World.{starts_of}
+use Rattle.lrc_protocol.specs.Run.{run_of}
+use Rattle.lrc_world.specs.declared.report.SimFault.TheVariants.{Worn}
+use Rattle.lrc_world.proofs.Events.{goes_on, wears_out, handed_on, take_whole, get_at}
+use Rattle.lrc_world.proofs.Theorem.{all_kept}
+use Rattle.lrc_world.proofs.Races.{kept_raceless, kept_traces, kept_races}
+use Rattle.lrc_world.proofs.Worlds.{acts_of_nodes}
+use Rattle.lrc_world.proofs.simulate.play_all.Goals as goal
+
+pub loop-event-preserved : goal.loop-event-preserved
+loop-event-preserved c =
+    goes_on c.args.program.now c.args.nodes c.args.options.now c.args.events.now c.loop-event.event-index _
+    (get_at c.args.events.now c.loop-event.event-index _ (omega (arith, c.loop-event-test.true)))
+    c.args.keep c.loop-event.world c.play.new.self c.play.result c.in_ok-play.field-0 c.loop-event.invariant c.play.ensures (search rules)
+
+pub returns-in_err-play-clause-worn : goal.returns-in_err-play-clause-worn
+returns-in_err-play-clause-worn c = λ e.
+    let same = handed_on c.from_residual-in_err-play.result c.in_err-play.field-0.0 Worn c.from_residual-in_err-play.ensures.1 e in
+    wears_out c.args.program.now c.args.nodes c.args.options.now c.args.events.now c.loop-event.event-index _
+    (get_at c.args.events.now c.loop-event.event-index _ (omega (arith, c.loop-event-test.true)))
+    c.args.keep c.loop-event.world c.play.new.self c.play.result c.loop-event.invariant c.play.ensures (search rules)
+
+pub returns-clause-report : goal.returns-clause-report
+returns-clause-report c =
+    let runs = c.loop-event.invariant in
+    let told = c.in_ok-report.ensures.report (starts_of c.args.program.now c.args.nodes c.args.options.now c.args.keep) runs.0 runs.2 in
+    let all : take c.loop-event.event-index c.args.events.now ≡ c.args.events.now =
+    take_whole c.args.events.now c.loop-event.event-index (omega (arith, c.loop-event-test.false)) in (
+      runs.0,
+      ap (run_of c.args.program.now c.args.nodes c.args.options.now) (sym all)
+          ∙ runs.1,
+      record { acts = told.acts; ends = told.ends; logs = told.logs; first = told.first },
+    )
+
+pub returns-clause-kept : goal.returns-clause-kept
+returns-clause-kept c =
+    let is = returns-clause-report c in
+    all_kept c.args.program.now c.args.nodes c.args.options.now c.args.events.now c.in_ok-report.field-0.acts.items is.0 is.1 is.2.acts
+    (omega (arith, c.in_ok-count.ensures.1.0)) c.in_ok-report.field-0.ends.items is.2.ends
+
+pub returns-clause-races : goal.returns-clause-races
+returns-clause-races c =
+    let runs = c.loop-event.invariant in
+    let told = c.in_ok-report.ensures.report (starts_of c.args.program.now c.args.nodes c.args.options.now c.args.keep) runs.0 runs.2 in
+    kept_races c.args.program.now c.args.nodes c.args.options.now (take c.loop-event.event-index c.args.events.now) runs.0 runs.1 c.loop-event.world c.args.keep runs.2
+    c.in_ok-report.field-0.acts.items c.in_ok-report.field-0.races.items told.acts c.in_ok-report.ensures.races
+
+pub report-requires-clause-acts : goal.report-requires-clause-acts
+report-requires-clause-acts c =
+    let runs = c.loop-event.invariant in
+    acts_of_nodes c.args.program.now c.args.nodes c.args.options.now (take c.loop-event.event-index c.args.events.now)
+    (starts_of c.args.program.now c.args.nodes c.args.options.now c.args.keep) runs.0 c.loop-event.world runs.1 runs.2 c.in_ok-count.ensures.1.1
+
+pub report-requires-clause-traces : goal.report-requires-clause-traces
+report-requires-clause-traces c =
+    let runs = c.loop-event.invariant in
+    kept_traces c.args.program.now c.args.nodes c.args.options.now (take c.loop-event.event-index c.args.events.now) runs.0 runs.1 c.loop-event.world c.args.keep runs.2
+
+pub report-requires-clause-raceless : goal.report-requires-clause-raceless
+report-requires-clause-raceless c =
+    let runs = c.loop-event.invariant in
+    kept_raceless c.args.program.now c.args.nodes c.args.options.now (take c.loop-event.event-index c.args.events.now) runs.0 runs.1 c.loop-event.world c.args.keep runs.2
+    c.loop-event.world.acts.items runs.2.acts
