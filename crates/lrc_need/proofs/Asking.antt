@@ -1,13 +1,13 @@
 -- What is asked of makers: indices are put in order, and makers with none are left out.
 use Rattle.std.proofs.Common.{⊎_elim, inl, inr, ◌≡◌, ◌≢◌, ℕ, zero, suc, ◌+◌, ◌<◌, ◌≤◌, true, List, [], ◌∷◌}
-use Rattle.std.proofs.Common.{◌++◌, map, length, refl, sym, ap, ◌∙◌, subst, add-one, arith}
-use Rattle.std.specs.Prelude.{◌==◌, nat_lt, slice_index_or, option_to_list, Option, Some, None, filter_map}
-use Rattle.std.specs.List.{All, AllPairs, filter, range_with_len, cons_option}
+use Rattle.std.proofs.Common.{◌++◌, map, length, take, get_or, refl, sym, ap, ◌∙◌, subst, add-one, arith, eq-eqb}
+use Rattle.std.specs.Prelude.{◌==◌, nat_lt, slice_index_or, option_to_list, Option, Some, None, cond, filter_map}
+use Rattle.std.specs.List.{All, AllPairs, filter, range_with_len, cons_option, refill}
 use Rattle.std.specs.List.Sorted.{IsPermutation, IsSorted}
 use Rattle.std.specs.Ordering.{nat_cmp}
-use Rattle.std.proofs.lemmas.Bool.{eqb-true, lt-ltb, ltb-true, cases_order}
-use Rattle.std.proofs.lemmas.List.{length-map, get_or-map}
-use Rattle.std.proofs.lemmas.List.Elements.{filter_passes, filter_map-append, All-append, All-cons, All-filter, All-map}
+use Rattle.std.proofs.lemmas.Bool.{eqb-true, ne_eqb, lt-ltb, ltb-true, cases_order}
+use Rattle.std.proofs.lemmas.List.{append-nil, length-map, get_or-map, map-append, take-append-le, take_all}
+use Rattle.std.proofs.lemmas.List.Elements.{filter_more, filter_passes, filter_map-append, All-append, All-cons, All-filter, All-map}
 use Rattle.std.proofs.lemmas.List.Kept.{AllPairs-filter}
 use Rattle.std.proofs.lemmas.List.Sorted.{IsStrictWeakOrder-by_number, All-permutation}
 use Rattle.lrc_store.specs.declared.key.Key.{Key}
@@ -20,11 +20,30 @@ use Rattle.lrc_protocol.specs.Pages.{Asked, some_asked, indices_of, asked_of}
 use Rattle.lrc_need.specs.Need.{AreAskable}
 
 -- a maker's keys, and their indices
-abbrev keys_by : List Key → ℕ → List Key
+abbrev pub keys_by : List Key → ℕ → List Key
 keys_by keys maker = filter (λ key. key.node == maker) keys
 
-abbrev listed : List Key → ℕ → List ℕ
+abbrev pub listed : List Key → ℕ → List ℕ
 listed keys maker = map (λ key. key.index) (keys_by keys maker)
+
+-- one key more is listed where it is the maker's
+pub listed-more : (keys : List Key) (maker k : ℕ) (d : Key) → k < length keys → (get_or keys k d).node ≡ maker
+    → listed (take (k + 1) keys) maker ≡ listed (take k keys) maker ++ (get_or keys k d).index ∷ []
+listed-more keys maker k d within of_maker =
+    ap (map (λ (key : Key). key.index)) (filter_more (λ (key : Key). key.node == maker) keys k d within
+    ∙ ap (λ b. keys_by (take k keys) maker ++ cond b (get_or keys k d ∷ []) []) (eq-eqb (get_or keys k d).node maker of_maker))
+    ∙ map-append (λ (key : Key). key.index) (keys_by (take k keys) maker) (get_or keys k d ∷ [])
+
+pub listed-other : (keys : List Key) (maker k : ℕ) (d : Key) → k < length keys → (get_or keys k d).node ≢ maker
+    → listed (take (k + 1) keys) maker ≡ listed (take k keys) maker
+listed-other keys maker k d within other =
+    ap (map (λ (key : Key). key.index)) (filter_more (λ (key : Key). key.node == maker) keys k d within
+    ∙ ap (λ b. keys_by (take k keys) maker ++ cond b (get_or keys k d ∷ []) []) (ne_eqb (get_or keys k d).node maker other)
+    ∙ append-nil (keys_by (take k keys) maker))
+
+-- a list that is sorted in its place
+pub refill-whole : (xs ws : List ℕ) → length ws ≡ length xs → refill (length xs) xs ws ≡ ws
+refill-whole xs ws same = take-append-le (length xs) ws _ (omega (arith, same)) ∙ take_all (length xs) ws (omega (arith, same))
 
 all-filtered : (xs : List ℕ) → filter (λ index. true) xs ≡ xs
 all-filtered [] = refl

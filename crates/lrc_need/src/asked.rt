@@ -7,7 +7,7 @@ ghost use lib.Pointwise.{pointwise};
 ghost use Rattle.lrc_protocol.specs.Pages.{asked_of, asks_just, indices_of, some_asked};
 ghost use Rattle.lrc_need.specs.Need.{AreAskable};
 
-use lrc_envelope::{IndexedChanges, Indices};
+use lrc_envelope::{FEW_INDICES, IndexedChanges, Indices};
 use lrc_store::Key;
 use smallvec::SmallVec;
 use std::alloc::{AllocError, Global};
@@ -107,15 +107,22 @@ fn ask_maker(alloc: Global, keys: &[Key], maker: u8) -> Result<Indices, AllocErr
 {
     let mut list = indices_by(alloc, keys, maker)?;
     list.sort_unstable();
-    Ok(Indices::from_ascending(list))
+    Ok(Indices::from_short(list))
 }
 
 // The indices of a maker's intervals among these keys, in their order.
-fn indices_by(alloc: Global, keys: &[Key], maker: u8) -> Result<Vec<u32>, AllocError>
+fn indices_by(
+    alloc: Global,
+    keys: &[Key],
+    maker: u8,
+) -> Result<SmallVec<u32, FEW_INDICES>, AllocError>
     ensures { IfOk result (λ list. list.items ≡ map (λ key. key.index) (filter (λ key. key.node == maker) keys.now)) }
 {
-    keys.iter()
-        .filter(|key| key.node == maker)
-        .map(|key| key.index)
-        .collect(alloc)
+    let mut list = SmallVec::new(alloc);
+    for key in keys {
+        if key.node == maker {
+            list.push(key.index)?;
+        }
+    }
+    Ok(list)
 }

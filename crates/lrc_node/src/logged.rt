@@ -1,6 +1,6 @@
 // A node with its log.
 
-ghost use Rattle.std.specs.Prelude.{◌≡◌, Err, IfErr, IfOk, MatchResult, None, Ok, [], false, true};
+ghost use Rattle.std.specs.Prelude.{◌≡◌, Err, IfErr, IfOk, IfSome, MatchResult, None, Ok, [], false, true};
 ghost use Rattle.lrc_protocol.specs.Run as log;
 ghost use Rattle.lrc_protocol.specs.Turn.{is_ready};
 ghost use Rattle.lrc_node.specs.Fault.{MayAnswer, is_final};
@@ -52,6 +52,8 @@ pub struct Logged<'c> {
     node: Node<'c>,
     stamp: u64,
     log: Vec<Entry>,
+    // The box of a message that was forgotten, for the next one that is taken.
+    spare: Option<Box<Envelope>>,
 }
 
 impl<'c> Model for Logged<'c> {
@@ -79,6 +81,7 @@ impl<'c> Logged<'c> {
             node,
             stamp: 0,
             log: Vec::new(alloc),
+            spare: None,
         }
     }
 
@@ -136,11 +139,35 @@ impl<'c> Logged<'c> {
         ensures trace { self.new.trace ≡ self.old.trace }
     {
         self.make_room()?;
-        let Ok(boxed) = Box::new(*self.log.allocator(), envelope) else {
+        let Some(boxed) = self.boxed(envelope) else {
             self.node.fail();
             return Err(NodeFault::NoMemory);
         };
         Ok(boxed)
+    }
+
+    // The message in a box, that of a message that was forgotten where there is one. None without memory.
+    fn boxed(&mut self, envelope: Envelope) -> Option<Box<Envelope>>
+        ensures boxed { IfSome result (λ boxed. boxed.value ≡ envelope) }
+        ensures same { self.new ≡ self.old }
+    {
+        match self.spare.take() {
+            Some(mut spare) => {
+                *spare = envelope;
+                Some(spare)
+            }
+            None => Box::new(*self.log.allocator(), envelope).ok(),
+        }
+    }
+
+    // Keeps the box of a message for the next one that is taken.
+    fn keep_box(&mut self, input: Input)
+        ensures { self.new ≡ self.old }
+    {
+        match input {
+            Input::Run => {}
+            Input::Taken(boxed) => self.spare = Some(boxed),
+        }
     }
 
     /// Adds a turn that was made; a refusal adds nothing.
@@ -221,8 +248,9 @@ impl<'c> Logged<'c> {
     {
         let count = self.log.len();
         if count > 1 {
-            self.log.swap_remove(0);
+            let oldest = self.log.swap_remove(0);
             self.log.truncate(1);
+            self.keep_box(oldest.input);
         }
     }
 
@@ -235,6 +263,7 @@ impl<'c> Logged<'c> {
             node,
             stamp: _,
             log,
+            spare: _,
         } = self;
         (log, node.into_trace())
     }

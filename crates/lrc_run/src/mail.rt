@@ -54,7 +54,7 @@ impl<'p, R: Wait> Mail for Line<'p, R> {
         self.post.poll(self.rt, self.me)
     }
 
-    // A thread that gives way once before it waits is rarely put to sleep: what it waits for mostly comes meanwhile.
+    // A thread gives way once before it waits: what it waits for may come meanwhile, and then it is not put to sleep.
     fn take(&mut self) -> Result<Option<Parcel>, PostFault> {
         let here = self.poll()?;
         if here.is_some() {

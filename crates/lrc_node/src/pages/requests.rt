@@ -17,6 +17,7 @@ use lrc_envelope::{
     ChangesReply, ChangesRequest, IndexedChanges, Indices, Message, PageReply, PageRequest, Parts,
 };
 use lrc_memory::Memory;
+use smallvec::SmallVec;
 use std::alloc::{AllocError, Global};
 
 // Whether each of these intervals of a node is stored and names the page.
@@ -43,7 +44,7 @@ fn parts_of(
     ensures memory { OnOk result (memory.new ≡ memory.old) }
     ensures same { SameMemory memory.old memory.new }
 {
-    let mut parts = Vec::new(alloc);
+    let mut parts = SmallVec::new(alloc);
     let asked = indices.as_slice();
     for index in asked {
         let changes = memory.changes_of(page, *index)?;
@@ -54,7 +55,7 @@ fn parts_of(
             changes,
         })?;
     }
-    Ok(Parts::from_ascending(parts))
+    Ok(Parts::from_short(parts))
 }
 
 impl NodeState<'_> {

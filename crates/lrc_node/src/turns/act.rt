@@ -32,6 +32,7 @@ impl NodeState<'_> {
     }
 
     // Makes the deed that the text is at, if it has not stopped.
+    #[inline(always)]
     fn make_deed(&mut self) -> Result<Option<Deed>, AllocError>
         requires access { CanAccess self.old (asked_in self.old.course) }
         ensures deed { IfOk result (λ deed. deed ≡ deed_next self.old) }

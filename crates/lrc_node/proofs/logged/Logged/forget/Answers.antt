@@ -12,9 +12,10 @@ returns-then-count-gt1-clause-log c =
     let count : vec_len c.self.inside.log ≡ length log = omega arith in
     let left : c.truncate.new.self.items ≡ newest log =
     c.truncate.ensures.items
-    ∙ newest-first log c.swap_remove.new.self.items (omega (arith, more)) (omega (arith, more, c.swap_remove.ensures.len))
-    (λ d. c.swap_remove.ensures.by_index.0 d more ∙ ap (λ n. slice_index_or log (n - 1) d) count) in
-    ap (λ (g : List EntryRecord). let l : LoggedNode = record { node = c.self.inside.node.node; log = g } in l) left
+    ∙ newest-first log c.swap_remove-oldest.new.self.items (omega (arith, more)) (omega (arith, more, c.swap_remove-oldest.ensures.len))
+    (λ d. c.swap_remove-oldest.ensures.by_index.0 d more ∙ ap (λ n. slice_index_or log (n - 1) d) count) in
+    ap (λ (t : TracedLog). t.logged) c.keep_box.ensures
+    ∙ ap (λ (g : List EntryRecord). let l : LoggedNode = record { node = c.self.inside.node.node; log = g } in l) left
     ∙ ap (λ (t : TracedLog). let l : LoggedNode = record { node = t.logged.node; log = newest t.logged.log } in l) c.self.view_is
 
 pub returns-else-count-gt1-clause-log : goal.returns-else-count-gt1-clause-log
