@@ -1,11 +1,12 @@
 -- What the code's loop keeps, over logs in vectors.
-use Rattle.std.proofs.Common.{◌≡◌, ℕ, zero, suc, ◌+◌, ◌<◌, List, [], ◌∷◌, ◌++◌, length, map, replicate, refl, sym, ap, subst, ◌∙◌, arith}
-use Rattle.std.specs.Prelude.{Some, slice_set, slice_index_or}
-use Rattle.std.proofs.lemmas.List.{length-map, length-set, length-replicate}
+use Rattle.std.proofs.Common.{◌≡◌, ℕ, zero, suc, ◌+◌, ◌<◌, inl, inr, List, [], ◌∷◌, ◌++◌, length, map, replicate, refl, sym, ap, subst, ◌∙◌, arith}
+use Rattle.std.specs.Prelude.{Option, Some, None, option_map, slice_get, slice_set, slice_index_or}
+use Rattle.std.proofs.lemmas.Bool.{cases_eq}
+use Rattle.std.proofs.lemmas.List.{length-map, length-set, length-replicate, get_or-set_same, get_or-set_other}
 use Rattle.std.proofs.lemmas.Option.{slice_get_within, slice_get-get_or, same_Some}
 use Rattle.lrc_protocol.specs.Run.{EntryRecord}
 use Rattle.lrc_protocol.specs.Follows.{log_of, come_of}
-use Rattle.lrc_weave.specs.Next.{IsNextOf}
+use Rattle.lrc_weave.specs.Next.{stamp_of, IsNextOf}
 use Rattle.lrc_protocol.specs.declared.event.Event.{Event}
 use Rattle.lrc_weave.specs.declared.events.MessageName.{MessageName}
 use Rattle.lrc_lang.specs.declared.program.Program.{Program}
@@ -14,6 +15,7 @@ use Rattle.lrc_post.specs.Mailbox.{MailboxRecord}
 use Rattle.lrc_weave.specs.Logs.{AreLogs}
 use Rattle.lrc_weave.specs.Matched.{AreMatched}
 use Rattle.lrc_weave.specs.Events.{IsTurnOf, IsUnsent}
+use Rattle.lrc_weave.proofs.Heads.{head_stamp, AreHeads}
 use Rattle.lrc_weave.proofs.Weaving.{to_come, one_less}
 use Rattle.lrc_weave.proofs.Stepping.{WovenSo, so_start, so_more, so_sent}
 use Rattle.lrc_weave.proofs.Places.{within_outer}
@@ -46,6 +48,49 @@ module _ {V : Type 0} (f : V → List EntryRecord) where
       → v ≡ slice_index_or vs n v → place < length (f v)
   below_end vs come n place v next place_is v_is =
       subst (λ w. place < length (f w)) (sym v_is) (subst (λ p. p < length (f (slice_index_or vs n v))) (sym place_is) (next_place vs come n v next))
+
+  -- the stamps of the next turns are those of the first ones, before any has come
+  first_at : (vs : List V) (n : ℕ)
+      → stamp_of (map (λ v. option_map (λ (e : EntryRecord). e.stamp) (slice_get (f v) 0)) vs) n ≡ head_stamp (map f vs) (replicate (length vs) 0) n
+  first_at [] n = refl
+  first_at (v ∷ vs) zero = refl
+  first_at (v ∷ vs) (suc n) = first_at vs n
+
+  pub heads_begin : (vs : List V) (come : List ℕ) (stamps : List (Option ℕ)) → come ≡ replicate (length vs) 0
+      → stamps ≡ map (λ v. option_map (λ (e : EntryRecord). e.stamp) (slice_get (f v) 0)) vs
+      → (length stamps ≡ length vs) × AreHeads (map f vs) come stamps
+  heads_begin vs come stamps come_is stamps_are = (
+    ap length stamps_are ∙ length-map vs (λ v. option_map (λ (e : EntryRecord). e.stamp) (slice_get (f v) 0)),
+    λ n. ap (λ ss. stamp_of ss n) stamps_are ∙ first_at vs n ∙ ap (λ c. head_stamp (map f vs) c n) (sym come_is),
+  )
+
+  -- one turn of a node comes, and the stamp of its next one is looked up
+  pub heads_next : (vs : List V) (come : List ℕ) (stamps : List (Option ℕ)) (n next : ℕ) (s : Option ℕ) (v : V) → length come ≡ length vs
+      → (length stamps ≡ length vs) × AreHeads (map f vs) come stamps → n < length vs → v ≡ slice_index_or vs n v
+      → s ≡ option_map (λ (e : EntryRecord). e.stamp) (slice_get (f v) next)
+      → (length (slice_set stamps n s) ≡ length vs) × AreHeads (map f vs) (slice_set come n next) (slice_set stamps n s)
+  heads_next vs come stamps n next s v counted are within v_is s_is = (
+    length-set stamps n s ∙ are.0,
+    λ m. elim (cases_eq n m) [
+      | inl e ↦ subst (λ i. stamp_of (slice_set stamps n s) i ≡ head_stamp (map f vs) (slice_set come n next) i) e here
+      | inr ne ↦ other m (λ same. ne (sym same))
+    ],
+  )
+    where
+      log_is : f v ≡ log_of (map f vs) n
+      log_is = ap f v_is ∙ sym (log_at vs n v within)
+
+      here : stamp_of (slice_set stamps n s) n ≡ head_stamp (map f vs) (slice_set come n next) n
+      here =
+          get_or-set_same stamps n s None (subst (λ k. n < k) (sym are.0) within) ∙ s_is
+          ∙ ap (λ log. option_map (λ (e : EntryRecord). e.stamp) (slice_get log next)) log_is
+          ∙ ap (λ k. option_map (λ (e : EntryRecord). e.stamp) (slice_get (log_of (map f vs) n) k))
+          (sym (get_or-set_same come n next 0 (subst (λ k. n < k) (sym counted) within)))
+
+      other : (m : ℕ) → (m ≡ n → ⊥) → stamp_of (slice_set stamps n s) m ≡ head_stamp (map f vs) (slice_set come n next) m
+      other m ne =
+          get_or-set_other stamps n m s None ne ∙ are.1 m
+          ∙ ap (λ k. option_map (λ (e : EntryRecord). e.stamp) (slice_get (log_of (map f vs) m) k)) (sym (get_or-set_other come n m next 0 ne))
 
   pub so_begin : (vs : List V) (come : List ℕ) (names : List MessageName) (events : List Event) → come ≡ replicate (length vs) 0 → names ≡ [] → events ≡ []
       → (length come ≡ length vs) × WovenSo (map f vs) come names events

@@ -1,20 +1,19 @@
 -- The least of the next turns.
-use Rattle.std.proofs.Common.{◌≡◌, ℕ, zero, suc, ◌+◌, ◌<◌, ◌≤◌, inl, inr, Bool, true, false, List, length, refl, ap, subst, arith}
-use Rattle.std.specs.Prelude.{Option, Some, None, option_map, nat_le, cond}
+use Rattle.std.proofs.Common.{◌≡◌, ℕ, zero, suc, ◌+◌, ◌<◌, ◌≤◌, inl, inr, Bool, true, false, List, [], ◌∷◌, length, refl, sym, ap, subst, ◌∙◌, arith}
+use Rattle.std.specs.Prelude.{Option, Some, None, option_map, nat_le, cond, slice_index_or}
 use Rattle.std.proofs.lemmas.Bool.{cases_eq, leb-true, leb-false}
 use Rattle.lrc_protocol.specs.Run.{EntryRecord}
 use Rattle.lrc_weave.specs.declared.order.Head.{Head}
-use Rattle.lrc_weave.specs.Woven.{IsUpTo}
+use Rattle.lrc_weave.specs.Woven.{IsNext, IsUpTo}
 use Rattle.lrc_protocol.specs.Follows.{come_of, next_entry}
-use Rattle.lrc_weave.specs.Next.{earlier_of, IsNextOf}
+use Rattle.lrc_weave.specs.Next.{earlier_of, stamp_of, IsFirst, IsNextOf}
 use Rattle.lrc_weave.proofs.Places.{within_outer}
 
--- the best next turn of the nodes below a number
-abbrev pub IsBest : List (List EntryRecord) → List ℕ → ℕ → Option Head → Type 0
-IsBest logs come below None = (m : ℕ) → m < below → next_entry logs come m ≡ None
-IsBest logs come below (Some head) = (head.node < below) × (entry : EntryRecord) × (next_entry logs come head.node ≡ Some entry)
-    × (entry.stamp ≡ head.stamp)
-    × ((m : ℕ) (other : EntryRecord) → m < below → next_entry logs come m ≡ Some other → IsUpTo entry.stamp head.node other.stamp m)
+-- the best next turn of the nodes below a number, where the nodes' next turns have these stamps
+abbrev pub IsBest : (ℕ → Option ℕ) → ℕ → Option Head → Type 0
+IsBest stamps below None = (m : ℕ) → m < below → stamps m ≡ None
+IsBest stamps below (Some head) = (head.node < below) × (stamps head.node ≡ Some head.stamp)
+    × ((m other : ℕ) → m < below → stamps m ≡ Some other → IsUpTo head.stamp head.node other m)
 
 up_to_if : (a n b m : ℕ) → a ≤ b → n ≤ m → IsUpTo a n b m
 up_to_if a n b m le order = elim (cases_eq a b) [
@@ -26,110 +25,153 @@ below_along : (a n b m c k : ℕ) → a < b → IsUpTo b m c k → IsUpTo a n c 
 below_along a n b m c k lt (inl y) = inl (omega (arith, lt, y))
 below_along a n b m c k lt (inr (e, y)) = inl (omega (arith, lt, e))
 
-module _ (logs : List (List EntryRecord)) (come : List ℕ) where
+not_both : (o : Option ℕ) (x : ℕ) → o ≡ None → o ≡ Some x → ⊥
+not_both o x none some = cc
+
+same_stamp : (o : Option ℕ) (x y : ℕ) → o ≡ Some x → o ≡ Some y → x ≡ y
+same_stamp o x y a b = cc
+
+module _ (stamps : ℕ → Option ℕ) where
   -- what holds of each next turn of the nodes below a number, and of the one at it
-  up_to_this : (P : ℕ → EntryRecord → Type 0) (below : ℕ) → ((other : EntryRecord) → next_entry logs come below ≡ Some other → P below other)
-      → ((m : ℕ) (other : EntryRecord) → m < below → next_entry logs come m ≡ Some other → P m other)
-      → (m : ℕ) (other : EntryRecord) → m < below + 1 → next_entry logs come m ≡ Some other → P m other
+  up_to_this : (P : ℕ → ℕ → Type 0) (below : ℕ) → ((other : ℕ) → stamps below ≡ Some other → P below other)
+      → ((m other : ℕ) → m < below → stamps m ≡ Some other → P m other)
+      → (m other : ℕ) → m < below + 1 → stamps m ≡ Some other → P m other
   up_to_this P below here all m other lt at = elim (cases_eq below m) [
-    | inl e ↦ subst (λ i. next_entry logs come i ≡ Some other → P i other) e (here other) at
+    | inl e ↦ subst (λ i. stamps i ≡ Some other → P i other) e (here other) at
     | inr ne ↦ all m other (omega (arith, lt, ne)) at
   ]
 
-  not_both : (o : Option EntryRecord) (x : EntryRecord) → o ≡ None → o ≡ Some x → ⊥
-  not_both o x none some = cc
-
-  same_entry : (o : Option EntryRecord) (x y : EntryRecord) → o ≡ Some x → o ≡ Some y → x ≡ y
-  same_entry o x y a b = cc
-
-  by_stamp : (below : ℕ) (entry : EntryRecord) → next_entry logs come below ≡ Some entry → (head : Head) → IsBest logs come below (Some head)
-      → (b : Bool) → nat_le head.stamp entry.stamp ≡ b
-      → IsBest logs come (below + 1) (cond b (Some head) (Some (record { stamp = entry.stamp; node = below })))
-  by_stamp below entry at head b true le = (
-    omega (arith, b.0),
-    b.1,
-    b.2,
-    b.3,
-    up_to_this (λ m other. IsUpTo b.1.stamp head.node other.stamp m) below
+  by_stamp : (below stamp : ℕ) → stamps below ≡ Some stamp → (head : Head) → IsBest stamps below (Some head) → (b : Bool) → nat_le head.stamp stamp ≡ b
+      → IsBest stamps (below + 1) (cond b (Some head) (Some (record { stamp = stamp; node = below })))
+  by_stamp below stamp at head best true le = (
+    omega (arith, best.0),
+    best.1,
+    up_to_this (λ m other. IsUpTo head.stamp head.node other m) below
         (λ other there.
-        up_to_if b.1.stamp head.node other.stamp below
-        (omega (
-          arith,
-          leb-true head.stamp entry.stamp le,
-          b.3,
-          ap (λ (x : EntryRecord). x.stamp) (same_entry (next_entry logs come below) entry other at there),
-        ))
-        (omega (arith, b.0)))
-        b.4,
+        up_to_if head.stamp head.node other below
+        (omega (arith, leb-true head.stamp stamp le, same_stamp (stamps below) stamp other at there)) (omega (arith, best.0)))
+        best.2,
   )
-  by_stamp below entry at head b false more = (
+  by_stamp below stamp at head best false more = (
     omega arith,
-    entry,
     at,
-    refl,
-    up_to_this (λ m other. IsUpTo entry.stamp below other.stamp m) below
-        (λ other there. inr (ap (λ (x : EntryRecord). x.stamp) (same_entry (next_entry logs come below) entry other at there), omega arith))
+    up_to_this (λ m other. IsUpTo stamp below other m) below
+        (λ other there. inr (same_stamp (stamps below) stamp other at there, omega arith))
         (λ m other lt there.
-        below_along entry.stamp below b.1.stamp head.node other.stamp m
-        (omega (arith, leb-false head.stamp entry.stamp more, b.3)) (b.4 m other lt there)),
+        below_along stamp below head.stamp head.node other m (leb-false head.stamp stamp more) (best.2 m other lt there)),
   )
 
-  by_next : (below : ℕ) (o : Option EntryRecord) → next_entry logs come below ≡ o → (best : Option Head) → IsBest logs come below best
-      → IsBest logs come (below + 1) (earlier_of best (option_map (λ (e : EntryRecord). e.stamp) o) below)
+  by_next : (below : ℕ) (o : Option ℕ) → stamps below ≡ o → (best : Option Head) → IsBest stamps below best
+      → IsBest stamps (below + 1) (earlier_of best o below)
   by_next below None at None all = λ m lt. elim (cases_eq below m) [
-    | inl e ↦ subst (λ i. next_entry logs come i ≡ None) e at
+    | inl e ↦ subst (λ i. stamps i ≡ None) e at
     | inr ne ↦ all m (omega (arith, lt, ne))
   ]
-  by_next below None at (Some head) b = (
-    omega (arith, b.0),
-    b.1,
-    b.2,
-    b.3,
-    up_to_this (λ m other. IsUpTo b.1.stamp head.node other.stamp m) below
-        (λ other there. absurd (not_both (next_entry logs come below) other at there)) b.4,
+  by_next below None at (Some head) best = (
+    omega (arith, best.0),
+    best.1,
+    up_to_this (λ m other. IsUpTo head.stamp head.node other m) below (λ other there. absurd (not_both (stamps below) other at there)) best.2,
   )
-  by_next below (Some entry) at None all = (
+  by_next below (Some stamp) at None all = (
     omega arith,
-    entry,
     at,
-    refl,
-    up_to_this (λ m other. IsUpTo entry.stamp below other.stamp m) below
-        (λ other there. inr (ap (λ (x : EntryRecord). x.stamp) (same_entry (next_entry logs come below) entry other at there), omega arith))
-        (λ m other lt there. absurd (not_both (next_entry logs come m) other (all m lt) there)),
+    up_to_this (λ m other. IsUpTo stamp below other m) below
+        (λ other there. inr (same_stamp (stamps below) stamp other at there, omega arith))
+        (λ m other lt there. absurd (not_both (stamps m) other (all m lt) there)),
   )
-  by_next below (Some entry) at (Some head) b = by_stamp below entry at head b (nat_le head.stamp entry.stamp) refl
+  by_next below (Some stamp) at (Some head) best = by_stamp below stamp at head best (nat_le head.stamp stamp) refl
 
   -- the next node's turn is looked at
-  pub best_more : (below : ℕ) (best : Option Head) → IsBest logs come below best
-      → IsBest logs come (below + 1) (earlier_of best (option_map (λ (e : EntryRecord). e.stamp) (next_entry logs come below)) below)
-  best_more below best b = by_next below (next_entry logs come below) refl best b
+  pub best_more : (below : ℕ) (best : Option Head) → IsBest stamps below best → IsBest stamps (below + 1) (earlier_of best (stamps below) below)
+  best_more below best is = by_next below (stamps below) refl best is
 
-  pub best_start : IsBest logs come 0 None
+  pub best_start : IsBest stamps 0 None
   best_start = λ m lt. absurd (omega (arith, lt))
 
   -- of all nodes
-  pub best_all : (best : Option Head) → IsBest logs come (length logs) best → IsNextOf logs come (option_map (λ (h : Head). h.node) best)
-  best_all None all = λ n. past n (next_entry logs come n) refl
+  pub best_all : (count : ℕ) → ((n stamp : ℕ) → stamps n ≡ Some stamp → n < count) → (best : Option Head) → IsBest stamps count best
+      → IsFirst stamps (option_map (λ (h : Head). h.node) best)
+  best_all count within None all = λ n. past n (stamps n) refl
     where
-      past : (n : ℕ) (o : Option EntryRecord) → next_entry logs come n ≡ o → next_entry logs come n ≡ None
+      past : (n : ℕ) (o : Option ℕ) → stamps n ≡ o → stamps n ≡ None
       past n None at = at
-      past n (Some entry) at = all n (within_outer logs n (come_of come n) entry at)
-  best_all (Some head) b = (
-    b.1,
-    record {
-      next = b.2;
-      least = λ m other at. b.4 m other (within_outer logs m (come_of come m) other at) at;
-    },
-  )
+      past n (Some stamp) at = all n (within n stamp at)
+  best_all count within (Some head) best = (head.stamp, best.1, λ m other at. best.2 m other (within m other at) at)
 
-  best_below : (below : ℕ) → (best : Option Head) × IsBest logs come below best
+  best_below : (below : ℕ) → (best : Option Head) × IsBest stamps below best
   best_below zero = (None, best_start)
   best_below (suc below) =
       let before = best_below below in
-      let best : Option Head = earlier_of before.0 (option_map (λ (e : EntryRecord). e.stamp) (next_entry logs come below)) below in
+      let best : Option Head = earlier_of before.0 (stamps below) below in
       let more : below + 1 ≡ suc below = omega arith in
-      (best, subst (λ k. IsBest logs come k best) more (best_more below before.0 before.1))
+      (best, subst (λ k. IsBest stamps k best) more (best_more below before.0 before.1))
+
+-- ---- the stamps in a list
+
+stamp_within : (stamps : List (Option ℕ)) (n stamp : ℕ) → stamp_of stamps n ≡ Some stamp → n < length stamps
+stamp_within [] n stamp at = cc
+stamp_within (s ∷ stamps) zero stamp at = omega arith
+stamp_within (s ∷ stamps) (suc n) stamp at = omega (arith, stamp_within stamps n stamp at)
+
+read_stamp : (stamps : List (Option ℕ)) (n : ℕ) (s : Option ℕ) → n < length stamps → s ≡ slice_index_or stamps n s → s ≡ stamp_of stamps n
+read_stamp [] n s within is = absurd (omega (arith, within))
+read_stamp (x ∷ stamps) zero s within is = is
+read_stamp (x ∷ stamps) (suc n) s within is = read_stamp stamps n s (omega (arith, within)) is
+
+pub first_more : (stamps : List (Option ℕ)) (n : ℕ) (s : Option ℕ) (best : Option Head) → n < length stamps → s ≡ slice_index_or stamps n s
+    → IsBest (stamp_of stamps) n best → IsBest (stamp_of stamps) (n + 1) (earlier_of best s n)
+first_more stamps n s best within is so =
+    subst (λ o. IsBest (stamp_of stamps) (n + 1) (earlier_of best o n)) (sym (read_stamp stamps n s within is)) (best_more (stamp_of stamps) n best so)
+
+pub first_all : (stamps : List (Option ℕ)) (n : ℕ) (best : Option Head) → n ≡ length stamps → IsBest (stamp_of stamps) n best
+    → IsFirst (stamp_of stamps) (option_map (λ (h : Head). h.node) best)
+first_all stamps n best all so =
+    best_all (stamp_of stamps) (length stamps) (stamp_within stamps) best (subst (λ k. IsBest (stamp_of stamps) k best) all so)
+
+-- ---- the stamps in logs
+
+-- the stamp of a node's next turn, where so many turns of each node have come
+abbrev pub head_stamp : List (List EntryRecord) → List ℕ → ℕ → Option ℕ
+head_stamp logs come n = option_map (λ (e : EntryRecord). e.stamp) (next_entry logs come n)
+
+-- a list of them
+abbrev pub AreHeads : List (List EntryRecord) → List ℕ → List (Option ℕ) → Type 0
+AreHeads logs come stamps = (n : ℕ) → stamp_of stamps n ≡ head_stamp logs come n
+
+no_entry : (o : Option EntryRecord) → option_map (λ (e : EntryRecord). e.stamp) o ≡ None → o ≡ None
+no_entry None none = refl
+no_entry (Some entry) none = cc
+
+some_entry : (o : Option EntryRecord) (stamp : ℕ) → option_map (λ (e : EntryRecord). e.stamp) o ≡ Some stamp
+    → (entry : EntryRecord) × (o ≡ Some entry) × (entry.stamp ≡ stamp)
+some_entry None stamp at = cc
+some_entry (Some entry) stamp at = (entry, refl, (let same : entry.stamp ≡ stamp = cc in same))
+
+module _ (logs : List (List EntryRecord)) (come : List ℕ) where
+  next_is : (o : Option ℕ) → IsFirst (head_stamp logs come) o → IsNextOf logs come o
+  next_is None none = λ n. no_entry (next_entry logs come n) (none n)
+  next_is (Some n) first =
+      let entry = some_entry (next_entry logs come n) first.0 first.1 in (
+        entry.0,
+        record {
+          next = entry.1;
+          least = λ m other at.
+              subst (λ stamp. IsUpTo stamp n other.stamp m) (sym entry.2) (first.2 m other.stamp (ap (option_map (λ (e : EntryRecord). e.stamp)) at));
+        },
+      )
+
+  -- what is first of a list of the stamps is next
+  pub next_of : (stamps : List (Option ℕ)) (o : Option ℕ) → AreHeads logs come stamps → IsFirst (stamp_of stamps) o → IsNextOf logs come o
+  next_of stamps None are none = next_is None (λ n. sym (are n) ∙ none n)
+  next_of stamps (Some n) are first = next_is (Some n) (first.0, sym (are n) ∙ first.1, λ m other at. first.2 m other (are m ∙ at))
 
   -- a turn is next, or none is left
   pub next_or_none : (o : Option ℕ) × IsNextOf logs come o
-  next_or_none = let best = best_below (length logs) in (option_map (λ (h : Head). h.node) best.0, best_all best.0 best.1)
+  next_or_none =
+      let best = best_below (head_stamp logs come) (length logs) in (
+        option_map (λ (h : Head). h.node) best.0,
+        next_is (option_map (λ (h : Head). h.node) best.0)
+            (best_all (head_stamp logs come) (length logs)
+            (λ n stamp at. (let entry = some_entry (next_entry logs come n) stamp at in within_outer logs n (come_of come n) entry.0 entry.1))
+            best.0 best.1),
+      )

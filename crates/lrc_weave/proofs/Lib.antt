@@ -12,4 +12,5 @@ mod Spellings
 mod Firsts
 mod Comparing
 mod Looping
+mod Silent
 mod Repeated

@@ -4,10 +4,11 @@ ghost use Rattle.std.specs.Prelude.{◌≡◌, ◌<◌, ◌∷◌, ◌↔◌, []
 ghost use Rattle.lrc_node.specs.Logged.{seen_input};
 ghost use Rattle.lrc_protocol.specs.Run.{taken};
 ghost use Rattle.lrc_weave.specs.Compared.{AreByNodes, AreNext, ArePuts, IsLeft, only_to, sends_to, sent_as, taken_in};
-ghost use Rattle.lrc_weave.specs.Logs.{sent_to};
+ghost use Rattle.lrc_weave.specs.Logs.{all_sent, sent_to};
 ghost use Rattle.lrc_weave.specs.Matched.{AreMatched, IsMatched, Takes, puts_by, takes_in};
 
 use crate::history::{has_put_by, is_by_node, is_taken_from, next_take, take_put};
+use crate::sending::all_sending;
 use lrc_envelope::Envelope;
 use lrc_node::{Entry, Input};
 use lrc_post::{Mailbox, Wire};
@@ -23,25 +24,35 @@ pub(crate) fn are_matched(
     requires each { length wires.now ≡ length logs.now }
     ensures { IfOk result (λ are. IsTrue are ↔ AreMatched (map (λ log. log.items) logs.now) wires.now) }
 {
+    let sending = all_sending(alloc, logs)?;
     for owner in 0..wires.len() {
-        if !is_matched(alloc, logs, owner, wires[owner].history())? {
+        if !is_matched(
+            alloc,
+            logs,
+            sending.as_slice(),
+            owner,
+            wires[owner].history(),
+        )? {
             return Ok(false);
         }
     }
     Ok(true)
 }
 
-// Whether the logs and one node's mailbox do.
+// Whether the logs, of which these are the turns that send anything, and one node's mailbox do.
 fn is_matched(
     alloc: Global,
     logs: &[Vec<Entry>],
+    sending: &[Vec<&Entry>],
     owner: usize,
     history: &[Wire],
 ) -> Result<bool, AllocError>
     requires there { owner < length logs.now }
+    requires sent { map (λ turns. all_sent (map (λ turn. turn.now) turns.items)) sending.now
+        ≡ map (λ log. all_sent log.items) logs.now }
     ensures { IfOk result (λ is. IsTrue is ↔ IsMatched (map (λ log. log.items) logs.now) owner history.now) }
 {
-    if !are_by_nodes(history, logs.len()) || !are_puts(alloc, logs, owner, history)? {
+    if !are_by_nodes(history, logs.len()) || !are_puts(alloc, sending, owner, history)? {
         return Ok(false);
     }
     are_takes(alloc, logs[owner].as_slice(), history)
@@ -54,35 +65,36 @@ fn are_by_nodes(history: &[Wire], nodes: usize) -> bool
     history.iter().all(|wire| is_by_node(wire, nodes))
 }
 
-// Whether each node put what its log sends to the owner.
+// Whether each node put what its turns send to the owner.
 fn are_puts(
     alloc: Global,
-    logs: &[Vec<Entry>],
+    sending: &[Vec<&Entry>],
     owner: usize,
     history: &[Wire],
 ) -> Result<bool, AllocError>
-    ensures { IfOk result (λ are. IsTrue are ↔ ArePuts (map (λ log. log.items) logs.now) owner history.now) }
+    ensures { IfOk result (λ are. IsTrue are ↔ ArePuts (map (λ turns. map (λ turn. turn.now) turns.items) sending.now) owner history.now) }
 {
-    for sender in 0..logs.len() {
-        if !are_puts_of(alloc, owner, sender, logs[sender].as_slice(), history)? {
+    for sender in 0..sending.len() {
+        if !are_puts_of(alloc, owner, sender, sending[sender].as_slice(), history)? {
             return Ok(false);
         }
     }
     Ok(true)
 }
 
-// Whether a node put what its log sends to the owner, in order.
+// Whether a node put what these turns send to the owner, in order.
 fn are_puts_of(
     alloc: Global,
     owner: usize,
     sender: usize,
-    log: &[Entry],
+    turns: &[&Entry],
     history: &[Wire],
 ) -> Result<bool, AllocError>
-    ensures { IfOk result (λ are. IsTrue are ↔ (puts_by sender history.now ≡ map Some (sent_to owner log.now))) }
+    ensures { IfOk result (λ are. IsTrue are ↔ (puts_by sender history.now ≡ map Some (sent_to owner (map (λ turn. turn.now) turns.now)))) }
 {
     let mut rest = history;
-    for entry in log {
+    for entry in turns {
+        let entry: &Entry = entry;
         if !take_turn(
             alloc,
             owner,

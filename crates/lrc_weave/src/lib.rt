@@ -9,6 +9,7 @@ mod fault;
 mod history;
 pub mod laws;
 mod order;
+mod sending;
 mod spelled;
 mod woven;
 

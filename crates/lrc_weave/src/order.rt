@@ -1,9 +1,10 @@
 // Whose turn is next.
 
-ghost use Rattle.std.specs.Prelude.{◌≡◌, ◌<◌, length, map, option_map, slice_get};
-ghost use Rattle.lrc_weave.specs.Next.{IsNextOf, earlier_of};
+ghost use Rattle.std.specs.Prelude.{◌≡◌, IfOk, map, option_map, slice_get};
+ghost use Rattle.lrc_weave.specs.Next.{IsFirst, earlier_of, stamp_of};
 
 use lrc_node::Entry;
+use std::alloc::{AllocError, Global};
 use std::marker::Model;
 
 /// A node's next turn.
@@ -15,28 +16,41 @@ pub(crate) struct Head {
     pub node: usize,
 }
 
-/// The node whose next turn is to stand before those of all others, where so many turns of each node have come: the one with the
-/// least stamp, and of several the lowest. None where no turn is left.
-pub(crate) fn next_turn(logs: &[Vec<Entry>], come: &[usize]) -> Option<usize>
-    requires each { length come.now ≡ length logs.now }
-    ensures { IsNextOf (map (λ log. log.items) logs.now) come.now result }
+/// The stamps of the first turns of logs. None where a log has no turn.
+pub(crate) fn first_stamps(
+    alloc: Global,
+    logs: &[Vec<Entry>],
+) -> Result<Vec<Option<u64>>, AllocError>
+    ensures { IfOk result (λ stamps. stamps.items ≡ map (λ log. option_map (λ entry. entry.stamp) (slice_get log.items 0)) logs.now) }
 {
-    let mut best = None;
-    for node in 0..logs.len() {
-        best = earlier(best, stamp_at(&logs[node], come[node]), node);
+    let mut stamps = Vec::new(alloc);
+    for log in logs {
+        stamps.push(stamp_at(log, 0))?;
     }
-    match best {
-        Some(head) => Some(head.node),
-        None => None,
-    }
+    Ok(stamps)
 }
 
-// The stamp of a turn of a log.
-fn stamp_at(log: &Vec<Entry>, place: usize) -> Option<u64>
+/// The stamp of a turn of a log.
+pub(crate) fn stamp_at(log: &Vec<Entry>, place: usize) -> Option<u64>
     ensures { result ≡ option_map (λ entry. entry.stamp) (slice_get log.now.items place) }
 {
     match log.get(place) {
         Some(entry) => Some(entry.stamp),
+        None => None,
+    }
+}
+
+/// The node whose next turn is to stand before those of all others, where the nodes' next turns have these stamps: the one with
+/// the least stamp, and of several the lowest. None where no turn is left.
+pub(crate) fn next_turn(stamps: &[Option<u64>]) -> Option<usize>
+    ensures { IsFirst (stamp_of stamps.now) result }
+{
+    let mut best = None;
+    for node in 0..stamps.len() {
+        best = earlier(best, stamps[node], node);
+    }
+    match best {
+        Some(head) => Some(head.node),
         None => None,
     }
 }

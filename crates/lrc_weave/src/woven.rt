@@ -14,7 +14,7 @@ use crate::again::all_again;
 use crate::compared::are_matched;
 use crate::events::turn;
 use crate::fault::WeaveFault;
-use crate::order::next_turn;
+use crate::order::{first_stamps, next_turn, stamp_at};
 use lrc_node::Entry;
 use lrc_post::Mailbox;
 use lrc_protocol::Event;
@@ -60,14 +60,17 @@ pub fn events_of(alloc: Global, logs: &[Vec<Entry>]) -> Result<Vec<Event>, Weave
 {
     let again = all_again(alloc, logs)?;
     let mut come = vec![in alloc; 0usize; logs.len()]?;
+    let mut stamps = first_stamps(alloc, logs)?;
     let mut flight = Vec::new(alloc);
     let mut events = Vec::new(alloc);
-    while let Some(node) = next_turn(logs, come.as_slice()) {
+    while let Some(node) = next_turn(stamps.as_slice()) {
         let log = &logs[node];
         let place = come[node];
         let event = turn(&mut flight, node as u8, log, &again[node], place)?;
         events.push(event)?;
-        come[node] = after(log, place);
+        let next = after(log, place);
+        come[node] = next;
+        stamps[node] = stamp_at(log, next);
     }
     Ok(events)
 }
