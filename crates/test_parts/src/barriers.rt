@@ -1,16 +1,43 @@
 // Barriers.
 
-ghost use Rattle.std.specs.Prelude.{◌≡◌, ◌∷◌, ◌<◌, IfOk, length, []};
+ghost use Rattle.std.specs.Prelude.{◌≡◌, ◌≤◌, ◌<◌, All, IfOk, length};
 ghost use Rattle.lrc_barrier.specs.Barrier.{IsArrival};
 
-use crate::times::of_three;
+use crate::checks::holds;
+use crate::times::of;
 use lrc_barrier::{Arrival, BarrierFault, Departure, Departures, Manager};
 use lrc_page::Pages;
 use lrc_store::{Interval, Intervals};
 use lrc_time::Time;
 use std::alloc::{AllocError, Global};
-use std::process::Abort;
 use std::test::Fail;
+
+/// The node and the index of an interval, and how many pages it wrote.
+type Told = (u8, u32, usize);
+
+/// What departures say: whether a collection follows, the time of all, and to each node which intervals it lacks.
+#[derive(Clone, Copy)]
+struct Says<'a> {
+    collect: bool,
+    time: &'a [u32],
+    told: &'a [&'a [Told]],
+}
+
+/// What is done with a manager, or what is wanted of it. An arrival is a node's, at an episode, whether it asks for a collection,
+/// and its time.
+#[derive(Clone, Copy)]
+enum Step<'a> {
+    /// The arrival waits for others.
+    Waits(u8, u32, bool, &'a [u32]),
+    /// The arrival is refused.
+    Refused(u8, u32, &'a [u32], BarrierFault),
+    /// The arrival is the last, and the departures say this.
+    Departs(u8, u32, bool, &'a [u32], Says<'a>),
+    /// A node's Clean for an episode gets this answer.
+    Clean(u8, u32, Result<Option<u32>, BarrierFault>),
+    /// So many intervals of a node are known.
+    Last(u8, u32),
+}
 
 /// Page 0, or no page.
 fn pages_of(alloc: Global, named: bool) -> Result<Pages, AllocError> {
@@ -21,50 +48,21 @@ fn pages_of(alloc: Global, named: bool) -> Result<Pages, AllocError> {
     Ok(pages)
 }
 
-/// The newest interval of a node at this time.
-fn interval_of(rt: &impl Abort, node: u8, stamp: [u32; 3], pages: Pages) -> Interval
-    requires { node < 3 }
-    ensures node { result.node ≡ node }
-    ensures stamp { length result.stamp ≡ 3 }
-{
-    let stamp = of_three(stamp);
-    assert!(rt; stamp.at(node) >= 1);
-    Interval::new(node, stamp, pages)
-}
-
-/// This interval alone.
-fn only(alloc: Global, interval: Interval) -> Result<Intervals, AllocError>
-    ensures { IfOk result (λ intervals. intervals ≡ interval ∷ []) }
+/// The newest interval of a node at this time, if it has closed one.
+fn newest(alloc: Global, from: u8, time: &Time, writes: bool) -> Result<Intervals, AllocError>
+    requires { from < length time.now }
+    ensures own { IfOk result (λ intervals. All (λ interval. interval.node ≡ from) intervals) }
+    ensures stamps { IfOk result (λ intervals. All (λ interval. length interval.stamp ≡ length time.now) intervals) }
 {
     let mut intervals = Intervals::empty(alloc);
-    intervals.push(interval)?;
+    if time.at(from) >= 1 {
+        intervals.push(Interval::new(from, time.copy(), pages_of(alloc, writes)?))?;
+    }
     Ok(intervals)
 }
 
-/// An arrival of a node that has closed one interval since it last departed.
-fn arrival_of(
-    rt: &impl Abort,
-    alloc: Global,
-    node: u8,
-    episode: u32,
-    time: [u32; 3],
-) -> Result<Arrival, AllocError>
-    requires { node < 3 }
-    ensures { IfOk result (IsArrival 3 node) }
-{
-    let pages = pages_of(alloc, node == 0)?;
-    let intervals = only(alloc, interval_of(rt, node, time, pages))?;
-    Ok(Arrival {
-        episode,
-        ask: false,
-        time: of_three(time),
-        intervals,
-    })
-}
-
-/// Arrives, a second time where memory was refused: the manager is then as it was.
+/// Arrives, a second time where memory was refused and the manager is as it was.
 fn enter(
-    rt: &impl Abort,
     manager: &mut Manager,
     from: u8,
     arrival: &Arrival,
@@ -75,394 +73,330 @@ fn enter(
 {
     let last = manager.last(from);
     match manager.arrive(from, arrival) {
-        Err(BarrierFault::NoMemory) => {
-            assert!(rt; manager.last(from) == last);
-            manager.arrive(from, arrival)
-        }
+        Err(BarrierFault::NoMemory) if manager.last(from) == last => manager.arrive(from, arrival),
         answer => answer,
     }
 }
 
-/// Whether a node arrives before others.
-fn is_kept(rt: &impl Abort, manager: &mut Manager, from: u8, arrival: &Arrival) -> bool
-    requires from { from < length manager.old.last }
-    requires own { IsArrival (length manager.old.last) from arrival.now }
-    ensures { length manager.new.last ≡ length manager.old.last }
-{
-    let kept = matches!(enter(rt, manager, from, arrival), Ok(None));
-    kept && manager.last(from) == arrival.time.at(from)
-}
-
-/// The same of an arrival of a node that has closed one interval.
-fn waits(
-    rt: &impl Abort,
+/// One of so many nodes arrives with the newest interval that it has closed, if any. Of a few nodes only node 0 wrote a page, of
+/// sixteen each.
+fn arrive(
     alloc: Global,
     manager: &mut Manager,
-    from: u8,
-    time: [u32; 3],
-) -> Result<bool, AllocError>
-    requires nodes { length manager.old.last ≡ 3 }
-    requires from { from < 3 }
-    ensures { length manager.new.last ≡ 3 }
-{
-    let arrival = arrival_of(rt, alloc, from, 1, time)?;
-    Ok(is_kept(rt, manager, from, &arrival))
-}
-
-/// Why an arrival is refused, if it is, and the manager knows what it knew.
-fn fault_of(
-    rt: &impl Abort,
-    manager: &mut Manager,
-    from: u8,
-    arrival: &Arrival,
-) -> Option<BarrierFault>
-    requires from { from < length manager.old.last }
-    requires own { IsArrival (length manager.old.last) from arrival.now }
-    ensures { length manager.new.last ≡ length manager.old.last }
-{
-    let last = manager.last(from);
-    let fault = enter(rt, manager, from, arrival).err();
-    if manager.last(from) == last {
-        fault
-    } else {
-        None
-    }
-}
-
-/// Whether a node's arrival is refused with this fault.
-fn is_refused(
-    rt: &impl Abort,
-    alloc: Global,
-    manager: &mut Manager,
+    nodes: u8,
     from: u8,
     episode: u32,
+    ask: bool,
+    time: &[u32],
+) -> Result<Result<Option<Departures>, BarrierFault>, AllocError>
+    requires few { nodes ≤ 16 }
+    requires nodes { length manager.old.last ≡ nodes }
+    requires from { from < nodes }
+    ensures { length manager.new.last ≡ nodes }
+{
+    let time = of(nodes, time);
+    let intervals = newest(alloc, from, &time, from == 0 || nodes == 16)?;
+    let arrival = Arrival {
+        episode,
+        ask,
+        time,
+        intervals,
+    };
+    Ok(enter(manager, from, &arrival))
+}
+
+fn waits(
+    alloc: Global,
+    manager: &mut Manager,
+    nodes: u8,
+    from: u8,
+    episode: u32,
+    ask: bool,
+    time: &[u32],
+) -> Result<bool, AllocError>
+    requires few { nodes ≤ 16 }
+    requires nodes { length manager.old.last ≡ nodes }
+    ensures { length manager.new.last ≡ nodes }
+{
+    if from >= nodes {
+        return Ok(false);
+    }
+    let kept = matches!(
+        arrive(alloc, manager, nodes, from, episode, ask, time)?,
+        Ok(None)
+    );
+    Ok(kept && time.get(usize::from(from)) == Some(&manager.last(from)))
+}
+
+/// Whether an arrival is refused with this fault, and the manager knows what it knew.
+fn is_refused(
+    alloc: Global,
+    manager: &mut Manager,
+    nodes: u8,
+    from: u8,
+    episode: u32,
+    time: &[u32],
     fault: BarrierFault,
 ) -> Result<bool, AllocError>
-    requires nodes { length manager.old.last ≡ 3 }
-    requires from { from < 3 }
-    ensures { length manager.new.last ≡ 3 }
+    requires few { nodes ≤ 16 }
+    requires nodes { length manager.old.last ≡ nodes }
+    ensures { length manager.new.last ≡ nodes }
 {
-    let arrival = arrival_of(rt, alloc, from, episode, [9, 9, 9])?;
-    Ok(fault_of(rt, manager, from, &arrival) == Some(fault))
+    if from >= nodes {
+        return Ok(false);
+    }
+    let last = manager.last(from);
+    let given = arrive(alloc, manager, nodes, from, episode, false, time)?.err();
+    Ok(given == Some(fault) && manager.last(from) == last)
 }
 
 /// The departures, which the last arrival gives.
-fn told(answer: &Result<Option<Departures>, BarrierFault>) -> Option<&[Departure]> {
+fn told(answer: &Result<Option<Departures>, BarrierFault>) -> &[Departure] {
     match answer {
-        Ok(Some(departures)) => Some(departures.as_slice()),
-        Ok(None) | Err(_) => None,
+        Ok(Some(departures)) => departures.as_slice(),
+        Ok(None) | Err(_) => &[],
     }
 }
 
 /// Whether these are the intervals with these nodes, indices and numbers of pages.
-fn are(intervals: &Intervals, wanted: &[(u8, u32, usize)]) -> bool {
+fn are(intervals: &Intervals, wanted: &[Told]) -> bool {
+    for (interval, want) in intervals.as_slice().iter().zip(wanted) {
+        if (interval.node, interval.index(), interval.pages.len()) != *want {
+            return false;
+        }
+    }
     intervals.len() == wanted.len()
-        && intervals.as_slice().iter().zip(wanted).all(|(interval, want)| {
-            interval.node == want.0 && interval.index() == want.1 && interval.pages.len() == want.2
-        })
 }
 
-/// Whether a departure from the first episode, after which no collection follows, tells just this.
-fn tells(departure: &Departure, to: u8, time: &Time, wanted: &[(u8, u32, usize)]) -> bool {
-    departure.to == to
-        && departure.episode == 1
-        && !departure.collect
-        && departure.time == *time
-        && are(&departure.intervals, wanted)
+/// Whether there is a departure for each node, from this episode, with these intervals.
+fn tell(departures: &[Departure], episode: u32, wanted: &[&[Told]]) -> bool {
+    for ((to, departure), told) in (0..16u8).zip(departures).zip(wanted) {
+        if departure.to != to || departure.episode != episode || !are(&departure.intervals, told) {
+            return false;
+        }
+    }
+    departures.len() == wanted.len()
 }
 
-/// The last of three nodes arrives.
-fn depart(
-    rt: &impl Abort,
+/// Whether each departure says this time, and whether a collection follows.
+fn agree(departures: &[Departure], time: &Time, collect: bool) -> bool {
+    for departure in departures {
+        if departure.time != *time || departure.collect != collect {
+            return false;
+        }
+    }
+    true
+}
+
+/// Whether the last arrival has all depart, and the departures say this.
+fn departs(
     alloc: Global,
     manager: &mut Manager,
+    nodes: u8,
     from: u8,
-    time: [u32; 3],
-) -> Result<Result<Option<Departures>, BarrierFault>, AllocError>
-    requires nodes { length manager.old.last ≡ 3 }
-    requires from { from < 3 }
-    ensures { length manager.new.last ≡ 3 }
+    episode: u32,
+    ask: bool,
+    time: &[u32],
+    says: Says,
+) -> Result<bool, AllocError>
+    requires few { nodes ≤ 16 }
+    requires nodes { length manager.old.last ≡ nodes }
+    ensures { length manager.new.last ≡ nodes }
 {
-    let arrival = arrival_of(rt, alloc, from, 1, time)?;
-    Ok(enter(rt, manager, from, &arrival))
+    if from >= nodes {
+        return Ok(false);
+    }
+    let all = of(nodes, says.time);
+    let answer = arrive(alloc, manager, nodes, from, episode, ask, time)?;
+    let departures = told(&answer);
+    Ok(tell(departures, episode, says.told) && agree(departures, &all, says.collect))
 }
 
-/// Whether arrivals and Cleans out of turn are refused.
-fn refuses_out_of_turn(
-    rt: &impl Abort,
+/// Takes a step with a manager of so many nodes, and answers whether what was wanted came out.
+fn is_met(alloc: Global, manager: &mut Manager, nodes: u8, step: Step) -> Result<bool, AllocError>
+    requires few { nodes ≤ 16 }
+    requires nodes { length manager.old.last ≡ nodes }
+    ensures { length manager.new.last ≡ nodes }
+{
+    match step {
+        Step::Waits(from, episode, ask, time) => {
+            waits(alloc, manager, nodes, from, episode, ask, time)
+        }
+        Step::Refused(from, episode, time, fault) => {
+            is_refused(alloc, manager, nodes, from, episode, time, fault)
+        }
+        Step::Departs(from, episode, ask, time, says) => {
+            departs(alloc, manager, nodes, from, episode, ask, time, says)
+        }
+        Step::Clean(from, episode, answer) => {
+            Ok(from < nodes && manager.clean(from, episode) == answer)
+        }
+        Step::Last(node, index) => Ok(node < nodes && manager.last(node) == index),
+    }
+}
+
+fn are_met(
     alloc: Global,
     manager: &mut Manager,
+    nodes: u8,
+    steps: &[Step],
 ) -> Result<bool, AllocError>
-    requires { length manager.old.last ≡ 3 }
+    requires few { nodes ≤ 16 }
+    requires nodes { length manager.old.last ≡ nodes }
+    ensures { length manager.new.last ≡ nodes }
 {
-    let wrong = BarrierFault::WrongEpisode;
-    let first = [
-        manager.last(0) == 0,
-        is_refused(rt, alloc, manager, 0, 2, wrong)?,
-        is_refused(rt, alloc, manager, 0, u32::MAX, wrong)?,
-        waits(rt, alloc, manager, 0, [3, 0, 0])?,
-    ];
-    let later = [
-        is_refused(rt, alloc, manager, 0, 1, BarrierFault::Twice)?,
-        is_refused(rt, alloc, manager, 0, 2, wrong)?,
-        is_refused(rt, alloc, manager, 1, 0, wrong)?,
-        [manager.clean(0, 1), manager.clean(0, 0)] == [Err(wrong), Err(wrong)],
-    ];
-    Ok([first, later] == [[true; 4], [true; 4]])
+    for step in steps {
+        if !is_met(alloc, manager, nodes, *step)? {
+            return Ok(false);
+        }
+    }
+    Ok(true)
 }
 
-/// The same of a manager that knows nothing.
-fn refuses_at_first(rt: &impl Abort, alloc: Global) -> Result<bool, AllocError> {
-    let mut manager = Manager::new(alloc, 3);
-    refuses_out_of_turn(rt, alloc, &mut manager)
+/// Whether a manager of so many nodes that knows nothing at first meets each of the steps.
+fn meets(alloc: Global, nodes: u8, steps: &[Step]) -> Result<bool, AllocError>
+    requires some { 1 ≤ nodes }
+    requires few { nodes ≤ 16 }
+{
+    let mut manager = Manager::new(alloc, nodes);
+    are_met(alloc, &mut manager, nodes, steps)
 }
 
 #[test]
 fn refuses_arrivals_out_of_turn(rt: HostRuntime) -> Result<(), Fail> {
-    assert!(rt; refuses_at_first(&rt, rt.alloc())?);
-    Ok(())
+    let wrong = BarrierFault::WrongEpisode;
+    let steps = [
+        Step::Last(0, 0),
+        Step::Refused(0, 2, &[9, 9, 9], wrong),
+        Step::Refused(0, u32::MAX, &[9, 9, 9], wrong),
+        Step::Waits(0, 1, false, &[3, 0, 0]),
+        Step::Refused(0, 1, &[9, 9, 9], BarrierFault::Twice),
+        Step::Refused(0, 2, &[9, 9, 9], wrong),
+        Step::Refused(1, 0, &[9, 9, 9], wrong),
+        Step::Clean(0, 1, Err(wrong)),
+        Step::Clean(0, 0, Err(wrong)),
+    ];
+    holds(&rt, meets(rt.alloc(), 3, &steps))
 }
 
-/// Whether these departures tell each of three nodes of the other two.
-fn tell_of_the_others(told: Option<&[Departure]>) -> bool {
-    let Some(told) = told else {
-        return false;
-    };
-    let time = of_three([1, 1, 1]);
-    told.len() == 3
-        && tells(&told[0], 0, &time, &[(1, 1, 0), (2, 1, 0)])
-        && tells(&told[1], 1, &time, &[(0, 1, 1), (2, 1, 0)])
-        && tells(&told[2], 2, &time, &[(0, 1, 1), (1, 1, 0)])
-}
-
-/// Three nodes that know nothing of each other arrive, and depart.
-fn strangers_depart(
-    rt: &impl Abort,
-    alloc: Global,
-    manager: &mut Manager,
-) -> Result<bool, AllocError>
-    requires { length manager.old.last ≡ 3 }
-{
-    let last = waits(rt, alloc, manager, 2, [0, 0, 1])?;
-    let first = waits(rt, alloc, manager, 0, [1, 0, 0])?;
-    let answer = depart(rt, alloc, manager, 1, [0, 1, 0])?;
-    Ok(last && first && tell_of_the_others(told(&answer)))
-}
-
-/// The same with a manager that knows nothing.
-fn strangers(rt: &impl Abort, alloc: Global) -> Result<bool, AllocError> {
-    let mut manager = Manager::new(alloc, 3);
-    strangers_depart(rt, alloc, &mut manager)
-}
-
+// Three nodes that know nothing of each other arrive, and depart.
 #[test]
 fn tells_each_node_what_it_lacks(rt: HostRuntime) -> Result<(), Fail> {
-    assert!(rt; strangers(&rt, rt.alloc())?);
-    Ok(())
+    let told: [&[Told]; 3] = [
+        &[(1, 1, 0), (2, 1, 0)],
+        &[(0, 1, 1), (2, 1, 0)],
+        &[(0, 1, 1), (1, 1, 0)],
+    ];
+    let steps = [
+        Step::Waits(2, 1, false, &[0, 0, 1]),
+        Step::Waits(0, 1, false, &[1, 0, 0]),
+        Step::Departs(
+            1,
+            1,
+            false,
+            &[0, 1, 0],
+            Says {
+                collect: false,
+                time: &[1, 1, 1],
+                told: &told,
+            },
+        ),
+    ];
+    holds(&rt, meets(rt.alloc(), 3, &steps))
 }
 
-/// Whether these departures tell each of three nodes of what it does not know.
-fn tell_of_what_is_new(told: Option<&[Departure]>) -> bool {
-    let Some(told) = told else {
-        return false;
-    };
-    let time = of_three([3, 2, 5]);
-    told.len() == 3
-        && tells(&told[0], 0, &time, &[(1, 2, 0), (2, 5, 0)])
-        && tells(&told[1], 1, &time, &[(2, 5, 0)])
-        && tells(&told[2], 2, &time, &[(0, 3, 1)])
-}
-
-/// Three nodes, of which the second knows the first, and the third both but for the first's newest interval, arrive, and
-/// depart.
-fn acquainted_depart(
-    rt: &impl Abort,
-    alloc: Global,
-    manager: &mut Manager,
-) -> Result<bool, AllocError>
-    requires { length manager.old.last ≡ 3 }
-{
-    let first = waits(rt, alloc, manager, 0, [3, 0, 0])?;
-    let second = waits(rt, alloc, manager, 1, [3, 2, 0])?;
-    let answer = depart(rt, alloc, manager, 2, [2, 2, 5])?;
-    Ok(first && second && tell_of_what_is_new(told(&answer)))
-}
-
-/// The same with a manager that knows nothing.
-fn acquainted(rt: &impl Abort, alloc: Global) -> Result<bool, AllocError> {
-    let mut manager = Manager::new(alloc, 3);
-    acquainted_depart(rt, alloc, &mut manager)
-}
-
+// Three nodes, of which the second knows the first, and the third both but for the first's newest interval, arrive, and
+// depart.
 #[test]
 fn tells_no_node_what_it_knew(rt: HostRuntime) -> Result<(), Fail> {
-    assert!(rt; acquainted(&rt, rt.alloc())?);
-    Ok(())
-}
-
-/// An arrival of one of two nodes that has no interval to tell of.
-fn quiet_arrival(alloc: Global, node: u8, episode: u32, asker: u8) -> Arrival
-    ensures { IsArrival 2 node result }
-{
-    Arrival {
-        episode,
-        ask: node == asker,
-        time: Time::new(2),
-        intervals: Intervals::empty(alloc),
-    }
-}
-
-/// One of two nodes arrives.
-fn arrives(
-    rt: &impl Abort,
-    alloc: Global,
-    manager: &mut Manager,
-    node: u8,
-    episode: u32,
-    asker: u8,
-) -> Result<Option<Departures>, BarrierFault>
-    requires nodes { length manager.old.last ≡ 2 }
-    requires node { node < 2 }
-    ensures { length manager.new.last ≡ 2 }
-{
-    let arrival = quiet_arrival(alloc, node, episode, asker);
-    enter(rt, manager, node, &arrival)
-}
-
-/// Whether a collection follows these departures, if both nodes hear the same.
-fn collection(told: Option<&[Departure]>) -> Option<bool> {
-    let told = told?;
-    if told.len() == 2 && told[0].collect == told[1].collect {
-        Some(told[1].collect)
-    } else {
-        None
-    }
-}
-
-/// Two nodes arrive at an episode, and both depart: whether a collection follows.
-fn collects(
-    rt: &impl Abort,
-    alloc: Global,
-    manager: &mut Manager,
-    episode: u32,
-    asker: u8,
-) -> Option<bool>
-    requires { length manager.old.last ≡ 2 }
-    ensures { length manager.new.last ≡ 2 }
-{
-    let kept = matches!(arrives(rt, alloc, manager, 0, episode, asker), Ok(None));
-    let follows = collection(told(&arrives(rt, alloc, manager, 1, episode, asker)));
-    if kept { follows } else { None }
-}
-
-/// Whether a collection keeps arrivals out until both nodes have sent their Cleans.
-fn waits_for_cleans(rt: &impl Abort, alloc: Global, manager: &mut Manager) -> bool
-    requires { length manager.old.last ≡ 2 }
-{
-    let wrong = BarrierFault::WrongEpisode;
-    let first = collects(rt, alloc, manager, 1, 1);
-    let early = arrives(rt, alloc, manager, 0, 2, 9).err();
-    let answers = [
-        manager.clean(0, 2),
-        manager.clean(0, 1),
-        manager.clean(0, 1),
-        manager.clean(1, 1),
-        manager.clean(1, 1),
+    let told: [&[Told]; 3] = [&[(1, 2, 0), (2, 5, 0)], &[(2, 5, 0)], &[(0, 3, 1)]];
+    let steps = [
+        Step::Waits(0, 1, false, &[3, 0, 0]),
+        Step::Waits(1, 1, false, &[3, 2, 0]),
+        Step::Departs(
+            2,
+            1,
+            false,
+            &[2, 2, 5],
+            Says {
+                collect: false,
+                time: &[3, 2, 5],
+                told: &told,
+            },
+        ),
     ];
-    let second = collects(rt, alloc, manager, 2, 9);
-    let late = manager.clean(1, 2);
-    let twice = Err(BarrierFault::Twice);
-    [first, second] == [Some(true), Some(false)]
-        && early == Some(wrong)
-        && answers == [Err(wrong), Ok(None), twice, Ok(Some(1)), Err(wrong)]
-        && late == Err(wrong)
+    holds(&rt, meets(rt.alloc(), 3, &steps))
 }
 
-/// The same of a manager that knows nothing.
-fn waits_at_first(rt: &impl Abort, alloc: Global) -> bool {
-    let mut manager = Manager::new(alloc, 2);
-    waits_for_cleans(rt, alloc, &mut manager)
+// One of two nodes asks for a collection, and then none does.
+#[test]
+fn a_collection_waits_for_every_clean(rt: HostRuntime) -> Result<(), Fail> {
+    let wrong = BarrierFault::WrongEpisode;
+    let told: [&[Told]; 2] = [&[], &[]];
+    let steps = [
+        Step::Waits(0, 1, false, &[0, 0]),
+        Step::Departs(
+            1,
+            1,
+            true,
+            &[0, 0],
+            Says {
+                collect: true,
+                time: &[0, 0],
+                told: &told,
+            },
+        ),
+        Step::Refused(0, 2, &[0, 0], wrong),
+        Step::Clean(0, 2, Err(wrong)),
+        Step::Clean(0, 1, Ok(None)),
+        Step::Clean(0, 1, Err(BarrierFault::Twice)),
+        Step::Clean(1, 1, Ok(Some(1))),
+        Step::Clean(1, 1, Err(wrong)),
+        Step::Waits(0, 2, false, &[0, 0]),
+        Step::Departs(
+            1,
+            2,
+            false,
+            &[0, 0],
+            Says {
+                collect: false,
+                time: &[0, 0],
+                told: &told,
+            },
+        ),
+        Step::Clean(1, 2, Err(wrong)),
+    ];
+    holds(&rt, meets(rt.alloc(), 2, &steps))
 }
 
 #[test]
-fn a_collection_waits_for_every_clean(rt: HostRuntime) {
-    assert!(rt; waits_at_first(&rt, rt.alloc()));
+fn a_manager_of_two_refuses_another_episode_and_a_second_arrival(
+    rt: HostRuntime,
+) -> Result<(), Fail> {
+    let steps = [
+        Step::Refused(0, 2, &[0, 0], BarrierFault::WrongEpisode),
+        Step::Waits(0, 1, false, &[0, 0]),
+        Step::Refused(0, 1, &[0, 0], BarrierFault::Twice),
+    ];
+    holds(&rt, meets(rt.alloc(), 2, &steps))
 }
 
-/// The time of sixteen nodes of which one has closed as many intervals as there can be.
-fn largest(rt: &impl Abort, node: u8) -> Time
+/// The entries of sixteen nodes of which one has closed as many intervals as there can be.
+fn largest(node: u8) -> [u32; 16]
     requires { node < 16 }
-    ensures { length result ≡ 16 }
 {
-    let mut time = Time::new(16);
-    assert!(rt; time.at(node) < u32::MAX);
-    time.raise(node, u32::MAX);
-    time
+    let mut entries = [0; 16];
+    entries[usize::from(node)] = u32::MAX;
+    entries
 }
 
-/// The interval of page 0 that one of sixteen nodes closed last of all that it can.
-fn last_interval(rt: &impl Abort, node: u8, pages: Pages) -> Interval
-    requires { node < 16 }
-    ensures node { result.node ≡ node }
-    ensures stamp { length result.stamp ≡ 16 }
-{
-    let stamp = largest(rt, node);
-    assert!(rt; stamp.at(node) >= 1);
-    Interval::new(node, stamp, pages)
-}
-
-#[test]
-fn a_manager_of_two_refuses_another_episode_and_a_second_arrival(rt: HostRuntime) {
-    let alloc = rt.alloc();
-    let mut manager = Manager::new(alloc, 2);
-    let early = arrives(&rt, alloc, &mut manager, 0, 2, 9).err();
-    let waits = matches!(arrives(&rt, alloc, &mut manager, 0, 1, 9), Ok(None));
-    let again = arrives(&rt, alloc, &mut manager, 0, 1, 9).err();
-    let wanted = (
-        Some(BarrierFault::WrongEpisode),
-        true,
-        Some(BarrierFault::Twice),
-    );
-    assert!(rt; (early, waits, again) == wanted);
-}
-
-/// An arrival of one of sixteen nodes, with one interval.
-fn arrival_of_sixteen(rt: &impl Abort, alloc: Global, node: u8) -> Result<Arrival, AllocError>
-    requires { node < 16 }
-    ensures { IfOk result (IsArrival 16 node) }
-{
-    let pages = pages_of(alloc, true)?;
-    let intervals = only(alloc, last_interval(rt, node, pages))?;
-    Ok(Arrival {
-        episode: 1,
-        ask: node == 15,
-        time: largest(rt, node),
-        intervals,
-    })
-}
-
-/// Whether one of sixteen nodes arrives before others.
-fn one_waits(
-    rt: &impl Abort,
-    alloc: Global,
-    manager: &mut Manager,
-    node: u8,
-) -> Result<bool, AllocError>
-    requires nodes { length manager.old.last ≡ 16 }
-    requires node { node < 16 }
-    ensures { length manager.new.last ≡ 16 }
-{
-    let arrival = arrival_of_sixteen(rt, alloc, node)?;
-    Ok(is_kept(rt, manager, node, &arrival))
-}
-
-/// All nodes but the last arrive.
-fn fifteen_wait(rt: &impl Abort, alloc: Global, manager: &mut Manager) -> Result<bool, AllocError>
+/// All of sixteen nodes but the last arrive.
+fn fifteen_wait(alloc: Global, manager: &mut Manager) -> Result<bool, AllocError>
     requires { length manager.old.last ≡ 16 }
     ensures { length manager.new.last ≡ 16 }
 {
     for node in 0..15u8 {
-        if !one_waits(rt, alloc, manager, node)? {
+        if !waits(alloc, manager, 16, node, 1, false, &largest(node))? {
             return Ok(false);
         }
     }
@@ -470,41 +404,29 @@ fn fifteen_wait(rt: &impl Abort, alloc: Global, manager: &mut Manager) -> Result
 }
 
 /// Whether these departures tell each of sixteen nodes of all others, and that a collection follows.
-fn tell_of_fifteen(told: Option<&[Departure]>) -> bool {
-    told.is_some_and(|told| {
-        told.len() == 16
-            && told.iter().all(|departure| {
-                departure.collect
-                    && departure.intervals.len() == 15
-                    && departure.time.weight() == 68_719_476_720
-            })
-    })
+fn tell_of_fifteen(told: &[Departure]) -> bool {
+    for departure in told {
+        if !departure.collect
+            || departure.intervals.len() != 15
+            || departure.time.weight() != 68_719_476_720
+        {
+            return false;
+        }
+    }
+    told.len() == 16
 }
 
-/// Whether the last of sixteen nodes departs with all others.
-fn last_departs(rt: &impl Abort, alloc: Global, manager: &mut Manager) -> Result<bool, AllocError>
+/// Whether the last of sixteen nodes arrives behind all others and asks for a collection, and all depart.
+fn sixteen_depart(alloc: Global, manager: &mut Manager) -> Result<bool, AllocError>
     requires { length manager.old.last ≡ 16 }
 {
-    let arrival = arrival_of_sixteen(rt, alloc, 15)?;
-    let departs = tell_of_fifteen(told(&enter(rt, manager, 15, &arrival)));
-    Ok(departs && manager.last(15) == u32::MAX)
-}
-
-/// Sixteen nodes arrive, and depart.
-fn sixteen(rt: &impl Abort, alloc: Global, manager: &mut Manager) -> Result<bool, AllocError>
-    requires { length manager.old.last ≡ 16 }
-{
-    Ok(fifteen_wait(rt, alloc, manager)? && last_departs(rt, alloc, manager)?)
-}
-
-/// The same with a manager that knows nothing.
-fn sixteen_at_first(rt: &impl Abort, alloc: Global) -> Result<bool, AllocError> {
-    let mut manager = Manager::new(alloc, 16);
-    sixteen(rt, alloc, &mut manager)
+    let wait = fifteen_wait(alloc, manager)?;
+    let answer = arrive(alloc, manager, 16, 15, 1, true, &largest(15))?;
+    Ok(wait && tell_of_fifteen(told(&answer)) && manager.last(15) == u32::MAX)
 }
 
 #[test]
 fn sixteen_nodes_depart(rt: HostRuntime) -> Result<(), Fail> {
-    assert!(rt; sixteen_at_first(&rt, rt.alloc())?);
-    Ok(())
+    let mut manager = Manager::new(rt.alloc(), 16);
+    holds(&rt, sixteen_depart(rt.alloc(), &mut manager))
 }

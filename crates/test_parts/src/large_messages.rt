@@ -1,6 +1,7 @@
 // Messages of many intervals, pages, changes and numbers, as bytes.
 
-use crate::messages::rewritten;
+use crate::checks::passes;
+use crate::messages::{gives, is_kept};
 use std::alloc::{AllocError, Global};
 use std::test::Fail;
 
@@ -16,9 +17,9 @@ fn message(alloc: Global, version: u8, kind: u8, body: &[u8]) -> Result<Vec<u8>,
 }
 
 /// Whether the message of this kind with this body is read, and written as it was.
-fn is_kept(alloc: Global, kind: u8, body: &[u8]) -> Result<bool, Fail> {
+fn is_body_kept(alloc: Global, kind: u8, body: &[u8]) -> Result<bool, Fail> {
     let bytes = message(alloc, 2, kind, body)?;
-    Ok(rewritten(alloc, &bytes)?.as_slice() == bytes.as_slice())
+    is_kept(alloc, &bytes)
 }
 
 /// Puts the time in which each of sixteen nodes has closed so many intervals.
@@ -51,24 +52,32 @@ const FRONTS: [(u8, &[u8]); 3] = [
     (5, &[255, 255, 255, 255, 1]),
 ];
 
+/// Whether a message of these intervals, of this kind and with this front, is read, and written as it was.
+fn is_news_kept(alloc: Global, kind: u8, front: &[u8], pages: u16) -> Result<bool, Fail> {
+    let mut body = front.to_vec(alloc)?;
+    put_time(&mut body, 30)?;
+    put_intervals(&mut body, pages)?;
+    is_body_kept(alloc, kind, &body)
+}
+
 /// Whether a grant, an arrival and a departure of these intervals are read, and written as they were.
 fn are_kept(alloc: Global, pages: u16) -> Result<bool, Fail> {
     for (kind, front) in FRONTS {
-        let mut body = front.to_vec(alloc)?;
-        put_time(&mut body, 30)?;
-        put_intervals(&mut body, pages)?;
-        if !is_kept(alloc, kind, &body)? {
+        if !is_news_kept(alloc, kind, front, pages)? {
             return Ok(false);
         }
     }
     Ok(true)
 }
 
+/// The same of so few and so many pages.
+fn are_all_kept(alloc: Global) -> Result<bool, Fail> {
+    Ok(are_kept(alloc, 64)? && are_kept(alloc, 1024)?)
+}
+
 #[test]
 fn hundreds_of_intervals_of_all_pages_are_read_and_written(rt: HostRuntime) -> Result<(), Fail> {
-    let kept = are_kept(rt.alloc(), 64)? && are_kept(rt.alloc(), 1024)?;
-    assert!(rt; kept);
-    Ok(())
+    passes(&rt, are_all_kept(rt.alloc()))
 }
 
 /// Puts the changes of every word of a page of 64 words, one by one as version 1 has them, or as one run.
@@ -110,31 +119,51 @@ fn reply(alloc: Global, form: u8) -> Result<Vec<u8>, AllocError> {
     Ok(body)
 }
 
-#[test]
-fn hundreds_of_changes_are_read_and_written(rt: HostRuntime) -> Result<(), Fail> {
-    let alloc = rt.alloc();
+/// Whether a reply in version 1 is read, and written in version 2.
+fn is_changed_version(alloc: Global) -> Result<bool, Fail> {
     let one = message(alloc, 1, 9, &reply(alloc, 1)?)?;
     let two = message(alloc, 2, 9, &reply(alloc, 2)?)?;
-    let same = rewritten(alloc, &one)?.as_slice() == two.as_slice();
-    assert!(rt;
-        same && is_kept(alloc, 9, &reply(alloc, 2)?)? && is_kept(alloc, 9, &reply(alloc, 3)?)?
-    );
-    Ok(())
+    gives(alloc, &one, &two)
+}
+
+/// Whether a reply of this form is read, and written as it was.
+fn is_reply_kept(alloc: Global, form: u8) -> Result<bool, Fail> {
+    let body = reply(alloc, form)?;
+    is_body_kept(alloc, 9, &body)
+}
+
+fn are_replies_kept(alloc: Global) -> Result<bool, Fail> {
+    Ok(is_changed_version(alloc)? && is_reply_kept(alloc, 2)? && is_reply_kept(alloc, 3)?)
+}
+
+#[test]
+fn hundreds_of_changes_are_read_and_written(rt: HostRuntime) -> Result<(), Fail> {
+    passes(&rt, are_replies_kept(rt.alloc()))
+}
+
+fn is_long_request_kept(alloc: Global) -> Result<bool, Fail> {
+    let mut body = [3, 255, 0, 1, 134, 160].to_vec(alloc)?;
+    for index in 1..=100_000u32 {
+        body.extend_from_slice(&index.to_be_bytes())?;
+    }
+    is_body_kept(alloc, 8, &body)
+}
+
+fn is_last_page_kept(alloc: Global) -> Result<bool, Fail> {
+    let mut body = [3, 255, 1, 0].to_vec(alloc)?;
+    for offset in 0..=255u8 {
+        body.extend_from_slice(&[8, 7, 6, 5, 4, 3, 2, offset])?;
+    }
+    is_body_kept(alloc, 11, &body)
+}
+
+fn are_longest_kept(alloc: Global) -> Result<bool, Fail> {
+    Ok(is_long_request_kept(alloc)? && is_last_page_kept(alloc)?)
 }
 
 #[test]
 fn a_hundred_thousand_numbers_and_the_last_page_are_read_and_written(
     rt: HostRuntime,
 ) -> Result<(), Fail> {
-    let alloc = rt.alloc();
-    let mut request = [3, 255, 0, 1, 134, 160].to_vec(alloc)?;
-    for index in 1..=100_000u32 {
-        request.extend_from_slice(&index.to_be_bytes())?;
-    }
-    let mut copy = [3, 255, 1, 0].to_vec(alloc)?;
-    for offset in 0..=255u8 {
-        copy.extend_from_slice(&[8, 7, 6, 5, 4, 3, 2, offset])?;
-    }
-    assert!(rt; is_kept(alloc, 8, &request)? && is_kept(alloc, 11, &copy)?);
-    Ok(())
+    passes(&rt, are_longest_kept(rt.alloc()))
 }

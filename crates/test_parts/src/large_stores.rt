@@ -1,30 +1,27 @@
 // The interval store, with many intervals, each of many pages.
 
-ghost use Rattle.std.specs.Prelude.{◌≡◌, ◌<◌, ◌≤◌, IfOk, length};
+ghost use Rattle.std.specs.Prelude.{◌≡◌, ◌<◌, ◌≤◌, length};
 
+use crate::checks::holds;
+use crate::times::of;
 use lrc_page::Pages;
 use lrc_store::{Interval, Intervals, Key, Store};
 use lrc_time::Time;
 use std::alloc::{AllocError, Global};
-use std::process::Abort;
 use std::test::Fail;
 
 /// A time of sixteen nodes, of which each has closed so many intervals, but one of them one more.
-fn time_of(rt: &impl Abort, each: u32, one: Option<u8>) -> Time
+fn time_of(each: u32, one: Option<u8>) -> Time
     requires { each < 1000 }
     ensures { length result ≡ 16 }
 {
-    let mut time = Time::new(16);
-    for node in 0..16u8 {
-        let index = if one == Some(node) { each + 1 } else { each };
-        if index > 0 {
-            assert!(rt; node < time.nodes());
-            assert!(rt; time.at(node) < index);
-            time.raise(node, index);
-        }
+    let mut entries = [each; 16];
+    if let Some(node) = one
+        && node < 16
+    {
+        entries[usize::from(node)] = each + 1;
     }
-    assert!(rt; time.nodes() == 16);
-    time
+    of(16, &entries)
 }
 
 /// How many pages a node writes in a round: all in the first one.
@@ -33,7 +30,7 @@ fn pages_in(round: u32) -> u16 {
 }
 
 /// The pages that a node writes in a round: page 0, and in the first round all others, later 63 others.
-fn pages_of(rt: &impl Abort, alloc: Global, node: u8, round: u32) -> Result<Pages, AllocError> {
+fn pages_of(alloc: Global, node: u8, round: u32) -> Result<Pages, AllocError> {
     let first = if round == 0 {
         0
     } else {
@@ -43,21 +40,15 @@ fn pages_of(rt: &impl Abort, alloc: Global, node: u8, round: u32) -> Result<Page
     pages.push(0)?;
     for place in 1..pages_in(round) {
         let page = first.wrapping_add(place);
-        assert!(rt; page < 1024);
-        assert!(rt; pages.as_slice().last().is_none_or(|last| *last < page));
-        pages.push(page)?;
+        if page < 1024 && pages.as_slice().last().is_none_or(|last| *last < page) {
+            pages.push(page)?;
+        }
     }
     Ok(pages)
 }
 
-/// A node closes its interval of a round. It knows all intervals of the rounds before.
-fn close(
-    rt: &impl Abort,
-    alloc: Global,
-    store: &mut Store,
-    node: u8,
-    round: u32,
-) -> Result<(), AllocError>
+/// A node closes its interval of a round, and answers whether it is its next. It knows all intervals of the rounds before.
+fn close(alloc: Global, store: &mut Store, node: u8, round: u32) -> Result<bool, AllocError>
     requires nodes { length store.old.last ≡ 16 }
     requires pages { store.old.pages ≡ 1024 }
     requires node { node < 16 }
@@ -65,25 +56,30 @@ fn close(
     ensures nodes { length store.new.last ≡ 16 }
     ensures pages { store.new.pages ≡ 1024 }
 {
-    let stamp = time_of(rt, round, Some(node));
-    assert!(rt; stamp.at(node) >= 1);
-    let pages = pages_of(rt, alloc, node, round)?;
-    let interval = Interval::new(node, stamp, pages);
+    let stamp = time_of(round, Some(node));
+    if stamp.at(node).checked_sub(1) != Some(store.last(node)) {
+        return Ok(false);
+    }
+    let interval = Interval::new(node, stamp, pages_of(alloc, node, round)?);
+    // For the proof: each page is below 1024.
     let _few = interval.pages.len();
-    assert!(rt; interval.index() - 1 == store.last(node));
-    store.add(&interval)
+    store.add(&interval)?;
+    Ok(true)
 }
 
-/// The store of 32 rounds, in each of which each of the sixteen nodes closes an interval.
-fn filled(rt: &impl Abort, alloc: Global) -> Result<Store, AllocError>
-    ensures nodes { IfOk result (λ store. length store.last ≡ 16) }
-    ensures pages { IfOk result (λ store. store.pages ≡ 1024) }
+/// Fills the store by 32 rounds, in each of which each of the sixteen nodes closes an interval.
+fn fill(alloc: Global, store: &mut Store) -> Result<bool, AllocError>
+    requires nodes { length store.old.last ≡ 16 }
+    requires pages { store.old.pages ≡ 1024 }
+    ensures nodes { length store.new.last ≡ 16 }
+    ensures pages { store.new.pages ≡ 1024 }
 {
-    let mut store = Store::new(alloc, 16, 1024)?;
     for place in 0..512u32 {
-        close(rt, alloc, &mut store, (place % 16) as u8, place / 16)?;
+        if !close(alloc, store, (place % 16) as u8, place / 16)? {
+            return Ok(false);
+        }
     }
-    Ok(store)
+    Ok(true)
 }
 
 /// Whether these are the 512 intervals, by nodes and rounds.
@@ -109,23 +105,52 @@ fn are_from(keys: &[Key], first: usize) -> bool
         })
 }
 
+/// Whether these are the 512 intervals, and a duplicate of them is equal.
+fn are_all_twice(intervals: &Intervals) -> Result<bool, AllocError> {
+    let second = intervals.duplicate()?;
+    Ok(are_all(intervals) && are_all(&second) && second == *intervals)
+}
+
+fn all_are_newer(store: &Store) -> Result<bool, AllocError>
+    requires { length store.now.last ≡ 16 }
+{
+    let newer = store.newer_than(&time_of(0, None), &time_of(32, None))?;
+    are_all_twice(&newer)
+}
+
+/// Whether what is missing of page 0 are the keys from this place on.
+fn are_missing_from(store: &Store, first: usize) -> Result<bool, AllocError>
+    requires nodes { length store.now.last ≡ 16 }
+    requires first { first ≤ 512 }
+{
+    let missing = store.missing(0, &time_of(0, None))?;
+    Ok(are_from(&missing, first))
+}
+
+fn all_are_found(alloc: Global, store: &mut Store) -> Result<bool, AllocError>
+    requires nodes { length store.old.last ≡ 16 }
+    requires pages { store.old.pages ≡ 1024 }
+{
+    Ok(fill(alloc, store)? && all_are_newer(store)? && are_missing_from(store, 0)?)
+}
+
 #[test]
 fn five_hundred_intervals_are_found(rt: HostRuntime) -> Result<(), Fail> {
-    let store = filled(&rt, rt.alloc())?;
-    let none = time_of(&rt, 0, None);
-    let newer = store.newer_than(&none, &time_of(&rt, 32, None))?;
-    let second = newer.duplicate()?;
-    assert!(rt; are_all(&newer) && are_all(&second) && second == newer);
-    let missing = store.missing(0, &none)?;
-    assert!(rt; are_from(&missing, 0));
-    Ok(())
+    let mut store = Store::new(rt.alloc(), 16, 1024)?;
+    holds(&rt, all_are_found(rt.alloc(), &mut store))
+}
+
+fn half_are_dropped(alloc: Global, store: &mut Store) -> Result<bool, AllocError>
+    requires nodes { length store.old.last ≡ 16 }
+    requires pages { store.old.pages ≡ 1024 }
+{
+    let filled = fill(alloc, store)?;
+    store.discard(&time_of(16, None));
+    Ok(filled && store.len() == 256 && are_missing_from(store, 256)?)
 }
 
 #[test]
 fn half_of_five_hundred_intervals_are_dropped(rt: HostRuntime) -> Result<(), Fail> {
-    let mut store = filled(&rt, rt.alloc())?;
-    store.discard(&time_of(&rt, 16, None));
-    let missing = store.missing(0, &time_of(&rt, 0, None))?;
-    assert!(rt; store.len() == 256 && are_from(&missing, 256));
-    Ok(())
+    let mut store = Store::new(rt.alloc(), 16, 1024)?;
+    holds(&rt, half_are_dropped(rt.alloc(), &mut store))
 }

@@ -4,6 +4,8 @@
 #[cfg(test)]
 mod barriers;
 #[cfg(test)]
+mod checks;
+#[cfg(test)]
 mod copies;
 #[cfg(test)]
 mod large_messages;

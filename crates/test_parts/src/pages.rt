@@ -1,5 +1,8 @@
 // Pages, changes, sets of pages and sets of words: worked values and largest sizes.
 
+ghost use Rattle.std.specs.Prelude.{◌≡◌, ◌∷◌, IfOk, []};
+
+use crate::checks::holds;
 use lrc_page::{Change, Changes, Mask, Page, Pages, Size, offset_of, page_of, pages_of};
 use std::alloc::{AllocError, Global};
 use std::test::Fail;
@@ -30,41 +33,82 @@ fn change(offset: u8, value: u64) -> Change {
     Change { offset, value }
 }
 
-#[test]
-fn finds_the_worked_changes(rt: HostRuntime) -> Result<(), Fail> {
+/// Whether so many changes turn one page into another, of which these are the first and, at a place, the last.
+fn are_between(
+    alloc: Global,
+    twin: &Page,
+    page: &Page,
+    count: usize,
+    first: Change,
+    last: Change,
+) -> Result<bool, AllocError> {
+    if twin.size() != page.size() {
+        return Ok(false);
+    }
+    let changes = Changes::between(alloc, twin, page)?;
+    let second = changes.duplicate()?;
+    let ends = (
+        change_at(&changes, 0),
+        change_at(&changes, count.saturating_sub(1)),
+    );
+    Ok(changes.len() == count && ends == (first, last) && second == changes)
+}
+
+/// The changes of `written_twice`, by hand.
+fn two_changes(alloc: Global) -> Result<Changes, AllocError>
+    ensures { IfOk result (λ changes. changes ≡ record { offset = 2; value = 3 } ∷ record { offset = 63; value = 1 } ∷ []) }
+{
+    let mut changes = Changes::empty(alloc);
+    changes.push(2, 3)?;
+    changes.push(63, 1)?;
+    Ok(changes)
+}
+
+/// Whether the changes of one page into another are these.
+fn are_the_changes(
+    alloc: Global,
+    twin: &Page,
+    page: &Page,
+    wanted: &Changes,
+) -> Result<bool, AllocError> {
+    if twin.size() != page.size() {
+        return Ok(false);
+    }
+    let changes = Changes::between(alloc, twin, page)?;
+    Ok(*wanted == changes)
+}
+
+/// Whether the changes of one page into its equal are none.
+fn are_none(alloc: Global, page: &Page) -> Result<bool, AllocError> {
+    let none = Changes::between(alloc, page, &page.copy())?;
+    Ok(none.is_empty())
+}
+
+fn are_worked_changes(alloc: Global) -> Result<bool, AllocError> {
     let zeros = Page::zero(Size::Words64);
     let page = written_twice();
-    assert!(rt; zeros.size() == page.size());
-    let changes = Changes::between(rt.alloc(), &zeros, &page)?;
-    let seen = (
-        changes.len(),
-        change_at(&changes, 0),
-        change_at(&changes, 1),
-    );
-    assert!(rt; seen == (2, change(2, 3), change(63, 1)));
-    let second = changes.duplicate()?;
-    assert!(rt; second == changes);
+    let pushed = two_changes(alloc)?;
+    Ok(
+        are_between(alloc, &zeros, &page, 2, change(2, 3), change(63, 1))?
+            && are_the_changes(alloc, &zeros, &page, &pushed)?
+            && are_none(alloc, &page)?,
+    )
+}
 
-    let mut pushed = Changes::empty(rt.alloc());
-    pushed.push(2, 3)?;
-    pushed.push(63, 1)?;
-    assert!(rt; pushed == changes);
-    let none = Changes::between(rt.alloc(), &page, &page.copy())?;
-    assert!(rt; none.is_empty());
-    Ok(())
+#[test]
+fn finds_the_worked_changes(rt: HostRuntime) -> Result<(), Fail> {
+    holds(&rt, are_worked_changes(rt.alloc()))
+}
+
+fn are_applied(alloc: Global) -> Result<bool, AllocError> {
+    let mut twin = Page::zero(Size::Words64);
+    two_changes(alloc)?.apply(&mut twin);
+    Ok(twin == written_twice() && twin != Page::zero(Size::Words256))
 }
 
 #[test]
 fn applies_the_worked_changes(rt: HostRuntime) -> Result<(), Fail> {
-    let mut twin = Page::zero(Size::Words64);
-    assert!(rt; twin.size() == Size::Words64);
-    let mut changes = Changes::empty(rt.alloc());
-    changes.push(2, 3)?;
-    changes.push(63, 1)?;
-    changes.apply(&mut twin);
-    assert!(rt; twin == written_twice());
-    assert!(rt; twin != Page::zero(Size::Words256));
-    Ok(())
+    holds(&rt, are_applied(rt.alloc()))
 }
 
 /// A page of 256 words with 1 at every one.
@@ -72,21 +116,14 @@ fn full() -> Page {
     Page::with_words(Size::Words256, [1; 256].as_slice())
 }
 
+fn are_all_words(alloc: Global) -> Result<bool, AllocError> {
+    let zeros = Page::zero(Size::Words256);
+    are_between(alloc, &zeros, &full(), 256, change(0, 1), change(255, 1))
+}
+
 #[test]
 fn changes_every_word_of_the_larger_page(rt: HostRuntime) -> Result<(), Fail> {
-    let zeros = Page::zero(Size::Words256);
-    let page = full();
-    assert!(rt; zeros.size() == page.size());
-    let changes = Changes::between(rt.alloc(), &zeros, &page)?;
-    let seen = (
-        changes.len(),
-        change_at(&changes, 0),
-        change_at(&changes, 255),
-    );
-    assert!(rt; seen == (256, change(0, 1), change(255, 1)));
-    let second = changes.duplicate()?;
-    assert!(rt; second == changes);
-    Ok(())
+    holds(&rt, are_all_words(rt.alloc()))
 }
 
 /// All 256 changes, by hand.
@@ -101,14 +138,15 @@ fn pushed(alloc: Global) -> Result<Changes, AllocError> {
     Ok(changes)
 }
 
+fn are_all_pushed(alloc: Global) -> Result<bool, AllocError> {
+    let by_hand = pushed(alloc)?;
+    let zeros = Page::zero(Size::Words256);
+    are_the_changes(alloc, &zeros, &full(), &by_hand)
+}
+
 #[test]
 fn pushes_every_word_of_the_larger_page(rt: HostRuntime) -> Result<(), Fail> {
-    let (zeros, page) = (Page::zero(Size::Words256), full());
-    assert!(rt; zeros.size() == page.size());
-    let changes = Changes::between(rt.alloc(), &zeros, &page)?;
-    let by_hand = pushed(rt.alloc())?;
-    assert!(rt; by_hand == changes);
-    Ok(())
+    holds(&rt, are_all_pushed(rt.alloc()))
 }
 
 #[test]
@@ -118,20 +156,23 @@ fn places_words(rt: HostRuntime) {
         offset_of(65_535, Size::Words64),
         pages_of(65_536, Size::Words64),
     );
-    assert!(rt; small == (1023, 63, 1024));
     let large = (
         page_of(65_535, Size::Words256),
         offset_of(65_535, Size::Words256),
         pages_of(65_536, Size::Words256),
     );
-    assert!(rt; large == (255, 255, 256));
     let rounded = (
         pages_of(64, Size::Words64),
         pages_of(65, Size::Words64),
         pages_of(257, Size::Words256),
     );
-    assert!(rt; rounded == (1, 2, 2));
-    assert!(rt; (Size::Words64.words(), Size::Words256.words()) == (64, 256));
+    let words = (Size::Words64.words(), Size::Words256.words());
+    assert!(rt;
+        small == (1023, 63, 1024)
+            && large == (255, 255, 256)
+            && rounded == (1, 2, 2)
+            && words == (64, 256)
+    );
 }
 
 #[test]
@@ -147,27 +188,42 @@ fn holds_sets_of_words(rt: HostRuntime) {
         middle.has(191),
         middle.has(0),
     ];
-    assert!(rt; seen == [true, false, false, true, true, true, false]);
     let meeting = [
         ends.meets(&middle),
         ends.meets(&Mask::none()),
         ends.meets(&middle.with(255)),
     ];
-    assert!(rt; meeting == [false, false, true]);
+    assert!(rt;
+        seen == [true, false, false, true, true, true, false] && meeting == [false, false, true]
+    );
+}
+
+/// Pages 0, 7 and 1023.
+fn three_pages(alloc: Global) -> Result<Pages, AllocError> {
+    let mut pages = Pages::empty(alloc);
+    pages.push(0)?;
+    pages.push(7)?;
+    pages.push(1023)?;
+    Ok(pages)
+}
+
+/// Whether these are three pages, of which a duplicate is equal, and none once they are cleared.
+fn are_three(pages: &mut Pages) -> Result<bool, AllocError> {
+    let three = pages.as_slice() == [0, 7, 1023].as_slice();
+    let second = pages.duplicate()?;
+    let same = second == *pages;
+    pages.clear();
+    Ok(three && same && pages.is_empty() && *pages != second)
+}
+
+fn is_a_set(alloc: Global) -> Result<bool, AllocError> {
+    let mut pages = three_pages(alloc)?;
+    are_three(&mut pages)
 }
 
 #[test]
 fn holds_sets_of_pages(rt: HostRuntime) -> Result<(), Fail> {
-    let mut pages = Pages::empty(rt.alloc());
-    pages.push(0)?;
-    pages.push(7)?;
-    pages.push(1023)?;
-    assert!(rt; pages.as_slice() == [0, 7, 1023].as_slice());
-    let second = pages.duplicate()?;
-    assert!(rt; second == pages);
-    pages.clear();
-    assert!(rt; (pages.is_empty(), pages != second) == (true, true));
-    Ok(())
+    holds(&rt, is_a_set(rt.alloc()))
 }
 
 /// All pages, put in from the last to the first.
@@ -198,13 +254,19 @@ fn every_page_in_order(alloc: Global) -> Result<Pages, AllocError> {
     Ok(pages)
 }
 
+/// Whether these pages are equal to all, pushed in order, and to a duplicate of those.
+fn are_pushed(alloc: Global, pages: &Pages) -> Result<bool, AllocError> {
+    let pushed = every_page_in_order(alloc)?;
+    let second = pushed.duplicate()?;
+    Ok(pushed == *pages && second == *pages)
+}
+
+fn are_at_their_places(alloc: Global) -> Result<bool, AllocError> {
+    let pages = every_page(alloc)?;
+    Ok(pages.as_slice().iter().copied().eq(0..1024u16) && are_pushed(alloc, &pages)?)
+}
+
 #[test]
 fn puts_pages_at_their_places(rt: HostRuntime) -> Result<(), Fail> {
-    let pages = every_page(rt.alloc())?;
-    assert!(rt; pages.as_slice().iter().copied().eq(0..1024u16));
-    let pushed = every_page_in_order(rt.alloc())?;
-    assert!(rt; pushed == pages);
-    let second = pushed.duplicate()?;
-    assert!(rt; second == pages);
-    Ok(())
+    holds(&rt, are_at_their_places(rt.alloc()))
 }

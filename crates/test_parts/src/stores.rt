@@ -1,289 +1,213 @@
 // The interval store.
 
-ghost use Rattle.std.specs.Prelude.{◌≡◌, ◌<◌, ◌≤◌, ◌∷◌, All, IfOk, length, []};
-ghost use Rattle.lrc_time.specs.Time.{entry};
-ghost use Rattle.lrc_store.specs.Lists.{KnowsTheFirst};
-ghost use Rattle.lrc_store.specs.Store.{added, empty_store};
+ghost use Rattle.std.specs.Prelude.{◌≡◌, ◌≤◌, ◌<◌, ◌∷◌, All, IfOk, IfSome, length, slice_set, []};
+ghost use Rattle.std.specs.Option.{ForSome};
+ghost use Rattle.lrc_store.specs.Store.{empty_store, intervals_of};
 
+use crate::checks::holds;
+use crate::times::of;
 use lrc_page::{Changes, Pages};
-use lrc_store::{Interval, Intervals, Key, Store};
+use lrc_store::{Interval, IntervalAt, Intervals, Key, Store};
 use lrc_time::Time;
 use std::alloc::{AllocError, Global};
-use std::process::Abort;
 use std::test::Fail;
 
-fn time_of(rt: &impl Abort, entries: [u32; 3]) -> Time
-    ensures { length result ≡ 3 }
-{
-    let mut time = Time::new(3);
-    for node in 0..3u8 {
-        let index = entries[usize::from(node)];
-        if index > 0 {
-            assert!(rt; node < time.nodes());
-            assert!(rt; time.at(node) < index);
-            time.raise(node, index);
-        }
-    }
-    assert!(rt; time.nodes() == 3);
-    time
+/// The node, the index and the page of a notice.
+type Notice = (u8, u32, u16);
+
+/// What is done with a store, or what is wanted of it.
+#[derive(Clone, Copy)]
+pub enum Step<'a> {
+    /// The next interval of a node is added: its stamp, and the pages that it wrote.
+    Put(u8, &'a [u32], &'a [u16]),
+    /// What all know is discarded.
+    Discard(&'a [u32]),
+    /// There are so many intervals.
+    Count(usize),
+    /// This is the index of the node's last interval.
+    Last(u8, u32),
+    /// The list of a page has these notices, newest first.
+    Page(u16, &'a [Notice]),
+    /// The list of a node has the intervals of these indices, newest first.
+    Node(u8, &'a [u32]),
+    /// The newest interval of a node has these notices. There are none where there is no such interval.
+    Newest(u8, &'a [Notice]),
+    /// The same of the interval before the newest.
+    Before(u8, &'a [Notice]),
+    /// These notices of a page are missing for a node that knows so much.
+    Missing(u16, &'a [u32], &'a [Notice]),
+    /// The intervals of these nodes and indices are newer than the first time, and not than the second. A duplicate of them is
+    /// equal.
+    Newer(&'a [u32], &'a [u32], &'a [(u8, u32)]),
+    /// This is what nobody knows of a page, in the order in which it is applied: the node, the index and the weight of its stamp.
+    Weighed(u16, &'a [u32], &'a [(u8, u32, u64)]),
 }
 
-/// Page 0, page 1, both or none.
-fn pages_of(alloc: Global, written: [bool; 2]) -> Result<Pages, AllocError>
-    ensures { IfOk result (λ pages. All (λ page. page < 2) pages) }
+/// These pages, where they rise and there are as many.
+fn pages_of(alloc: Global, numbers: &[u16], limit: u16) -> Result<Option<Pages>, AllocError>
+    requires { limit ≤ 1024 }
+    ensures { IfOk result (λ found. IfSome found (λ pages. All (λ page. page < limit) pages)) }
 {
     let mut pages = Pages::empty(alloc);
-    if written[0] {
-        pages.push(0)?;
+    for page in numbers {
+        if *page >= limit || !pages.as_slice().last().is_none_or(|last| *last < *page) {
+            return Ok(None);
+        }
+        pages.push(*page)?;
     }
-    if written[1] {
-        pages.push(1)?;
-    }
-    Ok(pages)
+    Ok(Some(pages))
 }
 
-fn notice_key(node: u8, index: u32, page: u16) -> Key {
+/// Adds an interval, and answers whether it is the next of its node.
+fn put(
+    alloc: Global,
+    store: &mut Store,
+    nodes: u8,
+    pages: u16,
+    node: u8,
+    stamp: &[u32],
+    written: &[u16],
+) -> Result<bool, AllocError>
+    requires some { 1 ≤ nodes }
+    requires most { nodes ≤ 16 }
+    requires nodes { length store.old.last ≡ nodes }
+    requires pages { store.old.pages ≡ pages }
+    requires few { pages ≤ 1024 }
+    ensures nodes { length store.new.last ≡ nodes }
+    ensures pages { store.new.pages ≡ pages }
+{
+    let stamp = of(nodes, stamp);
+    if node >= nodes || stamp.at(node).checked_sub(1) != Some(store.last(node)) {
+        return Ok(false);
+    }
+    let Some(pages) = pages_of(alloc, written, pages)? else {
+        return Ok(false);
+    };
+    store.add(&Interval::new(node, stamp, pages))?;
+    Ok(true)
+}
+
+fn key_of(notice: Notice) -> Key {
+    let (node, index, page) = notice;
     Key { node, index, page }
 }
 
-/// Adds an interval that wrote page 0, page 1, both or none.
-fn put(
-    rt: &impl Abort,
-    alloc: Global,
-    store: &mut Store,
-    node: u8,
-    stamp: [u32; 3],
-    written: [bool; 2],
-) -> Result<(), AllocError>
-    requires nodes { length store.old.last ≡ 3 }
-    requires few { store.old.pages ≡ 2 }
-    requires node { node < 3 }
-    ensures nodes { length store.new.last ≡ 3 }
-    ensures few { store.new.pages ≡ 2 }
-{
-    let stamp = time_of(rt, stamp);
-    assert!(rt; stamp.at(node) >= 1);
-    let pages = pages_of(alloc, written)?;
-    let interval = Interval::new(node, stamp, pages);
-    assert!(rt; interval.index() - 1 == store.last(node));
-    store.add(&interval)
-}
-
-/// Three intervals of two nodes: the worked store.
-fn worked(rt: &impl Abort, alloc: Global) -> Result<Store, AllocError>
-    ensures nodes { IfOk result (λ store. length store.last ≡ 3) }
-    ensures few { IfOk result (λ store. store.pages ≡ 2) }
-{
-    let mut store = Store::new(alloc, 3, 2)?;
-    put(rt, alloc, &mut store, 0, [1, 0, 0], [true, false])?;
-    put(rt, alloc, &mut store, 1, [0, 1, 0], [true, true])?;
-    put(rt, alloc, &mut store, 0, [2, 1, 0], [false, true])?;
-    Ok(store)
-}
-
-/// The keys along a page's list, newest first, up to three.
-fn page_list(store: &Store, page: u16) -> [Option<Key>; 3] {
-    let Some(first) = store.first_on_page(page) else {
-        return [None, None, None];
-    };
-    let Some(second) = store.next_on_page(first) else {
-        return [store.key(first), None, None];
-    };
-    let third = match store.next_on_page(second) {
-        Some(third) => store.key(third),
-        None => None,
-    };
-    [store.key(first), store.key(second), third]
-}
-
-/// The indices along a node's list, newest first, up to two.
-fn node_list(store: &Store, node: u8) -> [Option<(u8, u32)>; 2] {
-    let Some(first) = store.newest(node) else {
-        return [None, None];
-    };
-    let second = match store.before(first) {
-        Some(second) => store.interval(second),
-        None => None,
-    };
-    [store.interval(first), second]
-}
-
-/// The keys of the notices of an interval of a node, `back` intervals before its newest one, up to three.
-fn interval_list(store: &Store, node: u8, back: usize) -> [Option<Key>; 3] {
-    let mut interval = store.newest(node);
-    if back == 1
-        && let Some(newest) = interval
-    {
-        interval = store.before(newest);
-    }
-    let Some(interval) = interval else {
-        return [None, None, None];
-    };
-    let Some(first) = store.first_notice(interval) else {
-        return [None, None, None];
-    };
-    let Some(second) = store.next_in_interval(first) else {
-        return [store.key(first), None, None];
-    };
-    let third = match store.next_in_interval(second) {
-        Some(third) => store.key(third),
-        None => None,
-    };
-    [store.key(first), store.key(second), third]
-}
-
-/// The lists of both pages.
-fn page_lists(store: &Store) -> [[Option<Key>; 3]; 2] {
-    [page_list(store, 0), page_list(store, 1)]
-}
-
-/// The lists of the three nodes.
-fn node_lists(store: &Store) -> [[Option<(u8, u32)>; 2]; 3] {
-    [
-        node_list(store, 0),
-        node_list(store, 1),
-        node_list(store, 2),
-    ]
-}
-
-/// The lists of the newest interval of each node.
-fn interval_lists(store: &Store) -> [[Option<Key>; 3]; 3] {
-    [
-        interval_list(store, 0, 0),
-        interval_list(store, 1, 0),
-        interval_list(store, 2, 0),
-    ]
-}
-
-#[test]
-fn lists_run_through_the_worked_intervals(rt: HostRuntime) -> Result<(), Fail> {
-    let mut store = worked(&rt, rt.alloc())?;
-    let none = [None, None, None];
-    let of_node_0 = [Some(notice_key(0, 2, 1)), None, None];
-    let of_node_1 = [Some(notice_key(1, 1, 0)), Some(notice_key(1, 1, 1)), None];
-    assert!(rt; interval_list(&store, 0, 1) == [Some(notice_key(0, 1, 0)), None, None]);
-    assert!(rt; interval_lists(&store) == [of_node_0, of_node_1, none]);
-    let known = time_of(&rt, [1, 1, 0]);
-    store.discard(&known);
-    assert!(rt; interval_lists(&store) == [of_node_0, none, none]);
-    Ok(())
-}
-
-#[test]
-fn freed_places_are_used_again(rt: HostRuntime) -> Result<(), Fail> {
-    let alloc = rt.alloc();
-    let mut store = worked(&rt, alloc)?;
-    let known = time_of(&rt, [1, 1, 0]);
-    store.discard(&known);
-    put(&rt, alloc, &mut store, 2, [2, 1, 1], [false, false])?;
-    put(&rt, alloc, &mut store, 1, [2, 2, 1], [true, true])?;
-    let none = [None, None, None];
-    let of_node_0 = [Some(notice_key(0, 2, 1)), None, None];
-    let of_node_1 = [Some(notice_key(1, 2, 0)), Some(notice_key(1, 2, 1)), None];
-    assert!(rt; interval_lists(&store) == [of_node_0, of_node_1, none]);
-    let of_page_0 = [Some(notice_key(1, 2, 0)), None, None];
-    let of_page_1 = [Some(notice_key(1, 2, 1)), Some(notice_key(0, 2, 1)), None];
-    assert!(rt; page_lists(&store) == [of_page_0, of_page_1]);
-    assert!(rt;
-        node_lists(&store)
-            == [
-                [Some((0, 2)), None],
-                [Some((1, 2)), None],
-                [Some((2, 1)), None]
-            ]
-    );
-    Ok(())
-}
-
-#[test]
-fn discards_some_of_each_node(rt: HostRuntime) -> Result<(), Fail> {
-    let alloc = rt.alloc();
-    let mut store = worked(&rt, alloc)?;
-    put(&rt, alloc, &mut store, 1, [2, 2, 0], [true, false])?;
-    let known = time_of(&rt, [1, 1, 0]);
-    store.discard(&known);
-    assert!(rt; node_lists(&store) == [[Some((0, 2)), None], [Some((1, 2)), None], [None, None]]);
-    let of_page_0 = [Some(notice_key(1, 2, 0)), None, None];
-    assert!(rt; page_lists(&store) == [of_page_0, [Some(notice_key(0, 2, 1)), None, None]]);
-    Ok(())
-}
-
-#[test]
-fn lists_run_through_the_worked_store(rt: HostRuntime) -> Result<(), Fail> {
-    let mut store = worked(&rt, rt.alloc())?;
-    let of_page_1 = [Some(notice_key(0, 2, 1)), Some(notice_key(1, 1, 1)), None];
-    assert!(rt;
-        page_lists(&store)
-            == [
-                [Some(notice_key(1, 1, 0)), Some(notice_key(0, 1, 0)), None],
-                of_page_1
-            ]
-    );
-    assert!(rt; node_list(&store, 0) == [Some((0, 2)), Some((0, 1))]);
-    let known = time_of(&rt, [1, 1, 0]);
-    store.discard(&known);
-    assert!(rt;
-        page_lists(&store) == [[None, None, None], [Some(notice_key(0, 2, 1)), None, None]]
-    );
-    assert!(rt; node_lists(&store) == [[Some((0, 2)), None], [None, None], [None, None]]);
-    Ok(())
-}
-
-/// The nodes and indices of the intervals, up to three.
-fn ids_of(intervals: &Intervals) -> [Option<(u8, u32)>; 3] {
-    let mut ids = [None, None, None];
-    for place in 0..3usize {
-        if place < intervals.len() {
-            let interval = intervals.at(place);
-            ids[place] = Some((interval.node, interval.index()));
+fn page_is(store: &Store, page: u16, wanted: &[Notice]) -> bool {
+    let mut at = store.first_on_page(page);
+    for want in wanted {
+        let Some(here) = at else {
+            return false;
+        };
+        if store.key(here) != Some(key_of(*want)) {
+            return false;
         }
+        at = store.next_on_page(here);
     }
-    ids
+    at.is_none()
 }
 
-#[test]
-fn finds_what_the_worked_store_lacks(rt: HostRuntime) -> Result<(), Fail> {
-    let store = worked(&rt, rt.alloc())?;
-    let zeros = time_of(&rt, [0, 0, 0]);
-    let of_page_0 = store.missing(0, &zeros)?;
-    assert!(rt; of_page_0.as_slice() == [notice_key(0, 1, 0), notice_key(1, 1, 0)].as_slice());
-    let of_page_1 = store.missing(1, &zeros)?;
-    assert!(rt; of_page_1.as_slice() == [notice_key(1, 1, 1), notice_key(0, 2, 1)].as_slice());
-    Ok(())
+fn node_is(store: &Store, node: u8, wanted: &[u32]) -> bool {
+    let mut at = store.newest(node);
+    for index in wanted {
+        let Some(here) = at else {
+            return false;
+        };
+        if store.interval(here) != Some((node, *index)) {
+            return false;
+        }
+        at = store.before(here);
+    }
+    at.is_none()
 }
 
-#[test]
-fn finds_what_is_newer(rt: HostRuntime) -> Result<(), Fail> {
-    let store = worked(&rt, rt.alloc())?;
-    let since = time_of(&rt, [1, 0, 0]);
-    let upto = time_of(&rt, [2, 1, 0]);
-    let newer = store.newer_than(&since, &upto)?;
-    assert!(rt; ids_of(&newer) == [Some((0, 2)), Some((1, 1)), None]);
-    Ok(())
+/// Whether the interval at a link, if any, has these notices.
+fn interval_is(store: &Store, interval: Option<IntervalAt>, wanted: &[Notice]) -> bool
+    requires { ForSome interval (λ at. at < length (intervals_of store.now)) }
+{
+    let Some(interval) = interval else {
+        return wanted.is_empty();
+    };
+    let mut at = store.first_notice(interval);
+    for want in wanted {
+        let Some(here) = at else {
+            return false;
+        };
+        if store.key(here) != Some(key_of(*want)) {
+            return false;
+        }
+        at = store.next_in_interval(here);
+    }
+    at.is_none()
 }
 
-#[test]
-fn what_is_discarded_is_gone(rt: HostRuntime) -> Result<(), Fail> {
-    let mut store = worked(&rt, rt.alloc())?;
-    let known = time_of(&rt, [1, 1, 0]);
+fn before_is(store: &Store, node: u8, wanted: &[Notice]) -> bool {
+    let Some(newest) = store.newest(node) else {
+        return false;
+    };
+    interval_is(store, store.before(newest), wanted)
+}
+
+fn are_keys(keys: &[Key], wanted: &[Notice]) -> bool {
+    keys.len() == wanted.len()
+        && keys
+            .iter()
+            .zip(wanted)
+            .all(|(key, want)| *key == key_of(*want))
+}
+
+fn lacks(
+    store: &Store,
+    nodes: u8,
+    page: u16,
+    since: &[u32],
+    wanted: &[Notice],
+) -> Result<bool, AllocError>
+    requires some { 1 ≤ nodes }
+    requires most { nodes ≤ 16 }
+    requires nodes { nodes ≡ length store.now.last }
+{
+    let since = of(nodes, since);
+    let keys = store.missing(page, &since)?;
+    Ok(are_keys(&keys, wanted))
+}
+
+fn discard(store: &mut Store, nodes: u8, known: &[u32])
+    requires some { 1 ≤ nodes }
+    requires most { nodes ≤ 16 }
+    requires nodes { length store.old.last ≡ nodes }
+    ensures nodes { length store.new.last ≡ nodes }
+    ensures pages { store.new.pages ≡ store.old.pages }
+{
+    let known = of(nodes, known);
     store.discard(&known);
-    assert!(rt; (store.len(), store.last(1)) == (1, 1));
-    let zeros = time_of(&rt, [0, 0, 0]);
-    let of_page_1 = store.missing(1, &zeros)?;
-    assert!(rt; of_page_1.as_slice() == [notice_key(0, 2, 1)].as_slice());
-    Ok(())
 }
 
-#[test]
-fn lighter_intervals_come_first(rt: HostRuntime) -> Result<(), Fail> {
-    let alloc = rt.alloc();
-    let mut store = Store::new(alloc, 3, 2)?;
-    put(&rt, alloc, &mut store, 0, [1, 0, 5], [true, false])?;
-    put(&rt, alloc, &mut store, 1, [0, 1, 0], [true, false])?;
-    let zeros = time_of(&rt, [0, 0, 0]);
-    let of_page_0 = store.missing(0, &zeros)?;
-    assert!(rt; of_page_0.as_slice() == [notice_key(1, 1, 0), notice_key(0, 1, 0)].as_slice());
-    Ok(())
+fn are_ids(intervals: &Intervals, wanted: &[(u8, u32)]) -> bool {
+    intervals.len() == wanted.len()
+        && intervals.as_slice().iter().zip(wanted).all(|(interval, want)| interval.node == want.0
+            && interval.index() == want.1)
+}
+
+fn are_duplicated(intervals: &Intervals, wanted: &[(u8, u32)]) -> Result<bool, AllocError> {
+    let second = intervals.duplicate()?;
+    Ok(are_ids(intervals, wanted) && are_ids(&second, wanted) && second == *intervals)
+}
+
+fn has_newer(
+    store: &Store,
+    nodes: u8,
+    since: &[u32],
+    upto: &[u32],
+    wanted: &[(u8, u32)],
+) -> Result<bool, AllocError>
+    requires some { 1 ≤ nodes }
+    requires most { nodes ≤ 16 }
+    requires nodes { nodes ≡ length store.now.last }
+{
+    let since = of(nodes, since);
+    let upto = of(nodes, upto);
+    let newer = store.newer_than(&since, &upto)?;
+    are_duplicated(&newer, wanted)
 }
 
 /// The weight of the stamp of a key's interval, and 0 where the interval is not among these.
@@ -297,85 +221,289 @@ fn weight_of(intervals: &Intervals, key: Key) -> u64 {
     weight
 }
 
-/// What nobody knows of a page, in the order in which it is applied: the node, the index and the weight of its stamp.
-pub fn weighed(
-    alloc: Global,
+fn are_weighed(keys: &[Key], intervals: &Intervals, wanted: &[(u8, u32, u64)]) -> bool {
+    keys.len() == wanted.len()
+        && keys.iter().zip(wanted).all(|(key, want)| (
+            key.node,
+            key.index,
+            weight_of(intervals, *key),
+        ) == *want)
+}
+
+fn weighed(
     store: &Store,
+    nodes: u8,
     page: u16,
-    upto: &Time,
-) -> Result<Vec<(u8, u32, u64)>, AllocError>
-    requires { length upto.now ≡ length store.now.last }
+    upto: &[u32],
+    wanted: &[(u8, u32, u64)],
+) -> Result<bool, AllocError>
+    requires some { 1 ≤ nodes }
+    requires most { nodes ≤ 16 }
+    requires nodes { nodes ≡ length store.now.last }
 {
-    let zeros = Time::new(upto.nodes());
-    let intervals = store.newer_than(&zeros, upto)?;
-    let mut found = Vec::new(alloc);
-    for key in &store.missing(page, &zeros)? {
-        found.push((key.node, key.index, weight_of(&intervals, *key)))?;
+    let zeros = Time::new(nodes);
+    let intervals = store.newer_than(&zeros, &of(nodes, upto))?;
+    let keys = store.missing(page, &zeros)?;
+    Ok(are_weighed(&keys, &intervals, wanted))
+}
+
+/// Whether what a step that changes nothing wants comes out.
+fn is_as_wanted(store: &Store, nodes: u8, step: &Step) -> Result<bool, AllocError>
+    requires some { 1 ≤ nodes }
+    requires most { nodes ≤ 16 }
+    requires nodes { nodes ≡ length store.now.last }
+{
+    Ok(match step {
+        Step::Put(..) | Step::Discard(..) => false,
+        Step::Count(count) => store.len() == *count && store.is_empty() == (*count == 0),
+        Step::Last(node, index) => *node < nodes && store.last(*node) == *index,
+        Step::Page(page, wanted) => page_is(store, *page, wanted),
+        Step::Node(node, wanted) => node_is(store, *node, wanted),
+        Step::Newest(node, wanted) => interval_is(store, store.newest(*node), wanted),
+        Step::Before(node, wanted) => before_is(store, *node, wanted),
+        Step::Missing(page, since, wanted) => lacks(store, nodes, *page, since, wanted)?,
+        Step::Newer(since, upto, wanted) => has_newer(store, nodes, since, upto, wanted)?,
+        Step::Weighed(page, upto, wanted) => weighed(store, nodes, *page, upto, wanted)?,
+    })
+}
+
+/// Takes a step with a store of so many nodes and pages, and answers whether what was wanted came out.
+fn is_met(
+    alloc: Global,
+    store: &mut Store,
+    nodes: u8,
+    pages: u16,
+    step: &Step,
+) -> Result<bool, AllocError>
+    requires some { 1 ≤ nodes }
+    requires most { nodes ≤ 16 }
+    requires nodes { length store.old.last ≡ nodes }
+    requires pages { store.old.pages ≡ pages }
+    requires few { pages ≤ 1024 }
+    ensures nodes { length store.new.last ≡ nodes }
+    ensures pages { store.new.pages ≡ pages }
+{
+    match step {
+        Step::Put(node, stamp, written) => {
+            return put(alloc, store, nodes, pages, *node, stamp, written);
+        }
+        Step::Discard(known) => discard(store, nodes, known),
+        _ => return is_as_wanted(store, nodes, step),
     }
-    Ok(found)
+    Ok(true)
+}
+
+/// Takes steps with a store of so many nodes and pages, and answers whether each is met.
+fn are_met(
+    alloc: Global,
+    store: &mut Store,
+    nodes: u8,
+    pages: u16,
+    steps: &[Step],
+) -> Result<bool, AllocError>
+    requires some { 1 ≤ nodes }
+    requires most { nodes ≤ 16 }
+    requires nodes { length store.old.last ≡ nodes }
+    requires pages { store.old.pages ≡ pages }
+    requires few { pages ≤ 1024 }
+    ensures nodes { length store.new.last ≡ nodes }
+    ensures pages { store.new.pages ≡ pages }
+{
+    for step in steps {
+        if !is_met(alloc, store, nodes, pages, step)? {
+            return Ok(false);
+        }
+    }
+    Ok(true)
+}
+
+fn both_are_met(
+    alloc: Global,
+    store: &mut Store,
+    nodes: u8,
+    pages: u16,
+    first: &[Step],
+    second: &[Step],
+) -> Result<bool, AllocError>
+    requires some { 1 ≤ nodes }
+    requires most { nodes ≤ 16 }
+    requires nodes { length store.old.last ≡ nodes }
+    requires pages { store.old.pages ≡ pages }
+    requires few { pages ≤ 1024 }
+{
+    Ok(are_met(alloc, store, nodes, pages, first)? && are_met(alloc, store, nodes, pages, second)?)
+}
+
+/// Whether a store of so many nodes and pages that is empty at first meets each of the first steps, and then of the second.
+pub fn meets(
+    alloc: Global,
+    nodes: u8,
+    pages: u16,
+    first: &[Step],
+    second: &[Step],
+) -> Result<bool, AllocError>
+    requires some { 1 ≤ nodes }
+    requires few { nodes ≤ 16 }
+    requires pages { pages ≤ 1024 }
+{
+    let mut store = Store::new(alloc, nodes, pages)?;
+    both_are_met(alloc, &mut store, nodes, pages, first, second)
+}
+
+/// Three intervals of two nodes: the worked store.
+const WORKED: [Step<'static>; 3] = [
+    Step::Put(0, &[1, 0, 0], &[0]),
+    Step::Put(1, &[0, 1, 0], &[0, 1]),
+    Step::Put(0, &[2, 1, 0], &[1]),
+];
+
+/// Whether the worked store meets each of the steps.
+fn worked(alloc: Global, steps: &[Step]) -> Result<bool, AllocError> {
+    meets(alloc, 3, 2, &WORKED, steps)
+}
+
+#[test]
+fn lists_run_through_the_worked_intervals(rt: HostRuntime) -> Result<(), Fail> {
+    let steps = [
+        Step::Before(0, &[(0, 1, 0)]),
+        Step::Newest(0, &[(0, 2, 1)]),
+        Step::Newest(1, &[(1, 1, 0), (1, 1, 1)]),
+        Step::Newest(2, &[]),
+        Step::Discard(&[1, 1, 0]),
+        Step::Newest(0, &[(0, 2, 1)]),
+        Step::Newest(1, &[]),
+        Step::Newest(2, &[]),
+    ];
+    holds(&rt, worked(rt.alloc(), &steps))
+}
+
+#[test]
+fn freed_places_are_used_again(rt: HostRuntime) -> Result<(), Fail> {
+    let steps = [
+        Step::Discard(&[1, 1, 0]),
+        Step::Put(2, &[2, 1, 1], &[]),
+        Step::Put(1, &[2, 2, 1], &[0, 1]),
+        Step::Newest(0, &[(0, 2, 1)]),
+        Step::Newest(1, &[(1, 2, 0), (1, 2, 1)]),
+        Step::Newest(2, &[]),
+        Step::Page(0, &[(1, 2, 0)]),
+        Step::Page(1, &[(1, 2, 1), (0, 2, 1)]),
+        Step::Node(0, &[2]),
+        Step::Node(1, &[2]),
+        Step::Node(2, &[1]),
+    ];
+    holds(&rt, worked(rt.alloc(), &steps))
+}
+
+#[test]
+fn discards_some_of_each_node(rt: HostRuntime) -> Result<(), Fail> {
+    let steps = [
+        Step::Put(1, &[2, 2, 0], &[0]),
+        Step::Discard(&[1, 1, 0]),
+        Step::Node(0, &[2]),
+        Step::Node(1, &[2]),
+        Step::Node(2, &[]),
+        Step::Page(0, &[(1, 2, 0)]),
+        Step::Page(1, &[(0, 2, 1)]),
+    ];
+    holds(&rt, worked(rt.alloc(), &steps))
+}
+
+#[test]
+fn lists_run_through_the_worked_store(rt: HostRuntime) -> Result<(), Fail> {
+    let steps = [
+        Step::Page(0, &[(1, 1, 0), (0, 1, 0)]),
+        Step::Page(1, &[(0, 2, 1), (1, 1, 1)]),
+        Step::Node(0, &[2, 1]),
+        Step::Discard(&[1, 1, 0]),
+        Step::Page(0, &[]),
+        Step::Page(1, &[(0, 2, 1)]),
+        Step::Node(0, &[2]),
+        Step::Node(1, &[]),
+        Step::Node(2, &[]),
+    ];
+    holds(&rt, worked(rt.alloc(), &steps))
+}
+
+#[test]
+fn finds_what_the_worked_store_lacks(rt: HostRuntime) -> Result<(), Fail> {
+    let steps = [
+        Step::Missing(0, &[0, 0, 0], &[(0, 1, 0), (1, 1, 0)]),
+        Step::Missing(1, &[0, 0, 0], &[(1, 1, 1), (0, 2, 1)]),
+    ];
+    holds(&rt, worked(rt.alloc(), &steps))
+}
+
+#[test]
+fn finds_what_is_newer(rt: HostRuntime) -> Result<(), Fail> {
+    let steps = [Step::Newer(&[1, 0, 0], &[2, 1, 0], &[(0, 2), (1, 1)])];
+    holds(&rt, worked(rt.alloc(), &steps))
+}
+
+#[test]
+fn what_is_discarded_is_gone(rt: HostRuntime) -> Result<(), Fail> {
+    let steps = [
+        Step::Discard(&[1, 1, 0]),
+        Step::Count(1),
+        Step::Last(1, 1),
+        Step::Missing(1, &[0, 0, 0], &[(0, 2, 1)]),
+    ];
+    holds(&rt, worked(rt.alloc(), &steps))
+}
+
+#[test]
+fn lighter_intervals_come_first(rt: HostRuntime) -> Result<(), Fail> {
+    let intervals = [
+        Step::Put(0, &[1, 0, 5], &[0]),
+        Step::Put(1, &[0, 1, 0], &[0]),
+    ];
+    let steps = [Step::Missing(0, &[0, 0, 0], &[(1, 1, 0), (0, 1, 0)])];
+    holds(&rt, meets(rt.alloc(), 3, 2, &intervals, &steps))
 }
 
 #[test]
 fn weights_order_the_worked_store(rt: HostRuntime) -> Result<(), Fail> {
-    let store = worked(&rt, rt.alloc())?;
-    let upto = time_of(&rt, [2, 1, 0]);
-    let found = weighed(rt.alloc(), &store, 1, &upto)?;
-    assert!(rt; found.as_slice() == [(1, 1, 1), (0, 2, 3)].as_slice());
-    Ok(())
+    let steps = [Step::Weighed(1, &[2, 1, 0], &[(1, 1, 1), (0, 2, 3)])];
+    holds(&rt, worked(rt.alloc(), &steps))
 }
 
 /// Node 0 writes page 0 under a lock, and behind a barrier node 1 does so: the intervals of both up to the next barrier. Each
 /// closes one as it acquires, one as it releases and one as it arrives.
-fn one_after_another(rt: &impl Abort, alloc: Global) -> Result<Store, AllocError>
-    ensures nodes { IfOk result (λ store. length store.last ≡ 3) }
-    ensures few { IfOk result (λ store. store.pages ≡ 2) }
-{
-    let mut store = Store::new(alloc, 3, 2)?;
-    put(rt, alloc, &mut store, 0, [1, 0, 0], [false, false])?;
-    put(rt, alloc, &mut store, 0, [2, 0, 0], [true, false])?;
-    put(rt, alloc, &mut store, 0, [3, 0, 0], [false, false])?;
-    put(rt, alloc, &mut store, 1, [0, 1, 0], [false, false])?;
-    put(rt, alloc, &mut store, 1, [3, 2, 1], [false, false])?;
-    put(rt, alloc, &mut store, 1, [3, 3, 1], [true, false])?;
-    Ok(store)
-}
+const ONE_AFTER_ANOTHER: [Step<'static>; 6] = [
+    Step::Put(0, &[1, 0, 0], &[]),
+    Step::Put(0, &[2, 0, 0], &[0]),
+    Step::Put(0, &[3, 0, 0], &[]),
+    Step::Put(1, &[0, 1, 0], &[]),
+    Step::Put(1, &[3, 2, 1], &[]),
+    Step::Put(1, &[3, 3, 1], &[0]),
+];
 
 #[test]
 fn the_later_of_two_writers_weighs_more(rt: HostRuntime) -> Result<(), Fail> {
-    let store = one_after_another(&rt, rt.alloc())?;
-    let upto = time_of(&rt, [3, 3, 1]);
-    let found = weighed(rt.alloc(), &store, 0, &upto)?;
-    assert!(rt; found.as_slice() == [(0, 2, 2), (1, 3, 7)].as_slice());
-    Ok(())
+    let steps = [Step::Weighed(0, &[3, 3, 1], &[(0, 2, 2), (1, 3, 7)])];
+    holds(&rt, meets(rt.alloc(), 3, 2, &ONE_AFTER_ANOTHER, &steps))
 }
 
 #[test]
 fn discards_nothing_and_everything(rt: HostRuntime) -> Result<(), Fail> {
-    let mut store = worked(&rt, rt.alloc())?;
-    let none = time_of(&rt, [0, 0, 0]);
-    store.discard(&none);
-    assert!(rt; store.len() == 3);
-    assert!(rt;
-        page_list(&store, 1) == [Some(notice_key(0, 2, 1)), Some(notice_key(1, 1, 1)), None]
-    );
-    let all = time_of(&rt, [2, 1, 0]);
-    store.discard(&all);
-    assert!(rt; (store.is_empty(), store.last(0), store.last(1)) == (true, 2, 1));
-    assert!(rt; page_list(&store, 1) == [None, None, None]);
-    assert!(rt; node_list(&store, 0) == [None, None]);
-    Ok(())
+    let steps = [
+        Step::Discard(&[0, 0, 0]),
+        Step::Count(3),
+        Step::Page(1, &[(0, 2, 1), (1, 1, 1)]),
+        Step::Discard(&[2, 1, 0]),
+        Step::Count(0),
+        Step::Last(0, 2),
+        Step::Last(1, 1),
+        Step::Page(1, &[]),
+        Step::Node(0, &[]),
+    ];
+    holds(&rt, worked(rt.alloc(), &steps))
 }
 
 #[test]
 fn a_duplicate_is_equal(rt: HostRuntime) -> Result<(), Fail> {
-    let store = worked(&rt, rt.alloc())?;
-    let since = time_of(&rt, [0, 0, 0]);
-    let upto = time_of(&rt, [2, 1, 0]);
-    let newer = store.newer_than(&since, &upto)?;
-    let second = newer.duplicate()?;
-    assert!(rt; ids_of(&second) == [Some((0, 1)), Some((0, 2)), Some((1, 1))]);
-    assert!(rt; second == newer);
-    Ok(())
+    let steps = [Step::Newer(&[0, 0, 0], &[2, 1, 0], &[(0, 1), (0, 2), (1, 1)])];
+    holds(&rt, worked(rt.alloc(), &steps))
 }
 
 /// One change: 7 at offset 3.
@@ -400,77 +528,74 @@ fn is_seven(changes: Option<&Changes>) -> bool {
     }
 }
 
-/// One interval, of node 0, that wrote page 1.
-fn one_written(alloc: Global) -> Result<Store, AllocError>
-    ensures { IfOk result (λ store. store
-        ≡ added (empty_store 3 2) (record { node = 0; stamp = 1 ∷ 0 ∷ 0 ∷ []; pages = 1 ∷ [] })) }
+/// A node's first interval, which wrote page 1.
+fn first_of(alloc: Global, node: u8) -> Result<Interval, AllocError>
+    requires { node < 3 }
+    ensures { IfOk result (λ interval. interval
+        ≡ record { node = node; stamp = slice_set (0 ∷ 0 ∷ 0 ∷ []) node 1; pages = 1 ∷ [] }) }
 {
-    let mut store = Store::new(alloc, 3, 2)?;
     let mut stamp = Time::new(3);
-    stamp.raise(0, 1);
+    stamp.raise(node, 1);
     let mut pages = Pages::empty(alloc);
     pages.push(1)?;
-    let interval = Interval::new(0, stamp, pages);
-    store.add(&interval)?;
-    Ok(store)
+    Ok(Interval::new(node, stamp, pages))
 }
 
-/// Two intervals that wrote page 1, of nodes 0 and 1, and the time that knew all there was before the second came.
-fn known_and_new(alloc: Global) -> Result<(Store, Time), AllocError>
-    ensures nodes { IfOk result (λ both. length both.1 ≡ length both.0.last) }
-    ensures first { IfOk result (λ both. KnowsTheFirst both.0 1 both.1) }
+/// Whether the changes of a key are kept, and no others.
+fn key_keeps(alloc: Global, store: &mut Store) -> Result<bool, AllocError>
+    requires { store.old ≡ empty_store 3 2 }
 {
-    let mut store = one_written(alloc)?;
-    let mut since = Time::new(3);
-    since.raise(0, 1);
-    let mut stamp = Time::new(3);
-    stamp.raise(1, 1);
-    let mut pages = Pages::empty(alloc);
-    pages.push(1)?;
-    let interval = Interval::new(1, stamp, pages);
-    store.add(&interval)?;
-    Ok((store, since))
-}
-
-#[test]
-fn finds_what_is_missing_up_to_what_was_known(rt: HostRuntime) -> Result<(), Fail> {
-    let (store, since) = known_and_new(rt.alloc())?;
-    let found = store.missing_until_known(1, &since)?;
-    assert!(rt; found.as_slice() == [notice_key(1, 1, 1)].as_slice());
-    let all = store.missing(1, &since)?;
-    assert!(rt; all.as_slice() == found.as_slice());
-    Ok(())
-}
-
-#[test]
-fn keeps_the_changes_of_a_key(rt: HostRuntime) -> Result<(), Fail> {
-    let alloc = rt.alloc();
-    let mut store = one_written(alloc)?;
+    store.add(&first_of(alloc, 0)?)?;
     let key = Key {
         node: 0,
         index: 1,
         page: 1,
     };
-    assert!(rt; store.changes(key).is_none());
-    let changes = seven(alloc)?;
-    store.attach(key, changes);
-    assert!(rt; is_seven(store.changes(key)));
-    assert!(rt; store.changes(notice_key(0, 1, 0)).is_none());
-    Ok(())
+    let before = store.changes(key).is_none();
+    store.attach(key, seven(alloc)?);
+    Ok(before && is_seven(store.changes(key)) && store.changes(key_of((0, 1, 0))).is_none())
+}
+
+/// Whether the changes of a link are kept, and are those of its key.
+fn link_keeps(alloc: Global, store: &mut Store) -> Result<bool, AllocError>
+    requires { store.old ≡ empty_store 3 2 }
+{
+    store.add(&first_of(alloc, 0)?)?;
+    let Some(at) = store.first_on_page(1) else {
+        return Ok(false);
+    };
+    let before = store.changes_at(at).is_none();
+    store.attach_at(at, seven(alloc)?);
+    Ok(before && is_seven(store.changes_at(at)) && is_seven(store.changes(key_of((0, 1, 1)))))
+}
+
+/// Whether the notice that is missing of page 1 is found, as far as the list is searched and in all of it, by a time that knew all
+/// there was before node 1's interval came.
+fn stops_at_the_known(alloc: Global, store: &mut Store) -> Result<bool, AllocError>
+    requires { store.old ≡ empty_store 3 2 }
+{
+    store.add(&first_of(alloc, 0)?)?;
+    store.add(&first_of(alloc, 1)?)?;
+    let mut since = Time::new(3);
+    since.raise(0, 1);
+    let found = store.missing_until_known(1, &since)?;
+    Ok(are_keys(&found, &[(1, 1, 1)]) && lacks(store, 3, 1, &[1, 0, 0], &[(1, 1, 1)])?)
+}
+
+#[test]
+fn finds_what_is_missing_up_to_what_was_known(rt: HostRuntime) -> Result<(), Fail> {
+    let mut store = Store::new(rt.alloc(), 3, 2)?;
+    holds(&rt, stops_at_the_known(rt.alloc(), &mut store))
+}
+
+#[test]
+fn keeps_the_changes_of_a_key(rt: HostRuntime) -> Result<(), Fail> {
+    let mut store = Store::new(rt.alloc(), 3, 2)?;
+    holds(&rt, key_keeps(rt.alloc(), &mut store))
 }
 
 #[test]
 fn keeps_the_changes_of_a_link(rt: HostRuntime) -> Result<(), Fail> {
-    let alloc = rt.alloc();
-    let mut store = one_written(alloc)?;
-    let at = store.first_on_page(1);
-    if let Some(at) = at {
-        assert!(rt; store.changes_at(at).is_none());
-        let changes = seven(alloc)?;
-        store.attach_at(at, changes);
-        assert!(rt; is_seven(store.changes_at(at)));
-    }
-    assert!(rt; at.is_some());
-    assert!(rt; is_seven(store.changes(notice_key(0, 1, 1))));
-    Ok(())
+    let mut store = Store::new(rt.alloc(), 3, 2)?;
+    holds(&rt, link_keeps(rt.alloc(), &mut store))
 }

@@ -1,8 +1,11 @@
 // The page table of a node: worked values, each state and call, and largest sizes.
 
-ghost use Rattle.std.specs.Prelude.{◌≡◌, ◌<◌, length};
+ghost use Rattle.std.specs.Prelude.{◌≡◌, ◌<◌, ◌∷◌, IfOk, OnOk, length, []};
 ghost use Rattle.lrc_page.specs.Place.{page_of};
+ghost use Rattle.lrc_table.specs.Table.{copy_at, fresh_table, with_copy, with_each};
+ghost use Rattle.lrc_table.specs.PageCopy.{closed, settled};
 
+use crate::checks::holds;
 use lrc_page::{Changes, Page, Size};
 use lrc_table::{PageTable, State};
 use std::alloc::{AllocError, Global};
@@ -21,117 +24,206 @@ fn summary(changes: Option<Changes>) -> Option<(usize, u8, u64)> {
     Some((count, last.offset, last.value))
 }
 
+/// Whether a close names these pages.
+fn closes(table: &mut PageTable, wanted: &[u16]) -> Result<bool, AllocError>
+    ensures { OnOk result (table.new ≡ with_each table.old closed) }
+{
+    let pages = table.close()?;
+    Ok(pages.as_slice() == wanted)
+}
+
+/// Whether a page that is settled has so many changes, of which the last has this offset and value, or none that are known.
+fn settles(
+    table: &mut PageTable,
+    page: u16,
+    wanted: Option<(usize, u8, u64)>,
+) -> Result<bool, AllocError>
+    requires { page < length table.old.copies }
+    ensures { OnOk result (table.new ≡ with_copy table.old page (settled (copy_at table.old page))) }
+{
+    let changes = table.settle(page)?;
+    Ok(summary(changes) == wanted)
+}
+
+/// One change: 7 at offset 0.
+fn seven(alloc: Global) -> Result<Changes, AllocError>
+    ensures { IfOk result (λ changes. changes ≡ record { offset = 0; value = 7 } ∷ []) }
+{
+    let mut changes = Changes::empty(alloc);
+    changes.push(0, 7)?;
+    Ok(changes)
+}
+
+/// Whether a page is valid again once it is repaired by this one change, and has its value.
+fn is_repaired(alloc: Global, table: &mut PageTable) -> Result<bool, AllocError>
+    requires size { table.old.size ≡ Size.Words64 }
+    requires pages { length table.old.copies ≡ 2 }
+    requires invalid { (copy_at table.old 1).state ≡ State.Invalid }
+{
+    let missing = vec![in alloc; seven(alloc)?]?;
+    table.repair(1, missing.as_slice());
+    let states = [table.state(1), table.state(0)];
+    Ok(table.read(64) == Some(7) && states == [State::Valid, State::Valid])
+}
+
+fn worked_table(alloc: Global, table: &mut PageTable) -> Result<bool, AllocError>
+    requires { table.old ≡ fresh_table 65 Size.Words64 }
+{
+    let written = table.write(64, 5)?;
+    let first = [table.state(1), table.state(0)];
+    let closed = closes(table, &[1])?;
+    let settled = settles(table, 1, Some((1, 0, 5)))?;
+    let second = table.state(1);
+    table.invalidate(1);
+    let refused = table.write(64, 6)?;
+    let third = (table.read(64), table.state(1));
+    let repaired = is_repaired(alloc, table)?;
+    Ok(
+        (written, closed, settled, refused, repaired) == (true, true, true, false, true)
+            && first == [State::Written, State::Valid]
+            && second == State::Valid
+            && third == (None, State::Invalid),
+    )
+}
+
 #[test]
 fn keeps_the_worked_table(rt: HostRuntime) -> Result<(), Fail> {
     let mut table = PageTable::new(rt.alloc(), 65, Size::Words64)?;
-    let written = table.write(64, 5)?;
-    assert!(rt; (written, table.state(1), table.state(0)) == (true, State::Written, State::Valid));
-    let closed = table.close()?;
-    assert!(rt; closed.as_slice() == [1].as_slice());
-    let changes = summary(table.settle(1)?);
-    assert!(rt; (changes, table.state(1)) == (Some((1, 0, 5)), State::Valid));
+    holds(&rt, worked_table(rt.alloc(), &mut table))
+}
 
-    table.invalidate(1);
-    let refused = table.write(64, 6)?;
-    assert!(rt; (refused, table.read(64), table.state(1)) == (false, None, State::Invalid));
-    let mut missing = Changes::empty(rt.alloc());
-    missing.push(0, 7)?;
-    let missing = vec![in rt.alloc(); missing]?;
-    table.repair(1, missing.as_slice());
-    assert!(rt;
-        (table.read(64), table.state(1), table.state(0)) == (Some(7), State::Valid, State::Valid)
-    );
-    Ok(())
+fn settled_pages(table: &mut PageTable) -> Result<bool, AllocError>
+    requires { table.old ≡ fresh_table 65 Size.Words64 }
+{
+    table.write(64, 5)?;
+    let closed = closes(table, &[1])?;
+    let seen = (table.pending(1), table.read(64));
+    let first = settles(table, 1, Some((1, 0, 5)))?;
+    let again = settles(table, 1, None)?;
+    table.write(64, 6)?;
+    table.write(64, 5)?;
+    let closed_again = closes(table, &[1])?;
+    let silent = settles(table, 1, Some((0, 0, 0)))?;
+    Ok([closed, first, again, closed_again, silent] == [true; 5] && seen == (true, Some(5)))
 }
 
 #[test]
 fn settles_the_worked_pages(rt: HostRuntime) -> Result<(), Fail> {
     let mut table = PageTable::new(rt.alloc(), 65, Size::Words64)?;
-    table.write(64, 5)?;
-    let closed = table.close()?;
-    assert!(rt; closed.as_slice() == [1].as_slice());
-    assert!(rt; (table.pending(1), table.read(64)) == (true, Some(5)));
-    let first = summary(table.settle(1)?);
-    let again = summary(table.settle(1)?);
-    assert!(rt; (first, again) == (Some((1, 0, 5)), None));
+    holds(&rt, settled_pages(&mut table))
+}
 
-    table.write(64, 6)?;
-    table.write(64, 5)?;
-    let closed = table.close()?;
-    assert!(rt; closed.as_slice() == [1].as_slice());
-    let silent = summary(table.settle(1)?);
-    assert!(rt; silent == Some((0, 0, 0)));
-    Ok(())
+fn earlier_pages(table: &mut PageTable) -> Result<bool, AllocError>
+    requires { table.old ≡ fresh_table 257 Size.Words256 }
+{
+    table.write(0, 1)?;
+    let first = closes(table, &[0])?;
+    table.write(256, 2)?;
+    let pending = [table.pending(0), table.pending(1)];
+    let second = closes(table, &[1])?;
+    let settled = [
+        settles(table, 0, Some((1, 0, 1)))?,
+        settles(table, 1, Some((1, 0, 2)))?,
+    ];
+    table.write(255, 3)?;
+    let third = closes(table, &[0])?;
+    table.drop_twins();
+    let dropped = settles(table, 0, None)?;
+    Ok(
+        [first, second, third, dropped] == [true; 4]
+            && pending == [true, false]
+            && settled == [true, true]
+            && table.read(255) == Some(3),
+    )
 }
 
 #[test]
 fn keeps_earlier_pending_pages(rt: HostRuntime) -> Result<(), Fail> {
     let mut table = PageTable::new(rt.alloc(), 257, Size::Words256)?;
-    table.write(0, 1)?;
-    let first = table.close()?;
-    table.write(256, 2)?;
-    assert!(rt; (table.pending(0), table.pending(1)) == (true, false));
-    let second = table.close()?;
-    assert!(rt;
-        (
-            first.as_slice() == [0].as_slice(),
-            second.as_slice() == [1].as_slice()
-        ) == (true, true)
-    );
-    let changes = (summary(table.settle(0)?), summary(table.settle(1)?));
-    assert!(rt; changes == (Some((1, 0, 1)), Some((1, 0, 2))));
+    holds(&rt, earlier_pages(&mut table))
+}
 
-    table.write(255, 3)?;
-    let third = table.close()?;
-    assert!(rt; third.len() == 1);
+fn base_copies(table: &mut PageTable) -> Result<bool, AllocError>
+    requires { table.old ≡ fresh_table 1 Size.Words64 }
+{
+    table.write(0, 1)?;
+    let closed = closes(table, &[0])?;
+    table.keep_base(0)?;
+    let pending = table.pending(0);
     table.drop_twins();
-    let dropped = summary(table.settle(0)?);
-    assert!(rt; (dropped, table.read(255)) == (None, Some(3)));
-    Ok(())
+    table.write(0, 2)?;
+    let kept = table.base(0).and_then(|page| page.words().first().copied());
+    let read = table.read(0);
+    table.drop_base(0);
+    Ok(closed && pending && (kept, read) == (Some(1), Some(2)) && table.base(0).is_none())
 }
 
 #[test]
 fn keeps_base_copies(rt: HostRuntime) -> Result<(), Fail> {
     let mut table = PageTable::new(rt.alloc(), 1, Size::Words64)?;
-    table.write(0, 1)?;
-    table.close()?;
-    table.keep_base(0)?;
-    let pending = table.pending(0);
-    table.drop_twins();
-    table.write(0, 2)?;
-    let kept = table.base(0).map(|page| page.words()[0]);
-    assert!(rt; (pending, kept, table.read(0)) == (true, Some(1), Some(2)));
-    table.drop_base(0);
-    assert!(rt; table.base(0).is_none());
-    Ok(())
+    holds(&rt, base_copies(&mut table))
+}
+
+/// A page of 64 words with 9 at offset 1.
+fn nine() -> Page
+    ensures { length result ≡ 64 }
+{
+    let mut words = [0; 64];
+    words[1] = 9;
+    Page::with_words(Size::Words64, words.as_slice())
+}
+
+/// Installs page 1.
+fn install(table: &mut PageTable)
+    requires size { table.old.size ≡ Size.Words64 }
+    requires pages { length table.old.copies ≡ 2 }
+    requires absent { (copy_at table.old 1).state ≡ State.Absent }
+    ensures size { table.new.size ≡ Size.Words64 }
+    ensures pages { length table.new.copies ≡ 2 }
+    ensures invalid { (copy_at table.new 1).state ≡ State.Invalid }
+{
+    table.install(1, nine());
+}
+
+/// Whether page 1 is valid and has both words once it is patched by one change and repaired by none.
+fn is_patched(alloc: Global, table: &mut PageTable) -> Result<bool, AllocError>
+    requires size { table.old.size ≡ Size.Words64 }
+    requires pages { length table.old.copies ≡ 2 }
+    requires invalid { (copy_at table.old 1).state ≡ State.Invalid }
+{
+    let missing = seven(alloc)?;
+    table.patch(1, &missing);
+    let none: [Changes; 0] = [];
+    table.repair(1, none.as_slice());
+    let words = [table.read(64), table.read(65)];
+    Ok(table.state(1) == State::Valid && words == [Some(7), Some(9)])
+}
+
+fn absent_page(alloc: Global, table: &mut PageTable) -> Result<bool, AllocError>
+    requires { table.old ≡ fresh_table 65 Size.Words64 }
+{
+    table.invalidate(1);
+    table.invalidate(1);
+    table.drop_invalid();
+    let first = (table.state(1), table.state(0), table.read(64));
+    let refused = table.write(64, 1)?;
+    table.invalidate(1);
+    let second = table.state(1);
+    install(table);
+    let third = (table.state(1), table.read(65));
+    let patched = is_patched(alloc, table)?;
+    Ok(
+        (refused, patched) == (false, true)
+            && first == (State::Absent, State::Valid, None)
+            && second == State::Absent
+            && third == (State::Invalid, None),
+    )
 }
 
 #[test]
 fn fetches_an_absent_page(rt: HostRuntime) -> Result<(), Fail> {
     let mut table = PageTable::new(rt.alloc(), 65, Size::Words64)?;
-    table.invalidate(1);
-    table.invalidate(1);
-    table.drop_invalid();
-    assert!(rt;
-        (table.state(1), table.state(0), table.read(64)) == (State::Absent, State::Valid, None)
-    );
-    let refused = table.write(64, 1)?;
-    table.invalidate(1);
-    assert!(rt; (refused, table.state(1)) == (false, State::Absent));
-
-    let mut page = Page::zero(Size::Words64);
-    page.set(1, 9);
-    table.install(1, page);
-    assert!(rt; (table.state(1), table.read(65)) == (State::Invalid, None));
-    let mut missing = Changes::empty(rt.alloc());
-    missing.push(0, 7)?;
-    table.patch(1, &missing);
-    let none: [Changes; 0] = [];
-    table.repair(1, none.as_slice());
-    assert!(rt;
-        (table.state(1), table.read(64), table.read(65)) == (State::Valid, Some(7), Some(9))
-    );
-    Ok(())
+    holds(&rt, absent_page(rt.alloc(), &mut table))
 }
 
 /// Writes its number and one more to a word, where its page is not pending.
@@ -148,32 +240,40 @@ fn put(table: &mut PageTable, word: u32) -> Result<(), AllocError>
     Ok(())
 }
 
-/// Writes to every word of the first 1,024 pages of 64 words, and gives the number of pages that a close names, and the
-/// changes of the last.
-fn fills_pages_of_64(alloc: Global) -> Result<(usize, Option<(usize, u8, u64)>), AllocError> {
-    let mut table = PageTable::new(alloc, 65_536, Size::Words64)?;
+/// Whether a write to every word of 1,024 pages of 64 words has a close name as many pages, and the last so many changes.
+fn pages_of_64_fill(table: &mut PageTable) -> Result<bool, AllocError>
+    requires { table.old ≡ fresh_table 65536 Size.Words64 }
+{
     for word in 0..65_536 {
-        put(&mut table, word)?;
+        put(table, word)?;
     }
     let closed = table.close()?.len();
-    Ok((closed, summary(table.settle(1023)?)))
+    Ok(closed == 1024 && settles(table, 1023, Some((64, 63, 65_536)))?)
 }
 
-/// The same for pages of 256 words.
-fn fills_pages_of_256(alloc: Global) -> Result<(usize, Option<(usize, u8, u64)>), AllocError> {
-    let mut table = PageTable::new(alloc, 65_536, Size::Words256)?;
+/// The same of 256 pages of 256 words.
+fn pages_of_256_fill(table: &mut PageTable) -> Result<bool, AllocError>
+    requires { table.old ≡ fresh_table 65536 Size.Words256 }
+{
     for word in 0..65_536 {
-        put(&mut table, word)?;
+        put(table, word)?;
     }
     let closed = table.close()?.len();
-    Ok((closed, summary(table.settle(255)?)))
+    Ok(closed == 256 && settles(table, 255, Some((256, 255, 65_536)))?)
+}
+
+fn small_fill(alloc: Global) -> Result<bool, AllocError> {
+    let mut table = PageTable::new(alloc, 65_536, Size::Words64)?;
+    pages_of_64_fill(&mut table)
+}
+
+fn large_fill(alloc: Global) -> Result<bool, AllocError> {
+    let mut table = PageTable::new(alloc, 65_536, Size::Words256)?;
+    pages_of_256_fill(&mut table)
 }
 
 #[test]
 fn holds_the_most_words(rt: HostRuntime) -> Result<(), Fail> {
-    let small = fills_pages_of_64(rt.alloc())?;
-    assert!(rt; small == (1024, Some((64, 63, 65_536))));
-    let large = fills_pages_of_256(rt.alloc())?;
-    assert!(rt; large == (256, Some((256, 255, 65_536))));
-    Ok(())
+    holds(&rt, small_fill(rt.alloc()))?;
+    holds(&rt, large_fill(rt.alloc()))
 }

@@ -1,6 +1,6 @@
 // Vector times.
 
-ghost use Rattle.std.specs.Prelude.{◌≡◌, length};
+ghost use Rattle.std.specs.Prelude.{◌≡◌, ◌≤◌, length};
 
 use lrc_time::Time;
 
@@ -13,24 +13,18 @@ fn raise(time: &mut Time, node: u8, index: u32)
     }
 }
 
-/// A time of two nodes.
-pub fn of_two(entries: [u32; 2]) -> Time
-    ensures { length result ≡ 2 }
+/// The time of so many nodes that have closed so many intervals. Those past the last entry have closed none.
+pub fn of(nodes: u8, entries: &[u32]) -> Time
+    requires some { 1 ≤ nodes }
+    requires few { nodes ≤ 16 }
+    ensures { length result ≡ nodes }
 {
-    let mut time = Time::new(2);
-    raise(&mut time, 0, entries[0]);
-    raise(&mut time, 1, entries[1]);
-    time
-}
-
-/// A time of three nodes.
-pub fn of_three(entries: [u32; 3]) -> Time
-    ensures { length result ≡ 3 }
-{
-    let mut time = Time::new(3);
-    raise(&mut time, 0, entries[0]);
-    raise(&mut time, 1, entries[1]);
-    raise(&mut time, 2, entries[2]);
+    let mut time = Time::new(nodes);
+    for node in 0..nodes {
+        if let Some(index) = entries.get(usize::from(node)) {
+            raise(&mut time, node, *index);
+        }
+    }
     time
 }
 
@@ -82,8 +76,8 @@ fn are_joined(one: &Time, other: &Time, both: &Time) -> bool {
 
 #[test]
 fn the_join_covers_both(rt: HostRuntime) {
-    let one = of_three([3, 0, 1]);
-    let other = of_three([1, 2, 1]);
+    let one = of(3, &[3, 0, 1]);
+    let other = of(3, &[1, 2, 1]);
     let both = joined(&one, &other);
     assert!(rt; are_joined(&one, &other, &both));
     assert!(rt; [one.weight(), other.weight(), both.weight()] == [4, 4, 6]);

@@ -2,4 +2,4 @@ use Rattle.std.proofs.Common.{◌≡◌, length}
 use Rattle.test_parts.proofs.barriers.fifteen_wait.Given as goal
 
 abbrev pub invariant-loop-node : goal.invariant-loop-node
-invariant-loop-node g l = length l.manager.last ≡ 16
+invariant-loop-node l = length l.manager.last ≡ 16
