@@ -149,21 +149,22 @@ impl Links {
         Ok(found)
     }
 
-    /// The intervals of a node that `upto` knows and `since` does not, oldest first, found along the node's list. The walk
-    /// ends at the first that `since` knows.
-    pub(crate) fn newer_of_node(
+    /// Puts the intervals of a node that `upto` knows and `since` does not behind others, oldest first, found along the node's
+    /// list. The walk ends at the first that `since` knows.
+    pub(crate) fn put_newer_of_node(
         &self,
         arena: &Arena,
         node: u8,
         since: &Time,
         upto: &Time,
-    ) -> Result<Vec<Interval>, AllocError>
+        found: &mut Vec<Interval>,
+    ) -> Result<(), AllocError>
         requires linked { self.now.by_node.keys ≡ map (λ interval. interval.node) (map interval_of arena.now.entries) }
         requires ascending { AllPairs (λ a b. a.node ≡ b.node → index_of a < index_of b) (map interval_of arena.now.entries) }
-        ensures { IfOk result (λ found. found.items
-            ≡ filter (is_newer_of node since.now upto.now) (map interval_of arena.now.entries)) }
+        ensures { OnOk result (found.new.items
+            ≡ found.old.items ++ filter (is_newer_of node since.now upto.now) (map interval_of arena.now.entries)) }
     {
-        let mut found = Vec::new(arena.allocator());
+        let before = found.len();
         let mut next = self.by_node.first(u16::from(node));
         while let Some(at) = next {
             let interval = arena.interval(at as usize);
@@ -176,8 +177,8 @@ impl Links {
                 next = self.by_node.next(at);
             }
         }
-        found.reverse();
-        Ok(found)
+        found[before..].reverse();
+        Ok(())
     }
 
     /// Where the interval of this key's node and index stands, counted back from the last of its node.

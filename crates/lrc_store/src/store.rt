@@ -156,8 +156,8 @@ impl Store {
     {
         let mut found = Vec::new(self.arena.allocator());
         for node in 0..self.last.nodes() {
-            let mut newer = self.links.newer_of_node(&self.arena, node, since, upto)?;
-            found.append(&mut newer)?;
+            self.links
+                .put_newer_of_node(&self.arena, node, since, upto, &mut found)?;
         }
         Ok(Intervals::from_ascending(found))
     }

@@ -1,5 +1,6 @@
-use Rattle.std.proofs.Common.{◌≡◌, ap, subst, ◌∙◌, arith}
+use Rattle.std.proofs.Common.{◌≡◌, List, ◌++◌, refl, ap, subst, ◌∙◌, arith}
 use Rattle.std.specs.List.{filter}
+use Rattle.lrc_store.specs.Interval.{IntervalRecord}
 use Rattle.lrc_store.specs.Links.{is_newer_of}
 use Rattle.lrc_store.specs.Store.{StoreRecord, IsNewer, IsStore, intervals_of, newer_of}
 use Rattle.lrc_store.proofs.Newer.{IsNewer-found, by_nodes-more}
@@ -14,11 +15,11 @@ pub loop-node-preserved : goal.loop-node-preserved
 loop-node-preserved c =
     let here : intervals_of (record { pages = c.self.inside.pages; last = c.self.inside.last; entries = c.self.inside.arena.entries })
     ≡ intervals_of c.args.self.now = ap intervals_of c.self.view_is in
-    c.in_ok-append.ensures.items
-    ∙ by_nodes-more c.args.since.now c.args.upto.now (intervals_of c.args.self.now) c.loop-node.node c.loop-node.found.items c.in_ok-newer.newer.items
-    c.loop-node.invariant
-    (c.in_ok-newer.ensures
-    ∙ ap (filter (is_newer_of c.loop-node.node c.args.since.now c.args.upto.now)) here)
+    let newer = filter (is_newer_of c.loop-node.node c.args.since.now c.args.upto.now) in
+    c.in_ok-put_newer_of_node.ensures
+    ∙ ap (λ (l : List IntervalRecord). c.loop-node.found.items ++ newer l) here
+    ∙ by_nodes-more c.args.since.now c.args.upto.now (intervals_of c.args.self.now) c.loop-node.node c.loop-node.found.items
+    (newer (intervals_of c.args.self.now)) c.loop-node.invariant refl
 
 pub from_ascending-requires : goal.from_ascending-requires
 from_ascending-requires c =
