@@ -23,6 +23,8 @@ pub struct Mail {
     wait: Wait,
     sent: Vec<u64>,
     taken: Vec<Numbers>,
+    // A list that was used before, for the messages of the next turn that sends any.
+    spare: Vec<Envelope>,
 }
 
 impl Model for Mail {
@@ -50,6 +52,7 @@ impl Mail {
             wait: Wait::Nothing,
             sent: none_sent(alloc, nodes)?,
             taken: none_taken(alloc, nodes)?,
+            spare: Vec::new(alloc),
         })
     }
 
@@ -112,8 +115,31 @@ impl Mail {
         let mut counts = [0u64; 16];
         let counts = &mut counts[..self.sent.len()];
         counts.copy_from_slice(&self.sent);
-        let out = number_all(counts, me, first, letters)?;
+        let out = self.list_for(letters.len())?;
+        let out = number_all(counts, me, first, letters, out)?;
         self.sent.copy_from_slice(counts);
+        Ok(out)
+    }
+
+    /// Keeps a list of messages that are of no use any more, whose place the messages of a later turn can take.
+    pub fn keep_list(&mut self, mut out: Vec<Envelope>)
+        ensures { self.new ≡ self.old }
+    {
+        out.clear();
+        if out.capacity() > self.spare.capacity() {
+            self.spare = out;
+        }
+    }
+
+    // An empty list with room for so many messages, the one that was kept where there is one.
+    fn list_for(&mut self, count: usize) -> Result<Vec<Envelope>, AllocError>
+        ensures same { self.new ≡ self.old }
+        ensures empty { IfOk result (λ out. out.items ≡ []) }
+    {
+        let alloc = *self.sent.allocator();
+        let mut out = mem::replace(&mut self.spare, Vec::new(alloc));
+        out.clear();
+        out.reserve(count)?;
         Ok(out)
     }
 }
@@ -155,21 +181,22 @@ fn next_number(sent: &mut [u64], to: u8, first: u32) -> Option<u32>
     Some(number)
 }
 
-// The letters with their numbers, each of which counts as sent.
+// The letters with their numbers, each of which counts as sent, in a list that is empty.
 fn number_all(
     sent: &mut [u64],
     me: u8,
     first: u32,
     letters: Vec<Letter>,
+    mut envelopes: Vec<Envelope>,
 ) -> Result<Vec<Envelope>, MailFault>
     requires counts { AreCounts sent.old }
+    requires empty { envelopes.items ≡ [] }
     requires me { me < MOST_NODES }
     requires to { All (λ letter. letter.to < length sent.old) letters.items }
     ensures numbers { IfOk result (λ out. numbered me first sent.old letters.items ≡ Some (out.items, sent.new)) }
     ensures worn { result ≡ Err Worn → numbered me first sent.old letters.items ≡ None }
     ensures counts { AreCounts sent.new }
 {
-    let mut envelopes = Vec::with_capacity(*letters.allocator(), letters.len())?;
     for letter in letters {
         let Some(number) = next_number(sent, letter.to, first) else {
             return Err(MailFault::Worn);

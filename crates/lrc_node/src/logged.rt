@@ -160,11 +160,12 @@ impl<'c> Logged<'c> {
         }
     }
 
-    // Keeps the box of a message for the next one that is taken.
-    fn keep_box(&mut self, input: Input)
+    // Keeps the box of a turn's message for the next one that is taken, and the list of what it sent for those of a later turn.
+    fn keep(&mut self, forgotten: Entry)
         ensures { self.new ≡ self.old }
     {
-        match input {
+        self.node.keep_list(forgotten.turn.out);
+        match forgotten.input {
             Input::Run => {}
             Input::Taken(boxed) => self.spare = Some(boxed),
         }
@@ -250,7 +251,7 @@ impl<'c> Logged<'c> {
         if count > 1 {
             let oldest = self.log.swap_remove(0);
             self.log.truncate(1);
-            self.keep_box(oldest.input);
+            self.keep(oldest);
         }
     }
 

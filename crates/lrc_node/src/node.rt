@@ -133,6 +133,13 @@ impl<'c> Node<'c> {
         self.failed = true;
     }
 
+    /// Keeps a list of messages that are of no use any more, whose place those of a later turn take.
+    pub(crate) fn keep_list(&mut self, out: Vec<Envelope>)
+        ensures { self.new ≡ self.old }
+    {
+        self.state.keep_list(out);
+    }
+
     /// Whether the node would go on if it were named. A failed one would not.
     pub fn ready(&self) -> bool
         ensures { result ≡ unwrap_or (option_map is_ready self.now.node) false }

@@ -74,10 +74,19 @@ pub fn spell(alloc: Global, envelope: &Envelope) -> Result<Vec<u8>, EncodeFault>
     ensures written { IfOk result (λ bytes. Spells Two envelope.now bytes.items) }
     ensures too_long { IsErrOf result EncodeFault.TooLong ↔ (MOST_BODY_BYTES < length (body Two runs_of envelope.now.message)) }
 {
+    spell_over(Vec::new(alloc), envelope)
+}
+
+/// The same in place of bytes that are of no use any more, whose memory the new ones take.
+pub fn spell_over(mut out: Vec<u8>, envelope: &Envelope) -> Result<Vec<u8>, EncodeFault>
+    ensures written { IfOk result (λ bytes. Spells Two envelope.now bytes.items) }
+    ensures too_long { IsErrOf result EncodeFault.TooLong ↔ (MOST_BODY_BYTES < length (body Two runs_of envelope.now.message)) }
+{
     let Some(body_len) = body_len(&envelope.message) else {
         return Err(EncodeFault::TooLong);
     };
-    let mut out = Vec::with_capacity(alloc, HEADER_BYTES + body_len)?;
+    out.clear();
+    out.reserve(HEADER_BYTES + body_len)?;
     put_envelope(&mut out, envelope, body_len)?;
     Ok(out)
 }

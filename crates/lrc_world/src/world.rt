@@ -30,9 +30,10 @@ use lrc_race::{first_race, races};
 use lrc_trace::act::Act;
 use lrc_trace::race::Race;
 use lrc_trace::trace::Trace;
-use lrc_wire::{EncodeFault, WireFault, decode, spell};
+use lrc_wire::{EncodeFault, WireFault, decode, spell_over};
 use std::alloc::{AllocError, Global};
 use std::collections::VecDeque;
+use std::mem;
 
 /// All nodes with what is kept of their logs, the messages in flight, oldest first, and the acts so far.
 #[derive(Drop)]
@@ -42,6 +43,8 @@ pub(crate) struct World<'c> {
     nodes: Vec<Logged<'c>>,
     flight: VecDeque<Flying>,
     acts: Vec<Act>,
+    // The bytes of a message that was delivered, whose memory the next one that is sent takes.
+    spare: Vec<u8>,
 }
 
 impl<'c> World<'c> {
@@ -67,6 +70,7 @@ impl<'c> World<'c> {
             nodes: made,
             flight: VecDeque::new(alloc),
             acts: Vec::new(alloc),
+            spare: Vec::new(alloc),
         })
     }
 
@@ -174,7 +178,7 @@ impl<'c> World<'c> {
     {
         match self.receive(place)? {
             Some(to) => {
-                forget(&mut self.flight, place);
+                forget(&mut self.flight, &mut self.spare, place);
                 self.follow(to)
             }
             None => Ok(()),
@@ -226,6 +230,7 @@ impl<'c> World<'c> {
             nodes,
             flight: _,
             acts,
+            spare: _,
         } = self;
         let ends = ends_of(alloc, &nodes)?;
         let (logs, traces) = parts_of(alloc, nodes)?;
@@ -250,7 +255,12 @@ impl<'c> World<'c> {
         let Some(entry) = logged.log().last() else {
             return Ok(());
         };
-        send(self.alloc, &entry.turn.out, entry.stamp, &mut self.flight)?;
+        send(
+            &mut self.spare,
+            &entry.turn.out,
+            entry.stamp,
+            &mut self.flight,
+        )?;
         note(&mut self.acts, entry.turn.act)?;
         trim(self.keep, &mut self.nodes, node);
         Ok(())
@@ -292,9 +302,9 @@ fn note(acts: &mut Vec<Act>, act: Option<Act>) -> Result<(), AllocError>
     Ok(())
 }
 
-// Puts messages of one turn in flight.
+// Puts messages of one turn in flight, the first of them in the spare bytes.
 fn send(
-    alloc: Global,
+    spare: &mut Vec<u8>,
     out: &[Envelope],
     stamp: u64,
     flight: &mut VecDeque<Flying>,
@@ -304,7 +314,7 @@ fn send(
     ensures err { IfErr result (IsSendFault out.now) }
 {
     for envelope in out {
-        let bytes = bytes_of(alloc, envelope)?;
+        let bytes = bytes_of(spare, envelope)?;
         flight.push_back(Flying {
             bytes,
             stamp,
@@ -314,13 +324,14 @@ fn send(
     Ok(())
 }
 
-// The bytes of a message.
-fn bytes_of(alloc: Global, envelope: &Envelope) -> Result<Vec<u8>, SimFault>
+// The bytes of a message, in place of the spare ones.
+fn bytes_of(spare: &mut Vec<u8>, envelope: &Envelope) -> Result<Vec<u8>, SimFault>
     ensures written { IfOk result (λ bytes. envelope_of bytes.items ≡ Ok envelope.now) }
     ensures short { OnOk result (is_long envelope.now ≡ false) }
     ensures err { IfErr result (IsSendFault (envelope.now ∷ [])) }
 {
-    match spell(alloc, envelope) {
+    let none = Vec::new(*spare.allocator());
+    match spell_over(mem::replace(spare, none), envelope) {
         Ok(bytes) => Ok(bytes),
         Err(EncodeFault::TooLong) => Err(SimFault::Worn),
         Err(EncodeFault::NoMemory) => Err(SimFault::NoMemory),
@@ -402,11 +413,13 @@ fn mark(flight: &mut VecDeque<Flying>, place: usize)
     }
 }
 
-// Takes the message at the place out of flight, if it is there.
-fn forget(flight: &mut VecDeque<Flying>, place: usize)
+// Takes the message at the place out of flight, if it is there. Its bytes are the spare ones then.
+fn forget(flight: &mut VecDeque<Flying>, spare: &mut Vec<u8>, place: usize)
     ensures { place < length flight.old.items → flight.new.items ≡ remove flight.old.items place }
 {
-    flight.remove(place);
+    if let Some(flying) = flight.remove(place) {
+        *spare = flying.bytes;
+    }
 }
 
 // Whether one of the nodes is ready.

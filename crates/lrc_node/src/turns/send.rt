@@ -32,6 +32,13 @@ impl NodeState<'_> {
         Ok(Turn { act, out })
     }
 
+    /// Keeps a list of messages that are of no use any more, whose place those of a later turn take.
+    pub(crate) fn keep_list(&mut self, out: Vec<Envelope>)
+        ensures { self.new ≡ self.old }
+    {
+        self.mail.keep_list(out);
+    }
+
     // Numbers the letters, and counts them as sent. `Worn` where a number would be too large.
     #[inline(never)]
     fn number(&mut self, letters: Vec<Letter>) -> Result<Vec<Envelope>, NodeFault>

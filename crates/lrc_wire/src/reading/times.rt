@@ -38,11 +38,13 @@ fn read_entries(own: Option<u8>, nodes: u8, bytes: &mut &[u8]) -> Result<Time, W
     requires few { nodes ≤ MOST_NODES }
     ensures { Gives (λ time. (time, bytes.new.now)) result (entries_at own nodes bytes.old.now) }
 {
+    let mut rest = *bytes;
     let mut time = Time::new(nodes);
     for node in 0..nodes {
-        let entry = read_entry(own, node, bytes)?;
+        let entry = read_entry(own, node, &mut rest)?;
         fill(&mut time, node, entry);
     }
+    *bytes = rest;
     Ok(time)
 }
 

@@ -28,7 +28,7 @@ pub returns-in_err-entry : goal.returns-in_err-entry
 returns-in_err-entry c =
     let p = err_from_is_err_and c.from_residual.result c.from_residual.ensures.1 in
     rw (p.1, p.2) (ends (entry_at c.args.own) (λ node _. node + 1) c.in_err-entry.field-0.0
-    (take c.loop-node.node c.loop-node.time) c.args.nodes c.loop-node.node c.loop-node.node c.loop-node.bytes.now _ c.loop-node-test.true
+    (take c.loop-node.node c.loop-node.time) c.args.nodes c.loop-node.node c.loop-node.node c.loop-node.rest.now _ c.loop-node-test.true
     c.in_err-entry.ensures c.loop-node.invariant.read)
 
 pub loop-node-preserved : goal.loop-node-preserved
@@ -42,7 +42,7 @@ loop-node-preserved c =
           ∙ c.loop-node.invariant.zeros k (omega arith));
       read = rw (c.fill.ensures, take_more_set time node c.in_ok-entry.entry within)
           (goes_on (entry_at c.args.own) (λ node _. node + 1)
-          (take node time) c.args.nodes node node c.loop-node.bytes.now c.in_ok-entry.entry c.read_entry.new.bytes.now _ c.loop-node-test.true
+          (take node time) c.args.nodes node node c.loop-node.rest.now c.in_ok-entry.entry c.read_entry.new.bytes.now _ c.loop-node-test.true
           c.in_ok-entry.ensures c.loop-node.invariant.read);
     }
 
@@ -50,6 +50,6 @@ pub returns : goal.returns
 returns c =
     let all : take c.loop-node.node c.loop-node.time ≡ c.loop-node.time = take_all c.loop-node.node c.loop-node.time (omega arith) in
     is_done (entry_at c.args.own) (λ node _. node + 1)
-    (take c.loop-node.node c.loop-node.time) c.args.nodes c.loop-node.node c.loop-node.node c.loop-node.bytes.now _ c.loop-node-test.false
+    (take c.loop-node.node c.loop-node.time) c.args.nodes c.loop-node.node c.loop-node.node c.loop-node.rest.now _ c.loop-node-test.false
     c.loop-node.invariant.read
-    ∙ ap (λ (time : List ℕ). Ok (time, c.loop-node.bytes.now)) all
+    ∙ ap (λ (time : List ℕ). Ok (time, c.loop-node.rest.now)) all

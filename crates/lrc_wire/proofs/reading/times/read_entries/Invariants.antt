@@ -9,5 +9,5 @@ invariant-loop-node l = record {
   long : length l.time ≡ l.nodes;
   zeros : (k : ℕ) → l.node ≤ k → entry l.time k ≡ 0;
   read : with_front (take l.node l.time)
-      (elements_at (entry_at l.own) (λ node _. node + 1) (l.nodes - l.node) l.node l.bytes.now) ≡ entries_at l.own l.nodes l.fn.bytes.now;
+      (elements_at (entry_at l.own) (λ node _. node + 1) (l.nodes - l.node) l.node l.rest) ≡ entries_at l.own l.nodes l.fn.bytes.now;
 }
