@@ -14,7 +14,7 @@ returns-then-count-gt1-clause-log c =
     c.truncate.ensures.items
     ∙ newest-first log c.swap_remove-oldest.new.self.items (omega (arith, more)) (omega (arith, more, c.swap_remove-oldest.ensures.len))
     (λ d. c.swap_remove-oldest.ensures.by_index.0 d more ∙ ap (λ n. slice_index_or log (n - 1) d) count) in
-    ap (λ (t : TracedLog). t.logged) c.keep_box.ensures
+    ap (λ (t : TracedLog). t.logged) c.keep.ensures
     ∙ ap (λ (g : List EntryRecord). let l : LoggedNode = record { node = c.self.inside.node.node; log = g } in l) left
     ∙ ap (λ (t : TracedLog). let l : LoggedNode = record { node = t.logged.node; log = newest t.logged.log } in l) c.self.view_is
 
