@@ -9,7 +9,7 @@ use lrc_envelope::{Arrive, ChangesRequest, Envelope, Indices, Message, News};
 use lrc_page::Pages;
 use lrc_store::{Interval, Intervals};
 use lrc_time::Time;
-use lrc_wire::{EncodeFault, WireFault, decode, encode};
+use lrc_wire::{EncodeFault, WireFault, decode, encode, spell_over};
 use std::alloc::{AllocError, Global};
 use std::test::Fail;
 
@@ -80,6 +80,13 @@ pub fn gives(alloc: Global, bytes: &[u8], wanted: &[u8]) -> Result<bool, Fail> {
 /// Whether the bytes are read, and written as they were.
 pub fn is_kept(alloc: Global, bytes: &[u8]) -> Result<bool, Fail> {
     gives(alloc, bytes, bytes)
+}
+
+/// Whether the message of these bytes is written in place of others, and nothing of them is left.
+fn is_put_over(alloc: Global, bytes: &[u8], others: &[u8]) -> Result<bool, Fail> {
+    let envelope = read(alloc, bytes)?;
+    let written = spell_over(others.to_vec(alloc)?, &envelope)?;
+    Ok(written.as_slice() == bytes)
 }
 
 /// Whether each part of the bytes is short.
@@ -172,6 +179,21 @@ const DEPART: [u8; 26] = [
 const CLEAN: [u8; 16] = [1, 6, 3, 0, 0, 0, 0, 2, 0, 0, 0, 4, 0, 0, 0, 9];
 
 const DISCARD: [u8; 16] = [1, 7, 0, 3, 0, 0, 0, 2, 0, 0, 0, 4, 255, 255, 255, 255];
+
+/// Whether messages are written in place of none, fewer and more bytes than their own.
+fn are_put_over(alloc: Global) -> Result<bool, Fail> {
+    Ok(
+        is_put_over(alloc, &GRANT, &[])?
+            && is_put_over(alloc, &GRANT, &FORWARD)?
+            && is_put_over(alloc, &NO_CHANGES_2, &GRANT)?
+            && is_put_over(alloc, &CHANGES_2, &CHANGES_1)?,
+    )
+}
+
+#[test]
+fn a_message_takes_the_place_of_other_bytes(rt: HostRuntime) -> Result<(), Fail> {
+    passes(&rt, are_put_over(rt.alloc()))
+}
 
 #[test]
 fn barrier_messages_are_read_and_written(rt: HostRuntime) -> Result<(), Fail> {
