@@ -1,18 +1,16 @@
 -- What an event does: it makes one turn of one node, or it is skipped.
-use Rattle.std.proofs.Common.{◌≡◌, ◌∙◌, ℕ, zero, List, [], ◌∷◌, ◌++◌, Bool, true, false, cond, Option, Some, None, ◌⊎◌, inl, inr}
-use Rattle.std.proofs.Common.{refl, sym, ap, subst, append-nil, append_assoc, ⊎_elim, map}
+use Rattle.std.proofs.Common.{◌≡◌, ◌∙◌, ℕ, List, [], ◌∷◌, ◌++◌, Bool, true, false, cond, Option, Some, None, ◌⊎◌, inl, inr}
+use Rattle.std.proofs.Common.{refl, sym, ap, subst, append-nil, append_assoc}
 use Rattle.std.specs.Prelude.{fold, nat_le, remove, slice_get}
 use Rattle.std.proofs.lemmas.Bool.{cases_eq}
 use Rattle.std.proofs.lemmas.Option.{none-some, same_Some}
-use Rattle.std.proofs.lemmas.List.Sums.{fold-append}
 use Rattle.lrc_protocol.specs.declared.event.Event.{Event}
 use Rattle.lrc_protocol.specs.declared.event.Event.TheVariants as events
-use Rattle.lrc_protocol.specs.Turn.{TurnRecord, Outcome, done, not_ready, unexpected, worn}
+use Rattle.lrc_protocol.specs.Turn.{Outcome, done, not_ready, unexpected, worn}
 use Rattle.lrc_protocol.specs.Run.{Input, EntryRecord, Logged, Logging, logged, refused, too_large, logs, logging, outcome_of, next_stamp}
 use Rattle.lrc_protocol.specs.Run.{MOST_STAMP, World as Run, Flying as Sent, with_turn, with_mark, after_input, input_to, delivers, event_on}
 use Rattle.lrc_protocol.specs.Run.{step_of, played}
 use Rattle.lrc_protocol.specs.Run as log
-use Rattle.lrc_protocol.specs.Node.{Node}
 use Rattle.lrc_protocol.proofs.Worlds.{IsEntry, Entries, logs-entries, get_set_same, get_set_other}
 use Rattle.lrc_world.specs.declared.turned.Turned.{Turned}
 use Rattle.lrc_world.specs.Turned.{node_if, node_by, taker, turner, turned_by, turned_from, events_in}

@@ -1,10 +1,10 @@
 -- No event of a run in rounds is skipped, and none of a run in a random order.
-use Rattle.std.proofs.Common.{◌≡◌, ◌∙◌, ℕ, zero, suc, ◌+◌, ◌-◌, ◌%◌, ◌<◌, ◌≤◌, arith, List, [], ◌∷◌, ◌++◌, Bool, true, false, cond, Option, Some, None}
-use Rattle.std.proofs.Common.{refl, sym, ap, subst, append-nil, ⊎_elim, ◌⊎◌, inl, inr, map, length}
-use Rattle.std.specs.Prelude.{fold, filter, min, nat_le, remove, slice_get}
+use Rattle.std.proofs.Common.{◌≡◌, ◌∙◌, ℕ, zero, suc, ◌+◌, ◌%◌, ◌<◌, ◌≤◌, arith, List, [], ◌∷◌, ◌++◌, Bool, true, false, cond, Option, Some, None}
+use Rattle.std.proofs.Common.{refl, sym, ap, append-nil, ⊎_elim, ◌⊎◌, inl, inr, map, length}
+use Rattle.std.specs.Prelude.{filter, min, nat_le, remove, slice_get}
 use Rattle.std.specs.List.{enumerate_from, range_with_len}
 use Rattle.std.specs.Option.{option_map_or}
-use Rattle.std.proofs.lemmas.Option.{same_Some, slice_get_within}
+use Rattle.std.proofs.lemmas.Option.{same_Some}
 use Rattle.std.proofs.lemmas.List.{length-append, length-map, map-append}
 use Rattle.std.proofs.lemmas.List.Edits.{length-remove}
 use Rattle.std.proofs.lemmas.List.FromFn.{length-enumerate_from}
@@ -16,7 +16,7 @@ use Rattle.lrc_envelope.specs.Envelope.{EnvelopeRecord}
 use Rattle.lrc_protocol.specs.declared.event.Event.{Event}
 use Rattle.lrc_protocol.specs.declared.event.Event.TheVariants as events
 use Rattle.lrc_protocol.specs.Node.{Node, OptionsRecord, Effect}
-use Rattle.lrc_protocol.specs.Turn.{begins, run_effect, charged, TurnRecord, Outcome, done, not_ready, unexpected, worn, turn_with, turn_of}
+use Rattle.lrc_protocol.specs.Turn.{begins, run_effect, charged, Outcome, done, not_ready, unexpected, worn, turn_with}
 use Rattle.lrc_protocol.specs.Turn.{turn_or, turn_by, run_turn, take_turn, is_ready, is_addressed, is_repeat, taking, empty_turn}
 use Rattle.lrc_protocol.specs.Turn.{takes}
 use Rattle.lrc_protocol.specs.Run.{Input, EntryRecord, Logged, Logging, logged, refused, too_large, logs, logging, next_stamp, MOST_STAMP}
@@ -25,14 +25,14 @@ use Rattle.lrc_protocol.specs.Run.{delivers, event_on, step_of, played, run_of}
 use Rattle.lrc_protocol.specs.Run as log
 use Rattle.lrc_protocol.proofs.Skips.{ready-goes_on}
 use Rattle.lrc_order_laws.proofs.Timely.{get_within}
-use Rattle.lrc_world.specs.Led.{Schedule, Led, begins as starts, plays, passes, AreLed}
+use Rattle.lrc_world.specs.Led.{Led, begins as starts, plays, passes, AreLed}
 use Rattle.lrc_world.specs.Moments.{RefusesNone}
-use Rattle.lrc_world.specs.Random.{choices_of, drawn_event, drawn_number, next_state, wandering}
+use Rattle.lrc_world.specs.Random.{choices_of, drawn_event, drawn_number, wandering}
 use Rattle.lrc_world.specs.Rounds.{Stage, at_node, delivering, IsDue, turn, delivery, Passes, asleep, all_went, all_delivered}
 use Rattle.lrc_world.specs.Rounds.{schedule_of_rounds, ready_at, delivery_of, is_delivered, newest_place}
-use Rattle.lrc_world.specs.Turned.{node_if, node_by, taker, turner, turned_by, turned_from, turned_of, events_in, AreAllTurned}
+use Rattle.lrc_world.specs.Turned.{node_if, node_by, taker, turner, turned_by, turned_from, events_in, AreAllTurned}
 use Rattle.lrc_world.proofs.Driven.{led_played}
-use Rattle.lrc_world.proofs.Made.{Made, MadeOrNot, by_taker, turned_more, turned_last}
+use Rattle.lrc_world.proofs.Made.{MadeOrNot, by_taker, turned_more, turned_last}
 use Rattle.lrc_world.proofs.Moments.{refuses_none}
 
 -- ---- why an input is refused

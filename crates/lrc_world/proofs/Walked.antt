@@ -4,8 +4,8 @@ use Rattle.std.proofs.Common.{refl, sym, ap, subst, append-nil, append_assoc, in
 use Rattle.std.specs.Prelude.{◌&&◌, ◌==◌, fold, nat_lt, remove, option_map, slice_get, slice_set, slice_index_or}
 use Rattle.std.specs.List.{enumerate_from, range_with_len}
 use Rattle.std.proofs.lemmas.Bool.{lt-ltb, and_from}
-use Rattle.std.proofs.lemmas.Option.{none-some, same_Some, slice_get_within, slice_get-map, slice_get_past, get_or_from_slice_get}
-use Rattle.std.proofs.lemmas.List.{length-append, length-map, length-set, length_push, map-append, get_or_past}
+use Rattle.std.proofs.lemmas.Option.{none-some, same_Some, slice_get_within, slice_get-map, get_or_from_slice_get}
+use Rattle.std.proofs.lemmas.List.{length-map, length-set, length_push, map-append, get_or_past}
 use Rattle.std.proofs.lemmas.List.FromFn.{length-range_with_len}
 use Rattle.std.proofs.lemmas.List.Sums.{fold-append}
 use Rattle.lrc_lang.specs.declared.program.Program.{Program}
@@ -25,7 +25,7 @@ use Rattle.lrc_world.specs.Walk.{Leads, is_run, is_own, next_turner, flight_afte
 use Rattle.lrc_protocol.specs.Follows.{come_of, next_entry}
 use Rattle.lrc_world.proofs.Events.{split_at}
 use Rattle.lrc_world.proofs.Lists.{map-set, map-remove, map-map}
-use Rattle.lrc_world.proofs.Made.{Made, TurnsOrNot, GoesLater, Later, by_event, goes_later, is_entry, left_in, nowhere, still_refused}
+use Rattle.lrc_world.proofs.Made.{Made, TurnsOrNot, by_event, goes_later, is_entry, left_in, nowhere, still_refused}
 use Rattle.lrc_world.proofs.Made.{turned_more, turned_last}
 use Rattle.lrc_world.proofs.Unskipped.{taken_turns, welcome_at}
 

@@ -14,14 +14,7 @@ refused_up starts old mid run place to fault (Err f) is h = subst (λ x. Receive
 pub returns-in_err-is_made : goal.returns-in_err-is_made
 returns-in_err-is_made c = λ starts run shows.
     let made : turn_made c.take_at-outcome.result ≡ Err c.in_err-is_made.field-0.0 = search rules in
-    let mid : World = record {
-      alloc = c.args.self.now.alloc;
-      keep = c.args.self.now.keep;
-      nodes = c.take_at-outcome.new.nodes;
-      flight =
-          c.args.self.now.flight;
-      acts = c.args.self.now.acts;
-    } in
+    let mid : World = record c.args.self.now { nodes = c.take_at-outcome.new.nodes } in
     refused_up starts c.args.self.now mid run c.args.place c.envelope.inside.to c.in_err-is_made.field-0.0 c.from_residual-in_err-is_made.result
     c.from_residual-in_err-is_made.ensures.1
     (subst (λ m. ReceivesTo starts c.args.self.now mid run c.args.place (received c.envelope.inside.to m)) made
@@ -31,14 +24,7 @@ returns-in_err-is_made c = λ starts run shows.
 pub returns-then-branch : goal.returns-then-branch
 returns-then-branch c = λ starts run shows.
     let made : turn_made c.take_at-outcome.result ≡ Ok true = search rules in
-    let mid : World = record {
-      alloc = c.args.self.now.alloc;
-      keep = c.args.self.now.keep;
-      nodes = c.take_at-outcome.new.nodes;
-      flight =
-          c.args.self.now.flight;
-      acts = c.args.self.now.acts;
-    } in
+    let mid : World = record c.args.self.now { nodes = c.take_at-outcome.new.nodes } in
     subst (λ m. ReceivesTo starts c.args.self.now mid run c.args.place (received c.envelope.inside.to m)) made
     (taken_at starts c.args.self.now mid run c.args.place c.in-Some.flying.now c.in_ok-envelope.envelope c.envelope.inside.to c.take_at-outcome.result shows
     (search rules) (search rules) (search rules) (search rules) c.take_at-outcome.ensures refl refl refl)
@@ -46,14 +32,7 @@ returns-then-branch c = λ starts run shows.
 pub returns-else-branch : goal.returns-else-branch
 returns-else-branch c = λ starts run shows.
     let made : turn_made c.take_at-outcome.result ≡ Ok false = search rules in
-    let mid : World = record {
-      alloc = c.args.self.now.alloc;
-      keep = c.args.self.now.keep;
-      nodes = c.take_at-outcome.new.nodes;
-      flight =
-          c.args.self.now.flight;
-      acts = c.args.self.now.acts;
-    } in
+    let mid : World = record c.args.self.now { nodes = c.take_at-outcome.new.nodes } in
     subst (λ m. ReceivesTo starts c.args.self.now mid run c.args.place (received c.envelope.inside.to m)) made
     (taken_at starts c.args.self.now mid run c.args.place c.in-Some.flying.now c.in_ok-envelope.envelope c.envelope.inside.to c.take_at-outcome.result shows
     (search rules) (search rules) (search rules) (search rules) c.take_at-outcome.ensures refl refl refl)
