@@ -26,11 +26,21 @@ pub fn run_of(alloc: Global, deeds: &[(u8, Deed)]) -> Result<Vec<Act>, AllocErro
     Ok(acts)
 }
 
+fn race_of(named: Named) -> Race {
+    let (word, nodes, intervals) = named;
+    Race {
+        word,
+        node_a: nodes[0],
+        node_b: nodes[1],
+        interval_a: intervals[0],
+        interval_b: intervals[1],
+    }
+}
+
 /// Whether there are so many races, and these are the first of them.
 pub fn are_races(races: &[Race], count: usize, first: &[Named]) -> bool {
     for (race, named) in races.iter().zip(first) {
-        let nodes = [race.node_a, race.node_b];
-        if (race.word, nodes, [race.interval_a, race.interval_b]) != *named {
+        if *race != race_of(*named) {
             return false;
         }
     }

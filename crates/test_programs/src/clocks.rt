@@ -36,8 +36,8 @@ fn at(time: &Time, node: u8) -> u32 {
 
 /// Whether the time has these entries.
 fn is_time(time: &Time, entries: &[u32]) -> bool {
-    for (node, entry) in (0..16u8).zip(entries) {
-        if at(time, node) != *entry {
+    for node in 0..time.nodes() {
+        if entries.get(usize::from(node)) != Some(&time.at(node)) {
             return false;
         }
     }
@@ -80,42 +80,49 @@ fn cover(acts: &[Act], order: &Order, times: &[Time]) -> bool {
     times.len() == acts.len()
 }
 
-fn answers(alloc: Global, acts: &[Act], times: &[Time], asked: Asked) -> Result<bool, AllocError> {
+fn agrees(alloc: Global, acts: &[Act], times: &[Time]) -> bool {
+    if !are_in_range(acts) {
+        return false;
+    }
+    match happens_before(alloc, acts) {
+        Ok(order) => cover(acts, &order, times),
+        Err(_) => false,
+    }
+}
+
+fn answers(alloc: Global, acts: &[Act], times: &[Time], asked: Asked) -> bool {
     match asked {
         Asked::At(position, entries) => {
-            Ok(position < times.len() && is_time(&times[position], entries))
+            position < times.len() && is_time(&times[position], entries)
         }
-        Asked::Agree => {
-            Ok(are_in_range(acts) && cover(acts, &happens_before(alloc, acts)?, times))
-        }
+        Asked::Agree => agrees(alloc, acts, times),
     }
 }
 
-fn answers_each(
-    alloc: Global,
-    acts: &[Act],
-    times: &[Time],
-    asked: &[Asked],
-) -> Result<bool, AllocError> {
+fn answers_each(alloc: Global, acts: &[Act], times: &[Time], asked: &[Asked]) -> bool {
     for one in asked {
-        if !answers(alloc, acts, times, *one)? {
-            return Ok(false);
+        if !answers(alloc, acts, times, *one) {
+            return false;
         }
     }
-    Ok(true)
+    true
 }
 
-/// Whether a run of so many nodes has times, and all of this is so of them.
-fn has_times(alloc: Global, acts: &[Act], nodes: u8, asked: &[Asked]) -> Result<bool, AllocError> {
-    match times(alloc, acts, nodes)? {
-        Some(times) => answers_each(alloc, acts, &times, asked),
-        None => Ok(false),
+/// Whether a run of so many nodes has times, and each of this is so of them; or no times, where nothing is asked.
+fn has_times(alloc: Global, acts: &[Act], nodes: u8, asked: Option<&[Asked]>) -> bool {
+    match (times(alloc, acts, nodes), asked) {
+        (Ok(Some(times)), Some(asked)) => answers_each(alloc, acts, &times, asked),
+        (Ok(None), None) => true,
+        _ => false,
     }
 }
 
-/// The same of the run in which three nodes do this.
-fn has_times_of(alloc: Global, deeds: &[(u8, Deed)], asked: &[Asked]) -> Result<bool, AllocError> {
-    has_times(alloc, &run_of(alloc, deeds)?, 3, asked)
+/// The same of the run in which these nodes do this.
+fn has_times_of(alloc: Global, deeds: &[(u8, Deed)], nodes: u8, asked: Option<&[Asked]>) -> bool {
+    match run_of(alloc, deeds) {
+        Ok(acts) => has_times(alloc, &acts, nodes, asked),
+        Err(_) => false,
+    }
 }
 
 // Node 0 hands one lock to node 1, and node 1 another to node 2.
@@ -133,16 +140,16 @@ const HANDED_ON: &[(u8, Deed)] = &[
     (2, Deed::Release(1)),
 ];
 
-const HANDED_ON_TIMES: &[Asked] = &[
+const HANDED_ON_TIMES: Option<&[Asked]> = Some(&[
     Asked::At(3, &[2, 0, 0]),
     Asked::At(9, &[2, 4, 1]),
     Asked::Agree,
-];
+]);
 
 // The acquire at position 8 learns what node 1 learnt from node 0, and each node's own entry counts its closing acts.
 #[test]
 fn a_lock_hands_times_on(rt: HostRuntime) {
-    holds(&rt, has_times_of(rt.alloc(), HANDED_ON, HANDED_ON_TIMES));
+    holds(&rt, has_times_of(rt.alloc(), HANDED_ON, 3, HANDED_ON_TIMES));
 }
 
 // Three nodes come to a barrier, one of them with a lock, and the next barrier is left open.
@@ -161,16 +168,16 @@ const MET: &[(u8, Deed)] = &[
     (2, Deed::Read(0, 7)),
 ];
 
-const MET_TIMES: &[Asked] = &[
+const MET_TIMES: Option<&[Asked]> = Some(&[
     Asked::At(9, &[1, 4, 1]),
     Asked::At(11, &[1, 2, 1]),
     Asked::Agree,
-];
+]);
 
 // The depart at position 10 learns what every node knew at its arrive, and nothing of what node 1 did since.
 #[test]
 fn a_barrier_joins_times(rt: HostRuntime) {
-    holds(&rt, has_times_of(rt.alloc(), MET, MET_TIMES));
+    holds(&rt, has_times_of(rt.alloc(), MET, 3, MET_TIMES));
 }
 
 /// Sixteen nodes take one lock in turn, so many turns in all.
@@ -188,27 +195,28 @@ fn turns_of_sixteen(alloc: Global, turns: u16) -> Result<Vec<Act>, AllocError> {
     Ok(acts)
 }
 
-/// Whether all of this is so of the times of so many turns.
-fn has_times_in_turn(alloc: Global, turns: u16, asked: &[Asked]) -> Result<bool, AllocError> {
-    has_times(alloc, &turns_of_sixteen(alloc, turns)?, 16, asked)
+/// Whether this is so of the times of so many turns.
+fn has_times_in_turn(alloc: Global, turns: u16, asked: Asked) -> bool {
+    match turns_of_sixteen(alloc, turns) {
+        Ok(acts) => has_times(alloc, &acts, 16, Some(&[asked])),
+        Err(_) => false,
+    }
 }
-
-const LAST_TIME: &[Asked] = &[Asked::At(959, &[40; 16])];
 
 // After the last release every node has closed forty intervals, and the last node knows all.
 #[test]
 fn a_long_run_has_times(rt: HostRuntime) {
-    holds(&rt, has_times_in_turn(rt.alloc(), 320, LAST_TIME));
-    holds(&rt, has_times_in_turn(rt.alloc(), 64, &[Asked::Agree]));
+    holds(
+        &rt,
+        has_times_in_turn(rt.alloc(), 320, Asked::At(959, &[40; 16])),
+    );
+    holds(&rt, has_times_in_turn(rt.alloc(), 64, Asked::Agree));
 }
 
-/// Whether a lock that is taken from its holder leaves a run of two nodes without times.
-fn has_no_times(alloc: Global) -> Result<bool, AllocError> {
-    let acts = run_of(alloc, &[(0, Deed::Acquire(3)), (1, Deed::Acquire(3))])?;
-    Ok(times(alloc, &acts, 2)?.is_none())
-}
+// A lock that is taken from its holder.
+const BROKEN: &[(u8, Deed)] = &[(0, Deed::Acquire(3)), (1, Deed::Acquire(3))];
 
 #[test]
 fn a_broken_run_has_no_times(rt: HostRuntime) {
-    holds(&rt, has_no_times(rt.alloc()));
+    holds(&rt, has_times_of(rt.alloc(), BROKEN, 2, None));
 }

@@ -42,17 +42,20 @@ fn of_two(entries: [u32; 2]) -> Time {
     time
 }
 
-/// Notes an access, if it may be noted. What is left out is missed by the test.
+/// Notes an access of a node in its trace, if it may be noted. What is left out is missed by the test.
 fn note(
-    trace: &mut Trace,
+    traces: &mut Vec<Trace>,
+    node: u8,
     epoch: u32,
     time: &Time,
     word: u32,
     is_write: bool,
 ) -> Result<(), AllocError> {
-    let node = trace.node();
-    if node < time.nodes() && word < MOST_WORDS {
-        let interval = time.at(node);
+    let Some(trace) = traces.get_mut(usize::from(node)) else {
+        return Ok(());
+    };
+    if trace.node() < time.nodes() && word < MOST_WORDS {
+        let interval = time.at(trace.node());
         if trace.may_note(epoch, interval, time) {
             trace.note(epoch, interval, time, word, is_write)?;
         }
@@ -60,52 +63,55 @@ fn note(
     Ok(())
 }
 
-fn note_each(trace: &mut Trace, accesses: &[Access]) -> Result<(), AllocError> {
+fn note_each(traces: &mut Vec<Trace>, node: u8, accesses: &[Access]) -> Result<(), AllocError> {
     for access in accesses {
-        match *access {
-            Access::Read(epoch, time, word) => note(trace, epoch, &of_two(time), word, false)?,
-            Access::Write(epoch, time, word) => note(trace, epoch, &of_two(time), word, true)?,
-        }
+        let (epoch, time, word, is_write) = match *access {
+            Access::Read(epoch, time, word) => (epoch, time, word, false),
+            Access::Write(epoch, time, word) => (epoch, time, word, true),
+        };
+        note(traces, node, epoch, &of_two(time), word, is_write)?;
     }
     Ok(())
 }
 
-/// A node's trace of these accesses.
-fn traced(alloc: Global, node: u8, size: Size, accesses: &[Access]) -> Result<Trace, AllocError> {
-    let mut trace = Trace::new(alloc, node, size);
-    note_each(&mut trace, accesses)?;
-    Ok(trace)
-}
-
-/// The traces of nodes, in this order.
-fn traces_in(
-    alloc: Global,
-    size: Size,
-    nodes: &[(u8, &[Access])],
-) -> Result<Vec<Trace>, AllocError> {
+/// Traces of the first so many nodes, with nothing in them.
+fn fresh(alloc: Global, nodes: u8, size: Size) -> Result<Vec<Trace>, AllocError> {
     let mut traces = Vec::new(alloc);
-    for (node, accesses) in nodes {
-        traces.push(traced(alloc, *node, size, accesses)?)?;
+    for node in 0..nodes {
+        traces.push(Trace::new(alloc, node, size))?;
     }
     Ok(traces)
 }
 
-fn is_found(alloc: Global, traces: &[Trace], case: &Case) -> Result<bool, AllocError> {
+/// The traces of the nodes 0 and 1.
+fn traced(alloc: Global, size: Size, case: &Case) -> Result<Vec<Trace>, AllocError> {
+    let mut traces = fresh(alloc, 2, size)?;
+    note_each(&mut traces, 0, case.first)?;
+    note_each(&mut traces, 1, case.second)?;
+    Ok(traces)
+}
+
+fn is_found(alloc: Global, traces: &[Trace], case: &Case) -> bool {
     if !are_traces_of(2, traces) || epochs_agree(traces) != case.agree {
-        return Ok(false);
+        return false;
     }
-    Ok(are_races(&races(alloc, traces)?, case.races.len(), case.races))
+    match races(alloc, traces) {
+        Ok(races) => are_races(&races, case.races.len(), case.races),
+        Err(_) => false,
+    }
 }
 
 /// Whether this is found in the traces of the nodes 0 and 1, in either order.
-fn is_found_in(alloc: Global, size: Size, case: &Case) -> Result<bool, AllocError> {
-    let rising = traces_in(alloc, size, &[(0, case.first), (1, case.second)])?;
-    let found = is_found(alloc, &rising, case)?;
-    let falling = traces_in(alloc, size, &[(1, case.second), (0, case.first)])?;
-    Ok(found && is_found(alloc, &falling, case)?)
+fn is_found_in(alloc: Global, size: Size, case: &Case) -> bool {
+    let Ok(mut traces) = traced(alloc, size, case) else {
+        return false;
+    };
+    let is_found_rising = is_found(alloc, &traces, case);
+    traces.reverse();
+    is_found_rising && is_found(alloc, &traces, case)
 }
 
-const ONE_EPOCH: Case = Case {
+const ONE_EPOCH: &Case = &Case {
     first: &[Access::Write(0, [1, 0], 0)],
     second: &[Access::Write(0, [0, 1], 0)],
     agree: true,
@@ -114,10 +120,10 @@ const ONE_EPOCH: Case = Case {
 
 #[test]
 fn writes_in_one_epoch_race(rt: HostRuntime) {
-    holds(&rt, is_found_in(rt.alloc(), Size::Words64, &ONE_EPOCH));
+    holds(&rt, is_found_in(rt.alloc(), Size::Words64, ONE_EPOCH));
 }
 
-const TWO_EPOCHS: Case = Case {
+const TWO_EPOCHS: &Case = &Case {
     first: &[Access::Write(0, [1, 0], 0)],
     second: &[Access::Write(1, [1, 2], 0)],
     agree: true,
@@ -126,10 +132,10 @@ const TWO_EPOCHS: Case = Case {
 
 #[test]
 fn writes_across_a_barrier_do_not_race(rt: HostRuntime) {
-    holds(&rt, is_found_in(rt.alloc(), Size::Words64, &TWO_EPOCHS));
+    holds(&rt, is_found_in(rt.alloc(), Size::Words64, TWO_EPOCHS));
 }
 
-const UNKNOWN_EPOCH: Case = Case {
+const UNKNOWN_EPOCH: &Case = &Case {
     first: &[Access::Write(0, [1, 0], 0)],
     second: &[Access::Write(1, [0, 2], 0)],
     agree: false,
@@ -138,10 +144,10 @@ const UNKNOWN_EPOCH: Case = Case {
 
 #[test]
 fn a_later_epoch_that_does_not_know_an_earlier_one_disagrees(rt: HostRuntime) {
-    holds(&rt, is_found_in(rt.alloc(), Size::Words64, &UNKNOWN_EPOCH));
+    holds(&rt, is_found_in(rt.alloc(), Size::Words64, UNKNOWN_EPOCH));
 }
 
-const READ_AND_WRITTEN: Case = Case {
+const READ_AND_WRITTEN: &Case = &Case {
     first: &[
         Access::Read(0, [1, 0], 3),
         Access::Read(0, [1, 0], 4),
@@ -161,12 +167,12 @@ const READ_AND_WRITTEN: Case = Case {
 fn reads_do_not_race_and_an_interval_races_once(rt: HostRuntime) {
     holds(
         &rt,
-        is_found_in(rt.alloc(), Size::Words64, &READ_AND_WRITTEN),
+        is_found_in(rt.alloc(), Size::Words64, READ_AND_WRITTEN),
     );
 }
 
 // The time of the first node's second interval lacks what that of its first one has.
-const FALLING_TIMES: Case = Case {
+const FALLING_TIMES: &Case = &Case {
     first: &[
         Access::Write(0, [1, 5], 0),
         Access::Write(0, [2, 0], 0),
@@ -188,10 +194,10 @@ const FALLING_TIMES: Case = Case {
 
 #[test]
 fn times_need_not_rise(rt: HostRuntime) {
-    holds(&rt, is_found_in(rt.alloc(), Size::Words64, &FALLING_TIMES));
+    holds(&rt, is_found_in(rt.alloc(), Size::Words64, FALLING_TIMES));
 }
 
-const LARGE_PAGES: Case = Case {
+const LARGE_PAGES: &Case = &Case {
     first: &[
         Access::Write(0, [1, 0], 255),
         Access::Read(0, [1, 0], 511),
@@ -215,8 +221,8 @@ const LARGE_PAGES: Case = Case {
 
 #[test]
 fn the_words_of_large_pages_are_told_apart(rt: HostRuntime) {
-    holds(&rt, is_found_in(rt.alloc(), Size::Words256, &LARGE_PAGES));
-    holds(&rt, is_found_in(rt.alloc(), Size::Words64, &LARGE_PAGES));
+    holds(&rt, is_found_in(rt.alloc(), Size::Words256, LARGE_PAGES));
+    holds(&rt, is_found_in(rt.alloc(), Size::Words64, LARGE_PAGES));
 }
 
 /// Where the nodes of a run stand: how many intervals and epochs each has had.
@@ -225,6 +231,11 @@ struct Counts {
     intervals: [u32; 16],
     epochs: [u32; 16],
 }
+
+const START: Counts = Counts {
+    intervals: [1; 16],
+    epochs: [0; 16],
+};
 
 impl Counts {
     /// Takes an act in.
@@ -249,19 +260,17 @@ fn note_act(
     act: Act,
     time: &Time,
 ) -> Result<(), AllocError> {
-    let node = usize::from(act.node % 16);
     let (word, is_write) = match act.deed {
         Deed::Read(word, _) => (word, false),
         Deed::Write(word, _) => (word, true),
         _ => return Ok(()),
     };
-    if node >= traces.len() {
-        return Ok(());
-    }
+    let node = usize::from(act.node % 16);
     let mut stamp = time.copy();
     raise(&mut stamp, act.node, counts.intervals[node]);
     note(
-        &mut traces[node],
+        traces,
+        act.node,
         counts.epochs[node],
         &stamp,
         word,
@@ -270,10 +279,7 @@ fn note_act(
 }
 
 fn note_run(traces: &mut Vec<Trace>, acts: &[Act], times: &[Time]) -> Result<(), AllocError> {
-    let mut counts = Counts {
-        intervals: [1; 16],
-        epochs: [0; 16],
-    };
+    let mut counts = START;
     for (act, time) in acts.iter().zip(times) {
         note_act(traces, &counts, *act, time)?;
         counts.take(*act);
@@ -288,46 +294,49 @@ fn traces_of(
     times: &[Time],
     nodes: u8,
 ) -> Result<Vec<Trace>, AllocError> {
-    let mut traces = Vec::new(alloc);
-    for node in 0..nodes {
-        traces.push(Trace::new(alloc, node, Size::Words64))?;
-    }
+    let mut traces = fresh(alloc, nodes, Size::Words64)?;
     note_run(&mut traces, acts, times)?;
     Ok(traces)
 }
 
-/// Whether the judge names these races, and the first race is there if one of them is.
-fn are_judged(alloc: Global, acts: &[Act], races: &[Race]) -> Result<bool, AllocError> {
+/// Whether the judge names these races, and there is a first one if there is one.
+fn are_judged(alloc: Global, acts: &[Act], races: &[Race]) -> bool {
     if !are_in_range(acts) {
-        return Ok(false);
+        return false;
     }
-    let is_free = first_race(alloc, acts)?.is_none();
-    Ok(named_races(alloc, acts)?.as_slice() == races && is_free == races.is_empty())
+    let Ok(first) = first_race(alloc, acts) else {
+        return false;
+    };
+    match named_races(alloc, acts) {
+        Ok(named) => named.as_slice() == races && first.is_none() == races.is_empty(),
+        Err(_) => false,
+    }
 }
 
 /// How many races the traces of a run name, if the detector, the judge and the first race agree on it.
-fn agreed_on(
-    alloc: Global,
-    acts: &[Act],
-    traces: &[Trace],
-    nodes: u8,
-) -> Result<Option<usize>, AllocError> {
+fn agreed_on(alloc: Global, acts: &[Act], traces: &[Trace], nodes: u8) -> Option<usize> {
     if !are_traces_of(nodes, traces) || !epochs_agree(traces) {
-        return Ok(None);
+        return None;
     }
-    let races = races(alloc, traces)?;
-    Ok(if are_judged(alloc, acts, &races)? {
-        Some(races.len())
-    } else {
-        None
-    })
+    match races(alloc, traces) {
+        Ok(races) if are_judged(alloc, acts, &races) => Some(races.len()),
+        _ => None,
+    }
+}
+
+/// The same of a run with these times.
+fn agreed_at(alloc: Global, acts: &[Act], times: &[Time], nodes: u8) -> Option<usize> {
+    match traces_of(alloc, acts, times, nodes) {
+        Ok(traces) => agreed_on(alloc, acts, &traces, nodes),
+        Err(_) => None,
+    }
 }
 
 /// The same of a run of so many nodes, where it is one.
-fn agreed(alloc: Global, acts: &[Act], nodes: u8) -> Result<Option<usize>, AllocError> {
-    match times(alloc, acts, nodes)? {
-        Some(times) => agreed_on(alloc, acts, &traces_of(alloc, acts, &times, nodes)?, nodes),
-        None => Ok(None),
+fn agreed(alloc: Global, acts: &[Act], nodes: u8) -> Option<usize> {
+    match times(alloc, acts, nodes) {
+        Ok(Some(times)) => agreed_at(alloc, acts, &times, nodes),
+        _ => None,
     }
 }
 
@@ -416,33 +425,40 @@ fn chosen_run(
     Ok(acts)
 }
 
+/// How many races a chosen run names, if all agree on it, and whether it has more than so many acts.
+fn agreed_in_run(
+    alloc: Global,
+    first: u64,
+    nodes: u8,
+    in_turn: bool,
+    steps: u32,
+    more_than: usize,
+) -> Option<usize> {
+    match chosen_run(alloc, first, nodes, in_turn, steps) {
+        Ok(acts) if acts.len() > more_than => agreed(alloc, &acts, nodes),
+        _ => None,
+    }
+}
+
 /// How many races the chosen runs name in all, if all agree on each.
-fn agreed_in_all(alloc: Global, in_turn: bool) -> Result<Option<usize>, AllocError> {
+fn agreed_in_all(alloc: Global, in_turn: bool) -> Option<usize> {
     let mut sum: usize = 0;
     for first in 0..20u64 {
         let nodes = (first % 4) as u8 + 2;
-        let acts = chosen_run(alloc, first, nodes, in_turn, 120)?;
-        match agreed(alloc, &acts, nodes)? {
-            Some(found) => sum = sum.saturating_add(found),
-            None => return Ok(None),
-        }
+        let found = agreed_in_run(alloc, first, nodes, in_turn, 120, 0)?;
+        sum = sum.saturating_add(found);
     }
-    Ok(Some(sum))
+    Some(sum)
 }
 
-fn chosen_runs_agree(alloc: Global) -> Result<bool, AllocError> {
-    let at_will = agreed_in_all(alloc, false)?;
-    Ok(at_will.unwrap_or(0) > 100 && agreed_in_all(alloc, true)? == Some(0))
-}
-
-/// The same for a run of sixteen nodes with hundreds of acts.
-fn a_long_run_agrees(alloc: Global) -> Result<bool, AllocError> {
-    let acts = chosen_run(alloc, 3, 16, false, 400)?;
-    Ok(acts.len() > 600 && agreed(alloc, &acts, 16)?.unwrap_or(0) > 100)
-}
-
+// The runs of twenty first numbers, at will and in turn, and one of sixteen nodes with hundreds of acts.
 #[test]
 fn the_detector_and_the_judge_agree_on_chosen_runs(rt: HostRuntime) {
-    holds(&rt, chosen_runs_agree(rt.alloc()));
-    holds(&rt, a_long_run_agrees(rt.alloc()));
+    let at_will = agreed_in_all(rt.alloc(), false);
+    let in_turn = agreed_in_all(rt.alloc(), true);
+    let long = agreed_in_run(rt.alloc(), 3, 16, false, 400, 600);
+    holds(
+        &rt,
+        at_will > Some(100) && in_turn == Some(0) && long > Some(100),
+    );
 }

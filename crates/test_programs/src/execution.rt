@@ -31,34 +31,34 @@ fn program_of(alloc: Global, text: &[u8]) -> Result<Program, AllocError> {
     }
 }
 
-/// The next thing that a thread asks for, which it then gets, with this value.
-fn asks(machine: &mut Machine<'_>, value: u64) -> Ask {
-    let ask = machine.ask();
-    if !matches!(ask, Ask::Trap(_) | Ask::End) {
-        machine.answer(value);
-    }
-    ask
-}
-
-/// Whether a thread asks for these, one after another, where it gets these values.
+/// Whether a thread asks for these, one after another, and gets these values.
 fn asks_each(machine: &mut Machine<'_>, wanted: &[(Ask, u64)]) -> bool {
-    for (ask, value) in wanted {
-        if asks(machine, *value) != *ask {
+    for (asked, value) in wanted {
+        let ask = machine.ask();
+        if ask != *asked {
             return false;
+        }
+        if !matches!(ask, Ask::Trap(_) | Ask::End) {
+            machine.answer(*value);
         }
     }
     true
 }
 
-fn asks_alone(alloc: Global, program: &Program, wanted: &[(Ask, u64)]) -> Result<bool, AllocError> {
-    let code = Code::new(alloc, program)?;
+fn asks_alone(alloc: Global, program: &Program, wanted: &[(Ask, u64)]) -> bool {
+    let Ok(code) = Code::new(alloc, program) else {
+        return false;
+    };
     let mut machine = Machine::new(&code, 0, 1);
-    Ok(asks_each(&mut machine, wanted))
+    asks_each(&mut machine, wanted)
 }
 
 /// Whether the thread of a text on one node asks for these.
-fn asks_in(alloc: Global, text: &[u8], wanted: &[(Ask, u64)]) -> Result<bool, AllocError> {
-    asks_alone(alloc, &program_of(alloc, text)?, wanted)
+fn asks_in(alloc: Global, text: &[u8], wanted: &[(Ask, u64)]) -> bool {
+    match parse(alloc, text) {
+        Ok(program) => asks_alone(alloc, &program, wanted),
+        Err(_) => false,
+    }
 }
 
 const ASKED: &[(Ask, u64)] = &[
@@ -76,31 +76,37 @@ fn a_thread_asks_step_by_step(rt: HostRuntime) {
 /// An order of two nodes, and the acts that it leads to, if it may be.
 type Led<'a> = (&'a [usize], Option<&'a [(u8, Deed)]>);
 
-fn are_acts(alloc: Global, acts: &[Act], wanted: &[(u8, Deed)]) -> Result<bool, AllocError> {
-    Ok(acts == run_of(alloc, wanted)?.as_slice())
-}
-
-fn leads_to(alloc: Global, program: &Program, led: Led) -> Result<bool, AllocError> {
-    let (order, wanted) = led;
-    match (plain_run(alloc, program, 2, order)?, wanted) {
-        (Some(acts), Some(wanted)) => are_acts(alloc, &acts, wanted),
-        (None, None) => Ok(true),
-        _ => Ok(false),
+fn are_acts(alloc: Global, acts: &[Act], wanted: &[(u8, Deed)]) -> bool {
+    match run_of(alloc, wanted) {
+        Ok(run) => acts == run.as_slice(),
+        Err(_) => false,
     }
 }
 
-fn leads_to_each(alloc: Global, program: &Program, rows: &[Led]) -> Result<bool, AllocError> {
+fn leads_to(alloc: Global, program: &Program, led: Led) -> bool {
+    let (order, wanted) = led;
+    match (plain_run(alloc, program, 2, order), wanted) {
+        (Ok(Some(acts)), Some(wanted)) => are_acts(alloc, &acts, wanted),
+        (Ok(None), None) => true,
+        _ => false,
+    }
+}
+
+fn leads_to_each(alloc: Global, program: &Program, rows: &[Led]) -> bool {
     for led in rows {
-        if !leads_to(alloc, program, *led)? {
-            return Ok(false);
+        if !leads_to(alloc, program, *led) {
+            return false;
         }
     }
-    Ok(true)
+    true
 }
 
 /// Whether the text, led by each of these orders on two nodes, makes these acts, or none.
-fn is_led(alloc: Global, text: &[u8], rows: &[Led]) -> Result<bool, AllocError> {
-    leads_to_each(alloc, &program_of(alloc, text)?, rows)
+fn is_led(alloc: Global, text: &[u8], rows: &[Led]) -> bool {
+    match parse(alloc, text) {
+        Ok(program) => leads_to_each(alloc, &program, rows),
+        Err(_) => false,
+    }
 }
 
 const ORDERS: &[Led] = &[
@@ -158,9 +164,11 @@ fn all_print(acts: &[Act], value: u64) -> bool {
 }
 
 /// Whether each of sixteen nodes adds one to a counter, and reads it behind a barrier.
-fn counts_to_sixteen(alloc: Global) -> Result<bool, AllocError> {
-    let acts = rounds_of(alloc, COUNTER, 16, 1_000_000)?;
-    Ok(all_print(&acts, 16))
+fn counts_to_sixteen(alloc: Global) -> bool {
+    match rounds_of(alloc, COUNTER, 16, 1_000_000) {
+        Ok(acts) => all_print(&acts, 16),
+        Err(_) => false,
+    }
 }
 
 #[test]
@@ -180,29 +188,52 @@ fn nodes_of(alloc: Global, acts: &[Act]) -> Result<Vec<usize>, AllocError> {
     Ok(order)
 }
 
+fn is_led_back(alloc: Global, program: &Program, order: &[usize], acts: &[Act]) -> bool {
+    match plain_run(alloc, program, 16, order) {
+        Ok(Some(led)) => led.as_slice() == acts,
+        _ => false,
+    }
+}
+
 /// Whether the nodes of these acts lead the plain machine to the same acts.
-fn leads_back(alloc: Global, acts: &[Act]) -> Result<bool, AllocError> {
-    let order = nodes_of(alloc, acts)?;
-    let program = program_of(alloc, HUNDRED_TURNS)?;
-    Ok(plain_run(alloc, &program, 16, &order)?.as_deref() == Some(acts))
+fn leads_back(alloc: Global, program: &Program, acts: &[Act]) -> bool {
+    match nodes_of(alloc, acts) {
+        Ok(order) => is_led_back(alloc, program, &order, acts),
+        Err(_) => false,
+    }
 }
 
 /// Whether sixteen nodes, each with a hundred turns, make so many acts in rounds, each prints the number of all turns, and the
 /// nodes of the acts lead the plain machine to the same acts.
-fn is_led_by_rounds(alloc: Global, count: usize) -> Result<bool, AllocError> {
-    let acts = rounds_of(alloc, HUNDRED_TURNS, 16, 1_000_000)?;
-    Ok(acts.len() == count && all_print(&acts, 1_600) && leads_back(alloc, &acts)?)
+fn is_led_by_rounds(alloc: Global, program: &Program, count: usize) -> bool {
+    match plain_rounds(alloc, program, 16, 1_000_000) {
+        Ok(acts) => {
+            acts.len() == count && all_print(&acts, 1_600) && leads_back(alloc, program, &acts)
+        }
+        Err(_) => false,
+    }
+}
+
+fn hundred_turns(alloc: Global, count: usize) -> bool {
+    match parse(alloc, HUNDRED_TURNS) {
+        Ok(program) => is_led_by_rounds(alloc, &program, count),
+        Err(_) => false,
+    }
 }
 
 #[test]
 fn a_long_order_leads_the_plain_machine(rt: HostRuntime) {
     // 101 conditions, 100 times five statements, then Arrive, Depart, Read, Print and End
-    holds(&rt, is_led_by_rounds(rt.alloc(), 16 * 606));
+    holds(&rt, hundred_turns(rt.alloc(), 16 * 606));
 }
 
-fn contains_each(acts: &[Act], wanted: &[Act]) -> bool {
-    for act in wanted {
-        if !acts.contains(act) {
+fn contains_each(acts: &[Act], wanted: &[(u8, Deed)]) -> bool {
+    for (node, deed) in wanted {
+        let act = Act {
+            node: *node,
+            deed: *deed,
+        };
+        if !acts.contains(&act) {
             return false;
         }
     }
@@ -210,9 +241,11 @@ fn contains_each(acts: &[Act], wanted: &[Act]) -> bool {
 }
 
 /// Whether these acts are among those of the traps.
-fn traps(alloc: Global, wanted: &[(u8, Deed)]) -> Result<bool, AllocError> {
-    let acts = rounds_of(alloc, TRAPS, 6, 1_000_000)?;
-    Ok(contains_each(&acts, &run_of(alloc, wanted)?))
+fn traps(alloc: Global, wanted: &[(u8, Deed)]) -> bool {
+    match rounds_of(alloc, TRAPS, 6, 1_000_000) {
+        Ok(acts) => contains_each(&acts, wanted),
+        Err(_) => false,
+    }
 }
 
 const TRAPPED: &[(u8, Deed)] = &[
@@ -231,16 +264,14 @@ fn each_trap_has_its_cause(rt: HostRuntime) {
 }
 
 /// Whether the text on one node, with so many steps, makes these acts in rounds.
-fn makes_alone(
-    alloc: Global,
-    text: &[u8],
-    steps: u32,
-    wanted: &[(u8, Deed)],
-) -> Result<bool, AllocError>
+fn makes_alone(alloc: Global, text: &[u8], steps: u32, wanted: &[(u8, Deed)]) -> bool
     requires some_steps { 1 ≤ steps }
     requires few_steps { steps ≤ 1000000 }
 {
-    are_acts(alloc, &rounds_of(alloc, text, 1, steps)?, wanted)
+    match rounds_of(alloc, text, 1, steps) {
+        Ok(acts) => are_acts(alloc, &acts, wanted),
+        Err(_) => false,
+    }
 }
 
 const ARITHMETIC: &[u8] = b"words 1; locks 0; print 0 - 1; print 7 / 2 * 2 + 7 % 2 == 7;

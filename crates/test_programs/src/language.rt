@@ -190,7 +190,7 @@ const EXPRESSIONS: &[Tree] = &[
 
 #[test]
 fn expressions_have_their_trees(rt: HostRuntime) {
-    holds(&rt, Ok(are_trees(rt.alloc(), (1, 0), EXPRESSIONS)));
+    holds(&rt, are_trees(rt.alloc(), (1, 0), EXPRESSIONS));
 }
 
 const STATEMENTS: &[Tree] = &[(
@@ -205,7 +205,7 @@ const STATEMENTS: &[Tree] = &[(
 
 #[test]
 fn statements_have_their_trees(rt: HostRuntime) {
-    holds(&rt, Ok(are_trees(rt.alloc(), (65_536, 64), STATEMENTS)));
+    holds(&rt, are_trees(rt.alloc(), (65_536, 64), STATEMENTS));
 }
 
 /// The line and the kind of a text's fault, if it has one.
@@ -265,13 +265,13 @@ const FAULTS: &[(&[u8], u32, FaultKind)] = &[
 
 #[test]
 fn faults_have_their_kind_and_line(rt: HostRuntime) {
-    holds(&rt, Ok(have_faults(rt.alloc(), FAULTS)));
+    holds(&rt, have_faults(rt.alloc(), FAULTS));
 }
 
 const OPEN: &[u8] = b"words 1; locks 0;\n";
 
-/// A text that has a front, so many times what opens, a middle, and so many times what closes; and its fault.
-type Large<'a> = ([&'a [u8]; 4], usize, Fault);
+/// A text of parts, each so many times, and its fault.
+type Large<'a> = (&'a [(&'a [u8], usize)], Fault);
 
 fn put_copies(text: &mut Vec<u8>, part: &[u8], count: usize) -> Result<(), AllocError> {
     for _copy in 0..count {
@@ -280,37 +280,52 @@ fn put_copies(text: &mut Vec<u8>, part: &[u8], count: usize) -> Result<(), Alloc
     Ok(())
 }
 
-fn put_parts(text: &mut Vec<u8>, parts: &[&[u8]; 4], count: usize) -> Result<(), AllocError> {
-    text.extend_from_slice(parts[0])?;
-    put_copies(text, parts[1], count)?;
-    text.extend_from_slice(parts[2])?;
-    put_copies(text, parts[3], count)
+fn put_parts(text: &mut Vec<u8>, parts: &[(&[u8], usize)]) -> Result<(), AllocError> {
+    for (part, count) in parts {
+        put_copies(text, part, *count)?;
+    }
+    Ok(())
 }
 
-fn has_large_fault(alloc: Global, large: &Large) -> Result<bool, AllocError> {
-    let (parts, count, fault) = large;
+fn has_large_fault(alloc: Global, large: &Large) -> bool {
+    let (parts, fault) = large;
     let mut text = Vec::new(alloc);
-    put_parts(&mut text, parts, *count)?;
-    Ok(has_fault(alloc, &text, *fault))
+    put_parts(&mut text, parts).is_ok() && has_fault(alloc, &text, *fault)
 }
 
-fn have_large_faults(alloc: Global, rows: &[Large]) -> Result<bool, AllocError> {
+fn have_large_faults(alloc: Global, rows: &[Large]) -> bool {
     for large in rows {
-        if !has_large_fault(alloc, large)? {
-            return Ok(false);
+        if !has_large_fault(alloc, large) {
+            return false;
         }
     }
-    Ok(true)
+    true
 }
 
 const TOO_DEEP: Fault = Some((2, FaultKind::TooDeep));
 
 const NESTED: &[Large] = &[
-    ([OPEN, b"if 1 {", b"", b"}"], 32, None),
-    ([OPEN, b"if 1 {", b"", b"}"], 33, TOO_DEEP),
-    ([OPEN, b"while 1 {", b"print (1);", b"}"], 31, None),
-    ([OPEN, b"while 1 {", b"print (1);", b"}"], 32, TOO_DEEP),
-    ([b"words 1; locks 0;\nx = ", b"(", b"", b""], 33, TOO_DEEP),
+    (&[(OPEN, 1), (b"if 1 {", 32), (b"}", 32)], None),
+    (&[(OPEN, 1), (b"if 1 {", 33), (b"}", 33)], TOO_DEEP),
+    (
+        &[
+            (OPEN, 1),
+            (b"while 1 {", 31),
+            (b"print (1);", 1),
+            (b"}", 31),
+        ],
+        None,
+    ),
+    (
+        &[
+            (OPEN, 1),
+            (b"while 1 {", 32),
+            (b"print (1);", 1),
+            (b"}", 32),
+        ],
+        TOO_DEEP,
+    ),
+    (&[(b"words 1; locks 0;\nx = ", 1), (b"(", 33)], TOO_DEEP),
 ];
 
 #[test]
@@ -320,14 +335,12 @@ fn thirty_two_may_be_open(rt: HostRuntime) {
 
 const PRINT: &[u8] = b"words 1; locks 0;\nprint 0";
 
+const OVER_LIMIT: Fault = Some((2, FaultKind::OverLimit));
+
 const OPERATORS: &[Large] = &[
-    ([PRINT, b" + (1 * 2)", b";", b""], 128, None),
-    (
-        [PRINT, b" + 1", b";", b""],
-        257,
-        Some((2, FaultKind::OverLimit)),
-    ),
-    ([OPEN, b"[1 + 1] = 2 + 2;", b"", b""], 129, None),
+    (&[(PRINT, 1), (b" + (1 * 2)", 128), (b";", 1)], None),
+    (&[(PRINT, 1), (b" + 1", 257), (b";", 1)], OVER_LIMIT),
+    (&[(OPEN, 1), (b"[1 + 1] = 2 + 2;", 129)], None),
 ];
 
 #[test]
@@ -346,20 +359,20 @@ fn put_names(text: &mut Vec<u8>, count: usize) -> Result<(), AllocError> {
 }
 
 /// Whether this is the fault of a text with so many different names.
-fn has_fault_of_names(alloc: Global, count: usize, fault: Fault) -> Result<bool, AllocError> {
+fn has_fault_of_names(alloc: Global, count: usize, fault: Fault) -> bool {
     let mut text = Vec::new(alloc);
-    put_names(&mut text, count)?;
-    Ok(has_fault(alloc, &text, fault))
+    put_names(&mut text, count).is_ok() && has_fault(alloc, &text, fault)
 }
 
 const TOO_MANY_NAMES: Fault = Some((2, FaultKind::TooManyNames));
 
+const TOO_LONG: Fault = Some((1, FaultKind::TooLong));
+
 const LONG: &[Large] = &[
-    ([b"words 1;locks 0;", b"a=1;", b"", b""], 16_380, None),
+    (&[(b"words 1;locks 0;", 1), (b"a=1;", 16_380)], None),
     (
-        [b"words 1;locks 0;", b"a=1;", b"\n", b""],
-        16_380,
-        Some((1, FaultKind::TooLong)),
+        &[(b"words 1;locks 0;", 1), (b"a=1;", 16_380), (b"\n", 1)],
+        TOO_LONG,
     ),
 ];
 

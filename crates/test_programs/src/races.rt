@@ -8,17 +8,16 @@ use lrc_trace::act::{Act, Deed};
 use std::alloc::{AllocError, Global};
 
 /// Whether the first race of the acts is at this position, and none where there is none.
-fn is_first(alloc: Global, acts: &[Act], first: Option<usize>) -> Result<bool, AllocError> {
-    Ok(are_in_range(acts) && first_race(alloc, acts)? == first)
+fn is_first(alloc: Global, acts: &[Act], first: Option<usize>) -> bool {
+    are_in_range(acts) && first_race(alloc, acts) == Ok(first)
 }
 
 /// The same of the run in which these nodes do this.
-fn is_first_of(
-    alloc: Global,
-    deeds: &[(u8, Deed)],
-    first: Option<usize>,
-) -> Result<bool, AllocError> {
-    is_first(alloc, &run_of(alloc, deeds)?, first)
+fn is_first_of(alloc: Global, deeds: &[(u8, Deed)], first: Option<usize>) -> bool {
+    match run_of(alloc, deeds) {
+        Ok(acts) => is_first(alloc, &acts, first),
+        Err(_) => false,
+    }
 }
 
 const UNORDERED: &[(u8, Deed)] = &[
@@ -65,8 +64,11 @@ fn turns(alloc: Global) -> Result<Vec<Act>, AllocError> {
     Ok(acts)
 }
 
-fn the_last_is_found(alloc: Global) -> Result<bool, AllocError> {
-    is_first(alloc, &turns(alloc)?, Some(2_000))
+fn the_last_is_found(alloc: Global) -> bool {
+    match turns(alloc) {
+        Ok(acts) => is_first(alloc, &acts, Some(2_000)),
+        Err(_) => false,
+    }
 }
 
 #[test]

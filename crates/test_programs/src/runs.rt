@@ -23,50 +23,51 @@ enum Asked<'a> {
     Before(usize, usize, bool),
 }
 
-/// A run and what the judge is asked of it.
-type Row<'a> = (&'a [(u8, Deed)], &'a [Asked<'a>]);
-
-fn answers(alloc: Global, acts: &[Act], asked: Asked) -> Result<bool, AllocError> {
+fn answers(alloc: Global, acts: &[Act], asked: Asked) -> bool {
     if !are_in_range(acts) {
-        return Ok(false);
+        return false;
     }
     match asked {
-        Asked::Races(count, first) => Ok(are_races(&named_races(alloc, acts)?, count, first)),
-        Asked::Misread(fault) => Ok(first_fault_of_reading(alloc, acts)? == fault),
+        Asked::Races(count, first) => match named_races(alloc, acts) {
+            Ok(races) => are_races(&races, count, first),
+            Err(_) => false,
+        },
+        Asked::Misread(fault) => first_fault_of_reading(alloc, acts) == Ok(fault),
         Asked::Broken(nodes, fault) => {
-            Ok(nodes <= 16 && first_fault_of_synchronization(acts, nodes) == fault)
+            nodes <= 16 && first_fault_of_synchronization(acts, nodes) == fault
         }
-        Asked::Before(earlier, later, is_so) => {
-            Ok(happens_before(alloc, acts)?.is_before(earlier, later) == is_so)
-        }
+        Asked::Before(earlier, later, is_so) => match happens_before(alloc, acts) {
+            Ok(order) => order.is_before(earlier, later) == is_so,
+            Err(_) => false,
+        },
     }
 }
 
-fn answers_each(alloc: Global, acts: &[Act], asked: &[Asked]) -> Result<bool, AllocError> {
+fn answers_each(alloc: Global, acts: &[Act], asked: &[Asked]) -> bool {
     for one in asked {
-        if !answers(alloc, acts, *one)? {
-            return Ok(false);
+        if !answers(alloc, acts, *one) {
+            return false;
         }
     }
-    Ok(true)
+    true
 }
 
-fn answers_of(alloc: Global, deeds: &[(u8, Deed)], asked: &[Asked]) -> Result<bool, AllocError> {
-    answers_each(alloc, &run_of(alloc, deeds)?, asked)
+/// The nodes of a run and what each does, and what the judge is asked of it.
+struct Row<'a> {
+    deeds: &'a [(u8, Deed)],
+    asked: &'a [Asked<'a>],
 }
 
-fn answers_rows(alloc: Global, rows: &[Row]) -> Result<bool, AllocError> {
-    for (deeds, asked) in rows {
-        if !answers_of(alloc, deeds, asked)? {
-            return Ok(false);
-        }
+fn answers_row(alloc: Global, row: &Row) -> bool {
+    match run_of(alloc, row.deeds) {
+        Ok(acts) => answers_each(alloc, &acts, row.asked),
+        Err(_) => false,
     }
-    Ok(true)
 }
 
 // Node 0 writes a word that node 1 reads.
-const RACING: &[Row] = &[(
-    &[
+const RACING: &Row = &Row {
+    deeds: &[
         (0, Deed::Quiet),
         (1, Deed::Quiet),
         (0, Deed::Write(0, 5)),
@@ -75,21 +76,21 @@ const RACING: &[Row] = &[(
         (1, Deed::Print(0)),
         (1, Deed::End),
     ],
-    &[
+    asked: &[
         Asked::Races(1, &[(0, [0, 1], [1, 1])]),
         Asked::Misread(None),
         Asked::Broken(2, None),
     ],
-)];
+};
 
 #[test]
 fn a_racing_pair(rt: HostRuntime) {
-    holds(&rt, answers_rows(rt.alloc(), RACING));
+    holds(&rt, answers_row(rt.alloc(), RACING));
 }
 
 // Node 0 writes one word under a lock and another after it, and node 1 reads both under the lock.
-const HALF_LOCKED: &[Row] = &[(
-    &[
+const HALF_LOCKED: &Row = &Row {
+    deeds: &[
         (0, Deed::Quiet),
         (0, Deed::Acquire(0)),
         (0, Deed::Write(0, 1)),
@@ -105,7 +106,7 @@ const HALF_LOCKED: &[Row] = &[(
         (1, Deed::End),
         (0, Deed::End),
     ],
-    &[
+    asked: &[
         Asked::Races(1, &[(1, [0, 1], [3, 2])]),
         Asked::Misread(None),
         Asked::Broken(2, None),
@@ -113,16 +114,16 @@ const HALF_LOCKED: &[Row] = &[(
         Asked::Before(4, 8, false),
         Asked::Before(7, 2, false),
     ],
-)];
+};
 
 #[test]
 fn one_word_races_and_one_does_not(rt: HostRuntime) {
-    holds(&rt, answers_rows(rt.alloc(), HALF_LOCKED));
+    holds(&rt, answers_row(rt.alloc(), HALF_LOCKED));
 }
 
 // Three nodes write one word twice, in no order.
-const UNORDERED: &[Row] = &[(
-    &[
+const UNORDERED: &Row = &Row {
+    deeds: &[
         (0, Deed::Write(0, 0)),
         (1, Deed::Write(0, 1)),
         (2, Deed::Write(0, 2)),
@@ -133,7 +134,7 @@ const UNORDERED: &[Row] = &[(
         (1, Deed::End),
         (2, Deed::End),
     ],
-    &[
+    asked: &[
         Asked::Races(
             3,
             &[
@@ -145,16 +146,16 @@ const UNORDERED: &[Row] = &[(
         Asked::Misread(None),
         Asked::Broken(3, None),
     ],
-)];
+};
 
 #[test]
 fn three_unordered_writers(rt: HostRuntime) {
-    holds(&rt, answers_rows(rt.alloc(), UNORDERED));
+    holds(&rt, answers_row(rt.alloc(), UNORDERED));
 }
 
 // Node 0 hands one lock to node 1, and node 1 another to node 2.
-const HANDED_ON: &[Row] = &[(
-    &[
+const HANDED_ON: &Row = &Row {
+    deeds: &[
         (0, Deed::Acquire(0)),
         (0, Deed::Write(0, 3)),
         (0, Deed::Release(0)),
@@ -170,22 +171,22 @@ const HANDED_ON: &[Row] = &[(
         (2, Deed::Print(3)),
         (2, Deed::End),
     ],
-    &[
+    asked: &[
         Asked::Races(0, &[]),
         Asked::Misread(None),
         Asked::Broken(3, None),
         Asked::Before(1, 10, true),
     ],
-)];
+};
 
 #[test]
 fn ordered_through_a_third_node(rt: HostRuntime) {
-    holds(&rt, answers_rows(rt.alloc(), HANDED_ON));
+    holds(&rt, answers_row(rt.alloc(), HANDED_ON));
 }
 
 // Node 0 writes a word, and after a barrier all three nodes read it. A fourth node has not arrived.
-const MET: &[Row] = &[(
-    &[
+const MET: &Row = &Row {
+    deeds: &[
         (0, Deed::Write(0, 7)),
         (1, Deed::Arrive),
         (2, Deed::Arrive),
@@ -197,102 +198,101 @@ const MET: &[Row] = &[(
         (1, Deed::Read(0, 7)),
         (2, Deed::Read(0, 7)),
     ],
-    &[
+    asked: &[
         Asked::Races(0, &[]),
         Asked::Misread(None),
         Asked::Broken(3, None),
         Asked::Broken(4, Some(4)),
     ],
-)];
+};
 
 #[test]
 fn a_barrier_orders_all(rt: HostRuntime) {
-    holds(&rt, answers_rows(rt.alloc(), MET));
+    holds(&rt, answers_row(rt.alloc(), MET));
 }
 
-// A value that no write before it wrote, and one that a later write of the same node replaced.
-const MISREAD: &[Row] = &[
-    (
-        &[
-            (0, Deed::Write(0, 5)),
-            (0, Deed::Read(0, 5)),
-            (1, Deed::Read(0, 5)),
-        ],
-        &[Asked::Misread(Some(2))],
-    ),
-    (
-        &[
-            (0, Deed::Write(0, 5)),
-            (0, Deed::Write(0, 6)),
-            (0, Deed::Read(1, 0)),
-            (0, Deed::Read(0, 5)),
-        ],
-        &[Asked::Misread(Some(3))],
-    ),
-];
+// A value that no write before it wrote,
+const NEVER_WRITTEN: &Row = &Row {
+    deeds: &[
+        (0, Deed::Write(0, 5)),
+        (0, Deed::Read(0, 5)),
+        (1, Deed::Read(0, 5)),
+    ],
+    asked: &[Asked::Misread(Some(2))],
+};
+
+// and one that a later write of the same node replaced.
+const REPLACED: &Row = &Row {
+    deeds: &[
+        (0, Deed::Write(0, 5)),
+        (0, Deed::Write(0, 6)),
+        (0, Deed::Read(1, 0)),
+        (0, Deed::Read(0, 5)),
+    ],
+    asked: &[Asked::Misread(Some(3))],
+};
 
 #[test]
 fn faults_of_reading(rt: HostRuntime) {
-    holds(&rt, answers_rows(rt.alloc(), MISREAD));
+    holds(&rt, answers_row(rt.alloc(), NEVER_WRITTEN));
+    holds(&rt, answers_row(rt.alloc(), REPLACED));
 }
 
-// A lock taken from its holder, one released by a node that does not hold it, and a depart before an arrive.
-const BROKEN: &[Row] = &[
-    (
-        &[(0, Deed::Acquire(3)), (1, Deed::Acquire(3))],
-        &[Asked::Broken(2, Some(1))],
-    ),
-    (
-        &[(0, Deed::Acquire(3)), (1, Deed::Release(3))],
-        &[Asked::Broken(2, Some(1))],
-    ),
-    (
-        &[
-            (0, Deed::Arrive),
-            (1, Deed::Arrive),
-            (0, Deed::Depart),
-            (0, Deed::Depart),
-        ],
-        &[Asked::Broken(2, Some(3))],
-    ),
-];
+// A lock taken from its holder, one released by a node that does not hold it,
+const HELD: &Row = &Row {
+    deeds: &[(0, Deed::Acquire(3)), (1, Deed::Acquire(3))],
+    asked: &[Asked::Broken(2, Some(1))],
+};
+
+const NOT_HELD: &Row = &Row {
+    deeds: &[(0, Deed::Acquire(3)), (1, Deed::Release(3))],
+    asked: &[Asked::Broken(2, Some(1))],
+};
+
+// and a depart before an arrive.
+const EARLY: &Row = &Row {
+    deeds: &[
+        (0, Deed::Arrive),
+        (1, Deed::Arrive),
+        (0, Deed::Depart),
+        (0, Deed::Depart),
+    ],
+    asked: &[Asked::Broken(2, Some(3))],
+};
 
 #[test]
 fn faults_of_synchronization(rt: HostRuntime) {
-    holds(&rt, answers_rows(rt.alloc(), BROKEN));
+    holds(&rt, answers_row(rt.alloc(), HELD));
+    holds(&rt, answers_row(rt.alloc(), NOT_HELD));
+    holds(&rt, answers_row(rt.alloc(), EARLY));
 }
 
-/// A long run: sixteen nodes in turn write, read and print under the lock with the largest number.
-fn long_run(alloc: Global) -> Result<Vec<Act>, AllocError> {
+/// A long run: sixteen nodes in turn write, read and print under the lock with the largest number. Or the same run without its
+/// locks.
+fn long_run(alloc: Global, turns: u16, is_locked: bool) -> Result<Vec<Act>, AllocError> {
     let mut acts = Vec::new(alloc);
-    for turn in 0..250u64 {
+    for turn in 0..turns {
         let node = (turn % 16) as u8;
         let deeds = [
             (node, Deed::Acquire(63)),
-            (node, Deed::Read(4095, turn)),
-            (node, Deed::Write(4095, turn + 1)),
+            (node, Deed::Read(4095, u64::from(turn))),
+            (node, Deed::Write(4095, u64::from(turn) + 1)),
             (node, Deed::Release(63)),
         ];
-        push_each(&mut acts, &deeds)?;
+        push_each(&mut acts, if is_locked { &deeds } else { &deeds[1..3] })?;
     }
     Ok(acts)
 }
 
-/// The same run without its locks.
-fn without_locks(alloc: Global) -> Result<Vec<Act>, AllocError> {
-    let mut acts = Vec::new(alloc);
-    for turn in 0..500u64 {
-        let node = (turn % 16) as u8;
-        let deeds = [
-            (node, Deed::Read(4095, turn)),
-            (node, Deed::Write(4095, turn + 1)),
-        ];
-        push_each(&mut acts, &deeds)?;
+/// Whether the judge answers each so of the long run of so many turns.
+fn answers_long(alloc: Global, turns: u16, is_locked: bool, asked: &[Asked]) -> bool {
+    match long_run(alloc, turns, is_locked) {
+        Ok(acts) => answers_each(alloc, &acts, asked),
+        Err(_) => false,
     }
-    Ok(acts)
 }
 
-const LONG_RUN: &[Asked] = &[
+const LOCKED_ASKED: &[Asked] = &[
     Asked::Races(0, &[]),
     Asked::Misread(None),
     Asked::Broken(16, None),
@@ -306,14 +306,12 @@ fn sixteen_are_in_range() -> bool {
     are_in_range(&[Act { node: 15, deed }]) && !are_in_range(&[Act { node: 16, deed }])
 }
 
-/// Whether the long run has no fault, and without its locks each pair of nodes races.
-fn are_judged(alloc: Global) -> Result<bool, AllocError> {
-    let judged = answers_each(alloc, &long_run(alloc)?, LONG_RUN)?;
-    let raced = answers(alloc, &without_locks(alloc)?, Asked::Races(120, &[]))?;
-    Ok(judged && raced && sixteen_are_in_range())
-}
-
 #[test]
 fn long_runs_are_judged(rt: HostRuntime) {
-    holds(&rt, are_judged(rt.alloc()));
+    holds(&rt, sixteen_are_in_range());
+    holds(&rt, answers_long(rt.alloc(), 250, true, LOCKED_ASKED));
+    holds(
+        &rt,
+        answers_long(rt.alloc(), 500, false, &[Asked::Races(120, &[])]),
+    );
 }
