@@ -1,6 +1,8 @@
 // The race detector over traces.
 
-use lrc_clock::times::{are_of, times_of};
+use crate::acts::{Named, are_races};
+use crate::checks::holds;
+use crate::clocks::times;
 use lrc_judge::are_in_range;
 use lrc_judge::races::named_races;
 use lrc_page::{MOST_WORDS, Size};
@@ -10,34 +12,23 @@ use lrc_trace::act::{Act, Deed};
 use lrc_trace::trace::Trace;
 use std::alloc::{AllocError, Global};
 
-// An access, in an epoch and at a time.
+/// What a node does in an epoch, at a time, with a word.
 #[derive(Clone, Copy)]
-struct Access {
-    epoch: u32,
-    time: [u32; 2],
-    word: u32,
-    is_write: bool,
+enum Access {
+    Read(u32, [u32; 2], u32),
+    Write(u32, [u32; 2], u32),
 }
 
-fn write(epoch: u32, time: [u32; 2], word: u32) -> Access {
-    Access {
-        epoch,
-        time,
-        word,
-        is_write: true,
-    }
+/// What nodes 0 and 1 do, whether their epochs agree, and the races that are to be found.
+#[derive(Clone, Copy)]
+struct Case<'a> {
+    first: &'a [Access],
+    second: &'a [Access],
+    agree: bool,
+    races: &'a [Named],
 }
 
-fn read(epoch: u32, time: [u32; 2], word: u32) -> Access {
-    Access {
-        epoch,
-        time,
-        word,
-        is_write: false,
-    }
-}
-
-// Sets an entry, if it is there and rises.
+/// Sets an entry, if it is there and rises.
 fn raise(time: &mut Time, node: u8, index: u32) {
     if node < time.nodes() && time.at(node) < index {
         time.raise(node, index);
@@ -51,17 +42,20 @@ fn of_two(entries: [u32; 2]) -> Time {
     time
 }
 
-// Notes an access, if it may be noted. What is left out is missed by the test.
+/// Notes an access of a node in its trace, if it may be noted. What is left out is missed by the test.
 fn note(
-    trace: &mut Trace,
+    traces: &mut Vec<Trace>,
+    node: u8,
     epoch: u32,
     time: &Time,
     word: u32,
     is_write: bool,
 ) -> Result<(), AllocError> {
-    let node = trace.node();
-    if node < time.nodes() && word < MOST_WORDS {
-        let interval = time.at(node);
+    let Some(trace) = traces.get_mut(usize::from(node)) else {
+        return Ok(());
+    };
+    if trace.node() < time.nodes() && word < MOST_WORDS {
+        let interval = time.at(trace.node());
         if trace.may_note(epoch, interval, time) {
             trace.note(epoch, interval, time, word, is_write)?;
         }
@@ -69,276 +63,291 @@ fn note(
     Ok(())
 }
 
-// A node's trace of these accesses.
-fn traced(alloc: Global, node: u8, size: Size, accesses: &[Access]) -> Result<Trace, AllocError> {
-    let mut trace = Trace::new(alloc, node, size);
+fn note_each(traces: &mut Vec<Trace>, node: u8, accesses: &[Access]) -> Result<(), AllocError> {
     for access in accesses {
-        let time = of_two(access.time);
-        note(
-            &mut trace,
-            access.epoch,
-            &time,
-            access.word,
-            access.is_write,
-        )?;
+        let (epoch, time, word, is_write) = match *access {
+            Access::Read(epoch, time, word) => (epoch, time, word, false),
+            Access::Write(epoch, time, word) => (epoch, time, word, true),
+        };
+        note(traces, node, epoch, &of_two(time), word, is_write)?;
     }
-    Ok(trace)
+    Ok(())
 }
 
-// A race of the nodes 0 and 1.
-fn race(word: u32, interval_a: u64, interval_b: u64) -> Race {
-    Race {
-        word,
-        node_a: 0,
-        node_b: 1,
-        interval_a,
-        interval_b,
-    }
-}
-
-// What is to be found in two traces.
-#[derive(Clone, Copy)]
-struct Verdict<'r> {
-    agree: bool,
-    races: &'r [Race],
-}
-
-fn is_found(alloc: Global, traces: &[Trace], verdict: Verdict) -> Result<bool, AllocError> {
-    if !are_traces_of(2, traces) {
-        return Ok(false);
-    }
-    Ok(epochs_agree(traces) == verdict.agree && races(alloc, traces)?.as_slice() == verdict.races)
-}
-
-// The traces of two nodes, in this order.
-fn pair(
-    alloc: Global,
-    size: Size,
-    nodes: [u8; 2],
-    first: &[Access],
-    second: &[Access],
-) -> Result<Vec<Trace>, AllocError> {
+/// Traces of the first so many nodes, with nothing in them.
+fn fresh(alloc: Global, nodes: u8, size: Size) -> Result<Vec<Trace>, AllocError> {
     let mut traces = Vec::new(alloc);
-    traces.push(traced(alloc, nodes[0], size, first)?)?;
-    traces.push(traced(alloc, nodes[1], size, second)?)?;
+    for node in 0..nodes {
+        traces.push(Trace::new(alloc, node, size))?;
+    }
     Ok(traces)
 }
 
-// Whether this is found in the traces of the nodes 0 and 1, in either order.
-fn is_found_in(
-    alloc: Global,
-    size: Size,
-    first: &[Access],
-    second: &[Access],
-    verdict: Verdict,
-) -> Result<bool, AllocError> {
-    let rising = pair(alloc, size, [0, 1], first, second)?;
-    let falling = pair(alloc, size, [1, 0], second, first)?;
-    Ok(is_found(alloc, &rising, verdict)? && is_found(alloc, &falling, verdict)?)
+/// The traces of the nodes 0 and 1.
+fn traced(alloc: Global, size: Size, case: &Case) -> Result<Vec<Trace>, AllocError> {
+    let mut traces = fresh(alloc, 2, size)?;
+    note_each(&mut traces, 0, case.first)?;
+    note_each(&mut traces, 1, case.second)?;
+    Ok(traces)
 }
 
-fn two_writes(alloc: Global, second: Access, verdict: Verdict) -> Result<bool, AllocError> {
-    is_found_in(
-        alloc,
-        Size::Words64,
-        &[write(0, [1, 0], 0)],
-        &[second],
-        verdict,
-    )
+fn is_found(alloc: Global, traces: &[Trace], case: &Case) -> bool {
+    if !are_traces_of(2, traces) || epochs_agree(traces) != case.agree {
+        return false;
+    }
+    match races(alloc, traces) {
+        Ok(races) => are_races(&races, case.races.len(), case.races),
+        Err(_) => false,
+    }
 }
+
+/// Whether this is found in the traces of the nodes 0 and 1, in either order.
+fn is_found_in(alloc: Global, size: Size, case: &Case) -> bool {
+    let Ok(mut traces) = traced(alloc, size, case) else {
+        return false;
+    };
+    let is_found_rising = is_found(alloc, &traces, case);
+    traces.reverse();
+    is_found_rising && is_found(alloc, &traces, case)
+}
+
+const ONE_EPOCH: &Case = &Case {
+    first: &[Access::Write(0, [1, 0], 0)],
+    second: &[Access::Write(0, [0, 1], 0)],
+    agree: true,
+    races: &[(0, [0, 1], [1, 1])],
+};
 
 #[test]
 fn writes_in_one_epoch_race(rt: HostRuntime) {
-    let verdict = Verdict {
-        agree: true,
-        races: &[race(0, 1, 1)],
-    };
-    assert!(rt; two_writes(rt.alloc(), write(0, [0, 1], 0), verdict) == Ok(true));
+    holds(&rt, is_found_in(rt.alloc(), Size::Words64, ONE_EPOCH));
 }
+
+const TWO_EPOCHS: &Case = &Case {
+    first: &[Access::Write(0, [1, 0], 0)],
+    second: &[Access::Write(1, [1, 2], 0)],
+    agree: true,
+    races: &[],
+};
 
 #[test]
 fn writes_across_a_barrier_do_not_race(rt: HostRuntime) {
-    let verdict = Verdict {
-        agree: true,
-        races: &[],
-    };
-    assert!(rt; two_writes(rt.alloc(), write(1, [1, 2], 0), verdict) == Ok(true));
+    holds(&rt, is_found_in(rt.alloc(), Size::Words64, TWO_EPOCHS));
 }
+
+const UNKNOWN_EPOCH: &Case = &Case {
+    first: &[Access::Write(0, [1, 0], 0)],
+    second: &[Access::Write(1, [0, 2], 0)],
+    agree: false,
+    races: &[(0, [0, 1], [1, 2])],
+};
 
 #[test]
 fn a_later_epoch_that_does_not_know_an_earlier_one_disagrees(rt: HostRuntime) {
-    let verdict = Verdict {
-        agree: false,
-        races: &[race(0, 1, 2)],
-    };
-    assert!(rt; two_writes(rt.alloc(), write(1, [0, 2], 0), verdict) == Ok(true));
+    holds(&rt, is_found_in(rt.alloc(), Size::Words64, UNKNOWN_EPOCH));
 }
+
+const READ_AND_WRITTEN: &Case = &Case {
+    first: &[
+        Access::Read(0, [1, 0], 3),
+        Access::Read(0, [1, 0], 4),
+        Access::Write(0, [1, 0], 4),
+        Access::Read(0, [1, 0], 4),
+    ],
+    second: &[
+        Access::Read(0, [0, 1], 3),
+        Access::Read(0, [0, 1], 4),
+        Access::Write(0, [0, 1], 4),
+    ],
+    agree: true,
+    races: &[(4, [0, 1], [1, 1])],
+};
 
 #[test]
 fn reads_do_not_race_and_an_interval_races_once(rt: HostRuntime) {
-    let first = [
-        read(0, [1, 0], 3),
-        read(0, [1, 0], 4),
-        write(0, [1, 0], 4),
-        read(0, [1, 0], 4),
-    ];
-    let second = [read(0, [0, 1], 3), read(0, [0, 1], 4), write(0, [0, 1], 4)];
-    let verdict = Verdict {
-        agree: true,
-        races: &[race(4, 1, 1)],
-    };
-    assert!(rt; is_found_in(rt.alloc(), Size::Words64, &first, &second, verdict) == Ok(true));
+    holds(
+        &rt,
+        is_found_in(rt.alloc(), Size::Words64, READ_AND_WRITTEN),
+    );
 }
 
 // The time of the first node's second interval lacks what that of its first one has.
+const FALLING_TIMES: &Case = &Case {
+    first: &[
+        Access::Write(0, [1, 5], 0),
+        Access::Write(0, [2, 0], 0),
+        Access::Write(0, [3, 7], 0),
+    ],
+    second: &[
+        Access::Write(0, [0, 1], 0),
+        Access::Write(0, [3, 6], 0),
+        Access::Write(0, [0, 8], 0),
+    ],
+    agree: true,
+    races: &[
+        (0, [0, 1], [1, 8]),
+        (0, [0, 1], [2, 1]),
+        (0, [0, 1], [2, 8]),
+        (0, [0, 1], [3, 8]),
+    ],
+};
+
 #[test]
 fn times_need_not_rise(rt: HostRuntime) {
-    let first = [
-        write(0, [1, 5], 0),
-        write(0, [2, 0], 0),
-        write(0, [3, 7], 0),
-    ];
-    let second = [
-        write(0, [0, 1], 0),
-        write(0, [3, 6], 0),
-        write(0, [0, 8], 0),
-    ];
-    let verdict = Verdict {
-        agree: true,
-        races: &[race(0, 1, 8), race(0, 2, 1), race(0, 2, 8), race(0, 3, 8)],
-    };
-    assert!(rt; is_found_in(rt.alloc(), Size::Words64, &first, &second, verdict) == Ok(true));
+    holds(&rt, is_found_in(rt.alloc(), Size::Words64, FALLING_TIMES));
 }
+
+const LARGE_PAGES: &Case = &Case {
+    first: &[
+        Access::Write(0, [1, 0], 255),
+        Access::Read(0, [1, 0], 511),
+        Access::Write(0, [1, 0], 65_535),
+        Access::Write(0, [1, 0], 1024),
+    ],
+    second: &[
+        Access::Read(0, [0, 1], 255),
+        Access::Write(0, [0, 1], 256),
+        Access::Write(0, [0, 1], 511),
+        Access::Write(0, [0, 1], 65_535),
+        Access::Write(0, [0, 1], 1023),
+    ],
+    agree: true,
+    races: &[
+        (255, [0, 1], [1, 1]),
+        (511, [0, 1], [1, 1]),
+        (65_535, [0, 1], [1, 1]),
+    ],
+};
 
 #[test]
 fn the_words_of_large_pages_are_told_apart(rt: HostRuntime) {
-    let first = [
-        write(0, [1, 0], 255),
-        read(0, [1, 0], 511),
-        write(0, [1, 0], 65_535),
-        write(0, [1, 0], 1024),
-    ];
-    let second = [
-        read(0, [0, 1], 255),
-        write(0, [0, 1], 256),
-        write(0, [0, 1], 511),
-        write(0, [0, 1], 65_535),
-        write(0, [0, 1], 1023),
-    ];
-    let verdict = Verdict {
-        agree: true,
-        races: &[race(255, 1, 1), race(511, 1, 1), race(65_535, 1, 1)],
-    };
-    assert!(rt; is_found_in(rt.alloc(), Size::Words256, &first, &second, verdict) == Ok(true));
-    assert!(rt; is_found_in(rt.alloc(), Size::Words64, &first, &second, verdict) == Ok(true));
+    holds(&rt, is_found_in(rt.alloc(), Size::Words256, LARGE_PAGES));
+    holds(&rt, is_found_in(rt.alloc(), Size::Words64, LARGE_PAGES));
 }
 
-// Where the nodes of a run stand: how many intervals and epochs each has had.
+/// Where the nodes of a run stand: how many intervals and epochs each has had.
 #[derive(Clone, Copy)]
 struct Counts {
     intervals: [u32; 16],
     epochs: [u32; 16],
 }
 
-// Takes an act in.
-fn count(counts: Counts, act: Act) -> Counts {
-    let mut next = counts;
-    let node = usize::from(act.node % 16);
-    match act.deed {
-        Deed::Acquire(_) | Deed::Release(_) | Deed::Arrive => {
-            next.intervals[node] = counts.intervals[node].saturating_add(1);
+const START: Counts = Counts {
+    intervals: [1; 16],
+    epochs: [0; 16],
+};
+
+impl Counts {
+    /// Takes an act in.
+    fn take(&mut self, act: Act) {
+        let node = usize::from(act.node % 16);
+        match act.deed {
+            Deed::Acquire(_) | Deed::Release(_) | Deed::Arrive => {
+                self.intervals[node] = self.intervals[node].saturating_add(1);
+            }
+            Deed::Depart => {
+                self.epochs[node] = self.epochs[node].saturating_add(1);
+            }
+            _ => {}
         }
-        Deed::Depart => {
-            next.epochs[node] = counts.epochs[node].saturating_add(1);
-        }
-        _ => {}
     }
-    next
 }
 
-// Notes the act, if it is an access, in the trace of its node.
+/// Notes the act, if it is an access, in the trace of its node.
 fn note_act(
     traces: &mut Vec<Trace>,
-    counts: Counts,
+    counts: &Counts,
     act: Act,
     time: &Time,
 ) -> Result<(), AllocError> {
+    let (word, is_write) = match act.deed {
+        Deed::Read(word, _) => (word, false),
+        Deed::Write(word, _) => (word, true),
+        _ => return Ok(()),
+    };
     let node = usize::from(act.node % 16);
     let mut stamp = time.copy();
     raise(&mut stamp, act.node, counts.intervals[node]);
-    if node < traces.len() {
-        let trace = &mut traces[node];
-        let epoch = counts.epochs[node];
-        match act.deed {
-            Deed::Read(word, _) => note(trace, epoch, &stamp, word, false)?,
-            Deed::Write(word, _) => note(trace, epoch, &stamp, word, true)?,
-            _ => {}
-        }
+    note(
+        traces,
+        act.node,
+        counts.epochs[node],
+        &stamp,
+        word,
+        is_write,
+    )
+}
+
+fn note_run(traces: &mut Vec<Trace>, acts: &[Act], times: &[Time]) -> Result<(), AllocError> {
+    let mut counts = START;
+    for (act, time) in acts.iter().zip(times) {
+        note_act(traces, &counts, *act, time)?;
+        counts.take(*act);
     }
     Ok(())
 }
 
-fn fresh(alloc: Global, nodes: u8) -> Result<Vec<Trace>, AllocError> {
-    let mut traces = Vec::new(alloc);
-    for node in 0..nodes {
-        traces.push(Trace::new(alloc, node, Size::Words64))?;
-    }
-    Ok(traces)
-}
-
-// The traces of a run, of which these are the times.
+/// The traces of a run, of which these are the times.
 fn traces_of(
     alloc: Global,
     acts: &[Act],
     times: &[Time],
     nodes: u8,
 ) -> Result<Vec<Trace>, AllocError> {
-    let mut traces = fresh(alloc, nodes)?;
-    let mut counts = Counts {
-        intervals: [1; 16],
-        epochs: [0; 16],
-    };
-    for (act, time) in acts.iter().zip(times) {
-        note_act(&mut traces, counts, *act, time)?;
-        counts = count(counts, *act);
-    }
+    let mut traces = fresh(alloc, nodes, Size::Words64)?;
+    note_run(&mut traces, acts, times)?;
     Ok(traces)
 }
 
-// How many races the run names, if the detector, the judge and the first race agree on it.
-fn agreed(alloc: Global, acts: &[Act], nodes: u8) -> Result<Option<usize>, AllocError> {
-    if nodes == 0
-        || nodes > 16
-        || !are_of(acts, nodes)
-        || !are_in_range(acts)
-        || acts.len() > 1000
-    {
-        return Ok(None);
+/// Whether the judge names these races, and there is a first one if there is one.
+fn are_judged(alloc: Global, acts: &[Act], races: &[Race]) -> bool {
+    if !are_in_range(acts) {
+        return false;
     }
-    let Some(times) = times_of(alloc, acts, nodes)? else {
-        return Ok(None);
+    let Ok(first) = first_race(alloc, acts) else {
+        return false;
     };
-    let traces = traces_of(alloc, acts, &times, nodes)?;
-    if !are_traces_of(nodes, &traces) || !epochs_agree(&traces) {
-        return Ok(None);
+    match named_races(alloc, acts) {
+        Ok(named) => named.as_slice() == races && first.is_none() == races.is_empty(),
+        Err(_) => false,
     }
-    let named = named_races(alloc, acts)?;
-    if races(alloc, &traces)?.as_slice() != named.as_slice()
-        || first_race(alloc, acts)?.is_none() != named.is_empty()
-    {
-        return Ok(None);
-    }
-    Ok(Some(named.len()))
 }
 
-// Numbers that follow from a first one, as a linear congruence gives them.
+/// How many races the traces of a run name, if the detector, the judge and the first race agree on it.
+fn agreed_on(alloc: Global, acts: &[Act], traces: &[Trace], nodes: u8) -> Option<usize> {
+    if !are_traces_of(nodes, traces) || !epochs_agree(traces) {
+        return None;
+    }
+    match races(alloc, traces) {
+        Ok(races) if are_judged(alloc, acts, &races) => Some(races.len()),
+        _ => None,
+    }
+}
+
+/// The same of a run with these times.
+fn agreed_at(alloc: Global, acts: &[Act], times: &[Time], nodes: u8) -> Option<usize> {
+    match traces_of(alloc, acts, times, nodes) {
+        Ok(traces) => agreed_on(alloc, acts, &traces, nodes),
+        Err(_) => None,
+    }
+}
+
+/// The same of a run of so many nodes, where it is one.
+fn agreed(alloc: Global, acts: &[Act], nodes: u8) -> Option<usize> {
+    match times(alloc, acts, nodes) {
+        Ok(Some(times)) => agreed_at(alloc, acts, &times, nodes),
+        _ => None,
+    }
+}
+
+/// Numbers that follow from a first one, as a linear congruence gives them.
 fn next(state: u64) -> u64 {
     state
         .wrapping_mul(6_364_136_223_846_793_005)
         .wrapping_add(1_442_695_040_888_963_407)
 }
 
-// A step of a run: which node, what, and on which word or lock.
+/// A step of a run: which node, what, and on which word or lock.
 #[derive(Clone, Copy)]
 struct Choice {
     node: u8,
@@ -355,7 +364,7 @@ fn choose(state: u64, nodes: u8) -> Choice {
     }
 }
 
-// Every node comes to a barrier and goes on.
+/// Every node comes to a barrier and goes on.
 fn push_barrier(acts: &mut Vec<Act>, nodes: u8) -> Result<(), AllocError> {
     for node in 0..nodes {
         acts.push(Act {
@@ -372,7 +381,7 @@ fn push_barrier(acts: &mut Vec<Act>, nodes: u8) -> Result<(), AllocError> {
     Ok(())
 }
 
-// What a node does by a choice, where it can, given who holds the lock.
+/// What a node does by a choice, where it can, given who holds the lock.
 fn deed_of(chosen: Choice, holder: Option<u8>, in_turn: bool) -> Option<Deed> {
     let holds = holder == Some(chosen.node);
     match chosen.kind {
@@ -384,7 +393,7 @@ fn deed_of(chosen: Choice, holder: Option<u8>, in_turn: bool) -> Option<Deed> {
     }
 }
 
-// A run of so many steps chosen from a first number, in which nodes access words only with the lock, or at will.
+/// A run of so many steps chosen from a first number, in which nodes access words only with the lock, or at will.
 fn chosen_run(
     alloc: Global,
     first: u64,
@@ -416,39 +425,40 @@ fn chosen_run(
     Ok(acts)
 }
 
-// How many races the chosen runs name in all, if all agree on each.
-fn agreed_in_all(alloc: Global, in_turn: bool) -> Result<Option<usize>, AllocError> {
+/// How many races a chosen run names, if all agree on it, and whether it has more than so many acts.
+fn agreed_in_run(
+    alloc: Global,
+    first: u64,
+    nodes: u8,
+    in_turn: bool,
+    steps: u32,
+    more_than: usize,
+) -> Option<usize> {
+    match chosen_run(alloc, first, nodes, in_turn, steps) {
+        Ok(acts) if acts.len() > more_than => agreed(alloc, &acts, nodes),
+        _ => None,
+    }
+}
+
+/// How many races the chosen runs name in all, if all agree on each.
+fn agreed_in_all(alloc: Global, in_turn: bool) -> Option<usize> {
     let mut sum: usize = 0;
     for first in 0..20u64 {
         let nodes = (first % 4) as u8 + 2;
-        let acts = chosen_run(alloc, first, nodes, in_turn, 120)?;
-        match agreed(alloc, &acts, nodes)? {
-            Some(found) => sum = sum.saturating_add(found),
-            None => return Ok(None),
-        }
+        let found = agreed_in_run(alloc, first, nodes, in_turn, 120, 0)?;
+        sum = sum.saturating_add(found);
     }
-    Ok(Some(sum))
+    Some(sum)
 }
 
-fn chosen_runs_agree(alloc: Global) -> Result<bool, AllocError> {
-    let Some(at_will) = agreed_in_all(alloc, false)? else {
-        return Ok(false);
-    };
-    let Some(in_turn) = agreed_in_all(alloc, true)? else {
-        return Ok(false);
-    };
-    Ok(at_will > 100 && in_turn == 0)
-}
-
-// The same for a run of sixteen nodes with hundreds of acts.
-fn a_long_run_agrees(alloc: Global) -> Result<bool, AllocError> {
-    let acts = chosen_run(alloc, 3, 16, false, 400)?;
-    let found = agreed(alloc, &acts, 16)?;
-    Ok(acts.len() > 600 && found.is_some_and(|count| count > 100))
-}
-
+// The runs of twenty first numbers, at will and in turn, and one of sixteen nodes with hundreds of acts.
 #[test]
 fn the_detector_and_the_judge_agree_on_chosen_runs(rt: HostRuntime) {
-    assert!(rt; chosen_runs_agree(rt.alloc()) == Ok(true));
-    assert!(rt; a_long_run_agrees(rt.alloc()) == Ok(true));
+    let at_will = agreed_in_all(rt.alloc(), false);
+    let in_turn = agreed_in_all(rt.alloc(), true);
+    let long = agreed_in_run(rt.alloc(), 3, 16, false, 400, 600);
+    holds(
+        &rt,
+        at_will > Some(100) && in_turn == Some(0) && long > Some(100),
+    );
 }

@@ -1,17 +1,39 @@
 // Texts and the programs that they are.
 
+use crate::checks::holds;
 use lrc_lang::fault::{FaultKind, ParseFault};
 use lrc_lang::parse;
 use lrc_lang::program::{Expression, Operator, Program, Statement};
 use std::alloc::{AllocError, Global};
 
-// Shows a number of up to two digits.
-fn put_number(shown: &mut Vec<u8>, number: u64) -> Result<(), AllocError> {
-    if number > 9 {
-        shown.push(b'0' + (number / 10 % 10) as u8)?;
+/// A spelling that is wanted, how much of it has been shown, and whether all that was shown is of it.
+#[derive(Clone, Copy)]
+struct Shown<'a> {
+    wanted: &'a [u8],
+    place: usize,
+    agrees: bool,
+}
+
+/// Shows a part.
+fn put(shown: &mut Shown<'_>, part: &[u8]) {
+    for byte in part {
+        shown.agrees = shown.agrees && shown.wanted.get(shown.place) == Some(byte);
+        shown.place = shown.place.saturating_add(1);
     }
-    shown.push(b'0' + (number % 10) as u8)?;
-    Ok(())
+}
+
+/// Shows a number of up to two digits.
+fn put_number(shown: &mut Shown<'_>, number: u64) {
+    if number > 9 {
+        put(shown, &[b'0' + (number / 10 % 10) as u8]);
+    }
+    put(shown, &[b'0' + (number % 10) as u8]);
+}
+
+/// Shows a private name by its number.
+fn put_name(shown: &mut Shown<'_>, name: u8) {
+    put(shown, b"p");
+    put_number(shown, u64::from(name));
 }
 
 fn sign_of(operator: Operator) -> &'static [u8] {
@@ -30,285 +52,333 @@ fn sign_of(operator: Operator) -> &'static [u8] {
     }
 }
 
-// Shows an expression: a sum as (+ a b), a private name by its number as p0.
-fn put_expression(shown: &mut Vec<u8>, expression: &Expression) -> Result<(), AllocError> {
+/// Shows an expression: a sum as (+ a b), a private name by its number as p0.
+fn put_expression(shown: &mut Shown<'_>, expression: &Expression) {
     match expression {
         Expression::Number(number) => put_number(shown, *number),
-        Expression::Private(name) => {
-            shown.push(b'p')?;
-            put_number(shown, u64::from(*name))
-        }
-        Expression::Me => shown.extend_from_slice(b"me"),
-        Expression::Nodes => shown.extend_from_slice(b"nodes"),
+        Expression::Private(name) => put_name(shown, *name),
+        Expression::Me => put(shown, b"me"),
+        Expression::Nodes => put(shown, b"nodes"),
         Expression::Binary(left, operator, right) => {
-            shown.push(b'(')?;
-            shown.extend_from_slice(sign_of(*operator))?;
-            shown.push(b' ')?;
-            put_expression(shown, left)?;
-            shown.push(b' ')?;
-            put_expression(shown, right)?;
-            shown.extend_from_slice(b")")
+            put(shown, b"(");
+            put(shown, sign_of(*operator));
+            put(shown, b" ");
+            put_expression(shown, left);
+            put(shown, b" ");
+            put_expression(shown, right);
+            put(shown, b")");
         }
     }
 }
 
-// Shows a word, and the expression that it is of.
-fn put_word(shown: &mut Vec<u8>, word: &[u8], expression: &Expression) -> Result<(), AllocError> {
-    shown.extend_from_slice(word)?;
-    shown.push(b' ')?;
-    put_expression(shown, expression)
-}
-
-// Shows a private name by its number, a sign, and an expression.
-fn put_name(
-    shown: &mut Vec<u8>,
-    name: u8,
-    sign: &[u8],
-    expression: &Expression,
-) -> Result<(), AllocError> {
-    shown.push(b'p')?;
-    put_number(shown, u64::from(name))?;
-    shown.extend_from_slice(sign)?;
-    put_expression(shown, expression)
+/// Shows a word, and the expression that it is of.
+fn put_word(shown: &mut Shown<'_>, word: &[u8], expression: &Expression) {
+    put(shown, word);
+    put(shown, b" ");
+    put_expression(shown, expression);
 }
 
 #[cycle(shown)]
-fn put_statements(shown: &mut Vec<u8>, statements: &[Statement]) -> Result<(), AllocError> {
-    shown.push(b'{')?;
+fn put_statements(shown: &mut Shown<'_>, statements: &[Statement]) {
+    put(shown, b"{");
     for statement in statements {
-        put_statement(shown, statement)?;
-        shown.push(b';')?;
+        put_statement(shown, statement);
+        put(shown, b";");
     }
-    shown.extend_from_slice(b"}")
+    put(shown, b"}");
 }
 
 #[cycle(shown)]
-fn put_statement(shown: &mut Vec<u8>, statement: &Statement) -> Result<(), AllocError> {
+fn put_statement(shown: &mut Shown<'_>, statement: &Statement) {
     match statement {
-        Statement::Assign(name, value) => put_name(shown, *name, b" = ", value),
-        Statement::Read(name, word) => put_name(shown, *name, b" reads ", word),
+        Statement::Assign(name, value) => {
+            put_name(shown, *name);
+            put_word(shown, b" =", value);
+        }
+        Statement::Read(name, word) => {
+            put_name(shown, *name);
+            put_word(shown, b" reads", word);
+        }
         Statement::Write(word, value) => {
-            put_word(shown, b"write", word)?;
-            put_word(shown, b",", value)
+            put_word(shown, b"write", word);
+            put_word(shown, b",", value);
         }
         Statement::Acquire(lock) => put_word(shown, b"acquire", lock),
         Statement::Release(lock) => put_word(shown, b"release", lock),
-        Statement::Barrier => shown.extend_from_slice(b"barrier"),
+        Statement::Barrier => put(shown, b"barrier"),
         Statement::Print(value) => put_word(shown, b"print", value),
         Statement::If(condition, first, second) => {
-            put_word(shown, b"if", condition)?;
-            put_statements(shown, first)?;
-            put_statements(shown, second)
+            put_word(shown, b"if", condition);
+            put_statements(shown, first);
+            put_statements(shown, second);
         }
         Statement::While(condition, body) => {
-            put_word(shown, b"while", condition)?;
-            put_statements(shown, body)
+            put_word(shown, b"while", condition);
+            put_statements(shown, body);
         }
     }
 }
 
-// Whether these are the numbers and the statements of a program.
-fn is_shown(
-    alloc: Global,
-    program: &Program,
-    counts: (u32, u8),
-    wanted: &[u8],
-) -> Result<bool, AllocError> {
-    let mut shown = Vec::new(alloc);
-    put_statements(&mut shown, &program.statements)?;
-    Ok((program.words(), program.locks()) == counts && shown.as_slice() == wanted)
+/// Whether these are the numbers of words and locks and the statements of a program.
+fn is_shown(program: &Program, counts: (u32, u8), wanted: &[u8]) -> bool {
+    let mut shown = Shown {
+        wanted,
+        place: 0,
+        agrees: true,
+    };
+    put_statements(&mut shown, &program.statements);
+    (program.words(), program.locks()) == counts && shown.agrees && shown.place == wanted.len()
 }
 
-// Whether a text is the program with these counts of words and locks, and these statements.
-fn reads_as(
-    alloc: Global,
-    text: &[u8],
-    counts: (u32, u8),
-    wanted: &[u8],
-) -> Result<bool, AllocError> {
-    match parse(alloc, text) {
-        Ok(program) => is_shown(alloc, &program, counts, wanted),
-        Err(_fault) => Ok(false),
+/// A text with the statements that it is.
+type Tree<'a> = (&'a [u8], &'a [u8]);
+
+/// Whether each text is a program with these counts of words and locks, and these statements.
+fn are_trees(alloc: Global, counts: (u32, u8), trees: &[Tree]) -> bool {
+    for (text, wanted) in trees {
+        match parse(alloc, text) {
+            Ok(program) if is_shown(&program, counts, wanted) => {}
+            _ => return false,
+        }
     }
+    true
 }
 
-// A text of so many copies of a part, between a front and a back.
-fn repeated(
-    alloc: Global,
-    front: &[u8],
-    part: &[u8],
-    count: usize,
-    back: &[u8],
-) -> Result<Vec<u8>, AllocError> {
-    let mut text = Vec::from_slice(alloc, front)?;
-    for _copy in 0..count {
-        text.extend_from_slice(part)?;
-    }
-    text.extend_from_slice(back)?;
-    Ok(text)
-}
-
-// Whether `print` of this text prints this expression.
-fn prints(alloc: Global, expression: &[u8], wanted: &[u8]) -> Result<bool, AllocError> {
-    let text = repeated(alloc, b"words 1; locks 0; print ", expression, 1, b";")?;
-    let shown = repeated(alloc, b"{print ", wanted, 1, b";}")?;
-    reads_as(alloc, &text, (1, 0), &shown)
-}
+const EXPRESSIONS: &[Tree] = &[
+    (
+        b"words 1; locks 0; print 1 + 2 * 3;",
+        b"{print (+ 1 (* 2 3));}",
+    ),
+    (
+        b"words 1; locks 0; print 1 - 2 - 3;",
+        b"{print (- (- 1 2) 3);}",
+    ),
+    (
+        b"words 1; locks 0; print 1 - (2 - 3);",
+        b"{print (- 1 (- 2 3));}",
+    ),
+    (
+        b"words 1; locks 0; print 8 / 4 % 3;",
+        b"{print (% (/ 8 4) 3);}",
+    ),
+    (
+        b"words 1; locks 0; print (1 + 2) * 3;",
+        b"{print (* (+ 1 2) 3);}",
+    ),
+    (
+        b"words 1; locks 0; print me + nodes == 007;",
+        b"{print (== (+ me nodes) 7);}",
+    ),
+    (
+        b"words 1; locks 0; print 1 < 2 + 3;",
+        b"{print (< 1 (+ 2 3));}",
+    ),
+    (
+        b"words 1; locks 0; print (1 <= 2) >= 3;",
+        b"{print (>= (<= 1 2) 3);}",
+    ),
+    (
+        b"words 1; locks 0; print 1!=(2>3);",
+        b"{print (!= 1 (> 2 3));}",
+    ),
+    (
+        b"words 1; locks 0; print x + Y + x + _y1;",
+        b"{print (+ (+ (+ p0 p1) p0) p2);}",
+    ),
+    (b"words 1; locks 0; print ((((50))));", b"{print 50;}"),
+];
 
 #[test]
 fn expressions_have_their_trees(rt: HostRuntime) {
-    let table: [(&[u8], &[u8]); 11] = [
-        (b"1 + 2 * 3", b"(+ 1 (* 2 3))"),
-        (b"1 - 2 - 3", b"(- (- 1 2) 3)"),
-        (b"1 - (2 - 3)", b"(- 1 (- 2 3))"),
-        (b"8 / 4 % 3", b"(% (/ 8 4) 3)"),
-        (b"(1 + 2) * 3", b"(* (+ 1 2) 3)"),
-        (b"me + nodes == 007", b"(== (+ me nodes) 7)"),
-        (b"1 < 2 + 3", b"(< 1 (+ 2 3))"),
-        (b"(1 <= 2) >= 3", b"(>= (<= 1 2) 3)"),
-        (b"1!=(2>3)", b"(!= 1 (> 2 3))"),
-        (b"x + Y + x + _y1", b"(+ (+ (+ p0 p1) p0) p2)"),
-        (b"((((50))))", b"50"),
-    ];
-    for (text, wanted) in table {
-        assert!(rt; prints(rt.alloc(), text, wanted) == Ok(true));
-    }
+    holds(&rt, are_trees(rt.alloc(), (1, 0), EXPRESSIONS));
 }
+
+const STATEMENTS: &[Tree] = &[(
+    b"words 65536;\tlocks 64; # every construct \xff\r
+        x = 1; y = [x]; [y] = x + 2; acquire 0; release 63; barrier; print me;
+        if x == 1 { print 1; } else { if y { } else { barrier; } print 2; }
+        if x { print 3; } while x < nodes { x = x + 1; if 0 { while 1 { } } }",
+    b"{p0 = 1;p1 reads p0;write p1, (+ p0 2);acquire 0;release 63;barrier;print me;\
+        if (== p0 1){print 1;}{if p1{}{barrier;};print 2;};\
+        if p0{print 3;}{};while (< p0 nodes){p0 = (+ p0 1);if 0{while 1{};}{};};}",
+)];
 
 #[test]
 fn statements_have_their_trees(rt: HostRuntime) {
-    let text = b"words 65536;\tlocks 64; # every construct \xff\r
-        x = 1; y = [x]; [y] = x + 2; acquire 0; release 63; barrier; print me;
-        if x == 1 { print 1; } else { if y { } else { barrier; } print 2; }
-        if x { print 3; } while x < nodes { x = x + 1; if 0 { while 1 { } } }";
-    let wanted = b"{p0 = 1;p1 reads p0;write p1, (+ p0 2);acquire 0;release 63;barrier;print me;\
-        if (== p0 1){print 1;}{if p1{}{barrier;};print 2;};\
-        if p0{print 3;}{};while (< p0 nodes){p0 = (+ p0 1);if 0{while 1{};}{};};}";
-    assert!(rt; reads_as(rt.alloc(), text, (65_536, 64), wanted) == Ok(true));
+    holds(&rt, are_trees(rt.alloc(), (65_536, 64), STATEMENTS));
 }
 
-// The fault of a text, if it has one.
-fn fault_in(alloc: Global, text: &[u8]) -> Option<ParseFault> {
-    parse(alloc, text).err()
+/// The line and the kind of a text's fault, if it has one.
+type Fault = Option<(u32, FaultKind)>;
+
+/// Whether this is the fault of the text.
+fn has_fault(alloc: Global, text: &[u8], wanted: Fault) -> bool {
+    match parse(alloc, text) {
+        Ok(_program) => wanted.is_none(),
+        Err(ParseFault { line, kind }) => wanted == Some((line, kind)),
+    }
 }
+
+fn have_faults(alloc: Global, rows: &[(&[u8], u32, FaultKind)]) -> bool {
+    for (text, line, kind) in rows {
+        if !has_fault(alloc, text, Some((*line, *kind))) {
+            return false;
+        }
+    }
+    true
+}
+
+const FAULTS: &[(&[u8], u32, FaultKind)] = &[
+    (b"", 1, FaultKind::Unexpected),
+    (
+        b"words 1; locks 0; x = 18446744073709551616;",
+        1,
+        FaultKind::BadNumber,
+    ),
+    (b"words 1; locks 0;\nx = $;", 2, FaultKind::BadByte),
+    (b"words 1; locks 0; me = 1;", 1, FaultKind::Unexpected),
+    (b"words 65537;", 1, FaultKind::OverLimit),
+    (b"words 0;", 1, FaultKind::OverLimit),
+    (b"words 1; locks 65;", 1, FaultKind::OverLimit),
+    (
+        b"words 1; locks 0; print 1 == 2 == 3;",
+        1,
+        FaultKind::Unexpected,
+    ),
+    (
+        b"words 1; locks 0; if 1 { } else { } else { }",
+        1,
+        FaultKind::Unexpected,
+    ),
+    (b"words 1; locks 0;\n\nprint\n1\n", 5, FaultKind::Unexpected),
+    (b"words 1; locks 0; }", 1, FaultKind::Unexpected),
+    (b"words 1; locks 0; if 1 { ", 1, FaultKind::Unexpected),
+    (b"words 1; locks 0; print (1;", 1, FaultKind::Unexpected),
+    (b"words 1; locks 0; x = 1a;", 1, FaultKind::BadNumber),
+    (b"words 1; locks 0; print 1 ! 2;", 1, FaultKind::BadByte),
+    (b"words 99999999999;", 1, FaultKind::OverLimit),
+    (b"\r\n#\r!\n0_", 3, FaultKind::BadNumber),
+    (b"\n#\n\xc3\xa9", 3, FaultKind::BadByte),
+    (b"\n\n\x0b", 3, FaultKind::BadByte),
+    (b"\n\n! =", 3, FaultKind::BadByte),
+];
 
 #[test]
 fn faults_have_their_kind_and_line(rt: HostRuntime) {
-    let table: [(&[u8], u32, FaultKind); 20] = [
-        (b"", 1, FaultKind::Unexpected),
-        (
-            b"words 1; locks 0; x = 18446744073709551616;",
-            1,
-            FaultKind::BadNumber,
-        ),
-        (b"words 1; locks 0;\nx = $;", 2, FaultKind::BadByte),
-        (b"words 1; locks 0; me = 1;", 1, FaultKind::Unexpected),
-        (b"words 65537;", 1, FaultKind::OverLimit),
-        (b"words 0;", 1, FaultKind::OverLimit),
-        (b"words 1; locks 65;", 1, FaultKind::OverLimit),
-        (
-            b"words 1; locks 0; print 1 == 2 == 3;",
-            1,
-            FaultKind::Unexpected,
-        ),
-        (
-            b"words 1; locks 0; if 1 { } else { } else { }",
-            1,
-            FaultKind::Unexpected,
-        ),
-        (b"words 1; locks 0;\n\nprint\n1\n", 5, FaultKind::Unexpected),
-        (b"words 1; locks 0; }", 1, FaultKind::Unexpected),
-        (b"words 1; locks 0; if 1 { ", 1, FaultKind::Unexpected),
-        (b"words 1; locks 0; print (1;", 1, FaultKind::Unexpected),
-        (b"words 1; locks 0; x = 1a;", 1, FaultKind::BadNumber),
-        (b"words 1; locks 0; print 1 ! 2;", 1, FaultKind::BadByte),
-        (b"words 99999999999;", 1, FaultKind::OverLimit),
-        (b"\r\n#\r!\n0_", 3, FaultKind::BadNumber),
-        (b"\n#\n\xc3\xa9", 3, FaultKind::BadByte),
-        (b"\n\n\x0b", 3, FaultKind::BadByte),
-        (b"\n\n! =", 3, FaultKind::BadByte),
-    ];
-    for (text, line, kind) in table {
-        assert!(rt; fault_in(rt.alloc(), text) == Some(ParseFault { line, kind }));
-    }
+    holds(&rt, have_faults(rt.alloc(), FAULTS));
 }
 
 const OPEN: &[u8] = b"words 1; locks 0;\n";
 
-// The fault of a text with something open so many times around a middle.
-fn nested(
-    alloc: Global,
-    count: usize,
-    open: &[u8],
-    middle: &[u8],
-    close: &[u8],
-) -> Result<Option<ParseFault>, AllocError> {
-    let front = repeated(alloc, OPEN, open, count, middle)?;
-    let text = repeated(alloc, &front, close, count, b"")?;
-    Ok(fault_in(alloc, &text))
+/// A text of parts, each so many times, and its fault.
+type Large<'a> = (&'a [(&'a [u8], usize)], Fault);
+
+fn put_copies(text: &mut Vec<u8>, part: &[u8], count: usize) -> Result<(), AllocError> {
+    for _copy in 0..count {
+        text.extend_from_slice(part)?;
+    }
+    Ok(())
 }
 
-// The fault of a text of so many equal parts between a front and a back.
-fn of_parts(
-    alloc: Global,
-    front: &[u8],
-    part: &[u8],
-    count: usize,
-    back: &[u8],
-) -> Result<Option<ParseFault>, AllocError> {
-    let text = repeated(alloc, front, part, count, back)?;
-    Ok(fault_in(alloc, &text))
+fn put_parts(text: &mut Vec<u8>, parts: &[(&[u8], usize)]) -> Result<(), AllocError> {
+    for (part, count) in parts {
+        put_copies(text, part, *count)?;
+    }
+    Ok(())
 }
 
-fn on_line(line: u32, kind: FaultKind) -> Option<ParseFault> {
-    Some(ParseFault { line, kind })
+fn has_large_fault(alloc: Global, large: &Large) -> bool {
+    let (parts, fault) = large;
+    let mut text = Vec::new(alloc);
+    put_parts(&mut text, parts).is_ok() && has_fault(alloc, &text, *fault)
 }
+
+fn have_large_faults(alloc: Global, rows: &[Large]) -> bool {
+    for large in rows {
+        if !has_large_fault(alloc, large) {
+            return false;
+        }
+    }
+    true
+}
+
+const TOO_DEEP: Fault = Some((2, FaultKind::TooDeep));
+
+const NESTED: &[Large] = &[
+    (&[(OPEN, 1), (b"if 1 {", 32), (b"}", 32)], None),
+    (&[(OPEN, 1), (b"if 1 {", 33), (b"}", 33)], TOO_DEEP),
+    (
+        &[
+            (OPEN, 1),
+            (b"while 1 {", 31),
+            (b"print (1);", 1),
+            (b"}", 31),
+        ],
+        None,
+    ),
+    (
+        &[
+            (OPEN, 1),
+            (b"while 1 {", 32),
+            (b"print (1);", 1),
+            (b"}", 32),
+        ],
+        TOO_DEEP,
+    ),
+    (&[(b"words 1; locks 0;\nx = ", 1), (b"(", 33)], TOO_DEEP),
+];
 
 #[test]
 fn thirty_two_may_be_open(rt: HostRuntime) {
-    let found = [
-        nested(rt.alloc(), 32, b"if 1 {", b"", b"}"),
-        nested(rt.alloc(), 33, b"if 1 {", b"", b"}"),
-        nested(rt.alloc(), 31, b"while 1 {", b"print (1);", b"}"),
-        nested(rt.alloc(), 32, b"while 1 {", b"print (1);", b"}"),
-        of_parts(rt.alloc(), b"words 1; locks 0;\nx = ", b"(", 33, b""),
-    ];
-    let too_deep = on_line(2, FaultKind::TooDeep);
-    assert!(rt; found == [Ok(None), Ok(too_deep), Ok(None), Ok(too_deep), Ok(too_deep)]);
+    holds(&rt, have_large_faults(rt.alloc(), NESTED));
 }
+
+const PRINT: &[u8] = b"words 1; locks 0;\nprint 0";
+
+const OVER_LIMIT: Fault = Some((2, FaultKind::OverLimit));
+
+const OPERATORS: &[Large] = &[
+    (&[(PRINT, 1), (b" + (1 * 2)", 128), (b";", 1)], None),
+    (&[(PRINT, 1), (b" + 1", 257), (b";", 1)], OVER_LIMIT),
+    (&[(OPEN, 1), (b"[1 + 1] = 2 + 2;", 129)], None),
+];
 
 #[test]
 fn an_expression_has_256_operators(rt: HostRuntime) {
-    let print = b"words 1; locks 0;\nprint 0";
-    let found = [
-        of_parts(rt.alloc(), print, b" + (1 * 2)", 128, b";"),
-        of_parts(rt.alloc(), print, b" + 1", 257, b";"),
-        of_parts(rt.alloc(), OPEN, b"[1 + 1] = 2 + 2;", 129, b""),
-    ];
-    assert!(rt; found == [Ok(None), Ok(on_line(2, FaultKind::OverLimit)), Ok(None)]);
+    holds(&rt, have_large_faults(rt.alloc(), OPERATORS));
 }
 
-// The fault of a text with so many different names, each of `a` alone.
-fn named(alloc: Global, count: usize) -> Result<Option<ParseFault>, AllocError> {
-    let mut text = Vec::from_slice(alloc, OPEN)?;
+/// Adds so many statements with different names, each of `a` alone.
+fn put_names(text: &mut Vec<u8>, count: usize) -> Result<(), AllocError> {
+    text.extend_from_slice(OPEN)?;
     for number in 1..=count {
-        for _letter in 0..number {
-            text.push(b'a')?;
-        }
+        put_copies(text, b"a", number)?;
         text.extend_from_slice(b" = a;")?;
     }
-    Ok(fault_in(alloc, &text))
+    Ok(())
 }
+
+/// Whether this is the fault of a text with so many different names.
+fn has_fault_of_names(alloc: Global, count: usize, fault: Fault) -> bool {
+    let mut text = Vec::new(alloc);
+    put_names(&mut text, count).is_ok() && has_fault(alloc, &text, fault)
+}
+
+const TOO_MANY_NAMES: Fault = Some((2, FaultKind::TooManyNames));
+
+const TOO_LONG: Fault = Some((1, FaultKind::TooLong));
+
+const LONG: &[Large] = &[
+    (&[(b"words 1;locks 0;", 1), (b"a=1;", 16_380)], None),
+    (
+        &[(b"words 1;locks 0;", 1), (b"a=1;", 16_380), (b"\n", 1)],
+        TOO_LONG,
+    ),
+];
 
 #[test]
 fn a_text_has_32_names_and_65536_bytes(rt: HostRuntime) {
-    let found = [
-        named(rt.alloc(), 32),
-        named(rt.alloc(), 33),
-        of_parts(rt.alloc(), b"words 1;locks 0;", b"a=1;", 16_380, b""),
-        of_parts(rt.alloc(), b"words 1;locks 0;", b"a=1;", 16_380, b"\n"),
-    ];
-    let too_many = Ok(on_line(2, FaultKind::TooManyNames));
-    let too_long = Ok(on_line(1, FaultKind::TooLong));
-    assert!(rt; found == [Ok(None), too_many, Ok(None), too_long]);
+    holds(&rt, has_fault_of_names(rt.alloc(), 32, None));
+    holds(&rt, has_fault_of_names(rt.alloc(), 33, TOO_MANY_NAMES));
+    holds(&rt, have_large_faults(rt.alloc(), LONG));
 }

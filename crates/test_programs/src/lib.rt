@@ -2,6 +2,10 @@
 #![tactic(auto)]
 
 #[cfg(test)]
+mod acts;
+#[cfg(test)]
+mod checks;
+#[cfg(test)]
 mod clocks;
 #[cfg(test)]
 mod detector;

@@ -1,322 +1,317 @@
 // The definitions on runs, computed.
 
+use crate::acts::{Named, are_races, push_each, run_of};
+use crate::checks::holds;
 use lrc_judge::are_in_range;
 use lrc_judge::order::happens_before;
 use lrc_judge::races::named_races;
 use lrc_judge::reading::first_fault_of_reading;
 use lrc_judge::synchronization::first_fault_of_synchronization;
 use lrc_trace::act::{Act, Deed};
-use lrc_trace::race::Race;
 use std::alloc::{AllocError, Global};
 
-fn act(node: u8, deed: Deed) -> Act {
-    Act { node, deed }
-}
-
-fn race(word: u32, nodes: (u8, u8), intervals: (u64, u64)) -> Race {
-    Race {
-        word,
-        node_a: nodes.0,
-        node_b: nodes.1,
-        interval_a: intervals.0,
-        interval_b: intervals.1,
-    }
-}
-
-// What the judge is to find in a run of so many nodes.
+/// What the judge is asked of a run, and what it is to answer.
 #[derive(Clone, Copy)]
-struct Verdict<'r> {
-    nodes: u8,
-    races: &'r [Race],
-    misread: Option<usize>,
-    broken: Option<usize>,
+enum Asked<'a> {
+    /// How many races it names, and the first of them.
+    Races(usize, &'a [Named]),
+    /// Where the first fault of reading is.
+    Misread(Option<usize>),
+    /// Where the first fault of synchronization among so many nodes is.
+    Broken(u8, Option<usize>),
+    /// Whether the act at the first position happens before the one at the second.
+    Before(usize, usize, bool),
 }
 
-// A run of so many nodes without a fault, and its races.
-fn sound(nodes: u8, races: &[Race]) -> Verdict<'_> {
-    Verdict {
-        nodes,
-        races,
-        misread: None,
-        broken: None,
-    }
-}
-
-fn names(alloc: Global, acts: &[Act], races: &[Race]) -> Result<bool, AllocError> {
+fn answers(alloc: Global, acts: &[Act], asked: Asked) -> bool {
     if !are_in_range(acts) {
-        return Ok(false);
+        return false;
     }
-    Ok(named_races(alloc, acts)?.as_slice() == races)
-}
-
-fn misreads(alloc: Global, acts: &[Act], fault: Option<usize>) -> Result<bool, AllocError> {
-    if !are_in_range(acts) {
-        return Ok(false);
+    match asked {
+        Asked::Races(count, first) => match named_races(alloc, acts) {
+            Ok(races) => are_races(&races, count, first),
+            Err(_) => false,
+        },
+        Asked::Misread(fault) => first_fault_of_reading(alloc, acts) == Ok(fault),
+        Asked::Broken(nodes, fault) => {
+            nodes <= 16 && first_fault_of_synchronization(acts, nodes) == fault
+        }
+        Asked::Before(earlier, later, is_so) => match happens_before(alloc, acts) {
+            Ok(order) => order.is_before(earlier, later) == is_so,
+            Err(_) => false,
+        },
     }
-    Ok(first_fault_of_reading(alloc, acts)? == fault)
 }
 
-fn breaks(acts: &[Act], nodes: u8, fault: Option<usize>) -> bool {
-    nodes <= 16 && are_in_range(acts) && first_fault_of_synchronization(acts, nodes) == fault
-}
-
-// Whether the judge finds all of this.
-fn is_found(alloc: Global, acts: &[Act], wanted: Verdict<'_>) -> Result<bool, AllocError> {
-    let named = names(alloc, acts, wanted.races)?;
-    let read = misreads(alloc, acts, wanted.misread)?;
-    Ok(named && read && breaks(acts, wanted.nodes, wanted.broken))
-}
-
-// Whether the act at the first position happens before the one at the second.
-fn is_before(
-    alloc: Global,
-    acts: &[Act],
-    earlier: usize,
-    later: usize,
-) -> Result<bool, AllocError> {
-    if !are_in_range(acts) {
-        return Ok(false);
+fn answers_each(alloc: Global, acts: &[Act], asked: &[Asked]) -> bool {
+    for one in asked {
+        if !answers(alloc, acts, *one) {
+            return false;
+        }
     }
-    Ok(happens_before(alloc, acts)?.is_before(earlier, later))
+    true
+}
+
+/// The nodes of a run and what each does, and what the judge is asked of it.
+struct Row<'a> {
+    deeds: &'a [(u8, Deed)],
+    asked: &'a [Asked<'a>],
+}
+
+fn answers_row(alloc: Global, row: &Row) -> bool {
+    match run_of(alloc, row.deeds) {
+        Ok(acts) => answers_each(alloc, &acts, row.asked),
+        Err(_) => false,
+    }
 }
 
 // Node 0 writes a word that node 1 reads.
+const RACING: &Row = &Row {
+    deeds: &[
+        (0, Deed::Quiet),
+        (1, Deed::Quiet),
+        (0, Deed::Write(0, 5)),
+        (1, Deed::Read(0, 0)),
+        (0, Deed::End),
+        (1, Deed::Print(0)),
+        (1, Deed::End),
+    ],
+    asked: &[
+        Asked::Races(1, &[(0, [0, 1], [1, 1])]),
+        Asked::Misread(None),
+        Asked::Broken(2, None),
+    ],
+};
+
 #[test]
 fn a_racing_pair(rt: HostRuntime) {
-    let acts = [
-        act(0, Deed::Quiet),
-        act(1, Deed::Quiet),
-        act(0, Deed::Write(0, 5)),
-        act(1, Deed::Read(0, 0)),
-        act(0, Deed::End),
-        act(1, Deed::Print(0)),
-        act(1, Deed::End),
-    ];
-    let races = [race(0, (0, 1), (1, 1))];
-    assert!(rt; is_found(rt.alloc(), &acts, sound(2, &races)) == Ok(true));
+    holds(&rt, answers_row(rt.alloc(), RACING));
 }
 
 // Node 0 writes one word under a lock and another after it, and node 1 reads both under the lock.
-const HALF_LOCKED: [Act; 14] = [
-    Act {
-        node: 0,
-        deed: Deed::Quiet,
-    },
-    Act {
-        node: 0,
-        deed: Deed::Acquire(0),
-    },
-    Act {
-        node: 0,
-        deed: Deed::Write(0, 1),
-    },
-    Act {
-        node: 0,
-        deed: Deed::Release(0),
-    },
-    Act {
-        node: 0,
-        deed: Deed::Write(1, 2),
-    },
-    Act {
-        node: 1,
-        deed: Deed::Quiet,
-    },
-    Act {
-        node: 1,
-        deed: Deed::Acquire(0),
-    },
-    Act {
-        node: 1,
-        deed: Deed::Read(0, 1),
-    },
-    Act {
-        node: 1,
-        deed: Deed::Read(1, 0),
-    },
-    Act {
-        node: 1,
-        deed: Deed::Release(0),
-    },
-    Act {
-        node: 1,
-        deed: Deed::Print(1),
-    },
-    Act {
-        node: 1,
-        deed: Deed::Print(0),
-    },
-    Act {
-        node: 1,
-        deed: Deed::End,
-    },
-    Act {
-        node: 0,
-        deed: Deed::End,
-    },
-];
+const HALF_LOCKED: &Row = &Row {
+    deeds: &[
+        (0, Deed::Quiet),
+        (0, Deed::Acquire(0)),
+        (0, Deed::Write(0, 1)),
+        (0, Deed::Release(0)),
+        (0, Deed::Write(1, 2)),
+        (1, Deed::Quiet),
+        (1, Deed::Acquire(0)),
+        (1, Deed::Read(0, 1)),
+        (1, Deed::Read(1, 0)),
+        (1, Deed::Release(0)),
+        (1, Deed::Print(1)),
+        (1, Deed::Print(0)),
+        (1, Deed::End),
+        (0, Deed::End),
+    ],
+    asked: &[
+        Asked::Races(1, &[(1, [0, 1], [3, 2])]),
+        Asked::Misread(None),
+        Asked::Broken(2, None),
+        Asked::Before(2, 7, true),
+        Asked::Before(4, 8, false),
+        Asked::Before(7, 2, false),
+    ],
+};
 
 #[test]
 fn one_word_races_and_one_does_not(rt: HostRuntime) {
-    let races = [race(1, (0, 1), (3, 2))];
-    assert!(rt; is_found(rt.alloc(), &HALF_LOCKED, sound(2, &races)) == Ok(true));
-    let ordered = [
-        is_before(rt.alloc(), &HALF_LOCKED, 2, 7),
-        is_before(rt.alloc(), &HALF_LOCKED, 4, 8),
-        is_before(rt.alloc(), &HALF_LOCKED, 7, 2),
-    ];
-    assert!(rt; ordered == [Ok(true), Ok(false), Ok(false)]);
+    holds(&rt, answers_row(rt.alloc(), HALF_LOCKED));
 }
 
 // Three nodes write one word twice, in no order.
+const UNORDERED: &Row = &Row {
+    deeds: &[
+        (0, Deed::Write(0, 0)),
+        (1, Deed::Write(0, 1)),
+        (2, Deed::Write(0, 2)),
+        (0, Deed::Write(0, 0)),
+        (1, Deed::Write(0, 1)),
+        (2, Deed::Write(0, 2)),
+        (0, Deed::End),
+        (1, Deed::End),
+        (2, Deed::End),
+    ],
+    asked: &[
+        Asked::Races(
+            3,
+            &[
+                (0, [0, 1], [1, 1]),
+                (0, [0, 2], [1, 1]),
+                (0, [1, 2], [1, 1]),
+            ],
+        ),
+        Asked::Misread(None),
+        Asked::Broken(3, None),
+    ],
+};
+
 #[test]
 fn three_unordered_writers(rt: HostRuntime) {
-    let acts = [
-        act(0, Deed::Write(0, 0)),
-        act(1, Deed::Write(0, 1)),
-        act(2, Deed::Write(0, 2)),
-        act(0, Deed::Write(0, 0)),
-        act(1, Deed::Write(0, 1)),
-        act(2, Deed::Write(0, 2)),
-        act(0, Deed::End),
-        act(1, Deed::End),
-        act(2, Deed::End),
-    ];
-    let races = [
-        race(0, (0, 1), (1, 1)),
-        race(0, (0, 2), (1, 1)),
-        race(0, (1, 2), (1, 1)),
-    ];
-    assert!(rt; is_found(rt.alloc(), &acts, sound(3, &races)) == Ok(true));
+    holds(&rt, answers_row(rt.alloc(), UNORDERED));
 }
 
 // Node 0 hands one lock to node 1, and node 1 another to node 2.
+const HANDED_ON: &Row = &Row {
+    deeds: &[
+        (0, Deed::Acquire(0)),
+        (0, Deed::Write(0, 3)),
+        (0, Deed::Release(0)),
+        (0, Deed::End),
+        (1, Deed::Acquire(0)),
+        (1, Deed::Release(0)),
+        (1, Deed::Acquire(1)),
+        (1, Deed::Release(1)),
+        (1, Deed::End),
+        (2, Deed::Acquire(1)),
+        (2, Deed::Read(0, 3)),
+        (2, Deed::Release(1)),
+        (2, Deed::Print(3)),
+        (2, Deed::End),
+    ],
+    asked: &[
+        Asked::Races(0, &[]),
+        Asked::Misread(None),
+        Asked::Broken(3, None),
+        Asked::Before(1, 10, true),
+    ],
+};
+
 #[test]
 fn ordered_through_a_third_node(rt: HostRuntime) {
-    let acts = [
-        act(0, Deed::Acquire(0)),
-        act(0, Deed::Write(0, 3)),
-        act(0, Deed::Release(0)),
-        act(0, Deed::End),
-        act(1, Deed::Acquire(0)),
-        act(1, Deed::Release(0)),
-        act(1, Deed::Acquire(1)),
-        act(1, Deed::Release(1)),
-        act(1, Deed::End),
-        act(2, Deed::Acquire(1)),
-        act(2, Deed::Read(0, 3)),
-        act(2, Deed::Release(1)),
-        act(2, Deed::Print(3)),
-        act(2, Deed::End),
-    ];
-    assert!(rt; is_found(rt.alloc(), &acts, sound(3, &[])) == Ok(true));
-    assert!(rt; is_before(rt.alloc(), &acts, 1, 10) == Ok(true));
+    holds(&rt, answers_row(rt.alloc(), HANDED_ON));
 }
 
-// Node 0 writes a word, and after a barrier all three nodes read it.
+// Node 0 writes a word, and after a barrier all three nodes read it. A fourth node has not arrived.
+const MET: &Row = &Row {
+    deeds: &[
+        (0, Deed::Write(0, 7)),
+        (1, Deed::Arrive),
+        (2, Deed::Arrive),
+        (0, Deed::Arrive),
+        (0, Deed::Depart),
+        (1, Deed::Depart),
+        (2, Deed::Depart),
+        (0, Deed::Read(0, 7)),
+        (1, Deed::Read(0, 7)),
+        (2, Deed::Read(0, 7)),
+    ],
+    asked: &[
+        Asked::Races(0, &[]),
+        Asked::Misread(None),
+        Asked::Broken(3, None),
+        Asked::Broken(4, Some(4)),
+    ],
+};
+
 #[test]
 fn a_barrier_orders_all(rt: HostRuntime) {
-    let acts = [
-        act(0, Deed::Write(0, 7)),
-        act(1, Deed::Arrive),
-        act(2, Deed::Arrive),
-        act(0, Deed::Arrive),
-        act(0, Deed::Depart),
-        act(1, Deed::Depart),
-        act(2, Deed::Depart),
-        act(0, Deed::Read(0, 7)),
-        act(1, Deed::Read(0, 7)),
-        act(2, Deed::Read(0, 7)),
-    ];
-    assert!(rt; is_found(rt.alloc(), &acts, sound(3, &[])) == Ok(true));
-    // A fourth node has not arrived.
-    assert!(rt; breaks(&acts, 4, Some(4)));
+    holds(&rt, answers_row(rt.alloc(), MET));
 }
 
-// A value that no write before it wrote, and one that a later write of the same node replaced.
+// A value that no write before it wrote,
+const NEVER_WRITTEN: &Row = &Row {
+    deeds: &[
+        (0, Deed::Write(0, 5)),
+        (0, Deed::Read(0, 5)),
+        (1, Deed::Read(0, 5)),
+    ],
+    asked: &[Asked::Misread(Some(2))],
+};
+
+// and one that a later write of the same node replaced.
+const REPLACED: &Row = &Row {
+    deeds: &[
+        (0, Deed::Write(0, 5)),
+        (0, Deed::Write(0, 6)),
+        (0, Deed::Read(1, 0)),
+        (0, Deed::Read(0, 5)),
+    ],
+    asked: &[Asked::Misread(Some(3))],
+};
+
 #[test]
 fn faults_of_reading(rt: HostRuntime) {
-    let never_written = [
-        act(0, Deed::Write(0, 5)),
-        act(0, Deed::Read(0, 5)),
-        act(1, Deed::Read(0, 5)),
-    ];
-    assert!(rt; misreads(rt.alloc(), &never_written, Some(2)) == Ok(true));
-    let replaced = [
-        act(0, Deed::Write(0, 5)),
-        act(0, Deed::Write(0, 6)),
-        act(0, Deed::Read(1, 0)),
-        act(0, Deed::Read(0, 5)),
-    ];
-    assert!(rt; misreads(rt.alloc(), &replaced, Some(3)) == Ok(true));
+    holds(&rt, answers_row(rt.alloc(), NEVER_WRITTEN));
+    holds(&rt, answers_row(rt.alloc(), REPLACED));
 }
 
-// A lock taken from its holder, one released by a node that does not hold it, and a depart before an arrive.
+// A lock taken from its holder, one released by a node that does not hold it,
+const HELD: &Row = &Row {
+    deeds: &[(0, Deed::Acquire(3)), (1, Deed::Acquire(3))],
+    asked: &[Asked::Broken(2, Some(1))],
+};
+
+const NOT_HELD: &Row = &Row {
+    deeds: &[(0, Deed::Acquire(3)), (1, Deed::Release(3))],
+    asked: &[Asked::Broken(2, Some(1))],
+};
+
+// and a depart before an arrive.
+const EARLY: &Row = &Row {
+    deeds: &[
+        (0, Deed::Arrive),
+        (1, Deed::Arrive),
+        (0, Deed::Depart),
+        (0, Deed::Depart),
+    ],
+    asked: &[Asked::Broken(2, Some(3))],
+};
+
 #[test]
 fn faults_of_synchronization(rt: HostRuntime) {
-    let held = [act(0, Deed::Acquire(3)), act(1, Deed::Acquire(3))];
-    let not_held = [act(0, Deed::Acquire(3)), act(1, Deed::Release(3))];
-    let early = [
-        act(0, Deed::Arrive),
-        act(1, Deed::Arrive),
-        act(0, Deed::Depart),
-        act(0, Deed::Depart),
-    ];
-    let found = [
-        breaks(&held, 2, Some(1)),
-        breaks(&not_held, 2, Some(1)),
-        breaks(&early, 2, Some(3)),
-    ];
-    assert!(rt; found == [true, true, true]);
+    holds(&rt, answers_row(rt.alloc(), HELD));
+    holds(&rt, answers_row(rt.alloc(), NOT_HELD));
+    holds(&rt, answers_row(rt.alloc(), EARLY));
 }
 
-// A long run: sixteen nodes in turn write, read and print under the lock with the largest number.
-fn long_run(alloc: Global) -> Result<Vec<Act>, AllocError> {
+/// A long run: sixteen nodes in turn write, read and print under the lock with the largest number. Or the same run without its
+/// locks.
+fn long_run(alloc: Global, turns: u16, is_locked: bool) -> Result<Vec<Act>, AllocError> {
     let mut acts = Vec::new(alloc);
-    for turn in 0..250u64 {
+    for turn in 0..turns {
         let node = (turn % 16) as u8;
-        acts.push(act(node, Deed::Acquire(63)))?;
-        acts.push(act(node, Deed::Read(4095, turn)))?;
-        acts.push(act(node, Deed::Write(4095, turn + 1)))?;
-        acts.push(act(node, Deed::Release(63)))?;
+        let deeds = [
+            (node, Deed::Acquire(63)),
+            (node, Deed::Read(4095, u64::from(turn))),
+            (node, Deed::Write(4095, u64::from(turn) + 1)),
+            (node, Deed::Release(63)),
+        ];
+        push_each(&mut acts, if is_locked { &deeds } else { &deeds[1..3] })?;
     }
     Ok(acts)
 }
 
-// The same run without its locks.
-fn without_locks(alloc: Global) -> Result<Vec<Act>, AllocError> {
-    let mut acts = Vec::new(alloc);
-    for turn in 0..500u64 {
-        let node = (turn % 16) as u8;
-        acts.push(act(node, Deed::Read(4095, turn)))?;
-        acts.push(act(node, Deed::Write(4095, turn + 1)))?;
+/// Whether the judge answers each so of the long run of so many turns.
+fn answers_long(alloc: Global, turns: u16, is_locked: bool, asked: &[Asked]) -> bool {
+    match long_run(alloc, turns, is_locked) {
+        Ok(acts) => answers_each(alloc, &acts, asked),
+        Err(_) => false,
     }
-    Ok(acts)
 }
 
-fn a_long_run_is_judged(alloc: Global) -> Result<bool, AllocError> {
-    is_found(alloc, &long_run(alloc)?, sound(16, &[]))
-}
+const LOCKED_ASKED: &[Asked] = &[
+    Asked::Races(0, &[]),
+    Asked::Misread(None),
+    Asked::Broken(16, None),
+    Asked::Before(0, 999, true),
+    Asked::Before(999, 0, false),
+];
 
-// Whether the first act of the long run happens before the last one, and not the other way round.
-fn the_ends_are_ordered(alloc: Global) -> Result<bool, AllocError> {
-    let acts = long_run(alloc)?;
-    Ok(is_before(alloc, &acts, 0, 999)? && !is_before(alloc, &acts, 999, 0)?)
-}
-
-// How many pairs of nodes race in the run without locks.
-fn racing_pairs(alloc: Global) -> Result<usize, AllocError> {
-    let acts = without_locks(alloc)?;
-    if !are_in_range(&acts) {
-        return Ok(0);
-    }
-    Ok(named_races(alloc, &acts)?.len())
+/// Whether there are nodes 0 to 15 alone.
+fn sixteen_are_in_range() -> bool {
+    let deed = Deed::End;
+    are_in_range(&[Act { node: 15, deed }]) && !are_in_range(&[Act { node: 16, deed }])
 }
 
 #[test]
 fn long_runs_are_judged(rt: HostRuntime) {
-    assert!(rt; are_in_range(&[act(15, Deed::End)]) && !are_in_range(&[act(16, Deed::End)]));
-    assert!(rt; a_long_run_is_judged(rt.alloc()) == Ok(true));
-    assert!(rt; the_ends_are_ordered(rt.alloc()) == Ok(true));
-    assert!(rt; racing_pairs(rt.alloc()) == Ok(120));
+    holds(&rt, sixteen_are_in_range());
+    holds(&rt, answers_long(rt.alloc(), 250, true, LOCKED_ASKED));
+    holds(
+        &rt,
+        answers_long(rt.alloc(), 500, false, &[Asked::Races(120, &[])]),
+    );
 }
