@@ -23,8 +23,8 @@ pub struct Mail {
     wait: Wait,
     sent: Vec<u64>,
     taken: Vec<Numbers>,
-    // A list that was used before, for the messages of the next turn that sends any.
-    spare: Vec<Envelope>,
+    // Lists that were used before, for the messages of later turns.
+    spare: Vec<Vec<Envelope>>,
 }
 
 impl Model for Mail {
@@ -125,19 +125,21 @@ impl Mail {
     pub fn keep_list(&mut self, mut out: Vec<Envelope>)
         ensures { self.new ≡ self.old }
     {
-        out.clear();
-        if out.capacity() > self.spare.capacity() {
-            self.spare = out;
+        if out.capacity() > 0 {
+            out.clear();
+            // Without memory for it the list is given up.
+            let _given_up = self.spare.push(out);
         }
     }
 
-    // An empty list with room for so many messages, the one that was kept where there is one.
+    // An empty list with room for so many messages, one that was kept where there is any.
     fn list_for(&mut self, count: usize) -> Result<Vec<Envelope>, AllocError>
         ensures same { self.new ≡ self.old }
         ensures empty { IfOk result (λ out. out.items ≡ []) }
     {
-        let alloc = *self.sent.allocator();
-        let mut out = mem::replace(&mut self.spare, Vec::new(alloc));
+        let Some(mut out) = self.spare.pop() else {
+            return Vec::with_capacity(*self.sent.allocator(), count);
+        };
         out.clear();
         out.reserve(count)?;
         Ok(out)

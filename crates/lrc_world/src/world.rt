@@ -33,7 +33,6 @@ use lrc_trace::trace::Trace;
 use lrc_wire::{EncodeFault, WireFault, decode, spell_over};
 use std::alloc::{AllocError, Global};
 use std::collections::VecDeque;
-use std::mem;
 
 /// All nodes with what is kept of their logs, the messages in flight, oldest first, and the acts so far.
 #[derive(Drop)]
@@ -43,8 +42,8 @@ pub(crate) struct World<'c> {
     nodes: Vec<Logged<'c>>,
     flight: VecDeque<Flying>,
     acts: Vec<Act>,
-    // The bytes of a message that was delivered, whose memory the next one that is sent takes.
-    spare: Vec<u8>,
+    // The bytes of messages that were delivered, whose memory later ones take.
+    spare: Vec<Vec<u8>>,
 }
 
 impl<'c> World<'c> {
@@ -302,9 +301,9 @@ fn note(acts: &mut Vec<Act>, act: Option<Act>) -> Result<(), AllocError>
     Ok(())
 }
 
-// Puts messages of one turn in flight, the first of them in the spare bytes.
+// Puts messages of one turn in flight, in place of spare bytes where there are any.
 fn send(
-    spare: &mut Vec<u8>,
+    spare: &mut Vec<Vec<u8>>,
     out: &[Envelope],
     stamp: u64,
     flight: &mut VecDeque<Flying>,
@@ -324,14 +323,17 @@ fn send(
     Ok(())
 }
 
-// The bytes of a message, in place of the spare ones.
-fn bytes_of(spare: &mut Vec<u8>, envelope: &Envelope) -> Result<Vec<u8>, SimFault>
+// The bytes of a message, in place of spare ones where there are any.
+fn bytes_of(spare: &mut Vec<Vec<u8>>, envelope: &Envelope) -> Result<Vec<u8>, SimFault>
     ensures written { IfOk result (λ bytes. envelope_of bytes.items ≡ Ok envelope.now) }
     ensures short { OnOk result (is_long envelope.now ≡ false) }
     ensures err { IfErr result (IsSendFault (envelope.now ∷ [])) }
 {
-    let none = Vec::new(*spare.allocator());
-    match spell_over(mem::replace(spare, none), envelope) {
+    let place = match spare.pop() {
+        Some(bytes) => bytes,
+        None => Vec::new(*spare.allocator()),
+    };
+    match spell_over(place, envelope) {
         Ok(bytes) => Ok(bytes),
         Err(EncodeFault::TooLong) => Err(SimFault::Worn),
         Err(EncodeFault::NoMemory) => Err(SimFault::NoMemory),
@@ -413,12 +415,13 @@ fn mark(flight: &mut VecDeque<Flying>, place: usize)
     }
 }
 
-// Takes the message at the place out of flight, if it is there. Its bytes are the spare ones then.
-fn forget(flight: &mut VecDeque<Flying>, spare: &mut Vec<u8>, place: usize)
+// Takes the message at the place out of flight, if it is there. Its bytes are spare then.
+fn forget(flight: &mut VecDeque<Flying>, spare: &mut Vec<Vec<u8>>, place: usize)
     ensures { place < length flight.old.items → flight.new.items ≡ remove flight.old.items place }
 {
     if let Some(flying) = flight.remove(place) {
-        *spare = flying.bytes;
+        // Without memory for them the bytes are given up.
+        let _given_up = spare.push(flying.bytes);
     }
 }
 
