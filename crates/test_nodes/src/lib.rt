@@ -2,9 +2,13 @@
 #![tactic(auto)]
 
 #[cfg(test)]
+mod checks;
+#[cfg(test)]
 mod mails;
 #[cfg(test)]
 mod nodes;
+#[cfg(test)]
+mod plays;
 #[cfg(test)]
 mod refusals;
 #[cfg(test)]

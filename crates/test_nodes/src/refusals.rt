@@ -1,21 +1,10 @@
 // Messages that a node doesn't expect.
 
-use lrc_exec::code::Code;
-use lrc_lang::parse;
-use lrc_node::{Node, NodeFault, Options};
-use lrc_page::Size;
-use lrc_trace::act::{Act, Deed};
-use lrc_wire::decode;
+use crate::checks::holds;
+use crate::plays::{Outline, Play, Step, plays};
+use lrc_node::NodeFault;
+use lrc_trace::act::Deed;
 use std::alloc::Global;
-
-const ONE_WORD: &[u8] = b"words 1; locks 2; [0] = 1;";
-
-const OPTIONS: Options = Options {
-    steps: 1000,
-    collect: 0,
-    first: 0,
-    size: Size::Words64,
-};
 
 // Node 0's messages to a fresh node 1 of two, which expects none of them: a request of lock 0,
 const REQUEST: &[u8] = &[
@@ -63,23 +52,6 @@ const LONG_REQUEST: &[u8] = &[
 const ASTRAY: &[u8] = &[
     1, 1, 0, 0, 0, 0, 0, 0, 0, 0, 0, 10, 1, 2, 0, 0, 0, 0, 0, 0, 0, 0,
 ];
-// page 0 itself is made below.
-const FALSE_MESSAGES: [&[u8]; 13] = [
-    REQUEST,
-    FORWARD,
-    FORWARD_1,
-    GRANT,
-    ARRIVE,
-    DEPART,
-    CLEAN,
-    DISCARD,
-    CHANGES_REQUEST,
-    CHANGES,
-    PAGE_REQUEST,
-    LONG_REQUEST,
-    ASTRAY,
-];
-
 // A request of lock 1, which node 1 manages. It has the number of the false messages.
 const TRUE_REQUEST: &[u8] = &[
     1, 1, 0, 1, 0, 0, 0, 0, 0, 0, 0, 10, 1, 2, 0, 0, 0, 0, 0, 0, 0, 0,
@@ -97,69 +69,46 @@ fn page_reply() -> [u8; 528] {
     bytes
 }
 
-/// Whether a node refuses a message as unexpected.
-fn refuses(alloc: Global, node: &mut Node<'_>, bytes: &[u8]) -> bool {
-    match decode(alloc, bytes) {
-        Ok(envelope) => matches!(node.take(&envelope), Err(NodeFault::Unexpected)),
+const UNEXPECTED: Outline = Err(NodeFault::Unexpected);
+
+// A fresh node 1 refuses the false messages, and page 0 itself, which is at hand. It goes on as if they had not come, and
+// refuses a departure then too; it takes the true one.
+const REFUSALS: &Play = &Play {
+    text: b"words 1; locks 2; [0] = 1;",
+    node: 1,
+    nodes: 2,
+    first: 0,
+    steps: &[
+        Step::Takes(Some(REQUEST), UNEXPECTED),
+        Step::Takes(Some(FORWARD), UNEXPECTED),
+        Step::Takes(Some(FORWARD_1), UNEXPECTED),
+        Step::Takes(Some(GRANT), UNEXPECTED),
+        Step::Takes(Some(ARRIVE), UNEXPECTED),
+        Step::Takes(Some(DEPART), UNEXPECTED),
+        Step::Takes(Some(CLEAN), UNEXPECTED),
+        Step::Takes(Some(DISCARD), UNEXPECTED),
+        Step::Takes(Some(CHANGES_REQUEST), UNEXPECTED),
+        Step::Takes(Some(CHANGES), UNEXPECTED),
+        Step::Takes(Some(PAGE_REQUEST), UNEXPECTED),
+        Step::Takes(Some(LONG_REQUEST), UNEXPECTED),
+        Step::Takes(Some(ASTRAY), UNEXPECTED),
+        Step::Takes(None, UNEXPECTED),
+        Step::Runs(Ok((Some((1, Deed::Write(0, 1))), 0))),
+        Step::Takes(Some(DEPART), UNEXPECTED),
+        Step::Takes(Some(TRUE_REQUEST), Ok((None, 1))),
+        Step::Runs(Ok((Some((1, Deed::End)), 0))),
+    ],
+};
+
+/// Whether the node refuses all of them.
+fn refuses_each(alloc: Global) -> bool {
+    match Vec::from_slice(alloc, &page_reply()) {
+        Ok(mut at_hand) => plays(alloc, &mut at_hand, REFUSALS),
         Err(_) => false,
     }
 }
 
-/// Which of the false messages a node refuses, the last being a base copy.
-fn refuses_each(alloc: Global, node: &mut Node<'_>) -> [bool; 14] {
-    let mut refused = [false; 14];
-    for place in 0..13 {
-        refused[place] = refuses(alloc, node, FALSE_MESSAGES[place]);
-    }
-    refused[13] = refuses(alloc, node, &page_reply());
-    refused
-}
-
-/// The act that a node makes next by itself.
-fn next_act(node: &mut Node<'_>) -> Option<Act> {
-    node.run().ok()?.act
-}
-
-/// How many messages a node sends when it takes this one.
-fn sends(alloc: Global, node: &mut Node<'_>, bytes: &[u8]) -> Option<usize> {
-    let envelope = decode(alloc, bytes).ok()?;
-    let turn = node.take(&envelope).ok()?;
-    Some(turn.out.len())
-}
-
-/// Which false messages a node refuses; its act then; whether it refuses a departure after that; how many messages it sends
-/// when it takes a true one; and its next act.
-type Found = ([bool; 14], Option<Act>, bool, Option<usize>, Option<Act>);
-
-fn tried(alloc: Global, node: &mut Node<'_>) -> Found {
-    let refused = refuses_each(alloc, node);
-    let act = next_act(node);
-    let refused_later = refuses(alloc, node, DEPART);
-    let sent = sends(alloc, node, TRUE_REQUEST);
-    (refused, act, refused_later, sent, next_act(node))
-}
-
-fn tried_fresh(alloc: Global, code: &Code<'_>) -> Option<Found> {
-    let mut node = Node::new(alloc, code, 1, 2, &OPTIONS).ok()?;
-    Some(tried(alloc, &mut node))
-}
-
-fn found(alloc: Global) -> Option<Found> {
-    let program = parse(alloc, ONE_WORD).ok()?;
-    let code = Code::new(alloc, &program).ok()?;
-    tried_fresh(alloc, &code)
-}
-
 #[test]
 fn false_messages_change_nothing(rt: HostRuntime) {
-    let written = Act {
-        node: 1,
-        deed: Deed::Write(0, 1),
-    };
-    let ended = Act {
-        node: 1,
-        deed: Deed::End,
-    };
-    let wanted = ([true; 14], Some(written), true, Some(1), Some(ended));
-    assert!(rt; found(rt.alloc()) == Some(wanted));
+    holds(&rt, refuses_each(rt.alloc()));
 }

@@ -1,12 +1,14 @@
 // Runs of several nodes, by lists of events.
 
+use crate::checks::holds;
 use lrc_lang::parse;
+use lrc_lang::program::Program;
 use lrc_node::Options;
 use lrc_page::Size;
 use lrc_protocol::Event;
 use lrc_trace::act::{Act, Deed};
 use lrc_trace::race::Race;
-use lrc_world::report::SimFault;
+use lrc_world::report::Report;
 use lrc_world::simulate::simulate;
 use std::alloc::{AllocError, Global};
 
@@ -34,104 +36,157 @@ const HANDED_ON: &[u8] = b"words 1; locks 2; if me == 0 { acquire 0; [0] = 3; re
 const HALF_LOCKED: &[u8] =
     b"words 2; locks 1; acquire 0; x = [0]; [0] = x + 1; release 0; [1] = me;";
 
-fn options(collect: u32, size: Size) -> Options {
-    Options {
-        steps: 1_000_000,
-        collect,
-        first: 0,
-        size,
-    }
+/// The events of a run.
+#[derive(Clone, Copy)]
+enum Events<'a> {
+    /// So many rounds in which each of the nodes is named once, and then the oldest message is delivered eight times.
+    Rounds(u32),
+    /// Each of these so often.
+    Each(&'a [(Event, u32)]),
 }
 
-// So many rounds in which each of the nodes is named once, and then the oldest message is delivered eight times.
-fn rounds(alloc: Global, nodes: u32, count: u32) -> Result<Vec<Event>, AllocError> {
-    let mut events = Vec::new(alloc);
+/// What a run is to show.
+#[derive(Clone, Copy)]
+enum Wanted<'a> {
+    /// Each node prints these, one after another, and comes to its end.
+    EachPrints(&'a [u64]),
+    /// The nodes print these, in the order of the acts.
+    Prints(&'a [(u8, u64)]),
+    /// The only race.
+    Race(Race),
+}
+
+/// A text that so many nodes run, the options, the events and what is wanted.
+#[derive(Clone, Copy)]
+struct Run<'a> {
+    text: &'a [u8],
+    nodes: u8,
+    collect: u32,
+    size: Size,
+    events: Events<'a>,
+    wanted: Wanted<'a>,
+}
+
+fn push_often(events: &mut Vec<Event>, event: Event, often: u32) -> Result<(), AllocError> {
+    for _ in 0..often {
+        events.push(event)?;
+    }
+    Ok(())
+}
+
+fn push_each(events: &mut Vec<Event>, each: &[(Event, u32)]) -> Result<(), AllocError> {
+    for (event, often) in each {
+        push_often(events, *event, *often)?;
+    }
+    Ok(())
+}
+
+fn push_round(events: &mut Vec<Event>, nodes: u8) -> Result<(), AllocError> {
+    for node in 0..nodes {
+        events.push(Event::Run(u32::from(node)))?;
+    }
+    push_often(events, Event::Deliver(0), 8)
+}
+
+fn push_rounds(events: &mut Vec<Event>, nodes: u8, count: u32) -> Result<(), AllocError> {
     for _round in 0..count {
-        for node in 0..nodes {
-            events.push(Event::Run(node))?;
-        }
-        for _delivery in 0..8u32 {
-            events.push(Event::Deliver(0))?;
-        }
+        push_round(events, nodes)?;
     }
-    Ok(events)
+    Ok(())
 }
 
-fn acts_of(
-    alloc: Global,
-    text: &[u8],
-    nodes: u32,
-    options: &Options,
-    events: &[Event],
-) -> Result<Vec<Act>, SimFault> {
-    let program = parse(alloc, text).map_err(|_fault| SimFault::NoMemory)?;
-    let report = simulate(alloc, &program, nodes, options, events)?;
-    Ok(report.acts)
+fn push_events(events: &mut Vec<Event>, run: &Run) -> Result<(), AllocError> {
+    match run.events {
+        Events::Rounds(count) => push_rounds(events, run.nodes, count),
+        Events::Each(each) => push_each(events, each),
+    }
 }
 
-// What a node prints, one after another.
-fn printed(alloc: Global, acts: &[Act], node: u8) -> Result<Vec<u64>, AllocError> {
-    let mut values = Vec::new(alloc);
+/// Whether a node prints these, one after another.
+fn prints(acts: &[Act], node: u8, wanted: &[u64]) -> bool {
+    let mut count: usize = 0;
     for act in acts {
         if act.node == node
             && let Deed::Print(value) = act.deed
         {
-            values.push(value)?;
+            if wanted.get(count) != Some(&value) {
+                return false;
+            }
+            count = count.saturating_add(1);
         }
     }
-    Ok(values)
+    count == wanted.len()
 }
 
-// Whether each node prints these, and comes to its end.
-fn all_print(
-    alloc: Global,
-    text: &[u8],
-    nodes: u8,
-    options: &Options,
-    wanted: &[u64],
-) -> Result<bool, SimFault> {
-    let events = rounds(alloc, u32::from(nodes), 60)?;
-    let acts = acts_of(alloc, text, u32::from(nodes), options, &events)?;
+fn each_prints(acts: &[Act], nodes: u8, wanted: &[u64]) -> bool {
+    let deed = Deed::End;
     for node in 0..nodes {
-        let values = printed(alloc, &acts, node)?;
-        let ends = acts.contains(&Act {
-            node,
-            deed: Deed::End,
-        });
-        if values.as_slice() != wanted || !ends {
-            return Ok(false);
+        if !prints(acts, node, wanted) || !acts.contains(&Act { node, deed }) {
+            return false;
         }
     }
-    Ok(true)
+    true
 }
 
-// Each of these events so often.
-fn repeated(alloc: Global, events: &[(Event, u32)]) -> Result<Vec<Event>, AllocError> {
-    let mut all = Vec::new(alloc);
-    for (event, often) in events {
-        for _ in 0..*often {
-            all.push(*event)?;
-        }
-    }
-    Ok(all)
-}
-
-// What all nodes print in a run of these events, each so often, in the order of the acts.
-fn all_printed(
-    alloc: Global,
-    text: &[u8],
-    nodes: u32,
-    events: &[(Event, u32)],
-) -> Result<Vec<(u8, u64)>, SimFault> {
-    let events = repeated(alloc, events)?;
-    let acts = acts_of(alloc, text, nodes, &options(0, Size::Words64), &events)?;
-    let mut values = Vec::new(alloc);
-    for act in &acts {
+/// Whether the nodes print these, in the order of the acts.
+fn all_print(acts: &[Act], wanted: &[(u8, u64)]) -> bool {
+    let mut count: usize = 0;
+    for act in acts {
         if let Deed::Print(value) = act.deed {
-            values.push((act.node, value))?;
+            if wanted.get(count) != Some(&(act.node, value)) {
+                return false;
+            }
+            count = count.saturating_add(1);
         }
     }
-    Ok(values)
+    count == wanted.len()
+}
+
+fn shows(report: &Report, run: &Run) -> bool {
+    match run.wanted {
+        Wanted::EachPrints(values) => each_prints(&report.acts, run.nodes, values),
+        Wanted::Prints(values) => all_print(&report.acts, values),
+        Wanted::Race(race) => report.races.as_slice() == [race].as_slice(),
+    }
+}
+
+fn shows_wanted(report: Report, run: &Run) -> bool {
+    shows(&report, run)
+}
+
+fn shows_by(alloc: Global, program: &Program, events: &[Event], run: &Run) -> bool {
+    let options = Options {
+        steps: 1_000_000,
+        collect: run.collect,
+        first: 0,
+        size: run.size,
+    };
+    match simulate(alloc, program, u32::from(run.nodes), &options, events) {
+        Ok(report) => shows_wanted(report, run),
+        Err(_) => false,
+    }
+}
+
+fn shows_in(alloc: Global, program: &Program, run: &Run) -> bool {
+    let mut events = Vec::new(alloc);
+    push_events(&mut events, run).is_ok() && shows_by(alloc, program, &events, run)
+}
+
+/// Whether a run shows what is wanted.
+fn is_met(alloc: Global, run: &Run) -> bool {
+    match parse(alloc, run.text) {
+        Ok(program) => shows_in(alloc, &program, run),
+        Err(_) => false,
+    }
+}
+
+fn are_met(alloc: Global, runs: &[Run]) -> bool {
+    for run in runs {
+        if !is_met(alloc, run) {
+            return false;
+        }
+    }
+    true
 }
 
 // A lock that is asked for while its holder goes on: the grant has the time of the release, and not what came after.
@@ -193,78 +248,118 @@ const HANDED_ON_EVENTS: &[(Event, u32)] = &[
     (Event::Run(2), 3),
 ];
 
+const LOCKED: &[Run] = &[
+    Run {
+        text: LATE_GRANT,
+        nodes: 2,
+        collect: 0,
+        size: Size::Words64,
+        events: Events::Each(LATE_GRANT_EVENTS),
+        wanted: Wanted::Prints(&[(1, 1), (1, 0)]),
+    },
+    Run {
+        text: LATE_GRANT,
+        nodes: 2,
+        collect: 0,
+        size: Size::Words64,
+        events: Events::Each(REPEATED_EVENTS),
+        wanted: Wanted::Prints(&[(1, 1), (1, 0)]),
+    },
+    Run {
+        text: HELD,
+        nodes: 3,
+        collect: 0,
+        size: Size::Words64,
+        events: Events::Each(HELD_EVENTS),
+        wanted: Wanted::Prints(&[(2, 1), (1, 0)]),
+    },
+    Run {
+        text: HANDED_ON,
+        nodes: 3,
+        collect: 0,
+        size: Size::Words64,
+        events: Events::Each(HANDED_ON_EVENTS),
+        wanted: Wanted::Prints(&[(2, 3)]),
+    },
+];
+
 #[test]
 fn locks_bring_what_was_written_under_them(rt: HostRuntime) {
-    let runs: [(&[u8], u32, &[(Event, u32)], &[(u8, u64)]); 4] = [
-        (LATE_GRANT, 2, LATE_GRANT_EVENTS, &[(1, 1), (1, 0)]),
-        (LATE_GRANT, 2, REPEATED_EVENTS, &[(1, 1), (1, 0)]),
-        (HELD, 3, HELD_EVENTS, &[(2, 1), (1, 0)]),
-        (HANDED_ON, 3, HANDED_ON_EVENTS, &[(2, 3)]),
-    ];
-    for (text, nodes, events, wanted) in runs {
-        let found = all_printed(rt.alloc(), text, nodes, events);
-        assert!(rt; found.is_ok_and(|values| values.as_slice() == wanted));
-    }
+    holds(&rt, are_met(rt.alloc(), LOCKED));
 }
+
+const SHARED_FALSELY: Run = Run {
+    text: FALSE_SHARING,
+    nodes: 2,
+    collect: 0,
+    size: Size::Words64,
+    events: Events::Rounds(60),
+    wanted: Wanted::EachPrints(&[10, 11]),
+};
+
+const SHARED_FALSELY_ON_LARGE_PAGES: Run = Run {
+    size: Size::Words256,
+    ..SHARED_FALSELY
+};
 
 #[test]
 fn nodes_write_words_of_one_page(rt: HostRuntime) {
-    assert!(rt;
-        all_print(
-            rt.alloc(),
-            FALSE_SHARING,
-            2,
-            &options(0, Size::Words64),
-            &[10, 11]
-        ) == Ok(true)
-    );
-    assert!(rt;
-        all_print(
-            rt.alloc(),
-            FALSE_SHARING,
-            2,
-            &options(0, Size::Words256),
-            &[10, 11]
-        ) == Ok(true)
+    holds(
+        &rt,
+        are_met(rt.alloc(), &[SHARED_FALSELY, SHARED_FALSELY_ON_LARGE_PAGES]),
     );
 }
 
+const COUNTED: &[Run] = &[Run {
+    text: COUNTER,
+    nodes: 4,
+    collect: 0,
+    size: Size::Words64,
+    events: Events::Rounds(60),
+    wanted: Wanted::EachPrints(&[4]),
+}];
+
 #[test]
 fn four_nodes_count(rt: HostRuntime) {
-    assert!(rt; all_print(rt.alloc(), COUNTER, 4, &options(0, Size::Words64), &[4]) == Ok(true));
+    holds(&rt, are_met(rt.alloc(), COUNTED));
+}
+
+/// Whether the writers keep their pages, where a collection is asked for from this weight on.
+fn are_kept(alloc: Global, collect: u32) -> bool {
+    let run = Run {
+        text: KEPT_BY_WRITERS,
+        nodes: 3,
+        collect,
+        size: Size::Words64,
+        events: Events::Rounds(60),
+        wanted: Wanted::EachPrints(&[4, 6, 8]),
+    };
+    is_met(alloc, &run)
 }
 
 #[test]
 fn writers_keep_pages_over_collections(rt: HostRuntime) {
     for collect in 0..4u32 {
-        assert!(rt;
-            all_print(
-                rt.alloc(),
-                KEPT_BY_WRITERS,
-                3,
-                &options(collect, Size::Words64),
-                &[4, 6, 8]
-            ) == Ok(true)
-        );
+        holds(&rt, are_kept(rt.alloc(), collect));
     }
 }
 
-// The races of a run of two nodes.
-fn raced(alloc: Global) -> Result<Vec<Race>, SimFault> {
-    let events = rounds(alloc, 2, 30)?;
-    let program = parse(alloc, HALF_LOCKED).map_err(|_fault| SimFault::NoMemory)?;
-    let report = simulate(alloc, &program, 2, &options(0, Size::Words64), &events)?;
-    Ok(report.races)
-}
-
-#[test]
-fn races_are_reported_by_interval(rt: HostRuntime) {
-    let only = Race {
+const RACING: &[Run] = &[Run {
+    text: HALF_LOCKED,
+    nodes: 2,
+    collect: 0,
+    size: Size::Words64,
+    events: Events::Rounds(30),
+    wanted: Wanted::Race(Race {
         word: 1,
         node_a: 0,
         interval_a: 3,
         node_b: 1,
         interval_b: 3,
-    };
-    assert!(rt; raced(rt.alloc()).is_ok_and(|races| races.as_slice() == [only].as_slice()));
+    }),
+}];
+
+#[test]
+fn races_are_reported_by_interval(rt: HostRuntime) {
+    holds(&rt, are_met(rt.alloc(), RACING));
 }

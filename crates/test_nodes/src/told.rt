@@ -1,13 +1,15 @@
 // What a node is told in worked runs: the weights of the intervals that it lacks, and the bytes of a reply.
 
-use bytes::Bytes;
+use crate::checks::holds;
 use lrc_envelope::{Envelope, Message, Picker};
 use lrc_lang::parse;
+use lrc_lang::program::Program;
 use lrc_node::{Entry, Options};
 use lrc_page::Size;
+use lrc_protocol::Event;
 use lrc_store::Intervals;
 use lrc_wire::encode;
-use lrc_world::report::SimFault;
+use lrc_world::report::Report;
 use lrc_world::simulate::drive;
 use std::alloc::{AllocError, Global};
 
@@ -56,14 +58,66 @@ fn departures(alloc: Global, log: &[Entry], node: u8) -> Result<Vec<Weighed>, Al
     Ok(found)
 }
 
-/// What the last of so many nodes is told of by the departures of a run in rounds.
-fn told_last(alloc: Global, text: &[u8], nodes: u8) -> Result<Vec<Weighed>, SimFault> {
-    let program = parse(alloc, text).map_err(|_fault| SimFault::NoMemory)?;
-    let count = u32::from(nodes);
-    let (_events, report) = drive(alloc, &program, count, &OPTIONS, Picker::Oldest)?;
-    match report.logs.first() {
-        Some(log) => Ok(departures(alloc, log, nodes.saturating_sub(1))?),
-        None => Ok(Vec::new(alloc)),
+/// What a run in rounds is to show of what node 0 sends.
+#[derive(Clone, Copy)]
+enum Told<'a> {
+    /// Its departures for this node tell of these writes.
+    Writes(u8, &'a [Weighed]),
+    /// Its first reply with changes has these bytes.
+    Reply(&'a [u8]),
+}
+
+fn is_told(alloc: Global, log: &[Entry], node: u8, wanted: &[Weighed]) -> bool {
+    match departures(alloc, log, node) {
+        Ok(found) => found.as_slice() == wanted,
+        Err(_) => false,
+    }
+}
+
+fn is_spelled(alloc: Global, envelope: &Envelope, wanted: &[u8]) -> bool {
+    match encode(alloc, envelope) {
+        Ok(bytes) => &bytes[..] == wanted,
+        Err(_) => false,
+    }
+}
+
+/// Whether the first reply with changes that a log sends has these bytes.
+fn replies(alloc: Global, log: &[Entry], wanted: &[u8]) -> bool {
+    for entry in log {
+        for envelope in &entry.turn.out {
+            if matches!(envelope.message, Message::ChangesReply(_)) {
+                return is_spelled(alloc, envelope, wanted);
+            }
+        }
+    }
+    false
+}
+
+fn tells(alloc: Global, report: &Report, told: Told) -> bool {
+    match (report.logs.first(), told) {
+        (Some(log), Told::Writes(node, wanted)) => is_told(alloc, log, node, wanted),
+        (Some(log), Told::Reply(wanted)) => replies(alloc, log, wanted),
+        (None, _) => false,
+    }
+}
+
+fn tells_in(alloc: Global, done: (Vec<Event>, Report), told: Told) -> bool {
+    let (_events, report) = done;
+    tells(alloc, &report, told)
+}
+
+fn drives(alloc: Global, program: &Program, nodes: u32, told: Told) -> bool {
+    match drive(alloc, program, nodes, &OPTIONS, Picker::Oldest) {
+        Ok(done) => tells_in(alloc, done, told),
+        Err(_) => false,
+    }
+}
+
+/// Whether a run of so many nodes shows this.
+fn is_shown(alloc: Global, text: &[u8], nodes: u32, told: Told) -> bool {
+    match parse(alloc, text) {
+        Ok(program) => drives(alloc, &program, nodes, told),
+        Err(_) => false,
     }
 }
 
@@ -77,13 +131,15 @@ const THREE_WRITERS: &[u8] =
     b"words 1; locks 0; if me == 2 { [0] = 12; } barrier; if me == 1 { [0] = 11; } barrier;
     if me == 0 { [0] = 10; } barrier; x = [0]; print x;";
 
+const TWO_WRITES: Told = Told::Writes(2, &[(0, 2, 2), (1, 3, 7)]);
+
+const THREE_WRITES: Told = Told::Writes(3, &[(2, 1, 1), (1, 2, 5), (0, 3, 9)]);
+
+// The last node is told of them.
 #[test]
 fn later_writes_weigh_more(rt: HostRuntime) {
-    let two = told_last(rt.alloc(), SILENT_SECOND, 3);
-    assert!(rt; two.is_ok_and(|found| found.as_slice() == [(0, 2, 2), (1, 3, 7)].as_slice()));
-    let three = told_last(rt.alloc(), THREE_WRITERS, 4);
-    let wanted = [(2, 1, 1), (1, 2, 5), (0, 3, 9)];
-    assert!(rt; three.is_ok_and(|found| found.as_slice() == wanted.as_slice()));
+    holds(&rt, is_shown(rt.alloc(), SILENT_SECOND, 3, TWO_WRITES));
+    holds(&rt, is_shown(rt.alloc(), THREE_WRITERS, 4, THREE_WRITES));
 }
 
 // Node 0 leaves page 0 as it was.
@@ -95,27 +151,10 @@ const NO_CHANGES: [u8; 24] = [
     2, 9, 0, 1, 0, 0, 0, 1, 0, 0, 0, 12, 0, 0, 0, 0, 0, 1, 0, 0, 0, 1, 0, 0,
 ];
 
-/// The bytes of the first reply with changes that a log sends.
-fn first_reply(alloc: Global, log: &[Entry]) -> Option<Bytes> {
-    for entry in log {
-        for envelope in &entry.turn.out {
-            if matches!(envelope.message, Message::ChangesReply(_)) {
-                return encode(alloc, envelope).ok();
-            }
-        }
-    }
-    None
-}
-
-/// The bytes of node 0's first reply with changes in a run in rounds.
-fn reply_in(alloc: Global, text: &[u8]) -> Option<Bytes> {
-    let program = parse(alloc, text).ok()?;
-    let (_events, report) = drive(alloc, &program, 2, &OPTIONS, Picker::Oldest).ok()?;
-    first_reply(alloc, report.logs.first()?)
-}
-
 #[test]
 fn a_reply_of_no_changes_has_its_bytes(rt: HostRuntime) {
-    let bytes = reply_in(rt.alloc(), WRITTEN_BACK).expect(&rt, "memory");
-    assert!(rt; &bytes[..] == &NO_CHANGES[..]);
+    holds(
+        &rt,
+        is_shown(rt.alloc(), WRITTEN_BACK, 2, Told::Reply(&NO_CHANGES)),
+    );
 }

@@ -1,8 +1,10 @@
 // The trace and the log of a node.
 
-use bytes::Bytes;
+use crate::checks::holds;
+use lrc_envelope::Envelope;
 use lrc_exec::code::Code;
 use lrc_lang::parse;
+use lrc_lang::program::Program;
 use lrc_node::{Entry, Logged, Node, Options};
 use lrc_page::Size;
 use lrc_time::Time;
@@ -33,7 +35,12 @@ fn first_entry(time: &Time) -> u32 {
 
 /// Whether the first word of a page was touched, and no other one of it.
 fn has_first(touched: &Touched, page: u16) -> bool {
-    touched.as_slice().iter().any(|one| one.page == page && one.mask.has(0) && !one.mask.has(1))
+    for one in touched.as_slice() {
+        if one.page == page && one.mask.has(0) && !one.mask.has(1) {
+            return true;
+        }
+    }
+    false
 }
 
 fn shown(segment: &Segment) -> Shown {
@@ -48,79 +55,94 @@ fn shown(segment: &Segment) -> Shown {
     )
 }
 
-/// The segments of a trace that has three.
-fn shown_trace(trace: &Trace) -> Option<[Shown; 3]> {
+/// Whether a trace has three segments which show this.
+fn shows(trace: &Trace, wanted: &[Shown; 3]) -> bool {
     match trace.segments() {
-        [first, second, third] => Some([shown(first), shown(second), shown(third)]),
-        _ => None,
+        [first, second, third] => [shown(first), shown(second), shown(third)] == *wanted,
+        _ => false,
     }
 }
 
-/// Runs a node so often.
 fn run_often(logged: &mut Logged<'_>, often: u32) {
     for _ in 0..often {
         let _ = logged.run();
     }
 }
 
-/// The bytes of the first message of the last turn, and the turn's stamp.
-fn last_sent(alloc: Global, log: &[Entry]) -> Option<(Bytes, u64)> {
+/// What is read of the bytes of a message.
+fn read_again(alloc: Global, envelope: &Envelope) -> Option<Envelope> {
+    match encode(alloc, envelope) {
+        Ok(bytes) => decode(alloc, &bytes).ok(),
+        Err(_) => None,
+    }
+}
+
+/// The first message of a log's last turn, and the turn's stamp.
+fn last_sent(alloc: Global, log: &[Entry]) -> Option<(Envelope, u64)> {
     let entry = log.last()?;
-    let bytes = encode(alloc, entry.turn.out.first()?).ok()?;
-    Some((bytes, entry.stamp))
+    Some((read_again(alloc, entry.turn.out.first()?)?, entry.stamp))
 }
 
-/// The node takes the message that it sent itself in its last turn.
-fn take_own(alloc: Global, logged: &mut Logged<'_>) -> Option<()> {
-    let (bytes, stamp) = last_sent(alloc, logged.log())?;
-    let envelope = decode(alloc, &bytes).ok()?;
-    logged.take(envelope, stamp).ok()
+/// Whether the node takes the message that it sent itself in its last turn.
+fn takes_own(alloc: Global, logged: &mut Logged<'_>) -> bool {
+    match last_sent(alloc, logged.log()) {
+        Some((envelope, stamp)) => logged.take(envelope, stamp).is_ok(),
+        None => false,
+    }
 }
 
-/// What a log shows: how many turns, and the stamp of the last one.
-fn shown_log(log: &[Entry]) -> Option<(usize, u64)> {
-    Some((log.len(), log.last()?.stamp))
-}
-
-/// A node by itself comes to its end: it takes its arrival, and its departure.
-fn run_whole(alloc: Global, logged: &mut Logged<'_>) -> Option<()> {
+/// Whether a node by itself comes to its end: it takes its arrival, and its departure.
+fn runs_whole(alloc: Global, logged: &mut Logged<'_>) -> bool {
     run_often(logged, 6);
-    take_own(alloc, logged)?;
-    take_own(alloc, logged)?;
+    let taken = takes_own(alloc, logged) && takes_own(alloc, logged);
     run_often(logged, 8);
-    Some(())
+    taken
 }
 
-/// What a trace and a log show.
-type Found = ([Shown; 3], (usize, u64));
-
-fn shown_both(log: &[Entry], trace: &Trace) -> Option<Found> {
-    Some((shown_trace(trace)?, shown_log(log)?))
+/// Whether a log has so many turns, the last of which has this stamp.
+fn is_log(log: &[Entry], turns: usize, stamp: u64) -> bool {
+    match log.last() {
+        Some(entry) => log.len() == turns && entry.stamp == stamp,
+        None => false,
+    }
 }
 
-/// What a node by itself has in its trace and its log at its end.
-fn ended(alloc: Global, node: Node<'_>) -> Option<Found> {
+const SEGMENTS: [Shown; 3] = [
+    ([0, 1, 1], [false, true, true, false]),
+    ([0, 2, 2], [false, false, true, false]),
+    ([1, 4, 4], [false, false, false, true]),
+];
+
+/// Whether a node by itself has this in its trace and its log at its end.
+fn ends(alloc: Global, node: Node<'_>) -> bool {
     let mut logged = Logged::new(alloc, node);
-    run_whole(alloc, &mut logged)?;
+    let ended = runs_whole(alloc, &mut logged);
     let (log, trace) = logged.into_parts();
-    shown_both(log.as_slice(), &trace)
+    ended && is_log(&log, 10, 10) && shows(&trace, &SEGMENTS)
 }
 
-fn traced_in(alloc: Global, code: &Code<'_>) -> Option<Found> {
-    let node = Node::new(alloc, code, 0, 1, &OPTIONS).ok()?;
-    ended(alloc, node)
+fn ends_fresh(alloc: Global, code: &Code<'_>) -> bool {
+    match Node::new(alloc, code, 0, 1, &OPTIONS) {
+        Ok(node) => ends(alloc, node),
+        Err(_) => false,
+    }
 }
 
-fn traced(alloc: Global) -> Option<Found> {
-    let program = parse(alloc, ONE_BARRIER).ok()?;
-    let code = Code::new(alloc, &program).ok()?;
-    traced_in(alloc, &code)
+fn ends_program(alloc: Global, program: &Program) -> bool {
+    match Code::new(alloc, program) {
+        Ok(code) => ends_fresh(alloc, &code),
+        Err(_) => false,
+    }
+}
+
+fn is_traced(alloc: Global) -> bool {
+    match parse(alloc, ONE_BARRIER) {
+        Ok(program) => ends_program(alloc, &program),
+        Err(_) => false,
+    }
 }
 
 #[test]
 fn a_trace_has_the_accesses_by_interval(rt: HostRuntime) {
-    let first = ([0, 1, 1], [false, true, true, false]);
-    let second = ([0, 2, 2], [false, false, true, false]);
-    let third = ([1, 4, 4], [false, false, false, true]);
-    assert!(rt; traced(rt.alloc()) == Some(([first, second, third], (10, 10))));
+    holds(&rt, is_traced(rt.alloc()));
 }
