@@ -67,13 +67,18 @@ pub fn put_damaged(bytes: &mut Vec<u8>, random: &mut Random) -> Result<(), Alloc
     damage(bytes, random)
 }
 
+/// A random byte, which is small more often than not.
+fn noise(random: &mut Random) -> u8 {
+    let byte = random.byte();
+    if byte < 192 { byte % 3 } else { byte }
+}
+
 /// Puts so many random bytes, behind a version and a kind that there are.
 fn put_noise(bytes: &mut Vec<u8>, random: &mut Random) -> Result<(), AllocError> {
-    bytes.push(1 + random.below(2) as u8)?;
-    bytes.push(1 + random.below(11) as u8)?;
+    let head = [1 + random.below(2) as u8, 1 + random.below(11) as u8];
+    bytes.extend_from_slice(&head)?;
     for _ in 0..random.below(40) {
-        let byte = random.byte();
-        bytes.push(if byte < 192 { byte % 3 } else { byte })?;
+        bytes.push(noise(random))?;
     }
     Ok(())
 }
