@@ -24,7 +24,7 @@ const OPTIONS: Options = Options {
 };
 
 /// What became of the messages: how many were refused, and whether one was taken.
-#[derive(Clone, Copy, PartialEq, Eq)]
+#[derive(Clone, Copy)]
 struct Offered {
     refused: u32,
     is_one_taken: bool,
@@ -167,7 +167,7 @@ fn play_first(
 }
 
 /// How many nodes refused all, and how many messages those refused.
-#[derive(Clone, Copy, PartialEq, Eq)]
+#[derive(Clone, Copy)]
 struct Tally {
     unmoved: u32,
     refused: u32,
