@@ -1,6 +1,7 @@
 // Random events: what comes of them is well synchronized and reads lazily, as a judge of the acts alone says, which finds
 // the races that the run found.
 
+use crate::checks::holds;
 use crate::random::Random;
 use lrc_lang::parse;
 use lrc_lang::program::Program;
@@ -10,6 +11,7 @@ use lrc_protocol::Event;
 use lrc_show::acts_part;
 use lrc_text::{first_race_part, races_part};
 use lrc_trace::act::Act;
+use lrc_trace::race::Race;
 use lrc_verdict::judge::judge;
 use lrc_world::report::Report;
 use lrc_world::simulate::simulate;
@@ -47,75 +49,115 @@ fn event_of(random: &mut Random) -> Event {
     }
 }
 
-fn events_of(alloc: Global, random: &mut Random, count: usize) -> Result<Vec<Event>, AllocError> {
-    let mut events = Vec::new(alloc);
+fn push_events(
+    events: &mut Vec<Event>,
+    random: &mut Random,
+    count: usize,
+) -> Result<(), AllocError> {
     for _ in 0..count {
         events.push(event_of(random))?;
     }
-    Ok(events)
+    Ok(())
 }
 
-// The acts as a text, each of line 1.
-fn text_of(alloc: Global, acts: &[Act]) -> Result<Vec<u8>, AllocError> {
-    let lines = vec![in alloc; 1u32; acts.len()]?;
+fn join(text: &mut Vec<u8>, parts: &[Vec<u8>]) -> Result<(), AllocError> {
+    for part in parts {
+        text.extend_from_slice(part)?;
+    }
+    Ok(())
+}
+
+/// Adds what a judge says of acts of three nodes, each of line 1, which are this text; and answers whether he says something.
+fn is_judged(alloc: Global, text: &[u8], said: &mut Vec<u8>) -> bool {
+    match judge(alloc, text, Some(3), false) {
+        Ok(printout) => join(said, &printout.parts).is_ok(),
+        Err(_) => false,
+    }
+}
+
+/// The same of these acts, of which there are as many as lines.
+fn are_judged_at(alloc: Global, acts: &[Act], lines: &[u32], said: &mut Vec<u8>) -> bool {
     if lines.len() != acts.len() {
-        return Err(AllocError);
+        return false;
     }
-    acts_part(alloc, acts, &lines)
+    match acts_part(alloc, acts, lines) {
+        Ok(text) => is_judged(alloc, &text, said),
+        Err(_) => false,
+    }
 }
 
-// What a judge has to say of a run: the first two lines, the races, and the first race, whatever the reads in order are.
-fn is_as_judged(alloc: Global, report: &Report) -> Result<bool, AllocError> {
-    let text = text_of(alloc, &report.acts)?;
-    let Ok(printout) = judge(alloc, text.as_slice(), Some(3), false) else {
-        return Ok(false);
+fn are_judged(alloc: Global, acts: &[Act], said: &mut Vec<u8>) -> bool {
+    match vec![in alloc; 1u32; acts.len()] {
+        Ok(lines) => are_judged_at(alloc, acts, &lines, said),
+        Err(_) => false,
+    }
+}
+
+/// Whether this is what a judge has to say up to the first race: the first two lines, and the races, whatever the reads in order
+/// are.
+fn tells_races(alloc: Global, before: &[u8], races: &[Race]) -> bool {
+    match races_part(alloc, races) {
+        Ok(part) => {
+            before.ends_with(part.as_slice())
+                && before.starts_with(b"well synchronized\nreads lazily\n")
+        }
+        Err(_) => false,
+    }
+}
+
+/// Whether this is all that a judge has to say.
+fn tells(alloc: Global, said: &[u8], races: &[Race], first_race: Option<usize>) -> bool {
+    let Ok(first) = first_race_part(alloc, first_race) else {
+        return false;
     };
+    match said.strip_suffix(first.as_slice()) {
+        Some(before) => tells_races(alloc, before, races),
+        None => false,
+    }
+}
+
+/// Whether what a judge says of a run is what he has to say.
+fn is_as_judged(alloc: Global, report: &Report) -> bool {
     let mut said = Vec::new(alloc);
-    for part in &printout.parts {
-        said.extend_from_slice(part.as_slice())?;
-    }
-    let races = races_part(alloc, &report.races)?;
-    let first = first_race_part(alloc, report.first_race)?;
-    let Some(before) = said.as_slice().strip_suffix(first.as_slice()) else {
-        return Ok(false);
-    };
-    Ok(
-        before.ends_with(races.as_slice())
-            && before.starts_with(b"well synchronized\nreads lazily\n"),
-    )
+    are_judged(alloc, &report.acts, &mut said)
+        && tells(alloc, &said, &report.races, report.first_race)
 }
 
-fn is_fine(
-    alloc: Global,
-    program: &Program,
-    random: &mut Random,
-    options: &Options,
-) -> Result<bool, AllocError> {
-    let count = 100 + random.below(300);
-    let events = events_of(alloc, random, count)?;
-    match simulate(alloc, program, 3, options, &events) {
+fn is_played(alloc: Global, program: &Program, options: &Options, events: &[Event]) -> bool {
+    match simulate(alloc, program, 3, options, events) {
         Ok(report) => is_as_judged(alloc, &report),
-        Err(_fault) => Ok(false),
+        Err(_) => false,
     }
 }
 
-fn are_fine(alloc: Global, text: &[u8], seed: u64, count: u32) -> Result<bool, AllocError> {
-    let Ok(program) = parse(alloc, text) else {
-        return Ok(false);
-    };
+fn is_fine(alloc: Global, program: &Program, random: &mut Random, options: &Options) -> bool {
+    let count = 100 + random.below(300);
+    let mut events = Vec::new(alloc);
+    push_events(&mut events, random, count).is_ok() && is_played(alloc, program, options, &events)
+}
+
+/// Whether so many runs of each of the options are fine.
+fn each_is_fine(alloc: Global, program: &Program, seed: u64, count: u32) -> bool {
     let mut random = Random::new(seed);
     for _ in 0..count {
         for options in &OPTIONS {
-            if !is_fine(alloc, &program, &mut random, options)? {
-                return Ok(false);
+            if !is_fine(alloc, program, &mut random, options) {
+                return false;
             }
         }
     }
-    Ok(true)
+    true
+}
+
+fn are_fine(alloc: Global, text: &[u8], seed: u64, count: u32) -> bool {
+    match parse(alloc, text) {
+        Ok(program) => each_is_fine(alloc, &program, seed, count),
+        Err(_) => false,
+    }
 }
 
 #[test]
 fn runs_of_random_events_are_as_they_are_judged(rt: HostRuntime) {
-    assert!(rt; are_fine(rt.alloc(), COUNTER, 3, 60) == Ok(true));
-    assert!(rt; are_fine(rt.alloc(), SHARING, 4, 60) == Ok(true));
+    holds(&rt, are_fine(rt.alloc(), COUNTER, 3, 60));
+    holds(&rt, are_fine(rt.alloc(), SHARING, 4, 60));
 }

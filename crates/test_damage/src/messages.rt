@@ -1,7 +1,7 @@
 // Damaged messages: what is read of them is written as a message that is read as the same.
 
+use crate::checks::holds;
 use crate::random::Random;
-use bytes::Bytes;
 use lrc_envelope::Envelope;
 use lrc_wire::{WireFault, decode, encode};
 use std::alloc::{AllocError, Global};
@@ -34,92 +34,160 @@ pub const MESSAGES: [&[u8]; 8] = [
     &[1, 10, 0, 1, 0, 0, 0, 0, 0, 0, 0, 2, 0, 0],
 ];
 
-// How the bytes of a message are damaged: some get other values, or the end is cut, or bytes stand behind it.
+/// Gives a byte another value.
+fn change(bytes: &mut Vec<u8>, random: &mut Random) {
+    let place = random.below(bytes.len());
+    let byte = random.byte();
+    if let Some(found) = bytes.get_mut(place) {
+        *found = if byte < 128 { byte % 4 } else { byte };
+    }
+}
+
+fn cut(bytes: &mut Vec<u8>, random: &mut Random) {
+    let rest = random.below(bytes.len());
+    bytes.truncate(rest);
+}
+
+/// Damages the bytes of a message: some get other values, or the end is cut, or a byte stands behind it.
 fn damage(bytes: &mut Vec<u8>, random: &mut Random) -> Result<(), AllocError> {
     for _ in 0..1 + random.below(3) {
-        let place = random.below(bytes.len());
-        let byte = random.byte();
-        if let Some(found) = bytes.get_mut(place) {
-            *found = if byte < 128 { byte % 4 } else { byte };
-        }
+        change(bytes, random);
     }
     match random.below(8) {
-        0 => {
-            let rest = random.below(bytes.len());
-            bytes.truncate(rest);
-            Ok(())
-        }
-        1 => Ok(bytes.push(random.byte())?),
-        _ => Ok(()),
+        0 => cut(bytes, random),
+        1 => bytes.push(random.byte())?,
+        _ => {}
     }
+    Ok(())
 }
 
-/// The next damaged message.
-pub fn damaged(alloc: Global, random: &mut Random) -> Result<Vec<u8>, AllocError> {
-    let mut bytes = random.one_of(&MESSAGES).unwrap_or(&[]).to_vec(alloc)?;
-    damage(&mut bytes, random)?;
-    Ok(bytes)
+/// Puts the next damaged message where there is nothing yet.
+pub fn put_damaged(bytes: &mut Vec<u8>, random: &mut Random) -> Result<(), AllocError> {
+    bytes.extend_from_slice(random.one_of(&MESSAGES).unwrap_or(&[]))?;
+    damage(bytes, random)
 }
 
-// So many random bytes, behind a version and a kind that there are.
-fn noise(alloc: Global, random: &mut Random) -> Result<Vec<u8>, AllocError> {
-    let mut bytes = Vec::new(alloc);
-    bytes.push(1 + random.below(2) as u8)?;
-    bytes.push(1 + random.below(11) as u8)?;
+/// A random byte, which is small more often than not.
+fn noise(random: &mut Random) -> u8 {
+    let byte = random.byte();
+    if byte < 192 { byte % 3 } else { byte }
+}
+
+/// Puts so many random bytes, behind a version and a kind that there are.
+fn put_noise(bytes: &mut Vec<u8>, random: &mut Random) -> Result<(), AllocError> {
+    let head = [1 + random.below(2) as u8, 1 + random.below(11) as u8];
+    bytes.extend_from_slice(&head)?;
     for _ in 0..random.below(40) {
-        let byte = random.byte();
-        bytes.push(if byte < 192 { byte % 3 } else { byte })?;
+        bytes.push(noise(random))?;
     }
-    Ok(bytes)
+    Ok(())
 }
 
-fn written(alloc: Global, envelope: &Envelope) -> Option<Bytes> {
-    encode(alloc, envelope).ok()
-}
-
-// Whether what is read of these bytes is written as a message that is read as the same; and whether anything is read.
-fn is_kept(alloc: Global, bytes: &[u8]) -> (bool, bool) {
-    match decode(alloc, bytes) {
-        Ok(envelope) => (is_rewritten(alloc, &envelope), true),
-        Err(fault) => (fault != WireFault::NoMemory, false),
+/// Whether a message is written as these bytes.
+fn is_written(alloc: Global, envelope: &Envelope, bytes: &[u8]) -> bool {
+    match encode(alloc, envelope) {
+        Ok(written) => written.as_slice() == bytes,
+        Err(_) => false,
     }
 }
 
-fn is_rewritten(alloc: Global, envelope: &Envelope) -> bool {
-    let Some(bytes) = written(alloc, envelope) else {
-        return false;
-    };
-    let Ok(again) = decode(alloc, bytes.as_slice()) else {
-        return false;
-    };
-    match written(alloc, &again) {
-        Some(other) => other.as_slice() == bytes.as_slice(),
+/// Whether the first of these messages is written as these bytes.
+fn are_written(alloc: Global, messages: &[Envelope], bytes: &[u8]) -> bool {
+    match messages.first() {
+        Some(message) => is_written(alloc, message, bytes),
         None => false,
     }
 }
 
-// Of so many messages, how many are read; none where one of them is read as something else.
-fn tried(alloc: Global, seed: u64, count: u32) -> Result<Option<(u32, u32)>, AllocError> {
-    let mut random = Random::new(seed);
-    let mut read: u32 = 0;
-    let mut refused: u32 = 0;
-    for turn in 0..count {
-        let bytes = if turn % 4 == 0 {
-            noise(alloc, &mut random)?
-        } else {
-            damaged(alloc, &mut random)?
-        };
-        match is_kept(alloc, bytes.as_slice()) {
-            (false, _) => return Ok(None),
-            (true, true) => read = read.saturating_add(1),
-            (true, false) => refused = refused.saturating_add(1),
+/// Adds the message that these bytes are.
+pub fn push_read(
+    alloc: Global,
+    messages: &mut Vec<Envelope>,
+    bytes: &[u8],
+) -> Result<(), WireFault> {
+    messages.push(decode(alloc, bytes)?)?;
+    Ok(())
+}
+
+/// Whether these bytes are read as a message that is written as them.
+fn is_read(alloc: Global, bytes: &[u8]) -> bool {
+    let mut messages = Vec::new(alloc);
+    push_read(alloc, &mut messages, bytes).is_ok() && are_written(alloc, &messages, bytes)
+}
+
+/// Whether a message is written as one that is read as the same.
+fn is_rewritten(alloc: Global, envelope: &Envelope) -> bool {
+    match encode(alloc, envelope) {
+        Ok(bytes) => is_read(alloc, bytes.as_slice()),
+        Err(_) => false,
+    }
+}
+
+/// The same of the first of these.
+fn are_rewritten(alloc: Global, messages: &[Envelope]) -> bool {
+    match messages.first() {
+        Some(message) => is_rewritten(alloc, message),
+        None => false,
+    }
+}
+
+/// Why these bytes are refused, or whether what is read of them is written as a message that is read as the same.
+fn reading(alloc: Global, bytes: &[u8]) -> Result<bool, WireFault> {
+    let mut messages = Vec::new(alloc);
+    match push_read(alloc, &mut messages, bytes) {
+        Ok(()) => Ok(are_rewritten(alloc, &messages)),
+        Err(fault) => Err(fault),
+    }
+}
+
+/// How many messages are read and refused.
+#[derive(Clone, Copy)]
+struct Tally {
+    read: u32,
+    refused: u32,
+}
+
+/// Counts these bytes, and answers whether they are not read as something else.
+fn is_kept(alloc: Global, bytes: &[u8], tally: &mut Tally) -> bool {
+    match reading(alloc, bytes) {
+        Ok(is_rewritten) => {
+            tally.read = tally.read.saturating_add(1);
+            is_rewritten
+        }
+        Err(fault) => {
+            tally.refused = tally.refused.saturating_add(1);
+            fault != WireFault::NoMemory
         }
     }
-    Ok(Some((read, refused)))
+}
+
+/// The same of the next bytes, which are noise at each fourth turn.
+fn is_next_kept(alloc: Global, random: &mut Random, turn: u32, tally: &mut Tally) -> bool {
+    let mut bytes = Vec::new(alloc);
+    let put = if turn % 4 == 0 {
+        put_noise(&mut bytes, random)
+    } else {
+        put_damaged(&mut bytes, random)
+    };
+    put.is_ok() && is_kept(alloc, &bytes, tally)
+}
+
+/// Whether of so many messages none is read as something else, and many are read and refused.
+fn are_kept(alloc: Global, seed: u64, count: u32) -> bool {
+    let mut random = Random::new(seed);
+    let mut tally = Tally {
+        read: 0,
+        refused: 0,
+    };
+    for turn in 0..count {
+        if !is_next_kept(alloc, &mut random, turn, &mut tally) {
+            return false;
+        }
+    }
+    tally.read > 400 && tally.refused > 400
 }
 
 #[test]
 fn damaged_messages_are_refused_or_read_as_they_are_written(rt: HostRuntime) {
-    let found = tried(rt.alloc(), 1, 4000);
-    assert!(rt; matches!(found, Ok(Some((read, refused))) if read > 400 && refused > 400));
+    holds(&rt, are_kept(rt.alloc(), 1, 4000));
 }

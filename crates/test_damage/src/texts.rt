@@ -1,7 +1,8 @@
 // Random texts: each is a program, or has its first fault in one of its lines.
 
+use crate::checks::holds;
 use crate::random::Random;
-use lrc_lang::fault::FaultKind;
+use lrc_lang::fault::{FaultKind, ParseFault};
 use lrc_lang::parse;
 use std::alloc::{AllocError, Global};
 
@@ -40,18 +41,16 @@ const WORDS: [&[u8]; 30] = [
 
 const HEAD: &[u8] = b"words 9; locks 2;\n";
 
-// A head that each program has, or none, and so many random words.
-fn text_of(alloc: Global, random: &mut Random) -> Result<Vec<u8>, AllocError> {
-    let mut text = if random.below(8) == 0 {
-        Vec::new(alloc)
-    } else {
-        HEAD.to_vec(alloc)?
-    };
+/// Puts a head that each program has, or none, and so many random words.
+fn put_text(text: &mut Vec<u8>, random: &mut Random) -> Result<(), AllocError> {
+    if random.below(8) != 0 {
+        text.extend_from_slice(HEAD)?;
+    }
     for _ in 0..random.below(7) {
         text.extend_from_slice(random.one_of(&WORDS).unwrap_or(b""))?;
         text.push(b' ')?;
     }
-    Ok(text)
+    Ok(())
 }
 
 fn lines_in(text: &[u8]) -> u32 {
@@ -64,29 +63,52 @@ fn lines_in(text: &[u8]) -> u32 {
     lines
 }
 
-// Of so many texts, how many are programs and how many have a fault; none where a fault is in no line of its text.
-fn tried(alloc: Global, seed: u64, count: u32) -> Result<Option<(u32, u32)>, AllocError> {
-    let mut random = Random::new(seed);
-    let mut programs: u32 = 0;
-    let mut faults: u32 = 0;
-    for _ in 0..count {
-        let text = text_of(alloc, &mut random)?;
-        match parse(alloc, text.as_slice()) {
-            Ok(_program) => programs = programs.saturating_add(1),
-            Err(fault) => {
-                let lines = lines_in(text.as_slice());
-                if fault.kind == FaultKind::NoMemory || fault.line < 1 || lines < fault.line {
-                    return Ok(None);
-                }
-                faults = faults.saturating_add(1);
-            }
+fn fault_of(alloc: Global, text: &[u8]) -> Option<ParseFault> {
+    parse(alloc, text).err()
+}
+
+/// How many texts are programs, and how many have a fault.
+#[derive(Clone, Copy)]
+struct Tally {
+    programs: u32,
+    faults: u32,
+}
+
+/// Counts a text, and answers whether its fault, if it has one, is in a line of its own.
+fn is_told(alloc: Global, text: &[u8], tally: &mut Tally) -> bool {
+    match fault_of(alloc, text) {
+        Some(fault) => {
+            tally.faults = tally.faults.saturating_add(1);
+            fault.kind != FaultKind::NoMemory && 1 <= fault.line && fault.line <= lines_in(text)
+        }
+        None => {
+            tally.programs = tally.programs.saturating_add(1);
+            true
         }
     }
-    Ok(Some((programs, faults)))
+}
+
+fn is_next_told(alloc: Global, random: &mut Random, tally: &mut Tally) -> bool {
+    let mut text = Vec::new(alloc);
+    put_text(&mut text, random).is_ok() && is_told(alloc, &text, tally)
+}
+
+/// Whether of so many texts none has a fault in no line of its own, and many are programs and many have a fault.
+fn are_told(alloc: Global, seed: u64, count: u32) -> bool {
+    let mut random = Random::new(seed);
+    let mut tally = Tally {
+        programs: 0,
+        faults: 0,
+    };
+    for _ in 0..count {
+        if !is_next_told(alloc, &mut random, &mut tally) {
+            return false;
+        }
+    }
+    tally.programs > 400 && tally.faults > 400
 }
 
 #[test]
 fn a_text_is_a_program_or_has_a_fault_in_a_line_of_its_own(rt: HostRuntime) {
-    let found = tried(rt.alloc(), 2, 4000);
-    assert!(rt; matches!(found, Ok(Some((programs, faults))) if programs > 400 && faults > 400));
+    holds(&rt, are_told(rt.alloc(), 2, 4000));
 }
