@@ -108,7 +108,8 @@ fn news_of_all(
     requires arrivals { AreArrivals (length kept.now) (all_with last.now kept.now) }
     ensures { IfOk result (λ news. news ≡ filter (is_news since.now) (intervals_of (all_with last.now kept.now))) }
 {
-    let mut news = Vec::new(alloc);
+    // Mostly there is one of each node.
+    let mut news = Vec::with_capacity(alloc, kept.len())?;
     for (node, place) in kept.iter().enumerate() {
         add_news(&mut news, node as u8, arrival_in(place, last), since)?;
     }

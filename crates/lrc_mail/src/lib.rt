@@ -15,4 +15,4 @@ pub use fault::MailFault;
 pub use letter::Letter;
 pub use mail::Mail;
 pub use numbers::{Numbers, Span};
-pub use request::{requests, requests_for};
+pub use request::{put_requests, requests, requests_for};

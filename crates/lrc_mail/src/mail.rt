@@ -25,6 +25,8 @@ pub struct Mail {
     taken: Vec<Numbers>,
     // Lists that were used before, for the messages of later turns.
     spare: Vec<Vec<Envelope>>,
+    // The list of letters that were numbered last, for those of a later turn.
+    letters: Vec<Letter>,
 }
 
 impl Model for Mail {
@@ -53,6 +55,7 @@ impl Mail {
             sent: none_sent(alloc, nodes)?,
             taken: none_taken(alloc, nodes)?,
             spare: Vec::new(alloc),
+            letters: Vec::new(alloc),
         })
     }
 
@@ -96,13 +99,24 @@ impl Mail {
         self.taken[usize::from(from)].add(number)
     }
 
+    /// An empty list for letters, in the place of those that were numbered last.
+    pub fn letters(&mut self) -> Vec<Letter>
+        ensures empty { result.items ≡ [] }
+        ensures same { self.new ≡ self.old }
+    {
+        let none = Vec::new(*self.sent.allocator());
+        let mut letters = mem::replace(&mut self.letters, none);
+        letters.clear();
+        letters
+    }
+
     /// Gives node `me`'s letters the numbers that follow those sent to each receiver before, from `first` on, and counts
     /// them as sent. Refused with `Worn` where a number would pass 4,294,967,295. A refusal counts none of them.
     pub fn number(
         &mut self,
         me: u8,
         first: u32,
-        letters: Vec<Letter>,
+        mut letters: Vec<Letter>,
     ) -> Result<Vec<Envelope>, MailFault>
         requires me { me < MOST_NODES }
         requires to { All (λ letter. letter.to < length self.old.sent) letters.items }
@@ -116,8 +130,9 @@ impl Mail {
         let counts = &mut counts[..self.sent.len()];
         counts.copy_from_slice(&self.sent);
         let out = self.list_for(letters.len())?;
-        let out = number_all(counts, me, first, letters, out)?;
+        let out = number_all(counts, me, first, &mut letters, out)?;
         self.sent.copy_from_slice(counts);
+        self.letters = letters;
         Ok(out)
     }
 
@@ -183,23 +198,23 @@ fn next_number(sent: &mut [u64], to: u8, first: u32) -> Option<u32>
     Some(number)
 }
 
-// The letters with their numbers, each of which counts as sent, in a list that is empty.
+// The letters with their numbers, each of which counts as sent, in a list that is empty. They leave their own list.
 fn number_all(
     sent: &mut [u64],
     me: u8,
     first: u32,
-    letters: Vec<Letter>,
+    letters: &mut Vec<Letter>,
     mut envelopes: Vec<Envelope>,
 ) -> Result<Vec<Envelope>, MailFault>
     requires counts { AreCounts sent.old }
     requires empty { envelopes.items ≡ [] }
     requires me { me < MOST_NODES }
-    requires to { All (λ letter. letter.to < length sent.old) letters.items }
-    ensures numbers { IfOk result (λ out. numbered me first sent.old letters.items ≡ Some (out.items, sent.new)) }
-    ensures worn { result ≡ Err Worn → numbered me first sent.old letters.items ≡ None }
+    requires to { All (λ letter. letter.to < length sent.old) letters.old.items }
+    ensures numbers { IfOk result (λ out. numbered me first sent.old letters.old.items ≡ Some (out.items, sent.new)) }
+    ensures worn { result ≡ Err Worn → numbered me first sent.old letters.old.items ≡ None }
     ensures counts { AreCounts sent.new }
 {
-    for letter in letters {
+    for letter in letters.drain(..) {
         let Some(number) = next_number(sent, letter.to, first) else {
             return Err(MailFault::Worn);
         };

@@ -31,10 +31,11 @@ pub fn requests_for(alloc: Global, need: &Need) -> Result<Vec<Letter>, AllocErro
     Ok(letters)
 }
 
-// Puts the requests for a page behind other letters.
-fn put_requests(need: &Need, letters: &mut Vec<Letter>) -> Result<(), AllocError>
+/// Puts the requests for a page behind other letters.
+pub fn put_requests(need: &Need, letters: &mut Vec<Letter>) -> Result<(), AllocError>
     ensures { OnOk result (letters.new.items ≡ letters.old.items ++ requests_of need.now) }
 {
+    letters.reserve(1 + need.asked().len())?;
     put_page_request(need.page(), need.base(), letters)?;
     put_changes_requests(need.page(), need.asked(), letters)
 }

@@ -169,7 +169,7 @@ fn changes_or_none(alloc: Global, store: &Store, key: Key) -> Result<Changes, Al
 fn unknown_of(alloc: Global, store: &Store, keys: &[Key]) -> Result<Vec<Key>, AllocError>
     ensures { IfOk result (λ unknown. unknown.items ≡ unknown_of store.now keys.now) }
 {
-    let mut unknown = Vec::new(alloc);
+    let mut unknown = Vec::with_capacity(alloc, keys.len())?;
     for key in keys {
         if store.changes(*key).is_none() {
             unknown.push(*key)?;

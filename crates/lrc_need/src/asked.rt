@@ -82,7 +82,8 @@ pub(crate) fn ask(alloc: Global, nodes: u8, keys: &[Key]) -> Result<Vec<Asked>, 
     ensures asked { IfOk result (λ asked. asked.items ≡ asked_of nodes keys.now) }
     ensures some { IfOk result (λ asked. All (λ a. 1 ≤ length a.indices) asked.items) }
 {
-    let mut all = Vec::new(alloc);
+    let most = keys.len().min(usize::from(nodes));
+    let mut all = Vec::with_capacity(alloc, most)?;
     for maker in 0..nodes {
         let indices = ask_maker(alloc, keys, maker)?;
         put_some(&mut all, maker, indices)?;

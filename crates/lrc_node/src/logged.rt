@@ -160,8 +160,19 @@ impl<'c> Logged<'c> {
         }
     }
 
-    // Keeps the box of a turn's message for the next one that is taken, and the list of what it sent for those of a later turn.
+    // Keeps what memory a forgotten turn holds. Most hold none.
+    #[inline(always)]
     fn keep(&mut self, forgotten: Entry)
+        ensures { self.new ≡ self.old }
+    {
+        if !is_bare(&forgotten) {
+            self.keep_memory(forgotten);
+        }
+    }
+
+    // Keeps the box of a turn's message for the next one that is taken, and the list of what it sent for those of a later turn.
+    #[inline(never)]
+    fn keep_memory(&mut self, forgotten: Entry)
         ensures { self.new ≡ self.old }
     {
         self.node.keep_list(forgotten.turn.out);
@@ -267,6 +278,14 @@ impl<'c> Logged<'c> {
             spare: _,
         } = self;
         (log, node.into_trace())
+    }
+}
+
+// Whether a turn took no message, and holds no list of messages.
+fn is_bare(entry: &Entry) -> bool {
+    match entry.input {
+        Input::Run => entry.turn.out.is_empty() && entry.turn.out.capacity() == 0,
+        Input::Taken(_) => false,
     }
 }
 

@@ -44,11 +44,20 @@ impl Rows {
         Ok(())
     }
 
+    // How many places there are.
+    fn len(&self) -> usize {
+        let mut len = 0_usize;
+        for row in self.rows.as_slice() {
+            len = len.saturating_add(row.len());
+        }
+        len
+    }
+
     /// The places, row by row.
     pub fn joined(&self, alloc: Global) -> Result<Vec<TouchedPlace>, AllocError>
         ensures { IfOk result (λ places. places.items ≡ self.now) }
     {
-        let mut places = Vec::new(alloc);
+        let mut places = Vec::with_capacity(alloc, self.len())?;
         for row in self.rows.as_slice() {
             places.extend_from_slice(row.as_slice())?;
         }

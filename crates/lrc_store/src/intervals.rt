@@ -116,7 +116,7 @@ impl Intervals {
     pub fn duplicate(&self) -> Result<Self, AllocError>
         ensures { IfOk result (λ intervals. intervals ≡ self.now) }
     {
-        let mut list = Vec::new(*self.list.allocator());
+        let mut list = Vec::with_capacity(*self.list.allocator(), self.list.len())?;
         for interval in &self.list {
             list.push(interval.duplicate()?)?;
         }

@@ -109,7 +109,9 @@ impl Links {
         requires linked { self.now.by_page.keys ≡ map page_named arena.now.notices }
         ensures { IfOk result (λ found. found.items ≡ filter (is_unknown_on page since.now) arena.now.notices) }
     {
-        let mut found = Vec::new(arena.allocator());
+        // Mostly there is one of each node.
+        let most = usize::from(since.nodes());
+        let mut found = Vec::with_capacity(arena.allocator(), most)?;
         let mut next = self.by_page.first(page);
         while let Some(at) = next {
             let (weight, key) = arena.notice(at as usize);
@@ -134,7 +136,9 @@ impl Links {
             → IsTrue (knows_notice since.now later.1) → IsTrue (knows_notice since.now earlier.1)) arena.now.notices }
         ensures { IfOk result (λ found. found.items ≡ filter (is_unknown_on page since.now) arena.now.notices) }
     {
-        let mut found = Vec::new(arena.allocator());
+        // Mostly there is one of each node.
+        let most = usize::from(since.nodes());
+        let mut found = Vec::with_capacity(arena.allocator(), most)?;
         let mut next = self.by_page.first(page);
         while let Some(at) = next {
             let (weight, key) = arena.notice(at as usize);

@@ -147,6 +147,12 @@ impl Store {
         self.links.renew(&self.arena);
     }
 
+    // How many intervals there are at most that `upto` knows and `since` does not.
+    fn most_newer(&self, since: &Time, upto: &Time) -> usize {
+        let counted = upto.weight().saturating_sub(since.weight());
+        self.arena.len().min(counted as usize)
+    }
+
     /// The intervals that `upto` knows and `since` does not, ascending by node and index.
     pub fn newer_than(&self, since: &Time, upto: &Time) -> Result<Intervals, AllocError>
         requires since { length since.now ≡ length self.now.last }
@@ -154,7 +160,8 @@ impl Store {
         ensures newer { IfOk result (λ found. IsNewer self.now since.now upto.now found) }
         ensures value { IfOk result (λ found. found ≡ newer_of self.now since.now upto.now) }
     {
-        let mut found = Vec::new(self.arena.allocator());
+        let most = self.most_newer(since, upto);
+        let mut found = Vec::with_capacity(self.arena.allocator(), most)?;
         for node in 0..self.last.nodes() {
             self.links
                 .put_newer_of_node(&self.arena, node, since, upto, &mut found)?;
@@ -200,5 +207,9 @@ fn keys_in_order(alloc: Global, mut found: Vec<(u64, Key)>) -> Result<Vec<Key>, 
 fn keys_of(alloc: Global, found: &[(u64, Key)]) -> Result<Vec<Key>, AllocError>
     ensures { IfOk result (λ keys. keys.items ≡ map (λ pair. pair.1) found.now) }
 {
-    found.iter().map(|(_, key)| *key).collect(alloc)
+    let mut keys = Vec::with_capacity(alloc, found.len())?;
+    for (_, key) in found {
+        keys.push(*key)?;
+    }
+    Ok(keys)
 }

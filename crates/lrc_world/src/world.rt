@@ -301,8 +301,27 @@ fn note(acts: &mut Vec<Act>, act: Option<Act>) -> Result<(), AllocError>
     Ok(())
 }
 
-// Puts messages of one turn in flight, in place of spare bytes where there are any.
+// Puts messages of one turn in flight, in place of spare bytes where there are any. Most turns send none.
+#[inline(always)]
 fn send(
+    spare: &mut Vec<Vec<u8>>,
+    out: &[Envelope],
+    stamp: u64,
+    flight: &mut VecDeque<Flying>,
+) -> Result<(), SimFault>
+    ensures flight { OnOk result (map seen_flying flight.new.items ≡ map seen_flying flight.old.items ++ map (shown_new stamp) out.now) }
+    ensures short { OnOk result (list_any is_long out.now ≡ false) }
+    ensures err { IfErr result (IsSendFault out.now) }
+{
+    if out.is_empty() {
+        return Ok(());
+    }
+    send_each(spare, out, stamp, flight)
+}
+
+// Puts each of these messages in flight.
+#[inline(never)]
+fn send_each(
     spare: &mut Vec<Vec<u8>>,
     out: &[Envelope],
     stamp: u64,
@@ -329,11 +348,11 @@ fn bytes_of(spare: &mut Vec<Vec<u8>>, envelope: &Envelope) -> Result<Vec<u8>, Si
     ensures short { OnOk result (is_long envelope.now ≡ false) }
     ensures err { IfErr result (IsSendFault (envelope.now ∷ [])) }
 {
-    let place = match spare.pop() {
+    let spent = match spare.pop() {
         Some(bytes) => bytes,
         None => Vec::new(*spare.allocator()),
     };
-    match spell_over(place, envelope) {
+    match spell_over(spent, envelope) {
         Ok(bytes) => Ok(bytes),
         Err(EncodeFault::TooLong) => Err(SimFault::Worn),
         Err(EncodeFault::NoMemory) => Err(SimFault::NoMemory),

@@ -9,7 +9,6 @@ ghost use Rattle.lrc_node.specs.Text.{asked_in};
 
 use crate::state::NodeState;
 use crate::turn::Effect;
-use crate::turns::letter::one;
 use lrc_envelope::{Arrive, Message, News};
 use lrc_need::Wait;
 use lrc_store::Intervals;
@@ -62,7 +61,7 @@ impl NodeState<'_> {
             ask: self.asks_for_collection(),
             news: News { time, intervals },
         });
-        let letters = one(self.alloc, 0, arrive)?;
+        let letters = self.letter(0, arrive)?;
         self.barrier.arrive(self.clock.index());
         self.mail.wait_for(Wait::Departure);
         self.act(letters)

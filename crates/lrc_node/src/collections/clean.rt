@@ -13,7 +13,6 @@ ghost use Rattle.lrc_node.specs.State.{seen_effect, AreFor};
 
 use crate::state::NodeState;
 use crate::turn::Effect;
-use crate::turns::letter::one;
 use lrc_envelope::{Clean, Message};
 use lrc_mail::Letter;
 use lrc_memory::Memory;
@@ -63,7 +62,7 @@ impl NodeState<'_> {
         keep_all(&mut self.memory, collection.kept.as_slice())?;
         self.mail.wait_for(Wait::Discard(collection));
         let episode = self.barrier.episode();
-        let letters = one(self.alloc, 0, Message::Clean(Clean { episode }))?;
+        let letters = self.letter(0, Message::Clean(Clean { episode }))?;
         Ok(Effect::sending(letters))
     }
 

@@ -10,7 +10,6 @@ ghost use Rattle.lrc_node.specs.Text.{asked_in};
 
 use crate::state::NodeState;
 use crate::turn::Effect;
-use crate::turns::letter::one;
 use lrc_envelope::{LockRequest, Message};
 use lrc_need::Wait;
 use std::alloc::AllocError;
@@ -31,7 +30,7 @@ impl NodeState<'_> {
         self.mail.wait_for(Wait::Grant(lock));
         let time = self.clock.time().copy();
         let request = Message::LockRequest(LockRequest { lock, time });
-        let letters = one(self.alloc, lock % self.nodes, request)?;
+        let letters = self.letter(lock % self.nodes, request)?;
         Ok(Effect::sending(letters))
     }
 

@@ -7,7 +7,6 @@ ghost use Rattle.lrc_protocol.specs.Turn.{grants_of};
 ghost use Rattle.lrc_node.specs.State.{AreFor};
 
 use crate::state::NodeState;
-use crate::turns::letter::one;
 use lrc_envelope::{LockGrant, Message, News};
 use lrc_lock::Pass;
 use lrc_mail::Letter;
@@ -15,11 +14,12 @@ use std::alloc::AllocError;
 
 impl NodeState<'_> {
     /// The grant of a pass, if there is one.
-    pub(crate) fn grants(&self, pass: Option<Pass>) -> Result<Vec<Letter>, AllocError>
-        requires pass { IfSome pass (IsPass self.now.setting.me self.now.setting.nodes) }
+    pub(crate) fn grants(&mut self, pass: Option<Pass>) -> Result<Vec<Letter>, AllocError>
+        requires pass { IfSome pass (IsPass self.old.setting.me self.old.setting.nodes) }
         requires lock { IfSome pass (λ pass. pass.lock < MOST_LOCKS) }
-        ensures letters { IfOk result (λ letters. letters.items ≡ grants_of self.now pass) }
-        ensures to { IfOk result (λ letters. AreFor self.now.setting.nodes letters.items) }
+        ensures letters { IfOk result (λ letters. letters.items ≡ grants_of self.old pass) }
+        ensures to { IfOk result (λ letters. AreFor self.old.setting.nodes letters.items) }
+        ensures same { self.new ≡ self.old }
     {
         let Some(pass) = pass else {
             return Ok(Vec::new(self.alloc));
@@ -30,10 +30,6 @@ impl NodeState<'_> {
             intervals,
         };
         let lock = pass.lock;
-        one(
-            self.alloc,
-            pass.to,
-            Message::LockGrant(LockGrant { lock, news }),
-        )
+        self.letter(pass.to, Message::LockGrant(LockGrant { lock, news }))
     }
 }

@@ -12,7 +12,6 @@ ghost use Rattle.lrc_node.specs.Text.{asked_in};
 
 use crate::state::NodeState;
 use crate::turn::Effect;
-use crate::turns::letter::one;
 use lrc_envelope::{LockForward, LockGrant, LockRequest, Message};
 use lrc_need::Wait;
 use std::alloc::AllocError;
@@ -44,7 +43,7 @@ impl NodeState<'_> {
             asker: from,
             time: request.time.copy(),
         };
-        let letters = one(self.alloc, to, Message::LockForward(forward))?;
+        let letters = self.letter(to, Message::LockForward(forward))?;
         Ok(Effect::sending(letters))
     }
 

@@ -11,7 +11,7 @@ ghost use Rattle.lrc_node.specs.Text.{asked_in};
 
 use crate::state::NodeState;
 use crate::turn::Effect;
-use lrc_mail::{Letter, requests_for};
+use lrc_mail::{Letter, put_requests};
 use lrc_need::{Need, Wait};
 use std::alloc::AllocError;
 
@@ -28,7 +28,8 @@ impl NodeState<'_> {
             return self.act(Vec::new(self.alloc));
         }
         let need = self.memory.need(page)?;
-        let letters = requests_for(self.alloc, &need)?;
+        let mut letters = self.mail.letters();
+        put_requests(&need, &mut letters)?;
         if need.is_met() {
             self.repair(&need, letters)
         } else {

@@ -12,7 +12,6 @@ ghost use Rattle.lrc_node.specs.State.{seen_effect, AreFor};
 
 use crate::state::NodeState;
 use crate::turn::Effect;
-use crate::turns::letter::one;
 use lrc_envelope::{
     ChangesReply, ChangesRequest, IndexedChanges, Indices, Message, PageReply, PageRequest, Parts,
 };
@@ -81,7 +80,7 @@ impl NodeState<'_> {
         let page = request.page;
         let parts = parts_of(self.alloc, &mut self.memory, page, &request.indices)?;
         let reply = Message::ChangesReply(ChangesReply { page, parts });
-        let letters = one(self.alloc, from, reply)?;
+        let letters = self.letter(from, reply)?;
         Ok(Effect::sending(letters))
     }
 
@@ -110,7 +109,7 @@ impl NodeState<'_> {
         };
         let copy = Box::new(self.alloc, base.copy())?;
         let reply = Message::PageReply(PageReply { page, copy });
-        let letters = one(self.alloc, from, reply)?;
+        let letters = self.letter(from, reply)?;
         Ok(Effect::sending(letters))
     }
 }

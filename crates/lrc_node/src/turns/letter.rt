@@ -2,15 +2,19 @@
 
 ghost use Rattle.std.specs.Prelude.{◌≡◌, ◌∷◌, [], IfOk};
 
+use crate::state::NodeState;
 use lrc_envelope::Message;
 use lrc_mail::Letter;
-use std::alloc::{AllocError, Global};
+use std::alloc::AllocError;
 
-/// One letter.
-pub(crate) fn one(alloc: Global, to: u8, message: Message) -> Result<Vec<Letter>, AllocError>
-    ensures { IfOk result (λ letters. letters.items ≡ record { to = to; message = message } ∷ []) }
-{
-    let mut letters = Vec::with_capacity(alloc, 1)?;
-    letters.push(Letter { to, message })?;
-    Ok(letters)
+impl NodeState<'_> {
+    /// One letter, in a list of the node's.
+    pub(crate) fn letter(&mut self, to: u8, message: Message) -> Result<Vec<Letter>, AllocError>
+        ensures letters { IfOk result (λ letters. letters.items ≡ record { to = to; message = message } ∷ []) }
+        ensures same { self.new ≡ self.old }
+    {
+        let mut letters = self.mail.letters();
+        letters.push(Letter { to, message })?;
+        Ok(letters)
+    }
 }

@@ -8,7 +8,7 @@ use Rattle.lrc_store.proofs.links.Links.unknown_until_known.Goals.{In-Some}
 pub loop-next-init : goal.loop-next-init
 loop-next-init c =
     walk_starts c.args.page c.args.since.now c.args.arena.now.notices c.args.self.now.by_page.keys c.first-next.result _
-    c.new-found.ensures.items c.requires.linked c.first-next.ensures
+    c.in_ok-found.ensures.items c.requires.linked c.first-next.ensures
 
 -- the walk as it stands in the loop
 here : (c : In-Some) → IsWalked c.args.page c.args.since.now c.args.arena.now.notices (Some c.in-Some.at) c.loop-next.found.items

@@ -9,7 +9,7 @@ use Rattle.lrc_store.proofs.store.Store.newer_than.Goals as goal
 use Rattle.lrc_store.proofs.store.Store.newer_than.Goals.{After-from_ascending}
 
 pub loop-node-init : goal.loop-node-init
-loop-node-init c = c.new-found.ensures.items
+loop-node-init c = c.in_ok-found.ensures.items
 
 pub loop-node-preserved : goal.loop-node-preserved
 loop-node-preserved c =

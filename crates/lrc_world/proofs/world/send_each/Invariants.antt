@@ -1,7 +1,7 @@
 use Rattle.std.proofs.Common.{◌≡◌, ◌++◌, false, take, map}
 use Rattle.std.specs.List.{list_any}
 use Rattle.lrc_world.specs.World.{seen_flying, shown_new, is_long}
-use Rattle.lrc_world.proofs.world.send.Given as goal
+use Rattle.lrc_world.proofs.world.send_each.Given as goal
 
 -- the messages so far are in flight, and none of them is too long
 abbrev pub invariant-loop-envelope : goal.invariant-loop-envelope
