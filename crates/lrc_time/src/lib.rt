@@ -72,6 +72,15 @@ impl Time {
         self.entries[place] = index;
     }
 
+    /// Sets the entry of this node to `index`, whatever stood there.
+    pub fn set(&mut self, node: u8, index: u32)
+        requires { node < length self.old }
+        ensures { self.new ≡ slice_set self.old node index }
+    {
+        let place = usize::from(node);
+        self.entries[place] = index;
+    }
+
     /// Takes the greater of each two entries. Both times have equally many.
     pub fn join(&mut self, other: &Time)
         requires { length self.old ≡ length other.now }

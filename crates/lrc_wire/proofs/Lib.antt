@@ -1,5 +1,6 @@
 pub mod Steps
 pub mod Elements
+pub mod Entries
 pub mod Along
 pub mod Shapes
 pub mod Bytes

@@ -139,6 +139,12 @@ is_below a b = nat_lt a.0 b.0 || ((a.0 == b.0) && nat_lt a.1 b.1)
 abbrev pub known_by : IntervalRecord → ℕ × ℕ
 known_by interval = (interval.node, index_of interval)
 
+-- a function that puts an interval behind others and returned what it is known by did so with the interval that reading
+-- gives, unless memory ran out
+abbrev pub PutsInterval : Result (ℕ × ℕ) WireFault → Field IntervalRecord → List IntervalRecord → List IntervalRecord → List ℕ → Type 0
+PutsInterval (Ok key) read old new rest = (interval : IntervalRecord) × (read ≡ Ok (interval, rest)) × (new ≡ old ++ interval ∷ []) × (key ≡ known_by interval)
+PutsInterval (Err fault) read old new rest = fault ≢ NoMemory → read ≡ Err fault
+
 -- an interval after another, which it is compared with after its stamp and before its pages
 unfoldable pub next_interval_at : Version → ℕ → Option (ℕ × ℕ) → List ℕ → Field IntervalRecord
 next_interval_at version nodes before bytes = do

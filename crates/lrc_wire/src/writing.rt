@@ -48,12 +48,11 @@ fn put_header(out: &mut Vec<u8>, envelope: &Envelope, body_len: usize) -> Result
     ensures written { OnOk result (out.new.items ≡ out.old.items ++ header Two runs_of envelope.now) }
     ensures number_bits { OnOk result (HasBits 32 envelope.now.number) }
 {
-    out.put_u8(2)?;
-    out.put_u8(kind(&envelope.message))?;
-    out.put_u8(envelope.from)?;
-    out.put_u8(envelope.to)?;
-    out.put_u32(envelope.number)?;
-    out.put_u32(body_len as u32)
+    let [n0, n1, n2, n3] = envelope.number.to_be_bytes();
+    let [l0, l1, l2, l3] = (body_len as u32).to_be_bytes();
+    let kind = kind(&envelope.message);
+    let (from, to) = (envelope.from, envelope.to);
+    out.put_slice(&[2, kind, from, to, n0, n1, n2, n3, l0, l1, l2, l3])
 }
 
 // Header and body.

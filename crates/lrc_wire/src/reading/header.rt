@@ -53,15 +53,17 @@ fn read_kind(bytes: &mut &[u8]) -> Result<Kind, WireFault>
 pub(super) fn read_header(bytes: &mut &[u8]) -> Result<Header, WireFault>
     ensures { Gives (λ header. (header, bytes.new.now)) result (header_at bytes.old.now) }
 {
-    let version = read_version(bytes)?;
-    let kind = read_kind(bytes)?;
-    let from = read_node(bytes)?;
-    let to = read_node(bytes)?;
-    let number = read_u32(bytes)?;
-    let body_len = read_u32(bytes)?;
+    let mut rest = *bytes;
+    let version = read_version(&mut rest)?;
+    let kind = read_kind(&mut rest)?;
+    let from = read_node(&mut rest)?;
+    let to = read_node(&mut rest)?;
+    let number = read_u32(&mut rest)?;
+    let body_len = read_u32(&mut rest)?;
     if body_len as usize > MOST_BODY_BYTES {
         return Err(WireFault::BadCount);
     }
+    *bytes = rest;
     Ok(Header {
         version,
         kind,

@@ -1,9 +1,9 @@
 //! Intervals.
 
-ghost use Rattle.std.specs.Prelude.{◌≡◌, ◌≤◌, ◌<◌, IfOk, IfSome, Option, Some, None};
+ghost use Rattle.std.specs.Prelude.{◌≡◌, ◌≤◌, ◌<◌, IfOk, IfSome, Option, Some, None, []};
 ghost use Rattle.lrc_page.specs.declared.TheConstants.{MOST_PAGES};
 ghost use Rattle.lrc_envelope.specs.Records.{GoWith};
-ghost use Rattle.lrc_wire.specs.Reading.{Gives, elements_at, known_by, next_page_at, pages_at, next_interval_at, intervals_at, news_at};
+ghost use Rattle.lrc_wire.specs.Reading.{Gives, PutsInterval, elements_at, known_by, next_page_at, pages_at, next_interval_at, intervals_at, news_at};
 
 use super::fields::read_page;
 use super::numbers::{read_u8, read_u16, read_u32};
@@ -14,6 +14,7 @@ use crate::version::Version;
 use lrc_envelope::{MOST_NODES, News};
 use lrc_page::Pages;
 use lrc_store::{Interval, Intervals};
+use lrc_time::Time;
 use std::alloc::Global;
 
 // A page after another.
@@ -34,63 +35,62 @@ fn read_next_page(
     Ok(page)
 }
 
+// So many pages, into a list of none.
 fn read_pages_of(
-    alloc: Global,
+    pages: &mut Pages,
     version: Version,
     count: u16,
     bytes: &mut &[u8],
-) -> Result<Pages, WireFault>
-    ensures { Gives (λ v. (v, bytes.new.now)) result (elements_at (next_page_at version) (λ _ page. Some page) count None bytes.old.now) }
+) -> Result<(), WireFault>
+    requires { pages.old ≡ [] }
+    ensures { Gives (λ _. (pages.new, bytes.new.now)) result (elements_at (next_page_at version) (λ _ page. Some page) count None bytes.old.now) }
 {
-    let mut pages = Pages::empty(alloc);
     let mut before = None;
     for _ in 0..count {
         let page = read_next_page(version, before, bytes)?;
         pages.push(page)?;
         before = Some(page);
     }
-    Ok(pages)
+    Ok(())
 }
 
+// The pages of an interval, into a list of none.
 #[tactic(auto, unfolding(crate::specs::Reading::pages_at))]
-fn read_pages(alloc: Global, version: Version, bytes: &mut &[u8]) -> Result<Pages, WireFault>
-    ensures { Gives (λ v. (v, bytes.new.now)) result (pages_at version bytes.old.now) }
+fn read_pages(pages: &mut Pages, version: Version, bytes: &mut &[u8]) -> Result<(), WireFault>
+    requires { pages.old ≡ [] }
+    ensures { Gives (λ _. (pages.new, bytes.new.now)) result (pages_at version bytes.old.now) }
 {
     let count = read_u16(bytes)?;
-    read_pages_of(alloc, version, count, bytes)
+    read_pages_of(pages, version, count, bytes)
 }
 
-// An interval after another, which is known by its node and index.
+// An interval after another, behind those that were read: what it is known by, which is its node and index.
 #[tactic(auto, unfolding(crate::specs::Reading::next_interval_at, crate::specs::Reading::tested, crate::specs::Reading::is_after))]
 fn read_next_interval(
-    alloc: Global,
+    intervals: &mut Vec<Interval>,
     version: Version,
     nodes: u8,
     before: Option<(u8, u32)>,
     bytes: &mut &[u8],
-) -> Result<Interval, WireFault>
+) -> Result<(u8, u32), WireFault>
     requires some { 1 ≤ nodes }
     requires few { nodes ≤ MOST_NODES }
-    ensures { Gives (λ interval. (interval, bytes.new.now)) result (next_interval_at version nodes before bytes.old.now) }
+    ensures { PutsInterval result (next_interval_at version nodes before bytes.old.now) intervals.old.items intervals.new.items bytes.new.now }
 {
     let node = read_u8(bytes)?;
     if node >= nodes {
         return Err(WireFault::BadNode);
     }
-    let stamp = read_stamp(nodes, node, bytes)?;
+    let mut stamp = Time::new(nodes);
+    read_stamp(&mut stamp, node, bytes)?;
     let key = (node, stamp.at(node));
     if before.is_some_and(|before| key <= before) {
         return Err(WireFault::NotAscending);
     }
-    let pages = read_pages(alloc, version, bytes)?;
-    Ok(Interval::new(node, stamp, pages))
-}
-
-// What an interval is known by: its node and its index.
-fn known_by(interval: &Interval) -> (u8, u32)
-    ensures { result ≡ known_by interval.now }
-{
-    (interval.node, interval.index())
+    let mut pages = Pages::empty(*intervals.allocator());
+    read_pages(&mut pages, version, bytes)?;
+    intervals.push(Interval::new(node, stamp, pages))?;
+    Ok(key)
 }
 
 fn read_intervals_of(
@@ -105,13 +105,14 @@ fn read_intervals_of(
     ensures { Gives (λ v. (v.items, bytes.new.now)) result
         (elements_at (next_interval_at version nodes) (λ _ interval. Some (known_by interval)) count None bytes.old.now) }
 {
-    let mut intervals = Vec::with_capacity(alloc, room(count, bytes, 8))?;
+    let mut rest = *bytes;
+    let mut intervals = Vec::with_capacity(alloc, room(count, rest, 8))?;
     let mut before = None;
     for _ in 0..count {
-        let interval = read_next_interval(alloc, version, nodes, before, bytes)?;
-        before = Some(known_by(&interval));
-        intervals.push(interval)?;
+        let key = read_next_interval(&mut intervals, version, nodes, before, &mut rest)?;
+        before = Some(key);
     }
+    *bytes = rest;
     Ok(intervals)
 }
 

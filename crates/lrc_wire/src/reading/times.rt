@@ -1,51 +1,52 @@
 //! Times and stamps.
 
-ghost use Rattle.std.specs.Prelude.{◌≡◌, ◌≤◌, ◌<◌, length, IfOk, Option, Some, None, slice_set};
+ghost use Rattle.std.specs.Prelude.{◌≡◌, ◌≤◌, ◌<◌, ◌+◌, ◌*◌, ◌↔◌, drop, length, take, IfOk, IsTrue, None, Ok};
+ghost use Rattle.std.specs.Int.{w32, from_be_bytes};
 ghost use Rattle.lrc_time.specs.Time.{entry};
-ghost use Rattle.lrc_wire.specs.Reading.{Gives, entry_at, entries_at, time_at, stamp_at};
+ghost use Rattle.lrc_wire.specs.Reading.{Gives, entries_at, time_at, stamp_at};
 
-use super::numbers::{read_u8, read_u32};
+use super::numbers::read_u8;
 use crate::fault::WireFault;
+use bytes::Buf;
 use lrc_envelope::MOST_NODES;
 use lrc_time::Time;
 
-// A node's entry. The entry of the node whose stamp it is, `own`, is at least 1.
-#[tactic(auto, unfolding(crate::specs::Reading::entry_at, crate::specs::Reading::tested))]
-fn read_entry(own: Option<u8>, node: u8, bytes: &mut &[u8]) -> Result<u32, WireFault>
-    ensures { Gives (λ n. (n, bytes.new.now)) result (entry_at own node bytes.old.now) }
+// How many bytes an entry has.
+const ENTRY_BYTES: usize = 4;
+
+// Whether the entry of the node `own` stands in the bytes, which begin with entries, and is 0.
+fn is_unbegun(own: u8, bytes: &[u8]) -> bool
+    ensures { IsTrue result ↔ ((4 * own + 4 ≤ length bytes.now) × (from_be_bytes w32 (take 4 (drop (4 * own) bytes.now)) ≡ 0)) }
 {
-    let entry = read_u32(bytes)?;
-    if entry == 0 && own == Some(node) {
-        return Err(WireFault::BadCount);
+    let start = ENTRY_BYTES * usize::from(own);
+    if bytes.len() < start + ENTRY_BYTES {
+        return false;
     }
-    Ok(entry)
+    let mut entries = &bytes[start..];
+    entries.get_u32() == 0
 }
 
-// Gives an entry that is still 0 its value.
-fn fill(time: &mut Time, node: u8, index: u32)
-    requires within { node < length time.old }
-    requires empty { entry time.old node ≡ 0 }
-    ensures { time.new ≡ slice_set time.old node index }
-{
-    if index > 0 {
-        time.raise(node, index);
-    }
-}
-
-// The entries of so many nodes.
-fn read_entries(own: Option<u8>, nodes: u8, bytes: &mut &[u8]) -> Result<Time, WireFault>
-    requires some { 1 ≤ nodes }
-    requires few { nodes ≤ MOST_NODES }
-    ensures { Gives (λ time. (time, bytes.new.now)) result (entries_at own nodes bytes.old.now) }
+// The entries that the bytes begin with, in place of those of a time.
+fn take_entries(time: &mut Time, bytes: &mut &[u8])
+    requires { 4 * length time.old ≤ length bytes.old.now }
+    ensures { entries_at None (length time.old) bytes.old.now ≡ Ok (time.new, bytes.new.now) }
 {
     let mut rest = *bytes;
-    let mut time = Time::new(nodes);
-    for node in 0..nodes {
-        let entry = read_entry(own, node, &mut rest)?;
-        fill(&mut time, node, entry);
+    for node in 0..time.nodes() {
+        time.set(node, rest.get_u32());
     }
     *bytes = rest;
-    Ok(time)
+}
+
+// As many entries as a time has, in place of its own.
+fn read_entries(time: &mut Time, bytes: &mut &[u8]) -> Result<(), WireFault>
+    ensures { Gives (λ _. (time.new, bytes.new.now)) result (entries_at None (length time.old) bytes.old.now) }
+{
+    if bytes.len() < ENTRY_BYTES * usize::from(time.nodes()) {
+        return Err(WireFault::Short);
+    }
+    take_entries(time, bytes);
+    Ok(())
 }
 
 /// A time of any number of nodes.
@@ -57,20 +58,21 @@ pub(super) fn read_time(bytes: &mut &[u8]) -> Result<Time, WireFault>
     if !(1..=MOST_NODES).contains(&nodes) {
         return Err(WireFault::BadCount);
     }
-    read_entries(None, nodes, bytes)
+    let mut time = Time::new(nodes);
+    read_entries(&mut time, bytes)?;
+    Ok(time)
 }
 
-/// The stamp of an interval of the node `own`, beside a time of so many nodes.
+/// The stamp of an interval of the node `own`, in place of one of as many nodes.
 #[tactic(auto, unfolding(crate::specs::Reading::stamp_at, crate::specs::Reading::tested))]
-pub(super) fn read_stamp(nodes: u8, own: u8, bytes: &mut &[u8]) -> Result<Time, WireFault>
-    requires some { 1 ≤ nodes }
-    requires few { nodes ≤ MOST_NODES }
-    ensures exact { Gives (λ stamp. (stamp, bytes.new.now)) result (stamp_at nodes own bytes.old.now) }
-    ensures long { IfOk result (λ stamp. length stamp ≡ nodes) }
-    ensures begun { own < nodes → IfOk result (λ stamp. 1 ≤ entry stamp own) }
+pub(super) fn read_stamp(stamp: &mut Time, own: u8, bytes: &mut &[u8]) -> Result<(), WireFault>
+    requires { own < length stamp.old }
+    ensures exact { Gives (λ _. (stamp.new, bytes.new.now)) result (stamp_at (length stamp.old) own bytes.old.now) }
+    ensures long { IfOk result (λ _. length stamp.new ≡ length stamp.old) }
+    ensures begun { IfOk result (λ _. 1 ≤ entry stamp.new own) }
 {
-    if read_u8(bytes)? != nodes {
+    if read_u8(bytes)? != stamp.nodes() || is_unbegun(own, bytes) {
         return Err(WireFault::BadCount);
     }
-    read_entries(Some(own), nodes, bytes)
+    read_entries(stamp, bytes)
 }

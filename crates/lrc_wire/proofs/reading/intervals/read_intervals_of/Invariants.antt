@@ -5,5 +5,5 @@ use Rattle.lrc_wire.proofs.reading.intervals.read_intervals_of.Given as goal
 
 abbrev pub invariant-loop : goal.invariant-loop
 invariant-loop l = with_front l.intervals.items
-    (elements_at (next_interval_at l.version l.nodes) (λ _ interval. Some (known_by interval)) (l.count - l.counter) l.before l.bytes.now) ≡ elements_at
+    (elements_at (next_interval_at l.version l.nodes) (λ _ interval. Some (known_by interval)) (l.count - l.counter) l.before l.rest) ≡ elements_at
     (next_interval_at l.version l.nodes) (λ _ interval. Some (known_by interval)) l.count None l.fn.bytes.now

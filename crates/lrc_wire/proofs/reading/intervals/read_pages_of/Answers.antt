@@ -9,9 +9,9 @@ pub loop-init : goal.loop-init
 loop-init c =
     let none : c.args.count - 0 ≡ c.args.count = omega arith in
     record {
-      last = λ page e. let empty = rw c.empty-pages.ensures at e in absurd cc;
+      last = λ page e. let empty = rw c.requires at e in absurd cc;
       read = rw (
-        c.empty-pages.ensures,
+        c.requires,
         none,
       ) (with_nothing (elements_at (next_page_at c.args.version) (λ _ page. Some page) c.args.count None c.args.bytes.now.now));
     }
