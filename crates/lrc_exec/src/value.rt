@@ -1,6 +1,6 @@
 // The values of expressions.
 
-ghost use Rattle.std.specs.Prelude.{◌≡◌, ◌≤◌, ok_or};
+ghost use Rattle.std.specs.Prelude.{◌≡◌, ◌≤◌, IfSome, Some, ok_or};
 ghost use Rattle.lrc_lang.specs.Sizes.{names_in_expression};
 ghost use Rattle.lrc_lang.specs.Statements.{expression_of};
 ghost use Rattle.lrc_exec.specs.Meaning.{operated, combined, value_of};
@@ -63,7 +63,7 @@ pub(crate) fn compute(
     }
 }
 
-// What an operator gives of the values of its sides, the left one evaluated first.
+// What an operator gives of the values of its sides. Most sides have no operator, and then nothing more is called.
 #[cycle(value)]
 #[inline(never)]
 fn combine(
@@ -78,7 +78,45 @@ fn combine(
     requires right { names_in_expression (expression_of right.now) ≤ 32 }
     ensures { result ≡ combined operator (value_of me nodes privates.now left.now) (value_of me nodes privates.now right.now) }
 {
+    let x = read(left, privates, me, nodes);
+    let y = read(right, privates, me, nodes);
+    match (x, y) {
+        (Some(x), Some(y)) => apply(operator, x, y),
+        _ => combine_deep(left, operator, right, privates, me, nodes),
+    }
+}
+
+// The same, the left side evaluated first.
+#[cycle(value)]
+#[inline(never)]
+fn combine_deep(
+    left: &Expression,
+    operator: Operator,
+    right: &Expression,
+    privates: &[u64; 32],
+    me: u8,
+    nodes: u8,
+) -> Option<u64>
+    requires left { names_in_expression (expression_of left.now) ≤ 32 }
+    requires right { names_in_expression (expression_of right.now) ≤ 32 }
+    ensures { result ≡ combined operator (value_of me nodes privates.now left.now) (value_of me nodes privates.now right.now) }
+{
     let x = compute(left, privates, me, nodes)?;
     let y = compute(right, privates, me, nodes)?;
     apply(operator, x, y)
+}
+
+// The value of an expression without an operator; none of any other.
+#[inline(always)]
+fn read(expression: &Expression, privates: &[u64; 32], me: u8, nodes: u8) -> Option<u64>
+    requires { names_in_expression (expression_of expression.now) ≤ 32 }
+    ensures { IfSome result (λ value. value_of me nodes privates.now expression.now ≡ Some value) }
+{
+    match expression {
+        Expression::Number(n) => Some(*n),
+        Expression::Private(name) => Some(privates[*name as usize]),
+        Expression::Me => Some(u64::from(me)),
+        Expression::Nodes => Some(u64::from(nodes)),
+        Expression::Binary(..) => None,
+    }
 }
