@@ -171,6 +171,7 @@ impl<'c> Cursor<'c> {
     }
 
     // What a statement asks for, and what it goes on with.
+    #[inline(always)]
     fn wish_of(&self, statement: &Statement) -> Result<Wish, Cause>
         requires { names_in_statement (statement_of statement.now) ≤ 32 }
         ensures asked { (rest : List Statement) → ask_of (next_of_statement self.now statement.now rest) ≡ asked_or_trap result }

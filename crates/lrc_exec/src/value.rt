@@ -78,12 +78,13 @@ fn combine(
     requires right { names_in_expression (expression_of right.now) ≤ 32 }
     ensures { result ≡ combined operator (value_of me nodes privates.now left.now) (value_of me nodes privates.now right.now) }
 {
-    let x = read(left, privates, me, nodes);
-    let y = read(right, privates, me, nodes);
-    match (x, y) {
-        (Some(x), Some(y)) => apply(operator, x, y),
-        _ => combine_deep(left, operator, right, privates, me, nodes),
-    }
+    let Some(x) = read(left, privates, me, nodes) else {
+        return combine_deep(left, operator, right, privates, me, nodes);
+    };
+    let Some(y) = read(right, privates, me, nodes) else {
+        return combine_deep(left, operator, right, privates, me, nodes);
+    };
+    apply(operator, x, y)
 }
 
 // The same, the left side evaluated first.
