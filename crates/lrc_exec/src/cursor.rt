@@ -14,7 +14,7 @@ ghost use Rattle.lrc_exec.specs.Wish.{asked_or_trap, Completes, IsWishOf};
 use crate::code::{Code, Instruction};
 use crate::machine::Ask;
 use crate::spot::{Flat, Spot};
-use crate::value::evaluate;
+use crate::value::compute;
 use lrc_lang::program::{Expression, Statement};
 use lrc_trace::act::Cause;
 use std::marker::Model;
@@ -96,6 +96,7 @@ impl<'c> Cursor<'c> {
     }
 
     /// What the thread asks for next, and what it goes on with.
+    #[inline(always)]
     pub(crate) fn wish(&self) -> Wish
         ensures { IsWishOf self.now result }
     {
@@ -136,6 +137,7 @@ impl<'c> Cursor<'c> {
 
     /// Completes what the thread asked for, with the number of its wish. For [`Ask::Read`] the value is the one that was
     /// read; otherwise it is not used.
+    #[inline(always)]
     pub(crate) fn answer(&mut self, number: u64, value: u64)
         requires takes { TakesAnswer (ask_of (next_of self.old)) }
         requires number { Completes self.old self.old.rest number }
@@ -144,7 +146,7 @@ impl<'c> Cursor<'c> {
         let Some(index) = self.place.checked_sub(1) else {
             return;
         };
-        let instruction = self.code[index];
+        let instruction = &self.code[index];
         match instruction.statement {
             Statement::Assign(name, _) => {
                 set_name(&mut self.privates, *name, number);
@@ -169,6 +171,7 @@ impl<'c> Cursor<'c> {
     }
 
     // What a statement asks for, and what it goes on with.
+    #[inline(always)]
     fn wish_of(&self, statement: &Statement) -> Result<Wish, Cause>
         requires { names_in_statement (statement_of statement.now) ≤ 32 }
         ensures asked { (rest : List Statement) → ask_of (next_of_statement self.now statement.now rest) ≡ asked_or_trap result }
@@ -230,7 +233,7 @@ impl<'c> Cursor<'c> {
         requires { names_in_expression (expression_of expression.now) ≤ 32 }
         ensures { result ≡ ok_or (value_in self.now expression.now) Cause.DivisionByZero }
     {
-        evaluate(expression, &self.privates, self.me, self.nodes)
+        compute(expression, &self.privates, self.me, self.nodes).ok_or(Cause::DivisionByZero)
     }
 
     // A word's number, where there is such a word.

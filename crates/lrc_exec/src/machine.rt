@@ -136,6 +136,7 @@ impl<'c> Machine<'c> {
 
     /// Completes what the thread asked for. For [`Ask::Read`] the value is the one that was read; otherwise it is not
     /// used.
+    #[inline(always)]
     pub fn answer(&mut self, value: u64)
         requires { TakesAnswer (ask_of (next_of self.old)) }
         ensures answered { self.new ≡ answered value self.old }
