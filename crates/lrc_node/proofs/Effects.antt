@@ -11,9 +11,10 @@ use Rattle.lrc_exec.specs.Ask.{ask_of}
 use Rattle.lrc_exec.specs.Meaning.{Thread, Next, quiet, prints, reads, writes, acquires, releases, arrives, departs, traps, ends, next_of}
 use Rattle.lrc_protocol.specs.Node.{Course, going, trapped, ended, deed_of, course_of, Letter, is_idle, Node, Effect, acts, acts_by, makes}
 use Rattle.lrc_protocol.specs.Turn.{begins_of, begins, may_begin, run_effect, charged, run_turn, turn_by, turn_or, turn_of, turn_with}
-use Rattle.lrc_protocol.specs.Turn.{not_ready, worn}
+use Rattle.lrc_protocol.specs.Turn.{Outcome, not_ready, worn}
 use Rattle.lrc_node.specs.Text.{asked_in, cost_to_begin}
-use Rattle.lrc_node.specs.Effects.{value_asked, memory_asked, acted, deed_next, effect_asked, begun_node, CanBegin, RefusesRun, too_large, without_memory}
+use Rattle.lrc_node.specs.Effects.{value_asked, memory_asked, acted, deed_next, effect_asked, begun_node, turn_asked}
+use Rattle.lrc_node.specs.Effects.{CanBegin, RefusesRun, too_large, without_memory}
 use Rattle.lrc_node.specs.declared.fault.NodeFault.{NodeFault}
 use Rattle.lrc_node.specs.declared.fault.NodeFault.TheVariants.{Worn, NoMemory}
 
@@ -115,7 +116,7 @@ idle_no_departure node true = begun_no_departure node.left node.course
 idle_no_departure node false = tt
 
 -- the turn of a node by what it begins
-pub run_asked : (node : Node) (ask : Ask) → option_map ask_of (begins node) ≡ Some ask → run_turn node ≡ turn_or worn (effect_asked (begun_node node) ask)
+pub run_asked : (node : Node) (ask : Ask) → option_map ask_of (begins node) ≡ Some ask → run_turn node ≡ turn_asked (begun_node node) ask
 run_asked node ask e = by_begun node (begins node) ask (idle_no_departure node (is_idle node.mail.wait)) e
 
 pub run_none : (node : Node) → option_map ask_of (begins node) ≡ None → run_turn node ≡ not_ready
@@ -168,15 +169,13 @@ can_begun node (Ask_Trap cause) h = h
 can_begun node Ask_End h = h
 
 -- why it doesn't go on, by what would come of what it begins
-pub refuses_begun : (node : Node) (ask : Ask) (o : Option Effect) (fault : NodeFault) → run_turn node ≡ turn_or worn o
-    → (fault ≡ Worn × o ≡ None) ⊎ (fault ≡ NoMemory) → RefusesRun (run_turn node) fault
-refuses_begun node ask o fault e (inl (f, none)) =
-    let is : run_turn node ≡ worn = e ∙ ap (turn_or worn) none in
-    subst (λ g. RefusesRun (run_turn node) g) (sym f) (subst (λ t. RefusesRun t Worn) (sym is) too_large)
-refuses_begun node ask o fault e (inr f) = subst (λ g. RefusesRun (run_turn node) g) (sym f) without_memory
+pub refuses_begun : (o : Option Effect) (fault : NodeFault) → (fault ≡ Worn × o ≡ None) ⊎ (fault ≡ NoMemory) → RefusesRun (turn_or worn o) fault
+refuses_begun o fault (inl (f, none)) =
+    subst (λ g. RefusesRun (turn_or worn o) g) (sym f) (subst (λ t. RefusesRun t Worn) (sym (ap (turn_or worn) none)) too_large)
+refuses_begun o fault (inr f) = subst (λ g. RefusesRun (turn_or worn o) g) (sym f) without_memory
 
-pub refuses_sent : (node : Node) (effect : Effect) (fault : NodeFault) → run_turn node ≡ turn_of effect
-    → (fault ≡ Worn × turn_of effect ≡ worn) ⊎ (fault ≡ NoMemory) → RefusesRun (run_turn node) fault
-refuses_sent node effect fault e (inl (f, is)) =
-    subst (λ g. RefusesRun (run_turn node) g) (sym f) (subst (λ t. RefusesRun t Worn) (sym (e ∙ is)) too_large)
-refuses_sent node effect fault e (inr f) = subst (λ g. RefusesRun (run_turn node) g) (sym f) without_memory
+pub refuses_sent : (outcome : Outcome) (effect : Effect) (fault : NodeFault) → outcome ≡ turn_of effect
+    → (fault ≡ Worn × turn_of effect ≡ worn) ⊎ (fault ≡ NoMemory) → RefusesRun outcome fault
+refuses_sent outcome effect fault e (inl (f, is)) =
+    subst (λ g. RefusesRun outcome g) (sym f) (subst (λ t. RefusesRun t Worn) (sym (e ∙ is)) too_large)
+refuses_sent outcome effect fault e (inr f) = subst (λ g. RefusesRun outcome g) (sym f) without_memory

@@ -1,11 +1,16 @@
 -- What a text begins, by what it asks for.
-use Rattle.std.proofs.Common.{◌≡◌, ℕ, Bool, true, false, sym, ◌∙◌, refl}
+use Rattle.std.proofs.Common.{◌≡◌, ℕ, Bool, true, false, sym, ◌∙◌, ap, subst, refl}
 use Rattle.std.specs.Prelude.{Some, None, nat_le, option_map, if◌then◌else◌}
-use Rattle.lrc_exec.specs.Ask.{ask_of}
+use Rattle.std.proofs.lemmas.Option.{same_Some}
+use Rattle.lrc_exec.specs.declared.machine.Ask.TheVariants.{Quiet}
+use Rattle.lrc_exec.specs.Ask.{ask_of, done, answered, TakesAnswer}
 use Rattle.lrc_exec.specs.Meaning.{Thread, Next, quiet, prints, reads, writes, acquires, releases, arrives, departs, traps, ends, next_of}
 use Rattle.lrc_exec.proofs.NextLaws.{IsFine, next_of-fine}
+use Rattle.lrc_protocol.specs.Node.{going, course_of}
 use Rattle.lrc_protocol.specs.Turn.{may_begin}
-use Rattle.lrc_node.specs.Text.{allowed_with}
+use Rattle.lrc_node.specs.declared.turns.text.TextStanding.{TextStanding}
+use Rattle.lrc_node.specs.declared.turns.text.TextStanding.TheVariants.{Running, Arrived, Trapped, Ended}
+use Rattle.lrc_node.specs.Text.{TextRecord, allowed_with, asked_in, course_in, gone_on}
 
 pick : (allowed : Bool) (n : Next) → option_map ask_of (if allowed then Some n else None) ≡ (if allowed then Some (ask_of n) else None)
 pick true n = refl
@@ -28,3 +33,40 @@ begins_by t ends left past f = pick (nat_le 0 left) ends
 pub begins_next : (t : Thread) (left : ℕ) → t.arrived ≡ false
     → option_map ask_of (if may_begin left (next_of t) then Some (next_of t) else None) ≡ allowed_with left (ask_of (next_of t))
 begins_next t left past = begins_by t (next_of t) left past (next_of-fine t)
+
+-- ---- a step that only its own thread sees
+
+-- it takes an answer
+pub quiet_takes : (s : TextStanding) (t : Thread) → asked_in (course_in s t) ≡ Some Quiet → TakesAnswer (ask_of (next_of t))
+quiet_takes Running t e = subst TakesAnswer (sym (same_Some _ _ e)) tt
+quiet_takes Arrived t e = cc
+quiet_takes (Trapped c) t e = cc
+quiet_takes Ended t e = cc
+
+answered_by : (t : Thread) (n : Next) → ask_of n ≡ Quiet → going (done 0 t n) ≡ course_of 0 n
+answered_by t (quiet after) e = refl
+answered_by t (prints v after) e = cc
+answered_by t (reads w after) e = cc
+answered_by t (writes w v after) e = cc
+answered_by t (acquires l after) e = cc
+answered_by t (releases l after) e = cc
+answered_by t (arrives after) e = cc
+answered_by t (departs after) e = cc
+answered_by t (traps c) e = cc
+answered_by t ends e = cc
+
+answered_in : (s : TextStanding) (t : Thread) → asked_in (course_in s t) ≡ Some Quiet → course_in s (answered 0 t) ≡ gone_on 0 (course_in s t)
+answered_in Running t e = answered_by t (next_of t) (same_Some _ _ e)
+answered_in Arrived t e = cc
+answered_in (Trapped c) t e = cc
+answered_in Ended t e = cc
+
+-- and the text stands where it stood
+pub quiet_answered : (s : TextStanding) (t after : Thread) (left : ℕ) (text : TextRecord) → record { course = course_in s t; left = left } ≡ text
+    → asked_in text.course ≡ Some Quiet → after ≡ answered 0 t
+    → (let now : TextRecord = record { course = course_in s after; left = left } in now ≡ record text { course = gone_on 0 text.course })
+quiet_answered s t after left text view e is =
+    let asked : asked_in (course_in s t) ≡ Some Quiet = ap (λ (x : TextRecord). asked_in x.course) view ∙ e in
+    let now : course_in s after ≡ gone_on 0 (course_in s t) = ap (course_in s) is ∙ answered_in s t asked in
+    ap (λ course. record { course = course; left = left }) now
+    ∙ ap (λ (x : TextRecord). record x { course = gone_on 0 x.course }) view

@@ -4,7 +4,10 @@ use Rattle.std.specs.List.{list_all}
 use Rattle.lrc_time.specs.Time.{entry}
 use Rattle.lrc_lock.specs.Held.{lock_at, is_free, is_held}
 use Rattle.lrc_lock.specs.declared.state.LockState.TheVariants.{Away}
+use Rattle.lrc_trace.specs.Run.{act_of}
+use Rattle.lrc_trace.specs.Trace.{TraceRecord}
 use Rattle.lrc_trace.specs.declared.act.Deed.{Deed}
+use Rattle.lrc_trace.specs.declared.act.Deed.TheVariants.{Quiet}
 use Rattle.lrc_page.specs.Place.{page_of}
 use Rattle.lrc_exec.specs.declared.machine.Ask.{Ask}
 use Rattle.lrc_exec.specs.declared.machine.Ask.TheVariants.{Read, Write, Acquire, Release, Barrier}
@@ -12,9 +15,10 @@ use Rattle.lrc_protocol.specs.Times.{next_time}
 use Rattle.lrc_protocol.specs.Pages.{is_readable, Memory, copy_at, value_at, with_written_word, Need, is_met, with_part}
 use Rattle.lrc_memory.specs.Turns.{is_mendable}
 use Rattle.lrc_protocol.specs.Node.{Wait, access, upkeep, Node, Effect, acts, with_memory, own_index}
-use Rattle.lrc_protocol.specs.Turn.{begins, reaches, closing, acquire_at, release_at, arrive_at, Outcome, not_ready, worn}
+use Rattle.lrc_protocol.specs.Turn.{begins, reaches, closing, acquire_at, release_at, arrive_at, TurnRecord, Outcome, done, not_ready, worn, turn_or}
 use Rattle.lrc_exec.specs.Ask.{ask_of}
 use Rattle.lrc_envelope.specs.Records.{ChangesReplyRecord}
+use Rattle.lrc_node_laws.specs.Traced.{CanNoteAct}
 use Rattle.lrc_node.specs.declared.fault.NodeFault.{NodeFault}
 use Rattle.lrc_node.specs.declared.fault.NodeFault.TheVariants.{NotReady, Worn, NoMemory}
 use Rattle.lrc_node.specs.Keeping.{CanClean}
@@ -56,6 +60,17 @@ effect_asked node (Release lock) = closing node (release_at lock)
 effect_asked node Barrier = closing node arrive_at
 effect_asked node _ = Some (acts [] node)
 
+-- the turn of a node that begins what is asked for
+abbrev pub turn_asked : Node → Ask → Outcome
+turn_asked node ask = turn_or worn (effect_asked node ask)
+
+-- the turn of a step that only the node's own thread sees, and the node after it
+abbrev pub quiet_turn : Node → TurnRecord
+quiet_turn node = record { act = Some (act_of node.setting.me Quiet); out = [] }
+
+abbrev pub after_quiet : Node → Node
+after_quiet node = record node { course = gone_on 0 node.course }
+
 -- the node that has begun what comes next
 abbrev pub begun_node : Node → Node
 begun_node node = record node { left = node.left - cost_to_begin (begins node) }
@@ -76,6 +91,11 @@ CanBegin node (Release lock) =
     CanClose node × (lock < length node.locks.held.locks) × IsTrue (is_held (lock_at node.locks.held lock))
 CanBegin node Barrier = CanClose node × (node.barrier.episode ≤ own_index node)
 CanBegin node _ = Unit {0}
+
+-- the trace may be noted of what the turn does that is asked for
+abbrev pub CanNoteAsked : Node → TraceRecord → Ask → Type 0
+CanNoteAsked node trace ask =
+    (turn : TurnRecord) → (after : Node) → turn_asked node ask ≡ done turn after → CanNoteAct after trace turn.act
 
 -- a node that may go on can begin what its text asks for
 abbrev pub CanRun : Node → Type 0

@@ -1,23 +1,27 @@
 // How a node notes its accesses.
 
-ghost use Rattle.std.specs.Prelude.{◌≡◌, IfErr, IfOk, OnErr, OnOk};
+ghost use Rattle.std.specs.Prelude.{◌≡◌, IfErr, IfOk, OnErr, OnOk, Some};
 ghost use Rattle.lrc_node_laws.specs.Traced.{CanNote, CanNoteAct, IsTraced};
 ghost use Rattle.lrc_protocol.specs.Traced.{with_access_by, with_act};
 ghost use Rattle.lrc_protocol.specs.Turn.{done, not_ready, run_turn, take_turn, unexpected};
-ghost use Rattle.lrc_node.specs.Effects.{RefusesRun};
+ghost use Rattle.lrc_node.specs.Effects.{turn_asked, CanBegin, CanNoteAsked, RefusesRun};
 ghost use Rattle.lrc_node.specs.Taken.{RefusesTake};
+ghost use Rattle.lrc_node.specs.Text.{asked_in};
 ghost use Rattle.lrc_node.specs.declared.fault.NodeFault.TheVariants.{NotReady, Unexpected};
 
 use crate::fault::NodeFault;
 use crate::state::NodeState;
 use crate::turn::Turn;
 use lrc_envelope::Envelope;
+use lrc_exec::machine::Ask;
 use lrc_trace::act::{Act, Deed};
 use lrc_trace::trace::Trace;
 use std::alloc::AllocError;
 
 impl NodeState<'_> {
-    /// Goes on as `run` does, and notes the access that is made, if one is. After an error the trace is as it was.
+    /// Goes on by one statement, or begins one that waits, and notes the access that is made, if one is. `NotReady`, with
+    /// nothing changed, where the node waits, has stopped, or has used up its steps; `Worn` where a number would be too large.
+    /// After an error the trace is as it was.
     pub(crate) fn run_noting(&mut self, trace: &mut Trace) -> Result<Turn, NodeFault>
         requires { IsTraced self.old trace.old }
         ensures done { IfOk result (λ turn. run_turn self.old ≡ done turn self.new) }
@@ -26,7 +30,25 @@ impl NodeState<'_> {
         ensures ready { run_turn self.old ≡ not_ready → (result ≡ Err NotReady) × (self.new ≡ self.old) }
         ensures refused { IfErr result (λ fault. RefusesRun (run_turn self.old) fault) }
     {
-        let turn = self.run()?;
+        match self.next() {
+            None => Err(NodeFault::NotReady),
+            Some(Ask::Quiet) => Ok(self.run_quietly()),
+            Some(ask) => self.run_begun_noting(ask, trace),
+        }
+    }
+
+    // Goes on by what it has begun, and notes the access that is made, if one is. After an error the trace is as it was.
+    #[inline(never)]
+    fn run_begun_noting(&mut self, ask: Ask, trace: &mut Trace) -> Result<Turn, NodeFault>
+        requires next { asked_in self.old.course ≡ Some ask }
+        requires can { CanBegin self.old ask }
+        requires note { CanNoteAsked self.old trace.old ask }
+        ensures done { IfOk result (λ turn. turn_asked self.old ask ≡ done turn self.new) }
+        ensures noted { IfOk result (λ turn. trace.new ≡ with_act self.new turn.act trace.old) }
+        ensures kept { OnErr result (trace.new ≡ trace.old) }
+        ensures refused { IfErr result (RefusesRun (turn_asked self.old ask)) }
+    {
+        let turn = self.run_begun(ask)?;
         self.note(trace, turn.act)?;
         Ok(turn)
     }

@@ -2,17 +2,18 @@
 
 ghost use Rattle.std.specs.Prelude.{◌≡◌, ◌⊎◌, ◌+◌, ◌<◌, IfErr, IfNone, IfOk, Some, None, OnOk, option_map};
 ghost use Rattle.lrc_exec.specs.Ask.{ask_of};
-ghost use Rattle.lrc_protocol.specs.Turn.{begins, done, is_ready, not_ready, run_turn};
-ghost use Rattle.lrc_node.specs.Effects.{begun_node, effect_asked, CanBegin, CanRun, RefusesRun};
+ghost use Rattle.lrc_protocol.specs.Turn.{begins, done, is_ready};
+ghost use Rattle.lrc_node.specs.Effects.{after_quiet, begun_node, effect_asked, quiet_turn, turn_asked, CanBegin, RefusesRun};
 ghost use Rattle.lrc_node.specs.State.{seen_effect, AreFor};
 ghost use Rattle.lrc_node.specs.Text.{asked_in};
-ghost use Rattle.lrc_node.specs.declared.fault.NodeFault.TheVariants.{NoMemory, NotReady, Worn};
+ghost use Rattle.lrc_node.specs.declared.fault.NodeFault.TheVariants.{NoMemory, Worn};
 
 use crate::fault::NodeFault;
 use crate::state::NodeState;
 use crate::turn::{Effect, Turn};
 use lrc_exec::machine::Ask;
 use lrc_page::page_of;
+use lrc_trace::act::{Act, Deed};
 
 impl NodeState<'_> {
     /// Whether the node would go on if it were named.
@@ -22,8 +23,8 @@ impl NodeState<'_> {
         self.mail.wait().is_idle() && self.text.is_ready()
     }
 
-    // What the node begins, if it is ready. The step is counted.
-    fn next(&mut self) -> Option<Ask>
+    /// What the node begins, if it is ready. The step is counted.
+    pub(crate) fn next(&mut self) -> Option<Ask>
         ensures asked { result ≡ option_map ask_of (begins self.old) }
         ensures node { self.new ≡ begun_node self.old }
         ensures none { IfNone result (self.new ≡ self.old) }
@@ -34,17 +35,31 @@ impl NodeState<'_> {
         self.text.begin()
     }
 
-    /// Goes on by one statement, or begins one that waits. `NotReady`, with nothing changed, where the node waits, has
-    /// stopped, or has used up its steps; `Worn` where a number would be too large.
-    pub(crate) fn run(&mut self) -> Result<Turn, NodeFault>
-        requires { CanRun self.old }
-        ensures done { IfOk result (λ turn. run_turn self.old ≡ done turn self.new) }
-        ensures ready { run_turn self.old ≡ not_ready → (result ≡ Err NotReady) × (self.new ≡ self.old) }
-        ensures refused { IfErr result (λ fault. RefusesRun (run_turn self.old) fault) }
+    /// Goes on by a step that only its own thread sees. Most turns do.
+    #[inline(always)]
+    pub(crate) fn run_quietly(&mut self) -> Turn
+        requires { asked_in self.old.course ≡ Some Ask.Quiet }
+        ensures turn { result ≡ quiet_turn self.old }
+        ensures node { self.new ≡ after_quiet self.old }
     {
-        let Some(ask) = self.next() else {
-            return Err(NodeFault::NotReady);
+        self.text.go_on_quietly();
+        let act = Act {
+            node: self.me,
+            deed: Deed::Quiet,
         };
+        Turn {
+            act: Some(act),
+            out: Vec::new(self.alloc),
+        }
+    }
+
+    /// Goes on by what it has begun. `Worn` where a number would be too large.
+    pub(crate) fn run_begun(&mut self, ask: Ask) -> Result<Turn, NodeFault>
+        requires next { asked_in self.old.course ≡ Some ask }
+        requires can { CanBegin self.old ask }
+        ensures done { IfOk result (λ turn. turn_asked self.old ask ≡ done turn self.new) }
+        ensures refused { IfErr result (RefusesRun (turn_asked self.old ask)) }
+    {
         let effect = self.begin(ask)?;
         self.send(effect)
     }

@@ -1,6 +1,6 @@
 // A node's text: how far it has come, and how many steps are left.
 
-ghost use Rattle.std.specs.Prelude.{◌≡◌, ◌≤◌, IfNone, IfSome, false, is_some, option_map};
+ghost use Rattle.std.specs.Prelude.{◌≡◌, ◌≤◌, IfNone, IfSome, Some, false, is_some, option_map};
 ghost use Rattle.lrc_exec.specs.Ask.{ask_of, cost_asked};
 ghost use Rattle.lrc_exec.specs.Meaning.{next_of};
 ghost use Rattle.lrc_exec.specs.Plain.{start_of};
@@ -125,6 +125,16 @@ impl<'c> Text<'c> {
             }
             TextStanding::Trapped(_) | TextStanding::Ended => None,
         }
+    }
+
+    /// Goes on by a step that only its own thread sees: an assignment or a condition.
+    #[inline(always)]
+    pub(crate) fn go_on_quietly(&mut self)
+        requires { asked_in self.old.course ≡ Some Ask.Quiet }
+        ensures { self.new ≡ record self.old { course = gone_on 0 self.old.course } }
+    {
+        // The text runs, and goes on running.
+        self.machine.answer(0);
     }
 
     /// How the node ended.
