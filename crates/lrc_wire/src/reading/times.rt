@@ -31,11 +31,13 @@ fn take_entries(time: &mut Time, bytes: &mut &[u8])
     requires { 4 * length time.old ≤ length bytes.old.now }
     ensures { entries_at None (length time.old) bytes.old.now ≡ Ok (time.new, bytes.new.now) }
 {
-    let mut rest = *bytes;
+    let block = *bytes;
     for node in 0..time.nodes() {
-        time.set(node, rest.get_u32());
+        let at = ENTRY_BYTES * usize::from(node);
+        let entry = u32::from_be_bytes([block[at], block[at + 1], block[at + 2], block[at + 3]]);
+        time.set(node, entry);
     }
-    *bytes = rest;
+    *bytes = &block[ENTRY_BYTES * usize::from(time.nodes())..];
 }
 
 // As many entries as a time has, in place of its own.
