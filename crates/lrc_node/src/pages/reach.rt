@@ -4,7 +4,7 @@ ghost use Rattle.std.specs.Prelude.{◌≡◌, ◌<◌, All, IfOk, length, true,
 ghost use Rattle.lrc_memory.specs.Turns.{is_mendable};
 ghost use Rattle.lrc_protocol.specs.Pages.{is_met, repaired, copy_at};
 ghost use Rattle.lrc_protocol.specs.Node.{nothing, acts, waiting, with_memory};
-ghost use Rattle.lrc_protocol.specs.Turn.{fetches, reaches};
+ghost use Rattle.lrc_protocol.specs.Turn.{fetches, reaches, requests_of};
 ghost use Rattle.lrc_node.specs.Effects.{AccessesPage};
 ghost use Rattle.lrc_node.specs.State.{seen_effect, AreFor};
 ghost use Rattle.lrc_node.specs.Text.{asked_in};
@@ -28,13 +28,22 @@ impl NodeState<'_> {
             return self.act(Vec::new(self.alloc));
         }
         let need = self.memory.need(page)?;
-        let mut letters = self.mail.letters();
-        put_requests(&need, &mut letters)?;
+        let letters = self.requests_for(&need)?;
         if need.is_met() {
             self.repair(&need, letters)
         } else {
             Ok(self.await_access(need, letters))
         }
+    }
+
+    // The requests for what a page needs, in a list of the node's.
+    fn requests_for(&mut self, need: &Need) -> Result<Vec<Letter>, AllocError>
+        ensures letters { IfOk result (λ letters. letters.items ≡ requests_of need.now) }
+        ensures same { self.new ≡ self.old }
+    {
+        let mut letters = self.mail.letters();
+        put_requests(need, &mut letters)?;
+        Ok(letters)
     }
 
     /// Repairs a page for which all has come, and makes the access that comes next.

@@ -26,20 +26,23 @@ returns-then-is_met-clause-effect c =
     let here = subst (λ (n : Node). reaches n c.args.page ≡ acts (requests_of need)
     (waiting nothing (with_memory n (repaired n.memory need)))) c.self.view_is e in
     let now : Node = c.args.self.now in
-    let sent = ap (λ letters. acts letters (waiting nothing (with_memory now (repaired now.memory need)))) (sym c.in_ok-letters.ensures) in
-    rw (here ∙ sent) c.repair.ensures.effect
+    let sent = ap (λ letters. acts letters (waiting nothing (with_memory now (repaired now.memory need)))) (sym c.in_ok-letters.ensures.letters) in
+    let same = ap (λ (n : Node). acts c.in_ok-letters.letters.items (waiting nothing (with_memory n (repaired n.memory need))))
+    (sym c.requests_for.ensures.same) in
+    rw (here ∙ sent ∙ same) c.repair.ensures.effect
 
 pub returns-else-is_met-clause-to : goal.returns-else-is_met-clause-to
 returns-else-is_met-clause-to c =
     let node = node_of c.self.inside in
     let need = c.in_ok-need.need in
     let nodes : c.await_access.new.self.setting.nodes ≡ node.setting.nodes =
-    ap (λ (s : Setting). s.nodes) c.await_access.ensures.setting ∙ sym (ap (λ (n : Node). n.setting.nodes) c.self.view_is) in
+    ap (λ (s : Setting). s.nodes) c.await_access.ensures.setting ∙ ap (λ (n : Node). n.setting.nodes) c.requests_for.ensures.same
+    ∙ sym (ap (λ (n : Node). n.setting.nodes) c.self.view_is) in
     let last = c.self.invariant.last in
     let keeper : keeper_at node.memory c.args.page < length node.memory.store.last = c.in_ok-need.ensures.keeper in
     let base : AreFor (length node.memory.store.last) (requests_of (need_of (length node.memory.store.last) node.memory c.args.page)) =
     requests_for (length node.memory.store.last) node.memory c.args.page keeper in
     let sent : c.await_access.result.letters.items ≡ requests_of (need_of (length node.memory.store.last) node.memory c.args.page) =
-    ap (λ letters. letters.items) c.await_access.ensures.letters ∙ c.in_ok-letters.ensures ∙ ap requests_of c.in_ok-need.ensures.need in
+    ap (λ letters. letters.items) c.await_access.ensures.letters ∙ c.in_ok-letters.ensures.letters ∙ ap requests_of c.in_ok-need.ensures.need in
     subst (λ n. AreFor n c.await_access.result.letters.items) (last ∙ sym nodes)
     (subst (AreFor (length node.memory.store.last)) (sym sent) base)
