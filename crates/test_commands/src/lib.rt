@@ -4,6 +4,8 @@
 #[cfg(test)]
 mod arguments;
 #[cfg(test)]
+mod checks;
+#[cfg(test)]
 mod events;
 #[cfg(test)]
 mod explored;
@@ -15,6 +17,8 @@ mod given_events;
 mod large_runs;
 #[cfg(test)]
 mod one_node;
+#[cfg(test)]
+mod parts;
 #[cfg(test)]
 mod plain;
 #[cfg(test)]

@@ -1,99 +1,100 @@
 // Worked programs of one node.
 
+use crate::checks::holds;
+use crate::parts::{Part, put_parts};
 use crate::shell::{ALL_STEPS, driven};
 use lrc_words::choice::Steps;
-use std::alloc::{AllocError, Global};
+use std::alloc::Global;
 
-// Whether the text prints this, and ends with this status.
-fn prints(alloc: Global, text: &[u8], out: &[u8], status: u8) -> bool {
-    driven(alloc, ALL_STEPS, text).prints(out, status)
+/// Whether the text prints this within so many steps, and ends with this status.
+fn prints(alloc: Global, steps: Steps, text: &[u8], out: &[u8], status: u8) -> bool {
+    driven(alloc, steps, text).prints(out, status)
 }
+
+/// Whether each text prints this, and ends with this status.
+fn each_prints(alloc: Global, rows: &[(&[u8], &[u8])], status: u8) -> bool {
+    for (text, out) in rows {
+        if !prints(alloc, ALL_STEPS, text, out, status) {
+            return false;
+        }
+    }
+    true
+}
+
+const PRINTING: &[(&[u8], &[u8])] = &[
+    (
+        b"words 1; locks 0; [0] = 7; x = [0]; print x + me;",
+        b"node 0 prints 7\nnode 0 ended\n",
+    ),
+    (
+        b"words 1; locks 0; print 0 - 1; print 7 / 2 * 2 + 7 % 2 == 7;",
+        b"node 0 prints 18446744073709551615\nnode 0 prints 1\nnode 0 ended\n",
+    ),
+    (
+        b"words 1; locks 1; acquire 0; [0] = 3; release 0; acquire 0; x = [0]; release 0; print x + nodes;",
+        b"node 0 prints 4\nnode 0 ended\n",
+    ),
+];
 
 #[test]
 fn worked_programs_print_what_they_wrote(rt: HostRuntime) {
-    let cases: [(&[u8], &[u8]); 3] = [
-        (
-            b"words 1; locks 0; [0] = 7; x = [0]; print x + me;",
-            b"node 0 prints 7\nnode 0 ended\n",
-        ),
-        (
-            b"words 1; locks 0; print 0 - 1; print 7 / 2 * 2 + 7 % 2 == 7;",
-            b"node 0 prints 18446744073709551615\nnode 0 prints 1\nnode 0 ended\n",
-        ),
-        (
-            b"words 1; locks 1; acquire 0; [0] = 3; release 0; acquire 0; x = [0]; release 0; print x + nodes;",
-            b"node 0 prints 4\nnode 0 ended\n",
-        ),
-    ];
-    for (text, out) in cases {
-        assert!(rt; prints(rt.alloc(), text, out, 0));
-    }
+    holds(&rt, each_prints(rt.alloc(), PRINTING, 0));
 }
+
+const ENDLESS: &[u8] = b"words 1; locks 0; while 1 { x = x + 1; }";
+
+const UNFINISHED: &[u8] = b"node 0 unfinished\n";
 
 #[test]
 fn a_loop_runs_out_of_steps(rt: HostRuntime) {
-    let text = b"words 1; locks 0; while 1 { x = x + 1; }";
-    let run = driven(rt.alloc(), Steps { count: 3 }, text);
-    assert!(rt; run.prints(b"node 0 unfinished\n", 4));
+    let steps = Steps { count: 3 };
+    holds(&rt, prints(rt.alloc(), steps, ENDLESS, UNFINISHED, 4));
 }
+
+const TRAPPING: &[(&[u8], &[u8])] = &[
+    (b"words 1; locks 1; x = 1 / 0;", b"node 0 trapped 1\n"),
+    (b"words 1; locks 1; [1] = 1;", b"node 0 trapped 2\n"),
+    (b"words 1; locks 1; acquire 1;", b"node 0 trapped 3\n"),
+    (
+        b"words 1; locks 1; acquire 0; acquire 0;",
+        b"node 0 trapped 4\n",
+    ),
+    (b"words 1; locks 1; release 0;", b"node 0 trapped 5\n"),
+    (
+        b"words 1; locks 1; acquire 0; release 0; print 2; release 0;",
+        b"node 0 prints 2\nnode 0 trapped 5\n",
+    ),
+];
 
 #[test]
 fn each_trap_has_its_number(rt: HostRuntime) {
-    let cases: [(&[u8], &[u8]); 6] = [
-        (b"words 1; locks 1; x = 1 / 0;", b"node 0 trapped 1\n"),
-        (b"words 1; locks 1; [1] = 1;", b"node 0 trapped 2\n"),
-        (b"words 1; locks 1; acquire 1;", b"node 0 trapped 3\n"),
-        (
-            b"words 1; locks 1; acquire 0; acquire 0;",
-            b"node 0 trapped 4\n",
-        ),
-        (b"words 1; locks 1; release 0;", b"node 0 trapped 5\n"),
-        (
-            b"words 1; locks 1; acquire 0; release 0; print 2; release 0;",
-            b"node 0 prints 2\nnode 0 trapped 5\n",
-        ),
-    ];
-    for (text, out) in cases {
-        assert!(rt; prints(rt.alloc(), text, out, 4));
-    }
+    holds(&rt, each_prints(rt.alloc(), TRAPPING, 4));
+}
+
+/// Whether the text of these parts prints this.
+fn parts_print(alloc: Global, parts: &[Part<'_>], out: &[u8]) -> bool {
+    let mut text = Vec::new(alloc);
+    put_parts(&mut text, parts, b"").is_ok() && prints(alloc, ALL_STEPS, &text, out, 0)
 }
 
 // `{ .. }` in `{ .. }`, 32 deep, around one statement.
-fn nested(alloc: Global) -> Result<Vec<u8>, AllocError> {
-    let mut text = Vec::from_slice(alloc, b"words 1; locks 0;")?;
-    for _ in 0..32 {
-        text.extend_from_slice(b"if 1 {")?;
-    }
-    text.extend_from_slice(b"print 5;")?;
-    for _ in 0..32 {
-        text.extend_from_slice(b"}")?;
-    }
-    Ok(text)
-}
+const NESTED: &[Part] = &[
+    (b"words 1; locks 0;", 1),
+    (b"if 1 {", 32),
+    (b"print 5;", 1),
+    (b"}", 32),
+];
 
 // A block of as many statements as a text can have.
-fn long(alloc: Global) -> Result<Vec<u8>, AllocError> {
-    let mut text = Vec::from_slice(alloc, b"words 1; locks 0; if 1 {")?;
-    for _ in 0..16_370 {
-        text.extend_from_slice(b"a=1;")?;
-    }
-    text.extend_from_slice(b"}")?;
-    Ok(text)
-}
-
-fn large_ones_run(alloc: Global) -> Result<[bool; 2], AllocError> {
-    Ok([
-        prints(
-            alloc,
-            &nested(alloc)?,
-            b"node 0 prints 5\nnode 0 ended\n",
-            0,
-        ),
-        prints(alloc, &long(alloc)?, b"node 0 ended\n", 0),
-    ])
-}
+const LONG: &[Part] = &[
+    (b"words 1; locks 0; if 1 {", 1),
+    (b"a=1;", 16_370),
+    (b"}", 1),
+];
 
 #[test]
 fn large_programs_run_without_a_deep_stack(rt: HostRuntime) {
-    assert!(rt; large_ones_run(rt.alloc()) == Ok([true, true]));
+    let printed = b"node 0 prints 5\nnode 0 ended\n";
+    holds(&rt, parts_print(rt.alloc(), NESTED, printed));
+    holds(&rt, parts_print(rt.alloc(), LONG, b"node 0 ended\n"));
 }

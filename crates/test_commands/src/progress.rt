@@ -1,16 +1,17 @@
 // The line that says that a run still goes on.
 
+use crate::checks::holds;
 use lrc_shell::Watch;
 
 #[test]
 fn a_run_that_is_over_is_not_said_to_go_on(rt: HostRuntime) {
     let watch = Watch::new();
     watch.end(&rt);
-    assert!(rt; !watch.tell(&rt));
+    holds(&rt, !watch.tell(&rt));
 }
 
 #[test]
 fn a_run_of_two_seconds_is_said_to_go_on(rt: HostRuntime) {
     let watch = Watch::new();
-    assert!(rt; watch.tell(&rt));
+    holds(&rt, watch.tell(&rt));
 }

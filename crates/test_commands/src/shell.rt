@@ -20,6 +20,24 @@ pub const ALL_STEPS: Steps = Steps { count: 1_000_000 };
 /// One node.
 pub const ALONE: Nodes = Nodes { count: 1 };
 
+/// So many nodes, or one where there cannot be so many.
+pub fn so_many(count: u32) -> Nodes {
+    if 1 <= count && count <= 16 {
+        Nodes { count }
+    } else {
+        ALONE
+    }
+}
+
+/// A collection from so many stored intervals on, or none where there cannot be so many.
+pub fn collecting(count: u32) -> Collect {
+    if count <= 1_000_000 {
+        Collect { count }
+    } else {
+        Collect { count: 0 }
+    }
+}
+
 /// What a command printed, what it wrote to standard error, and its status.
 #[derive(Drop)]
 pub struct Outcome {

@@ -1,253 +1,381 @@
 // Words of the command line, and the choice that they make.
 
+use crate::checks::holds;
 use lrc_envelope::Picker;
 use lrc_page::Size;
-use lrc_words::choice::{Choice, ChooseFault, Form, RunOptions, Shape, Way};
+use lrc_words::choice::{Choice, ChooseFault, Form, RunChoice, RunOptions, Shape, Way};
 use lrc_words::choose;
 use std::alloc::Global;
 
-// Whether the words ask for the plain machine with this file, and so many nodes and steps.
-fn ask_for_plain(alloc: Global, words: &[&str], file: &str, nodes: u32, steps: u32) -> bool {
-    matches!(choose(alloc, words), Ok(Choice::Plain(run))
-        if run.file == file && run.nodes.count == nodes && run.steps.count == steps)
+/// What is to be so of a choice.
+#[derive(Clone, Copy)]
+enum Fact<'a> {
+    /// It is a check of this file.
+    Check(&'a str),
+    /// It is a run on the plain machine, of this file, with so many nodes and steps.
+    Plain(&'a str, u32, u32),
+    /// It names this file of a text, and this one of events, or none.
+    Files(&'a str, Option<&'a str>),
+    /// It judges the acts of so many nodes, by pairs or not.
+    Judge(Option<u32>, bool),
+    /// It explores with so many nodes and states, by outcomes or not.
+    Explore(u32, u32, bool),
+    /// This is shown of its run.
+    Shape(Shape),
+    /// It is a chart for a terminal or not, of this part of a run.
+    Chart(bool, Option<u64>, Option<u64>),
+    /// Its run goes on so.
+    Way(Way<'a>),
+    /// Its run has so many nodes, collects from so many intervals on, and has pages of this size.
+    Options(u32, u32, Size),
+    /// Its run gives each node so many steps.
+    Steps(u32),
 }
 
-// Whether the words ask for a run of the file on three nodes, with these options.
-fn ask_for_options(alloc: Global, words: &[&str], collect: u32, order: Picker, size: Size) -> bool {
-    matches!(choose(alloc, words), Ok(Choice::Show(run, Shape::Report))
-        if are_options(&run.options, collect, size) && goes_in_rounds(&run.way, order))
-}
-
-// Whether the words ask for such a run on threads.
-fn ask_for_threads(alloc: Global, words: &[&str], collect: u32, order: Picker, size: Size) -> bool {
-    matches!(choose(alloc, words), Ok(Choice::Show(run, Shape::Report))
-        if are_options(&run.options, collect, size) && goes_on_threads(&run.way, order))
-}
-
-fn goes_in_rounds(way: &Way<'_>, order: Picker) -> bool {
-    matches!(way, Way::Rounds(picker) if *picker == order)
-}
-
-fn goes_on_threads(way: &Way<'_>, order: Picker) -> bool {
-    matches!(way, Way::Threads(picker) if *picker == order)
-}
-
-// Whether these are the options of a run on three nodes, with these.
-fn are_options(run: &RunOptions<'_>, collect: u32, size: Size) -> bool {
-    run.nodes.count == 3 && run.collect.count == collect && run.size == size
-}
-
-// Whether the words ask for a run of this file on one node in rounds, or with these events.
-fn ask_for_run(alloc: Global, words: &[&str], file: &str, events: Option<&str>) -> bool {
-    match choose(alloc, words) {
-        Ok(choice) => choice.file() == file && choice.events() == events,
-        Err(_fault) => false,
+fn is_check(choice: &Choice<'_>, file: &str) -> bool {
+    match choice {
+        Choice::Check(named) => *named == file,
+        _ => false,
     }
 }
 
-// Whether the words ask for a run at random from this seed.
-fn ask_for_random(alloc: Global, words: &[&str], seed: u64) -> bool {
-    matches!(choose(alloc, words), Ok(Choice::Show(run, Shape::Report))
-        if matches!(run.way, Way::Random(number) if number == seed))
+fn is_plain(choice: &Choice<'_>, file: &str, nodes: u32, steps: u32) -> bool {
+    match choice {
+        Choice::Plain(run) => {
+            run.file == file && run.nodes.count == nodes && run.steps.count == steps
+        }
+        _ => false,
+    }
 }
 
-// Whether the words ask for the trace of a run on threads, in the form for race detectors.
-fn ask_for_trace(alloc: Global, words: &[&str]) -> bool {
-    matches!(choose(alloc, words), Ok(Choice::Show(run, Shape::Trace(Form::Rapid)))
-        if goes_on_threads(&run.way, Picker::Newest))
+fn is_judging(choice: &Choice<'_>, nodes: Option<u32>, pairs: bool) -> bool {
+    match choice {
+        Choice::Judge(judging) => {
+            judging.nodes.map(|nodes| nodes.count) == nodes && judging.pairs == pairs
+        }
+        _ => false,
+    }
 }
 
-// Whether the words ask to judge the acts of so many nodes, by pairs or not.
-fn ask_to_judge(alloc: Global, words: &[&str], nodes: Option<u32>, pairs: bool) -> bool {
-    matches!(choose(alloc, words), Ok(Choice::Judge(judging))
-        if judging.nodes.map(|nodes| nodes.count) == nodes && judging.pairs == pairs)
+fn is_exploring(choice: &Choice<'_>, nodes: u32, most: u32, outcomes: bool) -> bool {
+    match choice {
+        Choice::Explore(exploring) => {
+            exploring.nodes.count == nodes
+                && exploring.most.count == most
+                && exploring.outcomes == outcomes
+        }
+        _ => false,
+    }
 }
 
-// Whether the words ask to explore with so many nodes and states, by outcomes or not.
-fn ask_to_explore(alloc: Global, words: &[&str], nodes: u32, most: u32, outcomes: bool) -> bool {
-    matches!(choose(alloc, words), Ok(Choice::Explore(exploring))
-        if exploring.nodes.count == nodes && exploring.most.count == most && exploring.outcomes == outcomes)
-}
-
-// Whether the words ask for the messages of a run, for why it ended as it did, and for its counts.
-fn ask_for_messages(alloc: Global, words: &[&str]) -> bool {
+/// Whether both are the same shape, and not one of a chart.
+fn is_shape(shown: Shape, shape: Shape) -> bool {
     matches!(
-        choose(alloc, words),
-        Ok(Choice::Show(_, Shape::Trace(Form::Messages)))
+        (shown, shape),
+        (Shape::Report, Shape::Report)
+            | (Shape::Explain, Shape::Explain)
+            | (Shape::Stats, Shape::Stats)
+            | (Shape::Trace(Form::Rapid), Shape::Trace(Form::Rapid))
+            | (Shape::Trace(Form::Messages), Shape::Trace(Form::Messages))
     )
 }
 
-fn ask_to_explain(alloc: Global, words: &[&str], seed: u64) -> bool {
-    matches!(choose(alloc, words), Ok(Choice::Show(run, Shape::Explain))
-        if matches!(run.way, Way::Random(number) if number == seed))
+fn is_chart(shown: Shape, text: bool, from: Option<u64>, to: Option<u64>) -> bool {
+    match shown {
+        Shape::Chart(charting) => {
+            charting.text == text && charting.from == from && charting.to == to
+        }
+        _ => false,
+    }
 }
 
-fn ask_for_counts(alloc: Global, words: &[&str]) -> bool {
-    matches!(choose(alloc, words), Ok(Choice::Show(run, Shape::Stats))
-        if goes_on_threads(&run.way, Picker::Twice))
+/// Whether both are the same way, and not one by events.
+fn is_way(taken: Way<'_>, way: Way<'_>) -> bool {
+    match (taken, way) {
+        (Way::Rounds(taken), Way::Rounds(order)) => taken == order,
+        (Way::Threads(taken), Way::Threads(order)) => taken == order,
+        (Way::Random(taken), Way::Random(seed)) => taken == seed,
+        _ => false,
+    }
 }
 
-// Whether the words ask for a chart for a terminal or not, and of which part of a run.
-fn ask_for_chart(
-    alloc: Global,
-    words: &[&str],
-    text: bool,
-    from: Option<u64>,
-    to: Option<u64>,
-) -> bool {
-    matches!(choose(alloc, words), Ok(Choice::Show(_, Shape::Chart(charting)))
-        if charting.text == text && charting.from == from && charting.to == to)
+fn are_options(options: &RunOptions<'_>, nodes: u32, collect: u32, size: Size) -> bool {
+    options.nodes.count == nodes && options.collect.count == collect && options.size == size
 }
 
-// Whether the words ask for a chart of a run on three nodes at random from this seed, with these options.
-fn ask_for_random_chart(
-    alloc: Global,
-    words: &[&str],
-    steps: u32,
-    collect: u32,
-    seed: u64,
-) -> bool {
-    matches!(choose(alloc, words), Ok(Choice::Show(run, Shape::Chart(_)))
-        if are_options(&run.options, collect, Size::Words256)
-            && run.options.steps.count == steps
-            && matches!(run.way, Way::Random(number) if number == seed))
+/// Whether a fact about a run is so of this one.
+fn is_so_of_run(run: &RunChoice<'_>, shown: Shape, fact: Fact<'_>) -> bool {
+    match fact {
+        Fact::Shape(shape) => is_shape(shown, shape),
+        Fact::Chart(text, from, to) => is_chart(shown, text, from, to),
+        Fact::Way(way) => is_way(run.way, way),
+        Fact::Options(nodes, collect, size) => are_options(&run.options, nodes, collect, size),
+        Fact::Steps(steps) => run.options.steps.count == steps,
+        _ => false,
+    }
 }
 
-// Whether the words ask for a chart of a run on threads.
-fn ask_for_threads_chart(alloc: Global, words: &[&str], order: Picker) -> bool {
-    matches!(choose(alloc, words), Ok(Choice::Show(run, Shape::Chart(_)))
-        if goes_on_threads(&run.way, order))
+fn is_so_of_any_run(choice: &Choice<'_>, fact: Fact<'_>) -> bool {
+    match choice {
+        Choice::Show(run, shown) => is_so_of_run(run, *shown, fact),
+        _ => false,
+    }
 }
 
-fn ask_for_check(alloc: Global, words: &[&str]) -> bool {
-    matches!(choose(alloc, words), Ok(Choice::Check("a.tm")))
+fn is_so(choice: &Choice<'_>, fact: Fact<'_>) -> bool {
+    match fact {
+        Fact::Check(file) => is_check(choice, file),
+        Fact::Plain(file, nodes, steps) => is_plain(choice, file, nodes, steps),
+        Fact::Files(file, events) => choice.file() == file && choice.events() == events,
+        Fact::Judge(nodes, pairs) => is_judging(choice, nodes, pairs),
+        Fact::Explore(nodes, most, outcomes) => is_exploring(choice, nodes, most, outcomes),
+        _ => is_so_of_any_run(choice, fact),
+    }
 }
+
+fn are_so(choice: &Choice<'_>, facts: &[Fact<'_>]) -> bool {
+    for fact in facts {
+        if !is_so(choice, *fact) {
+            return false;
+        }
+    }
+    true
+}
+
+/// Words, and what is to be so of the choice that they make.
+type Row<'a> = (&'a [&'a str], &'a [Fact<'a>]);
+
+fn is_read(alloc: Global, words: &[&str], facts: &[Fact<'_>]) -> bool {
+    match choose(alloc, words) {
+        Ok(choice) => are_so(&choice, facts),
+        Err(_) => false,
+    }
+}
+
+fn are_read(alloc: Global, rows: &[Row<'_>]) -> bool {
+    for (words, facts) in rows {
+        if !is_read(alloc, words, facts) {
+            return false;
+        }
+    }
+    true
+}
+
+const WORDS: &[Row] = &[
+    (
+        &["plain", "counter.tm", "--nodes", "16", "--steps", "+20"],
+        &[Fact::Plain("counter.tm", 16, 20)],
+    ),
+    (&["plain", "-"], &[Fact::Plain("-", 1, 1_000_000)]),
+    (
+        &["sim", "a.tm", "--events", "-"],
+        &[Fact::Files("a.tm", Some("-"))],
+    ),
+    (&[], &[Fact::Files("-", None)]),
+    (&["check", "a.tm"], &[Fact::Check("a.tm")]),
+];
 
 #[test]
 fn words_are_read(rt: HostRuntime) {
-    let words = ["plain", "counter.tm", "--nodes", "16", "--steps", "+20"];
-    assert!(rt; ask_for_plain(rt.alloc(), &words, "counter.tm", 16, 20));
-    assert!(rt; ask_for_plain(rt.alloc(), &["plain", "-"], "-", 1, 1_000_000));
-    assert!(rt;
-        ask_for_run(
-            rt.alloc(),
-            &["sim", "a.tm", "--events", "-"],
-            "a.tm",
-            Some("-")
-        )
-    );
-    assert!(rt; ask_for_run(rt.alloc(), &[], "-", None));
-    assert!(rt; ask_for_check(rt.alloc(), &["check", "a.tm"]));
+    holds(&rt, are_read(rt.alloc(), WORDS));
 }
+
+const REPORT: Fact = Fact::Shape(Shape::Report);
+
+const OPTIONS: &[Row] = &[
+    (
+        &[
+            "sim",
+            "-",
+            "--nodes",
+            "3",
+            "--order",
+            "newest",
+            "--page=256",
+            "--collect",
+            "1000000",
+        ],
+        &[
+            REPORT,
+            Fact::Options(3, 1_000_000, Size::Words256),
+            Fact::Way(Way::Rounds(Picker::Newest)),
+        ],
+    ),
+    (
+        &["sim", "--order=twice", "--page", "64", "-", "--nodes=3"],
+        &[
+            REPORT,
+            Fact::Options(3, 0, Size::Words64),
+            Fact::Way(Way::Rounds(Picker::Twice)),
+        ],
+    ),
+    (
+        &["sim", "-", "--nodes", "3", "--order", "oldest"],
+        &[
+            REPORT,
+            Fact::Options(3, 0, Size::Words64),
+            Fact::Way(Way::Rounds(Picker::Oldest)),
+        ],
+    ),
+    (
+        &[
+            "run",
+            "-",
+            "--nodes",
+            "3",
+            "--order=twice",
+            "--page",
+            "256",
+            "--collect",
+            "7",
+        ],
+        &[
+            REPORT,
+            Fact::Options(3, 7, Size::Words256),
+            Fact::Way(Way::Threads(Picker::Twice)),
+        ],
+    ),
+];
 
 #[test]
 fn options_of_a_run_are_read(rt: HostRuntime) {
-    let newest = [
-        "sim",
-        "-",
-        "--nodes",
-        "3",
-        "--order",
-        "newest",
-        "--page=256",
-        "--collect",
-        "1000000",
-    ];
-    assert!(rt;
-        ask_for_options(
-            rt.alloc(),
-            &newest,
-            1_000_000,
-            Picker::Newest,
-            Size::Words256
-        )
-    );
-    let twice = ["sim", "--order=twice", "--page", "64", "-", "--nodes=3"];
-    assert!(rt; ask_for_options(rt.alloc(), &twice, 0, Picker::Twice, Size::Words64));
-    let oldest = ["sim", "-", "--nodes", "3", "--order", "oldest"];
-    assert!(rt; ask_for_options(rt.alloc(), &oldest, 0, Picker::Oldest, Size::Words64));
-    let threads = [
-        "run",
-        "-",
-        "--nodes",
-        "3",
-        "--order=twice",
-        "--page",
-        "256",
-        "--collect",
-        "7",
-    ];
-    assert!(rt; ask_for_threads(rt.alloc(), &threads, 7, Picker::Twice, Size::Words256));
+    holds(&rt, are_read(rt.alloc(), OPTIONS));
 }
+
+const RANDOM_AND_TRACES: &[Row] = &[
+    (
+        &["sim", "a.tm", "--seed=7", "--order=random"],
+        &[REPORT, Fact::Way(Way::Random(7))],
+    ),
+    (
+        &["sim", "a.tm", "--order", "random"],
+        &[REPORT, Fact::Way(Way::Random(0))],
+    ),
+    (
+        &["sim", "a.tm", "--order=random", "--events=e"],
+        &[Fact::Files("a.tm", Some("e"))],
+    ),
+    (
+        &["trace", "a.tm", "--as=rapid", "--threads", "--order=newest"],
+        &[
+            Fact::Shape(Shape::Trace(Form::Rapid)),
+            Fact::Way(Way::Threads(Picker::Newest)),
+        ],
+    ),
+];
 
 #[test]
 fn random_orders_and_traces_are_read(rt: HostRuntime) {
-    let alloc = rt.alloc();
-    let seeded = ["sim", "a.tm", "--seed=7", "--order=random"];
-    assert!(rt; ask_for_random(alloc, &seeded, 7));
-    assert!(rt; ask_for_random(alloc, &["sim", "a.tm", "--order", "random"], 0));
-    let played = ["sim", "a.tm", "--order=random", "--events=e"];
-    assert!(rt; ask_for_run(alloc, &played, "a.tm", Some("e")));
-    let traced = ["trace", "a.tm", "--as=rapid", "--threads", "--order=newest"];
-    assert!(rt; ask_for_trace(alloc, &traced));
+    holds(&rt, are_read(rt.alloc(), RANDOM_AND_TRACES));
 }
+
+const JUDGED: &[Row] = &[
+    (&["judge", "a.acts"], &[Fact::Judge(None, false)]),
+    (
+        &["judge", "a.acts", "--nodes", "3", "--pairs"],
+        &[Fact::Judge(Some(3), true)],
+    ),
+];
 
 #[test]
 fn what_is_to_be_judged_is_read(rt: HostRuntime) {
-    let alloc = rt.alloc();
-    assert!(rt; ask_to_judge(alloc, &["judge", "a.acts"], None, false));
-    let counted = ["judge", "a.acts", "--nodes", "3", "--pairs"];
-    assert!(rt; ask_to_judge(alloc, &counted, Some(3), true));
+    holds(&rt, are_read(rt.alloc(), JUDGED));
 }
+
+const ASKED: &[Row] = &[
+    (
+        &["trace", "a.tm", "--messages"],
+        &[Fact::Shape(Shape::Trace(Form::Messages))],
+    ),
+    (
+        &["explain", "a.tm", "--order", "random", "--seed", "9"],
+        &[Fact::Shape(Shape::Explain), Fact::Way(Way::Random(9))],
+    ),
+    (
+        &["stats", "a.tm", "--threads", "--order=twice"],
+        &[
+            Fact::Shape(Shape::Stats),
+            Fact::Way(Way::Threads(Picker::Twice)),
+        ],
+    ),
+    (&["explore", "a.tm"], &[Fact::Explore(1, 1_000_000, false)]),
+    (
+        &["explore", "a.tm", "--nodes=3", "--most=7", "--outcomes"],
+        &[Fact::Explore(3, 7, true)],
+    ),
+];
 
 #[test]
 fn what_is_asked_of_a_run_or_a_program_is_read(rt: HostRuntime) {
-    let alloc = rt.alloc();
-    assert!(rt; ask_for_messages(alloc, &["trace", "a.tm", "--messages"]));
-    let explained = ["explain", "a.tm", "--order", "random", "--seed", "9"];
-    assert!(rt; ask_to_explain(alloc, &explained, 9));
-    assert!(rt; ask_for_counts(alloc, &["stats", "a.tm", "--threads", "--order=twice"]));
-    assert!(rt; ask_to_explore(alloc, &["explore", "a.tm"], 1, 1_000_000, false));
-    let most = ["explore", "a.tm", "--nodes=3", "--most=7", "--outcomes"];
-    assert!(rt; ask_to_explore(alloc, &most, 3, 7, true));
+    holds(&rt, are_read(rt.alloc(), ASKED));
 }
+
+const CHARTS: &[Row] = &[
+    (&["chart", "a.tm"], &[Fact::Chart(false, None, None)]),
+    (
+        &["chart", "a.tm", "--text", "--from", "0", "--to=5"],
+        &[Fact::Chart(true, Some(0), Some(5))],
+    ),
+    (
+        &["chart", "--from=18446744073709551615", "a.tm"],
+        &[Fact::Chart(false, Some(u64::MAX), None)],
+    ),
+    (
+        &["chart", "a.tm", "--to", "+18446744073709551615"],
+        &[Fact::Chart(false, None, Some(u64::MAX))],
+    ),
+    (
+        &["chart", "a.tm", "--text", "--to=2", "--from=3"],
+        &[Fact::Chart(true, Some(3), Some(2))],
+    ),
+];
 
 #[test]
 fn charts_are_read(rt: HostRuntime) {
-    let alloc = rt.alloc();
-    assert!(rt; ask_for_chart(alloc, &["chart", "a.tm"], false, None, None));
-    let part = ["chart", "a.tm", "--text", "--from", "0", "--to=5"];
-    assert!(rt; ask_for_chart(alloc, &part, true, Some(0), Some(5)));
-    let open = ["chart", "--from=18446744073709551615", "a.tm"];
-    assert!(rt; ask_for_chart(alloc, &open, false, Some(u64::MAX), None));
-    let ended = ["chart", "a.tm", "--to", "+18446744073709551615"];
-    assert!(rt; ask_for_chart(alloc, &ended, false, None, Some(u64::MAX)));
-    let backwards = ["chart", "a.tm", "--text", "--to=2", "--from=3"];
-    assert!(rt; ask_for_chart(alloc, &backwards, true, Some(3), Some(2)));
+    holds(&rt, are_read(rt.alloc(), CHARTS));
 }
+
+const RUNS_OF_CHARTS: &[Row] = &[
+    (
+        &[
+            "chart",
+            "a.tm",
+            "--nodes=3",
+            "--steps=5",
+            "--collect=7",
+            "--order=random",
+            "--seed=9",
+            "--page=256",
+        ],
+        &[
+            Fact::Chart(false, None, None),
+            Fact::Options(3, 7, Size::Words256),
+            Fact::Steps(5),
+            Fact::Way(Way::Random(9)),
+        ],
+    ),
+    (
+        &["chart", "a.tm", "--threads", "--order=twice", "--text"],
+        &[
+            Fact::Chart(true, None, None),
+            Fact::Way(Way::Threads(Picker::Twice)),
+        ],
+    ),
+    (
+        &["chart", "a.tm", "--events", "e", "--to=3"],
+        &[
+            Fact::Files("a.tm", Some("e")),
+            Fact::Chart(false, None, Some(3)),
+        ],
+    ),
+];
 
 #[test]
 fn runs_of_charts_are_read(rt: HostRuntime) {
-    let alloc = rt.alloc();
-    let random = [
-        "chart",
-        "a.tm",
-        "--nodes=3",
-        "--steps=5",
-        "--collect=7",
-        "--order=random",
-        "--seed=9",
-        "--page=256",
-    ];
-    assert!(rt; ask_for_random_chart(alloc, &random, 5, 7, 9));
-    let threads = ["chart", "a.tm", "--threads", "--order=twice", "--text"];
-    assert!(rt; ask_for_threads_chart(alloc, &threads, Picker::Twice));
-    let played = ["chart", "a.tm", "--events", "e", "--to=3"];
-    assert!(rt; ask_for_run(alloc, &played, "a.tm", Some("e")));
-    assert!(rt; ask_for_chart(alloc, &played, false, None, Some(3)));
+    holds(&rt, are_read(rt.alloc(), RUNS_OF_CHARTS));
 }
 
-const OUT_OF_RANGE: [[&str; 4]; 17] = [
+const OUT_OF_RANGE: &[[&str; 4]] = &[
     ["plain", "a.tm", "--nodes", "17"],
     ["plain", "a.tm", "--nodes", "0"],
     ["plain", "a.tm", "--steps", "0"],
@@ -267,7 +395,7 @@ const OUT_OF_RANGE: [[&str; 4]; 17] = [
     ["explore", "a.tm", "--most", "100000001"],
 ];
 
-const MISUSED: [[&str; 4]; 35] = [
+const MISUSED: &[[&str; 4]] = &[
     ["plain", "a.tm", "--nodes", "18446744073709551616"],
     ["plain", "a.tm", "--nodes", "x"],
     ["plain", "a.tm", "--events", "e"],
@@ -305,24 +433,46 @@ const MISUSED: [[&str; 4]; 35] = [
     ["explore", "a.tm", "--steps", "5"],
 ];
 
-fn are_out_of_range(alloc: Global, words: &[&str]) -> bool {
-    matches!(choose(alloc, words), Err(ChooseFault::BadNumber))
+/// Why words are refused.
+#[derive(Clone, Copy)]
+enum Refusal {
+    BadNumber,
+    Usage,
 }
 
-fn are_misused(alloc: Global, words: &[&str]) -> bool {
-    matches!(choose(alloc, words), Err(ChooseFault::Usage(_)))
+fn is_refusal(fault: &ChooseFault, refusal: Refusal) -> bool {
+    match fault {
+        ChooseFault::BadNumber => matches!(refusal, Refusal::BadNumber),
+        ChooseFault::Usage(_) => matches!(refusal, Refusal::Usage),
+        ChooseFault::NoMemory => false,
+    }
+}
+
+fn is_refused(alloc: Global, words: &[&str], refusal: Refusal) -> bool {
+    match choose(alloc, words) {
+        Ok(_) => false,
+        Err(fault) => is_refusal(&fault, refusal),
+    }
+}
+
+fn are_refused(alloc: Global, rows: &[[&str; 4]], refusal: Refusal) -> bool {
+    for words in rows {
+        if !is_refused(alloc, words, refusal) {
+            return false;
+        }
+    }
+    true
 }
 
 #[test]
 fn numbers_out_of_range_are_refused(rt: HostRuntime) {
-    for words in &OUT_OF_RANGE {
-        assert!(rt; are_out_of_range(rt.alloc(), words));
-    }
+    holds(
+        &rt,
+        are_refused(rt.alloc(), OUT_OF_RANGE, Refusal::BadNumber),
+    );
 }
 
 #[test]
 fn other_words_are_a_fault_of_usage(rt: HostRuntime) {
-    for words in &MISUSED {
-        assert!(rt; are_misused(rt.alloc(), words));
-    }
+    holds(&rt, are_refused(rt.alloc(), MISUSED, Refusal::Usage));
 }

@@ -1,5 +1,6 @@
 // A writer that refuses one of its writes.
 
+use crate::checks::holds;
 use crate::shell::ON_ONE_NODE;
 use lrc_cli::{execute, perform};
 use lrc_envelope::Picker;
@@ -52,46 +53,72 @@ impl Write for Refusing {
     }
 }
 
-// What came of a run whose writer refuses: the status, how many bytes and writes came to it, and how many bytes to
-// standard error.
-fn refused_out<R: Threads + Wait + Sync + AllocGlobal>(
+const PRINTING: Choice<'static> = Choice::Show(
+    RunChoice {
+        options: RunOptions {
+            nodes: Nodes { count: 2 },
+            ..ON_ONE_NODE
+        },
+        way: Way::Threads(Picker::Oldest),
+    },
+    Shape::Report,
+);
+
+/// Whether a run whose writer refuses this write ends with this status, where so many bytes and writes came to the writer, and no
+/// byte to standard error.
+fn ends<R: Threads + Wait + Sync + AllocGlobal>(
     rt: &R,
     refused: u64,
-) -> (u8, u64, u64, usize) {
+    status: u8,
+    taken: u64,
+    writes: u64,
+) -> bool {
     let alloc = rt.alloc();
-    let options = RunOptions {
-        nodes: Nodes { count: 2 },
-        ..ON_ONE_NODE
-    };
-    let way = Way::Threads(Picker::Oldest);
-    let run = Choice::Show(RunChoice { options, way }, Shape::Report);
     let mut out = Refusing::at(refused);
     let mut err = Vec::new(alloc);
-    let status = execute(rt, alloc, &run, PROGRAM, None, &mut out, &mut err);
-    (status, out.taken, out.writes, err.len())
+    let given = execute(rt, alloc, &PRINTING, PROGRAM, None, &mut out, &mut err);
+    given == status && out.taken == taken && out.writes == writes && err.is_empty()
 }
 
-// The same of a text that is no program, where standard error refuses.
-fn refused_err(alloc: Global, refused: u64) -> (u8, u64, u64, usize) {
-    let mut out = Vec::new(alloc);
-    let mut err = Refusing::at(refused);
-    let check = Choice::Check("-");
-    let status = perform(alloc, &check, NO_PROGRAM, None, &mut out, &mut err);
-    (status, err.taken, err.writes, out.len())
+/// Whether nothing more is printed after each refused write of so many.
+fn each_ends<R: Threads + Wait + Sync + AllocGlobal>(rt: &R, count: u64) -> bool {
+    for taken in 0..count {
+        let refused = taken.saturating_add(1);
+        if !ends(rt, refused, 1, taken, refused) {
+            return false;
+        }
+    }
+    true
 }
 
 #[test]
 fn after_a_refused_write_nothing_more_is_printed(rt: HostRuntime) {
-    for taken in 0..PRINTED {
-        assert!(rt; refused_out(&rt, taken + 1) == (1, taken, taken + 1, 0));
+    holds(&rt, each_ends(&rt, PRINTED));
+    holds(&rt, ends(&rt, 0, 0, PRINTED, PRINTED));
+}
+
+/// Whether the same is so of a text that is no program, where standard error refuses.
+fn is_complained(alloc: Global, refused: u64, taken: u64, writes: u64) -> bool {
+    let mut out = Vec::new(alloc);
+    let mut err = Refusing::at(refused);
+    let check = Choice::Check("-");
+    let given = perform(alloc, &check, NO_PROGRAM, None, &mut out, &mut err);
+    given == 1 && err.taken == taken && err.writes == writes && out.is_empty()
+}
+
+/// Whether nothing more is complained after each refused write of so many.
+fn each_is_complained(alloc: Global, count: u64) -> bool {
+    for taken in 0..count {
+        let refused = taken.saturating_add(1);
+        if !is_complained(alloc, refused, taken, refused) {
+            return false;
+        }
     }
-    assert!(rt; refused_out(&rt, 0) == (0, PRINTED, PRINTED, 0));
+    true
 }
 
 #[test]
 fn after_a_refused_write_nothing_more_is_complained(rt: HostRuntime) {
-    for taken in 0..COMPLAINED {
-        assert!(rt; refused_err(rt.alloc(), taken + 1) == (1, taken, taken + 1, 0));
-    }
-    assert!(rt; refused_err(rt.alloc(), 0) == (1, COMPLAINED, COMPLAINED, 0));
+    holds(&rt, each_is_complained(rt.alloc(), COMPLAINED));
+    holds(&rt, is_complained(rt.alloc(), 0, COMPLAINED, COMPLAINED));
 }
