@@ -15,7 +15,7 @@ use crate::departure::Departures;
 use crate::fault::BarrierFault;
 use arrayvec::ArrayVec;
 use lrc_time::MOST_NODES;
-use std::alloc::{AllocError, Global};
+use std::alloc::Global;
 use std::marker::Model;
 
 /// What the barrier's manager knows: how many episodes are over, the arrivals at the one under way, and the Cleans of
@@ -112,13 +112,29 @@ impl Manager {
         ensures departures { IfOk result (λ answer. IfSome answer (All (IsDeparture (length self.old.last)))) }
     {
         self.expect(from, arrival.episode)?;
+        self.take(from, arrival.duplicate()?)
+    }
+
+    /// The same with an arrival that the manager keeps itself.
+    pub fn take(&mut self, from: u8, arrival: Arrival) -> Result<Option<Departures>, BarrierFault>
+        requires from { from < length self.old.last }
+        requires own { IsArrival (length self.old.last) from arrival }
+        ensures refused { (fault : BarrierFault) → arrived self.old from arrival ≡ refuses fault → result ≡ Err fault }
+        ensures answer { IfOk result (λ answer. arrive_answer (arrived self.old from arrival) ≡ Ok answer) }
+        ensures manager { OnOk result (self.new ≡ after_arrive self.old (arrived self.old from arrival)) }
+        ensures memory { IsTrue (is_accepted (arrived self.old from arrival)) → IfErr result (λ fault. fault ≡ NoMemory) }
+        ensures nodes { length self.new.last ≡ length self.old.last }
+        ensures err { OnErr result (self.new ≡ self.old) }
+        ensures departures { IfOk result (λ answer. IfSome answer (All (IsDeparture (length self.old.last)))) }
+    {
+        self.expect(from, arrival.episode)?;
         if self.is_last(from) {
-            let collect = collects(self.arrivals.as_slice(), arrival);
-            let departures = departures(self.alloc, self.arrivals.as_slice(), arrival)?;
+            let collect = collects(self.arrivals.as_slice(), &arrival);
+            let departures = departures(self.alloc, self.arrivals.as_slice(), &arrival)?;
             self.depart(from, arrival.time.at(from), collect);
             Ok(Some(departures))
         } else {
-            self.keep(from, arrival)?;
+            self.keep(from, arrival);
             Ok(None)
         }
     }
@@ -180,18 +196,15 @@ impl Manager {
         true
     }
 
-    // Keeps an arrival. An error leaves the manager as it was.
-    fn keep(&mut self, from: u8, arrival: &Arrival) -> Result<(), AllocError>
+    // Keeps an arrival.
+    fn keep(&mut self, from: u8, arrival: Arrival)
         requires from { from < length self.old.last }
-        requires own { IsArrival (length self.old.last) from arrival.now }
-        ensures ok { OnOk result (self.new ≡ with_arrival self.old from arrival.now) }
-        ensures err { OnErr result (self.new ≡ self.old) }
+        requires own { IsArrival (length self.old.last) from arrival }
+        ensures { self.new ≡ with_arrival self.old from arrival }
     {
-        let kept = arrival.duplicate()?;
         let place = usize::from(from);
         self.last[place] = arrival.time.at(from);
-        self.arrivals[place] = Some(kept);
-        Ok(())
+        self.arrivals[place] = Some(arrival);
     }
 
     // All depart, the last of them with this own entry in its time.

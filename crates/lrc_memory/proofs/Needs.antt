@@ -1,12 +1,14 @@
 -- What a page needs, as it is seen.
-use Rattle.std.proofs.Common.{◌≡◌, ◌≢◌, ◌∙◌, ℕ, suc, ◌<◌, cond, Option, None, List, [], ◌∷◌, map, length, get_or, refl, ap, sym, subst, arith}
-use Rattle.std.specs.Prelude.{All, is_none}
+use Rattle.std.proofs.Common.{◌≡◌, ◌≢◌, ◌∙◌, ℕ, suc, ◌<◌, cond, Bool, true, Option, None, List, [], ◌∷◌, map, length, get_or, refl, ap, sym, subst, arith}
+use Rattle.std.specs.Prelude.{All, is_none, if◌then◌else◌}
+use Rattle.std.specs.List.{filter, list_all}
+use Rattle.std.proofs.lemmas.Bool.{and_parts}
 use Rattle.std.proofs.lemmas.List.Elements.{All-map}
 use Rattle.lrc_page.specs.declared.changes.Change.{Change}
 use Rattle.lrc_store.specs.declared.key.Key.{Key}
 use Rattle.lrc_store.specs.Interval.{IntervalRecord, by_weight}
 use Rattle.lrc_store.specs.Order.{ascending_part}
-use Rattle.lrc_store.specs.Store.{intervals_of, key_of, is_missing, missing_of, changes_at}
+use Rattle.lrc_store.specs.Store.{StoreRecord, intervals_of, key_of, is_missing, missing_of, changes_at}
 use Rattle.lrc_table.specs.declared.slot.State.{State}
 use Rattle.lrc_table.specs.declared.slot.State.TheVariants.{Valid, Written, Invalid, Absent}
 use Rattle.lrc_table.specs.PageCopy.{pending_changes}
@@ -134,3 +136,14 @@ need-made kept n page nodes keeper missing unknown base need is within nodes_are
       asked = asked_of (length n.memory.store.last) (unknown_of n.memory.store (missing_at n.memory page));
       missing = ks;
     }) missing_are
+
+-- ---- what is asked for where nothing is known
+
+kept_all : {X : Type 0} (test : X → Bool) (xs : List X) → list_all test xs ≡ true → filter test xs ≡ xs
+kept_all test [] h = refl
+kept_all test (x ∷ xs) h =
+    let both = and_parts (test x) (list_all test xs) h in
+    ap (λ b. if b then x ∷ filter test xs else filter test xs) both.0 ∙ ap (λ l. x ∷ l) (kept_all test xs both.1)
+
+pub all-unknown : (store : StoreRecord) (keys : List Key) → list_all (λ key. is_none (changes_at store key)) keys ≡ true → unknown_of store keys ≡ keys
+all-unknown store keys h = kept_all (λ (key : Key). is_none (changes_at store key)) keys h

@@ -1,10 +1,12 @@
 // What a node gives to others, and takes from them.
 
-ghost use Rattle.std.specs.Prelude.{◌≡◌, ◌<◌, Some, All, IfOk, IsTrue, OnOk, fold, length, true, []};
-ghost use Rattle.lrc_protocol.specs.Pages.{changes_or_none, copy_at, keeper_at, missing_at, repaired, need_of, unknown_of, with_part};
+ghost use Rattle.std.specs.Prelude.{◌≡◌, ◌<◌, Some, All, IfOk, IsTrue, OnOk, fold, is_none, length, true, []};
+ghost use Rattle.std.specs.List.{list_all};
+ghost use Rattle.lrc_page.specs.declared.TheConstants.{MOST_PAGES};
+ghost use Rattle.lrc_protocol.specs.Pages.{asked_of, changes_or_none, copy_at, keeper_at, missing_at, repaired, need_of, unknown_of, with_part};
 ghost use Rattle.lrc_page.specs.Page.{words_of};
 ghost use Rattle.lrc_store.specs.Lists.{KnowsTheFirst};
-ghost use Rattle.lrc_store.specs.Store.{IsMissing, attached, missing_of, notice_at, unread};
+ghost use Rattle.lrc_store.specs.Store.{IsMissing, attached, changes_at, missing_of, notice_at, unread};
 ghost use Rattle.lrc_table.specs.Table.{with_copy};
 ghost use Rattle.lrc_table.specs.Table as tables;
 ghost use Rattle.lrc_need.specs.Need.{AreAskable};
@@ -72,12 +74,18 @@ impl Memory {
     {
         let alloc = *self.notes.allocator();
         let missing = self.lacking(page)?;
-        let unknown = unknown_of(alloc, &self.store, &missing)?;
         // For the proof: there are at most `MOST_PAGES` pages.
         let _few = self.table.size();
         let keeper = self.notes[usize::from(page)].keeper;
         let base = base_due(self.table.state(page), keeper);
-        Need::new(alloc, self.collected.nodes(), page, base, missing, &unknown)
+        need_of(
+            alloc,
+            &self.store,
+            self.collected.nodes(),
+            page,
+            base,
+            missing,
+        )
     }
 
     // The notices of a page that its copy lacks, in the order in which their changes are applied.
@@ -163,6 +171,33 @@ fn changes_or_none(alloc: Global, store: &Store, key: Key) -> Result<Changes, Al
         Some(changes) => changes.duplicate(),
         None => Ok(Changes::empty(alloc)),
     }
+}
+
+// What a page needs that lacks these changes: those that are not known are asked of their makers. Mostly none are known.
+fn need_of(
+    alloc: Global,
+    store: &Store,
+    nodes: u8,
+    page: u16,
+    base: Base,
+    missing: Vec<Key>,
+) -> Result<Need, AllocError>
+    requires page { page < MOST_PAGES }
+    requires askable { AreAskable missing.items }
+    ensures { IfOk result (λ need. need ≡ record { page = page; base = seen_base base; asked = asked_of nodes (unknown_of store.now missing.items); missing = missing.items }) }
+{
+    if are_unknown(store, &missing) {
+        return Need::asking_all(alloc, nodes, page, base, missing);
+    }
+    let unknown = unknown_of(alloc, store, &missing)?;
+    Need::new(alloc, nodes, page, base, missing, &unknown)
+}
+
+// Whether no changes of these keys are known.
+fn are_unknown(store: &Store, keys: &[Key]) -> bool
+    ensures { result ≡ list_all (λ key. is_none (changes_at store.now key)) keys.now }
+{
+    keys.iter().all(|key| store.changes(*key).is_none())
 }
 
 // The keys of which no changes are known.

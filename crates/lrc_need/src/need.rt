@@ -62,6 +62,27 @@ impl Need {
         })
     }
 
+    /// The same where the changes of all missing keys are asked of their makers.
+    pub fn asking_all(
+        alloc: Global,
+        nodes: u8,
+        page: u16,
+        base: Base,
+        missing: Vec<Key>,
+    ) -> Result<Self, AllocError>
+        requires page { page < MOST_PAGES }
+        requires askable { AreAskable missing.items }
+        ensures { IfOk result (λ need. need ≡ record { page = page; base = seen_base base; asked = asked_of nodes missing.items; missing = missing.items }) }
+    {
+        let asked = ask(alloc, nodes, missing.as_slice())?;
+        Ok(Need {
+            page,
+            base,
+            asked,
+            missing,
+        })
+    }
+
     /// Which page it is.
     pub fn page(&self) -> u16
         ensures page { result ≡ self.now.page }

@@ -84,11 +84,16 @@ impl Slot {
         }
     }
 
-    /// A list of the present values.
-    pub(crate) fn values(&self) -> Result<Vec<u64>, AllocError>
+    /// A list of the present values, in place of a spare one where there is one.
+    pub(crate) fn values(&self, spare: Option<Vec<u64>>) -> Result<Vec<u64>, AllocError>
         ensures { IfOk result (λ values. values.items ≡ self.now.values) }
     {
-        self.words.clone()
+        let Some(mut values) = spare else {
+            return self.words.clone();
+        };
+        values.clear();
+        values.extend_from_slice(self.words.as_slice())?;
+        Ok(values)
     }
 
     /// Begins to be written, with the present values as the twin.
@@ -116,8 +121,13 @@ impl Slot {
         }
     }
 
-    /// Makes the pending changes, if there are any, and lets go of their twin. An error leaves the copy as it was.
-    pub(crate) fn settle(&mut self, alloc: Global) -> Result<Option<Changes>, AllocError>
+    /// Makes the pending changes, if there are any, and lets go of their twin, which is put with the spare ones. An error leaves
+    /// the copy as it was.
+    pub(crate) fn settle(
+        &mut self,
+        alloc: Global,
+        spare: &mut Vec<Vec<u64>>,
+    ) -> Result<Option<Changes>, AllocError>
         requires same { ForSome self.old.twin (λ twin. length twin ≡ length self.old.values) }
         requires few { length self.old.values ≤ MOST_PAGE_WORDS }
         ensures changes { IfOk result (λ changes. changes ≡ pending_changes self.old) }
@@ -132,7 +142,10 @@ impl Slot {
             )?,
             _ => return Ok(None),
         };
-        self.twin = None;
+        if let Some(twin) = self.twin.take() {
+            // Without memory for it the twin is given up.
+            let _given_up = spare.push(twin);
+        }
         Ok(Some(changes))
     }
 

@@ -17,6 +17,8 @@ pub struct PageTable {
     slots: Vec<Slot>,
     // The written pages, so that a close costs what was written.
     written: Pages,
+    // The twins that were let go, whose memory later ones take.
+    spare: Vec<Vec<u64>>,
 }
 
 impl Model for PageTable {
@@ -45,6 +47,7 @@ impl PageTable {
             size,
             slots,
             written: Pages::empty(alloc),
+            spare: Vec::new(alloc),
         })
     }
 
@@ -106,7 +109,7 @@ impl PageTable {
         ensures err { OnErr result (self.new ≡ self.old) }
     {
         let place = usize::from(page);
-        let twin = self.slots[place].values()?;
+        let twin = self.slots[place].values(self.spare.pop())?;
         self.written.insert(page)?;
         self.slots[place].open(twin);
         Ok(())
@@ -145,7 +148,7 @@ impl PageTable {
         ensures err { OnErr result (self.new ≡ self.old) }
     {
         let alloc = *self.slots.allocator();
-        self.slots[usize::from(page)].settle(alloc)
+        self.slots[usize::from(page)].settle(alloc, &mut self.spare)
     }
 
     /// Drops the twins of all pending pages: nobody will ask for their changes. No page is written then.

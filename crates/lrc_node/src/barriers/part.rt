@@ -114,12 +114,12 @@ impl Barrier {
     pub(crate) fn take_arrival(
         &mut self,
         from: u8,
-        arrival: &Arrival,
+        arrival: Arrival,
     ) -> Result<Option<Departures>, AllocError>
-        requires accepted { IsTrue (unwrap_or (option_map is_accepted (arrive_step self.old from arrival.now)) false) }
-        requires own { IfSome self.old.manager (λ manager. (from < length manager.last) × IsArrival (length manager.last) from arrival.now) }
-        requires begun { 1 ≤ arrival.now.episode }
-        ensures taken { IfOk result (λ answer. arrival_taken self.old (arrive_step self.old from arrival.now) ≡ Some (answer, self.new)) }
+        requires accepted { IsTrue (unwrap_or (option_map is_accepted (arrive_step self.old from arrival)) false) }
+        requires own { IfSome self.old.manager (λ manager. (from < length manager.last) × IsArrival (length manager.last) from arrival) }
+        requires begun { 1 ≤ arrival.episode }
+        ensures taken { IfOk result (λ answer. arrival_taken self.old (arrive_step self.old from arrival) ≡ Some (answer, self.new)) }
         ensures same { SameBarrier self.old self.new }
         ensures unchanged { OnErr result (self.new ≡ self.old) }
         ensures departures { (nodes : ℕ) → IsOfNodes nodes self.old → IfOk result (λ answer. IfSome answer (AreDepartures nodes)) }
@@ -127,7 +127,7 @@ impl Barrier {
         let Some(manager) = &mut self.manager else {
             unreachable!()
         };
-        match manager.arrive(from, arrival) {
+        match manager.take(from, arrival) {
             Ok(departures) => Ok(departures),
             Err(BarrierFault::NoMemory) => Err(AllocError),
             Err(BarrierFault::WrongEpisode | BarrierFault::Twice) => unreachable!(),

@@ -83,7 +83,7 @@ impl NodeState<'_> {
             time: arrive.news.time.copy(),
             intervals: arrive.news.intervals.duplicate()?,
         };
-        let letters = match self.barrier.take_arrival(from, &arrival)? {
+        let letters = match self.barrier.take_arrival(from, arrival)? {
             Some(departures) => departs(self.alloc, self.nodes, departures)?,
             None => Vec::new(self.alloc),
         };

@@ -1,12 +1,7 @@
-use Rattle.std.proofs.Common.{◌≡◌, ◌∙◌, ◌<◌, get_or, ap, length, sym, subst, arith}
-use Rattle.std.specs.Prelude.{is_none}
-use Rattle.lrc_store.specs.declared.key.Key.{Key}
-use Rattle.lrc_store.specs.Store.{changes_at}
+use Rattle.std.proofs.Common.{◌≡◌, ◌∙◌, ◌<◌, get_or, ap, length, refl, subst, arith}
 use Rattle.lrc_protocol.specs.Pages.{keeper_at, unknown_of}
 use Rattle.lrc_memory.specs.Steps.{base_in}
 use Rattle.lrc_need.specs.Seen.{seen_base}
-use Rattle.lrc_need.specs.Need.{AreAskable}
-use Rattle.lrc_need.proofs.Askable.{filter-AreAskable}
 use Rattle.lrc_memory.specs.Notes.{keepers_of}
 use Rattle.lrc_memory.specs.View.{NodeMemory}
 use Rattle.lrc_memory.proofs.Inside.{kept}
@@ -29,16 +24,9 @@ index-requires c =
       within-seen (kept c.self.inside) _ _ c.self.view_is c.requires,
     )
 
-pub new-requires-clause-page : goal.new-requires-clause-page
-new-requires-clause-page c =
+pub need_of-requires-clause-page : goal.need_of-requires-clause-page
+need_of-requires-clause-page c =
     omega (arith, c.size-few.ensures.few, within-seen (kept c.self.inside) _ _ c.self.view_is c.requires)
-
-pub new-requires-clause-askable : goal.new-requires-clause-askable
-new-requires-clause-askable c =
-    subst AreAskable
-    (sym (c.deref-2.ensures.value ∙ c.in_ok-unknown.ensures))
-    (filter-AreAskable (λ (key : Key). is_none (changes_at c.self.inside.store key)) c.deref.result.now
-    (subst AreAskable (sym c.deref.ensures.value) c.in_ok-missing.ensures.askable))
 
 pub returns-clause-need : goal.returns-clause-need
 returns-clause-need c =
@@ -53,13 +41,12 @@ returns-clause-need c =
     ∙ ap (λ (n : NodeMemory). keeper_at n.memory c.args.page) c.self.view_is in
     let nodes : c.nodes.result ≡ length n.memory.store.last =
     c.nodes.ensures.all ∙ c.self.invariant.collected ∙ ap (λ (n : NodeMemory). length n.memory.store.last) c.self.view_is in
-    let unknown : c.deref-2.result.now ≡ unknown_of c.self.inside.store c.in_ok-missing.missing.items =
-    c.deref-2.ensures.value ∙ c.in_ok-unknown.ensures ∙ ap (unknown_of c.self.inside.store) c.deref.ensures.value in
-    ok_then c.new.result c.new.ensures
+    let unknown = unknown_of c.self.inside.store c.in_ok-missing.missing.items in
+    ok_then c.need_of.result c.need_of.ensures
     (λ need is.
-    need-made k n c.args.page c.nodes.result c.index.result.now.keeper c.in_ok-missing.missing.items c.deref-2.result.now
+    need-made k n c.args.page c.nodes.result c.index.result.now.keeper c.in_ok-missing.missing.items unknown
     (seen_base c.base_due-base.result) need
-    c.self.view_is within nodes keeper c.in_ok-missing.ensures.keys unknown
+    c.self.view_is within nodes keeper c.in_ok-missing.ensures.keys refl
     (c.base_due-base.ensures ∙ ap (λ s. base_in s c.index.result.now.keeper) c.state.ensures) is)
 
 pub returns-clause-keeper : goal.returns-clause-keeper

@@ -6,7 +6,7 @@ use Rattle.lrc_barrier.specs.Barrier.{departs, has_arrived, is_next, with_arriva
 use Rattle.lrc_barrier.specs.Filled.{all_with}
 use Rattle.lrc_barrier.proofs.Filled.{length_all_with}
 use Rattle.lrc_barrier.proofs.Steps.{all_depart, all_departed, are_all, are_departures, expected}
-use Rattle.lrc_barrier.proofs.manager.Manager.arrive.Goals as goal
+use Rattle.lrc_barrier.proofs.manager.Manager.take.Goals as goal
 
 pub departures-requires-clause-arrivals : goal.departures-requires-clause-arrivals
 departures-requires-clause-arrivals c =
@@ -15,13 +15,13 @@ departures-requires-clause-arrivals c =
     let slots : c.as_slice-then-is_last.result.now ≡ manager.arrivals =
     c.as_slice-then-is_last.ensures.value ∙ ap (λ (m : ManagerRecord). m.arrivals) c.self.view_is in
     rw (slots, sound.places)
-    (are_all (length manager.last) c.args.from c.args.arrival.now manager.arrivals sound.places c.requires.own sound.kept
-    (sym (c.if-is_last.ensures c.args.arrival.now)))
+    (are_all (length manager.last) c.args.from c.args.arrival manager.arrivals sound.places c.requires.own sound.kept
+    (sym (c.if-is_last.ensures c.args.arrival)))
 
 pub returns-in_ok-departures-clause-answer : goal.returns-in_ok-departures-clause-answer
 returns-in_ok-departures-clause-answer c =
     let manager : ManagerRecord = c.args.self.now in
-    let arrival : Arrival = c.args.arrival.now in
+    let arrival : Arrival = c.args.arrival in
     let from = c.args.from in
     let sound : IsManager manager = subst IsManager c.self.view_is c.self.invariant in
     let slots : c.as_slice-then-is_last.result.now ≡ manager.arrivals =
@@ -38,7 +38,7 @@ returns-in_ok-departures-clause-answer c =
 pub returns-in_ok-departures-clause-manager : goal.returns-in_ok-departures-clause-manager
 returns-in_ok-departures-clause-manager c =
     let manager : ManagerRecord = c.args.self.now in
-    let arrival : Arrival = c.args.arrival.now in
+    let arrival : Arrival = c.args.arrival in
     let from = c.args.from in
     let sound : IsManager manager = subst IsManager c.self.view_is c.self.invariant in
     let slots : c.as_slice.result.now ≡ manager.arrivals =
@@ -57,7 +57,7 @@ returns-in_ok-departures-clause-manager c =
 pub returns-in_ok-departures-clause-departures : goal.returns-in_ok-departures-clause-departures
 returns-in_ok-departures-clause-departures c =
     let manager : ManagerRecord = c.args.self.now in
-    let arrival : Arrival = c.args.arrival.now in
+    let arrival : Arrival = c.args.arrival in
     let sound : IsManager manager = subst IsManager c.self.view_is c.self.invariant in
     let slots : c.as_slice-then-is_last.result.now ≡ manager.arrivals =
     c.as_slice-then-is_last.ensures.value ∙ ap (λ (m : ManagerRecord). m.arrivals) c.self.view_is in
