@@ -142,6 +142,15 @@ asked_if node false ask e = cc
 pub begins_asked : (node : Node) (ask : Ask) → option_map ask_of (begins node) ≡ Some ask → asked_in node.course ≡ Some ask
 begins_asked node ask e = asked_if node (is_idle node.mail.wait) ask e
 
+-- what a node begins is what its text begins
+begun_if : (node : Node) (idle : Bool) (ask : Ask) → option_map ask_of (if idle then begins_of node.left node.course else None) ≡ Some ask
+    → (if idle then begins_of node.left node.course else None) ≡ begins_of node.left node.course
+begun_if node true ask e = refl
+begun_if node false ask e = cc
+
+pub begun_text : (node : Node) (ask : Ask) → option_map ask_of (begins node) ≡ Some ask → begins node ≡ begins_of node.left node.course
+begun_text node ask e = begun_if node (is_idle node.mail.wait) ask e
+
 -- ---- turns
 
 numbered_not_ready : (effect : Effect) (sent : Option (List EnvelopeRecord × List ℕ)) → turn_with effect sent ≡ not_ready → ⊥

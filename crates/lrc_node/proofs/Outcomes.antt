@@ -1,18 +1,20 @@
 -- What comes of a turn that is asked of a node.
-use Rattle.std.proofs.Common.{◌≡◌, ◌∙◌, Bool, false, cond, Some, None, refl, sym, ap, subst}
-use Rattle.std.specs.Prelude.{Result, Ok, Err, IfErr}
+use Rattle.std.proofs.Common.{◌≡◌, ◌∙◌, Bool, true, false, cond, Some, None, refl, sym, ap, subst}
+use Rattle.std.specs.Prelude.{Result, Ok, Err, IfErr, option_map}
 use Rattle.std.specs.Result.{IsErrAnd}
 use Rattle.std.proofs.lemmas.Option.{same_Some}
 use Rattle.lrc_trace.specs.Trace.{TraceRecord}
 use Rattle.lrc_protocol.specs.Node.{Node}
 use Rattle.lrc_protocol.specs.Traced.{with_act}
-use Rattle.lrc_protocol.specs.Turn.{TurnRecord, Outcome, not_ready}
+use Rattle.lrc_exec.specs.declared.machine.Ask.{Ask}
+use Rattle.lrc_exec.specs.Ask.{ask_of}
+use Rattle.lrc_protocol.specs.Turn.{TurnRecord, Outcome, begins, not_ready}
 use Rattle.lrc_protocol.specs.Run.{run}
 use Rattle.lrc_node_laws.specs.Traced.{IsTraced}
 use Rattle.lrc_node.specs.declared.fault.NodeFault.{NodeFault}
 use Rattle.lrc_node.specs.Fault.{MayAnswer, is_final}
 use Rattle.lrc_node.specs.Effects.{RefusesRun, unready, too_large, without_memory}
-use Rattle.lrc_node.specs.Node.{TracedNode, seen_node, AnswersTurn, unready as answers_unready}
+use Rattle.lrc_node.specs.Node.{TracedNode, seen_node, wish_of, AnswersTurn, unready as answers_unready}
 use Rattle.lrc_node.specs.Node.{too_large as answers_too_large, without_memory as answers_without_memory}
 
 -- a fault that is handed up
@@ -47,6 +49,12 @@ pub seen_there : (failed : Bool) (state node : Node) (trace : TraceRecord) (now 
     → record { node = seen_node failed state; trace = trace } ≡ now → now.node ≡ Some node → state ≡ node
 seen_there failed state node trace now fine view e =
     same_Some state node (sym (ap (λ (b : Bool). seen_node b state) fine) ∙ ap (λ (t : TracedNode). t.node) view ∙ e)
+
+-- a node that has a wish has not failed, and has it itself
+pub seen_wishing : {ask : Ask} (failed : Bool) (state : Node) → wish_of (seen_node failed state) ≡ Some ask
+    → (failed ≡ false) × (option_map ask_of (begins state) ≡ Some ask)
+seen_wishing true state e = cc
+seen_wishing false state e = (refl, e)
 
 -- after a turn, with its access noted
 pub seen_turn : (failed : Bool) (state after : Node) (trace noted : TraceRecord) (now : TracedNode) (turn : TurnRecord) → failed ≡ false

@@ -1,8 +1,10 @@
 -- What a caller sees of a node.
-use Rattle.std.specs.Prelude.{Bool, Option, Some, None, if◌then◌else◌}
+use Rattle.std.specs.Prelude.{Bool, Option, Some, None, option_and_then, option_map, if◌then◌else◌}
+use Rattle.lrc_exec.specs.declared.machine.Ask.{Ask}
+use Rattle.lrc_exec.specs.Ask.{ask_of}
 use Rattle.lrc_trace.specs.Trace.{TraceRecord}
 use Rattle.lrc_protocol.specs.Node.{Node}
-use Rattle.lrc_protocol.specs.Turn.{Outcome, not_ready, unexpected, worn}
+use Rattle.lrc_protocol.specs.Turn.{Outcome, begins, not_ready, unexpected, worn}
 use Rattle.lrc_node.specs.declared.end.End.{End}
 use Rattle.lrc_node.specs.declared.end.End.TheVariants.{Unfinished}
 use Rattle.lrc_node.specs.Text.{end_of}
@@ -17,6 +19,10 @@ seen_node failed node = if failed then None else Some node
 pub record TracedNode : Type 0 where
   pub node : Option Node
   pub trace : TraceRecord
+
+-- what a node begins if it is named; a failed one begins nothing
+abbrev pub wish_of : Option Node → Option Ask
+wish_of node = option_and_then (λ n. option_map ask_of (begins n)) node
 
 -- What comes of a turn that is asked of a node: it is made; it is refused, and the node is as it was; or the node fails.
 pub data AnswersTurn : Outcome → Node → NodeFault → Option Node → Type 0 where

@@ -13,6 +13,7 @@ use crate::fault::NodeFault;
 use crate::node::Node;
 use crate::turn::Turn;
 use lrc_envelope::Envelope;
+use lrc_exec::machine::Ask;
 use lrc_trace::act::{Act, Deed};
 use lrc_trace::trace::Trace;
 use std::alloc::Global;
@@ -96,7 +97,12 @@ impl<'c> Logged<'c> {
         ensures notes_failing { NotesFailing self.old log.run self.new result }
     {
         self.make_room()?;
-        let outcome = self.node.run();
+        let wish = self.node.wish();
+        if let Some(Ask::Quiet) = wish {
+            let turn = self.node.run_quietly();
+            return self.enter(Input::Run, 0, turn);
+        }
+        let outcome = self.node.run_wish(wish);
         self.settle(Input::Run, 0, outcome)
     }
 
@@ -160,25 +166,18 @@ impl<'c> Logged<'c> {
         }
     }
 
-    // Keeps what memory a forgotten turn holds. Most hold none.
+    // Keeps what memory a forgotten turn holds, for later ones: the list of what it sent, and the box of its message. Most
+    // turns hold none.
     #[inline(always)]
     fn keep(&mut self, forgotten: Entry)
         ensures { self.new ≡ self.old }
     {
-        if !is_bare(&forgotten) {
-            self.keep_memory(forgotten);
+        let Entry { input, turn, .. } = forgotten;
+        if turn.out.capacity() > 0 {
+            self.node.keep_list(turn.out);
         }
-    }
-
-    // Keeps the box of a turn's message for the next one that is taken, and the list of what it sent for those of a later turn.
-    #[inline(never)]
-    fn keep_memory(&mut self, forgotten: Entry)
-        ensures { self.new ≡ self.old }
-    {
-        self.node.keep_list(forgotten.turn.out);
-        match forgotten.input {
-            Input::Run => {}
-            Input::Taken(boxed) => self.spare = Some(boxed),
+        if let Input::Taken(boxed) = input {
+            self.spare = Some(boxed);
         }
     }
 
@@ -278,14 +277,6 @@ impl<'c> Logged<'c> {
             spare: _,
         } = self;
         (log, node.into_trace())
-    }
-}
-
-// Whether a turn took no message, and holds no list of messages.
-fn is_bare(entry: &Entry) -> bool {
-    match entry.input {
-        Input::Run => entry.turn.out.is_empty() && entry.turn.out.capacity() == 0,
-        Input::Taken(_) => false,
     }
 }
 

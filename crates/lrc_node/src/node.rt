@@ -6,7 +6,7 @@ ghost use Rattle.lrc_protocol.specs.Traced.{with_act};
 ghost use Rattle.lrc_protocol.specs.Turn.{done, is_ready, not_ready, run_turn, take_turn, unexpected};
 ghost use Rattle.lrc_protocol.specs.Run.{run, taken};
 ghost use Rattle.lrc_node.specs.Fault.{MayAnswer};
-ghost use Rattle.lrc_node.specs.Node.{AnswersTurn, end_in};
+ghost use Rattle.lrc_node.specs.Node.{AnswersTurn, end_in, wish_of};
 ghost use Rattle.lrc_node.specs.declared.fault.NodeFault.TheVariants.{Failed, NoMemory, NotReady, Unexpected};
 
 use crate::end::End;
@@ -16,6 +16,7 @@ use crate::state::NodeState;
 use crate::turn::Turn;
 use lrc_envelope::Envelope;
 use lrc_exec::code::Code;
+use lrc_exec::machine::Ask;
 use lrc_trace::trace::Trace;
 use std::alloc::{AllocError, Global};
 use std::marker::Model;
@@ -81,16 +82,51 @@ impl<'c> Node<'c> {
         ensures kept { OnErr result (self.new.trace ≡ self.old.trace) }
         ensures fault { IfErr result (MayAnswer run) }
     {
+        let wish = self.wish();
+        self.run_wish(wish)
+    }
+
+    /// What the node begins if it is named: none where it has failed or is not ready.
+    #[inline(always)]
+    pub(crate) fn wish(&self) -> Option<Ask>
+        ensures { result ≡ wish_of self.now.node }
+    {
+        if self.failed { None } else { self.state.wish() }
+    }
+
+    /// Goes on as `run` does, by what its wish has said.
+    pub(crate) fn run_wish(&mut self, wish: Option<Ask>) -> Result<Turn, NodeFault>
+        requires { wish ≡ wish_of self.old.node }
+        ensures failed { self.old.node ≡ None → (result ≡ Err Failed) × (self.new ≡ self.old) }
+        ensures done { (node : NodeRecord) → self.old.node ≡ Some node
+            → IfOk result (λ turn. (after : NodeRecord) × (run_turn node ≡ done turn after)
+            × (self.new ≡ record { node = Some after; trace = with_act after turn.act self.old.trace })) }
+        ensures refused { (node : NodeRecord) → self.old.node ≡ Some node → IfErr result (λ fault. AnswersTurn (run_turn node) node fault self.new.node) }
+        ensures ready { (node : NodeRecord) → self.old.node ≡ Some node → run_turn node ≡ not_ready → result ≡ Err NotReady }
+        ensures kept { OnErr result (self.new.trace ≡ self.old.trace) }
+        ensures fault { IfErr result (MayAnswer run) }
+    {
         if self.failed {
             return Err(NodeFault::Failed);
         }
-        match self.state.run_noting(&mut self.trace) {
+        match self.state.run_noting(wish, &mut self.trace) {
             Ok(turn) => Ok(turn),
             Err(fault) => {
                 self.failed = fault.is_final();
                 Err(fault)
             }
         }
+    }
+
+    /// Goes on by a step that only its own thread sees. Such a turn makes no access, sends nothing and can't fail.
+    #[inline(always)]
+    pub(crate) fn run_quietly(&mut self) -> Turn
+        requires { wish_of self.old.node ≡ Some Ask.Quiet }
+        ensures { (node : NodeRecord) → self.old.node ≡ Some node
+            → (after : NodeRecord) × (run_turn node ≡ done result after)
+            × (self.new ≡ record { node = Some after; trace = with_act after result.act self.old.trace }) }
+    {
+        self.state.run_quietly()
     }
 
     /// Takes a message; a repeat of one that was taken is an empty turn. Refused, in this order: `Failed`; `Unexpected`,

@@ -1,9 +1,10 @@
 // How a node notes its accesses.
 
-ghost use Rattle.std.specs.Prelude.{◌≡◌, IfErr, IfOk, OnErr, OnOk, Some};
+ghost use Rattle.std.specs.Prelude.{◌≡◌, IfErr, IfOk, OnErr, OnOk, Some, option_map};
+ghost use Rattle.lrc_exec.specs.Ask.{ask_of};
 ghost use Rattle.lrc_node_laws.specs.Traced.{CanNote, CanNoteAct, IsTraced};
 ghost use Rattle.lrc_protocol.specs.Traced.{with_access_by, with_act};
-ghost use Rattle.lrc_protocol.specs.Turn.{done, not_ready, run_turn, take_turn, unexpected};
+ghost use Rattle.lrc_protocol.specs.Turn.{begins, done, not_ready, run_turn, take_turn, unexpected};
 ghost use Rattle.lrc_node.specs.Effects.{turn_asked, CanBegin, CanNoteAsked, RefusesRun};
 ghost use Rattle.lrc_node.specs.Taken.{RefusesTake};
 ghost use Rattle.lrc_node.specs.Text.{asked_in};
@@ -19,22 +20,27 @@ use lrc_trace::trace::Trace;
 use std::alloc::AllocError;
 
 impl NodeState<'_> {
-    /// Goes on by one statement, or begins one that waits, and notes the access that is made, if one is. `NotReady`, with
-    /// nothing changed, where the node waits, has stopped, or has used up its steps; `Worn` where a number would be too large.
-    /// After an error the trace is as it was.
-    pub(crate) fn run_noting(&mut self, trace: &mut Trace) -> Result<Turn, NodeFault>
-        requires { IsTraced self.old trace.old }
+    /// Goes on by one statement, or begins one that waits, and notes the access that is made, if one is. Which it is, its
+    /// wish has said. `NotReady`, with nothing changed, where the node waits, has stopped, or has used up its steps; `Worn`
+    /// where a number would be too large. After an error the trace is as it was.
+    pub(crate) fn run_noting(
+        &mut self,
+        wish: Option<Ask>,
+        trace: &mut Trace,
+    ) -> Result<Turn, NodeFault>
+        requires traced { IsTraced self.old trace.old }
+        requires wish { wish ≡ option_map ask_of (begins self.old) }
         ensures done { IfOk result (λ turn. run_turn self.old ≡ done turn self.new) }
         ensures noted { IfOk result (λ turn. trace.new ≡ with_act self.new turn.act trace.old) }
         ensures kept { OnErr result (trace.new ≡ trace.old) }
         ensures ready { run_turn self.old ≡ not_ready → (result ≡ Err NotReady) × (self.new ≡ self.old) }
         ensures refused { IfErr result (λ fault. RefusesRun (run_turn self.old) fault) }
     {
-        match self.next() {
-            None => Err(NodeFault::NotReady),
-            Some(Ask::Quiet) => Ok(self.run_quietly()),
-            Some(ask) => self.run_begun_noting(ask, trace),
-        }
+        let Some(ask) = wish else {
+            return Err(NodeFault::NotReady);
+        };
+        self.count(ask);
+        self.run_begun_noting(ask, trace)
     }
 
     // Goes on by what it has begun, and notes the access that is made, if one is. After an error the trace is as it was.

@@ -1,8 +1,10 @@
 // How a node goes on by itself.
 
-ghost use Rattle.std.specs.Prelude.{◌≡◌, ◌⊎◌, ◌+◌, ◌<◌, IfErr, IfNone, IfOk, Some, None, OnOk, option_map};
+ghost use Rattle.std.specs.Prelude.{◌≡◌, ◌⊎◌, ◌+◌, ◌<◌, IfErr, IfOk, Some, None, option_map};
 ghost use Rattle.lrc_exec.specs.Ask.{ask_of};
-ghost use Rattle.lrc_protocol.specs.Turn.{begins, done, is_ready};
+ghost use Rattle.lrc_protocol.specs.Traced.{with_act};
+ghost use Rattle.lrc_protocol.specs.Turn.{begins, done, is_ready, run_turn};
+ghost use Rattle.lrc_trace.specs.Trace.{TraceRecord};
 ghost use Rattle.lrc_node.specs.Effects.{after_quiet, begun_node, effect_asked, quiet_turn, turn_asked, CanBegin, RefusesRun};
 ghost use Rattle.lrc_node.specs.State.{seen_effect, AreFor};
 ghost use Rattle.lrc_node.specs.Text.{asked_in};
@@ -23,21 +25,40 @@ impl NodeState<'_> {
         self.mail.wait().is_idle() && self.text.is_ready()
     }
 
-    /// What the node begins, if it is ready. The step is counted.
-    pub(crate) fn next(&mut self) -> Option<Ask>
-        ensures asked { result ≡ option_map ask_of (begins self.old) }
-        ensures node { self.new ≡ begun_node self.old }
-        ensures none { IfNone result (self.new ≡ self.old) }
+    /// What the node begins if it is named, if it is ready.
+    #[inline(always)]
+    pub(crate) fn wish(&self) -> Option<Ask>
+        ensures { result ≡ option_map ask_of (begins self.now) }
     {
         if !self.mail.wait().is_idle() {
             return None;
         }
-        self.text.begin()
+        self.text.begins()
+    }
+
+    /// Begins this, which comes next, and counts the step.
+    #[inline(always)]
+    pub(crate) fn count(&mut self, ask: Ask)
+        requires { option_map ask_of (begins self.old) ≡ Some ask }
+        ensures { self.new ≡ begun_node self.old }
+    {
+        self.text.begin(ask);
     }
 
     /// Goes on by a step that only its own thread sees. Most turns do.
     #[inline(always)]
     pub(crate) fn run_quietly(&mut self) -> Turn
+        requires { option_map ask_of (begins self.old) ≡ Some Ask.Quiet }
+        ensures done { run_turn self.old ≡ done result self.new }
+        ensures quiet { (trace : TraceRecord) → with_act self.new result.act trace ≡ trace }
+    {
+        self.count(Ask::Quiet);
+        self.go_on_quietly()
+    }
+
+    // Makes a step that only its own thread sees, and that is counted.
+    #[inline(always)]
+    fn go_on_quietly(&mut self) -> Turn
         requires { asked_in self.old.course ≡ Some Ask.Quiet }
         ensures turn { result ≡ quiet_turn self.old }
         ensures node { self.new ≡ after_quiet self.old }

@@ -1,6 +1,6 @@
 // A node's text: how far it has come, and how many steps are left.
 
-ghost use Rattle.std.specs.Prelude.{◌≡◌, ◌≤◌, IfNone, IfSome, Some, false, is_some, option_map};
+ghost use Rattle.std.specs.Prelude.{◌≡◌, ◌≤◌, IfSome, Some, false, is_some, option_map};
 ghost use Rattle.lrc_exec.specs.Ask.{ask_of, cost_asked};
 ghost use Rattle.lrc_exec.specs.Meaning.{next_of};
 ghost use Rattle.lrc_exec.specs.Plain.{start_of};
@@ -74,8 +74,8 @@ impl<'c> Text<'c> {
         }
     }
 
-    // What the text would begin: none where it has stopped or is at a barrier, or its steps are used up.
-    fn begins(&self) -> Option<Ask>
+    /// What the text would begin: none where it has stopped or is at a barrier, or its steps are used up.
+    pub(crate) fn begins(&self) -> Option<Ask>
         ensures asked { result ≡ option_map ask_of (begun_by self.now) }
         ensures paid { IfSome result (λ ask. cost_asked ask ≤ self.now.left) }
     {
@@ -95,15 +95,13 @@ impl<'c> Text<'c> {
         }
     }
 
-    /// Begins what comes next, if it may, and counts the step.
-    pub(crate) fn begin(&mut self) -> Option<Ask>
-        ensures asked { result ≡ option_map ask_of (begun_by self.old) }
-        ensures text { self.new ≡ begun self.old }
-        ensures none { IfNone result (self.new ≡ self.old) }
+    /// Begins this, which comes next, and counts the step.
+    #[inline(always)]
+    pub(crate) fn begin(&mut self, ask: Ask)
+        requires { option_map ask_of (begun_by self.old) ≡ Some ask }
+        ensures { self.new ≡ begun self.old }
     {
-        let ask = self.begins()?;
         self.left -= ask.cost();
-        Some(ask)
     }
 
     /// Makes the deed that comes next, which is what the text asks for, a read with this value. None once the text has

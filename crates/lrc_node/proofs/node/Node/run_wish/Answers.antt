@@ -1,12 +1,18 @@
-use Rattle.std.proofs.Common.{◌≡◌, cond, None, Some, sym, ◌∙◌, subst}
+use Rattle.std.proofs.Common.{◌≡◌, cond, None, Some, sym, ◌∙◌, ap, subst}
 use Rattle.lrc_protocol.specs.Turn.{run_turn, done}
 use Rattle.lrc_protocol.specs.Run.{run}
 use Rattle.lrc_node_laws.specs.Traced.{IsTraced}
 use Rattle.lrc_node_laws.proofs.Noting.{traced_turn}
 use Rattle.lrc_node.specs.Fault.{is_final}
-use Rattle.lrc_node.specs.Node.{AnswersTurn}
+use Rattle.lrc_node.specs.Node.{AnswersTurn, TracedNode, seen_node, wish_of}
 use Rattle.lrc_node.proofs.Outcomes.{answers_run, may_run, traced_run, seen_there, seen_turn}
-use Rattle.lrc_node.proofs.node.Node.run.Goals as goal
+use Rattle.lrc_node.proofs.node.Node.run_wish.Goals as goal
+
+pub run_noting-requires-clause-wish : goal.run_noting-requires-clause-wish
+run_noting-requires-clause-wish c =
+    c.requires
+    ∙ sym (ap (λ (t : TracedNode). wish_of t.node) c.self.view_is)
+    ∙ ap (λ b. wish_of (seen_node b c.self.inside.state)) c.if-self.false
 
 pub invariant_of-self : goal.invariant_of-self
 invariant_of-self c = λ e.
