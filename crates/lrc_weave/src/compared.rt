@@ -25,9 +25,10 @@ pub(crate) fn are_matched(
     ensures { IfOk result (λ are. IsTrue are ↔ AreMatched (map (λ log. log.items) logs.now) wires.now) }
 {
     let sending = all_sending(alloc, logs)?;
+    let mut spare = Vec::new(alloc);
     for owner in 0..wires.len() {
         if !is_matched(
-            alloc,
+            &mut spare,
             logs,
             sending.as_slice(),
             owner,
@@ -41,7 +42,7 @@ pub(crate) fn are_matched(
 
 // Whether the logs, of which these are the turns that send anything, and one node's mailbox do.
 fn is_matched(
-    alloc: Global,
+    spare: &mut Vec<u8>,
     logs: &[Vec<Entry>],
     sending: &[Vec<&Entry>],
     owner: usize,
@@ -52,10 +53,10 @@ fn is_matched(
         ≡ map (λ log. all_sent log.items) logs.now }
     ensures { IfOk result (λ is. IsTrue is ↔ IsMatched (map (λ log. log.items) logs.now) owner history.now) }
 {
-    if !are_by_nodes(history, logs.len()) || !are_puts(alloc, sending, owner, history)? {
+    if !are_by_nodes(history, logs.len()) || !are_puts(spare, sending, owner, history)? {
         return Ok(false);
     }
-    are_takes(alloc, logs[owner].as_slice(), history)
+    are_takes(spare, logs[owner].as_slice(), history)
 }
 
 // Whether each put is by one of so many nodes.
@@ -67,7 +68,7 @@ fn are_by_nodes(history: &[Wire], nodes: usize) -> bool
 
 // Whether each node put what its turns send to the owner.
 fn are_puts(
-    alloc: Global,
+    spare: &mut Vec<u8>,
     sending: &[Vec<&Entry>],
     owner: usize,
     history: &[Wire],
@@ -75,7 +76,7 @@ fn are_puts(
     ensures { IfOk result (λ are. IsTrue are ↔ ArePuts (map (λ turns. map (λ turn. turn.now) turns.items) sending.now) owner history.now) }
 {
     for sender in 0..sending.len() {
-        if !are_puts_of(alloc, owner, sender, sending[sender].as_slice(), history)? {
+        if !are_puts_of(spare, owner, sender, sending[sender].as_slice(), history)? {
             return Ok(false);
         }
     }
@@ -84,7 +85,7 @@ fn are_puts(
 
 // Whether a node put what these turns send to the owner, in order.
 fn are_puts_of(
-    alloc: Global,
+    spare: &mut Vec<u8>,
     owner: usize,
     sender: usize,
     turns: &[&Entry],
@@ -96,7 +97,7 @@ fn are_puts_of(
     for entry in turns {
         let entry: &Entry = entry;
         if !take_turn(
-            alloc,
+            spare,
             owner,
             sender,
             entry.stamp,
@@ -111,7 +112,7 @@ fn are_puts_of(
 
 // Whether the next puts of a node are what a turn with this stamp sends to the owner. What stands behind them is left.
 fn take_turn(
-    alloc: Global,
+    spare: &mut Vec<u8>,
     owner: usize,
     sender: usize,
     stamp: u64,
@@ -121,7 +122,7 @@ fn take_turn(
     ensures { IfOk result (λ are. AreNext sender (sends_to owner stamp out.now) history.old.now history.new.now are) }
 {
     for envelope in out {
-        if !take_sent(alloc, owner, sender, stamp, envelope, history)? {
+        if !take_sent(spare, owner, sender, stamp, envelope, history)? {
             return Ok(false);
         }
     }
@@ -130,7 +131,7 @@ fn take_turn(
 
 // Whether the next put of a node is a message with this stamp, if the message is for the owner. What stands behind it is left.
 fn take_sent(
-    alloc: Global,
+    spare: &mut Vec<u8>,
     owner: usize,
     sender: usize,
     stamp: u64,
@@ -140,20 +141,20 @@ fn take_sent(
     ensures { IfOk result (λ is. AreNext sender (only_to owner (sent_as stamp envelope.now ∷ [])) history.old.now history.new.now is) }
 {
     if usize::from(envelope.to) == owner {
-        take_put(alloc, sender, stamp, envelope, history)
+        take_put(spare, sender, stamp, envelope, history)
     } else {
         Ok(true)
     }
 }
 
 // Whether the takes of a history are what the owner's log takes, in order, each with its stamp.
-fn are_takes(alloc: Global, log: &[Entry], history: &[Wire]) -> Result<bool, AllocError>
+fn are_takes(spare: &mut Vec<u8>, log: &[Entry], history: &[Wire]) -> Result<bool, AllocError>
     ensures { IfOk result (λ are. IsTrue are ↔ Takes [] log.now (takes_in history.now)) }
 {
     let mut rest = history;
     let mut before = 0;
     for entry in log {
-        if !take_input(alloc, &entry.input, before, entry.stamp, history, &mut rest)? {
+        if !take_input(spare, &entry.input, before, entry.stamp, history, &mut rest)? {
             return Ok(false);
         }
         before = entry.stamp;
@@ -163,7 +164,7 @@ fn are_takes(alloc: Global, log: &[Entry], history: &[Wire]) -> Result<bool, All
 
 // Whether a turn takes what the next take gives, or nothing. What stands behind that take is left.
 fn take_input(
-    alloc: Global,
+    spare: &mut Vec<u8>,
     input: &Input,
     before: u64,
     stamp: u64,
@@ -175,13 +176,13 @@ fn take_input(
 {
     match input {
         Input::Run => Ok(true),
-        Input::Taken(envelope) => take_message(alloc, envelope, before, stamp, history, rest),
+        Input::Taken(envelope) => take_message(spare, envelope, before, stamp, history, rest),
     }
 }
 
 // Whether the next take gives a message.
 fn take_message(
-    alloc: Global,
+    spare: &mut Vec<u8>,
     envelope: &Envelope,
     before: u64,
     stamp: u64,
@@ -197,5 +198,5 @@ fn take_message(
     if place >= history.len() {
         return Ok(false);
     }
-    is_taken_from(alloc, &history[place], envelope, before, stamp)
+    is_taken_from(spare, &history[place], envelope, before, stamp)
 }

@@ -8,11 +8,11 @@ ghost use Rattle.lrc_weave.specs.Matched as matched;
 use crate::spelled::is_spelled;
 use lrc_envelope::Envelope;
 use lrc_post::Wire;
-use std::alloc::{AllocError, Global};
+use std::alloc::AllocError;
 
 /// Whether the next put of a node is this message with this stamp. What stands behind that put is left.
 pub(crate) fn take_put(
-    alloc: Global,
+    spare: &mut Vec<u8>,
     sender: usize,
     stamp: u64,
     envelope: &Envelope,
@@ -23,7 +23,7 @@ pub(crate) fn take_put(
     let Some(place) = put_place(history, sender) else {
         return Ok(false);
     };
-    let is = is_message(alloc, &history[place], stamp, envelope)?;
+    let is = is_message(spare, &history[place], stamp, envelope)?;
     *history = &history[place + 1..];
     Ok(is)
 }
@@ -64,7 +64,7 @@ fn is_put_by(wire: &Wire, sender: usize) -> bool
 
 // Whether an entry is the put of a message with this stamp.
 fn is_message(
-    alloc: Global,
+    spare: &mut Vec<u8>,
     wire: &Wire,
     stamp: u64,
     envelope: &Envelope,
@@ -76,7 +76,7 @@ fn is_message(
             stamp: sent,
             bytes,
             ..
-        } if *sent == stamp => is_spelled(alloc, bytes, envelope),
+        } if *sent == stamp => is_spelled(spare, bytes, envelope),
         _ => Ok(false),
     }
 }
@@ -117,7 +117,7 @@ fn place_taken(wire: &Wire) -> Option<usize>
 
 /// Whether an entry is the put of a message that is taken with this stamp by a node whose turn before had that stamp.
 pub(crate) fn is_taken_from(
-    alloc: Global,
+    spare: &mut Vec<u8>,
     wire: &Wire,
     envelope: &Envelope,
     before: u64,
@@ -131,7 +131,7 @@ pub(crate) fn is_taken_from(
             bytes,
             ..
         } if stamp.checked_sub(before.max(*sent)) == Some(1) => {
-            is_spelled(alloc, bytes, envelope)
+            is_spelled(spare, bytes, envelope)
         }
         _ => Ok(false),
     }

@@ -1,6 +1,6 @@
 // Whether bytes spell a message.
 
-ghost use Rattle.std.specs.Prelude.{◌≡◌, ◌↔◌, ◌<◌, IfOk, IsTrue, List, ℕ, Ok, false, length};
+ghost use Rattle.std.specs.Prelude.{◌≡◌, ◌↔◌, ◌<◌, IfOk, IsErrOf, IsTrue, List, OnOk, ℕ, Ok, false, length};
 ghost use Rattle.lrc_wire.specs.declared.limits.TheConstants.{MOST_BODY_BYTES};
 ghost use Rattle.lrc_wire.specs.declared.version.Version.TheVariants.{Two};
 ghost use Rattle.lrc_envelope.specs.Envelope.{EnvelopeRecord};
@@ -9,26 +9,37 @@ ghost use Rattle.lrc_wire.specs.Runs.{runs_of};
 ghost use Rattle.lrc_wire.specs.Spelling.{Spells, body};
 
 use lrc_envelope::Envelope;
-use lrc_wire::{EncodeFault, WireFault, decode, encode};
+use lrc_wire::{EncodeFault, WireFault, decode, encode, spell_over};
 use std::alloc::{AllocError, Global};
+use std::mem;
 
-/// Whether bytes spell a message, in either version of the format.
+/// Whether bytes spell a message, in either version of the format. The message is written in place of the spare bytes.
 pub(crate) fn is_spelled(
-    alloc: Global,
+    spare: &mut Vec<u8>,
     bytes: &[u8],
     envelope: &Envelope,
 ) -> Result<bool, AllocError>
     ensures { IfOk result (λ is. IsTrue is ↔ (envelope_of bytes.now ≡ Ok envelope.now)) }
 {
-    let written = match encode(alloc, envelope) {
-        Ok(written) => written,
-        Err(EncodeFault::TooLong) => return is_long(alloc, bytes),
+    match write_over(spare, envelope) {
+        Ok(()) => {}
+        Err(EncodeFault::TooLong) => return is_long(*spare.allocator(), bytes),
         Err(EncodeFault::NoMemory) => return Err(AllocError),
-    };
-    if *bytes == *written {
+    }
+    if *bytes == *spare.as_slice() {
         return Ok(true);
     }
-    is_read_as(alloc, bytes, &written)
+    is_read_as(*spare.allocator(), bytes, spare.as_slice())
+}
+
+// Writes a message in place of spare bytes, whose memory it takes.
+fn write_over(spare: &mut Vec<u8>, envelope: &Envelope) -> Result<(), EncodeFault>
+    ensures written { OnOk result (Spells Two envelope.now spare.new.items) }
+    ensures too_long { IsErrOf result EncodeFault.TooLong ↔ (MOST_BODY_BYTES < length (body Two runs_of envelope.now.message)) }
+{
+    let nothing = Vec::new(*spare.allocator());
+    *spare = spell_over(mem::replace(spare, nothing), envelope)?;
+    Ok(())
 }
 
 // That bytes spell no message that is too long to be written. Where they spell one in the older version of the format, as no node

@@ -7,8 +7,8 @@ use Rattle.lrc_weave.proofs.spelled.is_spelled.Goals as goal
 pub returns-then-eq : goal.returns-then-eq
 returns-then-eq c = (
   λ yes.
-      read_same c.args.envelope.now c.args.bytes.now c.deref.result.now
-      ((slice_eq-Decides Decides-eqb c.args.bytes.now c.deref.result.now c.eq.result c.eq.ensures).0 (search rules))
+      read_same c.args.envelope.now c.args.bytes.now c.as_slice.result.now
+      ((slice_eq-Decides Decides-eqb c.args.bytes.now c.as_slice.result.now c.eq.result c.eq.ensures).0 (search rules))
       (search rules),
   λ same. refl,
 )
