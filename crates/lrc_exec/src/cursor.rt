@@ -229,6 +229,7 @@ impl<'c> Cursor<'c> {
     }
 
     // The value of an expression.
+    #[inline(always)]
     fn value(&self, expression: &Expression) -> Result<u64, Cause>
         requires { names_in_expression (expression_of expression.now) ≤ 32 }
         ensures { result ≡ ok_or (value_in self.now expression.now) Cause.DivisionByZero }

@@ -78,10 +78,10 @@ fn combine(
     requires right { names_in_expression (expression_of right.now) ≤ 32 }
     ensures { result ≡ combined operator (value_of me nodes privates.now left.now) (value_of me nodes privates.now right.now) }
 {
-    let Some(x) = read(left, privates, me, nodes) else {
+    let Some(x) = leaf_value(left, privates, me, nodes) else {
         return combine_deep(left, operator, right, privates, me, nodes);
     };
-    let Some(y) = read(right, privates, me, nodes) else {
+    let Some(y) = leaf_value(right, privates, me, nodes) else {
         return combine_deep(left, operator, right, privates, me, nodes);
     };
     apply(operator, x, y)
@@ -109,7 +109,7 @@ fn combine_deep(
 
 // The value of an expression without an operator; none of any other.
 #[inline(always)]
-fn read(expression: &Expression, privates: &[u64; 32], me: u8, nodes: u8) -> Option<u64>
+fn leaf_value(expression: &Expression, privates: &[u64; 32], me: u8, nodes: u8) -> Option<u64>
     requires { names_in_expression (expression_of expression.now) ≤ 32 }
     ensures { IfSome result (λ value. value_of me nodes privates.now expression.now ≡ Some value) }
 {

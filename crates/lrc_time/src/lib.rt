@@ -68,8 +68,7 @@ impl Time {
         requires greater { entry self.old node < index }
         ensures { self.new ≡ slice_set self.old node index }
     {
-        let place = usize::from(node);
-        self.entries[place] = index;
+        self.set(node, index);
     }
 
     /// Sets the entry of this node to `index`, whatever stood there.
