@@ -69,18 +69,40 @@ pub fn push_unordered(
     push_last(text, last)
 }
 
+// Adds where two accesses are that race, and their word.
+fn push_positions(text: &mut Vec<u8>, pair: RacingAccesses) -> Result<(), AllocError>
+    ensures ok { OnOk result (text.new.items
+        ≡ text.old.items ++ (codes "race acts " ++ decimal pair.earlier ++ codes " " ++ decimal pair.later ++ codes ": word " ++ decimal pair.word)) }
+    ensures err { OnErr result (BeginsWith text.new.items text.old.items) }
+{
+    push_number(text, b"race acts ", pair.earlier as u64)?;
+    push_number(text, b" ", pair.later as u64)?;
+    push_number(text, b": word ", u64::from(pair.word))
+}
+
+// Adds the kinds of two accesses.
+fn push_kinds(
+    text: &mut Vec<u8>,
+    earlier_writes: bool,
+    later_writes: bool,
+) -> Result<(), AllocError>
+    ensures ok { OnOk result (text.new.items
+        ≡ text.old.items ++ (kind_text earlier_writes ++ codes " " ++ kind_text later_writes)) }
+    ensures err { OnErr result (BeginsWith text.new.items text.old.items) }
+{
+    text.extend_from_slice(kind_of(earlier_writes))?;
+    text.extend_from_slice(b" ")?;
+    text.extend_from_slice(kind_of(later_writes))
+}
+
 /// Adds the line of two accesses that race.
 pub fn push_pair(text: &mut Vec<u8>, pair: RacingAccesses) -> Result<(), AllocError>
     ensures ok { OnOk result (text.new.items ≡ text.old.items ++ pair_line pair) }
     ensures err { OnErr result (BeginsWith text.new.items text.old.items) }
 {
-    push_number(text, b"race acts ", pair.earlier as u64)?;
-    push_number(text, b" ", pair.later as u64)?;
-    push_number(text, b": word ", u64::from(pair.word))?;
+    push_positions(text, pair)?;
     text.extend_from_slice(b", ")?;
-    text.extend_from_slice(kind_of(pair.earlier_writes))?;
-    text.extend_from_slice(b" ")?;
-    text.extend_from_slice(kind_of(pair.later_writes))?;
+    push_kinds(text, pair.earlier_writes, pair.later_writes)?;
     text.extend_from_slice(b"\n")
 }
 
