@@ -41,15 +41,24 @@ fn push_changes_or_dash(text: &mut Vec<u8>, changes: &Changes) -> Result<(), All
     }
 }
 
+// Adds changes in brackets.
+fn push_bracketed(text: &mut Vec<u8>, changes: &Changes) -> Result<(), AllocError>
+    ensures ok { OnOk result (text.new.items
+        ≡ text.old.items ++ (codes "[" ++ separated (codes ",") change_text changes.now ++ codes "]")) }
+    ensures err { OnErr result (BeginsWith text.new.items text.old.items) }
+{
+    text.extend_from_slice(b"[")?;
+    push_changes(text, changes)?;
+    text.extend_from_slice(b"]")
+}
+
 fn push_part(text: &mut Vec<u8>, place: usize, part: &IndexedChanges) -> Result<(), AllocError>
     ensures ok { OnOk result (text.new.items ≡ text.old.items ++ before place (codes " ") ++ part_text part.now) }
     ensures err { OnErr result (BeginsWith text.new.items text.old.items) }
 {
     push_before(text, place, b" ")?;
     push_number(text, b"", u64::from(part.index))?;
-    text.extend_from_slice(b"[")?;
-    push_changes(text, &part.changes)?;
-    text.extend_from_slice(b"]")
+    push_bracketed(text, &part.changes)
 }
 
 /// Adds what intervals changed, each with its index.

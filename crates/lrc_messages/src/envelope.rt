@@ -1,7 +1,7 @@
 // A line for each message that a node takes or sends.
 
 ghost use Rattle.std.specs.Prelude.{◌≡◌, ◌<◌, ◌≤◌, ◌++◌, IfOk, MatchOption, OnErr, OnOk, length};
-ghost use Rattle.std.specs.Prelude.{codes, if◌then◌else◌};
+ghost use Rattle.std.specs.Prelude.{codes, decimal, if◌then◌else◌};
 ghost use Rattle.lrc_text.specs.Front.{BeginsWith};
 ghost use Rattle.lrc_wire.specs.declared.limits.TheConstants.{MOST_BODY_BYTES};
 ghost use Rattle.lrc_wire.specs.declared.version.Version.TheVariants.{Two};
@@ -16,6 +16,24 @@ use lrc_text::push_number;
 use lrc_wire::{EncodeFault, encode};
 use std::alloc::{AllocError, Global};
 
+// Adds a node, what it does with the message of this number, and the other node.
+fn push_head(
+    text: &mut Vec<u8>,
+    node: u8,
+    does: &[u8],
+    number: u32,
+    way: &[u8],
+    other: u8,
+) -> Result<(), AllocError>
+    ensures ok { OnOk result (text.new.items
+        ≡ text.old.items ++ (codes "# node " ++ decimal node ++ does.now ++ decimal number ++ way.now ++ decimal other)) }
+    ensures err { OnErr result (BeginsWith text.new.items text.old.items) }
+{
+    push_number(text, b"# node ", u64::from(node))?;
+    push_number(text, does, u64::from(number))?;
+    push_number(text, way, u64::from(other))
+}
+
 /// Adds the line of a message that a node takes; of one that it took before no more is said.
 pub fn push_taken(
     alloc: Global,
@@ -27,9 +45,14 @@ pub fn push_taken(
     ensures ok { OnOk result (text.new.items ≡ text.old.items ++ taken_text node envelope.now again) }
     ensures err { OnErr result (BeginsWith text.new.items text.old.items) }
 {
-    push_number(text, b"# node ", u64::from(node))?;
-    push_number(text, b" takes ", u64::from(envelope.number))?;
-    push_number(text, b" from ", u64::from(envelope.from))?;
+    push_head(
+        text,
+        node,
+        b" takes ",
+        envelope.number,
+        b" from ",
+        envelope.from,
+    )?;
     push_said(alloc, text, &envelope.message, again)?;
     text.extend_from_slice(b"\n")
 }
@@ -77,6 +100,16 @@ fn push_size(alloc: Global, text: &mut Vec<u8>, envelope: &Envelope) -> Result<(
     }
 }
 
+// Adds the size of an envelope, and the words around it.
+fn push_bytes(alloc: Global, text: &mut Vec<u8>, envelope: &Envelope) -> Result<(), AllocError>
+    ensures ok { OnOk result (text.new.items ≡ text.old.items ++ (codes ", " ++ size_text envelope.now ++ codes " bytes: ")) }
+    ensures err { OnErr result (BeginsWith text.new.items text.old.items) }
+{
+    text.extend_from_slice(b", ")?;
+    push_size(alloc, text, envelope)?;
+    text.extend_from_slice(b" bytes: ")
+}
+
 /// Adds the line of a message that a node sends.
 pub fn push_sent(
     alloc: Global,
@@ -87,12 +120,15 @@ pub fn push_sent(
     ensures ok { OnOk result (text.new.items ≡ text.old.items ++ sent_text node envelope.now) }
     ensures err { OnErr result (BeginsWith text.new.items text.old.items) }
 {
-    push_number(text, b"# node ", u64::from(node))?;
-    push_number(text, b" sends ", u64::from(envelope.number))?;
-    push_number(text, b" to ", u64::from(envelope.to))?;
-    text.extend_from_slice(b", ")?;
-    push_size(alloc, text, envelope)?;
-    text.extend_from_slice(b" bytes: ")?;
+    push_head(
+        text,
+        node,
+        b" sends ",
+        envelope.number,
+        b" to ",
+        envelope.to,
+    )?;
+    push_bytes(alloc, text, envelope)?;
     push_message(alloc, text, &envelope.message)?;
     text.extend_from_slice(b"\n")
 }

@@ -1,12 +1,15 @@
 // Times and intervals in words.
 
-ghost use Rattle.std.specs.Prelude.{◌≡◌, ◌++◌, OnErr, OnOk, codes};
+ghost use Rattle.std.specs.Prelude.{◌≡◌, ◌++◌, OnErr, OnOk, codes, decimal};
 ghost use Rattle.lrc_text.specs.Front.{BeginsWith};
+ghost use Rattle.lrc_show.specs.Json.{with_commas};
+ghost use Rattle.lrc_store.specs.Interval.{index_of};
 ghost use Rattle.lrc_messages.specs.Lists.{before, separated, separated_or_dash};
 ghost use Rattle.lrc_messages.specs.MessageText.{collect_text, interval_text, news_text, time_text};
 
 use crate::lists::{push_before, push_pages};
 use lrc_envelope::News;
+use lrc_page::Pages;
 use lrc_show::push_entries;
 use lrc_store::{Interval, Intervals};
 use lrc_text::push_number;
@@ -22,16 +25,33 @@ pub(crate) fn push_time(text: &mut Vec<u8>, time: &Time) -> Result<(), AllocErro
     push_entries(text, time)
 }
 
+// Adds the node of an interval, and its number among those of that node.
+fn push_interval_name(text: &mut Vec<u8>, interval: &Interval) -> Result<(), AllocError>
+    ensures ok { OnOk result (text.new.items
+        ≡ text.old.items ++ (decimal interval.now.node ++ codes "." ++ decimal (index_of interval.now))) }
+    ensures err { OnErr result (BeginsWith text.new.items text.old.items) }
+{
+    push_number(text, b"", u64::from(interval.node))?;
+    push_number(text, b".", u64::from(interval.index()))
+}
+
+// Adds the numbers of pages in brackets.
+fn push_bracketed(text: &mut Vec<u8>, pages: &Pages) -> Result<(), AllocError>
+    ensures ok { OnOk result (text.new.items ≡ text.old.items ++ (codes "[" ++ with_commas pages.now ++ codes "]")) }
+    ensures err { OnErr result (BeginsWith text.new.items text.old.items) }
+{
+    text.extend_from_slice(b"[")?;
+    push_pages(text, pages)?;
+    text.extend_from_slice(b"]")
+}
+
 fn push_interval(text: &mut Vec<u8>, place: usize, interval: &Interval) -> Result<(), AllocError>
     ensures ok { OnOk result (text.new.items ≡ text.old.items ++ before place (codes " ") ++ interval_text interval.now) }
     ensures err { OnErr result (BeginsWith text.new.items text.old.items) }
 {
     push_before(text, place, b" ")?;
-    push_number(text, b"", u64::from(interval.node))?;
-    push_number(text, b".", u64::from(interval.index()))?;
-    text.extend_from_slice(b"[")?;
-    push_pages(text, &interval.pages)?;
-    text.extend_from_slice(b"]")
+    push_interval_name(text, interval)?;
+    push_bracketed(text, &interval.pages)
 }
 
 fn push_intervals(text: &mut Vec<u8>, intervals: &Intervals) -> Result<(), AllocError>
