@@ -1,6 +1,6 @@
 // How nodes ended and why, in words.
 
-ghost use Rattle.std.specs.Prelude.{◌≡◌, ◌++◌, IfOk, OnErr, OnOk};
+ghost use Rattle.std.specs.Prelude.{◌≡◌, ◌++◌, IfOk, OnErr, OnOk, codes, decimal};
 ghost use Rattle.lrc_text.specs.Front.{BeginsWith};
 ghost use Rattle.lrc_stuck.specs.Stand.{stands_of};
 ghost use Rattle.lrc_stuck.specs.Stuck.{end_text, fate_words, reason_text, stuck_line, stuck_lines, stuck_text};
@@ -29,6 +29,15 @@ fn push_fate(text: &mut Vec<u8>, fate: Fate) -> Result<(), AllocError>
     }
 }
 
+// Adds the line at which a node stands, behind a word.
+fn push_line(text: &mut Vec<u8>, word: &[u8], line: u32) -> Result<(), AllocError>
+    ensures ok { OnOk result (text.new.items ≡ text.old.items ++ (word.now ++ decimal line ++ codes ": ")) }
+    ensures err { OnErr result (BeginsWith text.new.items text.old.items) }
+{
+    push_number(text, word, u64::from(line))?;
+    text.extend_from_slice(b": ")
+}
+
 // Adds the line on why a node ended so, which came to no end of the text.
 fn push_reason(
     alloc: Global,
@@ -43,14 +52,12 @@ fn push_reason(
     match stand.fate {
         Fate::Ended => Ok(()),
         Fate::Trapped(cause) => {
-            push_number(text, b"  line ", u64::from(stand.line))?;
-            text.extend_from_slice(b": ")?;
+            push_line(text, b"  line ", stand.line)?;
             text.extend_from_slice(words_of(cause))?;
             text.extend_from_slice(b"\n")
         }
         Fate::Unfinished => {
-            push_number(text, b"  next, line ", u64::from(stand.line))?;
-            text.extend_from_slice(b": ")?;
+            push_line(text, b"  next, line ", stand.line)?;
             push_coming(alloc, text, stands, me, stand.coming)?;
             text.extend_from_slice(b"\n")
         }
