@@ -4,6 +4,7 @@ ghost use Rattle.std.specs.Prelude.{◌≡◌, ◌++◌, IfOk, OnErr, OnOk, code
 ghost use Rattle.lrc_text.specs.Front.{BeginsWith};
 ghost use Rattle.lrc_stuck.specs.Stand.{stands_of};
 ghost use Rattle.lrc_stuck.specs.Stuck.{end_text, fate_words, reason_text, stuck_line, stuck_lines, stuck_text};
+ghost use Rattle.lrc_stuck.specs.Words.{cause_words, coming_words};
 
 use crate::circles::push_deadlocks;
 use crate::stand::{Fate, Stand, stands_of};
@@ -11,7 +12,7 @@ use crate::words::{push_coming, words_of};
 use lrc_exec::code::Code;
 use lrc_lines::walks::follow_acts;
 use lrc_text::push_number;
-use lrc_trace::act::Act;
+use lrc_trace::act::{Act, Cause};
 use std::alloc::{AllocError, Global};
 
 // Adds how a node ended.
@@ -38,6 +39,34 @@ fn push_line(text: &mut Vec<u8>, word: &[u8], line: u32) -> Result<(), AllocErro
     text.extend_from_slice(b": ")
 }
 
+// Adds where a node trapped, and why.
+fn push_trapped(text: &mut Vec<u8>, line: u32, cause: Cause) -> Result<(), AllocError>
+    ensures ok { OnOk result (text.new.items
+        ≡ text.old.items ++ (codes "  line " ++ decimal line ++ codes ": " ++ cause_words cause ++ codes "\n")) }
+    ensures err { OnErr result (BeginsWith text.new.items text.old.items) }
+{
+    push_line(text, b"  line ", line)?;
+    text.extend_from_slice(words_of(cause))?;
+    text.extend_from_slice(b"\n")
+}
+
+// Adds what comes next of a node that is unfinished.
+fn push_next(
+    alloc: Global,
+    text: &mut Vec<u8>,
+    stands: &[Stand],
+    me: usize,
+    stand: Stand,
+) -> Result<(), AllocError>
+    ensures ok { OnOk result (text.new.items ≡ text.old.items
+        ++ (codes "  next, line " ++ decimal stand.line ++ codes ": " ++ coming_words stands.now me stand.coming ++ codes "\n")) }
+    ensures err { OnErr result (BeginsWith text.new.items text.old.items) }
+{
+    push_line(text, b"  next, line ", stand.line)?;
+    push_coming(alloc, text, stands, me, stand.coming)?;
+    text.extend_from_slice(b"\n")
+}
+
 // Adds the line on why a node ended so, which came to no end of the text.
 fn push_reason(
     alloc: Global,
@@ -51,16 +80,8 @@ fn push_reason(
 {
     match stand.fate {
         Fate::Ended => Ok(()),
-        Fate::Trapped(cause) => {
-            push_line(text, b"  line ", stand.line)?;
-            text.extend_from_slice(words_of(cause))?;
-            text.extend_from_slice(b"\n")
-        }
-        Fate::Unfinished => {
-            push_line(text, b"  next, line ", stand.line)?;
-            push_coming(alloc, text, stands, me, stand.coming)?;
-            text.extend_from_slice(b"\n")
-        }
+        Fate::Trapped(cause) => push_trapped(text, stand.line, cause),
+        Fate::Unfinished => push_next(alloc, text, stands, me, stand),
     }
 }
 
