@@ -15,6 +15,7 @@ pub mod Standing
 pub mod Searching
 pub mod Counting
 pub mod Exploring
+pub mod Faults
 pub mod Noting
 pub mod Alike
 pub mod Gathering

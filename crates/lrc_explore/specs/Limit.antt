@@ -15,8 +15,8 @@ use Rattle.lrc_explore.specs.declared.search.ExploreFault.TheVariants.{BadNodes,
 use Rattle.lrc_explore.specs.contracts.state.StatePartialEq.TheImpl.{eq-value}
 use Rattle.lrc_explore.specs.Kept.{IsAt, Widens, size}
 use Rattle.lrc_explore.specs.Meeting.{IsReachable}
-use Rattle.lrc_explore.specs.States.{plain_at, IsStateOf}
-use Rattle.lrc_explore.specs.Search.{IsFound}
+use Rattle.lrc_explore.specs.States.{plain_at, machine_begun, IsStateOf}
+use Rattle.lrc_explore.specs.Search.{IsFound, Stands}
 
 -- more states than a bound over the program's code, no two of them equal, to each of which some order leads
 pub record HasMoreStates (program : Program) (nodes most : ℕ) : Type 0 where
@@ -48,6 +48,12 @@ pub record MeetsMore (flat : Flat) (first : States) (most : ℕ) : Type 0 where
   pub sound : IsFound flat found
   pub widens : Widens first found.states
   pub many : most < size found.states
+
+-- a search from the start of the code at a place met more than a bound
+pub record MeetsMoreFrom (flat : Flat) (place most : ℕ) : Type 0 where
+  pub first : States
+  pub start : Stands flat first 0 (machine_begun flat place)
+  pub more : MeetsMore flat first most
 
 -- why a search gives up: it met too many states, or had no memory
 abbrev pub IsExploreFault : Flat → States → (most : ℕ) → ExploreFault → Type 0

@@ -1,6 +1,6 @@
 // Every outcome of a program.
 
-ghost use Rattle.std.specs.Prelude.{◌≡◌, ◌↔◌, List, IfOk, IfErr, Err};
+ghost use Rattle.std.specs.Prelude.{◌≡◌, ◌≢◌, ◌↔◌, List, IfOk, IfErr, Err};
 ghost use Rattle.lrc_trace.specs.declared.act.Act.{Act};
 ghost use Rattle.lrc_exec.specs.Nodes.{AreNodes};
 ghost use Rattle.lrc_explore.specs.Outcome.{FitsNoted, HasMoreNoted, HasOutcome, IsOutcome};
@@ -43,6 +43,21 @@ pub fn outcomes(
 {
     let nodes = count_of(nodes)?;
     let code = Code::new(alloc, program)?;
+    outcomes_of(alloc, &code, nodes, most)
+}
+
+// The same of a program's flat code.
+fn outcomes_of(
+    alloc: Global,
+    code: &Code<'_>,
+    nodes: u8,
+    most: usize,
+) -> Result<IndexSet<Outcome>, ExploreFault>
+    ensures exact { IfOk result (λ found. (notes : List Act) → (HasOutcome found.keys notes ↔ IsOutcome code.now nodes notes)) }
+    ensures nodes { IfErr result (λ fault. fault ≢ ExploreFault.BadNodes) }
+    ensures too_many { IfErr result (λ fault. fault ≡ ExploreFault.TooMany → HasMoreNoted code.now nodes most) }
+    ensures fits { IfOk result (λ _. FitsNoted code.now nodes most) }
+{
     let (instructions, place) = code.parts();
     let flat = Flat {
         code: instructions,
@@ -50,9 +65,13 @@ pub fn outcomes(
         locks: code.locks(),
         nodes,
     };
-    let mut gathered = Gathered::new(alloc, &flat, place)?;
-    gathered.go_through(alloc, &flat, place, most)?;
-    Ok(gathered.outcomes)
+    let mut gathered = Gathered::none(alloc);
+    let all = gathered.gather(alloc, &flat, place, most);
+    let outcomes = gathered.into_outcomes();
+    match all {
+        Ok(()) => Ok(outcomes),
+        Err(fault) => Err(fault),
+    }
 }
 
 impl Gathered {
@@ -60,22 +79,66 @@ impl Gathered {
     ghost use Rattle.lrc_exec.specs.Spots.{IsFlat};
     ghost use Rattle.lrc_explore.specs.States.{IsStateOf, machine_begun, plain_at};
     ghost use Rattle.lrc_explore.specs.Kept.{Grows};
-    ghost use Rattle.lrc_explore.specs.Noted.{IsNotedAt, WidensNoted, noted_count};
+    ghost use Rattle.lrc_explore.specs.Noted.{AreNotedDistinct, IsNotedAt, WidensNoted, noted_count};
     ghost use Rattle.lrc_explore.specs.Outcome.{AreGathered, AreSound, AreSearched, HasNoted, HasNextBelow, IsLed, IsSearchedAt, CountsUpTo, MeetsMoreNoted};
 
-    // The start alone.
-    fn new(alloc: Global, flat: &Flat, place: usize) -> Result<Gathered, AllocError>
-        requires { place ≤ length flat.now.code.now }
-        ensures led { IfOk result (λ new. AreGathered flat.now (machine_begun flat.now place) new.states) }
-        ensures start { IfOk result (λ new. HasNoted flat.now new.states (machine_begun flat.now place) []) }
-        ensures none { IfOk result (λ new. new.outcomes.keys ≡ []) }
+    // No states, and no outcomes.
+    fn none(alloc: Global) -> Gathered
+        ensures none { noted_count result.states ≡ 0 }
+        ensures distinct { AreNotedDistinct result.states }
+        ensures outcomes { result.outcomes.keys ≡ [] }
     {
-        let mut states = NotedStates::new(alloc);
+        Gathered {
+            states: NotedStates::new(alloc),
+            outcomes: IndexSet::new(alloc),
+        }
+    }
+
+    // The outcomes.
+    fn into_outcomes(self) -> IndexSet<Outcome>
+        ensures { result ≡ self.outcomes }
+    {
+        self.outcomes
+    }
+
+    // From the start on, where there is nothing yet, goes through all states.
+    fn gather(
+        &mut self,
+        alloc: Global,
+        flat: &Flat,
+        place: usize,
+        most: usize,
+    ) -> Result<(), ExploreFault>
+        requires flat { IsFlat flat.now }
+        requires place { place ≤ length flat.now.code.now }
+        requires none { noted_count self.old.states ≡ 0 }
+        requires distinct { AreNotedDistinct self.old.states }
+        requires outcomes { self.old.outcomes.keys ≡ [] }
+        ensures start { OnOk result (HasNoted flat.now self.new.states (machine_begun flat.now place) []) }
+        ensures led { OnOk result (AreGathered flat.now (machine_begun flat.now place) self.new.states) }
+        ensures sound { OnOk result (AreSound flat.now (machine_begun flat.now place) self.new.outcomes.keys) }
+        ensures done { OnOk result (AreSearched flat.now self.new.states self.new.outcomes.keys (noted_count self.new.states)) }
+        ensures fits { OnOk result (noted_count self.new.states ≤ most) }
+        ensures nodes { IfErr result (λ fault. fault ≢ ExploreFault.BadNodes) }
+        ensures faults { IfErr result (λ fault. fault ≡ ExploreFault.TooMany → MeetsMoreNoted flat.now (machine_begun flat.now place) most) }
+    {
+        self.begin(alloc, flat, place)?;
+        self.go_through(alloc, flat, place, most)
+    }
+
+    // Adds the start, where there are no states yet.
+    fn begin(&mut self, alloc: Global, flat: &Flat, place: usize) -> Result<(), AllocError>
+        requires place { place ≤ length flat.now.code.now }
+        requires none { noted_count self.old.states ≡ 0 }
+        requires distinct { AreNotedDistinct self.old.states }
+        ensures led { OnOk result (AreGathered flat.now (machine_begun flat.now place) self.new.states) }
+        ensures start { OnOk result (HasNoted flat.now self.new.states (machine_begun flat.now place) []) }
+        ensures same { self.new.outcomes ≡ self.old.outcomes }
+    {
         let state = State::start(alloc, flat, place)?;
         let notes = Vec::new(alloc);
-        let (_place, _new) = states.add(alloc, Noted { state, notes })?;
-        let outcomes = IndexSet::new(alloc);
-        Ok(Gathered { states, outcomes })
+        let (_place, _new) = self.states.add(alloc, Noted { state, notes })?;
+        Ok(())
     }
 
     // Goes through the states, in the order in which they are found.
