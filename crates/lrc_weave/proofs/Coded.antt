@@ -4,6 +4,7 @@ use Rattle.std.specs.Prelude.{Option, Some, None, option_map, slice_get, slice_s
 use Rattle.std.proofs.lemmas.Bool.{cases_eq}
 use Rattle.std.proofs.lemmas.List.{length-map, length-set, length-replicate, get_or-set_same, get_or-set_other}
 use Rattle.std.proofs.lemmas.Option.{slice_get_within, slice_get-get_or, same_Some}
+use Rattle.lrc_trace.specs.declared.act.Act.{Act}
 use Rattle.lrc_protocol.specs.Run.{EntryRecord}
 use Rattle.lrc_protocol.specs.Follows.{log_of, come_of}
 use Rattle.lrc_weave.specs.Next.{stamp_of, IsNextOf}
@@ -14,7 +15,7 @@ use Rattle.lrc_protocol.specs.Node.{OptionsRecord}
 use Rattle.lrc_post.specs.Mailbox.{MailboxRecord}
 use Rattle.lrc_weave.specs.Logs.{AreLogs}
 use Rattle.lrc_weave.specs.Matched.{AreMatched}
-use Rattle.lrc_weave.specs.Events.{IsTurnOf, IsUnsent}
+use Rattle.lrc_weave.specs.Events.{IsTurnOf, IsUnsent, NotesTurn}
 use Rattle.lrc_weave.proofs.Heads.{head_stamp, AreHeads}
 use Rattle.lrc_weave.proofs.Weaving.{to_come, one_less}
 use Rattle.lrc_weave.proofs.Stepping.{WovenSo, so_start, so_more, so_sent}
@@ -92,37 +93,42 @@ module _ {V : Type 0} (f : V → List EntryRecord) where
           get_or-set_other stamps n m s None ne ∙ are.1 m
           ∙ ap (λ k. option_map (λ (e : EntryRecord). e.stamp) (slice_get (log_of (map f vs) m) k)) (sym (get_or-set_other come n m next 0 ne))
 
-  pub so_begin : (vs : List V) (come : List ℕ) (names : List MessageName) (events : List Event) → come ≡ replicate (length vs) 0 → names ≡ [] → events ≡ []
-      → (length come ≡ length vs) × WovenSo (map f vs) come names events
-  so_begin vs come names events come_is names_is events_is = (
+  pub so_begin : (vs : List V) (come : List ℕ) (names : List MessageName) (events : List Event) (acts : List Act) → come ≡ replicate (length vs) 0
+      → names ≡ [] → events ≡ [] → acts ≡ [] → (length come ≡ length vs) × WovenSo (map f vs) come names events acts
+  so_begin vs come names events acts come_is names_is events_is acts_are = (
     ap length come_is ∙ length-replicate (length vs) 0,
-    subst (λ c. WovenSo (map f vs) c names events) (sym (come_is ∙ ap (λ k. replicate k 0) (sym (length-map vs f))))
-        (subst (λ k. WovenSo (map f vs) (replicate (length (map f vs)) 0) k events) (sym names_is)
-        (subst (λ e. WovenSo (map f vs) (replicate (length (map f vs)) 0) [] e) (sym events_is) (so_start (map f vs)))),
+    subst (λ c. WovenSo (map f vs) c names events acts) (sym (come_is ∙ ap (λ k. replicate k 0) (sym (length-map vs f))))
+        (subst (λ k. WovenSo (map f vs) (replicate (length (map f vs)) 0) k events acts) (sym names_is)
+        (subst (λ e. WovenSo (map f vs) (replicate (length (map f vs)) 0) [] e acts) (sym events_is)
+        (subst (λ a. WovenSo (map f vs) (replicate (length (map f vs)) 0) [] [] a) (sym acts_are) (so_start (map f vs))))),
   )
 
-  pub so_next : (vs : List V) (come : List ℕ) (names new : List MessageName) (events more : List Event) (event : Event) (n place x : ℕ) (v : V)
-      → (length come ≡ length vs) × WovenSo (map f vs) come names events → IsNextOf (map f vs) come (Some n) → IsTurnOf n (f v) place names new event
+  pub so_next : (vs : List V) (come : List ℕ) (names new : List MessageName) (events more : List Event) (event : Event) (acts noted : List Act)
+      (n place x : ℕ) (v : V)
+      → (length come ≡ length vs) × WovenSo (map f vs) come names events acts → IsNextOf (map f vs) come (Some n)
+      → IsTurnOf n (f v) place names new event
+      → NotesTurn (f v) place acts noted
       → v ≡ slice_index_or vs n v → place ≡ come_of come n → x ≡ place + 1 → more ≡ events ++ event ∷ []
-      → (length (slice_set come n x) ≡ length vs) × WovenSo (map f vs) (slice_set come n x) new more
-  so_next vs come names new events more event n place x v so next turn v_is place_is x_is more_is =
+      → (length (slice_set come n x) ≡ length vs) × WovenSo (map f vs) (slice_set come n x) new more noted
+  so_next vs come names new events more event acts noted n place x v so next turn notes v_is place_is x_is more_is =
       let log_is : f v ≡ log_of (map f vs) n = ap f v_is ∙ sym (log_at vs n v (next_node vs come n next)) in
       let turned : IsTurnOf n (log_of (map f vs) n) (come_of come n) names new event =
       subst (λ p. IsTurnOf n (log_of (map f vs) n) p names new event) place_is (subst (λ l. IsTurnOf n l place names new event) log_is turn) in
-      let done = so_more (map f vs) come names new events event n (so.0 ∙ sym (length-map vs f)) next turned so.1 in (
+      let done = so_more (map f vs) come names new events event acts noted n (so.0 ∙ sym (length-map vs f)) next turned
+      (subst (λ p. NotesTurn (log_of (map f vs) n) p acts noted) place_is (subst (λ l. NotesTurn l place acts noted) log_is notes)) so.1 in (
         length-set come n x ∙ so.0,
-        subst (λ k. WovenSo (map f vs) (slice_set come n k) new more) (sym (x_is ∙ ap (λ p. p + 1) place_is))
-            (subst (WovenSo (map f vs) (slice_set come n (come_of come n + 1)) new) (sym more_is) done),
+        subst (λ k. WovenSo (map f vs) (slice_set come n k) new more noted) (sym (x_is ∙ ap (λ p. p + 1) place_is))
+            (subst (λ e. WovenSo (map f vs) (slice_set come n (come_of come n + 1)) new e noted) (sym more_is) done),
       )
 
-  pub so_unsent : (vs : List V) (come : List ℕ) (names : List MessageName) (events : List Event) (n place : ℕ) (v : V)
-      → (length come ≡ length vs) × WovenSo (map f vs) come names events → IsNextOf (map f vs) come (Some n) → v ≡ slice_index_or vs n v
+  pub so_unsent : (vs : List V) (come : List ℕ) (names : List MessageName) (events : List Event) (acts : List Act) (n place : ℕ) (v : V)
+      → (length come ≡ length vs) × WovenSo (map f vs) come names events acts → IsNextOf (map f vs) come (Some n) → v ≡ slice_index_or vs n v
       → place ≡ come_of come n → IsUnsent (f v) place names
       → (program : Program) (nodes : ℕ) (options : OptionsRecord) (wires : List MailboxRecord) → AreLogs program nodes options (map f vs)
       → AreMatched (map f vs) wires → length wires ≡ length vs → ⊥
-  so_unsent vs come names events n place v so next v_is place_is unsent program nodes options wires are matched count =
+  so_unsent vs come names events acts n place v so next v_is place_is unsent program nodes options wires are matched count =
       let log_is : f v ≡ log_of (map f vs) n = ap f v_is ∙ sym (log_at vs n v (next_node vs come n next)) in
-      so_sent (map f vs) come names events n (so.0 ∙ sym (length-map vs f)) next
+      so_sent (map f vs) come names events acts n (so.0 ∙ sym (length-map vs f)) next
       (subst (λ p. IsUnsent (log_of (map f vs) n) p names) place_is (subst (λ l. IsUnsent l place names) log_is unsent)) so.1
       program nodes options wires are matched (count ∙ sym (length-map vs f))
 

@@ -4,7 +4,7 @@ use Rattle.std.specs.Prelude.{Option, Some, None, option_map, nat_le, cond, slic
 use Rattle.std.proofs.lemmas.Bool.{cases_eq, leb-true, leb-false}
 use Rattle.lrc_protocol.specs.Run.{EntryRecord}
 use Rattle.lrc_weave.specs.declared.order.Head.{Head}
-use Rattle.lrc_weave.specs.Woven.{IsNext, IsUpTo}
+use Rattle.lrc_weave.specs.Woven.{IsUpTo}
 use Rattle.lrc_protocol.specs.Follows.{come_of, next_entry}
 use Rattle.lrc_weave.specs.Next.{earlier_of, stamp_of, IsFirst, IsNextOf}
 use Rattle.lrc_weave.proofs.Places.{within_outer}

@@ -1,14 +1,16 @@
 -- Woven events play: the run has just the turns of the logs that have come.
 use Rattle.std.proofs.Common.{◌≡◌, ℕ, zero, suc, ◌+◌, ◌<◌, List, [], ◌∷◌, ◌++◌, Bool, true, false, length, map}
 use Rattle.std.proofs.Common.{replicate, take, drop, refl, sym, ap, subst, ◌∙◌, inl, inr, arith}
-use Rattle.std.specs.Prelude.{Some, cond, remove, nat_le, slice_get, slice_set}
+use Rattle.std.specs.Prelude.{Some, None, cond, remove, nat_le, slice_get, slice_set}
 use Rattle.std.specs.List.{range_with_len}
+use Rattle.std.specs.Option.{option_to_list}
 use Rattle.std.proofs.lemmas.Bool.{cases_eq}
 use Rattle.std.proofs.lemmas.List.{length-set, length-map, length-replicate, get_or-replicate, get_or-set_same, get_or-set_other}
 use Rattle.std.proofs.lemmas.Option.{slice_get-get_or}
 use Rattle.std.proofs.lemmas.List.FromFn.{length-range_with_len}
 use Rattle.std.proofs.lemmas.Grind.{fold-append}
 use Rattle.lrc_lang.specs.declared.program.Program.{Program}
+use Rattle.lrc_trace.specs.declared.act.Act.{Act}
 use Rattle.lrc_protocol.specs.declared.event.Event.{Event}
 use Rattle.lrc_protocol.specs.Node.{Node, OptionsRecord, fresh_node}
 use Rattle.lrc_protocol.specs.Turn.{TurnRecord, Outcome, done, not_ready, unexpected, worn}
@@ -17,6 +19,7 @@ use Rattle.lrc_protocol.specs.Run.{MOST_STAMP, World, Flying, fresh_world, with_
 use Rattle.lrc_protocol.specs.Run.{delivers, event_on, step_of, run_of}
 use Rattle.lrc_protocol.proofs.Worlds.{get_set_same, get_set_other}
 use Rattle.lrc_weave.specs.Logs.{GoesOnBy, MayCome, AreLogs}
+use Rattle.lrc_weave.specs.Whole.{MakesRun}
 use Rattle.lrc_weave.specs.Woven.{IsTakenAt, MakesNextTurn, runs, takes_last, takes_again, Woven, nothing_yet, then_one, AreWoven}
 use Rattle.lrc_protocol.specs.Follows.{log_of, come_of, next_entry}
 use Rattle.lrc_weave.proofs.Places.{taken_more, dropped_less, taken_all, within_outer, mapped_is}
@@ -61,6 +64,11 @@ no_stamp : (l : Logged) (input : Input) (came : ℕ) (entry : EntryRecord) (afte
     → logs' l input came ≡ logged entry after → logs' l run 0 ≡ logged entry after
 no_stamp l run came entry after e may turned = ap (logs' l run) (sym may) ∙ turned
 no_stamp l (taken envelope) came entry after e may turned = cc
+
+-- the acts of the turns that are woven, in order
+abbrev pub acts_in : {logs : List (List EntryRecord)} {come : List ℕ} {flight : List Flying} {events : List Event} → Woven logs come flight events → List Act
+acts_in nothing_yet = []
+acts_in (then_one {entry = entry} woven next makes) = acts_in woven ++ option_to_list entry.turn.act
 
 -- ---- the whole world
 
@@ -143,6 +151,7 @@ module _ (logs : List (List EntryRecord)) where
       → next_entry logs come n ≡ Some entry
       → MakesNextTurn n (take (come_of come n) (log_of logs n)) (drop (come_of come n + 1) (log_of logs n)) entry flight event left
       → (next : World) × (event_on world event ≡ Some next) × IsAt logs (slice_set come n (come_of come n + 1)) (left ++ sent_by entry) next
+      × (next.acts ≡ world.acts ++ option_to_list entry.turn.act)
   by_event world come flight left event n entry at next makes =
       let k = come_of come n in
       let within : n < length logs = within_outer logs n k entry next in
@@ -152,6 +161,7 @@ module _ (logs : List (List EntryRecord)) where
         with_turn world left n entry on.1,
         event_is world flight left n on.0 entry old.0 on.1 _ _ event at.flown old.1 old.2 on.2 turned makes,
         more world come flight left n entry old.0 on.1 at within old.1 next old.2 (is_logged old.0 entry.input on.0 entry on.1 turned).log on.4,
+        refl,
       )
 
   module _ (program : Program) (nodes : ℕ) (options : OptionsRecord) (are : AreLogs program nodes options logs) where
@@ -182,16 +192,25 @@ module _ (logs : List (List EntryRecord)) where
     }
 
     -- the run of woven events has the turns that have come, and in flight is what the weave has in flight
-    pub all_played : (come : List ℕ) (flight : List Flying) (events : List Event) → Woven logs come flight events
-        → (world : World) × (run_of program nodes options events ≡ Some world) × IsAt logs come flight world
-    all_played _ _ _ nothing_yet = (fresh_world program nodes options, refl, at_start)
+    pub all_played : (come : List ℕ) (flight : List Flying) (events : List Event) (woven : Woven logs come flight events)
+        → (world : World) × (run_of program nodes options events ≡ Some world) × IsAt logs come flight world × (world.acts ≡ acts_in woven)
+    all_played _ _ _ nothing_yet = (fresh_world program nodes options, refl, at_start, refl)
     all_played _ _ _ (then_one {come = come} {flight = flight} {left = left} {events = events} {event = event} {n = n} {entry = entry} woven next makes) =
         let so_far = all_played come flight events woven in
         let more = by_event so_far.0 come flight left event n entry so_far.2 next.next makes in (
           more.0,
           fold-append step_of (Some (fresh_world program nodes options)) events (event ∷ []) ∙ ap (λ o. step_of o event) so_far.1 ∙ more.1,
           more.2,
+          more.3 ∙ ap (λ acts. acts ++ option_to_list entry.turn.act) so_far.3,
         )
+
+    -- where all turns have come the nodes have these logs
+    all_come : (come : List ℕ) (flight : List Flying) (world : World) → IsAt logs come flight world → ((n : ℕ) → next_entry logs come n ≡ None)
+        → map (λ (l : Logged). l.log) world.nodes ≡ logs
+    all_come come flight world at all =
+        mapped_is (λ (l : Logged). l.log) world.nodes logs [] at.count (λ n lt.
+        let x = at.each n lt in
+        (x.0, x.1, x.2 ∙ taken_all (log_of logs n) (come_of come n) (all n)))
 
     -- events that make all turns make a run with these logs
     pub whole_run : (events : List Event) (flight : List Flying) → AreWoven logs events flight
@@ -200,8 +219,19 @@ module _ (logs : List (List EntryRecord)) where
         let p = all_played are_woven.come flight events are_woven.woven in (
           p.0,
           p.1,
-          mapped_is (λ (l : Logged). l.log) p.0.nodes logs [] p.2.count (λ n lt.
-              let x = p.2.each n lt in
-              (x.0, x.1, x.2 ∙ taken_all (log_of logs n) (come_of are_woven.come n) (are_woven.all n))),
+          all_come are_woven.come flight p.0 p.2 are_woven.all,
           p.2.flown,
         )
+
+    -- and the acts of that run are those of the turns
+    pub makes_run : (events : List Event) (flight : List Flying) (are_woven : AreWoven logs events flight)
+        → MakesRun program nodes options logs events (acts_in are_woven.woven) (length flight)
+    makes_run events flight are_woven =
+        let p = all_played are_woven.come flight events are_woven.woven in
+        record {
+          world = p.0;
+          runs = p.1;
+          logs_are = all_come are_woven.come flight p.0 p.2 are_woven.all;
+          acts_are = p.3;
+          flight = ap length p.2.flown;
+        }

@@ -3,12 +3,14 @@ use Rattle.std.proofs.Common.{◌≡◌, ℕ, zero, suc, ◌+◌, ◌<◌, ◌�
 use Rattle.std.proofs.Common.{map, filter, replicate, take, drop, refl, sym, ap, subst, ◌∙◌, arith}
 use Rattle.std.specs.Prelude.{Some, None, ◌==◌, ◌&&◌, not, nat_lt, remove, position, slice_get, slice_set, slice_index_or}
 use Rattle.std.specs.List.{enumerate_from, position_or_len}
+use Rattle.std.specs.Option.{option_to_list}
 use Rattle.std.proofs.lemmas.Bool.{and_parts, eqb-true, eq-eqb, ltb-true, lt-ltb}
 use Rattle.std.proofs.lemmas.List.{map-append, length-map}
 use Rattle.std.proofs.lemmas.List.Quantifiers.{position-Some}
 use Rattle.std.proofs.lemmas.Simd.{map-map}
 use Rattle.std.proofs.lemmas.Option.{slice_get-get_or, slice_get_within, same_Some, none-some}
 use Rattle.lrc_lang.specs.declared.program.Program.{Program}
+use Rattle.lrc_trace.specs.declared.act.Act.{Act}
 use Rattle.lrc_envelope.specs.Envelope.{EnvelopeRecord}
 use Rattle.lrc_post.specs.Mailbox.{MailboxRecord}
 use Rattle.lrc_protocol.specs.declared.event.Event.{Event}
@@ -25,10 +27,11 @@ use Rattle.lrc_weave.specs.Woven.{IsNext, is_taken_among, IsTakenAt, MakesNextTu
 use Rattle.lrc_protocol.specs.Follows.{log_of, come_of}
 use Rattle.lrc_weave.specs.Next.{IsNextOf}
 use Rattle.lrc_weave.specs.Again.{is_again}
-use Rattle.lrc_weave.specs.Events.{message_name, has_name, event_taking, names_left, IsTakenFrom, IsMadeByEvent, IsTurnOf, LacksMessage, IsUnsent}
+use Rattle.lrc_weave.specs.Events.{message_name, has_name, event_taking, names_left, IsTakenFrom, IsMadeByEvent, IsTurnOf, LacksMessage, IsUnsent, NotesTurn}
 use Rattle.lrc_weave.proofs.Places.{dropped_less, within_outer}
 use Rattle.lrc_weave.proofs.Members.{in_map, of_map}
-use Rattle.lrc_weave.proofs.Played.{all_played}
+use Rattle.lrc_weave.specs.Whole.{MakesRun}
+use Rattle.lrc_weave.proofs.Played.{acts_in, all_played, makes_run}
 use Rattle.lrc_weave.proofs.Holding.{Holds, holds_start, holds_more, can_take}
 
 -- ---- one message in flight for each number
@@ -143,21 +146,37 @@ passes_none p xs k x none at passes =
 -- ---- one turn
 
 -- what the code keeps stands for a part of the weave
-abbrev pub WovenSo : List (List EntryRecord) → List ℕ → List MessageName → List Event → Type 0
-WovenSo logs come names events = (program : Program) (nodes : ℕ) (options : OptionsRecord) (wires : List MailboxRecord) → AreLogs program nodes options logs
+abbrev pub WovenSo : List (List EntryRecord) → List ℕ → List MessageName → List Event → List Act → Type 0
+WovenSo logs come names events acts = (program : Program) (nodes : ℕ) (options : OptionsRecord) (wires : List MailboxRecord) → AreLogs program nodes options logs
     → AreMatched logs wires → length wires ≡ length logs
-    → (flight : List Flying) × Woven logs come flight events × Holds logs come flight × (map name_at flight ≡ names)
+    → (flight : List Flying) × (woven : Woven logs come flight events) × Holds logs come flight × (map name_at flight ≡ names) × (acts_in woven ≡ acts)
 
-pub so_start : (logs : List (List EntryRecord)) → WovenSo logs (replicate (length logs) 0) [] []
-so_start logs program nodes options wires are matched count = ([], nothing_yet, holds_start logs, refl)
+pub so_start : (logs : List (List EntryRecord)) → WovenSo logs (replicate (length logs) 0) [] [] []
+so_start logs program nodes options wires are matched count = ([], nothing_yet, holds_start logs, refl, refl)
 
-pub so_all : (logs : List (List EntryRecord)) (come : List ℕ) (names : List MessageName) (events : List Event)
-    → WovenSo logs come names events → IsNextOf logs come None
+pub so_all : (logs : List (List EntryRecord)) (come : List ℕ) (names : List MessageName) (events : List Event) (acts : List Act)
+    → WovenSo logs come names events acts → IsNextOf logs come None
     → (program : Program) (nodes : ℕ) (options : OptionsRecord) (wires : List MailboxRecord) → AreLogs program nodes options logs
     → AreMatched logs wires → length wires ≡ length logs → (flight : List Flying) × AreWoven logs events flight × (length flight ≡ length names)
-so_all logs come names events so none program nodes options wires are matched count =
+so_all logs come names events acts so none program nodes options wires are matched count =
     let s = so program nodes options wires are matched count in
     (s.0, record { come = come; woven = s.1; all = none }, sym (length-map s.0 name_at) ∙ ap length s.3)
+
+-- the run of these events
+pub so_run : (logs : List (List EntryRecord)) (come : List ℕ) (names : List MessageName) (events : List Event) (acts : List Act)
+    → WovenSo logs come names events acts → IsNextOf logs come None
+    → (program : Program) (nodes : ℕ) (options : OptionsRecord) (wires : List MailboxRecord) → AreLogs program nodes options logs
+    → AreMatched logs wires → length wires ≡ length logs → MakesRun program nodes options logs events acts (length names)
+so_run logs come names events acts so none program nodes options wires are matched count =
+    let s = so program nodes options wires are matched count in
+    let m = makes_run logs program nodes options are events s.0 (record { come = come; woven = s.1; all = none }) in
+    record {
+      world = m.world;
+      runs = m.runs;
+      logs_are = m.logs_are;
+      acts_are = m.acts_are ∙ s.4;
+      flight = m.flight ∙ sym (length-map s.0 name_at) ∙ ap length s.3;
+    }
 
 module _ (logs : List (List EntryRecord)) (come : List ℕ) (events : List Event) (counted : length come ≡ length logs)
     (node : ℕ) (entry : EntryRecord) (next : IsNext logs come node entry)
@@ -240,8 +259,9 @@ module _ (logs : List (List EntryRecord)) (come : List ℕ) (events : List Event
   made_by names left event (taken envelope) same is m = by_take names left event envelope same is m
 
   one_step : (names new : List MessageName) (event : Event) → map name_at flight ≡ names → IsTurnOf node (log_of logs node) (come_of come node) names new event
-      → (rest : List Flying) × Woven logs (slice_set come node (come_of come node + 1)) rest (events ++ event ∷ [])
+      → (rest : List Flying) × (more : Woven logs (slice_set come node (come_of come node + 1)) rest (events ++ event ∷ []))
       × Holds logs (slice_set come node (come_of come node + 1)) rest × (map name_at rest ≡ new)
+      × (acts_in more ≡ acts_in woven ++ option_to_list entry.turn.act)
   one_step names new event same t =
       let entry_is : t.0 ≡ entry = same_Some t.0 entry (sym t.2 ∙ next.next) in
       let made = made_by names t.1 event entry.input same refl
@@ -254,6 +274,7 @@ module _ (logs : List (List EntryRecord)) (come : List ℕ) (events : List Event
             ∙ ap (λ ks. t.1 ++ ks) (map-map name_at (λ envelope. record { envelope = envelope; stamp = entry.stamp; delivered = false }) entry.turn.out)
             ∙ ap (λ (e : EntryRecord). t.1 ++ map message_name e.turn.out) (sym entry_is)
             ∙ sym t.4,
+        refl,
       )
 
   -- what it takes is in flight
@@ -266,20 +287,28 @@ module _ (logs : List (List EntryRecord)) (come : List ℕ) (events : List Event
       (ap (λ e. has_name envelope (message_name e)) can.3 ∙ named_itself envelope)
 
 -- the next turn is made
-pub so_more : (logs : List (List EntryRecord)) (come : List ℕ) (names new : List MessageName) (events : List Event) (event : Event) (node : ℕ)
-    → length come ≡ length logs → IsNextOf logs come (Some node) → IsTurnOf node (log_of logs node) (come_of come node) names new event
-    → WovenSo logs come names events → WovenSo logs (slice_set come node (come_of come node + 1)) new (events ++ event ∷ [])
-so_more logs come names new events event node counted next t so program nodes options wires are matched count =
+pub so_more : (logs : List (List EntryRecord)) (come : List ℕ) (names new : List MessageName) (events : List Event) (event : Event) (acts noted : List Act)
+    (node : ℕ) → length come ≡ length logs → IsNextOf logs come (Some node) → IsTurnOf node (log_of logs node) (come_of come node) names new event
+    → NotesTurn (log_of logs node) (come_of come node) acts noted
+    → WovenSo logs come names events acts → WovenSo logs (slice_set come node (come_of come node + 1)) new (events ++ event ∷ []) noted
+so_more logs come names new events event acts noted node counted next t notes so program nodes options wires are matched count =
     let s = so program nodes options wires are matched count in
-    one_step logs come events counted node next.0 next.1 program nodes options wires are matched count s.0 s.1 s.2 names new event s.3 t
+    let step = one_step logs come events counted node next.0 next.1 program nodes options wires are matched count s.0 s.1 s.2 names new event s.3 t in (
+      step.0,
+      step.1,
+      step.2,
+      step.3,
+      step.4 ∙ ap (λ before. before ++ option_to_list next.0.turn.act) s.4
+          ∙ ap (λ (e : EntryRecord). acts ++ option_to_list e.turn.act) (same_Some next.0 notes.0 (sym next.1.next ∙ notes.1)) ∙ sym notes.2,
+    )
 
 -- what it takes was sent
-pub so_sent : (logs : List (List EntryRecord)) (come : List ℕ) (names : List MessageName) (events : List Event) (node : ℕ)
+pub so_sent : (logs : List (List EntryRecord)) (come : List ℕ) (names : List MessageName) (events : List Event) (acts : List Act) (node : ℕ)
     → length come ≡ length logs → IsNextOf logs come (Some node) → IsUnsent (log_of logs node) (come_of come node) names
-    → WovenSo logs come names events
+    → WovenSo logs come names events acts
     → (program : Program) (nodes : ℕ) (options : OptionsRecord) (wires : List MailboxRecord) → AreLogs program nodes options logs
     → AreMatched logs wires → length wires ≡ length logs → ⊥
-so_sent logs come names events node counted next unsent so program nodes options wires are matched count =
+so_sent logs come names events acts node counted next unsent so program nodes options wires are matched count =
     let s = so program nodes options wires are matched count in
     let same : unsent.0 ≡ next.0 = same_Some unsent.0 next.0 (sym unsent.1 ∙ next.1.next) in
     lacks_none logs come events counted node next.0 next.1 program nodes options wires are matched count s.0 s.1 s.2 names unsent.0.input s.3

@@ -1,5 +1,7 @@
 -- What makes the event of one turn.
 use Rattle.std.specs.Prelude.{◌≡◌, ℕ, ◌+◌, ◌==◌, ◌&&◌, Bool, true, false, Some, None, List, ◌++◌, map, drop, remove, position, slice_get}
+use Rattle.std.specs.Option.{option_to_list}
+use Rattle.lrc_trace.specs.declared.act.Act.{Act}
 use Rattle.lrc_envelope.specs.Envelope.{EnvelopeRecord}
 use Rattle.lrc_protocol.specs.declared.event.Event.{Event}
 use Rattle.lrc_protocol.specs.declared.event.Event.TheVariants.{Run, Deliver, Repeat}
@@ -48,3 +50,7 @@ IsUnsent log place flight = (entry : EntryRecord) × (slice_get log place ≡ So
 abbrev pub IsTurnOf : ℕ → List EntryRecord → ℕ → List MessageName → List MessageName → Event → Type 0
 IsTurnOf node log place old new event = (entry : EntryRecord) × (left : List MessageName) × (slice_get log place ≡ Some entry)
     × IsMadeByEvent node (is_again entry.input (drop (place + 1) log)) old entry.input left event × (new ≡ left ++ map message_name entry.turn.out)
+
+-- the act of the turn at a place of a log is added, if that made one
+abbrev pub NotesTurn : List EntryRecord → ℕ → List Act → List Act → Type 0
+NotesTurn log place old new = (entry : EntryRecord) × (slice_get log place ≡ Some entry) × (new ≡ old ++ option_to_list entry.turn.act)

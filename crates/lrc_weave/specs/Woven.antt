@@ -1,5 +1,5 @@
 -- Turns of all nodes in one order: by their stamps, and where those are the same by their nodes.
-use Rattle.std.specs.Prelude.{◌≡◌, ℕ, ◌+◌, ◌<◌, ◌≤◌, ◌⊎◌, ◌==◌, ◌&&◌, Bool, true, false, Option, Some, None, List, [], ◌∷◌, ◌++◌}
+use Rattle.std.specs.Prelude.{◌≡◌, ℕ, ◌+◌, ◌<◌, ◌≤◌, ◌⊎◌, ◌==◌, ◌&&◌, Bool, true, false, Some, None, List, [], ◌∷◌, ◌++◌}
 use Rattle.std.specs.Prelude.{length, replicate, take, drop, remove, slice_get, slice_set}
 use Rattle.std.specs.List.{list_any}
 use Rattle.lrc_envelope.specs.Envelope.{EnvelopeRecord}

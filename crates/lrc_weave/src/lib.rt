@@ -14,4 +14,4 @@ mod spelled;
 mod woven;
 
 pub use fault::WeaveFault;
-pub use woven::{events_of, weave};
+pub use woven::{WovenRun, events_of, weave, weave_run};

@@ -1,13 +1,15 @@
 // The weave of logs.
 
-ghost use Rattle.std.specs.Prelude.{◌≡◌, ◌≤◌, ◌<◌, ◌+◌, ℕ, List, Err, IfOk, length, map};
+ghost use Rattle.std.specs.Prelude.{◌≡◌, ◌≤◌, ◌<◌, ◌+◌, ℕ, List, Err, IfOk, OnOk, length, map};
 ghost use Rattle.lrc_lang.specs.declared.program.Program.{Program};
 ghost use Rattle.lrc_post.specs.Mailbox.{MailboxRecord};
 ghost use Rattle.lrc_protocol.specs.Node.{OptionsRecord};
 ghost use Rattle.lrc_protocol.specs.Run.{Flying};
 ghost use Rattle.lrc_weave.specs.declared.fault.WeaveFault.TheVariants.{Mismatch};
+ghost use Rattle.lrc_weave.specs.Events.{NotesTurn};
 ghost use Rattle.lrc_weave.specs.Logs.{AreLogs};
 ghost use Rattle.lrc_weave.specs.Matched.{AreMatched};
+ghost use Rattle.lrc_weave.specs.Whole.{MakesRun};
 ghost use Rattle.lrc_weave.specs.Woven.{AreWoven};
 
 use crate::again::all_again;
@@ -18,7 +20,19 @@ use crate::order::{first_stamps, next_turn, stamp_at};
 use lrc_node::Entry;
 use lrc_post::Mailbox;
 use lrc_protocol::Event;
-use std::alloc::Global;
+use lrc_trace::act::Act;
+use std::alloc::{AllocError, Global};
+
+/// A run that logs make.
+#[derive(Drop)]
+pub struct WovenRun {
+    /// Its events.
+    pub events: Vec<Event>,
+    /// Its acts, in order.
+    pub acts: Vec<Act>,
+    /// How many messages are in flight after it.
+    pub in_flight: usize,
+}
 
 /// The events that make all turns of the logs of a program's nodes, ordered by their stamps, and where those are the same by their
 /// nodes. A message's last take is delivered, and each one before it repeated. `Mismatch` exactly where the logs and the mailboxes,
@@ -36,11 +50,34 @@ pub fn weave(
         → (flight : List Flying) × AreWoven (map (λ log. log.items) logs.now) events.items flight) }
     ensures mismatch { result ≡ Err Mismatch → AreMatched (map (λ log. log.items) logs.now) wires.now → ⊥ }
 {
+    match weave_run(alloc, logs, wires) {
+        Ok(run) => Ok(run.events),
+        Err(fault) => Err(fault),
+    }
+}
+
+/// The run of the events that [`weave`] has for these logs, as the logs tell of it: nothing is played.
+pub fn weave_run(
+    alloc: Global,
+    logs: &[Vec<Entry>],
+    wires: &[Mailbox],
+) -> Result<WovenRun, WeaveFault>
+    requires few { length logs.now ≤ 16 }
+    requires each { length wires.now ≡ length logs.now }
+    ensures matched { IfOk result (λ run. AreMatched (map (λ log. log.items) logs.now) wires.now) }
+    ensures woven { IfOk result (λ run. (program : Program) (nodes : ℕ) (options : OptionsRecord)
+        → AreLogs program nodes options (map (λ log. log.items) logs.now)
+        → (flight : List Flying) × AreWoven (map (λ log. log.items) logs.now) run.events.items flight) }
+    ensures makes { IfOk result (λ run. (program : Program) (nodes : ℕ) (options : OptionsRecord)
+        → AreLogs program nodes options (map (λ log. log.items) logs.now)
+        → MakesRun program nodes options (map (λ log. log.items) logs.now) run.events.items run.acts.items run.in_flight) }
+    ensures mismatch { result ≡ Err Mismatch → AreMatched (map (λ log. log.items) logs.now) wires.now → ⊥ }
+{
     if !are_matched(alloc, logs, wires)? {
         return Err(WeaveFault::Mismatch);
     }
-    match events_of(alloc, logs) {
-        Ok(events) => Ok(events),
+    match run_of_logs(alloc, logs) {
+        Ok(run) => Ok(run),
         // The logs match the mailboxes. Where they are those of a program's nodes, as they should be, each message was sent.
         Err(_fault) => Err(WeaveFault::NoMemory),
     }
@@ -58,21 +95,60 @@ pub fn events_of(alloc: Global, logs: &[Vec<Entry>]) -> Result<Vec<Event>, Weave
         → AreLogs program nodes options (map (λ log. log.items) logs.now) → AreMatched (map (λ log. log.items) logs.now) wires
         → length wires ≡ length logs.now → ⊥ }
 {
+    match run_of_logs(alloc, logs) {
+        Ok(run) => Ok(run.events),
+        Err(fault) => Err(fault),
+    }
+}
+
+// The run of these events.
+fn run_of_logs(alloc: Global, logs: &[Vec<Entry>]) -> Result<WovenRun, WeaveFault>
+    requires few { length logs.now ≤ 16 }
+    ensures woven { IfOk result (λ run. (program : Program) (nodes : ℕ) (options : OptionsRecord) (wires : List MailboxRecord)
+        → AreLogs program nodes options (map (λ log. log.items) logs.now) → AreMatched (map (λ log. log.items) logs.now) wires
+        → length wires ≡ length logs.now
+        → (flight : List Flying) × AreWoven (map (λ log. log.items) logs.now) run.events.items flight) }
+    ensures makes { IfOk result (λ run. (program : Program) (nodes : ℕ) (options : OptionsRecord) (wires : List MailboxRecord)
+        → AreLogs program nodes options (map (λ log. log.items) logs.now) → AreMatched (map (λ log. log.items) logs.now) wires
+        → length wires ≡ length logs.now
+        → MakesRun program nodes options (map (λ log. log.items) logs.now) run.events.items run.acts.items run.in_flight) }
+    ensures mismatch { result ≡ Err Mismatch → (program : Program) (nodes : ℕ) (options : OptionsRecord) (wires : List MailboxRecord)
+        → AreLogs program nodes options (map (λ log. log.items) logs.now) → AreMatched (map (λ log. log.items) logs.now) wires
+        → length wires ≡ length logs.now → ⊥ }
+{
     let again = all_again(alloc, logs)?;
     let mut come = vec![in alloc; 0usize; logs.len()]?;
     let mut stamps = first_stamps(alloc, logs)?;
     let mut flight = Vec::new(alloc);
     let mut events = Vec::new(alloc);
+    let mut acts = Vec::new(alloc);
     while let Some(node) = next_turn(stamps.as_slice()) {
         let log = &logs[node];
         let place = come[node];
         let event = turn(&mut flight, node as u8, log, &again[node], place)?;
         events.push(event)?;
+        note(&mut acts, log, place)?;
         let next = after(log, place);
         come[node] = next;
         stamps[node] = stamp_at(log, next);
     }
-    Ok(events)
+    Ok(WovenRun {
+        events,
+        acts,
+        in_flight: flight.len(),
+    })
+}
+
+// Adds the act of the turn at a place of a log, if it made one.
+fn note(acts: &mut Vec<Act>, log: &Vec<Entry>, place: usize) -> Result<(), AllocError>
+    requires there { place < length log.now.items }
+    ensures { OnOk result (NotesTurn log.now.items place acts.old.items acts.new.items) }
+{
+    match log[place].turn.act {
+        Some(act) => acts.push(act)?,
+        None => {}
+    }
+    Ok(())
 }
 
 // The place after one in a log.

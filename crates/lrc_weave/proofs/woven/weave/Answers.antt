@@ -1,6 +1,8 @@
-use Rattle.std.proofs.Common.{rules}
+use Rattle.std.proofs.Common.{◌≡◌, ◌∙◌, Err, ap}
+use Rattle.lrc_weave.specs.declared.fault.WeaveFault.TheVariants.{Mismatch}
 use Rattle.lrc_weave.proofs.woven.weave.Goals as goal
 
-pub returns-in-Ok-clause-woven : goal.returns-in-Ok-clause-woven
-returns-in-Ok-clause-woven c = λ program nodes options are.
-    c.in-Ok.ensures.woven program nodes options c.args.wires.now are (c.in_ok-are_matched.ensures.0 (search rules)) c.requires.each
+pub returns-in-Err-clause-mismatch : goal.returns-in-Err-clause-mismatch
+returns-in-Err-clause-mismatch c = λ is.
+    let same : c.in-Err.fault ≡ Mismatch = cc in
+    c.weave_run.ensures.mismatch (c.in-Err.is ∙ ap Err same)
