@@ -42,6 +42,29 @@ module _ (acts : List Act) (none : AreNamedRaces acts []) where
             (j, i, record { ascending = upper; conflict = ConflictAt-symmetric c; races = inr races; interval_a = refl; interval_b = refl })
       ]
 
+-- traces that are those of the nodes of a run
+module _ (program : Program) (nodes : ℕ) (options : OptionsRecord) (events : List Event) (run : Run)
+    (runs : run_of program nodes options events ≡ Some run) (traces : List TraceRecord) (same : traces ≡ traces_of program nodes options run) where
+  pub traces_there : AreTracesOf nodes traces
+  traces_there = subst (AreTracesOf nodes) (sym same) (are_traces program nodes options events run runs)
+
+  -- their races are those that the run's acts name
+  pub races_there : (acts : List Act) (races : List Race) → acts ≡ run.acts → AreRacesOf traces races → AreNamedRaces acts races
+  races_there acts races is r =
+      subst (λ (acts : List Act). AreNamedRaces acts races) (sym is)
+      (record {
+        ascending = r.ascending;
+        exact = λ race. (
+          λ h. (races_named program nodes options events run runs race).0 (subst (λ ts. IsRaceOf ts race) same ((r.exact race).0 h)),
+          λ h. (r.exact race).1 (subst (λ ts. IsRaceOf ts race) (sym same) ((races_named program nodes options events run runs race).1 h)),
+        );
+      })
+
+  -- where they have none, the acts have none
+  pub raceless_there : (acts : List Act) → acts ≡ run.acts → AreRacesOf traces [] → IsRaceFree acts
+  raceless_there acts is r = free_where acts (races_there acts [] is r)
+
+-- those that the nodes of a world keep
 module _ (program : Program) (nodes : ℕ) (options : OptionsRecord) (events : List Event) (run : Run)
     (runs : run_of program nodes options events ≡ Some run) (world : World) (keep : Keep) (shows : Shows (starts_of program nodes options keep) world run) where
   abbrev kept : List TraceRecord
@@ -53,20 +76,10 @@ module _ (program : Program) (nodes : ℕ) (options : OptionsRecord) (events : L
       ∙ map-map (λ (t : TracedLog). t.trace) (kept_node (starts_of program nodes options keep)) (enumerate_from 0 run.nodes)
 
   pub kept_traces : (n : ℕ) × AreTracesOf n kept
-  kept_traces = (nodes, subst (AreTracesOf nodes) (sym same) (are_traces program nodes options events run runs))
+  kept_traces = (nodes, traces_there program nodes options events run runs kept same)
 
-  -- they are those that the run's acts name
   pub kept_races : (acts : List Act) (races : List Race) → acts ≡ run.acts → AreRacesOf kept races → AreNamedRaces acts races
-  kept_races acts races is r =
-      subst (λ (acts : List Act). AreNamedRaces acts races) (sym is)
-      (record {
-        ascending = r.ascending;
-        exact = λ race. (
-          λ h. (races_named program nodes options events run runs race).0 (subst (λ ts. IsRaceOf ts race) same ((r.exact race).0 h)),
-          λ h. (r.exact race).1 (subst (λ ts. IsRaceOf ts race) (sym same) ((races_named program nodes options events run runs race).1 h)),
-        );
-      })
+  kept_races = races_there program nodes options events run runs kept same
 
-  -- where they have none, the acts have none
   pub kept_raceless : (acts : List Act) → acts ≡ run.acts → AreRacesOf kept [] → IsRaceFree acts
-  kept_raceless acts is r = free_where acts (kept_races acts [] is r)
+  kept_raceless = raceless_there program nodes options events run runs kept same

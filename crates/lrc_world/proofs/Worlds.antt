@@ -36,8 +36,13 @@ fresh_next program nodes options made next me so_far one =
     made_more (fresh_one program nodes options) me made (made ++ next ∷ []) so_far (ap (λ x. made ++ x ∷ []) one)
 
 -- the acts of a run are of its nodes
+pub acts_in_range : (program : Program) (nodes : ℕ) (options : OptionsRecord) (events : List Event) (run : Run) (acts : List Act)
+    → run_of program nodes options events ≡ Some run → acts ≡ run.acts → nodes ≤ 16 → All (λ (act : Act). act.node < 16) acts
+acts_in_range program nodes options events run acts runs same few =
+    subst (All (λ (act : Act). act.node < 16)) (sym same)
+    (λ k d lt. let own = (run-whole program nodes options events run runs).in_range k d lt in omega (arith, own, few))
+
 pub acts_of_nodes : (program : Program) (nodes : ℕ) (options : OptionsRecord) (events : List Event) (starts : Starts) (run : Run) (world : World)
     → run_of program nodes options events ≡ Some run → Shows starts world run → nodes ≤ 16 → All (λ (act : Act). act.node < 16) world.acts.items
 acts_of_nodes program nodes options events starts run world runs shows few =
-    subst (All (λ (act : Act). act.node < 16)) (sym shows.acts)
-    (λ k d lt. let own = (run-whole program nodes options events run runs).in_range k d lt in omega (arith, own, few))
+    acts_in_range program nodes options events run world.acts.items runs shows.acts few

@@ -3,6 +3,7 @@
 #![tactic(auto)]
 
 pub mod ends;
+pub mod first;
 mod flying;
 mod keep;
 pub mod laws;

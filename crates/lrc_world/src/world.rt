@@ -2,7 +2,7 @@
 
 ghost use Rattle.lrc_race.specs.Races.{AreRacesOf, AreTracesOf};
 ghost use Rattle.std.specs.Prelude.{◌≡◌, ℕ, ◌≤◌, ◌<◌, ◌^◌, ◌++◌, [], ◌∷◌, ◌↔◌, All, IfOk, IfErr, OnOk, IsOk, Ok, true, false};
-ghost use Rattle.std.specs.Prelude.{List, MatchOption, Some, filter, length, map, remove, slice_get, slice_set};
+ghost use Rattle.std.specs.Prelude.{List, Some, filter, length, map, remove, slice_get, slice_set};
 ghost use Rattle.std.specs.List.{list_any, range_with_len};
 ghost use Rattle.std.specs.Option.{option_to_list};
 ghost use Rattle.lrc_judge.specs.declared.TheConstants.{NODES};
@@ -17,8 +17,9 @@ ghost use Rattle.lrc_world.specs.Rounds.{delivery_of, is_delivered, newest_place
 ghost use Rattle.lrc_world.specs.World.{Starts, starts_of, Shows, PlaysTo, AddsTo, NodeLogsLast, ReceivesTo, TurnsTo, turn_made, IsSendFault, trimmed};
 ghost use Rattle.lrc_world.specs.World.{seen_flying, seen_sent, shown_new, is_long};
 ghost use Rattle.lrc_node.specs.Logged.{TracedLog, sound};
-ghost use Rattle.lrc_trace.specs.Conflict.{IsFirstRace, IsRaceFree};
+ghost use Rattle.lrc_trace.specs.Conflict.{IsRaceFree};
 
+use crate::first::first_of;
 use crate::flying::Flying;
 use crate::keep::Keep;
 use crate::report::{Report, SimFault};
@@ -26,9 +27,8 @@ use lrc_envelope::{Envelope, Picker};
 use lrc_exec::code::Code;
 use lrc_node::{End, Entry, Logged, Node, NodeFault, Options};
 use lrc_protocol::Event;
-use lrc_race::{first_race, races};
+use lrc_race::races;
 use lrc_trace::act::Act;
-use lrc_trace::race::Race;
 use lrc_trace::trace::Trace;
 use lrc_wire::{EncodeFault, WireFault, decode, spell_over};
 use std::alloc::{AllocError, Global};
@@ -465,18 +465,6 @@ fn ends_of(alloc: Global, nodes: &[Logged<'_>]) -> Result<Vec<End>, AllocError>
         ends.push(node.end())?;
     }
     Ok(ends)
-}
-
-// The least position of an act that races with an earlier one, of acts with these races.
-fn first_of(alloc: Global, races: &[Race], acts: &[Act]) -> Result<Option<usize>, AllocError>
-    requires acts { All (λ act. act.node < NODES) acts.now }
-    requires raceless { races.now ≡ [] → IsRaceFree acts.now }
-    ensures { IfOk result (λ first. MatchOption first (IsRaceFree acts.now) (IsFirstRace acts.now)) }
-{
-    if races.is_empty() {
-        return Ok(None);
-    }
-    first_race(alloc, acts)
 }
 
 // The turns of each node, and its trace.
