@@ -1,8 +1,10 @@
 mod Steps
 mod Turned
+mod Traced
 mod Threads
 mod Logs
 mod Joined
-mod Told
+mod Pasts
+mod Telling
 mod Behind
 mod Worn

@@ -6,10 +6,13 @@ use Rattle.lrc_wire.specs.Reading.{envelope_of}
 use Rattle.lrc_post.specs.declared.fault.PostFault.{PostFault}
 use Rattle.lrc_post.specs.declared.fault.PostFault.TheVariants as PostFaults
 use Rattle.lrc_post.specs.declared.parcel.Parcel.{Parcel}
+use Rattle.lrc_trace.specs.Trace.{TraceRecord}
 use Rattle.lrc_protocol.specs.Node.{Node}
 use Rattle.lrc_protocol.specs.Turn.{is_ready}
 use Rattle.lrc_protocol.specs.Run.{Input, run, taken, EntryRecord, Logged, logged, refused, logs}
-use Rattle.lrc_node.specs.Logged.{LoggedNode, sound}
+use Rattle.lrc_protocol.specs.Follows.{inputs_of}
+use Rattle.lrc_protocol.specs.Traced.{traced, trace_of}
+use Rattle.lrc_node.specs.Logged.{LoggedNode, TracedLog, LeadsFrom, sound}
 use Rattle.lrc_node.specs.declared.fault.NodeFault.{NodeFault}
 use Rattle.lrc_node.specs.declared.fault.NodeFault.TheVariants as NodeFaults
 use Rattle.lrc_node.specs.declared.fault.NodeFault.TheVariants.{Failed, NotReady, Unexpected}
@@ -84,6 +87,28 @@ GoesTo puts takes s l t new (Ok done) = (j : Logged) × (new ≡ sound j) × Goe
 GoesTo puts takes s l t new (Err Closed) = (j : Logged) × (new ≡ sound j) × Turns l j
 GoesTo puts takes s l t new (Err Worn) = Unit {0}
 GoesTo puts takes s l t new (Err NoMemory) = Unit {0}
+
+-- What came of a node that started like this, where its thread goes on or the post was closed: its log leads to it from there, and
+-- its trace is that of the log's turns.
+abbrev pub LeadsOn : {A : Type 0} → Node → TracedLog → Result A Stop → Type 0
+LeadsOn start new (Ok done) = (j : Logged) × LeadsFrom start j new
+LeadsOn start new (Err Closed) = (j : Logged) × LeadsFrom start j new
+LeadsOn start new (Err Worn) = Unit {0}
+LeadsOn start new (Err NoMemory) = Unit {0}
+
+-- a node that keeps the trace of its turns from its first on still does
+abbrev pub TracesTo : {A : Type 0} → TracedLog → TracedLog → Result A Stop → Type 0
+TracesTo old new result = (start : Node) (l : Logged) → LeadsFrom start l old → LeadsOn start new result
+
+-- whether a node that started like this would go on after these turns
+abbrev pub is_ready_after : Node → List EntryRecord → Bool
+is_ready_after start log = is_ready (traced start (inputs_of log)).node
+
+-- a node's log is that of its turns from its first on, the trace is theirs, and it says whether the node would go on after them
+pub record IsPastOf (start : Node) (log : List EntryRecord) (trace : TraceRecord) (ready : Bool) : Type 0 where
+  pub log_is : IsLogOf start log
+  pub trace_is : trace ≡ trace_of start log
+  pub ready_is : ready ≡ is_ready_after start log
 
 -- a node that has not failed and would not go on by itself
 abbrev pub IsIdle : LoggedNode → Type 0

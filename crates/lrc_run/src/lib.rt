@@ -13,6 +13,7 @@ mod setting;
 mod spin;
 mod stop;
 mod thread;
+mod told;
 mod worker;
 
 pub use fault::RunFault;

@@ -11,22 +11,23 @@ ghost use Rattle.lrc_world.specs.Promises.{IsConsistent};
 ghost use Rattle.lrc_world.specs.Range.{AreSteps};
 ghost use Rattle.lrc_world.specs.Report.{IsWornBy};
 ghost use Rattle.lrc_run.specs.Run.{AreWiresOf, IsLate, IsWovenReport, WearsOutSoon, turns_of_nodes};
+ghost use Rattle.lrc_run.specs.Threads.{is_any_ready_after, traces_of_logs};
 
-use crate::failure::{Remains, count_of, fault_of};
+use crate::failure::{Remains, fault_of};
 use crate::fault::RunFault;
 use crate::gate::Gate;
-use crate::nodes::logs_of;
+use crate::life::{Parts, parts_of};
+use crate::nodes::lives_of;
 use crate::setting::Setting;
+use crate::told::told;
 use lrc_envelope::Picker;
 use lrc_exec::code::Code;
 use lrc_lang::program::Program;
 use lrc_node::{Entry, Options};
-use lrc_post::{Mailbox, Post, Wires};
+use lrc_post::{Post, Wires};
 use lrc_protocol::Event;
-use lrc_weave::weave;
 use lrc_world::range::node_count;
-use lrc_world::report::{Brief, Report, SimFault};
-use lrc_world::simulate::replay_briefly;
+use lrc_world::report::{Report, SimFault};
 use std::alloc::Global;
 use std::sync::Wait;
 use std::thread::Threads;
@@ -95,8 +96,8 @@ pub fn run_gated<G: Gate + Sync, R: Threads + Wait + Sync>(
         nodes: check(nodes, options)?,
         options: *options,
     };
-    let (logs, wires) = live(rt, alloc, &setting, picker, gate)?;
-    let (report, _events) = told(alloc, &setting, logs, wires.mailboxes())?;
+    let (parts, wires) = live(rt, alloc, &setting, picker, gate)?;
+    let (report, _events) = told(alloc, &setting, parts, wires.mailboxes())?;
     Ok((report, wires))
 }
 
@@ -124,22 +125,26 @@ pub fn run_with_events<R: Threads + Wait + Sync>(
         nodes: check(nodes, options)?,
         options: *options,
     };
-    let (logs, wires) = live(rt, alloc, &setting, picker, &OpenGate)?;
-    let (report, events) = told(alloc, &setting, logs, wires.mailboxes())?;
+    let (parts, wires) = live(rt, alloc, &setting, picker, &OpenGate)?;
+    let (report, events) = told(alloc, &setting, parts, wires.mailboxes())?;
     Ok((report, wires, events))
 }
 
-// The turns of all nodes, and what the post between them kept.
+// The turns of all nodes, their traces and whether any of them would go on; and what the post between them kept.
 fn live<G: Gate + Sync, R: Threads + Wait + Sync>(
     rt: &R,
     alloc: Global,
     setting: &Setting<'_>,
     picker: Picker,
     gate: &G,
-) -> Result<(Vec<Vec<Entry>>, Wires), RunFault>
+) -> Result<(Parts, Wires), RunFault>
     requires range { AreNodes setting.now.nodes × AreSteps setting.now.options.steps }
     ensures logs { IfOk result (λ lived.
-        AreLogs setting.now.program.now setting.now.nodes setting.now.options (map (λ log. log.items) lived.0.items)) }
+        AreLogs setting.now.program.now setting.now.nodes setting.now.options (map (λ log. log.items) lived.0.logs.items)) }
+    ensures traces { IfOk result (λ lived. lived.0.traces.items
+        ≡ traces_of_logs setting.now.program.now setting.now.nodes setting.now.options (map (λ log. log.items) lived.0.logs.items)) }
+    ensures ready { IfOk result (λ lived. lived.0.is_any_ready
+        ≡ is_any_ready_after setting.now.program.now setting.now.nodes setting.now.options (map (λ log. log.items) lived.0.logs.items)) }
     ensures wires { IfOk result (λ lived. length lived.1 ≡ setting.now.nodes) }
     ensures picker { IfOk result (λ lived. AreOf picker lived.1) }
     ensures worn { result ≡ Err RunFault.Worn
@@ -149,78 +154,20 @@ fn live<G: Gate + Sync, R: Threads + Wait + Sync>(
 {
     let post = Post::new(alloc, setting.nodes, picker)?;
     let code = Code::new(alloc, setting.program)?;
-    let lives = logs_of(rt, alloc, setting, &code, &post, gate)?;
+    let lives = lives_of(rt, alloc, setting, &code, &post, gate)?;
     let wires = post.into_wires();
+    let parts = parts_of(alloc, lives.pasts)?;
     match lives.failure {
-        None => Ok((lives.logs, wires)),
+        None => Ok((parts, wires)),
         Some(failure) => Err(fault_of(
             alloc,
             setting,
             Remains {
-                logs: lives.logs,
+                logs: parts.logs,
                 wires: wires.mailboxes(),
             },
             failure,
         )),
-    }
-}
-
-// The report of the nodes' turns and the events that make them, where what the post kept agrees with them, and nothing was left to do.
-// The turns are those of the threads: the events make the same once more, which are not kept.
-fn told(
-    alloc: Global,
-    setting: &Setting<'_>,
-    logs: Vec<Vec<Entry>>,
-    wires: &[Mailbox],
-) -> Result<(Report, Vec<Event>), RunFault>
-    requires few { setting.now.nodes ≤ 16 }
-    requires logs { AreLogs setting.now.program.now setting.now.nodes setting.now.options (map (λ log. log.items) logs.items) }
-    requires wires { length wires.now ≡ setting.now.nodes }
-    ensures woven { IfOk result (λ told.
-        IsWovenReport setting.now.program.now setting.now.nodes setting.now.options told.1.items told.0) }
-    ensures matched { IfOk result (λ told. AreMatched (turns_of_nodes told.0) wires.now) }
-    ensures races { IfOk result (λ told. AreNamedRaces told.0.acts.items told.0.races.items) }
-    ensures theorem { IfOk result (λ told. IsConsistent setting.now.program.now setting.now.nodes told.0.acts.items) }
-
-    ensures worn { result ≡ Err RunFault.Worn
-        → (events : List AnyEvent) × IsWornBy setting.now.program.now setting.now.nodes setting.now.options events }
-    ensures soon { result ≡ Err RunFault.Worn → WearsOutSoon setting.now.program.now setting.now.nodes setting.now.options }
-    ensures late { IfErr result IsLate }
-{
-    let events = weave(alloc, logs.as_slice(), wires)?;
-    let turns = events.as_slice();
-    // For the proof: there are fewer than 2^64.
-    let _count = count_of(turns);
-    let nodes = u32::from(setting.nodes);
-    match replay_briefly(alloc, setting.program, nodes, &setting.options, turns) {
-        Ok((brief, true)) => Ok((with_logs(brief, logs), events)),
-        Err(SimFault::NoMemory) => Err(RunFault::NoMemory),
-        // The events are those of a run, and each message was sent, so no other fault comes.
-        Err(SimFault::Worn) => Err(RunFault::Worn),
-        Ok(_) | Err(_) => Err(RunFault::Mismatch),
-    }
-}
-
-// What is said of a run in brief, with the turns of its nodes.
-fn with_logs(brief: Brief, logs: Vec<Vec<Entry>>) -> Report
-    ensures acts { result.acts ≡ brief.acts }
-    ensures ends { result.ends ≡ brief.ends }
-    ensures races { result.races ≡ brief.races }
-    ensures logs { result.logs ≡ logs }
-    ensures first { result.first_race ≡ brief.first_race }
-{
-    let Brief {
-        acts,
-        ends,
-        races,
-        first_race,
-    } = brief;
-    Report {
-        acts,
-        ends,
-        races,
-        logs,
-        first_race,
     }
 }
 

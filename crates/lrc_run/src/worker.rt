@@ -6,7 +6,7 @@ ghost use Rattle.lrc_protocol.specs.Run.{EntryRecord};
 ghost use Rattle.lrc_node.specs.Logged.{sound};
 ghost use Rattle.lrc_wire.specs.Reading.{envelope_of};
 ghost use Rattle.lrc_run.specs.declared.stop.Stop.TheVariants.{NoMemory};
-ghost use Rattle.lrc_run.specs.Worker.{GoesTo, IsIdle, IsRead, LogsLast, SendsTo, TakesIn, TakesNext, made_of, shown, shown_sent, stop_of};
+ghost use Rattle.lrc_run.specs.Worker.{GoesTo, IsIdle, IsRead, LogsLast, SendsTo, TakesIn, TakesNext, TracesTo, made_of, shown, shown_sent, stop_of};
 
 use crate::gate::Gate;
 use crate::mail::Mail;
@@ -38,6 +38,7 @@ pub fn work<M: Mail, G: Gate, R: Wait>(
 ) -> Result<(), Stop>
     ensures goes { (l : log.Logged) → node.old.logged ≡ sound l → GoesTo M.puts M.takes mail.old l mail.new node.new.logged result }
     ensures over { (l : log.Logged) → node.old.logged ≡ sound l → OnOk result (IsIdle node.new.logged) }
+    ensures traced { TracesTo node.old node.new result }
 {
     let mut spin = Spin::new();
     for _round in rt.forever() {
@@ -58,7 +59,8 @@ fn go_on<M: Mail, G: Gate>(
     me: u8,
     spin: &mut Spin,
 ) -> Result<(), Stop>
-    ensures { (l : log.Logged) → node.old.logged ≡ sound l → GoesTo M.puts M.takes mail.old l mail.new node.new.logged result }
+    ensures goes { (l : log.Logged) → node.old.logged ≡ sound l → GoesTo M.puts M.takes mail.old l mail.new node.new.logged result }
+    ensures traced { TracesTo node.old node.new result }
 {
     if spin.rest() {
         thread::yield_now();
@@ -76,7 +78,8 @@ fn run_on<M: Mail, G: Gate>(
     me: u8,
     spin: &mut Spin,
 ) -> Result<(), Stop>
-    ensures { (l : log.Logged) → node.old.logged ≡ sound l → GoesTo M.puts M.takes mail.old l mail.new node.new.logged result }
+    ensures goes { (l : log.Logged) → node.old.logged ≡ sound l → GoesTo M.puts M.takes mail.old l mail.new node.new.logged result }
+    ensures traced { TracesTo node.old node.new result }
 {
     for _turn in 0..TURNS {
         if !node.ready() {
@@ -104,7 +107,8 @@ fn run_once<M: Mail, G: Gate>(
     node: &mut Logged<'_>,
     me: u8,
 ) -> Result<(), Stop>
-    ensures { (l : log.Logged) → node.old.logged ≡ sound l → GoesTo M.puts M.takes mail.old l mail.new node.new.logged result }
+    ensures goes { (l : log.Logged) → node.old.logged ≡ sound l → GoesTo M.puts M.takes mail.old l mail.new node.new.logged result }
+    ensures traced { TracesTo node.old node.new result }
 {
     gate.pass(usize::from(me), turns_of(node));
     if is_made(node.run())? {
@@ -126,6 +130,7 @@ fn receive<M: Mail, G: Gate>(
 ) -> Result<bool, Stop>
     ensures goes { (l : log.Logged) → node.old.logged ≡ sound l → GoesTo M.puts M.takes mail.old l mail.new node.new.logged result }
     ensures over { (l : log.Logged) → node.old.logged ≡ sound l → IfOk result (λ goes. goes ≡ false → IsIdle node.new.logged) }
+    ensures traced { TracesTo node.old node.new result }
 {
     let ready = node.ready();
     let Some(parcel) = next_parcel(mail, ready)? else {
@@ -155,7 +160,8 @@ fn take_in<M: Mail>(
     node: &mut Logged<'_>,
     parcel: &Parcel,
 ) -> Result<(), Stop>
-    ensures { (l : log.Logged) → node.old.logged ≡ sound l → TakesIn M.puts M.takes mail.old parcel.now l mail.new node.new.logged result }
+    ensures goes { (l : log.Logged) → node.old.logged ≡ sound l → TakesIn M.puts M.takes mail.old parcel.now l mail.new node.new.logged result }
+    ensures traced { TracesTo node.old node.new result }
 {
     let Some(envelope) = read(alloc, &parcel.bytes)? else {
         return Ok(());

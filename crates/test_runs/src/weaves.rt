@@ -8,7 +8,7 @@ use lrc_node::{Entry, Input};
 use lrc_post::{Mailbox, Post};
 use lrc_protocol::Event;
 use lrc_run::run;
-use lrc_weave::{WeaveFault, weave};
+use lrc_weave::{WeaveFault, WovenRun, weave, weave_run};
 use lrc_wire::encode;
 use lrc_world::report::Report;
 use lrc_world::simulate::simulate;
@@ -102,7 +102,21 @@ fn woven(
     Some(weave(alloc, logs, wires))
 }
 
-// Whether the run of the events of a report has the same acts, ends and logs.
+// The run of logs and mailboxes, one for each of the three nodes.
+fn woven_run(alloc: Global, logs: &[Vec<Entry>], wires: &[Mailbox]) -> Option<WovenRun> {
+    if logs.len() != 3 || wires.len() != 3 {
+        return None;
+    }
+    weave_run(alloc, logs, wires).ok()
+}
+
+// Whether the logs of a report tell of its acts in its order, and of no message that is still in flight.
+fn is_told(alloc: Global, report: &Report, wires: &[Mailbox]) -> Option<bool> {
+    let run = woven_run(alloc, &report.logs, wires)?;
+    Some(run.acts.as_slice() == report.acts.as_slice() && run.in_flight == 0)
+}
+
+// Whether the logs of a report tell of its acts, and the run of their events has the same acts, ends and logs.
 fn is_replayed(
     alloc: Global,
     program: &Program,
@@ -111,7 +125,8 @@ fn is_replayed(
 ) -> Option<bool> {
     let events = woven(alloc, &report.logs, wires)?.ok()?;
     let again = simulate(alloc, program, 3, &options(0), &events).ok()?;
-    is_same_report(alloc, report, &again)
+    let is = is_told(alloc, report, wires)? && is_same_report(alloc, report, &again)?;
+    Some(is)
 }
 
 // What is answered for the turns of a report with the mailboxes of a post to which nothing was put.

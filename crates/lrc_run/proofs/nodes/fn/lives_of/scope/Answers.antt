@@ -1,28 +1,28 @@
 use Rattle.std.proofs.Common.{◌≡◌, ◌∙◌, ◌≤◌, ◌++◌, [], ◌∷◌, sym, ap, subst, arith, length, map, rules}
-use Rattle.lrc_run.specs.declared.nodes.LogOf.{LogOf}
+use Rattle.lrc_run.specs.declared.nodes.PastOf.{PastOf}
 use Rattle.lrc_run.specs.declared.setting.Member.{Member}
 use Rattle.lrc_run.specs.Threads.{AreOwedFrom}
-use Rattle.lrc_run.proofs.Joined.{started_more, all_logs}
-use Rattle.lrc_run.proofs.nodes.fn.logs_of.scope.Goals.{else-loop-me-test, then-loop-me-test+in_default, then-loop-me-test+in-Ok+then-is_err}
-use Rattle.lrc_run.proofs.nodes.fn.logs_of.scope.Goals as goal
+use Rattle.lrc_run.proofs.Joined.{started_more, all_pasts}
+use Rattle.lrc_run.proofs.nodes.fn.lives_of.scope.Goals.{else-loop-me-test, then-loop-me-test+in_default, then-loop-me-test+in-Ok+then-is_err}
+use Rattle.lrc_run.proofs.nodes.fn.lives_of.scope.Goals as goal
 
 pub loop-me-preserved : goal.loop-me-preserved
 loop-me-preserved g c =
     let items : c.push.new.self.items ≡ c.loop-me.threads.items ++ c.in-Ok.thread ∷ [] = search rules in
     let promised = c.in-Ok.ensures.ok in
-    let more = started_more c.captures.program.now c.captures.nodes c.captures.options.now (λ handle. handle.promise) c.loop-me.threads.items c.push.new.self.items
-    c.in-Ok.thread c.loop-me.me items c.loop-me.invariant.0 c.loop-me.invariant.1
+    let more = started_more c.captures.program.now c.captures.nodes c.captures.options.now (λ handle. handle.promise) c.loop-me.threads.items
+    c.push.new.self.items c.in-Ok.thread c.loop-me.me items c.loop-me.invariant.0 c.loop-me.invariant.1
     (record {
-      its_program = ap (λ (o : LogOf). o.program.now) promised;
-      its_nodes = ap (λ (o : LogOf). o.member.nodes) promised ∙ ap (λ (m : Member). m.nodes) c.new-member.ensures;
-      its_options = ap (λ (o : LogOf). o.member.options) promised ∙ ap (λ (m : Member). m.options) c.new-member.ensures;
-      its_number = ap (λ (o : LogOf). o.member.me) promised ∙ ap (λ (m : Member). m.me) c.new-member.ensures;
+      its_program = ap (λ (o : PastOf). o.program.now) promised;
+      its_nodes = ap (λ (o : PastOf). o.member.nodes) promised ∙ ap (λ (m : Member). m.nodes) c.new-member.ensures;
+      its_options = ap (λ (o : PastOf). o.member.options) promised ∙ ap (λ (m : Member). m.options) c.new-member.ensures;
+      its_number = ap (λ (o : PastOf). o.member.me) promised ∙ ap (λ (m : Member). m.me) c.new-member.ensures;
     }) in
     (more.0, more.1, omega (arith, c.loop-me-test.true))
 
 pub joined-requires : goal.joined-requires
 joined-requires g c = record {
-  none = c.in_ok-logs.ensures.items;
+  none = c.in_ok-pasts.ensures.items;
   owed = elim c.loop-me-test.branch [
     | else-loop-me-test w ↦ subst (λ threads. AreOwedFrom c.captures.program.now c.captures.nodes c.captures.options.now 0
         (map (λ handle. handle.promise) threads.items))
@@ -48,7 +48,7 @@ joined-requires g c = record {
 
 pub returns : goal.returns
 returns g c = record {
-  logs = all_logs c.captures.program.now c.captures.nodes c.captures.options.now (λ logs. logs.items) (λ log. log.items) c.joined.result.logs
-      c.of_all.result.logs c.joined.result.failure c.of_all.result.failure c.of_all.ensures.none c.joined.ensures.logs;
-  few = subst (λ logs. length logs.items ≤ c.captures.nodes) (sym c.of_all.ensures.logs) c.joined.ensures.few;
+  pasts = all_pasts c.captures.program.now c.captures.nodes c.captures.options.now (λ pasts. pasts.items) c.joined.result.pasts c.of_all.result.pasts
+      c.joined.result.failure c.of_all.result.failure c.of_all.ensures.none c.joined.ensures.pasts;
+  few = subst (λ pasts. length pasts.items ≤ c.captures.nodes) (sym c.of_all.ensures.pasts) c.joined.ensures.few;
 }

@@ -1,0 +1,161 @@
+-- The report of a run that its logs tell of.
+use Rattle.std.proofs.Common.{◌≡◌, ◌∙◌, ◌<◌, ◌≤◌, ◌+◌, ℕ, suc, List, [], ◌∷◌, Bool, false, Some, ◌||◌, refl, sym, ap, subst, arith, map}
+use Rattle.std.specs.Prelude.{All, MatchOption, slice_get}
+use Rattle.std.specs.List.{enumerate_from, list_any}
+use Rattle.lrc_lang.specs.declared.program.Program.{Program}
+use Rattle.lrc_trace.specs.declared.act.Act.{Act}
+use Rattle.lrc_trace.specs.declared.race.Race.{Race}
+use Rattle.lrc_trace.specs.Conflict.{IsFirstRace, IsRaceFree}
+use Rattle.lrc_trace.specs.Trace.{TraceRecord}
+use Rattle.lrc_judge.specs.Races.{AreNamedRaces}
+use Rattle.lrc_race.specs.Races.{AreRacesOf, AreTracesOf}
+use Rattle.lrc_post.specs.Mailbox.{MailboxRecord}
+use Rattle.lrc_protocol.specs.declared.event.Event.{Event}
+use Rattle.lrc_protocol.specs.Follows.{inputs_of, turns_of}
+use Rattle.lrc_protocol.specs.Node.{OptionsRecord, fresh_node}
+use Rattle.lrc_protocol.specs.Run.{EntryRecord, Logged, Flying}
+use Rattle.lrc_protocol.specs.Traced.{trace_of, traced, traces_of}
+use Rattle.lrc_protocol.specs.Turn.{is_ready}
+use Rattle.lrc_protocol.proofs.Traces.{traced_node}
+use Rattle.lrc_protocol.proofs.Worlds.{run-whole}
+use Rattle.lrc_weave.specs.Logs.{AreLogs}
+use Rattle.lrc_weave.specs.Matched.{AreMatched}
+use Rattle.lrc_weave.specs.Whole.{MakesRun}
+use Rattle.lrc_weave.specs.Woven.{AreWoven}
+use Rattle.lrc_world.specs.declared.report.Report.{Report}
+use Rattle.lrc_world.specs.Ends.{ends_of}
+use Rattle.lrc_world.specs.Promises.{IsConsistent}
+use Rattle.lrc_world.specs.Report.{AreAll, IsReportOf, end_of_logged}
+use Rattle.lrc_world.proofs.Driven.{none_long}
+use Rattle.lrc_world.proofs.EndsOfRuns.{ends_of_acts}
+use Rattle.lrc_world.proofs.Races.{races_there, raceless_there, traces_there}
+use Rattle.lrc_world.proofs.Theorem.{consistent_acts}
+use Rattle.lrc_world.proofs.Worlds.{acts_in_range}
+use Rattle.lrc_run.specs.Run.{IsWovenReport, turns_of_nodes}
+use Rattle.lrc_run.specs.Threads.{is_any_ready_after, traces_of_logs}
+use Rattle.lrc_run.specs.Worker.{is_ready_after}
+
+module _ (program : Program) (nodes : ℕ) (options : OptionsRecord) (logs : List (List EntryRecord)) (events : List Event) (acts : List Act) (in_flight : ℕ)
+    (m : MakesRun program nodes options logs events acts in_flight) where
+  -- ---- traces
+
+  traces_from : (first : ℕ) (ls : List Logged)
+      → map (λ (at : ℕ × List EntryRecord). trace_of (fresh_node program nodes options at.0) at.1) (enumerate_from first (map (λ (l : Logged). l.log) ls))
+      ≡ map (λ (at : ℕ × Logged). trace_of (fresh_node program nodes options at.0) at.1.log) (enumerate_from first ls)
+  traces_from first [] = refl
+  traces_from first (l ∷ ls) = ap (λ more. trace_of (fresh_node program nodes options first) l.log ∷ more) (traces_from (first + 1) ls)
+
+  -- the traces of the logs are those of the run
+  traces_same : (traces : List TraceRecord) → traces ≡ traces_of_logs program nodes options logs → traces ≡ traces_of program nodes options m.world
+  traces_same traces are = are ∙ ap (traces_of_logs program nodes options) (sym m.logs_are) ∙ traces_from 0 m.world.nodes
+
+  pub traces_told : (traces : List TraceRecord) → traces ≡ traces_of_logs program nodes options logs → AreTracesOf nodes traces
+  traces_told traces are = traces_there program nodes options events m.world m.runs traces (traces_same traces are)
+
+  pub races_told : (traces : List TraceRecord) (races : List Race) → traces ≡ traces_of_logs program nodes options logs → AreRacesOf traces races
+      → AreNamedRaces acts races
+  races_told traces races are r =
+      races_there program nodes options events m.world m.runs traces (traces_same traces are) acts races (sym m.acts_are) r
+
+  pub raceless_told : (traces : List TraceRecord) → traces ≡ traces_of_logs program nodes options logs → AreRacesOf traces [] → IsRaceFree acts
+  raceless_told traces are r = raceless_there program nodes options events m.world m.runs traces (traces_same traces are) acts (sym m.acts_are) r
+
+  -- ---- acts
+
+  pub acts_told : nodes ≤ 16 → All (λ (act : Act). act.node < 16) acts
+  acts_told few = acts_in_range program nodes options events m.world acts m.runs (sym m.acts_are) few
+
+  pub theorem_told : IsConsistent program nodes acts
+  theorem_told = consistent_acts program nodes options events acts m.world m.runs (sym m.acts_are)
+
+  -- ---- what is left to do
+
+  ready_from : (first : ℕ) (ls : List Logged)
+      → ((k : ℕ) (l : Logged) → slice_get ls k ≡ Some l → (traced (fresh_node program nodes options (first + k)) (inputs_of l.log)).node ≡ l.node)
+      → list_any (λ (at : ℕ × List EntryRecord). is_ready_after (fresh_node program nodes options at.0) at.1)
+      (enumerate_from first (map (λ (l : Logged). l.log) ls))
+      ≡ list_any (λ (l : Logged). is_ready l.node) ls
+  ready_from first [] each = refl
+  ready_from first (l ∷ ls) each =
+      let none : first + 0 ≡ first = omega arith in
+      let here : (traced (fresh_node program nodes options first) (inputs_of l.log)).node ≡ l.node =
+      subst (λ n. (traced (fresh_node program nodes options n) (inputs_of l.log)).node ≡ l.node) none (each 0 l refl) in
+      ap
+      (λ b. b
+      || list_any (λ (at : ℕ × List EntryRecord). is_ready_after (fresh_node program nodes options at.0) at.1)
+      (enumerate_from (first + 1) (map (λ (l : Logged). l.log) ls)))
+      (ap is_ready here)
+      ∙ ap (λ b. is_ready l.node || b)
+      (ready_from (first + 1) ls (λ k other at.
+      let next : first + suc k ≡ first + 1 + k = omega arith in
+      subst (λ n. (traced (fresh_node program nodes options n) (inputs_of other.log)).node ≡ other.node) next (each (suc k) other at)))
+
+  again : (k : ℕ) (l : Logged) → slice_get m.world.nodes k ≡ Some l → (traced (fresh_node program nodes options (0 + k)) (inputs_of l.log)).node ≡ l.node
+  again k l at =
+      let same : k ≡ 0 + k = omega arith in
+      subst (λ n. (traced (fresh_node program nodes options n) (inputs_of l.log)).node ≡ l.node) same
+      (traced_node program nodes options k (inputs_of l.log) (record { node = l.node; turns = turns_of l.log })
+      ((run-whole program nodes options events m.world m.runs).each k l at).replayed)
+
+  ready_same : is_any_ready_after program nodes options logs ≡ list_any (λ (l : Logged). is_ready l.node) m.world.nodes
+  ready_same = ap (is_any_ready_after program nodes options) (sym m.logs_are) ∙ ready_from 0 m.world.nodes again
+
+  pub over_told : (any : Bool) → any ≡ is_any_ready_after program nodes options logs → any ≡ false → in_flight ≤ 0 → AreAll program nodes options events
+  over_told any ready none landed = (
+    m.world,
+    m.runs,
+    record {
+      idle = sym (ready ∙ ready_same) ∙ none;
+      taken = none_long m.world.flight (omega (arith, m.flight, landed));
+    },
+  )
+
+  -- ---- the report
+
+  pub report_told : (report : Report) → report.acts.items ≡ acts → report.ends.items ≡ ends_of nodes acts → turns_of_nodes report ≡ logs
+      → MatchOption report.first_race (IsRaceFree acts) (IsFirstRace acts) → IsReportOf program nodes options events report
+  report_told report acts_are ends_are same_turns first = (
+    m.world,
+    m.runs,
+    record {
+      acts = acts_are ∙ sym m.acts_are;
+      ends = ends_are
+          ∙ sym (ends_of_acts program nodes options events acts (map end_of_logged m.world.nodes) m.world m.runs (sym m.acts_are) refl);
+      logs = same_turns ∙ sym m.logs_are;
+      first = subst (λ (a : List Act). MatchOption report.first_race (IsRaceFree a) (IsFirstRace a)) (sym m.acts_are) first;
+    },
+  )
+
+  pub woven_told : (report : Report) → IsReportOf program nodes options events report → turns_of_nodes report ≡ logs
+      → (flight : List Flying) × AreWoven logs events flight → AreAll program nodes options events → IsWovenReport program nodes options events report
+  woven_told report is same_turns woven over = record {
+    flight = woven.0;
+    reported = is;
+    woven = subst (λ turns. AreWoven turns events woven.0) (sym same_turns) woven.1;
+    over = over;
+  }
+
+-- what agrees with the logs agrees with a report that has them
+pub still_matched : (logs : List (List EntryRecord)) (report : Report) → turns_of_nodes report ≡ logs → (wires : List MailboxRecord)
+    → AreMatched logs wires → AreMatched (turns_of_nodes report) wires
+still_matched logs report same wires matched = subst (λ turns. AreMatched turns wires) (sym same) matched
+
+-- the run of logs that are read as a slice
+pub run_told : {A : Type 0} (seen : A → List EntryRecord) (found all : List A) → found ≡ all → (program : Program) (nodes : ℕ) (options : OptionsRecord)
+    (events : List Event) (acts : List Act) (in_flight : ℕ) → AreLogs program nodes options (map seen all)
+    → ((program : Program) (nodes : ℕ) (options : OptionsRecord) → AreLogs program nodes options (map seen found)
+    → MakesRun program nodes options (map seen found) events acts in_flight)
+    → MakesRun program nodes options (map seen all) events acts in_flight
+run_told seen found all same program nodes options events acts in_flight are makes =
+    subst (λ logs. MakesRun program nodes options (map seen logs) events acts in_flight) same
+    (makes program nodes options (subst (λ logs. AreLogs program nodes options (map seen logs)) (sym same) are))
+
+-- what is woven of them
+pub weave_told : {A : Type 0} (seen : A → List EntryRecord) (found all : List A) → found ≡ all → (program : Program) (nodes : ℕ) (options : OptionsRecord)
+    (events : List Event) → AreLogs program nodes options (map seen all)
+    → ((program : Program) (nodes : ℕ) (options : OptionsRecord) → AreLogs program nodes options (map seen found)
+    → (flight : List Flying) × AreWoven (map seen found) events flight)
+    → (flight : List Flying) × AreWoven (map seen all) events flight
+weave_told seen found all same program nodes options events are makes =
+    subst (λ logs. (flight : List Flying) × AreWoven (map seen logs) events flight) same
+    (makes program nodes options (subst (λ logs. AreLogs program nodes options (map seen logs)) (sym same) are))
