@@ -42,7 +42,7 @@ pub fn perform<W: Write, E: Write>(
 }
 
 /// Does what a choice asks for, as [`perform`] does, also where that starts threads: a run in which each node lives on a
-/// thread of its own.
+/// thread of its own. What such a run kept is not freed, since the program ends with its answer.
 pub fn execute<R: Threads + Wait + Sync, W: Write, E: Write>(
     rt: &R,
     alloc: Global,
@@ -60,7 +60,7 @@ pub fn execute<R: Threads + Wait + Sync, W: Write, E: Write>(
 }
 
 /// Answers any choice, on threads where it asks for them, with the text of its FILE, and that of its events where it names
-/// them. Nothing is written.
+/// them. Nothing is written. What a run on threads kept is not freed, since the program ends with its answer.
 pub fn answer_any<R: Threads + Wait + Sync>(
     rt: &R,
     alloc: Global,

@@ -17,6 +17,7 @@ use lrc_lang::program::Program;
 use lrc_run::run_with_events;
 use lrc_words::choice::{RunChoice, RunOptions, Shape};
 use std::alloc::Global;
+use std::mem;
 use std::sync::Wait;
 use std::thread::Threads;
 
@@ -36,7 +37,10 @@ pub(crate) fn show_on_threads<R: Threads + Wait + Sync>(
 {
     let program = parse(alloc, text)?;
     let run = run_on_threads(rt, alloc, &choice.options, order, &program)?;
-    shown(alloc, shape, choice, text, &program, &run)
+    let printout = shown(alloc, shape, choice, text, &program, &run);
+    // The program ends with its answer, so all that the run kept is not walked to be freed.
+    mem::forget(run);
+    printout
 }
 
 // The run of a program whose nodes are on threads of their own.
@@ -53,6 +57,7 @@ fn run_on_threads<R: Threads + Wait + Sync>(
 {
     let nodes = options.nodes.count;
     let lived = run_with_events(rt, alloc, program, nodes, &options_of(options), order);
-    let (report, _wires, events) = lived.map_err(fault_of_threads)?;
+    let (report, wires, events) = lived.map_err(fault_of_threads)?;
+    mem::forget(wires);
     Ok(Run { events, report })
 }

@@ -22,15 +22,15 @@ returns-in_err-run-clause-err g c =
 pub returns-clause-ok : goal.returns-clause-ok
 returns-clause-ok g c =
     printed_of c.args.choice.now c.args.shape c.args.text.now None c.in_ok-program.program c.in_ok-run.run'.events.items (account_of c.in_ok-run.run'.report)
-    c.shown.result c.in_ok-program.ensures.program
+    c.shown-printout.result c.in_ok-program.ensures.program
     (subst (λ (way : Way). IsRunOfWay way c.in_ok-program.program c.args.choice.now.options None c.in_ok-run.run'.events.items
     (account_of c.in_ok-run.run'.report)) (sym c.requires) ((c.in_ok-run.run'.report, refl, c.in_ok-run.ensures.threaded), c.in_ok-run.ensures.reported))
-    c.shown.ensures.text c.shown.ensures.status
+    c.shown-printout.ensures.text c.shown-printout.ensures.status
 
 pub returns-clause-err : goal.returns-clause-err
 returns-clause-err g c =
     unshown_of c.args.choice.now c.args.shape c.args.text.now None c.in_ok-program.program c.in_ok-run.run'.events.items (account_of c.in_ok-run.run'.report)
-    c.shown.result c.in_ok-program.ensures.program
+    c.shown-printout.result c.in_ok-program.ensures.program
     (subst (λ (way : Way). IsRunOfWay way c.in_ok-program.program c.args.choice.now.options None c.in_ok-run.run'.events.items
     (account_of c.in_ok-run.run'.report)) (sym c.requires) ((c.in_ok-run.run'.report, refl, c.in_ok-run.ensures.threaded), c.in_ok-run.ensures.reported))
-    c.shown.ensures.err
+    c.shown-printout.ensures.err
