@@ -72,5 +72,5 @@ five start one two three four end a b c d e first second third fourth last =
     let further = fourth ∙ ap (λ (l : List Mark). l ++ d) (third ∙ ap (λ (l : List Mark). l ++ c) here) in
     last ∙ ap (λ (l : List Mark). l ++ e) further ∙ regrouped start a b c d e
 
-pub joined : (start middle end a b : List Mark) → middle ≡ start ++ a → end ≡ middle ++ b → end ≡ start ++ (a ++ b)
-joined start middle end a b first second = second ∙ ap (λ (l : List Mark). l ++ b) first ∙ append_assoc start a b
+pub joined : {X : Type 0} (start middle end a b : List X) → middle ≡ start ++ a → end ≡ middle ++ b → end ≡ start ++ (a ++ b)
+joined start middle end a b first second = second ∙ ap (λ l. l ++ b) first ∙ append_assoc start a b

@@ -1,3 +1,4 @@
+pub mod Attributes
 pub mod Heights
 pub mod Marks
 pub mod Shown

@@ -1,6 +1,7 @@
 // What is painted: elements, one behind another.
 
-ghost use Rattle.std.specs.Prelude.{◌≡◌, ◌++◌, ◌∷◌, [], IfOk, OnOk, decimal, true};
+ghost use Rattle.std.specs.Prelude.{◌≡◌, ◌++◌, ◌∷◌, [], IfOk, OnOk, codes, decimal, true};
+ghost use Rattle.lrc_drawing.specs.Attributes.{anchor_word, said};
 ghost use Rattle.lrc_drawing.specs.Marks.{all_marks, all_words, begins, behind, box, ends, hint, named_once, own, path, stroke, word};
 
 use crate::layout::width;
@@ -25,12 +26,21 @@ pub(crate) struct Area {
     pub height: u128,
 }
 
-/// Adds a number in decimal digits.
-pub(crate) fn push_number(text: &mut Vec<u8>, number: u128) -> Result<(), AllocError>
+// Adds a number in decimal digits.
+fn push_number(text: &mut Vec<u8>, number: u128) -> Result<(), AllocError>
     ensures { OnOk result (text.new.items ≡ text.old.items ++ decimal number) }
 {
     let mut digits = Buffer::new();
     text.extend_from_slice(digits.format(number).as_bytes())
+}
+
+/// Adds how far a place is from the left, and how far from the top.
+pub(crate) fn push_point(text: &mut Vec<u8>, point: Point) -> Result<(), AllocError>
+    ensures { OnOk result (text.new.items ≡ text.old.items ++ decimal point.x ++ codes " " ++ decimal point.y) }
+{
+    push_number(text, point.x)?;
+    text.extend_from_slice(b" ")?;
+    push_number(text, point.y)
 }
 
 // A number of pixels.
@@ -46,6 +56,140 @@ fn bytes(alloc: Global, words: &[u8]) -> Result<Vec<u8>, AllocError>
     ensures { IfOk result (λ text. text.items ≡ words.now) }
 {
     Vec::from_slice(alloc, words)
+}
+
+// Words that stand alone in an element.
+fn text_of(alloc: Global, words: &[u8]) -> Result<Vec<Content>, AllocError>
+    ensures told { IfOk result (λ inside. all_words inside.items ≡ words.now) }
+    ensures alone { IfOk result (λ inside. all_marks inside.items ≡ []) }
+{
+    Ok(vec![in alloc; Content::Text(bytes(alloc, words)?)]?)
+}
+
+/// Adds an attribute.
+#[tactic(auto, using(crate::proofs::Said::one_more))]
+pub(crate) fn push_attribute(
+    attributes: &mut Vec<Attribute>,
+    key: Key,
+    value: Vec<u8>,
+) -> Result<(), AllocError>
+    ensures { OnOk result (said attributes.new.items ≡ said attributes.old.items ++ (key, value.items) ∷ []) }
+{
+    attributes.push(Attribute { key, value })?;
+    Ok(())
+}
+
+/// Adds an attribute that is a number of pixels.
+pub(crate) fn push_pixels(
+    alloc: Global,
+    attributes: &mut Vec<Attribute>,
+    key: Key,
+    number: u128,
+) -> Result<(), AllocError>
+    ensures { OnOk result (said attributes.new.items ≡ said attributes.old.items ++ (key, decimal number) ∷ []) }
+{
+    push_attribute(attributes, key, pixels(alloc, number)?)
+}
+
+/// Adds an attribute that is these words.
+pub(crate) fn push_value(
+    alloc: Global,
+    attributes: &mut Vec<Attribute>,
+    key: Key,
+    words: &[u8],
+) -> Result<(), AllocError>
+    ensures { OnOk result (said attributes.new.items ≡ said attributes.old.items ++ (key, words.now) ∷ []) }
+{
+    push_attribute(attributes, key, bytes(alloc, words)?)
+}
+
+// Adds where an area is, and how large.
+fn push_area(alloc: Global, attributes: &mut Vec<Attribute>, area: Area) -> Result<(), AllocError>
+    ensures { OnOk result (said attributes.new.items ≡ said attributes.old.items
+        ++ (Key.X, decimal area.x) ∷ (Key.Y, decimal area.y) ∷ (Key.Width, decimal area.width) ∷ (Key.Height, decimal area.height) ∷ []) }
+{
+    push_pixels(alloc, attributes, Key::X, area.x)?;
+    push_pixels(alloc, attributes, Key::Y, area.y)?;
+    push_pixels(alloc, attributes, Key::Width, area.width)?;
+    push_pixels(alloc, attributes, Key::Height, area.height)
+}
+
+// Adds where a line begins and ends.
+fn push_ends(
+    alloc: Global,
+    attributes: &mut Vec<Attribute>,
+    from: Point,
+    to: Point,
+) -> Result<(), AllocError>
+    ensures { OnOk result (said attributes.new.items ≡ said attributes.old.items
+        ++ (Key.FromX, decimal from.x) ∷ (Key.FromY, decimal from.y) ∷ (Key.ToX, decimal to.x) ∷ (Key.ToY, decimal to.y) ∷ []) }
+{
+    push_pixels(alloc, attributes, Key::FromX, from.x)?;
+    push_pixels(alloc, attributes, Key::FromY, from.y)?;
+    push_pixels(alloc, attributes, Key::ToX, to.x)?;
+    push_pixels(alloc, attributes, Key::ToY, to.y)
+}
+
+// Adds the points of a shape: where it starts, and strokes from there.
+fn push_points(
+    alloc: Global,
+    attributes: &mut Vec<Attribute>,
+    start: Point,
+    strokes: &[u8],
+) -> Result<(), AllocError>
+    ensures { OnOk result (said attributes.new.items ≡ said attributes.old.items
+        ++ (Key.Points, codes "M" ++ decimal start.x ++ codes " " ++ decimal start.y ++ strokes.now) ∷ []) }
+{
+    let mut points = bytes(alloc, b"M")?;
+    push_point(&mut points, start)?;
+    points.extend_from_slice(strokes)?;
+    push_attribute(attributes, Key::Points, points)
+}
+
+// Adds how a line is drawn.
+fn push_line_style(
+    alloc: Global,
+    attributes: &mut Vec<Attribute>,
+    style: Style,
+) -> Result<(), AllocError>
+    ensures { OnOk result (said attributes.new.items ≡ said attributes.old.items
+        ++ (Key.Stroke, style.stroke.now) ∷ (Key.StrokeWidth, style.width.now) ∷ (Key.Dashes, style.dashes.now) ∷ []) }
+{
+    push_value(alloc, attributes, Key::Stroke, style.stroke)?;
+    push_value(alloc, attributes, Key::StrokeWidth, style.width)?;
+    push_value(alloc, attributes, Key::Dashes, style.dashes)
+}
+
+// Adds how an area and its border are drawn.
+fn push_style(
+    alloc: Global,
+    attributes: &mut Vec<Attribute>,
+    style: Style,
+) -> Result<(), AllocError>
+    ensures { OnOk result (said attributes.new.items ≡ said attributes.old.items
+        ++ (Key.Fill, style.fill.now) ∷ (Key.Stroke, style.stroke.now)
+        ∷ (Key.StrokeWidth, style.width.now) ∷ (Key.Dashes, style.dashes.now) ∷ []) }
+{
+    push_value(alloc, attributes, Key::Fill, style.fill)?;
+    push_line_style(alloc, attributes, style)
+}
+
+// Adds where words stand, and how they are written.
+fn push_hand(
+    alloc: Global,
+    attributes: &mut Vec<Attribute>,
+    at: Point,
+    hand: Hand,
+) -> Result<(), AllocError>
+    ensures { OnOk result (said attributes.new.items ≡ said attributes.old.items
+        ++ (Key.X, decimal at.x) ∷ (Key.Y, decimal at.y) ∷ (Key.Anchor, anchor_word hand.anchor)
+        ∷ (Key.Fill, hand.colour.now) ∷ (Key.Weight, hand.weight.now) ∷ []) }
+{
+    push_pixels(alloc, attributes, Key::X, at.x)?;
+    push_pixels(alloc, attributes, Key::Y, at.y)?;
+    push_value(alloc, attributes, Key::Anchor, hand.anchor.word())?;
+    push_value(alloc, attributes, Key::Fill, hand.colour)?;
+    push_value(alloc, attributes, Key::Weight, hand.weight)
 }
 
 // Adds an element.
@@ -73,40 +217,9 @@ pub(crate) fn push_box(
 ) -> Result<(), AllocError>
     ensures { OnOk result (all_marks contents.new.items ≡ all_marks contents.old.items ++ box ∷ []) }
 {
-    let attributes = vec![in alloc;
-        Attribute {
-            key: Key::X,
-            value: pixels(alloc, area.x)?
-        },
-        Attribute {
-            key: Key::Y,
-            value: pixels(alloc, area.y)?
-        },
-        Attribute {
-            key: Key::Width,
-            value: pixels(alloc, area.width)?
-        },
-        Attribute {
-            key: Key::Height,
-            value: pixels(alloc, area.height)?
-        },
-        Attribute {
-            key: Key::Fill,
-            value: bytes(alloc, style.fill)?
-        },
-        Attribute {
-            key: Key::Stroke,
-            value: bytes(alloc, style.stroke)?
-        },
-        Attribute {
-            key: Key::StrokeWidth,
-            value: bytes(alloc, style.width)?
-        },
-        Attribute {
-            key: Key::Dashes,
-            value: bytes(alloc, style.dashes)?
-        },
-    ]?;
+    let mut attributes = Vec::new(alloc);
+    push_area(alloc, &mut attributes, area)?;
+    push_style(alloc, &mut attributes, style)?;
     push_element(contents, Tag::Box, attributes, Vec::new(alloc))
 }
 
@@ -120,33 +233,9 @@ pub(crate) fn push_path(
 ) -> Result<(), AllocError>
     ensures { OnOk result (all_marks contents.new.items ≡ all_marks contents.old.items ++ path ∷ []) }
 {
-    let mut points = bytes(alloc, b"M")?;
-    push_number(&mut points, start.x)?;
-    points.extend_from_slice(b" ")?;
-    push_number(&mut points, start.y)?;
-    points.extend_from_slice(strokes)?;
-    let attributes = vec![in alloc;
-        Attribute {
-            key: Key::Points,
-            value: points
-        },
-        Attribute {
-            key: Key::Fill,
-            value: bytes(alloc, style.fill)?
-        },
-        Attribute {
-            key: Key::Stroke,
-            value: bytes(alloc, style.stroke)?
-        },
-        Attribute {
-            key: Key::StrokeWidth,
-            value: bytes(alloc, style.width)?
-        },
-        Attribute {
-            key: Key::Dashes,
-            value: bytes(alloc, style.dashes)?
-        },
-    ]?;
+    let mut attributes = Vec::new(alloc);
+    push_points(alloc, &mut attributes, start, strokes)?;
+    push_style(alloc, &mut attributes, style)?;
     push_element(contents, Tag::Path, attributes, Vec::new(alloc))
 }
 
@@ -160,36 +249,9 @@ pub(crate) fn push_line(
 ) -> Result<(), AllocError>
     ensures { OnOk result (all_marks contents.new.items ≡ all_marks contents.old.items ++ stroke (decimal from.y) (decimal to.y) ∷ []) }
 {
-    let attributes = vec![in alloc;
-        Attribute {
-            key: Key::FromX,
-            value: pixels(alloc, from.x)?
-        },
-        Attribute {
-            key: Key::FromY,
-            value: pixels(alloc, from.y)?
-        },
-        Attribute {
-            key: Key::ToX,
-            value: pixels(alloc, to.x)?
-        },
-        Attribute {
-            key: Key::ToY,
-            value: pixels(alloc, to.y)?
-        },
-        Attribute {
-            key: Key::Stroke,
-            value: bytes(alloc, style.stroke)?
-        },
-        Attribute {
-            key: Key::StrokeWidth,
-            value: bytes(alloc, style.width)?
-        },
-        Attribute {
-            key: Key::Dashes,
-            value: bytes(alloc, style.dashes)?
-        },
-    ]?;
+    let mut attributes = Vec::new(alloc);
+    push_ends(alloc, &mut attributes, from, to)?;
+    push_line_style(alloc, &mut attributes, style)?;
     push_element(contents, Tag::Line, attributes, Vec::new(alloc))
 }
 
@@ -203,29 +265,9 @@ pub(crate) fn push_label(
 ) -> Result<(), AllocError>
     ensures { OnOk result (all_marks contents.new.items ≡ all_marks contents.old.items ++ word (decimal at.y) words.now ∷ []) }
 {
-    let attributes = vec![in alloc;
-        Attribute {
-            key: Key::X,
-            value: pixels(alloc, at.x)?
-        },
-        Attribute {
-            key: Key::Y,
-            value: pixels(alloc, at.y)?
-        },
-        Attribute {
-            key: Key::Anchor,
-            value: bytes(alloc, hand.anchor.word())?
-        },
-        Attribute {
-            key: Key::Fill,
-            value: bytes(alloc, hand.colour)?
-        },
-        Attribute {
-            key: Key::Weight,
-            value: bytes(alloc, hand.weight)?
-        },
-    ]?;
-    let inside = vec![in alloc; Content::Text(bytes(alloc, words)?)]?;
+    let mut attributes = Vec::new(alloc);
+    push_hand(alloc, &mut attributes, at, hand)?;
+    let inside = text_of(alloc, words)?;
     push_element(contents, Tag::Label, attributes, inside)
 }
 
@@ -267,8 +309,7 @@ pub(crate) fn push_hint(
 ) -> Result<(), AllocError>
     ensures { OnOk result (all_marks contents.new.items ≡ all_marks contents.old.items ++ hint words.now ∷ []) }
 {
-    let inside = vec![in alloc; Content::Text(bytes(alloc, words)?)]?;
-    push_element(contents, Tag::Hint, Vec::new(alloc), inside)
+    push_element(contents, Tag::Hint, Vec::new(alloc), text_of(alloc, words)?)
 }
 
 /// Adds elements as one group.

@@ -1,13 +1,14 @@
 // A picture as a document.
 
-ghost use Rattle.std.specs.Prelude.{◌≡◌, ◌++◌, IfOk, OnOk, codes, true};
+ghost use Rattle.std.specs.Prelude.{◌≡◌, ◌++◌, ◌∷◌, [], IfOk, OnOk, codes, decimal, true};
+ghost use Rattle.lrc_drawing.specs.Attributes.{said};
 ghost use Rattle.lrc_drawing.specs.Marks.{all_marks, is_space, named_once, attribute_value};
 ghost use Rattle.lrc_drawing.specs.Shown.{ground_marks, kind_marks, picture_marks, run_marks};
 
 use crate::arrows::{push_all_lost, push_arrow_labels, push_arrows, push_lost_labels};
 use crate::heading::{LEGEND_WIDTH, push_columns, push_legend, push_title};
 use crate::layout::{Layout, height_below, width};
-use crate::paint::{Point, push_number};
+use crate::paint::{Point, push_attribute, push_pixels, push_point, push_value};
 use crate::races::{push_bands, push_races};
 use crate::rows::push_rows;
 use lrc_picture::Picture;
@@ -36,45 +37,49 @@ impl Size {
     }
 }
 
+// Adds the part of the plane that is shown, from its corner on, and how large it is.
+fn push_size(alloc: Global, attributes: &mut Vec<Attribute>, size: Point) -> Result<(), AllocError>
+    ensures { OnOk result (said attributes.new.items ≡ said attributes.old.items
+        ++ (Key.View, codes "0 0 " ++ decimal size.x ++ codes " " ++ decimal size.y)
+        ∷ (Key.Width, decimal size.x) ∷ (Key.Height, decimal size.y) ∷ []) }
+{
+    let mut view = Vec::from_slice(alloc, b"0 0 ")?;
+    push_point(&mut view, size)?;
+    push_attribute(attributes, Key::View, view)?;
+    push_pixels(alloc, attributes, Key::Width, size.x)?;
+    push_pixels(alloc, attributes, Key::Height, size.y)
+}
+
+// Adds the attributes of the whole.
+fn push_attributes(
+    alloc: Global,
+    attributes: &mut Vec<Attribute>,
+    size: Point,
+) -> Result<(), AllocError>
+    ensures { OnOk result (said attributes.new.items ≡ said attributes.old.items
+        ++ (Key.Space, codes "http://www.w3.org/2000/svg") ∷ (Key.View, codes "0 0 " ++ decimal size.x ++ codes " " ++ decimal size.y)
+        ∷ (Key.Width, decimal size.x) ∷ (Key.Height, decimal size.y)
+        ∷ (Key.Family, codes "DejaVu Sans Mono, Menlo, Consolas, monospace") ∷ (Key.FontSize, codes "12") ∷ []) }
+{
+    push_value(alloc, attributes, Key::Space, b"http://www.w3.org/2000/svg")?;
+    push_size(alloc, attributes, size)?;
+    push_value(
+        alloc,
+        attributes,
+        Key::Family,
+        b"DejaVu Sans Mono, Menlo, Consolas, monospace",
+    )?;
+    push_value(alloc, attributes, Key::FontSize, b"12")
+}
+
 // The attributes of the whole.
 fn attributes_of(alloc: Global, size: Point) -> Result<Vec<Attribute>, AllocError>
     ensures once { IfOk result (λ attributes. named_once attributes.items ≡ true) }
     ensures space { IfOk result (λ attributes. attribute_value is_space attributes.items ≡ codes "http://www.w3.org/2000/svg") }
 {
-    let mut view = Vec::from_slice(alloc, b"0 0 ")?;
-    push_number(&mut view, size.x)?;
-    view.extend_from_slice(b" ")?;
-    push_number(&mut view, size.y)?;
-    let mut across = Vec::new(alloc);
-    push_number(&mut across, size.x)?;
-    let mut down = Vec::new(alloc);
-    push_number(&mut down, size.y)?;
-    Ok(vec![in alloc;
-        Attribute {
-            key: Key::Space,
-            value: Vec::from_slice(alloc, b"http://www.w3.org/2000/svg")?
-        },
-        Attribute {
-            key: Key::View,
-            value: view
-        },
-        Attribute {
-            key: Key::Width,
-            value: across
-        },
-        Attribute {
-            key: Key::Height,
-            value: down
-        },
-        Attribute {
-            key: Key::Family,
-            value: Vec::from_slice(alloc, b"DejaVu Sans Mono, Menlo, Consolas, monospace")?
-        },
-        Attribute {
-            key: Key::FontSize,
-            value: Vec::from_slice(alloc, b"12")?
-        },
-    ]?)
+    let mut attributes = Vec::new(alloc);
+    push_attributes(alloc, &mut attributes, size)?;
+    Ok(attributes)
 }
 
 // Adds barriers, and columns over them.

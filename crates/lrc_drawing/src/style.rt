@@ -1,5 +1,8 @@
 // Colours, lines and letters. Each kind of row has a border of its own, so that it is told apart in grey too.
 
+ghost use Rattle.std.specs.Prelude.{◌≡◌};
+ghost use Rattle.lrc_drawing.specs.Attributes.{anchor_word};
+
 use lrc_picture::Kind;
 
 /// How an area or a line is drawn, by the words of the form.
@@ -68,7 +71,10 @@ pub(crate) enum Anchor {
 
 impl Anchor {
     /// As it stands in the text.
-    pub(crate) fn word(self) -> &'static [u8] {
+    #[tactic(auto, unfolding(crate::specs::Attributes::anchor_word))]
+    pub(crate) fn word(self) -> &'static [u8]
+        ensures { result.now ≡ anchor_word self }
+    {
         match self {
             Anchor::Start => b"start",
             Anchor::End => b"end",

@@ -1,0 +1,68 @@
+-- Names and values of attributes, read off what the attributes say.
+use Rattle.std.proofs.Common.{◌≡◌, ◌∙◌, ◌++◌, ◌∷◌, [], ◌==◌, ◌&&◌, ◌||◌, ℕ, Bool, List, false, true, ap, ap₂, append-nil, refl}
+use Rattle.std.specs.Prelude.{cond, not}
+use Rattle.std.proofs.lemmas.List.{map-append}
+use Rattle.lrc_svg.specs.declared.element.Attribute.{Attribute}
+use Rattle.lrc_svg.specs.declared.name.Key.{Key}
+use Rattle.lrc_svg.specs.declared.name.Key.TheVariants as keys
+use Rattle.lrc_svg.specs.declared.name.Tag.TheVariants as tags
+use Rattle.lrc_drawing.specs.Attributes.{said}
+use Rattle.lrc_drawing.specs.Marks.{Mark, attribute_value, key_number, named_once, names_key, own, stroke, word}
+
+abbrev Saying : Type 0
+Saying = Key × List ℕ
+
+-- the same of what is said as of the attributes that say it
+abbrev names_said : ℕ → List Saying → Bool
+names_said number [] = false
+names_said number (first ∷ more) = (key_number first.0 == number) || names_said number more
+
+abbrev pub said_once : List Saying → Bool
+said_once [] = true
+said_once (first ∷ more) = not (names_said (key_number first.0) more) && said_once more
+
+abbrev pub value_said : (Key → Bool) → List Saying → List ℕ
+value_said is [] = []
+value_said is (first ∷ more) = cond (is first.0) first.1 (value_said is more)
+
+names_are : (number : ℕ) (a : List Attribute) → names_key number a ≡ names_said number (said a)
+names_are number [] = refl
+names_are number (first ∷ more) = ap (λ b. (key_number first.key == number) || b) (names_are number more)
+
+once_is : (a : List Attribute) → named_once a ≡ said_once (said a)
+once_is [] = refl
+once_is (first ∷ more) = ap₂ (λ (b c : Bool). not b && c) (names_are (key_number first.key) more) (once_is more)
+
+pub value_is : (is : Key → Bool) (a : List Attribute) → attribute_value is a ≡ value_said is (said a)
+value_is is [] = refl
+value_is is (first ∷ more) = ap (λ l. cond (is first.key) first.value.items l) (value_is is more)
+
+-- an attribute more
+pub one_more : (old : List Attribute) (a : Attribute) → said (old ++ a ∷ []) ≡ said old ++ (a.key, a.value.items) ∷ []
+one_more old a = map-append _ old (a ∷ [])
+
+-- what the first and the next attributes say
+pub said_in_two : (none middle all : List Attribute) (a b : List Saying) → none ≡ [] → said middle ≡ said none ++ a → said all ≡ said middle ++ b
+    → said all ≡ a ++ b
+said_in_two none middle all a b empty first second = second ∙ ap (λ l. l ++ b) (first ∙ ap (λ n. said n ++ a) empty)
+
+pub said_in_one : (none all : List Attribute) (a : List Saying) → none ≡ [] → said all ≡ said none ++ a → said all ≡ a
+said_in_one none all a empty first = first ∙ ap (λ n. said n ++ a) empty
+
+pub once_by : (a : List Attribute) (s : List Saying) → said a ≡ s → said_once s ≡ true → named_once a ≡ true
+once_by a s is once = once_is a ∙ ap said_once is ∙ once
+
+-- what labels and lines show by what their attributes say
+pub label_shows : (a : List Attribute) (words told x y : List ℕ) (more : List Saying) → said a ≡ (keys.X, x) ∷ (keys.Y, y) ∷ more → words ≡ told
+    → own tags.Label a words ≡ word y told ∷ []
+label_shows a words told x y more is = ap₂ (λ l w. word l w ∷ []) (value_is _ a ∙ ap (value_said _) is)
+
+pub line_shows : (a : List Attribute) (x y u v : List ℕ) (more : List Saying)
+    → said a ≡ (keys.FromX, x) ∷ (keys.FromY, y) ∷ (keys.ToX, u) ∷ (keys.ToY, v) ∷ more → own tags.Line a [] ≡ stroke y v ∷ []
+line_shows a x y u v more is =
+    ap₂ (λ l m. stroke l m ∷ []) (value_is _ a ∙ ap (value_said _) is) (value_is _ a ∙ ap (value_said _) is)
+
+-- an element in which nothing shows anything
+pub shows_alone : (old shown by_itself inside : List Mark) → by_itself ≡ shown → inside ≡ [] → old ++ by_itself ++ inside ++ [] ≡ old ++ shown
+shows_alone old shown by_itself inside is none =
+    append-nil (old ++ by_itself ++ inside) ∙ ap₂ (λ (o i : List Mark). old ++ o ++ i) is none ∙ append-nil (old ++ shown)
