@@ -1,11 +1,11 @@
 // The words of the command line, read by clap.
 
-ghost use Rattle.std.specs.Prelude.{◌≡◌, [], IfErr, IfOk, IsSomeAnd, Ok, OnOk, Err, map, option_map};
+ghost use Rattle.std.specs.Prelude.{◌≡◌, [], IfErr, IfOk, IsSomeAnd, Ok, OnOk, Err, codes, map, option_map};
 ghost use Rattle.std.specs.Int.{IsOutOfRange};
 ghost use Rattle.clap.specs.Words.{fault_of, found_of, rows_of, subcommand_of, subcommand_rows_of};
 ghost use Rattle.lrc_words.specs.Commands.{treadmarks};
 ghost use Rattle.lrc_words.specs.CommandLine.{Chooses, HasExploreMisfit, HasJudgeMisfit, HasMisfit, HasPlainMisfit, HasShowMisfit};
-ghost use Rattle.lrc_words.specs.CommandLine.{IsAskTaken, IsChoice, IsExploring, IsFoundFault, IsJudging, IsPlainRun, IsShowTaken};
+ghost use Rattle.lrc_words.specs.CommandLine.{IsAskTaken, IsChoice, IsFoundFault, IsShowTaken};
 ghost use Rattle.lrc_words.specs.CommandLine.{IsCommandTaken, fault_from, words_meant};
 ghost use Rattle.lrc_words.specs.Options.{IsExploreTaken, IsJudgeTaken, IsPlainTaken};
 ghost use Rattle.lrc_words.specs.declared.choice.ChooseFault.TheVariants.{NoMemory};
@@ -17,7 +17,7 @@ use crate::misfit::{Misfit, fault_of_misfit};
 use crate::reading::{
     is_named, most_of, nodes_of, so_many_nodes, some_number_of, steps_of, text_of,
 };
-use crate::runs::{charted_run, run_choice, showing_run, threads_run, traced_run};
+use crate::runs::{chart_choice, run_choice, showing_choice, threads_run, trace_choice};
 use clap::ArgMatches;
 use clap::error::ErrorKind;
 use std::alloc::{AllocError, Global};
@@ -63,13 +63,13 @@ fn choice_from<'w>(matches: &ArgMatches<'w>) -> Result<Choice<'w>, Misfit>
         return Ok(Choice::Check(text_of(options, "FILE")));
     }
     if let Some(options) = matches.subcommand_matches("plain") {
-        return Ok(Choice::Plain(plain_run(options)?));
+        return plain_choice(options);
     }
     if let Some(options) = matches.subcommand_matches("judge") {
-        return Ok(Choice::Judge(judging(options)?));
+        return judge_choice(options);
     }
     if let Some(options) = matches.subcommand_matches("explore") {
-        return Ok(Choice::Explore(exploring(options)?));
+        return explore_choice(options);
     }
     shown_from(matches)
 }
@@ -96,43 +96,41 @@ fn asked_from<'w>(matches: &ArgMatches<'w>) -> Result<Choice<'w>, Misfit>
     ensures err { IfErr result (λ misfit. IsSomeAnd (subcommand_rows_of matches.now) (λ found. HasShowMisfit found misfit)) }
 {
     if let Some(options) = matches.subcommand_matches("trace") {
-        let (run, form) = traced_run(options)?;
-        return Ok(Choice::Show(run, Shape::Trace(form)));
+        return trace_choice(options);
     }
     if let Some(options) = matches.subcommand_matches("chart") {
-        let (run, charting) = charted_run(options)?;
-        return Ok(Choice::Show(run, Shape::Chart(charting)));
+        return chart_choice(options);
     }
     if let Some(options) = matches.subcommand_matches("explain") {
-        return Ok(Choice::Show(showing_run(options)?, Shape::Explain));
+        return showing_choice(options, Shape::Explain);
     }
     let options = matches.subcommand_matches("stats").unwrap();
-    Ok(Choice::Show(showing_run(options)?, Shape::Stats))
+    showing_choice(options, Shape::Stats)
 }
 
-fn plain_run<'w>(options: &ArgMatches<'w>) -> Result<PlainRun<'w>, Misfit>
+fn plain_choice<'w>(options: &ArgMatches<'w>) -> Result<Choice<'w>, Misfit>
     requires { IsPlainTaken (rows_of (found_of options.now)) }
-    ensures ok { IfOk result (IsPlainRun (rows_of (found_of options.now))) }
+    ensures ok { IfOk result (IsChoice (codes "plain", rows_of (found_of options.now))) }
     ensures err { IfErr result (HasPlainMisfit (rows_of (found_of options.now))) }
 {
-    Ok(PlainRun {
+    Ok(Choice::Plain(PlainRun {
         file: text_of(options, "FILE"),
         nodes: nodes_of(options)?,
         steps: steps_of(options)?,
-    })
+    }))
 }
 
-fn judging<'w>(options: &ArgMatches<'w>) -> Result<Judging<'w>, Misfit>
+fn judge_choice<'w>(options: &ArgMatches<'w>) -> Result<Choice<'w>, Misfit>
     requires { IsJudgeTaken (rows_of (found_of options.now)) }
-    ensures ok { IfOk result (IsJudging (rows_of (found_of options.now))) }
+    ensures ok { IfOk result (IsChoice (codes "judge", rows_of (found_of options.now))) }
     ensures err { IfErr result (HasJudgeMisfit (rows_of (found_of options.now))) }
 {
     let nodes = some_nodes(some_number_of(options, "nodes"))?;
-    Ok(Judging {
+    Ok(Choice::Judge(Judging {
         file: text_of(options, "FILE"),
         nodes,
         pairs: is_named(options, "pairs"),
-    })
+    }))
 }
 
 fn some_nodes(count: Option<u64>) -> Result<Option<Nodes>, Misfit>
@@ -145,17 +143,17 @@ fn some_nodes(count: Option<u64>) -> Result<Option<Nodes>, Misfit>
     }
 }
 
-fn exploring<'w>(options: &ArgMatches<'w>) -> Result<Exploring<'w>, Misfit>
+fn explore_choice<'w>(options: &ArgMatches<'w>) -> Result<Choice<'w>, Misfit>
     requires { IsExploreTaken (rows_of (found_of options.now)) }
-    ensures ok { IfOk result (IsExploring (rows_of (found_of options.now))) }
+    ensures ok { IfOk result (IsChoice (codes "explore", rows_of (found_of options.now))) }
     ensures err { IfErr result (HasExploreMisfit (rows_of (found_of options.now))) }
 {
-    Ok(Exploring {
+    Ok(Choice::Explore(Exploring {
         file: text_of(options, "FILE"),
         nodes: nodes_of(options)?,
         most: most_of(options)?,
         outcomes: is_named(options, "outcomes"),
-    })
+    }))
 }
 
 impl From<AllocError> for ChooseFault {

@@ -4,15 +4,16 @@ ghost use Rattle.std.specs.Prelude.{◌≡◌, Bool, IfErr, IfOk, IfSome, None, 
 ghost use Rattle.clap.specs.Words.{first_of, found_of, rows_of};
 ghost use Rattle.lrc_envelope.specs.declared.picker.Picker.{Picker as AnyPicker};
 ghost use Rattle.lrc_words.specs.CommandLine.{HasMisfitOfRun, HasShowingMisfit, HasThreadsMisfit, HasTraceMisfit, IsRun, IsShowingRun, IsThreadsRun};
-ghost use Rattle.lrc_words.specs.CommandLine.{IsCharting};
+ghost use Rattle.lrc_words.specs.CommandLine.{IsCharting, IsChoice};
 ghost use Rattle.lrc_words.specs.Options.{AreRunOptions, HasFormMisfitIn, HasOptionsMisfit, HasValue, HasWayMisfit, HasWayMisfitIn};
 ghost use Rattle.lrc_words.specs.Options.{HasWordMisfit, IsForm, IsFormIn, IsOrder, IsPicker, IsRunTaken, IsShowingTaken, IsSimTaken};
 ghost use Rattle.lrc_words.specs.Options.{IsChartTaken, IsTraceTaken, IsWay, IsWayIn};
 ghost use Rattle.lrc_words.specs.declared.misfit.Misfit.TheVariants as unfit;
 ghost use Rattle.lrc_words.specs.declared.choice.Form.{Form as AnyForm};
+ghost use Rattle.lrc_words.specs.declared.choice.RunChoice.{RunChoice as AnyRun};
 ghost use Rattle.lrc_words.specs.declared.runs.Order.{Order as AnyOrder};
 
-use crate::choice::{Charting, Form, RunChoice, RunOptions, Way};
+use crate::choice::{Charting, Choice, Form, RunChoice, RunOptions, Shape, Way};
 use crate::misfit::Misfit;
 use crate::reading::{collect_of, is_named, nodes_of, size_of, some_number_of, steps_of, text_of};
 use clap::ArgMatches;
@@ -27,8 +28,8 @@ pub(crate) enum Order {
     Random,
 }
 
-/// The run of a command that has a flag for threads.
-pub(crate) fn showing_run<'w>(options: &ArgMatches<'w>) -> Result<RunChoice<'w>, Misfit>
+// The run of a command that has a flag for threads.
+fn showing_run<'w>(options: &ArgMatches<'w>) -> Result<RunChoice<'w>, Misfit>
     requires { IsShowingTaken (rows_of (found_of options.now)) }
     ensures ok { IfOk result (IsShowingRun (rows_of (found_of options.now))) }
     ensures err { IfErr result (HasShowingMisfit (rows_of (found_of options.now))) }
@@ -50,25 +51,35 @@ pub(crate) fn run_choice<'w>(
     Ok(RunChoice { options, way })
 }
 
-/// A run, and the form of its trace.
-pub(crate) fn traced_run<'w>(options: &ArgMatches<'w>) -> Result<(RunChoice<'w>, Form), Misfit>
+/// The choice of `trace`.
+pub(crate) fn trace_choice<'w>(options: &ArgMatches<'w>) -> Result<Choice<'w>, Misfit>
     requires { IsTraceTaken (rows_of (found_of options.now)) }
-    ensures form { IfOk result (λ traced. IsFormIn (rows_of (found_of options.now)) traced.1) }
-    ensures run { IfOk result (λ traced. IsShowingRun (rows_of (found_of options.now)) traced.0) }
+    ensures ok { IfOk result (IsChoice (codes "trace", rows_of (found_of options.now))) }
     ensures err { IfErr result (HasTraceMisfit (rows_of (found_of options.now))) }
 {
     let form = form_of(options)?;
-    Ok((showing_run(options)?, form))
+    Ok(Choice::Show(showing_run(options)?, Shape::Trace(form)))
 }
 
-/// A run, and which part of it is charted.
-pub(crate) fn charted_run<'w>(options: &ArgMatches<'w>) -> Result<(RunChoice<'w>, Charting), Misfit>
+/// The choice of `chart`.
+pub(crate) fn chart_choice<'w>(options: &ArgMatches<'w>) -> Result<Choice<'w>, Misfit>
     requires { IsChartTaken (rows_of (found_of options.now)) }
-    ensures charting { IfOk result (λ charted. IsCharting (rows_of (found_of options.now)) charted.1) }
-    ensures run { IfOk result (λ charted. IsShowingRun (rows_of (found_of options.now)) charted.0) }
+    ensures ok { IfOk result (IsChoice (codes "chart", rows_of (found_of options.now))) }
     ensures err { IfErr result (HasShowingMisfit (rows_of (found_of options.now))) }
 {
-    Ok((showing_run(options)?, charting_of(options)))
+    Ok(Choice::Show(showing_run(options)?, Shape::Chart(charting_of(options))))
+}
+
+/// The choice of a command that has no options but those of its run.
+pub(crate) fn showing_choice<'w>(
+    options: &ArgMatches<'w>,
+    shape: Shape,
+) -> Result<Choice<'w>, Misfit>
+    requires { IsShowingTaken (rows_of (found_of options.now)) }
+    ensures ok { IfOk result (λ choice. (run : AnyRun) × (choice ≡ Choice.Show run shape) × IsShowingRun (rows_of (found_of options.now)) run) }
+    ensures err { IfErr result (HasShowingMisfit (rows_of (found_of options.now))) }
+{
+    Ok(Choice::Show(showing_run(options)?, shape))
 }
 
 fn charting_of(options: &ArgMatches<'_>) -> Charting

@@ -1,10 +1,10 @@
 use Rattle.std.proofs.Common.{◌≡◌, ◌∙◌, List, Option, None, Some, IsSomeAnd, codes, inl, inr, refl}
-use Rattle.std.proofs.lemmas.Result.{IfErr-weaker}
+use Rattle.std.proofs.lemmas.Result.{IfErr-weaker, IfOk-weaker}
 use Rattle.clap.specs.Words.{Row, Text, first_of, found_of, rows_of, subcommand_rows_of}
 use Rattle.clap.specs.declared.parser.matches.ArgMatches.TheViews.{out-ArgMatches}
-use Rattle.lrc_words.specs.CommandLine.{HasMisfit, HasShowMisfit, IsExploring, IsJudging}
+use Rattle.lrc_words.specs.CommandLine.{HasMisfit, HasShowMisfit, IsChoice}
 use Rattle.lrc_words.specs.declared.misfit.Misfit.{Misfit}
-use Rattle.lrc_words.proofs.FoundLemmas.{found_as, found_at, misfit_up, name_before}
+use Rattle.lrc_words.proofs.FoundLemmas.{found_as, found_at, name_before}
 use Rattle.lrc_words.proofs.command_line.choice_from.Goals as goal
 
 -- what does not fit in a command that shows something of a run does not fit
@@ -23,49 +23,56 @@ returns-in-Some-clause-ok c =
     found_as (subcommand_rows_of c.args.matches.now) (codes "check") rows (λ rows. first_of (codes "FILE") rows ≡ Some _) named
     c.in-Some.ensures.rows c.text_of.ensures
 
+pub returns-in-Some-subcommand_matches-clause-ok : goal.returns-in-Some-subcommand_matches-clause-ok
+returns-in-Some-subcommand_matches-clause-ok c =
+    let found = subcommand_rows_of c.args.matches.now in
+    let rows = rows_of (found_of c.in-Some-subcommand_matches.options.now) in
+    let named = name_before (out-ArgMatches c.args.matches.now).subcommand ∙ c.in-Some-subcommand_matches.ensures.found.0 refl in
+    IfOk-weaker c.plain_choice.result _ _
+    (λ choice is. found_at found (codes "plain") rows (λ f. IsChoice f choice) named c.in-Some-subcommand_matches.ensures.rows is)
+    c.plain_choice.ensures.ok
+
+pub returns-in-Some-subcommand_matches-clause-err : goal.returns-in-Some-subcommand_matches-clause-err
+returns-in-Some-subcommand_matches-clause-err c =
+    let found = subcommand_rows_of c.args.matches.now in
+    let rows = rows_of (found_of c.in-Some-subcommand_matches.options.now) in
+    let named = name_before (out-ArgMatches c.args.matches.now).subcommand ∙ c.in-Some-subcommand_matches.ensures.found.0 refl in
+    IfErr-weaker c.plain_choice.result _ _
+    (λ misfit has. found_at found (codes "plain") rows (λ f. HasMisfit f misfit) named c.in-Some-subcommand_matches.ensures.rows (inl (refl, has)))
+    c.plain_choice.ensures.err
+
 pub returns-in-Some-subcommand_matches-2-clause-ok : goal.returns-in-Some-subcommand_matches-2-clause-ok
 returns-in-Some-subcommand_matches-2-clause-ok c =
+    let found = subcommand_rows_of c.args.matches.now in
     let rows = rows_of (found_of c.in-Some-subcommand_matches-2.options.now) in
     let named = name_before (out-ArgMatches c.args.matches.now).subcommand ∙ c.in-Some-subcommand_matches-2.ensures.found.0 refl in
-    found_as (subcommand_rows_of c.args.matches.now) (codes "judge") rows (λ rows. IsJudging rows _) named
-    c.in-Some-subcommand_matches-2.ensures.rows c.in_ok-judging.ensures.ok
+    IfOk-weaker c.judge_choice.result _ _
+    (λ choice is. found_at found (codes "judge") rows (λ f. IsChoice f choice) named c.in-Some-subcommand_matches-2.ensures.rows is)
+    c.judge_choice.ensures.ok
+
+pub returns-in-Some-subcommand_matches-2-clause-err : goal.returns-in-Some-subcommand_matches-2-clause-err
+returns-in-Some-subcommand_matches-2-clause-err c =
+    let found = subcommand_rows_of c.args.matches.now in
+    let rows = rows_of (found_of c.in-Some-subcommand_matches-2.options.now) in
+    let named = name_before (out-ArgMatches c.args.matches.now).subcommand ∙ c.in-Some-subcommand_matches-2.ensures.found.0 refl in
+    IfErr-weaker c.judge_choice.result _ _
+    (λ misfit has. found_at found (codes "judge") rows (λ f. HasMisfit f misfit) named c.in-Some-subcommand_matches-2.ensures.rows (inr (inl (refl, has))))
+    c.judge_choice.ensures.err
 
 pub returns-in-Some-subcommand_matches-3-clause-ok : goal.returns-in-Some-subcommand_matches-3-clause-ok
 returns-in-Some-subcommand_matches-3-clause-ok c =
+    let found = subcommand_rows_of c.args.matches.now in
     let rows = rows_of (found_of c.in-Some-subcommand_matches-3.options.now) in
     let named = name_before (out-ArgMatches c.args.matches.now).subcommand ∙ c.in-Some-subcommand_matches-3.ensures.found.0 refl in
-    found_as (subcommand_rows_of c.args.matches.now) (codes "explore") rows (λ rows. IsExploring rows _) named
-    c.in-Some-subcommand_matches-3.ensures.rows c.in_ok-exploring.ensures.ok
+    IfOk-weaker c.explore_choice.result _ _
+    (λ choice is. found_at found (codes "explore") rows (λ f. IsChoice f choice) named c.in-Some-subcommand_matches-3.ensures.rows is)
+    c.explore_choice.ensures.ok
 
-pub returns-in_err-plain_run-clause-err : goal.returns-in_err-plain_run-clause-err
-returns-in_err-plain_run-clause-err c =
+pub returns-in-Some-subcommand_matches-3-clause-err : goal.returns-in-Some-subcommand_matches-3-clause-err
+returns-in-Some-subcommand_matches-3-clause-err c =
     let found = subcommand_rows_of c.args.matches.now in
-    let misfit = c.in_err-plain_run.field-0.0 in
-    let rows = rows_of (found_of c.in-Some-subcommand_matches.options.now) in
-    let named = name_before (out-ArgMatches c.args.matches.now).subcommand ∙ c.in-Some-subcommand_matches.ensures.found.0 refl in
-    misfit_up c.from_residual.result misfit (λ m. IsSomeAnd found (λ f. HasMisfit f m))
-    c.from_residual.ensures.1
-    (found_at found (codes "plain") rows (λ f. HasMisfit f misfit) named
-    c.in-Some-subcommand_matches.ensures.rows (inl (refl, c.in_err-plain_run.ensures.err)))
-
-pub returns-in_err-judging-clause-err : goal.returns-in_err-judging-clause-err
-returns-in_err-judging-clause-err c =
-    let found = subcommand_rows_of c.args.matches.now in
-    let misfit = c.in_err-judging.field-0.0 in
-    let rows = rows_of (found_of c.in-Some-subcommand_matches-2.options.now) in
-    let named = name_before (out-ArgMatches c.args.matches.now).subcommand ∙ c.in-Some-subcommand_matches-2.ensures.found.0 refl in
-    misfit_up c.from_residual-in_err-judging.result misfit (λ m. IsSomeAnd found (λ f. HasMisfit f m))
-    c.from_residual-in_err-judging.ensures.1
-    (found_at found (codes "judge") rows (λ f. HasMisfit f misfit) named
-    c.in-Some-subcommand_matches-2.ensures.rows (inr (inl (refl, c.in_err-judging.ensures.err))))
-
-pub returns-in_err-exploring-clause-err : goal.returns-in_err-exploring-clause-err
-returns-in_err-exploring-clause-err c =
-    let found = subcommand_rows_of c.args.matches.now in
-    let misfit = c.in_err-exploring.field-0.0 in
     let rows = rows_of (found_of c.in-Some-subcommand_matches-3.options.now) in
     let named = name_before (out-ArgMatches c.args.matches.now).subcommand ∙ c.in-Some-subcommand_matches-3.ensures.found.0 refl in
-    misfit_up c.from_residual-in_err-exploring.result misfit (λ m. IsSomeAnd found (λ f. HasMisfit f m))
-    c.from_residual-in_err-exploring.ensures.1
-    (found_at found (codes "explore") rows (λ f. HasMisfit f misfit) named
-    c.in-Some-subcommand_matches-3.ensures.rows (inr (inr (inl (refl, c.in_err-exploring.ensures.err)))))
+    IfErr-weaker c.explore_choice.result _ _
+    (λ misfit has. found_at found (codes "explore") rows (λ f. HasMisfit f misfit) named c.in-Some-subcommand_matches-3.ensures.rows (inr (inr (inl (refl, has)))))
+    c.explore_choice.ensures.err
