@@ -1,10 +1,3 @@
-mod Steps
-mod Turned
-mod Traced
-mod Threads
-mod Logs
-mod Joined
-mod Pasts
 mod Telling
 mod Behind
 mod Worn

@@ -32,8 +32,8 @@ use Rattle.lrc_world.proofs.Races.{races_there, raceless_there, traces_there}
 use Rattle.lrc_world.proofs.Theorem.{consistent_acts}
 use Rattle.lrc_world.proofs.Worlds.{acts_in_range}
 use Rattle.lrc_run.specs.Run.{IsWovenReport, turns_of_nodes}
-use Rattle.lrc_run.specs.Threads.{is_any_ready_after, traces_of_logs}
-use Rattle.lrc_run.specs.Worker.{is_ready_after}
+use Rattle.lrc_threads.specs.Threads.{is_any_ready_after, traces_of_logs}
+use Rattle.lrc_threads.specs.Worker.{is_ready_after}
 
 module _ (program : Program) (nodes : ℕ) (options : OptionsRecord) (logs : List (List EntryRecord)) (events : List Event) (acts : List Act) (in_flight : ℕ)
     (m : MakesRun program nodes options logs events acts in_flight) where

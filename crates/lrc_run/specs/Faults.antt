@@ -11,8 +11,8 @@ use Rattle.lrc_weave.specs.Woven.{AreWoven}
 use Rattle.lrc_world.specs.declared.report.SimFault.{SimFault}
 use Rattle.lrc_world.specs.declared.report.SimFault.TheVariants as playing
 use Rattle.lrc_world.specs.Report.{IsWornBy}
-use Rattle.lrc_run.specs.declared.stop.Stop.{Stop}
-use Rattle.lrc_run.specs.declared.stop.Stop.TheVariants as stops
+use Rattle.lrc_threads.specs.declared.stop.Stop.{Stop}
+use Rattle.lrc_threads.specs.declared.stop.Stop.TheVariants as stops
 use Rattle.lrc_run.specs.declared.fault.RunFault.{RunFault}
 use Rattle.lrc_run.specs.declared.fault.RunFault.TheVariants.{BadNodes, BadSteps, Worn, Mismatch, NoMemory}
 

@@ -1,5 +1,3 @@
-pub mod Worker
-pub mod Threads
 pub mod Run
 pub mod Unfinished
 pub mod Faults

@@ -12,13 +12,11 @@ ghost use Rattle.lrc_run.specs.Run.{IsLate, WearsOutSoon};
 ghost use Rattle.lrc_run.specs.Unfinished.{input_of, is_take, left_behind, next_taken, put_at, unfinished};
 
 use crate::fault::RunFault;
-use crate::life::Failure;
-use crate::setting::Setting;
-use crate::stop::Stop;
 use bytes::Bytes;
 use lrc_node::{Entry, Input, Turn};
 use lrc_post::{Mailbox, Wire};
 use lrc_protocol::Event;
+use lrc_threads::{Failure, Setting, Stop};
 use lrc_weave::{WeaveFault, events_of};
 use lrc_wire::{WireFault, decode};
 use lrc_world::report::SimFault;

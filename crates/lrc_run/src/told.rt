@@ -12,15 +12,14 @@ ghost use Rattle.lrc_world.specs.Ends.{ends_of};
 ghost use Rattle.lrc_world.specs.Promises.{IsConsistent};
 ghost use Rattle.lrc_world.specs.Report.{IsWornBy};
 ghost use Rattle.lrc_run.specs.Run.{IsLate, IsWovenReport, WearsOutSoon, turns_of_nodes};
-ghost use Rattle.lrc_run.specs.Threads.{is_any_ready_after, traces_of_logs};
+ghost use Rattle.lrc_threads.specs.Threads.{is_any_ready_after, traces_of_logs};
 
 use crate::fault::RunFault;
-use crate::life::Parts;
-use crate::setting::Setting;
 use lrc_node::End;
 use lrc_post::Mailbox;
 use lrc_protocol::Event;
 use lrc_race::races;
+use lrc_threads::{Parts, Setting};
 use lrc_trace::act::Act;
 use lrc_trace::race::Race;
 use lrc_trace::trace::Trace;

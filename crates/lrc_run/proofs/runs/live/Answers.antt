@@ -1,6 +1,6 @@
 use Rattle.std.proofs.Common.{arith, map, rules}
-use Rattle.lrc_run.specs.Threads.{ArePastsOf}
-use Rattle.lrc_run.proofs.Pasts.{logs_of_nodes, ready_of_nodes, same_count, traces_of_nodes}
+use Rattle.lrc_threads.specs.Threads.{ArePastsOf}
+use Rattle.lrc_threads.proofs.Pasts.{logs_of_nodes, ready_of_nodes, same_count, traces_of_nodes}
 use Rattle.lrc_run.proofs.runs.live.Goals as goal
 
 pub fault_of-requires-clause-few : goal.fault_of-requires-clause-few

@@ -4,7 +4,7 @@ use Rattle.lrc_judge.specs.Races.{AreNamedRaces}
 use Rattle.lrc_trace.specs.Conflict.{IsFirstRace, IsRaceFree}
 use Rattle.lrc_world.specs.Promises.{IsConsistent}
 use Rattle.lrc_world.specs.Ends.{ends_of}
-use Rattle.lrc_run.specs.Threads.{traces_of_logs}
+use Rattle.lrc_threads.specs.Threads.{traces_of_logs}
 use Rattle.lrc_run.specs.Run.{turns_of_nodes}
 use Rattle.lrc_run.specs.Run.{IsWovenReport}
 use Rattle.lrc_run.proofs.Telling.{acts_told, over_told, raceless_told, races_told, report_told, run_told, still_matched, theorem_told, traces_told}

@@ -1,0 +1,7 @@
+mod Steps
+mod Turned
+mod Traced
+mod Threads
+mod Logs
+mod Joined
+pub mod Pasts

@@ -1,0 +1,84 @@
+-- What the nodes of a run did, taken apart.
+use Rattle.std.proofs.Common.{◌≡◌, ◌∙◌, ℕ, suc, ◌+◌, ◌||◌, Bool, List, [], ◌∷◌, Option, None, Some, option_map, refl, sym, ap, subst, arith, length, map}
+use Rattle.std.specs.Prelude.{slice_get}
+use Rattle.std.specs.List.{enumerate_from, list_any}
+use Rattle.std.proofs.lemmas.List.{length-map}
+use Rattle.std.proofs.lemmas.Option.{slice_get-map}
+use Rattle.lrc_lang.specs.declared.program.Program.{Program}
+use Rattle.lrc_trace.specs.Trace.{TraceRecord}
+use Rattle.lrc_protocol.specs.Node.{OptionsRecord, fresh_node}
+use Rattle.lrc_protocol.specs.Run.{EntryRecord}
+use Rattle.lrc_protocol.specs.Traced.{trace_of}
+use Rattle.lrc_weave.specs.Logs.{AreLogs}
+use Rattle.lrc_threads.specs.declared.life.Past.{Past}
+use Rattle.lrc_threads.specs.Threads.{ArePastsOf, is_any_ready_after, traces_of_logs}
+use Rattle.lrc_threads.specs.Worker.{IsLogOf, is_ready_after}
+
+-- what is the same at each place is the same of all
+same_at_each : {A B X : Type 0} (f : A → X) (g : ℕ → B → X) (part : A → B) (n : ℕ) (items : List A)
+    → ((k : ℕ) (one : A) → slice_get items k ≡ Some one → f one ≡ g (n + k) (part one))
+    → map f items ≡ map (λ at. g at.0 at.1) (enumerate_from n (map part items))
+same_at_each f g part n [] same = refl
+same_at_each f g part n (one ∷ items) same =
+    let here : n + 0 ≡ n = omega arith in
+    let first : f one ≡ g n (part one) = same 0 one refl ∙ ap (λ k. g k (part one)) here in
+    let others : map f items ≡ map (λ at. g at.0 at.1) (enumerate_from (n + 1) (map part items)) =
+    same_at_each f g part (n + 1) items
+    (λ k other at. let next : n + suc k ≡ n + 1 + k = omega arith in same (suc k) other at ∙ ap (λ i. g i (part other)) next) in
+    ap (λ x. x ∷ map f items) first ∙ ap (λ xs. g n (part one) ∷ xs) others
+
+-- a test of any element is one of any answer of the test
+any_of_map : {A : Type 0} (test : A → Bool) (items : List A) → list_any test items ≡ list_any (λ b. b) (map test items)
+any_of_map test [] = refl
+any_of_map test (one ∷ items) = ap (λ b. test one || b) (any_of_map test items)
+
+-- what is at a place of these parts is the part of what is there
+found_at : {A B : Type 0} (part : A → B) (o : Option A) (b : B) → option_map part o ≡ Some b → (a : A) × (o ≡ Some a) × (part a ≡ b)
+found_at part None b is = cc
+found_at part (Some a) b is = (a, refl, cc)
+
+-- what has the same parts has as many
+pub same_count : {A B C : Type 0} (f : A → C) (g : B → C) (xs : List A) (ys : List B) → map f xs ≡ map g ys → length xs ≡ length ys
+same_count f g xs ys is = sym (length-map xs f) ∙ ap length is ∙ length-map ys g
+
+-- the turns of a node that it did on its thread
+abbrev log_of_past : Past → List EntryRecord
+log_of_past past = past.log.items
+
+module _ (program : Program) (nodes : ℕ) (options : OptionsRecord) (pasts : List Past) (are : ArePastsOf program nodes options pasts)
+    (logs : List (List EntryRecord)) (is : logs ≡ map log_of_past pasts) where
+  -- the turns are those of the nodes
+  pub logs_of_nodes : AreLogs program nodes options logs
+  logs_of_nodes = record {
+    count = ap length is ∙ length-map pasts log_of_past ∙ are.count;
+    each = λ n log at.
+        let there : option_map log_of_past (slice_get pasts n) ≡ Some log =
+        sym (slice_get-map log_of_past pasts n) ∙ ap (λ ls. slice_get ls n) (sym is) ∙ at in
+        let found = found_at log_of_past (slice_get pasts n) log there in
+        subst (IsLogOf (fresh_node program nodes options n)) found.2 (are.each n found.0 found.1).log_is;
+  }
+
+  -- the traces are theirs
+  pub traces_of_nodes : (traces : List TraceRecord) → traces ≡ map (λ past. past.trace) pasts → traces ≡ traces_of_logs program nodes options logs
+  traces_of_nodes traces same =
+      let each = λ (k : ℕ) (past : Past) (at : slice_get pasts k ≡ Some past).
+      let place : k ≡ 0 + k = omega arith in
+      (are.each k past at).trace_is ∙ ap (λ (n : ℕ). trace_of (fresh_node program nodes options n) past.log.items) place in
+      same
+      ∙ same_at_each (λ (past : Past). past.trace) (λ (n : ℕ) (log : List EntryRecord). trace_of (fresh_node program nodes options n) log) log_of_past
+      0 pasts each
+      ∙ ap (traces_of_logs program nodes options) (sym is)
+
+  -- and it is whether any of them would go on
+  pub ready_of_nodes : (ready : Bool) → ready ≡ list_any (λ past. past.is_ready) pasts → ready ≡ is_any_ready_after program nodes options logs
+  ready_of_nodes ready same =
+      let each = λ (k : ℕ) (past : Past) (at : slice_get pasts k ≡ Some past).
+      let place : k ≡ 0 + k = omega arith in
+      (are.each k past at).ready_is ∙ ap (λ (n : ℕ). is_ready_after (fresh_node program nodes options n) past.log.items) place in
+      same
+      ∙ any_of_map (λ (past : Past). past.is_ready) pasts
+      ∙ ap (list_any (λ (b : Bool). b))
+      (same_at_each (λ (past : Past). past.is_ready) (λ (n : ℕ) (log : List EntryRecord). is_ready_after (fresh_node program nodes options n) log)
+      log_of_past 0 pasts each)
+      ∙ sym (any_of_map (λ (at : ℕ × List EntryRecord). is_ready_after (fresh_node program nodes options at.0) at.1) (enumerate_from 0 (map log_of_past pasts)))
+      ∙ ap (is_any_ready_after program nodes options) (sym is)

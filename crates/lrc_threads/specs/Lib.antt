@@ -1,0 +1,2 @@
+pub mod Worker
+pub mod Threads

@@ -1,0 +1,46 @@
+-- What the threads of a run owe.
+use Rattle.std.specs.Prelude.{◌≡◌, ℕ, ◌+◌, Bool, Some, List, length, map, slice_get}
+use Rattle.std.specs.List.{enumerate_from, list_any}
+use Rattle.lrc_lang.specs.declared.program.Program.{Program}
+use Rattle.lrc_trace.specs.Trace.{TraceRecord}
+use Rattle.lrc_protocol.specs.Node.{Node, OptionsRecord, fresh_node}
+use Rattle.lrc_protocol.specs.Run.{EntryRecord}
+use Rattle.lrc_protocol.specs.Traced.{trace_of}
+use Rattle.lrc_threads.specs.declared.life.Past.{Past}
+use Rattle.lrc_threads.specs.declared.nodes.PastOf.{PastOf}
+use Rattle.lrc_threads.specs.Worker.{IsPastOf, is_ready_after}
+
+-- a thread owes the past of this node
+pub record IsOwed (program : Program) (nodes : ℕ) (options : OptionsRecord) (n : ℕ) (owed : PastOf) : Type 0 where
+  pub its_program : owed.program.now ≡ program
+  pub its_nodes : owed.member.nodes ≡ nodes
+  pub its_options : owed.member.options ≡ options
+  pub its_number : owed.member.me ≡ n
+
+-- threads owe the pasts of the nodes from one on
+abbrev pub AreOwedFrom : Program → ℕ → OptionsRecord → ℕ → List PastOf → Type 0
+AreOwedFrom program nodes options first owed =
+    (place : ℕ) (one : PastOf) → slice_get owed place ≡ Some one → IsOwed program nodes options (first + place) one
+
+-- this is what a node that started like this did on its thread
+abbrev pub IsPast : Node → Past → Type 0
+IsPast start past = IsPastOf start past.log.items past.trace past.is_ready
+
+-- pasts of the nodes of a program, as many as there are, from node 0 up
+abbrev pub AreFirstPasts : Program → ℕ → OptionsRecord → List Past → Type 0
+AreFirstPasts program nodes options pasts =
+    (n : ℕ) (past : Past) → slice_get pasts n ≡ Some past → IsPast (fresh_node program nodes options n) past
+
+-- there is one past for each node of a program, from node 0 up, and it is that of a fresh node
+pub record ArePastsOf (program : Program) (nodes : ℕ) (options : OptionsRecord) (pasts : List Past) : Type 0 where
+  pub count : length pasts ≡ nodes
+  pub each : AreFirstPasts program nodes options pasts
+
+-- the traces of a program's nodes that have these logs, from node 0 up
+abbrev pub traces_of_logs : Program → ℕ → OptionsRecord → List (List EntryRecord) → List TraceRecord
+traces_of_logs program nodes options logs = map (λ at. trace_of (fresh_node program nodes options at.0) at.1) (enumerate_from 0 logs)
+
+-- whether one of them would go on
+abbrev pub is_any_ready_after : Program → ℕ → OptionsRecord → List (List EntryRecord) → Bool
+is_any_ready_after program nodes options logs =
+    list_any (λ at. is_ready_after (fresh_node program nodes options at.0) at.1) (enumerate_from 0 logs)

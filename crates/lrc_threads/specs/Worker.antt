@@ -1,0 +1,148 @@
+-- What one node's thread does: its turns, what it puts and what it takes.
+use Rattle.std.specs.Prelude.{◌≡◌, ℕ, Bool, true, false, Option, Some, None, Result, Ok, Err, is_err, List, [], ◌∷◌, ◌++◌, map}
+use Rattle.lrc_wire.specs.declared.fault.WireFault.{WireFault}
+use Rattle.lrc_envelope.specs.Envelope.{EnvelopeRecord}
+use Rattle.lrc_wire.specs.Reading.{envelope_of}
+use Rattle.lrc_post.specs.declared.fault.PostFault.{PostFault}
+use Rattle.lrc_post.specs.declared.fault.PostFault.TheVariants as PostFaults
+use Rattle.lrc_post.specs.declared.parcel.Parcel.{Parcel}
+use Rattle.lrc_trace.specs.Trace.{TraceRecord}
+use Rattle.lrc_protocol.specs.Node.{Node}
+use Rattle.lrc_protocol.specs.Turn.{is_ready}
+use Rattle.lrc_protocol.specs.Run.{Input, run, taken, EntryRecord, Logged, logged, refused, logs}
+use Rattle.lrc_protocol.specs.Follows.{inputs_of}
+use Rattle.lrc_protocol.specs.Traced.{traced, trace_of}
+use Rattle.lrc_node.specs.Logged.{LoggedNode, TracedLog, LeadsFrom, sound}
+use Rattle.lrc_node.specs.declared.fault.NodeFault.{NodeFault}
+use Rattle.lrc_node.specs.declared.fault.NodeFault.TheVariants as NodeFaults
+use Rattle.lrc_node.specs.declared.fault.NodeFault.TheVariants.{Failed, NotReady, Unexpected}
+use Rattle.lrc_weave.specs.Logs.{MayCome, GoesOnBy}
+use Rattle.lrc_threads.specs.declared.stop.Stop.{Stop}
+use Rattle.lrc_threads.specs.declared.stop.Stop.TheVariants.{Closed, Worn, NoMemory}
+
+-- for whom a parcel is, its stamp, and what its bytes say
+abbrev pub Shown : Type 0
+Shown = ℕ × (ℕ × Result EnvelopeRecord WireFault)
+
+abbrev pub shown : Parcel → Shown
+shown parcel = (parcel.to, (parcel.stamp, envelope_of parcel.bytes))
+
+-- the same of a message that is sent with a stamp
+abbrev pub shown_sent : ℕ → EnvelopeRecord → Shown
+shown_sent stamp envelope = (envelope.to, (stamp, Ok envelope))
+
+-- these parcels have the messages of a turn, in order, with its stamp
+abbrev pub AreParcels : EntryRecord → List Parcel → Type 0
+AreParcels entry parcels = map shown parcels ≡ map (shown_sent entry.stamp) entry.turn.out
+
+-- a node would refuse what these bytes say, if they say anything
+abbrev pub IsRefused : Logged → ℕ → Result EnvelopeRecord WireFault → Type 0
+IsRefused l stamp (Ok envelope) = logs l (taken envelope) stamp ≡ refused
+IsRefused l stamp (Err fault) = Unit {0}
+
+-- the messages of a turn are put
+abbrev pub Sends : {S : Type 0} → (S → List Parcel → S → Type 0) → S → EntryRecord → S → Type 0
+Sends puts s entry t = (parcels : List Parcel) × AreParcels entry parcels × puts s parcels t
+
+abbrev pub SendsTo : {S : Type 0} → (S → List Parcel → S → Type 0) → S → EntryRecord → S → Result (Unit {0}) Stop → Type 0
+SendsTo puts s entry t (Ok done) = Sends puts s entry t
+SendsTo puts s entry t (Err stop) = Unit {0}
+
+-- One step of a node's thread, from a state of its mail and a node with its log on. The node goes on by itself, and the messages of
+-- its turn are put. Or a parcel is taken, and the node takes its message with the parcel's stamp; or refuses it, and makes no turn.
+pub data Step {S : Type 0} (puts : S → List Parcel → S → Type 0) (takes : S → Parcel → S → Type 0) : S → Logged → S → Logged → Type 0 where
+  goes_on : {s t : S} {l after : Logged} {entry : EntryRecord}
+      → logs l run 0 ≡ logged entry after → Sends puts s entry t → Step puts takes s l t after
+  takes_message : {s m t : S} {l after : Logged} {entry : EntryRecord} {parcel : Parcel} {envelope : EnvelopeRecord}
+      → takes s parcel m → envelope_of parcel.bytes ≡ Ok envelope → logs l (taken envelope) parcel.stamp ≡ logged entry after
+      → Sends puts m entry t → Step puts takes s l t after
+  drops : {s t : S} {l : Logged} {parcel : Parcel}
+      → takes s parcel t → IsRefused l parcel.stamp (envelope_of parcel.bytes) → Step puts takes s l t l
+
+-- any number of steps
+pub data GoesThrough {S : Type 0} (puts : S → List Parcel → S → Type 0) (takes : S → Parcel → S → Type 0) (s : S) (l : Logged)
+    : S → Logged → Type 0 where
+  stays : GoesThrough puts takes s l s l
+  steps : {m t : S} {k j : Logged} → GoesThrough puts takes s l m k → Step puts takes m k t j → GoesThrough puts takes s l t j
+
+-- any number of turns of a node with its log
+pub data Turns (l : Logged) : Logged → Type 0 where
+  none : Turns l l
+  more : {k j : Logged} {entry : EntryRecord} (input : Input) (came : ℕ)
+      → Turns l k → MayCome input came → logs k input came ≡ logged entry j → Turns l j
+
+-- a node that has made no turn
+abbrev pub no_turn_yet : Node → Logged
+no_turn_yet node = record { node = node; log = [] }
+
+-- a log is that of turns of this node, from its first on
+abbrev pub IsLogOf : Node → List EntryRecord → Type 0
+IsLogOf start log = GoesOnBy (no_turn_yet start) log
+
+-- What comes of a thread's steps: its log tells what it put and took. Where the post was closed while the node had messages to
+-- send, its log is still that of its turns. Otherwise the node has failed.
+abbrev pub GoesTo : {S A : Type 0} → (S → List Parcel → S → Type 0) → (S → Parcel → S → Type 0)
+    → S → Logged → S → LoggedNode → Result A Stop → Type 0
+GoesTo puts takes s l t new (Ok done) = (j : Logged) × (new ≡ sound j) × GoesThrough puts takes s l t j
+GoesTo puts takes s l t new (Err Closed) = (j : Logged) × (new ≡ sound j) × Turns l j
+GoesTo puts takes s l t new (Err Worn) = Unit {0}
+GoesTo puts takes s l t new (Err NoMemory) = Unit {0}
+
+-- What came of a node that started like this, where its thread goes on or the post was closed: its log leads to it from there, and
+-- its trace is that of the log's turns.
+abbrev pub LeadsOn : {A : Type 0} → Node → TracedLog → Result A Stop → Type 0
+LeadsOn start new (Ok done) = (j : Logged) × LeadsFrom start j new
+LeadsOn start new (Err Closed) = (j : Logged) × LeadsFrom start j new
+LeadsOn start new (Err Worn) = Unit {0}
+LeadsOn start new (Err NoMemory) = Unit {0}
+
+-- a node that keeps the trace of its turns from its first on still does
+abbrev pub TracesTo : {A : Type 0} → TracedLog → TracedLog → Result A Stop → Type 0
+TracesTo old new result = (start : Node) (l : Logged) → LeadsFrom start l old → LeadsOn start new result
+
+-- whether a node that started like this would go on after these turns
+abbrev pub is_ready_after : Node → List EntryRecord → Bool
+is_ready_after start log = is_ready (traced start (inputs_of log)).node
+
+-- a node's log is that of its turns from its first on, the trace is theirs, and it says whether the node would go on after them
+pub record IsPastOf (start : Node) (log : List EntryRecord) (trace : TraceRecord) (ready : Bool) : Type 0 where
+  pub log_is : IsLogOf start log
+  pub trace_is : trace ≡ trace_of start log
+  pub ready_is : ready ≡ is_ready_after start log
+
+-- a node that has not failed and would not go on by itself
+abbrev pub IsIdle : LoggedNode → Type 0
+IsIdle node = (j : Logged) × (node ≡ sound j) × (is_ready j.node ≡ false)
+
+-- the next parcel was taken, or there is none and nothing changed
+abbrev pub TakesNext : {S : Type 0} → (S → Parcel → S → Type 0) → S → Option Parcel → S → Type 0
+TakesNext takes s None t = t ≡ s
+TakesNext takes s (Some parcel) t = takes s parcel t
+
+-- what a node made of a parcel that was taken from one state of its mail to another: a step from the first
+abbrev pub TakesIn : {S : Type 0} → (S → List Parcel → S → Type 0) → (S → Parcel → S → Type 0)
+    → S → Parcel → Logged → S → LoggedNode → Result (Unit {0}) Stop → Type 0
+TakesIn puts takes m parcel l t new result = (s : _) → takes s parcel m → GoesTo puts takes s l t new result
+
+-- the newest entry of a node's log is this
+abbrev pub LogsLast : LoggedNode → EntryRecord → Type 0
+LogsLast node entry = (before : List EntryRecord) × (node.log ≡ before ++ entry ∷ [])
+
+-- bytes were read: this is what they say, if they say anything
+abbrev pub IsRead : Option EnvelopeRecord → Result EnvelopeRecord WireFault → Type 0
+IsRead (Some envelope) said = said ≡ Ok envelope
+IsRead None said = is_err said ≡ true
+
+-- why a thread stops whose post refuses
+abbrev pub stop_of : PostFault → Stop
+stop_of PostFaults.Closed = Closed
+stop_of PostFaults.NoMemory = NoMemory
+
+-- whether a node made a turn, by what it answered
+abbrev pub made_of : Result (Unit {0}) NodeFault → Result Bool Stop
+made_of (Ok done) = Ok true
+made_of (Err NotReady) = Ok false
+made_of (Err Unexpected) = Ok false
+made_of (Err NodeFaults.Worn) = Err Worn
+made_of (Err NodeFaults.NoMemory) = Err NoMemory
+made_of (Err Failed) = Err NoMemory
