@@ -29,22 +29,29 @@ pub(crate) struct Life {
 /// A node whose thread failed, or could not be started, and why.
 #[derive(Clone, Copy)]
 pub struct Failure {
+    /// The node's number.
     pub node: usize,
+    /// Why its thread stopped.
     pub stop: Stop,
 }
 
 /// What the threads of a run leave: what the nodes from 0 up did, and the first failure, by the nodes' numbers.
 #[derive(Drop)]
 pub struct Lives {
+    /// What each node did, from node 0 up.
     pub pasts: Vec<Past>,
+    /// That of the lowest node that had one.
     pub failure: Option<Failure>,
 }
 
 /// The turns of all nodes, their traces, and whether any of them would go on.
 #[derive(Drop)]
 pub struct Parts {
+    /// The turns of each node with their stamps, from node 0 up.
     pub logs: Vec<Vec<Entry>>,
+    /// The accesses of each node by interval, from node 0 up.
     pub traces: Vec<Trace>,
+    /// Whether a node would go on if it were named.
     pub is_any_ready: bool,
 }
 
@@ -105,7 +112,7 @@ pub(crate) fn of_all(lives: Lives, nodes: u8) -> Lives
     }
 }
 
-/// What the nodes did, taken apart.
+/// What the nodes did, taken apart. An error where there is no memory for the lists.
 pub fn parts_of(alloc: Global, pasts: Vec<Past>) -> Result<Parts, AllocError>
     ensures logs { IfOk result (λ parts. map (λ log. log.items) parts.logs.items ≡ map (λ past. past.log.items) pasts.items) }
     ensures traces { IfOk result (λ parts. parts.traces.items ≡ map (λ past. past.trace) pasts.items) }

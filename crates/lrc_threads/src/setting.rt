@@ -8,8 +8,11 @@ use lrc_node::Options;
 /// What a run is made with: the program, how many nodes run it, and how they go.
 #[derive(Clone, Copy)]
 pub struct Setting<'p> {
+    /// The program.
     pub program: &'p Program,
+    /// How many nodes run it, 1 to 16.
     pub nodes: u8,
+    /// How they go.
     pub options: Options,
 }
 
