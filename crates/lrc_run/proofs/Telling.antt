@@ -1,6 +1,6 @@
 -- The report of a run that its logs tell of.
-use Rattle.std.proofs.Common.{◌≡◌, ◌∙◌, ◌<◌, ◌≤◌, ◌+◌, ℕ, suc, List, [], ◌∷◌, Bool, false, Some, ◌||◌, refl, sym, ap, subst, arith, map}
-use Rattle.std.specs.Prelude.{All, MatchOption, slice_get}
+use Rattle.std.proofs.Common.{◌≡◌, ◌∙◌, ◌<◌, ◌≤◌, ◌+◌, ℕ, suc, List, [], ◌∷◌, ◌⊎◌, inl, inr, Bool, true, false, length, Some, ◌||◌, refl, sym, ap, subst, arith, map}
+use Rattle.std.specs.Prelude.{All, MatchOption, Option, slice_get}
 use Rattle.std.specs.List.{enumerate_from, list_any}
 use Rattle.lrc_lang.specs.declared.program.Program.{Program}
 use Rattle.lrc_trace.specs.declared.act.Act.{Act}
@@ -13,7 +13,7 @@ use Rattle.lrc_post.specs.Mailbox.{MailboxRecord}
 use Rattle.lrc_protocol.specs.declared.event.Event.{Event}
 use Rattle.lrc_protocol.specs.Follows.{inputs_of, turns_of}
 use Rattle.lrc_protocol.specs.Node.{OptionsRecord, fresh_node}
-use Rattle.lrc_protocol.specs.Run.{EntryRecord, Logged, Flying}
+use Rattle.lrc_protocol.specs.Run.{EntryRecord, Logged, World, Flying, run_of}
 use Rattle.lrc_protocol.specs.Traced.{trace_of, traced, traces_of}
 use Rattle.lrc_protocol.specs.Turn.{is_ready}
 use Rattle.lrc_protocol.proofs.Traces.{traced_node}
@@ -34,6 +34,12 @@ use Rattle.lrc_world.proofs.Worlds.{acts_in_range}
 use Rattle.lrc_run.specs.Run.{IsWovenReport, turns_of_nodes}
 use Rattle.lrc_threads.specs.Threads.{is_any_ready_after, traces_of_logs}
 use Rattle.lrc_threads.specs.Worker.{is_ready_after}
+
+some_same : {X : Type 0} (o : Option X) (x y : X) → o ≡ Some x → o ≡ Some y → x ≡ y
+some_same o x y a b = cc
+
+true_false : true ≡ false → ⊥
+true_false e = cc
 
 module _ (program : Program) (nodes : ℕ) (options : OptionsRecord) (logs : List (List EntryRecord)) (events : List Event) (acts : List Act) (in_flight : ℕ)
     (m : MakesRun program nodes options logs events acts in_flight) where
@@ -109,6 +115,19 @@ module _ (program : Program) (nodes : ℕ) (options : OptionsRecord) (logs : Lis
       taken = none_long m.world.flight (omega (arith, m.flight, landed));
     },
   )
+
+  pub left_over : (any : Bool) → any ≡ is_any_ready_after program nodes options logs → (any ≡ true) ⊎ (1 ≤ in_flight)
+      → AreAll program nodes options events → ⊥
+  left_over any ready (inl some) all =
+      true_false
+      (sym some ∙ ready ∙ ready_same
+      ∙ ap (λ w. list_any (λ (l : Logged). is_ready l.node) w.nodes)
+      (some_same (run_of program nodes options events) m.world all.0 m.runs all.1)
+      ∙ all.2.idle)
+  left_over any ready (inr some) all =
+      let none : length m.world.flight ≡ 0 =
+      ap (λ (w : World). length w.flight) (some_same (run_of program nodes options events) m.world all.0 m.runs all.1) ∙ ap length all.2.taken in
+      omega (arith, some, m.flight, none)
 
   -- ---- the report
 

@@ -1,5 +1,5 @@
 -- What a run of nodes on threads answers.
-use Rattle.std.specs.Prelude.{◌≡◌, ℕ, ◌<◌, ◌^◌, List, length, map}
+use Rattle.std.specs.Prelude.{◌≡◌, ℕ, ◌<◌, ◌^◌, ◌⊎◌, List, length, map}
 use Rattle.lrc_lang.specs.declared.program.Program.{Program}
 use Rattle.lrc_envelope.specs.declared.picker.Picker.{Picker}
 use Rattle.lrc_post.specs.Mailbox.{MailboxRecord}
@@ -36,6 +36,12 @@ pub record AreWiresOf (nodes : ℕ) (picker : Picker) (report : Report) (wires :
   pub picked : AreOf picker wires
   pub matched : AreMatched (turns_of_nodes report) wires
 
+-- Logs and mailboxes that no report comes of: they tell of different messages, or after the events that make all turns of the logs a
+-- node is ready or a message in flight.
+abbrev pub IsUntold : Program → ℕ → OptionsRecord → List (List EntryRecord) → List MailboxRecord → Type 0
+IsUntold program nodes options logs wires = (AreMatched logs wires → ⊥)
+    ⊎ ((events : List Event) × (flight : List Flying) × AreWoven logs events flight × (AreAll program nodes options events → ⊥))
+
 -- ---- faults
 
 -- A number, an interval's index or a stamp becomes too large, or a message too long, at one of fewer than 2^64 events of a program's
@@ -55,3 +61,11 @@ IsLate BadSteps = ⊥
 IsLate Worn = Unit {0}
 IsLate Mismatch = Unit {0}
 IsLate NoMemory = Unit {0}
+
+-- a fault that is met only once all nodes have ended
+abbrev pub IsOfTelling : RunFault → Type 0
+IsOfTelling BadNodes = ⊥
+IsOfTelling BadSteps = ⊥
+IsOfTelling Worn = ⊥
+IsOfTelling Mismatch = Unit {0}
+IsOfTelling NoMemory = Unit {0}

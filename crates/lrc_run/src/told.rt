@@ -1,17 +1,15 @@
 // The report of a run, as what its nodes left tells of it.
 
-ghost use Rattle.std.specs.Prelude.{◌≡◌, ◌≤◌, ◌<◌, [], All, Err, IfErr, IfOk, List, MatchOption, false, true, length, map};
+ghost use Rattle.std.specs.Prelude.{◌≡◌, ◌≤◌, ◌<◌, [], All, Err, IfErr, IfOk, MatchOption, length, map};
 ghost use Rattle.lrc_trace.specs.Conflict.{IsFirstRace, IsRaceFree};
 ghost use Rattle.lrc_judge.specs.declared.TheConstants.{NODES};
 ghost use Rattle.lrc_judge.specs.Races.{AreNamedRaces};
 ghost use Rattle.lrc_race.specs.Races.{AreRacesOf, AreTracesOf};
-ghost use Rattle.lrc_protocol.specs.declared.event.Event.{Event as AnyEvent};
 ghost use Rattle.lrc_weave.specs.Logs.{AreLogs};
 ghost use Rattle.lrc_weave.specs.Matched.{AreMatched};
 ghost use Rattle.lrc_world.specs.Ends.{ends_of};
 ghost use Rattle.lrc_world.specs.Promises.{IsConsistent};
-ghost use Rattle.lrc_world.specs.Report.{IsWornBy};
-ghost use Rattle.lrc_run.specs.Run.{IsLate, IsWovenReport, WearsOutSoon, turns_of_nodes};
+ghost use Rattle.lrc_run.specs.Run.{IsOfTelling, IsUntold, IsWovenReport, turns_of_nodes};
 ghost use Rattle.lrc_threads.specs.Threads.{is_any_ready_after, traces_of_logs};
 
 use crate::fault::RunFault;
@@ -37,8 +35,8 @@ struct Findings {
     first_race: Option<usize>,
 }
 
-/// The report of the nodes' turns and the events that make them, where what the post kept agrees with them, and nothing was left to
-/// do. No event is played again: the acts are those of the turns, and the races those of the nodes' traces.
+/// The report of the nodes' turns and the events that make them. `Mismatch` only where what the post kept does not agree with them, or
+/// something was left to do. No event is played again: the acts are those of the turns, and the races those of the nodes' traces.
 pub(crate) fn told(
     alloc: Global,
     setting: &Setting<'_>,
@@ -58,10 +56,9 @@ pub(crate) fn told(
     ensures races { IfOk result (λ told. AreNamedRaces told.0.acts.items told.0.races.items) }
     ensures theorem { IfOk result (λ told. IsConsistent setting.now.program.now setting.now.nodes told.0.acts.items) }
 
-    ensures worn { result ≡ Err RunFault.Worn
-        → (events : List AnyEvent) × IsWornBy setting.now.program.now setting.now.nodes setting.now.options events }
-    ensures soon { result ≡ Err RunFault.Worn → WearsOutSoon setting.now.program.now setting.now.nodes setting.now.options }
-    ensures late { IfErr result IsLate }
+    ensures mismatch { result ≡ Err RunFault.Mismatch
+        → IsUntold setting.now.program.now setting.now.nodes setting.now.options (map (λ log. log.items) parts.logs.items) wires.now }
+    ensures telling { IfErr result IsOfTelling }
 {
     let run = weave_run(alloc, parts.logs.as_slice(), wires)?;
     if parts.is_any_ready || run.in_flight > 0 {

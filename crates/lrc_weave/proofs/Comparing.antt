@@ -1,119 +1,26 @@
 -- What the comparison of logs and mailboxes keeps, from one entry to the next.
-use Rattle.std.proofs.Common.{◌≡◌, ℕ, zero, suc, ◌+◌, ◌<◌, ◌≤◌, ◌↔◌, inl, inr, Bool, true, false, not, cond, IsTrue, List, [], ◌∷◌, ◌++◌}
-use Rattle.std.proofs.Common.{length, map, filter, take, drop, refl, sym, ap, subst, ◌∙◌, arith, append-nil, append_assoc}
-use Rattle.std.specs.Prelude.{Option, Some, None, is_none, Result, Ok, Err, IfOk, slice_get, ◌==◌, ◌&&◌, ◌||◌}
-use Rattle.std.specs.List.{list_any, list_all}
+use Rattle.std.proofs.Common.{◌≡◌, ℕ, zero, suc, ◌+◌, ◌<◌, ◌≤◌, ◌↔◌, inl, inr, Bool, true, false, IsTrue, List, [], ◌∷◌, ◌++◌}
+use Rattle.std.proofs.Common.{length, map, take, drop, refl, sym, ap, subst, ◌∙◌, arith}
+use Rattle.std.specs.Prelude.{Option, Some, None, is_none, Result, Ok, Err, IfOk, slice_get, ◌&&◌}
+use Rattle.std.specs.List.{list_all}
 use Rattle.std.proofs.lemmas.Bool.{cases_eq, and_parts, ltb-true, lt-ltb}
-use Rattle.std.proofs.lemmas.List.{append_cancel_left, map-append, take-append-drop}
-use Rattle.std.proofs.lemmas.List.Elements.{filter-append}
 use Rattle.std.proofs.lemmas.Option.{slice_get_within, slice_get_past}
-use Rattle.std.proofs.lemmas.Grind.{flat_map-append}
 use Rattle.std.proofs.Math.Seq.{drop-length}
 use Rattle.lrc_envelope.specs.Envelope.{EnvelopeRecord}
 use Rattle.lrc_post.specs.declared.parcel.Wire.{Wire}
 use Rattle.lrc_post.specs.declared.parcel.Wire.TheVariants.{Put, Took}
-use Rattle.lrc_protocol.specs.Run.{Input, run, taken, EntryRecord, last_stamp, Flying, sent_by}
-use Rattle.lrc_weave.specs.Logs.{all_sent, sent_to}
-use Rattle.lrc_weave.specs.Matched.{message_of, is_put_by, puts_by, message_if, message_at, takes_in, Takes, takes_none, takes_not, takes_one, IsMatched}
-use Rattle.lrc_weave.specs.Compared.{sent_as, only_to, sends_to, is_by_node, AreByNodes, ArePuts, AreNext, IsNextTake, IsTakenAs, taken_in, Leaves, IsLeft}
+use Rattle.lrc_post.specs.Mailbox.{MailboxRecord}
+use Rattle.lrc_protocol.specs.Run.{Input, run, taken, EntryRecord, last_stamp, Flying}
+use Rattle.lrc_weave.specs.Matched.{message_of, message_if, message_at, takes_in, Takes, takes_none, takes_not, takes_one}
+use Rattle.lrc_weave.specs.Compared.{is_by_node, AreByNodes, IsNextTake, IsTakenAs, taken_in, Leaves, IsLeft}
 use Rattle.lrc_weave.proofs.Places.{taken_more, dropped_less}
 use Rattle.lrc_weave.proofs.Rising.{last_is}
-
--- ---- puts
 
 false_true : false ≡ true → ⊥
 false_true e = cc
 
-module _ (sender : ℕ) where
-  -- these messages, then those
-  pub next_then : (a b : List Flying) (old mid new : List Wire) (is : Bool) → AreNext sender a old mid true → AreNext sender b mid new is
-      → AreNext sender (a ++ b) old new is
-  next_then a b old mid new true first then =
-      first ∙ ap (λ xs. map Some a ++ xs) then ∙ sym (append_assoc (map Some a) (map Some b) (puts_by sender new))
-      ∙ ap (λ xs. xs ++ puts_by sender new) (sym (map-append Some a b))
-  next_then a b old mid new false first then = λ more e.
-      then more
-      (append_cancel_left (map Some a) (puts_by sender mid) (map Some b ++ more)
-      (sym first ∙ e ∙ ap (λ xs. xs ++ more) (map-append Some a b) ∙ append_assoc (map Some a) (map Some b) more))
-
-  -- what is not next is not so with more behind it
-  pub next_not : (a b : List Flying) (old new : List Wire) → AreNext sender a old new false → AreNext sender (a ++ b) old new false
-  next_not a b old new apart = λ more e.
-      apart (map Some b ++ more) (e ∙ ap (λ xs. xs ++ more) (map-append Some a b) ∙ append_assoc (map Some a) (map Some b) more)
-
-  -- the same of what elements send
-  module _ {X : Type 0} (f : List X → List Flying) (hom : (xs ys : List X) → f (xs ++ ys) ≡ f xs ++ f ys) where
-    pub next_more : (xs : List X) (k : ℕ) (x : X) (old mid new : List Wire) → slice_get xs k ≡ Some x → AreNext sender (f (take k xs)) old mid true
-        → AreNext sender (f (x ∷ [])) mid new true → AreNext sender (f (take (k + 1) xs)) old new true
-    next_more xs k x old mid new at before this =
-        subst (λ ms. AreNext sender ms old new true) (sym (ap f (taken_more xs k x at) ∙ hom (take k xs) (x ∷ [])))
-        (next_then (f (take k xs)) (f (x ∷ [])) old mid new true before this)
-
-    pub next_no_more : (xs : List X) (k : ℕ) (x : X) (old mid new : List Wire) → slice_get xs k ≡ Some x → AreNext sender (f (take k xs)) old mid true
-        → AreNext sender (f (x ∷ [])) mid new false → AreNext sender (f xs) old new false
-    next_no_more xs k x old mid new at before this =
-        subst (λ ms. AreNext sender ms old new false)
-        (sym (hom (take (k + 1) xs) (drop (k + 1) xs)) ∙ ap f (take-append-drop (k + 1) xs))
-        (next_not (f (take (k + 1) xs)) (f (drop (k + 1) xs)) old new
-        (subst (λ ms. AreNext sender ms old new false) (sym (ap f (taken_more xs k x at) ∙ hom (take k xs) (x ∷ [])))
-        (next_then (f (take k xs)) (f (x ∷ [])) old mid new false before this)))
-
-pub sends_apart : (to stamp : ℕ) (xs ys : List EnvelopeRecord) → sends_to to stamp (xs ++ ys) ≡ sends_to to stamp xs ++ sends_to to stamp ys
-sends_apart to stamp xs ys =
-    ap (only_to to) (map-append (sent_as stamp) xs ys)
-    ∙ filter-append (λ (f : Flying). f.envelope.to == to) (map (sent_as stamp) xs) (map (sent_as stamp) ys)
-
-pub sent_apart : (to : ℕ) (xs ys : List EntryRecord) → sent_to to (xs ++ ys) ≡ sent_to to xs ++ sent_to to ys
-sent_apart to xs ys =
-    ap (only_to to) (flat_map-append sent_by xs ys)
-    ∙ filter-append (λ (f : Flying). f.envelope.to == to) (all_sent xs) (all_sent ys)
-
-pub turn_is : (to : ℕ) (entry : EntryRecord) → sends_to to entry.stamp entry.turn.out ≡ sent_to to (entry ∷ [])
-turn_is to entry = ap (only_to to) (sym (append-nil (sent_by entry)))
-
 nothing : {A : Type 0} → false ≡ true → A
 nothing e = absurd (false_true e)
-
--- a node put nothing more
-some_left : (sender : ℕ) (history : List Wire) → list_any (is_put_by sender) history ≡ true → puts_by sender history ≡ [] → ⊥
-some_left sender [] any none = false_true any
-some_left sender (w ∷ history) any none = some_by w history (some_left sender history) (is_put_by sender w) any none
-  where
-    some_by : (w : Wire) (history : List Wire) → (list_any (is_put_by sender) history ≡ true → puts_by sender history ≡ [] → ⊥) → (b : Bool)
-        → (b || list_any (is_put_by sender) history) ≡ true
-        → map message_of (cond b (w ∷ filter (is_put_by sender) history) (filter (is_put_by sender) history)) ≡ [] → ⊥
-    some_by w history rest true any none = cc
-    some_by w history rest false any none = rest any none
-
-none_left : (sender : ℕ) (history : List Wire) → list_any (is_put_by sender) history ≡ false → puts_by sender history ≡ []
-none_left sender [] any = refl
-none_left sender (w ∷ history) any = none_by w history (none_left sender history) (is_put_by sender w) any
-  where
-    none_by : (w : Wire) (history : List Wire) → (list_any (is_put_by sender) history ≡ false → puts_by sender history ≡ []) → (b : Bool)
-        → (b || list_any (is_put_by sender) history) ≡ false
-        → map message_of (cond b (w ∷ filter (is_put_by sender) history) (filter (is_put_by sender) history)) ≡ []
-    none_by w history rest true any = cc
-    none_by w history rest false any = rest any
-
--- what a node put is what its log sends, if it put nothing more
-pub put_all : (sender owner : ℕ) (log : List EntryRecord) (history rest : List Wire) (any : Bool) → AreNext sender (sent_to owner log) history rest true
-    → any ≡ list_any (is_put_by sender) rest → IsTrue (not any) ↔ (puts_by sender history ≡ map Some (sent_to owner log))
-put_all sender owner log history rest true next is = (
-  λ no. nothing no,
-  λ same.
-      absurd (some_left sender rest (sym is)
-      (append_cancel_left (map Some (sent_to owner log)) (puts_by sender rest) [] (sym next ∙ same ∙ sym (append-nil (map Some (sent_to owner log)))))),
-)
-put_all sender owner log history rest false next is = (
-  λ yes.
-      next ∙ ap (λ xs. map Some (sent_to owner log) ++ xs) (none_left sender rest (sym is)) ∙ append-nil (map Some (sent_to owner log)),
-  λ same. refl,
-)
-
-pub put_not : (sender owner : ℕ) (log : List EntryRecord) (history rest : List Wire) → AreNext sender (sent_to owner log) history rest false
-    → IsTrue false ↔ (puts_by sender history ≡ map Some (sent_to owner log))
-put_not sender owner log history rest apart =
-    (λ e. nothing e, λ same. absurd (apart [] (same ∙ sym (append-nil (map Some (sent_to owner log))))))
 
 -- ---- takes
 
@@ -244,7 +151,7 @@ left_past history old new place before stamp e past next = λ left l.
     none_some l.0 l.2.0
     (head_is l.0 (message_at history place) left (taken_in history new) (sym l.1 ∙ ap (map (message_at history)) next) ∙ none) l.2.1
 
--- ---- all of a mailbox, and all mailboxes
+-- ---- all of a list, and all puts
 
 module _ {X : Type 0} (P : ℕ → X → Type 0) (xs : List X) where
   abbrev pub UpTo : ℕ → Type 0
@@ -287,18 +194,31 @@ all_by_nodes nodes (w ∷ history) all =
     here (Put from to stamp bytes) is = lt-ltb from nodes (is from to stamp bytes refl)
     here (Took me place) is = refl
 
-some_same : {X : Type 0} (o : Option X) (x y : X) → o ≡ Some x → o ≡ Some y → x ≡ y
-some_same o x y a b = cc
-
--- the parts of what a mailbox keeps
-pub matched_of : (logs : List (List EntryRecord)) (owner : ℕ) (history : List Wire) (log : List EntryRecord) → slice_get logs owner ≡ Some log
-    → AreByNodes (length logs) history → ArePuts logs owner history → Takes [] log (takes_in history) → IsMatched logs owner history
-matched_of logs owner history log at nodes puts takes = record {
-  by_nodes = nodes;
-  puts = puts;
-  takes = λ other there. subst (λ l. Takes [] l (takes_in history)) (some_same (slice_get logs owner) log other at there) takes;
-}
-
 pub input_is : (before stamp : ℕ) (old new : List (Option Flying)) (a b : Input) → a ≡ b → (E : Type 0) (result : Result Bool E)
     → IfOk result (λ is. IsLeft before stamp a old new is) → IfOk result (λ is. IsLeft before stamp b old new is)
 input_is before stamp old new a b same E result so = subst (λ i. IfOk result (λ is. IsLeft before stamp i old new is)) same so
+
+-- each put of each mailbox by one of so many nodes
+abbrev by_nodes_in : ℕ → MailboxRecord → Bool
+by_nodes_in nodes mailbox = list_all (is_by_node nodes) mailbox.history
+
+pub all_mailboxes : (nodes : ℕ) (wires : List MailboxRecord) → list_all (by_nodes_in nodes) wires ≡ true → (owner : ℕ) (mailbox : MailboxRecord)
+    → slice_get wires owner ≡ Some mailbox → AreByNodes nodes mailbox.history
+all_mailboxes nodes [] all owner mailbox at = absurd (none_some (slice_get [] owner) mailbox refl at)
+all_mailboxes nodes (w ∷ wires) all owner mailbox at =
+    let both = and_parts (by_nodes_in nodes w) (list_all (by_nodes_in nodes) wires) all in
+    go owner both.0 (all_mailboxes nodes wires both.1) at
+  where
+    go : (owner : ℕ) → by_nodes_in nodes w ≡ true
+        → ((o : ℕ) (m : MailboxRecord) → slice_get wires o ≡ Some m → AreByNodes nodes m.history)
+        → slice_get (w ∷ wires) owner ≡ Some mailbox → AreByNodes nodes mailbox.history
+    go zero here rest at = let same : w ≡ mailbox = cc in subst (λ m. AreByNodes nodes m.history) same (by_nodes nodes w.history here)
+    go (suc o) here rest at = rest o mailbox at
+
+pub mailboxes_all : (nodes : ℕ) (wires : List MailboxRecord)
+    → ((owner : ℕ) (mailbox : MailboxRecord) → slice_get wires owner ≡ Some mailbox → AreByNodes nodes mailbox.history)
+    → list_all (by_nodes_in nodes) wires ≡ true
+mailboxes_all nodes [] all = refl
+mailboxes_all nodes (w ∷ wires) all =
+    ap (λ b. b && list_all (by_nodes_in nodes) wires) (all_by_nodes nodes w.history (all 0 w refl))
+    ∙ mailboxes_all nodes wires (λ owner mailbox at. all (suc owner) mailbox at)

@@ -1,6 +1,6 @@
 -- The first element that passes a test, and what stands behind it.
-use Rattle.std.proofs.Common.{◌≡◌, ℕ, zero, suc, ◌+◌, ◌-◌, ◌<◌, ◌↔◌, Bool, true, false, cond, not, IsTrue, List, []}
-use Rattle.std.proofs.Common.{◌∷◌, length, map, filter, take, drop, refl, sym, ap, ◌∙◌, arith}
+use Rattle.std.proofs.Common.{◌≡◌, ℕ, zero, suc, ◌+◌, ◌-◌, ◌<◌, Bool, true, false, cond, not, List, []}
+use Rattle.std.proofs.Common.{◌∷◌, length, filter, take, drop, refl, sym, ap, ◌∙◌, arith}
 use Rattle.std.specs.Prelude.{Option, Some, None, is_some, filter_map, position, nat_lt, slice_index_or}
 use Rattle.std.specs.List.{position_or_len, cons_option}
 use Rattle.std.proofs.lemmas.Bool.{ltb-false, le-ltb}
@@ -8,9 +8,8 @@ use Rattle.std.proofs.Math.Seq.{take-length}
 use Rattle.std.proofs.lemmas.List.{length-drop}
 use Rattle.std.proofs.lemmas.List.Quantifiers.{position-Some}
 use Rattle.lrc_post.specs.declared.parcel.Wire.{Wire}
-use Rattle.lrc_protocol.specs.Run.{Flying}
-use Rattle.lrc_weave.specs.Matched.{message_of, is_put_by, puts_by, place_taken}
-use Rattle.lrc_weave.specs.Compared.{AreNext, IsNextTake, is_take}
+use Rattle.lrc_weave.specs.Matched.{place_taken}
+use Rattle.lrc_weave.specs.Compared.{IsNextTake, is_take}
 
 module _ {X : Type 0} (p : X → Bool) where
   kept_from : (xs : List X) (i : ℕ) (d : X) → i < length xs → p (slice_index_or xs i d) ≡ true → ((k : ℕ) → k < i → p (slice_index_or xs k d) ≡ false)
@@ -91,32 +90,3 @@ take_next history rest i d o at is left = go o (sym is)
 
 pub no_take : (history rest : List Wire) → position is_take history ≡ None → IsNextTake history rest None
 no_take history rest none = none_given place_taken history none
-
-pub no_put : (sender : ℕ) (history : List Wire) → position (is_put_by sender) history ≡ None → puts_by sender history ≡ []
-no_put sender history none = ap (map message_of) (none_kept (is_put_by sender) history none)
-
-head_is : {X : Type 0} (x y : X) (xs ys : List X) → x ∷ xs ≡ y ∷ ys → x ≡ y
-head_is x y xs ys e = cc
-
-no_more : {X : Type 0} (xs : List X) (x : X) (ys : List X) → xs ≡ [] → xs ≡ x ∷ ys → ⊥
-no_more xs x ys a b = cc
-
-pub none_put : (sender : ℕ) (history : List Wire) (flying : Flying) → position (is_put_by sender) history ≡ None
-    → (more : List (Option Flying)) → puts_by sender history ≡ Some flying ∷ more → ⊥
-none_put sender history flying none more is = no_more (puts_by sender history) (Some flying) more (no_put sender history none) is
-
-false_true : false ≡ true → ⊥
-false_true e = cc
-
-pub put_next : (sender : ℕ) (history rest : List Wire) (flying : Flying) (i : ℕ) (d : Wire) (is : Bool) → position (is_put_by sender) history ≡ Some i
-    → rest ≡ drop (i + 1) history → IsTrue is ↔ (message_of (slice_index_or history i d) ≡ Some flying)
-    → AreNext sender (flying ∷ []) history rest is
-put_next sender history rest flying i d is at left same = go is same
-  where
-    puts : puts_by sender history ≡ message_of (slice_index_or history i d) ∷ puts_by sender (drop (i + 1) history)
-    puts = ap (map message_of) (first_kept (is_put_by sender) history i d at)
-
-    go : (b : Bool) → IsTrue b ↔ (message_of (slice_index_or history i d) ≡ Some flying) → AreNext sender (flying ∷ []) history rest b
-    go true s = puts ∙ ap (λ m. m ∷ puts_by sender (drop (i + 1) history)) (s.0 refl) ∙ ap (λ xs. Some flying ∷ puts_by sender xs) (sym left)
-    go false s = λ more e. absurd (false_true (s.1
-        (head_is (message_of (slice_index_or history i d)) (Some flying) (puts_by sender (drop (i + 1) history)) more (sym puts ∙ e))))

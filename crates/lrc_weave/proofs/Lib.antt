@@ -11,6 +11,6 @@ pub mod Coded
 mod Spellings
 mod Firsts
 mod Comparing
+mod Lining
 mod Looping
-mod Silent
 mod Repeated

@@ -1,69 +1,23 @@
 -- The loops of the comparison, over what the code reads.
-use Rattle.std.proofs.Common.{◌≡◌, ℕ, ◌+◌, ◌<◌, ◌↔◌, Bool, true, false, IsTrue, List, [], ◌∷◌, length, map, take, refl, sym, ap, subst, ◌∙◌}
-use Rattle.std.specs.Prelude.{Some, Result, Ok, Err, IfOk, slice_get, slice_index_or}
+use Rattle.std.proofs.Common.{◌≡◌, ℕ, ◌+◌, ◌<◌, ◌↔◌, Bool, true, false, IsTrue, List, [], ◌∷◌, length, map, refl, sym, ap, subst, ◌∙◌, arith, zero, suc}
+use Rattle.std.specs.List.{list_all}
+use Rattle.std.specs.Prelude.{Option, Some, slice_get, slice_index_or}
 use Rattle.std.proofs.lemmas.List.{length-map}
-use Rattle.std.proofs.lemmas.Option.{slice_get_read}
-use Rattle.std.proofs.Math.Seq.{take-length}
-use Rattle.lrc_envelope.specs.Envelope.{EnvelopeRecord}
+use Rattle.std.proofs.lemmas.Option.{get_or_from_slice_get, slice_get_read, slice_get_within}
 use Rattle.lrc_post.specs.declared.parcel.Wire.{Wire}
 use Rattle.lrc_post.specs.Mailbox.{MailboxRecord}
-use Rattle.lrc_protocol.specs.Run.{Input, EntryRecord}
-use Rattle.lrc_weave.specs.Logs.{all_sent, sent_to}
-use Rattle.lrc_weave.specs.Matched.{puts_by, takes_in, Takes, IsMatched, AreMatched}
-use Rattle.lrc_weave.specs.Compared.{only_to, sends_to, AreByNodes, ArePuts, AreNext, taken_in, IsLeft}
-use Rattle.lrc_weave.proofs.Members.{in_map, of_map}
-use Rattle.lrc_weave.proofs.Comparing.{next_more, next_no_more, sends_apart, sent_apart, turn_is, put_not}
-use Rattle.lrc_weave.proofs.Comparing.{TakenSo, so_step, so_not, UpTo, up_to_more, up_to_all, matched_of}
+use Rattle.lrc_protocol.specs.Run.{Input, EntryRecord, Flying}
+use Rattle.lrc_weave.specs.Logs.{sent_to}
+use Rattle.lrc_weave.specs.Matched.{message_of, puts_by, takes_in, Takes, AreMatched}
+use Rattle.lrc_weave.specs.Compared.{is_by_node, AreByNodes, AreSent, line_at, puts_by_each, taken_in, IsLeft}
+use Rattle.lrc_weave.proofs.Members.{in_map}
+use Rattle.lrc_weave.proofs.Lining.{puts_at, puts_count}
+use Rattle.lrc_weave.proofs.Comparing.{TakenSo, so_step, so_not, UpTo, up_to_more, up_to_all, all_mailboxes, mailboxes_all}
 
 read : {X : Type 0} (xs : List X) (k : ℕ) (x : X) → k < length xs → x ≡ slice_index_or xs k x → slice_get xs k ≡ Some x
 read xs k x within is = slice_get_read xs (length xs) k x refl within is
 
--- ---- the messages of a turn
-
-pub sends_not : (sender owner stamp : ℕ) (out : List EnvelopeRecord) (k : ℕ) (e : EnvelopeRecord) (old mid new : List Wire) (b : Bool) → k < length out
-    → e ≡ slice_index_or out k e → AreNext sender (sends_to owner stamp (take k out)) old mid true
-    → AreNext sender (sends_to owner stamp (e ∷ [])) mid new b → b ≡ false → AreNext sender (sends_to owner stamp out) old new false
-sends_not sender owner stamp out k e old mid new b within is before this no_more =
-    next_no_more sender (sends_to owner stamp) (sends_apart owner stamp) out k e old mid new (read out k e within is) before
-    (subst (AreNext sender (sends_to owner stamp (e ∷ [])) mid new) no_more this)
-
--- ---- the turns of a log
-
-module _ {V : Type 0} (f : V → EntryRecord) (sender owner : ℕ) (turns : List V) (history rest new : List Wire) (k : ℕ) (turn : V) (stamp : ℕ)
-    (out : List EnvelopeRecord) (b : Bool) (within : k < length turns) (is : turn ≡ slice_index_or turns k turn)
-    (before : AreNext sender (sent_to owner (take k (map f turns))) history rest true) (this : AreNext sender (sends_to owner stamp out) rest new b)
-    (stamp_is : stamp ≡ (f turn).stamp) (out_is : out ≡ (f turn).turn.out) where
-  there : slice_get (map f turns) k ≡ Some (f turn)
-  there = in_map f turns turn k (read turns k turn within is)
-
-  one : sends_to owner stamp out ≡ sent_to owner (f turn ∷ [])
-  one = ap (λ n. sends_to owner n out) stamp_is ∙ ap (sends_to owner (f turn).stamp) out_is ∙ turn_is owner (f turn)
-
-  pub puts_more : b ≡ true → AreNext sender (sent_to owner (take (k + 1) (map f turns))) history new true
-  puts_more is_so =
-      next_more sender (sent_to owner) (sent_apart owner) (map f turns) k (f turn) history rest new there before
-      (subst (λ ms. AreNext sender ms rest new true) one (subst (AreNext sender (sends_to owner stamp out) rest new) is_so this))
-
-  pub puts_not : b ≡ false → IsTrue false ↔ (puts_by sender history ≡ map Some (sent_to owner (map f turns)))
-  puts_not none =
-      put_not sender owner (map f turns) history new
-      (next_no_more sender (sent_to owner) (sent_apart owner) (map f turns) k (f turn) history rest new there before
-      (subst (λ ms. AreNext sender ms rest new false) one (subst (AreNext sender (sends_to owner stamp out) rest new) none this)))
-
-pub puts_end : {V : Type 0} (f : V → EntryRecord) (sender owner : ℕ) (turns : List V) (history rest : List Wire) (k : ℕ) → k ≡ length turns
-    → AreNext sender (sent_to owner (take k (map f turns))) history rest true → AreNext sender (sent_to owner (map f turns)) history rest true
-puts_end f sender owner turns history rest k all before =
-    subst (λ l. AreNext sender (sent_to owner l) history rest true)
-    (ap (λ n. take n (map f turns)) (all ∙ sym (length-map turns f)) ∙ take-length (map f turns)) before
-
--- only what the logs send counts
-pub puts_same : {V W : Type 0} (f : V → List EntryRecord) (g : W → List EntryRecord) (vs : List V) (ws : List W) (owner : ℕ) (history : List Wire)
-    → map (λ v. all_sent (f v)) vs ≡ map (λ w. all_sent (g w)) ws → ArePuts (map f vs) owner history → ArePuts (map g ws) owner history
-puts_same f g vs ws owner history same puts = λ node log at.
-    let w = of_map g ws log node at in
-    let sent = in_map (λ w. all_sent (g w)) ws w.0 node w.1 in
-    let v = of_map (λ v. all_sent (f v)) vs (all_sent (g w.0)) node (subst (λ l. slice_get l node ≡ Some (all_sent (g w.0))) (sym same) sent) in
-    puts node (f v.0) (in_map f vs v.0 node v.1) ∙ ap (λ sent. map Some (only_to owner sent)) (v.2 ∙ ap all_sent w.2)
+-- ---- the takes of a log
 
 module _ (history : List Wire) (log : List EntryRecord) (k before : ℕ) (rest new : List Wire) (entry : EntryRecord) (stamp : ℕ) (input : Input) (b : Bool)
     (within : k < length log) (is : entry ≡ slice_index_or log k entry) (so : TakenSo history log k before rest)
@@ -84,81 +38,171 @@ module _ (history : List Wire) (log : List EntryRecord) (k before : ℕ) (rest n
 
 -- ---- the nodes
 
-abbrev pub PutsSo : ℕ → List Wire → ℕ → List EntryRecord → Type 0
-PutsSo owner history node log = puts_by node history ≡ map Some (sent_to owner log)
-
 unlike : (b : Bool) (P : Type 0) → IsTrue b ↔ P → b ≡ false → P → ⊥
 unlike b P same none p = let yes : b ≡ true = same.1 p in cc
-
-holds : (b : Bool) (P : Type 0) → IsTrue b ↔ P → b ≡ true → P
-holds b P same is_so = same.0 is_so
 
 nothing : {A : Type 0} → false ≡ true → A
 nothing e = absurd (let no : false ≡ true = e in cc)
 
-module _ {V : Type 0} (f : V → List EntryRecord) (logs : List V) (owner : ℕ) (history : List Wire) where
-  pub all_not : (k : ℕ) (v : V) (log : List EntryRecord) (b : Bool) → k < length logs → v ≡ slice_index_or logs k v → log ≡ f v
-      → IsTrue b ↔ PutsSo owner history k log → b ≡ false → IsTrue false ↔ ArePuts (map f logs) owner history
-  all_not k v log b within is log_is same none = (
-    λ e. nothing e,
-    λ all.
-        absurd (unlike b (PutsSo owner history k log) same none
-        (subst (PutsSo owner history k) (sym log_is) (all k (f v) (in_map f logs v k (read logs k v within is))))),
-  )
+-- a node's log tells of what the node put into each mailbox, and of what it took from its own
+abbrev pub NodeSo : List MailboxRecord → ℕ → List EntryRecord → Type 0
+NodeSo wires node log =
+    ((owner : ℕ) (mailbox : MailboxRecord) → slice_get wires owner ≡ Some mailbox → puts_by node mailbox.history ≡ map Some (sent_to owner log))
+    × ((mailbox : MailboxRecord) → slice_get wires node ≡ Some mailbox → Takes [] log (takes_in mailbox.history))
 
-  pub all_more : (k : ℕ) (v : V) (log : List EntryRecord) (b : Bool) → k < length logs → v ≡ slice_index_or logs k v → log ≡ f v
-      → UpTo (PutsSo owner history) (map f logs) k → IsTrue b ↔ PutsSo owner history k log → b ≡ true → UpTo (PutsSo owner history) (map f logs) (k + 1)
-  all_more k v log b within is log_is before same is_so =
-      up_to_more (PutsSo owner history) (map f logs) k (f v) before (in_map f logs v k (read logs k v within is))
-      (subst (PutsSo owner history k) log_is (holds b (PutsSo owner history k log) same is_so))
+map_twice : {X Y Z : Type 0} (g : Y → Z) (f : X → Y) (xs : List X) → map g (map f xs) ≡ map (λ x. g (f x)) xs
+map_twice g f [] = refl
+map_twice g f (x ∷ xs) = ap (λ zs. g (f x) ∷ zs) (map_twice g f xs)
 
-  pub all_end : (k : ℕ) → k ≡ length logs → UpTo (PutsSo owner history) (map f logs) k → IsTrue true ↔ ArePuts (map f logs) owner history
-  all_end k e before = (λ yes. up_to_all (PutsSo owner history) (map f logs) k (e ∙ sym (length-map logs f)) before, λ all. refl)
+-- a node's lines of all that was put
+module _ {V W X : Type 0} (each : V → List (List Wire)) (line_of : W → List X) (f : X → Wire) (puts : List V) (lines : List W) (wires : List MailboxRecord)
+    (nodes node : ℕ) (within : node < nodes) (all : map each puts ≡ map (λ mailbox. puts_by_each nodes mailbox.history) wires)
+    (own : map (λ line. map f (line_of line)) lines ≡ map (λ lines. slice_index_or (each lines) node []) puts) where
+  pub own_lines : map (λ line. map (λ x. message_of (f x)) (line_of line)) lines ≡ map (λ mailbox. puts_by node mailbox.history) wires
+  own_lines =
+      apart lines
+      ∙ ap (map (map message_of)) (own ∙ sym (map_twice (λ ls. slice_index_or ls node []) each puts) ∙ ap (map (λ ls. slice_index_or ls node [])) all)
+      ∙ map_twice (map message_of) (λ ls. slice_index_or ls node []) (map (λ mailbox. puts_by_each nodes mailbox.history) wires)
+      ∙ here wires
+    where
+      apart : (ws : List W)
+          → map (λ line. map (λ x. message_of (f x)) (line_of line)) ws ≡ map (map message_of) (map (λ line. map f (line_of line)) ws)
+      apart [] = refl
+      apart (w ∷ ws) =
+          ap (λ ms. ms ∷ map (λ line. map (λ x. message_of (f x)) (line_of line)) ws) (sym (map_twice message_of f (line_of w)))
+          ∙ ap (λ rest. map message_of (map f (line_of w)) ∷ rest) (apart ws)
 
--- ---- one mailbox
+      here : (ms : List MailboxRecord)
+          → map (λ ls. map message_of (slice_index_or ls node [])) (map (λ mailbox. puts_by_each nodes mailbox.history) ms)
+          ≡ map (λ mailbox. puts_by node mailbox.history) ms
+      here [] = refl
+      here (m ∷ ms) =
+          ap (λ ls. map message_of ls ∷ map (λ ls. map message_of (slice_index_or ls node [])) (map (λ mailbox. puts_by_each nodes mailbox.history) ms))
+          (puts_at nodes node m.history within)
+          ∙ ap (λ rest. puts_by node m.history ∷ rest) (here ms)
 
-module _ {V : Type 0} (f : V → List EntryRecord) (logs : List V) (owner : ℕ) (history : List Wire) where
-  pub not_by_nodes : (b : Bool) → IsTrue b ↔ AreByNodes (length logs) history → b ≡ false → IsTrue false ↔ IsMatched (map f logs) owner history
-  not_by_nodes b same none = (
-    λ e. nothing e,
-    λ is. absurd (unlike b (AreByNodes (length logs) history) same none (subst (λ k. AreByNodes k history) (length-map logs f) is.by_nodes)),
-  )
+same_head : {X : Type 0} (x y : X) (xs ys : List X) → x ∷ xs ≡ y ∷ ys → x ≡ y
+same_head x y xs ys e = cc
 
-  pub not_puts : (some : List (List EntryRecord)) (b : Bool) → IsTrue b ↔ ArePuts some owner history
-      → (ArePuts (map f logs) owner history → ArePuts some owner history) → b ≡ false → IsTrue false ↔ IsMatched (map f logs) owner history
-  not_puts some b same alike none = (λ e. nothing e, λ is. absurd (unlike b (ArePuts some owner history) same none (alike is.puts)))
+same_tail : {X : Type 0} (x y : X) (xs ys : List X) → x ∷ xs ≡ y ∷ ys → xs ≡ ys
+same_tail x y xs ys e = cc
 
-  pub matched_if : (v : V) (log : List EntryRecord) → owner < length logs → v ≡ slice_index_or logs owner v → log ≡ f v → AreByNodes (length logs) history
-      → ArePuts (map f logs) owner history → (E : Type 0) (result : Result Bool E) → IfOk result (λ is. IsTrue is ↔ Takes [] log (takes_in history))
-      → IfOk result (λ is. IsTrue is ↔ IsMatched (map f logs) owner history)
-  matched_if v log within is log_is nodes puts E (Ok b) same =
-      let at : slice_get (map f logs) owner ≡ Some log = in_map f logs v owner (read logs owner v within is) ∙ ap Some (sym log_is) in (
-        λ yes.
-            matched_of (map f logs) owner history log at (subst (λ k. AreByNodes k history) (sym (length-map logs f)) nodes) puts (same.0 yes),
-        λ matched. same.1 (matched.takes log at),
-      )
-  matched_if v log within is log_is nodes puts E (Err fault) same = same
+-- each node has a line in each mailbox
+module _ {V W : Type 0} (items : V → List W) (g : W → List Wire) (nodes : ℕ) where
+  pub each_long : (puts : List V) (wires : List MailboxRecord)
+      → map (λ own. map g (items own)) puts ≡ map (λ mailbox. puts_by_each nodes mailbox.history) wires
+      → (k : ℕ) (d : V) → k < length puts → length (items (slice_index_or puts k d)) ≡ nodes
+  each_long [] wires same k d within = absurd (omega (arith, within))
+  each_long (p ∷ puts) [] same k d within = cc
+  each_long (p ∷ puts) (w ∷ wires) same zero d within =
+      sym (length-map (items p) g)
+      ∙ ap length
+      (same_head (map g (items p)) (puts_by_each nodes w.history) (map (λ own. map g (items own)) puts)
+      (map (λ mailbox. puts_by_each nodes mailbox.history) wires) same)
+      ∙ puts_count nodes w.history
+  each_long (p ∷ puts) (w ∷ wires) same (suc k) d within =
+      each_long puts wires
+      (same_tail (map g (items p)) (puts_by_each nodes w.history) (map (λ own. map g (items own)) puts)
+      (map (λ mailbox. puts_by_each nodes mailbox.history) wires) same)
+      k d (omega (arith, within))
+
+there : {X : Type 0} (xs : List X) (n : ℕ) → n < length xs → (x : X) × (slice_get xs n ≡ Some x)
+there [] n within = absurd (omega (arith, within))
+there (x ∷ xs) zero within = (x, refl)
+there (x ∷ xs) (suc n) within = there xs n (omega (arith, within))
+
+some_same : {X : Type 0} (o : Option X) (x y : X) → o ≡ Some x → o ≡ Some y → x ≡ y
+some_same o x y a b = cc
+
+module _ (wires : List MailboxRecord) (node : ℕ) (log : List EntryRecord) (lines : List (List (Option Flying)))
+    (are : lines ≡ map (λ mailbox. puts_by node mailbox.history) wires) where
+  line_is : (owner : ℕ) (mailbox : MailboxRecord) → slice_get wires owner ≡ Some mailbox → line_at lines owner ≡ puts_by node mailbox.history
+  line_is owner mailbox at =
+      ap (λ ls. line_at ls owner) are
+      ∙ get_or_from_slice_get (map (λ mailbox. puts_by node mailbox.history) wires) owner (puts_by node mailbox.history) []
+      (in_map (λ mailbox. puts_by node mailbox.history) wires mailbox owner at)
+
+  count : length lines ≡ length wires
+  count = ap length are ∙ length-map wires (λ mailbox. puts_by node mailbox.history)
+
+  module _ (mailbox : MailboxRecord) (history : List Wire) (at : slice_get wires node ≡ Some mailbox) (history_is : history ≡ mailbox.history) where
+    so_of : AreSent log lines × Takes [] log (takes_in history) → NodeSo wires node log
+    so_of both = (
+      λ owner other there. sym (line_is owner other there)
+          ∙ both.0 owner (subst (λ n. owner < n) (sym count) (slice_get_within wires owner other there)),
+      λ other there.
+          subst (λ m. Takes [] log (takes_in m.history)) (some_same (slice_get wires node) mailbox other at there)
+          (subst (λ h. Takes [] log (takes_in h)) history_is both.1),
+    )
+
+    of_so : NodeSo wires node log → AreSent log lines × Takes [] log (takes_in history)
+    of_so so = (
+      λ owner within.
+          let m = there wires owner (subst (λ n. owner < n) count within) in
+          line_is owner m.0 m.1 ∙ so.0 owner m.0 m.1,
+      subst (λ h. Takes [] log (takes_in h)) (sym history_is) (so.1 mailbox at),
+    )
 
 -- ---- the mailboxes
 
-abbrev pub MatchedSo : List (List EntryRecord) → ℕ → MailboxRecord → Type 0
-MatchedSo logs owner mailbox = IsMatched logs owner mailbox.history
+-- what the mailboxes keep is by the logs
+matched_each : (logs : List (List EntryRecord)) (wires : List MailboxRecord) → AreMatched logs wires → (node : ℕ) (log : List EntryRecord)
+    → slice_get logs node ≡ Some log → NodeSo wires node log
+matched_each logs wires all node log at = (
+  λ owner mailbox there. (all.each owner mailbox there).puts node log at,
+  λ mailbox there. (all.each node mailbox there).takes log at,
+)
 
-module _ (logs : List (List EntryRecord)) (wires : List MailboxRecord) where
-  pub each_not : (k : ℕ) (mailbox : MailboxRecord) (history : List Wire) (b : Bool) → k < length wires → mailbox ≡ slice_index_or wires k mailbox
-      → history ≡ mailbox.history → IsTrue b ↔ IsMatched logs k history → b ≡ false → IsTrue false ↔ AreMatched logs wires
-  each_not k mailbox history b within is history_is same none = (
+module _ {V : Type 0} (f : V → List EntryRecord) (logs : List V) (wires : List MailboxRecord) where
+  pub not_by_nodes : (b : Bool) → b ≡ list_all (λ mailbox. list_all (is_by_node (length logs)) mailbox.history) wires → b ≡ false
+      → IsTrue false ↔ AreMatched (map f logs) wires
+  not_by_nodes b is none = (
     λ e. nothing e,
     λ all.
-        absurd (unlike b (IsMatched logs k history) same none
-        (subst (IsMatched logs k) (sym history_is) (all.each k mailbox (read wires k mailbox within is)))),
+        absurd
+        (let yes : b ≡ true =
+        is
+        ∙ mailboxes_all (length logs) wires (λ owner mailbox at.
+        subst (λ n. AreByNodes n mailbox.history) (length-map logs f) (all.each owner mailbox at).by_nodes) in
+        cc),
   )
 
-  pub each_more : (k : ℕ) (mailbox : MailboxRecord) (history : List Wire) (b : Bool) → k < length wires → mailbox ≡ slice_index_or wires k mailbox
-      → history ≡ mailbox.history → UpTo (MatchedSo logs) wires k → IsTrue b ↔ IsMatched logs k history → b ≡ true → UpTo (MatchedSo logs) wires (k + 1)
-  each_more k mailbox history b within is history_is before same is_so =
-      up_to_more (MatchedSo logs) wires k mailbox before (read wires k mailbox within is)
-      (subst (IsMatched logs k) history_is (holds b (IsMatched logs k history) same is_so))
+  module _ (k : ℕ) (v : V) (log : List EntryRecord) (mailbox : MailboxRecord) (history : List Wire) (lines : List (List (Option Flying))) (b : Bool)
+      (log_there : k < length logs) (v_is : v ≡ slice_index_or logs k v) (log_is : log ≡ f v) (mailbox_there : k < length wires)
+      (mailbox_is : mailbox ≡ slice_index_or wires k mailbox) (history_is : history ≡ mailbox.history)
+      (are : lines ≡ map (λ mailbox. puts_by k mailbox.history) wires)
+      (same : IsTrue b ↔ (AreSent log lines × Takes [] log (takes_in history))) where
+    log_at : slice_get (map f logs) k ≡ Some log
+    log_at = in_map f logs v k (read logs k v log_there v_is) ∙ ap Some (sym log_is)
 
-  pub each_end : (k : ℕ) → k ≡ length wires → UpTo (MatchedSo logs) wires k → IsTrue true ↔ AreMatched logs wires
-  each_end k e before = (λ yes. record { each = up_to_all (MatchedSo logs) wires k e before }, λ all. refl)
+    mailbox_at : slice_get wires k ≡ Some mailbox
+    mailbox_at = read wires k mailbox mailbox_there mailbox_is
+
+    pub node_not : b ≡ false → IsTrue false ↔ AreMatched (map f logs) wires
+    node_not none = (
+      λ e. nothing e,
+      λ all.
+          absurd (unlike b (AreSent log lines × Takes [] log (takes_in history)) same none
+          (of_so wires k log lines are mailbox history mailbox_at history_is (matched_each (map f logs) wires all k log log_at))),
+    )
+
+    pub node_more : b ≡ true → UpTo (NodeSo wires) (map f logs) k → UpTo (NodeSo wires) (map f logs) (k + 1)
+    node_more is_so before =
+        up_to_more (NodeSo wires) (map f logs) k log before log_at
+        (so_of wires k log lines are mailbox history mailbox_at history_is (same.0 is_so))
+
+  pub nodes_end : (b : Bool) → b ≡ list_all (λ mailbox. list_all (is_by_node (length logs)) mailbox.history) wires → b ≡ true → (k : ℕ) → k ≡ length logs
+      → UpTo (NodeSo wires) (map f logs) k → IsTrue true ↔ AreMatched (map f logs) wires
+  nodes_end b is sure k e before =
+      let each = up_to_all (NodeSo wires) (map f logs) k (e ∙ sym (length-map logs f)) before in (
+        λ y. record {
+          each = λ owner mailbox at. record {
+            by_nodes =
+                subst (λ n. AreByNodes n mailbox.history) (sym (length-map logs f))
+                (all_mailboxes (length logs) wires (sym is ∙ sure) owner mailbox at);
+            puts = λ node log there. (each node log there).0 owner mailbox at;
+            takes = λ log there. (each owner log there).1 mailbox at;
+          };
+        },
+        λ all. refl,
+      )

@@ -1,12 +1,13 @@
 -- What the comparison of logs and mailboxes finds, step by step.
 use Rattle.std.specs.Prelude.{◌≡◌, ℕ, ◌+◌, ◌<◌, ◌==◌, Bool, true, false, Option, Some, None, List, [], ◌∷◌}
-use Rattle.std.specs.Prelude.{◌++◌, map, max, filter, filter_map, is_some, nat_lt, slice_get}
+use Rattle.std.specs.Prelude.{◌++◌, length, map, max, filter, filter_map, is_some, nat_lt, slice_get, slice_index_or, slice_set}
+use Rattle.std.specs.List.{range_with_len}
 use Rattle.lrc_envelope.specs.Envelope.{EnvelopeRecord}
 use Rattle.lrc_post.specs.declared.parcel.Wire.{Wire}
 use Rattle.lrc_post.specs.declared.parcel.Wire.TheVariants.{Put, Took}
 use Rattle.lrc_protocol.specs.Run.{Input, run, taken, EntryRecord, Flying}
 use Rattle.lrc_weave.specs.Logs.{sent_to}
-use Rattle.lrc_weave.specs.Matched.{puts_by, place_taken, message_at}
+use Rattle.lrc_weave.specs.Matched.{is_put_by, place_taken, message_at}
 
 -- a message as a turn with this stamp sends it
 abbrev pub sent_as : ℕ → EnvelopeRecord → Flying
@@ -15,10 +16,6 @@ sent_as stamp envelope = record { envelope = envelope; stamp = stamp; delivered 
 -- those of some messages that are for a node
 abbrev pub only_to : ℕ → List Flying → List Flying
 only_to to messages = filter (λ flying. flying.envelope.to == to) messages
-
--- what a turn with this stamp and these messages sends to a node
-abbrev pub sends_to : ℕ → ℕ → List EnvelopeRecord → List Flying
-sends_to to stamp out = only_to to (map (sent_as stamp) out)
 
 -- an entry of a history is no put by a node that is none of so many
 abbrev pub is_by_node : ℕ → Wire → Bool
@@ -29,15 +26,33 @@ is_by_node nodes (Took me place) = true
 abbrev pub AreByNodes : ℕ → List Wire → Type 0
 AreByNodes nodes history = (place : ℕ) (from to stamp : ℕ) (bytes : List ℕ) → slice_get history place ≡ Some (Put from to stamp bytes) → from < nodes
 
--- each node put what its log sends to the owner, in order
-abbrev pub ArePuts : List (List EntryRecord) → ℕ → List Wire → Type 0
-ArePuts logs owner history =
-    (node : ℕ) (log : List EntryRecord) → slice_get logs node ≡ Some log → puts_by node history ≡ map Some (sent_to owner log)
+-- for each of so many nodes its own puts of a history
+abbrev pub puts_by_each : ℕ → List Wire → List (List Wire)
+puts_by_each nodes history = map (λ node. filter (is_put_by node) history) (range_with_len 0 nodes)
 
--- these messages are what a node put next in a history, and this stands behind them; or it put others
-abbrev pub AreNext : ℕ → List Flying → List Wire → List Wire → Bool → Type 0
-AreNext sender messages history rest true = puts_by sender history ≡ map Some messages ++ puts_by sender rest
-AreNext sender messages history rest false = (more : List (Option Flying)) → puts_by sender history ≡ map Some messages ++ more → ⊥
+-- an entry is put behind those of its node, if it is a put by a node that has a line
+abbrev pub with_put : List (List Wire) → Wire → List (List Wire)
+with_put lines (Put from to stamp bytes) = slice_set lines from (slice_index_or lines from [] ++ Put from to stamp bytes ∷ [])
+with_put lines (Took me place) = lines
+
+-- the line of what a node put into the mailbox of an owner
+abbrev pub line_at : List (List (Option Flying)) → ℕ → List (Option Flying)
+line_at lines owner = slice_index_or lines owner []
+
+-- these messages are the next of a line, and this stands behind them; or the line goes on otherwise
+abbrev pub AreNext : List Flying → List (Option Flying) → List (Option Flying) → Bool → Type 0
+AreNext messages line rest true = line ≡ map Some messages ++ rest
+AreNext messages line rest false = (more : List (Option Flying)) → line ≡ map Some messages ++ more → ⊥
+
+-- of these messages those for each owner are the next of its line, and these lines are left; or some line goes on otherwise
+abbrev pub AreAllNext : List Flying → List (List (Option Flying)) → List (List (Option Flying)) → Bool → Type 0
+AreAllNext messages lines rest true =
+    (length rest ≡ length lines) × ((owner : ℕ) → owner < length lines → AreNext (only_to owner messages) (line_at lines owner) (line_at rest owner) true)
+AreAllNext messages lines rest false = (owner : ℕ) × (owner < length lines) × AreNext (only_to owner messages) (line_at lines owner) [] false
+
+-- the lines are what a log sends to each owner, in order
+abbrev pub AreSent : List EntryRecord → List (List (Option Flying)) → Type 0
+AreSent log lines = (owner : ℕ) → owner < length lines → line_at lines owner ≡ map Some (sent_to owner log)
 
 -- an entry of a history is a take
 abbrev pub is_take : Wire → Bool

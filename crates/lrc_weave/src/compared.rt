@@ -1,14 +1,14 @@
 // Whether logs and mailboxes tell of the same messages.
 
-ghost use Rattle.std.specs.Prelude.{◌≡◌, ◌<◌, ◌∷◌, ◌↔◌, [], IfOk, IsTrue, Some, length, map};
+ghost use Rattle.std.specs.Prelude.{◌≡◌, ◌==◌, ◌∷◌, ◌↔◌, [], IfOk, IsTrue, length, map};
+ghost use Rattle.std.specs.List.{list_all};
 ghost use Rattle.lrc_node.specs.Logged.{seen_input};
 ghost use Rattle.lrc_protocol.specs.Run.{taken};
-ghost use Rattle.lrc_weave.specs.Compared.{AreByNodes, AreNext, ArePuts, IsLeft, only_to, sends_to, sent_as, taken_in};
-ghost use Rattle.lrc_weave.specs.Logs.{all_sent, sent_to};
-ghost use Rattle.lrc_weave.specs.Matched.{AreMatched, IsMatched, Takes, puts_by, takes_in};
+ghost use Rattle.lrc_weave.specs.Compared.{AreAllNext, AreSent, IsLeft, is_by_node, sent_as, taken_in};
+ghost use Rattle.lrc_weave.specs.Matched.{AreMatched, Takes, message_of, takes_in};
 
-use crate::history::{has_put_by, is_by_node, is_taken_from, next_take, take_put};
-use crate::sending::all_sending;
+use crate::history::{is_by_node, is_taken_from, next_take, take_put};
+use crate::putting::{all_puts, lines_of};
 use lrc_envelope::Envelope;
 use lrc_node::{Entry, Input};
 use lrc_post::{Mailbox, Wire};
@@ -24,15 +24,18 @@ pub(crate) fn are_matched(
     requires each { length wires.now ≡ length logs.now }
     ensures { IfOk result (λ are. IsTrue are ↔ AreMatched (map (λ log. log.items) logs.now) wires.now) }
 {
-    let sending = all_sending(alloc, logs)?;
+    if !are_all_by_nodes(wires, logs.len()) {
+        return Ok(false);
+    }
+    let puts = all_puts(alloc, logs.len(), wires)?;
     let mut spare = Vec::new(alloc);
-    for owner in 0..wires.len() {
+    for node in 0..logs.len() {
+        let mut lines = lines_of(alloc, puts.as_slice(), node)?;
         if !is_matched(
             &mut spare,
-            logs,
-            sending.as_slice(),
-            owner,
-            wires[owner].history(),
+            lines.as_mut_slice(),
+            logs[node].as_slice(),
+            wires[node].history(),
         )? {
             return Ok(false);
         }
@@ -40,108 +43,90 @@ pub(crate) fn are_matched(
     Ok(true)
 }
 
-// Whether the logs, of which these are the turns that send anything, and one node's mailbox do.
-fn is_matched(
-    spare: &mut Vec<u8>,
-    logs: &[Vec<Entry>],
-    sending: &[Vec<&Entry>],
-    owner: usize,
-    history: &[Wire],
-) -> Result<bool, AllocError>
-    requires there { owner < length logs.now }
-    requires sent { map (λ turns. all_sent (map (λ turn. turn.now) turns.items)) sending.now
-        ≡ map (λ log. all_sent log.items) logs.now }
-    ensures { IfOk result (λ is. IsTrue is ↔ IsMatched (map (λ log. log.items) logs.now) owner history.now) }
+// Whether each put of each mailbox is by one of so many nodes.
+fn are_all_by_nodes(wires: &[Mailbox], nodes: usize) -> bool
+    ensures { result ≡ list_all (λ mailbox. list_all (is_by_node nodes) mailbox.history) wires.now }
 {
-    if !are_by_nodes(history, logs.len()) || !are_puts(spare, sending, owner, history)? {
-        return Ok(false);
-    }
-    are_takes(spare, logs[owner].as_slice(), history)
+    wires.iter().all(|mailbox| are_by_nodes(mailbox.history(), nodes))
 }
 
 // Whether each put is by one of so many nodes.
 fn are_by_nodes(history: &[Wire], nodes: usize) -> bool
-    ensures { IsTrue result ↔ AreByNodes nodes history.now }
+    ensures { result ≡ list_all (is_by_node nodes) history.now }
 {
     history.iter().all(|wire| is_by_node(wire, nodes))
 }
 
-// Whether each node put what its turns send to the owner.
-fn are_puts(
+// Whether a node's log sends what the node put into each mailbox, line by line, and takes what the node took from its own.
+fn is_matched(
     spare: &mut Vec<u8>,
-    sending: &[Vec<&Entry>],
-    owner: usize,
+    lines: &mut [&[&Wire]],
+    log: &[Entry],
     history: &[Wire],
 ) -> Result<bool, AllocError>
-    ensures { IfOk result (λ are. IsTrue are ↔ ArePuts (map (λ turns. map (λ turn. turn.now) turns.items) sending.now) owner history.now) }
+    ensures { IfOk result (λ is. IsTrue is
+        ↔ (AreSent log.now (map (λ line. map (λ wire. message_of wire.now) line.now) lines.old) × Takes [] log.now (takes_in history.now))) }
 {
-    for sender in 0..sending.len() {
-        if !are_puts_of(spare, owner, sender, sending[sender].as_slice(), history)? {
+    if !are_sent(spare, lines, log)? {
+        return Ok(false);
+    }
+    are_takes(spare, log, history)
+}
+
+// Whether the lines are what a log sends to each node, in order.
+fn are_sent(
+    spare: &mut Vec<u8>,
+    lines: &mut [&[&Wire]],
+    log: &[Entry],
+) -> Result<bool, AllocError>
+    ensures { IfOk result (λ are. IsTrue are ↔ AreSent log.now (map (λ line. map (λ wire. message_of wire.now) line.now) lines.old)) }
+{
+    for entry in log {
+        if !take_turn(spare, lines, entry.stamp, entry.turn.out.as_slice())? {
             return Ok(false);
         }
     }
-    Ok(true)
+    Ok(are_over(lines))
 }
 
-// Whether a node put what these turns send to the owner, in order.
-fn are_puts_of(
-    spare: &mut Vec<u8>,
-    owner: usize,
-    sender: usize,
-    turns: &[&Entry],
-    history: &[Wire],
-) -> Result<bool, AllocError>
-    ensures { IfOk result (λ are. IsTrue are ↔ (puts_by sender history.now ≡ map Some (sent_to owner (map (λ turn. turn.now) turns.now)))) }
+// Whether nothing is left of any line.
+fn are_over(lines: &[&[&Wire]]) -> bool
+    ensures { result ≡ list_all (λ line. length line.now == 0) lines.now }
 {
-    let mut rest = history;
-    for entry in turns {
-        let entry: &Entry = entry;
-        if !take_turn(
-            spare,
-            owner,
-            sender,
-            entry.stamp,
-            entry.turn.out.as_slice(),
-            &mut rest,
-        )? {
-            return Ok(false);
-        }
-    }
-    Ok(!has_put_by(rest, sender))
+    lines.iter().all(|line| line.is_empty())
 }
 
-// Whether the next puts of a node are what a turn with this stamp sends to the owner. What stands behind them is left.
+// Whether the next puts of the lines are what a turn with this stamp sends. What stands behind them is left.
 fn take_turn(
     spare: &mut Vec<u8>,
-    owner: usize,
-    sender: usize,
+    lines: &mut [&[&Wire]],
     stamp: u64,
     out: &[Envelope],
-    history: &mut &[Wire],
 ) -> Result<bool, AllocError>
-    ensures { IfOk result (λ are. AreNext sender (sends_to owner stamp out.now) history.old.now history.new.now are) }
+    ensures { IfOk result (λ are. AreAllNext (map (sent_as stamp) out.now) (map (λ line. map (λ wire. message_of wire.now) line.now) lines.old)
+        (map (λ line. map (λ wire. message_of wire.now) line.now) lines.new) are) }
 {
     for envelope in out {
-        if !take_sent(spare, owner, sender, stamp, envelope, history)? {
+        if !take_sent(spare, lines, stamp, envelope)? {
             return Ok(false);
         }
     }
     Ok(true)
 }
 
-// Whether the next put of a node is a message with this stamp, if the message is for the owner. What stands behind it is left.
+// Whether the next put of its receiver's line is a message with this stamp, if the receiver has a line. What stands behind it is left.
 fn take_sent(
     spare: &mut Vec<u8>,
-    owner: usize,
-    sender: usize,
+    lines: &mut [&[&Wire]],
     stamp: u64,
     envelope: &Envelope,
-    history: &mut &[Wire],
 ) -> Result<bool, AllocError>
-    ensures { IfOk result (λ is. AreNext sender (only_to owner (sent_as stamp envelope.now ∷ [])) history.old.now history.new.now is) }
+    ensures { IfOk result (λ is. AreAllNext (sent_as stamp envelope.now ∷ []) (map (λ line. map (λ wire. message_of wire.now) line.now) lines.old)
+        (map (λ line. map (λ wire. message_of wire.now) line.now) lines.new) is) }
 {
-    if usize::from(envelope.to) == owner {
-        take_put(spare, sender, stamp, envelope, history)
+    let to = usize::from(envelope.to);
+    if to < lines.len() {
+        take_put(spare, stamp, envelope, &mut lines[to])
     } else {
         Ok(true)
     }

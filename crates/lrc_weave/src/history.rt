@@ -1,7 +1,6 @@
 // The entries of a mailbox's history, one after another.
 
-ghost use Rattle.std.specs.Prelude.{◌≡◌, ◌<◌, ◌∷◌, ◌↔◌, [], IfOk, IsTrue, length, is_some, position};
-ghost use Rattle.std.specs.List.{list_any};
+ghost use Rattle.std.specs.Prelude.{◌≡◌, ◌∷◌, ◌↔◌, [], IfOk, IsTrue, Some, map, position};
 ghost use Rattle.lrc_weave.specs.Compared.{AreNext, IsNextTake, IsTakenAs, is_by_node, is_take, sent_as};
 ghost use Rattle.lrc_weave.specs.Matched as matched;
 
@@ -10,36 +9,22 @@ use lrc_envelope::Envelope;
 use lrc_post::Wire;
 use std::alloc::AllocError;
 
-/// Whether the next put of a node is this message with this stamp. What stands behind that put is left.
+/// Whether the next put of a line is this message with this stamp. What stands behind that put is left.
 pub(crate) fn take_put(
     spare: &mut Vec<u8>,
-    sender: usize,
     stamp: u64,
     envelope: &Envelope,
-    history: &mut &[Wire],
+    line: &mut &[&Wire],
 ) -> Result<bool, AllocError>
-    ensures { IfOk result (λ is. AreNext sender (sent_as stamp envelope.now ∷ []) history.old.now history.new.now is) }
+    ensures { IfOk result (λ is. AreNext (sent_as stamp envelope.now ∷ []) (map (λ wire. matched.message_of wire.now) line.old.now)
+        (map (λ wire. matched.message_of wire.now) line.new.now) is) }
 {
-    let Some(place) = put_place(history, sender) else {
+    if line.is_empty() {
         return Ok(false);
-    };
-    let is = is_message(spare, &history[place], stamp, envelope)?;
-    *history = &history[place + 1..];
+    }
+    let is = is_message(spare, line[0], stamp, envelope)?;
+    *line = &line[1..];
     Ok(is)
-}
-
-// The place of the first put of a node.
-fn put_place(history: &[Wire], sender: usize) -> Option<usize>
-    ensures { result ≡ position (matched.is_put_by sender) history.now }
-{
-    history.iter().position(|wire| is_put_by(wire, sender))
-}
-
-/// Whether a node put any of these.
-pub(crate) fn has_put_by(history: &[Wire], sender: usize) -> bool
-    ensures { result ≡ list_any (matched.is_put_by sender) history.now }
-{
-    history.iter().any(|wire| is_put_by(wire, sender))
 }
 
 /// Whether an entry is no put by a node that is none of so many.
@@ -49,16 +34,6 @@ pub(crate) fn is_by_node(wire: &Wire, nodes: usize) -> bool
     match wire {
         Wire::Put { from, .. } => usize::from(*from) < nodes,
         Wire::Took { .. } => true,
-    }
-}
-
-// Whether an entry is a put by a node.
-fn is_put_by(wire: &Wire, sender: usize) -> bool
-    ensures { result ≡ matched.is_put_by sender wire.now }
-{
-    match wire {
-        Wire::Put { from, .. } => usize::from(*from) == sender,
-        Wire::Took { .. } => false,
     }
 }
 

@@ -9,7 +9,7 @@ mod fault;
 mod history;
 pub mod laws;
 mod order;
-mod sending;
+mod putting;
 mod spelled;
 mod woven;
 

@@ -1,4 +1,4 @@
-use Rattle.std.proofs.Common.{◌≡◌, ◌∙◌, ◌<◌, ◌≤◌, false, ap, map, sym, subst, rules}
+use Rattle.std.proofs.Common.{◌≡◌, ◌∙◌, ◌<◌, ◌≤◌, ◌⊎◌, inl, inr, false, true, ap, map, sym, subst, rules}
 use Rattle.std.specs.Prelude.{All, MatchOption}
 use Rattle.lrc_judge.specs.Races.{AreNamedRaces}
 use Rattle.lrc_trace.specs.Conflict.{IsFirstRace, IsRaceFree}
@@ -7,8 +7,9 @@ use Rattle.lrc_world.specs.Ends.{ends_of}
 use Rattle.lrc_threads.specs.Threads.{traces_of_logs}
 use Rattle.lrc_run.specs.Run.{turns_of_nodes}
 use Rattle.lrc_run.specs.Run.{IsWovenReport}
-use Rattle.lrc_run.proofs.Telling.{acts_told, over_told, raceless_told, races_told, report_told, run_told, still_matched, theorem_told, traces_told}
+use Rattle.lrc_run.proofs.Telling.{acts_told, left_over, over_told, raceless_told, races_told, report_told, run_told, still_matched, theorem_told, traces_told}
 use Rattle.lrc_run.proofs.Telling.{weave_told, woven_told}
+use Rattle.lrc_run.proofs.told.told.Goals.{then-parts-via-then-parts, then-parts-via-else-parts+then-run-gt0}
 use Rattle.lrc_run.proofs.told.told.Goals as goal
 
 pub findings_of-requires : goal.findings_of-requires
@@ -28,6 +29,27 @@ findings_of-requires c =
       raceless = λ none. subst IsRaceFree (sym acts)
           (raceless_told s.program.now s.nodes s.options logs run.events.items run.acts.items run.in_flight m c.as_slice-3.result.now traces none);
     }
+
+pub returns-then-parts-clause-mismatch : goal.returns-then-parts-clause-mismatch
+returns-then-parts-clause-mismatch c = λ answered.
+    let s = c.args.setting.now in
+    let parts = c.args.parts in
+    let run = c.in_ok-run.run' in
+    let logs = map (λ log. log.items) parts.logs.items in
+    let m = run_told (λ log. log.items) c.as_slice.result.now parts.logs.items (search rules) s.program.now s.nodes s.options run.events.items
+    run.acts.items run.in_flight c.requires.logs c.in_ok-run.ensures.makes in
+    let woven = weave_told (λ log. log.items) c.as_slice.result.now parts.logs.items (search rules) s.program.now s.nodes s.options run.events.items
+    c.requires.logs c.in_ok-run.ensures.woven in
+    let left : (parts.is_any_ready ≡ true) ⊎ (1 ≤ run.in_flight) = elim c.then-parts.branch [
+      | then-parts-via-then-parts w ↦ inl (search rules)
+      | then-parts-via-else-parts+then-run-gt0 w ↦ inr (search rules)
+    ] in
+    inr (
+      run.events.items,
+      woven.0,
+      woven.1,
+      left_over s.program.now s.nodes s.options logs run.events.items run.acts.items run.in_flight m parts.is_any_ready c.requires.ready left,
+    )
 
 pub returns-clause-woven : goal.returns-clause-woven
 returns-clause-woven c =
