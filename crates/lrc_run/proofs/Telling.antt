@@ -18,6 +18,7 @@ use Rattle.lrc_protocol.specs.Traced.{trace_of, traced, traces_of}
 use Rattle.lrc_protocol.specs.Turn.{is_ready}
 use Rattle.lrc_protocol.proofs.Traces.{traced_node}
 use Rattle.lrc_protocol.proofs.Worlds.{run-whole}
+use Rattle.lrc_weave.proofs.Places.{some_same}
 use Rattle.lrc_weave.specs.Logs.{AreLogs}
 use Rattle.lrc_weave.specs.Matched.{AreMatched}
 use Rattle.lrc_weave.specs.Whole.{MakesRun}
@@ -34,9 +35,6 @@ use Rattle.lrc_world.proofs.Worlds.{acts_in_range}
 use Rattle.lrc_run.specs.Run.{IsWovenReport, turns_of_nodes}
 use Rattle.lrc_threads.specs.Threads.{is_any_ready_after, traces_of_logs}
 use Rattle.lrc_threads.specs.Worker.{is_ready_after}
-
-some_same : {X : Type 0} (o : Option X) (x y : X) → o ≡ Some x → o ≡ Some y → x ≡ y
-some_same o x y a b = cc
 
 true_false : true ≡ false → ⊥
 true_false e = cc

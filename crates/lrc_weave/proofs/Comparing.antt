@@ -13,22 +13,10 @@ use Rattle.lrc_post.specs.Mailbox.{MailboxRecord}
 use Rattle.lrc_protocol.specs.Run.{Input, run, taken, EntryRecord, last_stamp, Flying}
 use Rattle.lrc_weave.specs.Matched.{message_of, message_if, message_at, takes_in, Takes, takes_none, takes_not, takes_one}
 use Rattle.lrc_weave.specs.Compared.{is_by_node, AreByNodes, IsNextTake, IsTakenAs, taken_in, Leaves, IsLeft}
-use Rattle.lrc_weave.proofs.Places.{taken_more, dropped_less}
+use Rattle.lrc_weave.proofs.Places.{taken_more, dropped_less, head_is, tail_is, false_true, nothing, some_same, none_some}
 use Rattle.lrc_weave.proofs.Rising.{last_is}
 
-false_true : false ≡ true → ⊥
-false_true e = cc
-
-nothing : {A : Type 0} → false ≡ true → A
-nothing e = absurd (false_true e)
-
 -- ---- takes
-
-tail_is : {X : Type 0} (x y : X) (xs ys : List X) → x ∷ xs ≡ y ∷ ys → xs ≡ ys
-tail_is x y xs ys e = cc
-
-head_is : {X : Type 0} (x y : X) (xs ys : List X) → x ∷ xs ≡ y ∷ ys → x ≡ y
-head_is x y xs ys e = cc
 
 one_left : (before stamp : ℕ) (input : Input) (old a b : List (Option Flying)) → Leaves before stamp input old a → Leaves before stamp input old b → a ≡ b
 one_left before stamp run old a b x y = sym x ∙ y
@@ -141,9 +129,6 @@ pub left_not : (history old new : List Wire) (before stamp : ℕ) (e : EnvelopeR
 left_not history old new before stamp e next = λ left l.
     not_empty (taken_in history old) l.0 left (ap (map (message_at history)) next) l.1
 
-none_some : {X : Type 0} (o : Option X) (x : X) → o ≡ None → o ≡ Some x → ⊥
-none_some o x a b = cc
-
 pub left_past : (history old new : List Wire) (place before stamp : ℕ) (e : EnvelopeRecord) → length history ≤ place → IsNextTake old new (Some place)
     → IsLeft before stamp (taken e) (taken_in history old) (taken_in history new) false
 left_past history old new place before stamp e past next = λ left l.
@@ -160,12 +145,9 @@ module _ {X : Type 0} (P : ℕ → X → Type 0) (xs : List X) where
   pub up_to_none : UpTo 0
   up_to_none = λ n x lt at. absurd (omega (arith, lt))
 
-  some_is : (o : Option X) (x y : X) → o ≡ Some x → o ≡ Some y → x ≡ y
-  some_is o x y a b = cc
-
   pub up_to_more : (k : ℕ) (x : X) → UpTo k → slice_get xs k ≡ Some x → P k x → UpTo (k + 1)
   up_to_more k x all at here = λ n y lt at_n. elim (cases_eq k n) [
-    | inl e ↦ subst (λ m. P m y) e (subst (λ z. P k z) (some_is (slice_get xs k) x y at (subst (λ m. slice_get xs m ≡ Some y) (sym e) at_n)) here)
+    | inl e ↦ subst (λ m. P m y) e (subst (λ z. P k z) (some_same (slice_get xs k) x y at (subst (λ m. slice_get xs m ≡ Some y) (sym e) at_n)) here)
     | inr ne ↦ all n y (omega (arith, lt, ne)) at_n
   ]
 

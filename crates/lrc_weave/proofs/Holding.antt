@@ -16,7 +16,7 @@ use Rattle.lrc_weave.specs.Logs.{AreLogs}
 use Rattle.lrc_weave.specs.Matched.{AreMatched}
 use Rattle.lrc_weave.specs.Woven.{IsUpTo, IsNext, takes_same, is_taken_among, IsTakenAt, MakesNextTurn, runs, takes_last, takes_again}
 use Rattle.lrc_protocol.specs.Follows.{log_of, come_of, next_entry}
-use Rattle.lrc_weave.proofs.Places.{within_outer}
+use Rattle.lrc_weave.proofs.Places.{within_outer, false_true}
 use Rattle.lrc_weave.proofs.Members.{IsIn, in_left, in_right, of_map, stays_in, in_drop}
 use Rattle.lrc_weave.proofs.Paired.{IsSent, paired}
 use Rattle.lrc_weave.proofs.Rising.{above_came, rises}
@@ -30,9 +30,6 @@ pub record Has (flight : List Flying) (flying : Flying) : Type 0 where
   pub stamp : found.stamp ≡ flying.stamp
 
 -- ---- what is taken later
-
-false_true : false ≡ true → ⊥
-false_true e = cc
 
 either_true : (b c : Bool) → c ≡ true → (b || c) ≡ true
 either_true true c e = refl

@@ -7,7 +7,6 @@ use Rattle.std.proofs.lemmas.Bool.{cases_eq, and_parts, eq-eqb, eqb-true, ne_eqb
 use Rattle.std.proofs.lemmas.List.{append_cancel_left, map-append, take-append-drop, length-map, length-set, length-replicate, get_or-replicate, get_or-set_same, get_or-set_other, ext_get_or, map-set, set_past, get_or-map}
 use Rattle.std.proofs.lemmas.List.Elements.{filter-append}
 use Rattle.std.proofs.lemmas.List.FromFn.{length-range_with_len, get_or-map-range_with_len}
-use Rattle.std.proofs.lemmas.Option.{slice_get_read}
 use Rattle.std.proofs.lemmas.Grind.{flat_map-append}
 use Rattle.std.proofs.Math.Seq.{take-length}
 use Rattle.lrc_envelope.specs.Envelope.{EnvelopeRecord}
@@ -17,19 +16,10 @@ use Rattle.lrc_protocol.specs.Run.{EntryRecord, Flying, sent_by}
 use Rattle.lrc_weave.specs.Logs.{all_sent, sent_to}
 use Rattle.lrc_weave.specs.Matched.{is_put_by}
 use Rattle.lrc_weave.specs.Compared.{sent_as, only_to, puts_by_each, with_put, line_at, AreNext, AreAllNext, AreSent}
-use Rattle.lrc_weave.proofs.Places.{taken_more}
+use Rattle.lrc_weave.proofs.Places.{head_is, false_true, nothing, read, taken_more}
 
 abbrev Line : Type 0
 Line = List (Option Flying)
-
-false_true : false ≡ true → ⊥
-false_true e = cc
-
-nothing : {A : Type 0} → false ≡ true → A
-nothing e = absurd (false_true e)
-
-head_is : {X : Type 0} (x y : X) (xs ys : List X) → x ∷ xs ≡ y ∷ ys → x ≡ y
-head_is x y xs ys e = cc
 
 -- ---- one line
 
@@ -155,9 +145,6 @@ module _ {V : Type 0} (f : V → Line) where
   sent_past m to vs is_to past = none_there m (map f vs) (omega (arith, length-map vs f, is_to, past))
 
 -- ---- the messages of a turn
-
-read : {X : Type 0} (xs : List X) (k : ℕ) (x : X) → k < length xs → x ≡ slice_index_or xs k x → slice_get xs k ≡ Some x
-read xs k x within is = slice_get_read xs (length xs) k x refl within is
 
 module _ (stamp : ℕ) (out : List EnvelopeRecord) (k : ℕ) (e : EnvelopeRecord) (old mid new : List Line) (b : Bool) (within : k < length out)
     (is : e ≡ slice_index_or out k e) (before : AreAllNext (map (sent_as stamp) (take k out)) old mid true)

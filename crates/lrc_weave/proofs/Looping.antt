@@ -3,7 +3,7 @@ use Rattle.std.proofs.Common.{◌≡◌, ℕ, ◌+◌, ◌<◌, ◌↔◌, Bool,
 use Rattle.std.specs.List.{list_all}
 use Rattle.std.specs.Prelude.{Option, Some, slice_get, slice_index_or}
 use Rattle.std.proofs.lemmas.List.{length-map}
-use Rattle.std.proofs.lemmas.Option.{get_or_from_slice_get, slice_get_read, slice_get_within}
+use Rattle.std.proofs.lemmas.Option.{get_or_from_slice_get, slice_get_within}
 use Rattle.lrc_post.specs.declared.parcel.Wire.{Wire}
 use Rattle.lrc_post.specs.Mailbox.{MailboxRecord}
 use Rattle.lrc_protocol.specs.Run.{Input, EntryRecord, Flying}
@@ -11,11 +11,9 @@ use Rattle.lrc_weave.specs.Logs.{sent_to}
 use Rattle.lrc_weave.specs.Matched.{message_of, puts_by, takes_in, Takes, AreMatched}
 use Rattle.lrc_weave.specs.Compared.{is_by_node, AreByNodes, AreSent, line_at, puts_by_each, taken_in, IsLeft}
 use Rattle.lrc_weave.proofs.Members.{in_map}
+use Rattle.lrc_weave.proofs.Places.{head_is, tail_is, nothing, read, some_same}
 use Rattle.lrc_weave.proofs.Lining.{puts_at, puts_count}
 use Rattle.lrc_weave.proofs.Comparing.{TakenSo, so_step, so_not, UpTo, up_to_more, up_to_all, all_mailboxes, mailboxes_all}
-
-read : {X : Type 0} (xs : List X) (k : ℕ) (x : X) → k < length xs → x ≡ slice_index_or xs k x → slice_get xs k ≡ Some x
-read xs k x within is = slice_get_read xs (length xs) k x refl within is
 
 -- ---- the takes of a log
 
@@ -40,9 +38,6 @@ module _ (history : List Wire) (log : List EntryRecord) (k before : ℕ) (rest n
 
 unlike : (b : Bool) (P : Type 0) → IsTrue b ↔ P → b ≡ false → P → ⊥
 unlike b P same none p = let yes : b ≡ true = same.1 p in cc
-
-nothing : {A : Type 0} → false ≡ true → A
-nothing e = absurd (let no : false ≡ true = e in cc)
 
 -- a node's log tells of what the node put into each mailbox, and of what it took from its own
 abbrev pub NodeSo : List MailboxRecord → ℕ → List EntryRecord → Type 0
@@ -81,12 +76,6 @@ module _ {V W X : Type 0} (each : V → List (List Wire)) (line_of : W → List 
           (puts_at nodes node m.history within)
           ∙ ap (λ rest. puts_by node m.history ∷ rest) (here ms)
 
-same_head : {X : Type 0} (x y : X) (xs ys : List X) → x ∷ xs ≡ y ∷ ys → x ≡ y
-same_head x y xs ys e = cc
-
-same_tail : {X : Type 0} (x y : X) (xs ys : List X) → x ∷ xs ≡ y ∷ ys → xs ≡ ys
-same_tail x y xs ys e = cc
-
 -- each node has a line in each mailbox
 module _ {V W : Type 0} (items : V → List W) (g : W → List Wire) (nodes : ℕ) where
   pub each_long : (puts : List V) (wires : List MailboxRecord)
@@ -97,12 +86,12 @@ module _ {V W : Type 0} (items : V → List W) (g : W → List Wire) (nodes : �
   each_long (p ∷ puts) (w ∷ wires) same zero d within =
       sym (length-map (items p) g)
       ∙ ap length
-      (same_head (map g (items p)) (puts_by_each nodes w.history) (map (λ own. map g (items own)) puts)
+      (head_is (map g (items p)) (puts_by_each nodes w.history) (map (λ own. map g (items own)) puts)
       (map (λ mailbox. puts_by_each nodes mailbox.history) wires) same)
       ∙ puts_count nodes w.history
   each_long (p ∷ puts) (w ∷ wires) same (suc k) d within =
       each_long puts wires
-      (same_tail (map g (items p)) (puts_by_each nodes w.history) (map (λ own. map g (items own)) puts)
+      (tail_is (map g (items p)) (puts_by_each nodes w.history) (map (λ own. map g (items own)) puts)
       (map (λ mailbox. puts_by_each nodes mailbox.history) wires) same)
       k d (omega (arith, within))
 
@@ -110,9 +99,6 @@ there : {X : Type 0} (xs : List X) (n : ℕ) → n < length xs → (x : X) × (s
 there [] n within = absurd (omega (arith, within))
 there (x ∷ xs) zero within = (x, refl)
 there (x ∷ xs) (suc n) within = there xs n (omega (arith, within))
-
-some_same : {X : Type 0} (o : Option X) (x y : X) → o ≡ Some x → o ≡ Some y → x ≡ y
-some_same o x y a b = cc
 
 module _ (wires : List MailboxRecord) (node : ℕ) (log : List EntryRecord) (lines : List (List (Option Flying)))
     (are : lines ≡ map (λ mailbox. puts_by node mailbox.history) wires) where
