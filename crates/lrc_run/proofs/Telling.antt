@@ -1,6 +1,6 @@
 -- The report of a run that its logs tell of.
 use Rattle.std.proofs.Common.{◌≡◌, ◌∙◌, ◌<◌, ◌≤◌, ◌+◌, ℕ, suc, List, [], ◌∷◌, ◌⊎◌, inl, inr, Bool, true, false, length, Some, ◌||◌, refl, sym, ap, subst, arith, map}
-use Rattle.std.specs.Prelude.{All, MatchOption, Option, slice_get}
+use Rattle.std.specs.Prelude.{All, MatchOption, slice_get}
 use Rattle.std.specs.List.{enumerate_from, list_any}
 use Rattle.lrc_lang.specs.declared.program.Program.{Program}
 use Rattle.lrc_trace.specs.declared.act.Act.{Act}
