@@ -1,7 +1,7 @@
 use Rattle.std.proofs.Common.{◌-◌, ◌∙◌, ap, arith, sym}
-use Rattle.lrc_node.specs.Text.{TextRecord}
-use Rattle.lrc_node.proofs.Texts.{begun_paid}
-use Rattle.lrc_node.proofs.turns.text.Text.begin.Goals as goal
+use Rattle.lrc_parts.specs.Text.{TextRecord}
+use Rattle.lrc_parts.proofs.Texts.{begun_paid}
+use Rattle.lrc_parts.proofs.text.Text.begin.Goals as goal
 
 pub overflow_sub-self : goal.overflow_sub-self
 overflow_sub-self c =

@@ -1,10 +1,10 @@
 use Rattle.std.proofs.Common.{◌≡◌, length, sym, subst, Option}
 use Rattle.std.specs.Prelude.{IfSome}
 use Rattle.lrc_barrier.specs.Barrier.{ManagerRecord}
-use Rattle.lrc_node.specs.Barrier.{KeepsEpisodes, IsOfNodes}
-use Rattle.lrc_node.proofs.Episodes.{kept_after, are_departures}
-use Rattle.lrc_node.proofs.barriers.part.Barrier.take_arrival.Goals as goal
-use Rattle.lrc_node.proofs.barriers.part.Barrier.take_arrival.Goals.{in-Ok, in-Err-NoMemory}
+use Rattle.lrc_parts.specs.Barrier.{KeepsEpisodes, IsOfNodes}
+use Rattle.lrc_parts.proofs.Episodes.{kept_after, are_departures}
+use Rattle.lrc_parts.proofs.barrier.Barrier.take_arrival.Goals as goal
+use Rattle.lrc_parts.proofs.barrier.Barrier.take_arrival.Goals.{in-Ok, in-Err-NoMemory}
 
 pub invariant_of-self : goal.invariant_of-self
 invariant_of-self c =

@@ -10,9 +10,9 @@ use Rattle.lrc_exec.specs.Meaning.{Thread, Next, quiet, prints, reads, writes, a
 use Rattle.lrc_exec.proofs.NextLaws.{IsFine, next_of-fine}
 use Rattle.lrc_protocol.specs.Node.{Course, going, trapped, ended, cost_of, course_of}
 use Rattle.lrc_protocol.specs.Turn.{begins_of, may_begin}
-use Rattle.lrc_node.specs.declared.turns.text.TextStanding.{TextStanding}
-use Rattle.lrc_node.specs.declared.turns.text.TextStanding.TheVariants.{Running, Arrived, Trapped, Ended}
-use Rattle.lrc_node.specs.Text.{TextRecord, allowed_with, asked_in, cost_to_begin, course_in, gone_on}
+use Rattle.lrc_parts.specs.declared.text.TextStanding.{TextStanding}
+use Rattle.lrc_parts.specs.declared.text.TextStanding.TheVariants.{Running, Arrived, Trapped, Ended}
+use Rattle.lrc_parts.specs.Text.{TextRecord, allowed_with, asked_in, cost_to_begin, course_in, gone_on}
 
 pick : (allowed : Bool) (n : Next) → option_map ask_of (if allowed then Some n else None) ≡ (if allowed then Some (ask_of n) else None)
 pick true n = refl

@@ -1,10 +1,10 @@
 use Rattle.std.proofs.Common.{sym, ◌∙◌, ap}
 use Rattle.std.specs.Prelude.{option_map}
 use Rattle.lrc_exec.specs.Ask.{ask_of}
-use Rattle.lrc_node.specs.declared.turns.text.TextStanding.{TextStanding}
-use Rattle.lrc_node.specs.Text.{allowed_with, begun_by, course_in}
-use Rattle.lrc_node.proofs.Texts.{begins_next}
-use Rattle.lrc_node.proofs.turns.text.Text.begins.Goals as goal
+use Rattle.lrc_parts.specs.declared.text.TextStanding.{TextStanding}
+use Rattle.lrc_parts.specs.Text.{allowed_with, begun_by, course_in}
+use Rattle.lrc_parts.proofs.Texts.{begins_next}
+use Rattle.lrc_parts.proofs.text.Text.begins.Goals as goal
 
 pub returns-in-Running-clause-asked : goal.returns-in-Running-clause-asked
 returns-in-Running-clause-asked c =

@@ -1,7 +1,7 @@
 use Rattle.std.proofs.Common.{ap, ◌∙◌}
-use Rattle.lrc_node.specs.Text.{TextRecord, asked_in}
-use Rattle.lrc_node.proofs.Texts.{quiet_takes, quiet_answered}
-use Rattle.lrc_node.proofs.turns.text.Text.go_on_quietly.Goals as goal
+use Rattle.lrc_parts.specs.Text.{TextRecord, asked_in}
+use Rattle.lrc_parts.proofs.Texts.{quiet_takes, quiet_answered}
+use Rattle.lrc_parts.proofs.text.Text.go_on_quietly.Goals as goal
 
 pub answer-requires : goal.answer-requires
 answer-requires c =

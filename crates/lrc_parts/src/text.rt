@@ -5,8 +5,8 @@ ghost use Rattle.lrc_exec.specs.Ask.{ask_of, cost_asked};
 ghost use Rattle.lrc_exec.specs.Meaning.{next_of};
 ghost use Rattle.lrc_exec.specs.Plain.{start_of};
 ghost use Rattle.lrc_protocol.specs.Node.{going, course_of, deed_of};
-ghost use Rattle.lrc_node.specs.Text.{asked_in, begun, begun_by, deed_in, end_of, gone_on, course_in};
-ghost use Rattle.lrc_node.specs.Text.{allowed_with, standing_after};
+ghost use Rattle.lrc_parts.specs.Text.{asked_in, begun, begun_by, deed_in, end_of, gone_on, course_in};
+ghost use Rattle.lrc_parts.specs.Text.{allowed_with, standing_after};
 
 use crate::end::End;
 use lrc_exec::code::Code;
@@ -30,7 +30,7 @@ pub(crate) enum TextStanding {
 /// How far a node's text has come, and how many steps the node may still make. A step is a statement begun or a
 /// condition evaluated; the end of the text counts none.
 #[derive(Drop)]
-pub(crate) struct Text<'c> {
+pub struct Text<'c> {
     machine: Machine<'c>,
     standing: TextStanding,
     left: u32,
@@ -40,7 +40,7 @@ impl<'c> Model for Text<'c> {
     ghost use Rattle.std.specs.Prelude.{◌≡◌, false};
     ghost use Rattle.std.specs.Coded.{codes};
     ghost use Rattle.lrc_lang.specs.contracts.program.Statement as statement;
-    ghost use Rattle.lrc_node.specs.Text.{TextRecord, course_in};
+    ghost use Rattle.lrc_parts.specs.Text.{TextRecord, course_in};
 
     ghost Value = { TextRecord };
 
@@ -53,7 +53,7 @@ impl<'c> Model for Text<'c> {
 
 impl<'c> Text<'c> {
     /// Node `me` of `nodes` at the beginning of a program, with so many steps.
-    pub(crate) fn new(code: &'c Code<'_>, me: u8, nodes: u8, steps: u32) -> Text<'c>
+    pub fn new(code: &'c Code<'_>, me: u8, nodes: u8, steps: u32) -> Text<'c>
         ensures { result ≡ record { course = going (start_of code.now nodes me); left = steps } }
     {
         Text {
@@ -64,7 +64,7 @@ impl<'c> Text<'c> {
     }
 
     /// What the text asks for next, none once it has stopped.
-    pub(crate) fn asked(&self) -> Option<Ask>
+    pub fn asked(&self) -> Option<Ask>
         ensures { result ≡ asked_in self.now.course }
     {
         match self.standing {
@@ -75,7 +75,7 @@ impl<'c> Text<'c> {
     }
 
     /// What the text would begin: none where it has stopped or is at a barrier, or its steps are used up.
-    pub(crate) fn begins(&self) -> Option<Ask>
+    pub fn begins(&self) -> Option<Ask>
         ensures asked { result ≡ option_map ask_of (begun_by self.now) }
         ensures paid { IfSome result (λ ask. cost_asked ask ≤ self.now.left) }
     {
@@ -86,7 +86,7 @@ impl<'c> Text<'c> {
     }
 
     /// Whether the text would begin anything.
-    pub(crate) fn is_ready(&self) -> bool
+    pub fn is_ready(&self) -> bool
         ensures { result ≡ is_some (begun_by self.now) }
     {
         match self.standing {
@@ -97,7 +97,7 @@ impl<'c> Text<'c> {
 
     /// Begins this, which comes next, and counts the step.
     #[inline(always)]
-    pub(crate) fn begin(&mut self, ask: Ask)
+    pub fn begin(&mut self, ask: Ask)
         requires { option_map ask_of (begun_by self.old) ≡ Some ask }
         ensures { self.new ≡ begun self.old }
     {
@@ -106,7 +106,7 @@ impl<'c> Text<'c> {
 
     /// Makes the deed that comes next, which is what the text asks for, a read with this value. None once the text has
     /// stopped.
-    pub(crate) fn go_on(&mut self, asked: Option<Ask>, value: u64) -> Option<Deed>
+    pub fn go_on(&mut self, asked: Option<Ask>, value: u64) -> Option<Deed>
         requires { asked ≡ asked_in self.old.course }
         ensures deed { result ≡ deed_in value self.old.course }
         ensures text { self.new ≡ record self.old { course = gone_on value self.old.course } }
@@ -127,7 +127,7 @@ impl<'c> Text<'c> {
 
     /// Goes on by a step that only its own thread sees: an assignment or a condition.
     #[inline(always)]
-    pub(crate) fn go_on_quietly(&mut self)
+    pub fn go_on_quietly(&mut self)
         requires { asked_in self.old.course ≡ Some Ask.Quiet }
         ensures { self.new ≡ record self.old { course = gone_on 0 self.old.course } }
     {
@@ -136,7 +136,7 @@ impl<'c> Text<'c> {
     }
 
     /// How the node ended.
-    pub(crate) fn end(&self) -> End
+    pub fn end(&self) -> End
         ensures { result ≡ end_of self.now.course }
     {
         match self.standing {

@@ -2,8 +2,8 @@ use Rattle.std.proofs.Common.{◌≡◌, length, sym, ◌∙◌, ap, subst, refl
 use Rattle.std.specs.Prelude.{ℕ}
 use Rattle.lrc_time.proofs.Times.{length-joined_same}
 use Rattle.lrc_protocol.specs.Locks.{Locks}
-use Rattle.lrc_node.specs.Clock.{IsClock, SameClock}
-use Rattle.lrc_node.proofs.locks.clock.Clock.learn.Goals as goal
+use Rattle.lrc_parts.specs.Clock.{IsClock, SameClock}
+use Rattle.lrc_parts.proofs.clock.Clock.learn.Goals as goal
 
 -- a time of as many entries changes nothing of it
 as_long : (me : ℕ) (before after : Locks) → after.held ≡ before.held → after.managed ≡ before.managed

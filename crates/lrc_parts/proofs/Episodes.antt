@@ -10,7 +10,7 @@ use Rattle.lrc_barrier.specs.declared.arrival.Arrival.{Arrival}
 use Rattle.lrc_barrier.specs.declared.departure.Departure.{Departure}
 use Rattle.lrc_barrier.specs.Barrier.{ManagerRecord, ArriveStep, refuses, waits, departs, accepted, arrived, arrivals_of, with_arrival, departed}
 use Rattle.lrc_barrier.specs.Barrier.{departure_to, departures_of, after_arrive, arrive_answer, is_next, has_arrived, first_manager, IsDeparture}
-use Rattle.lrc_node.specs.Barrier.{KeepsEpisodes, AreDepartures}
+use Rattle.lrc_parts.specs.Barrier.{KeepsEpisodes, AreDepartures}
 
 -- each place of a list, where one is set
 set_begun : (places : List (Option Arrival)) (from node : ℕ) (arrival : Arrival) → 1 ≤ arrival.episode

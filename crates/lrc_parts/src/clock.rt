@@ -9,7 +9,7 @@ ghost use Rattle.lrc_lock.specs.Managed.{managed_after, requested, request_answe
 ghost use Rattle.lrc_lock.specs.declared.state.LockState.TheVariants.{Away};
 ghost use Rattle.lrc_protocol.specs.Times.{next_time, MOST_NUMBER};
 ghost use Rattle.lrc_protocol.specs.Locks.{fresh_locks, ticked, with_held, with_managed, with_joined_time};
-ghost use Rattle.lrc_node.specs.Clock.{IsClock, SameClock};
+ghost use Rattle.lrc_parts.specs.Clock.{IsClock, SameClock};
 
 use lrc_lock::{Held, Managed, Pass};
 use lrc_time::Time;
@@ -18,7 +18,7 @@ use std::marker::Model;
 /// A node's time, which counts closed intervals; what it knows of each lock's token; and who asked last for the locks
 /// that it manages.
 #[derive(Drop)]
-pub(crate) struct Clock {
+pub struct Clock {
     me: u8,
     time: Time,
     held: Held,
@@ -27,7 +27,7 @@ pub(crate) struct Clock {
 
 impl Model for Clock {
     ghost use Rattle.lrc_protocol.specs.Locks.{Locks};
-    ghost use Rattle.lrc_node.specs.Clock.{IsClock};
+    ghost use Rattle.lrc_parts.specs.Clock.{IsClock};
 
     ghost Value = { Locks };
 
@@ -38,7 +38,7 @@ impl Model for Clock {
 
 impl Clock {
     /// The clock of node `me` of 1 to 16 nodes at the start, with at most 64 locks.
-    pub(crate) fn new(me: u8, nodes: u8, locks: u8) -> Clock
+    pub fn new(me: u8, nodes: u8, locks: u8) -> Clock
         requires here { me < nodes }
         requires few { nodes ≤ 16 }
         requires room { locks ≤ 64 }
@@ -53,22 +53,22 @@ impl Clock {
     }
 
     /// The node's time.
-    pub(crate) fn time(&self) -> &Time
+    pub fn time(&self) -> &Time
         ensures time { result.now ≡ self.now.time }
         ensures is { IsClock self.now.held.me self.now }
     {
         &self.time
     }
 
-    /// The index of the node's newest closed interval.
-    pub(crate) fn index(&self) -> u32
+    /// The index of the node's newest closed interval, 0 where it has closed none.
+    pub fn index(&self) -> u32
         ensures { result ≡ entry self.now.time self.now.held.me }
     {
         self.time.at(self.me)
     }
 
     /// The stamp that the open interval has or would have: the node's time, its own entry one greater.
-    pub(crate) fn next(&self) -> Time
+    pub fn next(&self) -> Time
         requires { entry self.now.time self.now.held.me < MOST_NUMBER }
         ensures stamp { result ≡ next_time self.now.held.me self.now.time }
         ensures own { entry result self.now.held.me ≡ entry self.now.time self.now.held.me + 1 }
@@ -81,7 +81,7 @@ impl Clock {
     }
 
     /// The open interval is closed.
-    pub(crate) fn tick(&mut self)
+    pub fn tick(&mut self)
         requires { entry self.old.time self.old.held.me < MOST_NUMBER }
         ensures clock { self.new ≡ ticked self.old.held.me self.old }
         ensures same { SameClock self.old self.new }
@@ -90,7 +90,7 @@ impl Clock {
     }
 
     /// The node learns what this time knows.
-    pub(crate) fn learn(&mut self, time: &Time)
+    pub fn learn(&mut self, time: &Time)
         requires { length time.now ≡ length self.old.time }
         ensures clock { self.new ≡ with_joined_time time.now self.old }
         ensures same { SameClock self.old self.new }
@@ -99,7 +99,7 @@ impl Clock {
     }
 
     /// Takes the lock if its token is here and the lock is free, and answers whether it did.
-    pub(crate) fn try_local(&mut self, lock: u8) -> bool
+    pub fn try_local(&mut self, lock: u8) -> bool
         requires { lock < length self.old.held.locks }
         ensures answer { result ≡ is_free (lock_at self.old.held lock) }
         ensures clock { self.new ≡ with_held (taken self.old.held lock) self.old }
@@ -109,7 +109,7 @@ impl Clock {
     }
 
     /// Notes that the token was asked for. It is neither here nor awaited.
-    pub(crate) fn ask(&mut self, lock: u8)
+    pub fn ask(&mut self, lock: u8)
         requires lock { lock < length self.old.held.locks }
         requires away { lock_at self.old.held lock ≡ Away }
         ensures clock { self.new ≡ with_held (asked self.old.held lock) self.old }
@@ -119,7 +119,7 @@ impl Clock {
     }
 
     /// The node, which holds the lock, releases it at its present time. The pass is to the successor, if there is one.
-    pub(crate) fn release(&mut self, lock: u8) -> Option<Pass>
+    pub fn release(&mut self, lock: u8) -> Option<Pass>
         requires lock { lock < length self.old.held.locks }
         requires held { IsTrue (is_held (lock_at self.old.held lock)) }
         ensures answer { result ≡ pass_of (released self.old.held lock self.old.time) }
@@ -132,7 +132,7 @@ impl Clock {
     }
 
     /// Whether another node's request would be taken now, if it were forwarded to this one.
-    pub(crate) fn accepts(&self, lock: u8, asker: u8) -> bool
+    pub fn accepts(&self, lock: u8, asker: u8) -> bool
         requires { lock < length self.now.held.locks }
         ensures { (time : List ℕ) → result ≡ is_taken (forwarded self.now.held lock asker time) }
     {
@@ -141,7 +141,7 @@ impl Clock {
 
     /// Another node's request, with its time, is forwarded to this one, which takes it. The pass is there if the token
     /// leaves at once.
-    pub(crate) fn forward(&mut self, lock: u8, asker: u8, time: Time) -> Option<Pass>
+    pub fn forward(&mut self, lock: u8, asker: u8, time: Time) -> Option<Pass>
         requires lock { lock < length self.old.held.locks }
         requires asker { asker < length self.old.time }
         requires counted { length time ≡ length self.old.time }
@@ -158,7 +158,7 @@ impl Clock {
     }
 
     /// The token comes, which was awaited, and the node holds the lock.
-    pub(crate) fn granted(&mut self, lock: u8)
+    pub fn granted(&mut self, lock: u8)
         requires lock { lock < length self.old.held.locks }
         requires awaited { IsTrue (is_awaited (lock_at self.old.held lock)) }
         ensures clock { self.new ≡ with_held (held_after self.old.held lock (granted self.old.held lock)) self.old }
@@ -171,7 +171,7 @@ impl Clock {
 
     /// The node to which a request for a lock that this node manages goes on; from now on the asker is the one that asked
     /// last.
-    pub(crate) fn request(&mut self, lock: u8, asker: u8) -> u8
+    pub fn request(&mut self, lock: u8, asker: u8) -> u8
         requires lock { lock < length self.old.held.locks }
         requires asker { asker < length self.old.time }
         requires managed { manager_of self.old.managed.nodes lock ≡ self.old.managed.me }

@@ -8,10 +8,10 @@ use Rattle.lrc_exec.specs.Meaning.{Thread, Next, next_of}
 use Rattle.lrc_protocol.specs.Node.{Course, going, trapped, ended, deed_of, course_of, cost_of}
 use Rattle.lrc_protocol.specs.Turn.{begins_of}
 use Rattle.lrc_order_laws.specs.Waiting.{next_in}
-use Rattle.lrc_node.specs.declared.turns.text.TextStanding.{TextStanding}
-use Rattle.lrc_node.specs.declared.turns.text.TextStanding.TheVariants.{Running, Arrived, Trapped, Ended}
-use Rattle.lrc_node.specs.declared.end.End.{End as Ending}
-use Rattle.lrc_node.specs.declared.end.End.TheVariants.{Ended as End_Ended, Trapped as End_Trapped, Unfinished}
+use Rattle.lrc_parts.specs.declared.text.TextStanding.{TextStanding}
+use Rattle.lrc_parts.specs.declared.text.TextStanding.TheVariants.{Running, Arrived, Trapped, Ended}
+use Rattle.lrc_parts.specs.declared.end.End.{End as Ending}
+use Rattle.lrc_parts.specs.declared.end.End.TheVariants.{Ended as End_Ended, Trapped as End_Trapped, Unfinished}
 
 -- how far the text has come, and the steps that are left
 pub record TextRecord : Type 0 where

@@ -5,7 +5,7 @@ ghost use Rattle.lrc_barrier.specs.Barrier.{is_accepted, IsArrival, is_clean};
 ghost use Rattle.lrc_barrier.specs.declared.arrival.Arrival.{Arrival as ArrivalRecord};
 ghost use Rattle.lrc_protocol.specs.Times.{MOST_NUMBER};
 ghost use Rattle.lrc_protocol.specs.Barriers.{fresh_barrier, last_arrived, with_arrive};
-ghost use Rattle.lrc_node.specs.Barrier.{arrival_taken, clean_taken, AreDepartures, IsOfNodes, SameBarrier, arrive_step, clean_step};
+ghost use Rattle.lrc_parts.specs.Barrier.{arrival_taken, clean_taken, AreDepartures, IsOfNodes, SameBarrier, arrive_step, clean_step};
 
 use lrc_barrier::{Arrival, BarrierFault, Departures, Manager};
 use std::alloc::{AllocError, Global};
@@ -14,7 +14,7 @@ use std::marker::Model;
 /// How often a node has arrived, and up to which of its intervals it has sent them with an arrival. Node 0 has the
 /// manager of barriers too.
 #[derive(Drop)]
-pub(crate) struct Barrier {
+pub struct Barrier {
     episode: u32,
     sent: u32,
     manager: Option<Manager>,
@@ -23,7 +23,7 @@ pub(crate) struct Barrier {
 impl Model for Barrier {
     ghost use Rattle.std.specs.Prelude.{IfSome};
     ghost use Rattle.lrc_protocol.specs.Barriers.{Barrier as BarrierRecord};
-    ghost use Rattle.lrc_node.specs.Barrier.{KeepsEpisodes};
+    ghost use Rattle.lrc_parts.specs.Barrier.{KeepsEpisodes};
 
     ghost Value = { BarrierRecord };
 
@@ -34,7 +34,7 @@ impl Model for Barrier {
 
 impl Barrier {
     /// Node `me` of 1 to 16 before any arrival.
-    pub(crate) fn new(alloc: Global, me: u8, nodes: u8) -> Barrier
+    pub fn new(alloc: Global, me: u8, nodes: u8) -> Barrier
         requires some { 1 ≤ nodes }
         requires few { nodes ≤ 16 }
         ensures { result ≡ fresh_barrier me nodes }
@@ -52,21 +52,21 @@ impl Barrier {
     }
 
     /// How often the node has arrived.
-    pub(crate) fn episode(&self) -> u32
+    pub fn episode(&self) -> u32
         ensures { result ≡ self.now.episode }
     {
         self.episode
     }
 
-    /// The index of the node's newest interval that it sent with an arrival.
-    pub(crate) fn sent(&self) -> u32
+    /// The index of the node's newest interval that it sent with an arrival, 0 where it has sent none.
+    pub fn sent(&self) -> u32
         ensures { result ≡ self.now.sent }
     {
         self.sent
     }
 
     /// The node arrives once more, with its intervals up to this index.
-    pub(crate) fn arrive(&mut self, index: u32)
+    pub fn arrive(&mut self, index: u32)
         requires { self.old.episode < MOST_NUMBER }
         ensures barrier { self.new ≡ with_arrive index self.old }
         ensures same { SameBarrier self.old self.new }
@@ -76,7 +76,7 @@ impl Barrier {
     }
 
     /// The index of a node's newest interval that has come to the manager, 0 where the manager isn't here.
-    pub(crate) fn last_from(&self, from: u8) -> u32
+    pub fn last_from(&self, from: u8) -> u32
         requires { IfSome self.now.manager (λ manager. from < length manager.last) }
         ensures { result ≡ last_arrived self.now from }
     {
@@ -87,7 +87,7 @@ impl Barrier {
     }
 
     /// Whether the manager is here and would accept a node's arrival at this episode.
-    pub(crate) fn accepts(&self, from: u8, episode: u32) -> bool
+    pub fn accepts(&self, from: u8, episode: u32) -> bool
         requires { IfSome self.now.manager (λ manager. from < length manager.last) }
         ensures { (arrival : ArrivalRecord) → arrival.episode ≡ episode
             → result ≡ unwrap_or (option_map is_accepted (arrive_step self.now from arrival)) false }
@@ -99,7 +99,7 @@ impl Barrier {
     }
 
     /// Whether the manager is here and would accept a node's Clean for this episode.
-    pub(crate) fn accepts_clean(&self, from: u8, episode: u32) -> bool
+    pub fn accepts_clean(&self, from: u8, episode: u32) -> bool
         requires { IfSome self.now.manager (λ manager. from < length manager.last) }
         ensures { result ≡ unwrap_or (option_map is_clean (clean_step self.now from episode)) false }
     {
@@ -109,9 +109,9 @@ impl Barrier {
         }
     }
 
-    /// The manager, which is here and accepts it, takes another node's arrival; the last one gives the departures. An error
-    /// leaves the barrier as it was.
-    pub(crate) fn take_arrival(
+    /// The manager, which is here and accepts it, takes another node's arrival; the last one gives the departures. Where
+    /// no memory is left, the barrier stays as it was.
+    pub fn take_arrival(
         &mut self,
         from: u8,
         arrival: Arrival,
@@ -136,7 +136,7 @@ impl Barrier {
 
     /// The manager, which is here and accepts it, takes a node's Clean; the last one gives the episode of which all may
     /// discard.
-    pub(crate) fn take_clean(&mut self, from: u8, episode: u32) -> Option<u32>
+    pub fn take_clean(&mut self, from: u8, episode: u32) -> Option<u32>
         requires accepted { IsTrue (unwrap_or (option_map is_clean (clean_step self.old from episode)) false) }
         requires from { IfSome self.old.manager (λ manager. from < length manager.last) }
         ensures taken { clean_taken self.old (clean_step self.old from episode) ≡ Some (result, self.new) }
