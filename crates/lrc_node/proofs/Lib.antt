@@ -14,3 +14,4 @@ pub mod Requests
 pub mod Leading
 pub mod Ending
 pub mod Newest
+pub mod Kept
