@@ -1,4 +1,4 @@
-use Rattle.std.proofs.Common.{◌≡◌, ℕ, ◌+◌, ◌<◌, Bool, true, false, List, ◌∷◌, ◌++◌, [], length, get_or, map, take, refl, sym, ◌∙◌, ap}
+use Rattle.std.proofs.Common.{◌≡◌, ℕ, ◌+◌, ◌<◌, Bool, true, false, List, ◌∷◌, ◌++◌, [], length, get_or, map, take, sym, ◌∙◌, ap}
 use Rattle.std.specs.Prelude.{filter, not, if◌then◌else◌}
 use Rattle.std.proofs.lemmas.List.{map-append, take_all, take_more, append-nil}
 use Rattle.std.proofs.lemmas.List.Elements.{filter-append}
