@@ -5,7 +5,7 @@ use Rattle.lrc_judge.specs.Races.{AreNamedRaces}
 use Rattle.lrc_trace.specs.Conflict.{IsFirstRace, IsRaceFree}
 use Rattle.lrc_trace.specs.declared.act.Act.{Act}
 use Rattle.lrc_trace.specs.declared.race.Race.{Race}
-use Rattle.lrc_node.specs.declared.end.End.{End}
+use Rattle.lrc_parts.specs.declared.end.End.{End}
 use Rattle.lrc_envelope.specs.declared.picker.Picker.{Picker}
 use Rattle.lrc_post.specs.Mailbox.{MailboxRecord}
 use Rattle.lrc_protocol.specs.declared.event.Event.{Event}

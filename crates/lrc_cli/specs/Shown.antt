@@ -9,7 +9,7 @@ use Rattle.lrc_show.specs.ActsText.{acts_text}
 use Rattle.lrc_show.specs.Json.{json_of_acts}
 use Rattle.lrc_show.specs.Rapid.{rapid_text}
 use Rattle.lrc_protocol.specs.declared.event.Event.{Event}
-use Rattle.lrc_node.specs.declared.end.End.{End}
+use Rattle.lrc_parts.specs.declared.end.End.{End}
 use Rattle.lrc_trace.specs.declared.act.Act.{Act}
 use Rattle.lrc_explain.specs.Explain.{explain_text}
 use Rattle.lrc_judge.specs.FirstPairs.{AreFirstPairs}

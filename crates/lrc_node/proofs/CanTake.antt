@@ -20,7 +20,7 @@ use Rattle.lrc_node_laws.specs.Waits.{IsQuiet}
 use Rattle.lrc_node_laws.proofs.Tokened.{awaited_here, come_to, is_shaped}
 use Rattle.lrc_node_laws.proofs.Always.{can_be_added, ranged_at, exact_at, quiet_at}
 use Rattle.lrc_memory.specs.Turns.{CanBeAdded}
-use Rattle.lrc_node.specs.Text.{asked_in}
+use Rattle.lrc_parts.specs.Text.{asked_in}
 use Rattle.lrc_lock.specs.Lock.{manager_of}
 use Rattle.lrc_node.specs.Taking.{CanDiscard, CanTake}
 use Rattle.std.specs.Prelude.{map}

@@ -1,11 +1,9 @@
-pub mod Texts
 pub mod Runs
 pub mod Effects
 pub mod States
 pub mod CanRun
 pub mod Outcomes
 pub mod InRange
-pub mod Episodes
 pub mod Misses
 pub mod Keeping
 pub mod CanTake
@@ -16,3 +14,4 @@ pub mod Requests
 pub mod Leading
 pub mod Ending
 pub mod Newest
+pub mod Kept

@@ -1,6 +1,3 @@
-pub mod Text
-pub mod Clock
-pub mod Barrier
 pub mod News
 pub mod Keeping
 pub mod Effects

@@ -17,10 +17,10 @@ use Rattle.lrc_protocol.specs.Node.{discard, needs_of, Node, Effect, collection_
 use Rattle.lrc_protocol.specs.Follows.{awaits_discard}
 use Rattle.lrc_protocol.specs.Turn.{learns, with_needs, page_reply_by, take_page, passes_on, forward_by, take_grant, arrive_by, take_departure}
 use Rattle.lrc_protocol.specs.Turn.{clean_by, discard_by, changes_reply_to, take_changes}
-use Rattle.lrc_node.specs.Barrier.{arrive_step, clean_step}
+use Rattle.lrc_parts.specs.Barrier.{arrive_step, clean_step}
 use Rattle.lrc_node.specs.Effects.{CanGoOn, with_parts}
 use Rattle.lrc_node.specs.Keeping.{CanCollect}
-use Rattle.lrc_node.specs.Text.{asked_in}
+use Rattle.lrc_parts.specs.Text.{asked_in}
 
 -- a node that waits for the word to discard has nothing written, and collects up to a time that covers its own intervals
 pub record CanDiscard (node : Node) : Type 0 where

@@ -1,5 +1,4 @@
 // Barriers: a node arrives, and departs once all have arrived, of which node 0 tells it.
 
 mod begin;
-pub(crate) mod part;
 mod take;

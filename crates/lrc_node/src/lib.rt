@@ -4,7 +4,6 @@
 #![tactic(auto)]
 
 // A node, alone and with its log, and what its calls are given and give.
-mod end;
 mod fault;
 pub mod laws;
 mod logged;
@@ -32,9 +31,9 @@ mod collections;
 // Accesses, and what is fetched for them.
 mod pages;
 
-pub use end::End;
 pub use fault::NodeFault;
 pub use logged::{Entry, Input, Logged};
+pub use lrc_parts::End;
 pub use node::Node;
 pub use options::Options;
 pub use turn::Turn;

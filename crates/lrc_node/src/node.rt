@@ -9,7 +9,6 @@ ghost use Rattle.lrc_node.specs.Fault.{MayAnswer};
 ghost use Rattle.lrc_node.specs.Node.{AnswersTurn, end_in, wish_of};
 ghost use Rattle.lrc_node.specs.declared.fault.NodeFault.TheVariants.{Failed, NoMemory, NotReady, Unexpected};
 
-use crate::end::End;
 use crate::fault::NodeFault;
 use crate::options::Options;
 use crate::state::NodeState;
@@ -17,6 +16,7 @@ use crate::turn::Turn;
 use lrc_envelope::Envelope;
 use lrc_exec::code::Code;
 use lrc_exec::machine::Ask;
+use lrc_parts::End;
 use lrc_trace::trace::Trace;
 use std::alloc::{AllocError, Global};
 use std::marker::Model;

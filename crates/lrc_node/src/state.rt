@@ -4,14 +4,12 @@ ghost use Rattle.std.specs.Prelude.{◌≡◌, ◌<◌, ◌≤◌, IfOk, length}
 ghost use Rattle.lrc_page.specs.Place.{pages_of};
 ghost use Rattle.lrc_protocol.specs.Node.{fresh_node};
 
-use crate::barriers::part::Barrier;
-use crate::locks::clock::Clock;
 use crate::options::Options;
-use crate::turns::text::Text;
 use lrc_exec::code::Code;
 use lrc_mail::Mail;
 use lrc_memory::Memory;
 use lrc_page::pages_of;
+use lrc_parts::{Barrier, Clock, Text};
 use std::alloc::{AllocError, Global};
 use std::marker::Model;
 

@@ -6,4 +6,3 @@ mod message;
 mod run;
 mod send;
 mod take;
-pub(crate) mod text;

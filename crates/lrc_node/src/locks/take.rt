@@ -8,7 +8,7 @@ ghost use Rattle.lrc_lock.specs.Lock.{manager_of};
 ghost use Rattle.lrc_memory.specs.Turns.{CanBeAdded};
 ghost use Rattle.lrc_protocol.specs.Turn.{forward_by, take_grant, expects_request, expects_forward, expects_grant, passes_on};
 ghost use Rattle.lrc_node.specs.State.{seen_effect, AreFor};
-ghost use Rattle.lrc_node.specs.Text.{asked_in};
+ghost use Rattle.lrc_parts.specs.Text.{asked_in};
 
 use crate::state::NodeState;
 use crate::turn::Effect;

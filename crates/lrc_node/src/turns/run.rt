@@ -7,7 +7,7 @@ ghost use Rattle.lrc_protocol.specs.Turn.{begins, done, is_ready, run_turn};
 ghost use Rattle.lrc_trace.specs.Trace.{TraceRecord};
 ghost use Rattle.lrc_node.specs.Effects.{after_quiet, begun_node, effect_asked, quiet_turn, turn_asked, CanBegin, RefusesRun};
 ghost use Rattle.lrc_node.specs.State.{seen_effect, AreFor};
-ghost use Rattle.lrc_node.specs.Text.{asked_in};
+ghost use Rattle.lrc_parts.specs.Text.{asked_in};
 ghost use Rattle.lrc_node.specs.declared.fault.NodeFault.TheVariants.{NoMemory, Worn};
 
 use crate::fault::NodeFault;

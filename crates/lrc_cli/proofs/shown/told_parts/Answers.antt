@@ -1,6 +1,6 @@
 use Rattle.std.proofs.Common.{◌∙◌, ◌<◌, All, IfOk, List, ap, subst, sym}
 use Rattle.std.proofs.lemmas.Result.{IfOk-weaker}
-use Rattle.lrc_node.specs.declared.end.End.{End}
+use Rattle.lrc_parts.specs.declared.end.End.{End}
 use Rattle.lrc_protocol.specs.Run.{EntryRecord}
 use Rattle.lrc_protocol.specs.declared.event.Event.{Event}
 use Rattle.lrc_report.specs.ReportText.{run_text}
