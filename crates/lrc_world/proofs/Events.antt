@@ -1,6 +1,6 @@
 -- One event more.
-use Rattle.std.proofs.Common.{◌≡◌, ◌∙◌, ℕ, ◌+◌, List, [], ◌∷◌, ◌++◌, Some, Result, Ok, Err, IsErrAnd, refl}
-use Rattle.std.proofs.Common.{sym, ap, subst, take, drop, zero, suc, arith, length, ◌≤◌, ◌<◌}
+use Rattle.std.proofs.Common.{◌≡◌, ◌∙◌, ℕ, ◌+◌, List, [], ◌∷◌, ◌++◌, Option, Some, Result, Ok, Err, IsErrAnd, refl}
+use Rattle.std.proofs.Common.{◌↔◌, Bool, true, sym, ap, subst, take, drop, zero, suc, arith, length, ◌≤◌, ◌<◌}
 use Rattle.std.specs.Prelude.{slice_get, slice_index_or}
 use Rattle.std.proofs.lemmas.List.Sums.{fold-append}
 use Rattle.lrc_lang.specs.declared.program.Program.{Program}
@@ -10,10 +10,10 @@ use Rattle.lrc_protocol.specs.Run.{World as Run, fresh_world, event_on, step_of,
 use Rattle.lrc_plain_laws.proofs.Ahead.{take_ahead}
 use Rattle.lrc_world.specs.declared.world.World.{World}
 use Rattle.lrc_world.specs.declared.report.SimFault.{SimFault}
-use Rattle.lrc_world.specs.declared.report.SimFault.TheVariants.{Worn}
+use Rattle.lrc_world.specs.declared.report.SimFault.TheVariants.{BadNodes, BadSteps, NoMemory, Worn}
 use Rattle.lrc_world.specs.declared.keep.Keep.{Keep}
 use Rattle.lrc_world.specs.World.{Starts, Shows, PlaysTo, starts_of}
-use Rattle.lrc_world.specs.Report.{IsWornBy}
+use Rattle.lrc_world.specs.Report.{AreAll, IsOver, IsWornBy}
 
 -- the run of the events so far, which the world shows
 abbrev pub Runs : Keep → Program → ℕ → OptionsRecord → List Event → World → Type 0
@@ -59,6 +59,14 @@ wears_out program nodes options events k event at keep old new result runs plays
       subst (PlaysTo (starts_of program nodes options keep) new (event_on runs.0 event)) worn (plays (starts_of program nodes options keep) runs.0 runs.2);
 }
 
+-- what is played is not out of range
+pub plays_in_range : (starts : Starts) (new : World) (outcome : Option Run) (fault : SimFault) → PlaysTo starts new outcome (Err fault)
+    → (fault ≡ BadNodes → ⊥) × (fault ≡ BadSteps → ⊥)
+plays_in_range starts new outcome BadNodes plays = absurd plays
+plays_in_range starts new outcome BadSteps plays = absurd plays
+plays_in_range starts new outcome Worn plays = (λ e. cc, λ e. cc)
+plays_in_range starts new outcome NoMemory plays = (λ e. cc, λ e. cc)
+
 -- a fault that is handed on
 pub handed_on : {X : Type 0} (r : Result X SimFault) (fault other : SimFault) → IsErrAnd r (λ f. f ≡ fault) → r ≡ Err other → fault ≡ other
 handed_on (Ok x) fault other is e = absurd is
@@ -74,3 +82,14 @@ pub get_at : {X : Type 0} (xs : List X) (k : ℕ) (d : X) → k < length xs → 
 get_at [] k d within = absurd (omega (arith, within))
 get_at (x ∷ xs) zero d within = refl
 get_at (x ∷ xs) (suc k) d within = get_at xs k d (omega (arith, within))
+
+one_run : (a b : Run) → Some a ≡ Some b → a ≡ b
+one_run a b e = cc
+
+-- whether nothing is left to do after the events, by the run of them
+pub over_after : (program : Program) (nodes : ℕ) (options : OptionsRecord) (events : List Event) (run : Run) (is_over : Bool)
+    → run_of program nodes options events ≡ Some run → (is_over ≡ true) ↔ IsOver run → (is_over ≡ true) ↔ AreAll program nodes options events
+over_after program nodes options events run is_over runs over = (
+  λ e. (run, runs, over.0 e),
+  λ all. over.1 (subst IsOver (one_run all.0 run (sym all.1 ∙ runs)) all.2),
+)

@@ -1,8 +1,8 @@
 use Rattle.std.proofs.Common.{◌≡◌, ◌∙◌, sym, ap, rules, arith, take}
 use Rattle.lrc_world.specs.World.{starts_of}
 use Rattle.lrc_protocol.specs.Run.{run_of}
-use Rattle.lrc_world.specs.declared.report.SimFault.TheVariants.{Worn}
-use Rattle.lrc_world.proofs.Events.{goes_on, wears_out, handed_on, take_whole, get_at}
+use Rattle.lrc_world.specs.declared.report.SimFault.TheVariants.{BadNodes, BadSteps, Worn}
+use Rattle.lrc_world.proofs.Events.{goes_on, wears_out, handed_on, over_after, plays_in_range, take_whole, get_at}
 use Rattle.lrc_world.proofs.Theorem.{all_kept}
 use Rattle.lrc_world.proofs.Races.{kept_raceless, kept_traces, kept_races}
 use Rattle.lrc_world.proofs.Worlds.{acts_of_nodes}
@@ -62,3 +62,32 @@ report-requires-clause-raceless c =
     let runs = c.loop-event.invariant in
     kept_raceless c.args.program.now c.args.nodes c.args.options.now (take c.loop-event.event-index c.args.events.now) runs.0 runs.1 c.loop-event.world c.args.keep runs.2
     c.loop-event.world.acts.items runs.2.acts
+
+pub returns-in_err-play-clause-bad_nodes : goal.returns-in_err-play-clause-bad_nodes
+returns-in_err-play-clause-bad_nodes c =
+    let met = c.from_residual-in_err-play in
+    let runs = c.loop-event.invariant in
+    let starts = starts_of c.args.program.now c.args.nodes c.args.options.now c.args.keep in
+    let ranged = plays_in_range starts c.play.new.self _ c.in_err-play.field-0.0 (c.in_err-play.ensures starts runs.0 runs.2) in (
+      λ e good. ranged.0 (handed_on met.result c.in_err-play.field-0.0 BadNodes met.ensures.1 e),
+      λ bad. absurd (bad c.in_ok-count.ensures.1),
+    )
+
+pub returns-in_err-play-clause-bad_steps : goal.returns-in_err-play-clause-bad_steps
+returns-in_err-play-clause-bad_steps c =
+    let met = c.from_residual-in_err-play in
+    let runs = c.loop-event.invariant in
+    let starts = starts_of c.args.program.now c.args.nodes c.args.options.now c.args.keep in
+    let ranged = plays_in_range starts c.play.new.self _ c.in_err-play.field-0.0 (c.in_err-play.ensures starts runs.0 runs.2) in (
+      λ e. absurd (ranged.1 (handed_on met.result c.in_err-play.field-0.0 BadSteps met.ensures.1 e)),
+      λ bad. absurd (bad.1 c.in_ok-count.ensures.2),
+    )
+
+pub returns-clause-over : goal.returns-clause-over
+returns-clause-over c =
+    let runs = c.loop-event.invariant in
+    let all : take c.loop-event.event-index c.args.events.now ≡ c.args.events.now =
+    take_whole c.args.events.now c.loop-event.event-index (omega (arith, c.loop-event-test.false)) in
+    over_after c.args.program.now c.args.nodes c.args.options.now c.args.events.now runs.0 c.is_over-is_over.result
+    (ap (run_of c.args.program.now c.args.nodes c.args.options.now) (sym all) ∙ runs.1)
+    (c.is_over-is_over.ensures (starts_of c.args.program.now c.args.nodes c.args.options.now c.args.keep) runs.0 runs.2)
