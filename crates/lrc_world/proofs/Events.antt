@@ -1,5 +1,5 @@
 -- One event more.
-use Rattle.std.proofs.Common.{◌≡◌, ◌∙◌, ℕ, ◌+◌, List, [], ◌∷◌, ◌++◌, Option, Some, Result, Ok, Err, IsErrAnd, refl}
+use Rattle.std.proofs.Common.{◌≡◌, ◌∙◌, ℕ, ◌+◌, List, [], ◌∷◌, ◌++◌, Option, Some, Result, Ok, Err, IfErr, IsErrAnd, refl}
 use Rattle.std.proofs.Common.{◌↔◌, Bool, true, sym, ap, subst, take, drop, zero, suc, arith, length, ◌≤◌, ◌<◌}
 use Rattle.std.specs.Prelude.{slice_get, slice_index_or}
 use Rattle.std.proofs.lemmas.List.Sums.{fold-append}
@@ -71,6 +71,13 @@ plays_in_range starts new outcome NoMemory plays = (λ e. cc, λ e. cc)
 pub handed_on : {X : Type 0} (r : Result X SimFault) (fault other : SimFault) → IsErrAnd r (λ f. f ≡ fault) → r ≡ Err other → fault ≡ other
 handed_on (Ok x) fault other is e = absurd is
 handed_on (Err f) fault other is e = let same : f ≡ other = cc in sym is ∙ same
+
+pub memory_unworn : {X : Type 0} (r : Result X SimFault) → IsErrAnd r (λ f. f ≡ NoMemory) → r ≡ Err Worn → ⊥
+memory_unworn r is e = let worn : NoMemory ≡ Worn = handed_on r NoMemory Worn is e in cc
+
+pub fault_up : {X : Type 0} (r : Result X SimFault) (fault : SimFault) (P : SimFault → Type 0) → IsErrAnd r (λ f. f ≡ fault) → P fault → IfErr r P
+fault_up (Ok x) fault P is holds = tt
+fault_up (Err f) fault P is holds = subst P (sym is) holds
 
 pub take_whole : {X : Type 0} (xs : List X) (k : ℕ) → length xs ≤ k → take k xs ≡ xs
 take_whole [] zero all = refl
