@@ -72,8 +72,14 @@ pub handed_on : {X : Type 0} (r : Result X SimFault) (fault other : SimFault) �
 handed_on (Ok x) fault other is e = absurd is
 handed_on (Err f) fault other is e = let same : f ≡ other = cc in sym is ∙ same
 
-pub memory_unworn : {X : Type 0} (r : Result X SimFault) → IsErrAnd r (λ f. f ≡ NoMemory) → r ≡ Err Worn → ⊥
-memory_unworn r is e = let worn : NoMemory ≡ Worn = handed_on r NoMemory Worn is e in cc
+-- a fault of memory is no other one
+pub memory_only : {X : Type 0} (r : Result X SimFault) → IsErrAnd r (λ f. f ≡ NoMemory)
+    → (r ≡ Err BadNodes → ⊥) × (r ≡ Err BadSteps → ⊥) × (r ≡ Err Worn → ⊥)
+memory_only r is = (
+  λ e. let other : NoMemory ≡ BadNodes = handed_on r NoMemory BadNodes is e in cc,
+  λ e. let other : NoMemory ≡ BadSteps = handed_on r NoMemory BadSteps is e in cc,
+  λ e. let other : NoMemory ≡ Worn = handed_on r NoMemory Worn is e in cc,
+)
 
 pub fault_up : {X : Type 0} (r : Result X SimFault) (fault : SimFault) (P : SimFault → Type 0) → IsErrAnd r (λ f. f ≡ fault) → P fault → IfErr r P
 fault_up (Ok x) fault P is holds = tt

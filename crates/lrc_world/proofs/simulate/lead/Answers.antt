@@ -10,7 +10,7 @@ use Rattle.lrc_world.specs.Driven.{DriverStandsAt, IsDrivenBy, schedule_of}
 use Rattle.lrc_world.specs.Led.{Schedule, Led}
 use Rattle.lrc_world.specs.declared.keep.Keep.{Keep}
 use Rattle.lrc_world.specs.World.{Shows, starts_of}
-use Rattle.lrc_world.proofs.Events.{handed_on, memory_unworn}
+use Rattle.lrc_world.proofs.Events.{handed_on, memory_only}
 use Rattle.lrc_world.proofs.Driven.{at_start, in_range, led_played}
 use Rattle.lrc_world.proofs.Races.{kept_raceless, kept_traces, kept_races}
 use Rattle.lrc_world.proofs.Theorem.{all_kept}
@@ -68,7 +68,7 @@ returns-in_err-lead-clause-bad_steps c =
     )
 
 pub returns-in_err-report-clause-worn : goal.returns-in_err-report-clause-worn
-returns-in_err-report-clause-worn c = λ e. absurd (memory_unworn c.from_residual-in_err-report.result c.from_residual-in_err-report.ensures.1 e)
+returns-in_err-report-clause-worn c = λ e. absurd ((memory_only c.from_residual-in_err-report.result c.from_residual-in_err-report.ensures.1).2 e)
 
 pub returns-clause-report : goal.returns-clause-report
 returns-clause-report c =
