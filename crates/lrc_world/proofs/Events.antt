@@ -1,6 +1,6 @@
 -- One event more.
 use Rattle.std.proofs.Common.{◌≡◌, ◌∙◌, ℕ, ◌+◌, List, [], ◌∷◌, ◌++◌, Option, Some, Result, Ok, Err, IfErr, IsErrAnd, refl}
-use Rattle.std.proofs.Common.{◌↔◌, Bool, true, sym, ap, subst, take, drop, zero, suc, arith, length, ◌≤◌, ◌<◌}
+use Rattle.std.proofs.Common.{◌↔◌, ◌⊎◌, inl, inr, Bool, true, sym, ap, subst, take, drop, zero, suc, arith, length, ◌≤◌, ◌<◌}
 use Rattle.std.specs.Prelude.{slice_get, slice_index_or}
 use Rattle.std.proofs.lemmas.List.Sums.{fold-append}
 use Rattle.lrc_lang.specs.declared.program.Program.{Program}
@@ -8,6 +8,8 @@ use Rattle.lrc_protocol.specs.declared.event.Event.{Event}
 use Rattle.lrc_protocol.specs.Node.{OptionsRecord}
 use Rattle.lrc_protocol.specs.Run.{World as Run, fresh_world, event_on, step_of, run_of}
 use Rattle.lrc_plain_laws.proofs.Ahead.{take_ahead}
+use Rattle.lrc_exec.specs.Nodes.{AreNodes}
+use Rattle.lrc_world.specs.Range.{AreSteps}
 use Rattle.lrc_world.specs.declared.world.World.{World}
 use Rattle.lrc_world.specs.declared.report.SimFault.{SimFault}
 use Rattle.lrc_world.specs.declared.report.SimFault.TheVariants.{BadNodes, BadSteps, NoMemory, Worn}
@@ -80,6 +82,33 @@ memory_only r is = (
   λ e. let other : NoMemory ≡ BadSteps = handed_on r NoMemory BadSteps is e in cc,
   λ e. let other : NoMemory ≡ Worn = handed_on r NoMemory Worn is e in cc,
 )
+
+is_err : {X : Type 0} (r : Result X SimFault) (fault : SimFault) → IsErrAnd r (λ f. f ≡ fault) → r ≡ Err fault
+is_err (Ok x) fault is = absurd is
+is_err (Err f) fault is = ap Err is
+
+-- the fault of a number that is out of range
+abbrev pub IsOut : ℕ → ℕ → SimFault → Type 0
+IsOut nodes steps fault = ((fault ≡ BadNodes) × ¬ AreNodes nodes) ⊎ ((fault ≡ BadSteps) × AreNodes nodes × ¬ AreSteps steps)
+
+module _ {X : Type 0} (r : Result X SimFault) (nodes steps : ℕ) (fault : SimFault) (is : IsErrAnd r (λ f. f ≡ fault)) where
+  pub out_unworn : IsOut nodes steps fault → r ≡ Err Worn → ⊥
+  out_unworn (inl out) e = let other : BadNodes ≡ Worn = sym out.0 ∙ handed_on r fault Worn is e in cc
+  out_unworn (inr out) e = let other : BadSteps ≡ Worn = sym out.0 ∙ handed_on r fault Worn is e in cc
+
+  pub out_nodes : IsOut nodes steps fault → (r ≡ Err BadNodes) ↔ (¬ AreNodes nodes)
+  out_nodes (inl out) = (λ e. out.1, λ bad. is_err r fault is ∙ ap Err out.0)
+  out_nodes (inr out) = (
+    λ e. let other : BadSteps ≡ BadNodes = sym out.0 ∙ handed_on r fault BadNodes is e in cc,
+    λ bad. absurd (bad out.1),
+  )
+
+  pub out_steps : IsOut nodes steps fault → (r ≡ Err BadSteps) ↔ (AreNodes nodes × ¬ AreSteps steps)
+  out_steps (inl out) = (
+    λ e. let other : BadNodes ≡ BadSteps = sym out.0 ∙ handed_on r fault BadSteps is e in cc,
+    λ bad. absurd (out.1 bad.0),
+  )
+  out_steps (inr out) = (λ e. (out.1, out.2), λ bad. is_err r fault is ∙ ap Err out.0)
 
 pub fault_up : {X : Type 0} (r : Result X SimFault) (fault : SimFault) (P : SimFault → Type 0) → IsErrAnd r (λ f. f ≡ fault) → P fault → IfErr r P
 fault_up (Ok x) fault P is holds = tt

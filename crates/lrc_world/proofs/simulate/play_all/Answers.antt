@@ -3,7 +3,7 @@ use Rattle.std.proofs.lemmas.Result.{IfOk-from_err}
 use Rattle.lrc_world.specs.World.{starts_of}
 use Rattle.lrc_protocol.specs.Run.{run_of}
 use Rattle.lrc_world.specs.declared.report.SimFault.TheVariants.{BadNodes, BadSteps, Worn}
-use Rattle.lrc_world.proofs.Events.{goes_on, wears_out, handed_on, memory_only, over_after, plays_in_range, take_whole, get_at}
+use Rattle.lrc_world.proofs.Events.{goes_on, wears_out, handed_on, memory_only, out_nodes, out_steps, out_unworn, over_after, plays_in_range, take_whole, get_at}
 use Rattle.lrc_world.proofs.Theorem.{all_kept}
 use Rattle.lrc_world.proofs.Races.{kept_raceless, kept_traces, kept_races}
 use Rattle.lrc_world.proofs.Worlds.{acts_of_nodes}
@@ -188,3 +188,15 @@ returns-clause-bad_nodes c = (λ e. cc, λ bad. absurd (bad c.in_ok-count.ensure
 
 pub returns-clause-bad_steps : goal.returns-clause-bad_steps
 returns-clause-bad_steps c = (λ e. cc, λ bad. absurd (bad.1 c.in_ok-count.ensures.2))
+
+pub returns-in_err-count-clause-worn : goal.returns-in_err-count-clause-worn
+returns-in_err-count-clause-worn c = λ e. absurd
+    (out_unworn c.from_residual.result c.args.nodes c.args.options.now.steps c.in_err-count.field-0.0 c.from_residual.ensures.1 c.in_err-count.ensures e)
+
+pub returns-in_err-count-clause-bad_nodes : goal.returns-in_err-count-clause-bad_nodes
+returns-in_err-count-clause-bad_nodes c =
+    out_nodes c.from_residual.result c.args.nodes c.args.options.now.steps c.in_err-count.field-0.0 c.from_residual.ensures.1 c.in_err-count.ensures
+
+pub returns-in_err-count-clause-bad_steps : goal.returns-in_err-count-clause-bad_steps
+returns-in_err-count-clause-bad_steps c =
+    out_steps c.from_residual.result c.args.nodes c.args.options.now.steps c.in_err-count.field-0.0 c.from_residual.ensures.1 c.in_err-count.ensures
