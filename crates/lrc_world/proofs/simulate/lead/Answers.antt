@@ -232,10 +232,16 @@ pub returns-in_err-code-clause-worn : goal.returns-in_err-code-clause-worn
 returns-in_err-code-clause-worn c = λ e. absurd ((memory_only c.from_residual-in_err-code.result c.from_residual-in_err-code.ensures.1).2 e)
 
 pub returns-in_err-code-clause-bad_nodes : goal.returns-in_err-code-clause-bad_nodes
-returns-in_err-code-clause-bad_nodes c = (λ e. absurd ((memory_only c.from_residual-in_err-code.result c.from_residual-in_err-code.ensures.1).0 e), λ bad. absurd (bad c.in_ok-count.ensures.1))
+returns-in_err-code-clause-bad_nodes c = (
+  λ e. absurd ((memory_only c.from_residual-in_err-code.result c.from_residual-in_err-code.ensures.1).0 e),
+  λ bad. absurd (bad c.in_ok-count.ensures.1),
+)
 
 pub returns-in_err-code-clause-bad_steps : goal.returns-in_err-code-clause-bad_steps
-returns-in_err-code-clause-bad_steps c = (λ e. absurd ((memory_only c.from_residual-in_err-code.result c.from_residual-in_err-code.ensures.1).1 e), λ bad. absurd (bad.1 c.in_ok-count.ensures.2))
+returns-in_err-code-clause-bad_steps c = (
+  λ e. absurd ((memory_only c.from_residual-in_err-code.result c.from_residual-in_err-code.ensures.1).1 e),
+  λ bad. absurd (bad.1 c.in_ok-count.ensures.2),
+)
 
 pub returns-in_err-world-clause-report : goal.returns-in_err-world-clause-report
 returns-in_err-world-clause-report c = IfOk-from_err c.from_residual-in_err-world.result _ c.from_residual-in_err-world.ensures.0
@@ -262,10 +268,16 @@ pub returns-in_err-world-clause-worn : goal.returns-in_err-world-clause-worn
 returns-in_err-world-clause-worn c = λ e. absurd ((memory_only c.from_residual-in_err-world.result c.from_residual-in_err-world.ensures.1).2 e)
 
 pub returns-in_err-world-clause-bad_nodes : goal.returns-in_err-world-clause-bad_nodes
-returns-in_err-world-clause-bad_nodes c = (λ e. absurd ((memory_only c.from_residual-in_err-world.result c.from_residual-in_err-world.ensures.1).0 e), λ bad. absurd (bad c.in_ok-count.ensures.1))
+returns-in_err-world-clause-bad_nodes c = (
+  λ e. absurd ((memory_only c.from_residual-in_err-world.result c.from_residual-in_err-world.ensures.1).0 e),
+  λ bad. absurd (bad c.in_ok-count.ensures.1),
+)
 
 pub returns-in_err-world-clause-bad_steps : goal.returns-in_err-world-clause-bad_steps
-returns-in_err-world-clause-bad_steps c = (λ e. absurd ((memory_only c.from_residual-in_err-world.result c.from_residual-in_err-world.ensures.1).1 e), λ bad. absurd (bad.1 c.in_ok-count.ensures.2))
+returns-in_err-world-clause-bad_steps c = (
+  λ e. absurd ((memory_only c.from_residual-in_err-world.result c.from_residual-in_err-world.ensures.1).1 e),
+  λ bad. absurd (bad.1 c.in_ok-count.ensures.2),
+)
 
 pub returns-in_err-lead-clause-report : goal.returns-in_err-lead-clause-report
 returns-in_err-lead-clause-report c = IfOk-from_err c.from_residual-in_err-lead.result _ c.from_residual-in_err-lead.ensures.0
@@ -310,10 +322,16 @@ pub returns-in_err-report-clause-over : goal.returns-in_err-report-clause-over
 returns-in_err-report-clause-over c = IfOk-from_err c.from_residual-in_err-report.result _ c.from_residual-in_err-report.ensures.0
 
 pub returns-in_err-report-clause-bad_nodes : goal.returns-in_err-report-clause-bad_nodes
-returns-in_err-report-clause-bad_nodes c = (λ e. absurd ((memory_only c.from_residual-in_err-report.result c.from_residual-in_err-report.ensures.1).0 e), λ bad. absurd (bad c.in_ok-count.ensures.1))
+returns-in_err-report-clause-bad_nodes c = (
+  λ e. absurd ((memory_only c.from_residual-in_err-report.result c.from_residual-in_err-report.ensures.1).0 e),
+  λ bad. absurd (bad c.in_ok-count.ensures.1),
+)
 
 pub returns-in_err-report-clause-bad_steps : goal.returns-in_err-report-clause-bad_steps
-returns-in_err-report-clause-bad_steps c = (λ e. absurd ((memory_only c.from_residual-in_err-report.result c.from_residual-in_err-report.ensures.1).1 e), λ bad. absurd (bad.1 c.in_ok-count.ensures.2))
+returns-in_err-report-clause-bad_steps c = (
+  λ e. absurd ((memory_only c.from_residual-in_err-report.result c.from_residual-in_err-report.ensures.1).1 e),
+  λ bad. absurd (bad.1 c.in_ok-count.ensures.2),
+)
 
 pub returns-clause-worn : goal.returns-clause-worn
 returns-clause-worn c = λ e. cc

@@ -3,7 +3,8 @@ use Rattle.std.proofs.lemmas.Result.{IfOk-from_err}
 use Rattle.lrc_world.specs.World.{starts_of}
 use Rattle.lrc_protocol.specs.Run.{run_of}
 use Rattle.lrc_world.specs.declared.report.SimFault.TheVariants.{BadNodes, BadSteps, Worn}
-use Rattle.lrc_world.proofs.Events.{goes_on, wears_out, handed_on, memory_only, out_nodes, out_steps, out_unworn, over_after, plays_in_range, take_whole, get_at}
+use Rattle.lrc_world.proofs.Events.{goes_on, wears_out, handed_on, over_after, take_whole, get_at}
+use Rattle.lrc_world.proofs.Events.{memory_only, out_nodes, out_steps, out_unworn, plays_in_range}
 use Rattle.lrc_world.proofs.Theorem.{all_kept}
 use Rattle.lrc_world.proofs.Races.{kept_raceless, kept_traces, kept_races}
 use Rattle.lrc_world.proofs.Worlds.{acts_of_nodes}
@@ -121,10 +122,16 @@ pub returns-in_err-code-clause-worn : goal.returns-in_err-code-clause-worn
 returns-in_err-code-clause-worn c = λ e. absurd ((memory_only c.from_residual-in_err-code.result c.from_residual-in_err-code.ensures.1).2 e)
 
 pub returns-in_err-code-clause-bad_nodes : goal.returns-in_err-code-clause-bad_nodes
-returns-in_err-code-clause-bad_nodes c = (λ e. absurd ((memory_only c.from_residual-in_err-code.result c.from_residual-in_err-code.ensures.1).0 e), λ bad. absurd (bad c.in_ok-count.ensures.1))
+returns-in_err-code-clause-bad_nodes c = (
+  λ e. absurd ((memory_only c.from_residual-in_err-code.result c.from_residual-in_err-code.ensures.1).0 e),
+  λ bad. absurd (bad c.in_ok-count.ensures.1),
+)
 
 pub returns-in_err-code-clause-bad_steps : goal.returns-in_err-code-clause-bad_steps
-returns-in_err-code-clause-bad_steps c = (λ e. absurd ((memory_only c.from_residual-in_err-code.result c.from_residual-in_err-code.ensures.1).1 e), λ bad. absurd (bad.1 c.in_ok-count.ensures.2))
+returns-in_err-code-clause-bad_steps c = (
+  λ e. absurd ((memory_only c.from_residual-in_err-code.result c.from_residual-in_err-code.ensures.1).1 e),
+  λ bad. absurd (bad.1 c.in_ok-count.ensures.2),
+)
 
 pub returns-in_err-world-clause-report : goal.returns-in_err-world-clause-report
 returns-in_err-world-clause-report c = IfOk-from_err c.from_residual-in_err-world.result _ c.from_residual-in_err-world.ensures.0
@@ -142,10 +149,16 @@ pub returns-in_err-world-clause-worn : goal.returns-in_err-world-clause-worn
 returns-in_err-world-clause-worn c = λ e. absurd ((memory_only c.from_residual-in_err-world.result c.from_residual-in_err-world.ensures.1).2 e)
 
 pub returns-in_err-world-clause-bad_nodes : goal.returns-in_err-world-clause-bad_nodes
-returns-in_err-world-clause-bad_nodes c = (λ e. absurd ((memory_only c.from_residual-in_err-world.result c.from_residual-in_err-world.ensures.1).0 e), λ bad. absurd (bad c.in_ok-count.ensures.1))
+returns-in_err-world-clause-bad_nodes c = (
+  λ e. absurd ((memory_only c.from_residual-in_err-world.result c.from_residual-in_err-world.ensures.1).0 e),
+  λ bad. absurd (bad c.in_ok-count.ensures.1),
+)
 
 pub returns-in_err-world-clause-bad_steps : goal.returns-in_err-world-clause-bad_steps
-returns-in_err-world-clause-bad_steps c = (λ e. absurd ((memory_only c.from_residual-in_err-world.result c.from_residual-in_err-world.ensures.1).1 e), λ bad. absurd (bad.1 c.in_ok-count.ensures.2))
+returns-in_err-world-clause-bad_steps c = (
+  λ e. absurd ((memory_only c.from_residual-in_err-world.result c.from_residual-in_err-world.ensures.1).1 e),
+  λ bad. absurd (bad.1 c.in_ok-count.ensures.2),
+)
 
 pub returns-in_err-play-clause-report : goal.returns-in_err-play-clause-report
 returns-in_err-play-clause-report c = IfOk-from_err c.from_residual-in_err-play.result _ c.from_residual-in_err-play.ensures.0
@@ -175,10 +188,16 @@ pub returns-in_err-report-clause-worn : goal.returns-in_err-report-clause-worn
 returns-in_err-report-clause-worn c = λ e. absurd ((memory_only c.from_residual-in_err-report.result c.from_residual-in_err-report.ensures.1).2 e)
 
 pub returns-in_err-report-clause-bad_nodes : goal.returns-in_err-report-clause-bad_nodes
-returns-in_err-report-clause-bad_nodes c = (λ e. absurd ((memory_only c.from_residual-in_err-report.result c.from_residual-in_err-report.ensures.1).0 e), λ bad. absurd (bad c.in_ok-count.ensures.1))
+returns-in_err-report-clause-bad_nodes c = (
+  λ e. absurd ((memory_only c.from_residual-in_err-report.result c.from_residual-in_err-report.ensures.1).0 e),
+  λ bad. absurd (bad c.in_ok-count.ensures.1),
+)
 
 pub returns-in_err-report-clause-bad_steps : goal.returns-in_err-report-clause-bad_steps
-returns-in_err-report-clause-bad_steps c = (λ e. absurd ((memory_only c.from_residual-in_err-report.result c.from_residual-in_err-report.ensures.1).1 e), λ bad. absurd (bad.1 c.in_ok-count.ensures.2))
+returns-in_err-report-clause-bad_steps c = (
+  λ e. absurd ((memory_only c.from_residual-in_err-report.result c.from_residual-in_err-report.ensures.1).1 e),
+  λ bad. absurd (bad.1 c.in_ok-count.ensures.2),
+)
 
 pub returns-clause-worn : goal.returns-clause-worn
 returns-clause-worn c = λ e. cc

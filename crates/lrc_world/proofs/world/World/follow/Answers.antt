@@ -1,4 +1,5 @@
-use Rattle.std.proofs.Common.{◌≡◌, ◌∙◌, ◌++◌, ◌<◌, ◌-◌, [], ◌∷◌, ℕ, false, List, Some, None, Result, Err, Ok, IsErrAnd, ◌≤◌, subst, suc, refl, arith, rules, sym, ap, map, length, get_or}
+use Rattle.std.proofs.Common.{◌≡◌, ◌∙◌, ◌++◌, ◌<◌, ◌-◌, [], ◌∷◌, ◌≤◌}
+use Rattle.std.proofs.Common.{ℕ, false, List, Some, None, Result, Err, Ok, IsErrAnd, subst, suc, refl, arith, rules, sym, ap, map, length, get_or}
 use Rattle.std.proofs.lemmas.List.{length_push}
 use Rattle.std.proofs.lemmas.Option.{same_Some, slice_get-get_or, slice_get_past}
 use Rattle.std.specs.Prelude.{slice_get}
