@@ -1,6 +1,6 @@
 -- One event more.
-use Rattle.std.proofs.Common.{◌≡◌, ◌∙◌, ℕ, ◌+◌, List, [], ◌∷◌, ◌++◌, Some, Result, Ok, Err, IsErrAnd, refl}
-use Rattle.std.proofs.Common.{sym, ap, subst, take, drop, zero, suc, arith, length, ◌≤◌, ◌<◌}
+use Rattle.std.proofs.Common.{◌≡◌, ◌∙◌, ℕ, ◌+◌, List, [], ◌∷◌, ◌++◌, Option, Some, Result, Ok, Err, IfErr, IsErrAnd, refl}
+use Rattle.std.proofs.Common.{◌↔◌, ◌⊎◌, inl, inr, Bool, true, sym, ap, subst, take, drop, zero, suc, arith, length, ◌≤◌, ◌<◌}
 use Rattle.std.specs.Prelude.{slice_get, slice_index_or}
 use Rattle.std.proofs.lemmas.List.Sums.{fold-append}
 use Rattle.lrc_lang.specs.declared.program.Program.{Program}
@@ -8,12 +8,14 @@ use Rattle.lrc_protocol.specs.declared.event.Event.{Event}
 use Rattle.lrc_protocol.specs.Node.{OptionsRecord}
 use Rattle.lrc_protocol.specs.Run.{World as Run, fresh_world, event_on, step_of, run_of}
 use Rattle.lrc_plain_laws.proofs.Ahead.{take_ahead}
+use Rattle.lrc_exec.specs.Nodes.{AreNodes}
+use Rattle.lrc_world.specs.Range.{AreSteps}
 use Rattle.lrc_world.specs.declared.world.World.{World}
 use Rattle.lrc_world.specs.declared.report.SimFault.{SimFault}
-use Rattle.lrc_world.specs.declared.report.SimFault.TheVariants.{Worn}
+use Rattle.lrc_world.specs.declared.report.SimFault.TheVariants.{BadNodes, BadSteps, NoMemory, Worn}
 use Rattle.lrc_world.specs.declared.keep.Keep.{Keep}
 use Rattle.lrc_world.specs.World.{Starts, Shows, PlaysTo, starts_of}
-use Rattle.lrc_world.specs.Report.{IsWornBy}
+use Rattle.lrc_world.specs.Report.{AreAll, IsOver, IsWornBy}
 
 -- the run of the events so far, which the world shows
 abbrev pub Runs : Keep → Program → ℕ → OptionsRecord → List Event → World → Type 0
@@ -59,10 +61,58 @@ wears_out program nodes options events k event at keep old new result runs plays
       subst (PlaysTo (starts_of program nodes options keep) new (event_on runs.0 event)) worn (plays (starts_of program nodes options keep) runs.0 runs.2);
 }
 
+-- what is played is not out of range
+pub plays_in_range : (starts : Starts) (new : World) (outcome : Option Run) (fault : SimFault) → PlaysTo starts new outcome (Err fault)
+    → (fault ≡ BadNodes → ⊥) × (fault ≡ BadSteps → ⊥)
+plays_in_range starts new outcome BadNodes plays = absurd plays
+plays_in_range starts new outcome BadSteps plays = absurd plays
+plays_in_range starts new outcome Worn plays = (λ e. cc, λ e. cc)
+plays_in_range starts new outcome NoMemory plays = (λ e. cc, λ e. cc)
+
 -- a fault that is handed on
 pub handed_on : {X : Type 0} (r : Result X SimFault) (fault other : SimFault) → IsErrAnd r (λ f. f ≡ fault) → r ≡ Err other → fault ≡ other
 handed_on (Ok x) fault other is e = absurd is
 handed_on (Err f) fault other is e = let same : f ≡ other = cc in sym is ∙ same
+
+-- a fault of memory is no other one
+pub memory_only : {X : Type 0} (r : Result X SimFault) → IsErrAnd r (λ f. f ≡ NoMemory)
+    → (r ≡ Err BadNodes → ⊥) × (r ≡ Err BadSteps → ⊥) × (r ≡ Err Worn → ⊥)
+memory_only r is = (
+  λ e. let other : NoMemory ≡ BadNodes = handed_on r NoMemory BadNodes is e in cc,
+  λ e. let other : NoMemory ≡ BadSteps = handed_on r NoMemory BadSteps is e in cc,
+  λ e. let other : NoMemory ≡ Worn = handed_on r NoMemory Worn is e in cc,
+)
+
+is_err : {X : Type 0} (r : Result X SimFault) (fault : SimFault) → IsErrAnd r (λ f. f ≡ fault) → r ≡ Err fault
+is_err (Ok x) fault is = absurd is
+is_err (Err f) fault is = ap Err is
+
+-- the fault of a number that is out of range
+abbrev pub IsOut : ℕ → ℕ → SimFault → Type 0
+IsOut nodes steps fault = ((fault ≡ BadNodes) × ¬ AreNodes nodes) ⊎ ((fault ≡ BadSteps) × AreNodes nodes × ¬ AreSteps steps)
+
+module _ {X : Type 0} (r : Result X SimFault) (nodes steps : ℕ) (fault : SimFault) (is : IsErrAnd r (λ f. f ≡ fault)) where
+  pub out_unworn : IsOut nodes steps fault → r ≡ Err Worn → ⊥
+  out_unworn (inl out) e = let other : BadNodes ≡ Worn = sym out.0 ∙ handed_on r fault Worn is e in cc
+  out_unworn (inr out) e = let other : BadSteps ≡ Worn = sym out.0 ∙ handed_on r fault Worn is e in cc
+
+  pub out_nodes : IsOut nodes steps fault → (r ≡ Err BadNodes) ↔ (¬ AreNodes nodes)
+  out_nodes (inl out) = (λ e. out.1, λ bad. is_err r fault is ∙ ap Err out.0)
+  out_nodes (inr out) = (
+    λ e. let other : BadSteps ≡ BadNodes = sym out.0 ∙ handed_on r fault BadNodes is e in cc,
+    λ bad. absurd (bad out.1),
+  )
+
+  pub out_steps : IsOut nodes steps fault → (r ≡ Err BadSteps) ↔ (AreNodes nodes × ¬ AreSteps steps)
+  out_steps (inl out) = (
+    λ e. let other : BadNodes ≡ BadSteps = sym out.0 ∙ handed_on r fault BadSteps is e in cc,
+    λ bad. absurd (out.1 bad.0),
+  )
+  out_steps (inr out) = (λ e. (out.1, out.2), λ bad. is_err r fault is ∙ ap Err out.0)
+
+pub fault_up : {X : Type 0} (r : Result X SimFault) (fault : SimFault) (P : SimFault → Type 0) → IsErrAnd r (λ f. f ≡ fault) → P fault → IfErr r P
+fault_up (Ok x) fault P is holds = tt
+fault_up (Err f) fault P is holds = subst P (sym is) holds
 
 pub take_whole : {X : Type 0} (xs : List X) (k : ℕ) → length xs ≤ k → take k xs ≡ xs
 take_whole [] zero all = refl
@@ -74,3 +124,14 @@ pub get_at : {X : Type 0} (xs : List X) (k : ℕ) (d : X) → k < length xs → 
 get_at [] k d within = absurd (omega (arith, within))
 get_at (x ∷ xs) zero d within = refl
 get_at (x ∷ xs) (suc k) d within = get_at xs k d (omega (arith, within))
+
+one_run : (a b : Run) → Some a ≡ Some b → a ≡ b
+one_run a b e = cc
+
+-- whether nothing is left to do after the events, by the run of them
+pub over_after : (program : Program) (nodes : ℕ) (options : OptionsRecord) (events : List Event) (run : Run) (is_over : Bool)
+    → run_of program nodes options events ≡ Some run → (is_over ≡ true) ↔ IsOver run → (is_over ≡ true) ↔ AreAll program nodes options events
+over_after program nodes options events run is_over runs over = (
+  λ e. (run, runs, over.0 e),
+  λ all. over.1 (subst IsOver (one_run all.0 run (sym all.1 ∙ runs)) all.2),
+)

@@ -41,6 +41,13 @@ pub map-both : {A B : Type 0} (f : A → B) (xs ys : List A) → map f (xs ++ ys
 map-both f [] ys = refl
 map-both f (x ∷ xs) ys = ap (λ more. f x ∷ more) (map-both f xs ys)
 
+-- lists that are seen alike, with one element more at each end
+pub map-more : {A B C : Type 0} (f : A → C) (g : B → C) (xs next : List A) (ys : List B) (x : A) (y : B) → next ≡ xs ++ x ∷ [] → f x ≡ g y
+    → map f xs ≡ map g ys → map f next ≡ map g (ys ++ y ∷ [])
+map-more f g xs next ys x y more same e =
+    ap (map f) more ∙ map-both f xs (x ∷ []) ∙ ap (λ zs. zs ++ f x ∷ []) e ∙ ap (λ z. map g ys ++ z ∷ []) same
+    ∙ sym (map-both g ys (y ∷ []))
+
 -- ---- tests
 
 pub neither : (a b : Bool) → (a || b) ≡ false → (a ≡ false) × (b ≡ false)

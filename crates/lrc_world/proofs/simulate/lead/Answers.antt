@@ -1,4 +1,5 @@
 use Rattle.std.proofs.Common.{◌≡◌, ◌∙◌, ◌<◌, ℕ, [], length, Ok, Err, ap, subst, sym, arith}
+use Rattle.std.proofs.lemmas.Result.{IfOk-from_err}
 use Rattle.lrc_lang.specs.declared.program.Program.{Program}
 use Rattle.lrc_protocol.specs.Node.{OptionsRecord}
 use Rattle.lrc_protocol.specs.Run.{fresh_world, played}
@@ -10,7 +11,7 @@ use Rattle.lrc_world.specs.Driven.{DriverStandsAt, IsDrivenBy, schedule_of}
 use Rattle.lrc_world.specs.Led.{Schedule, Led}
 use Rattle.lrc_world.specs.declared.keep.Keep.{Keep}
 use Rattle.lrc_world.specs.World.{Shows, starts_of}
-use Rattle.lrc_world.proofs.Events.{handed_on}
+use Rattle.lrc_world.proofs.Events.{handed_on, memory_only, out_nodes, out_steps, out_unworn}
 use Rattle.lrc_world.proofs.Driven.{at_start, in_range, led_played}
 use Rattle.lrc_world.proofs.Races.{kept_raceless, kept_traces, kept_races}
 use Rattle.lrc_world.proofs.Theorem.{all_kept}
@@ -66,6 +67,9 @@ returns-in_err-lead-clause-bad_steps c =
           (ranged.1 (handed_on met.result c.in_err-lead.field-0.0 BadSteps met.ensures.1 e)),
       λ bad. absurd (bad.1 c.in_ok-count.ensures.2),
     )
+
+pub returns-in_err-report-clause-worn : goal.returns-in_err-report-clause-worn
+returns-in_err-report-clause-worn c = λ e. absurd ((memory_only c.from_residual-in_err-report.result c.from_residual-in_err-report.ensures.1).2 e)
 
 pub returns-clause-report : goal.returns-clause-report
 returns-clause-report c =
@@ -169,3 +173,171 @@ returns-clause-kept c =
     let runs = ap (λ v. played start v.items) c.in_ok-report.ensures.events ∙ led_played s start c.lead.new.self.events.items r.run r.standing r.led in
     all_kept c.args.program.now c.args.nodes c.args.options.now c.in_ok-report.field-0.0.items c.in_ok-report.field-0.1.acts.items r.run runs told.acts
     (omega (arith, c.in_ok-count.ensures.1.0)) c.in_ok-report.field-0.1.ends.items told.ends
+
+pub returns-in_err-count-clause-worn : goal.returns-in_err-count-clause-worn
+returns-in_err-count-clause-worn c = λ e. absurd
+    (out_unworn c.from_residual.result c.args.nodes c.args.options.now.steps c.in_err-count.field-0.0 c.from_residual.ensures.1 c.in_err-count.ensures e)
+
+pub returns-in_err-count-clause-bad_nodes : goal.returns-in_err-count-clause-bad_nodes
+returns-in_err-count-clause-bad_nodes c =
+    out_nodes c.from_residual.result c.args.nodes c.args.options.now.steps c.in_err-count.field-0.0 c.from_residual.ensures.1 c.in_err-count.ensures
+
+pub returns-in_err-count-clause-bad_steps : goal.returns-in_err-count-clause-bad_steps
+returns-in_err-count-clause-bad_steps c =
+    out_steps c.from_residual.result c.args.nodes c.args.options.now.steps c.in_err-count.field-0.0 c.from_residual.ensures.1 c.in_err-count.ensures
+
+pub returns-in_err-count-clause-report : goal.returns-in_err-count-clause-report
+returns-in_err-count-clause-report c = IfOk-from_err c.from_residual.result _ c.from_residual.ensures.0
+
+pub returns-in_err-count-clause-kept : goal.returns-in_err-count-clause-kept
+returns-in_err-count-clause-kept c = IfOk-from_err c.from_residual.result _ c.from_residual.ensures.0
+
+pub returns-in_err-count-clause-led : goal.returns-in_err-count-clause-led
+returns-in_err-count-clause-led c = IfOk-from_err c.from_residual.result _ c.from_residual.ensures.0
+
+pub returns-in_err-count-clause-races : goal.returns-in_err-count-clause-races
+returns-in_err-count-clause-races c = IfOk-from_err c.from_residual.result _ c.from_residual.ensures.0
+
+pub returns-in_err-count-clause-nodes : goal.returns-in_err-count-clause-nodes
+returns-in_err-count-clause-nodes c = IfOk-from_err c.from_residual.result _ c.from_residual.ensures.0
+
+pub returns-in_err-count-clause-few : goal.returns-in_err-count-clause-few
+returns-in_err-count-clause-few c = IfOk-from_err c.from_residual.result _ c.from_residual.ensures.0
+
+pub returns-in_err-count-clause-over : goal.returns-in_err-count-clause-over
+returns-in_err-count-clause-over c = IfOk-from_err c.from_residual.result _ c.from_residual.ensures.0
+
+pub returns-in_err-code-clause-report : goal.returns-in_err-code-clause-report
+returns-in_err-code-clause-report c = IfOk-from_err c.from_residual-in_err-code.result _ c.from_residual-in_err-code.ensures.0
+
+pub returns-in_err-code-clause-kept : goal.returns-in_err-code-clause-kept
+returns-in_err-code-clause-kept c = IfOk-from_err c.from_residual-in_err-code.result _ c.from_residual-in_err-code.ensures.0
+
+pub returns-in_err-code-clause-led : goal.returns-in_err-code-clause-led
+returns-in_err-code-clause-led c = IfOk-from_err c.from_residual-in_err-code.result _ c.from_residual-in_err-code.ensures.0
+
+pub returns-in_err-code-clause-races : goal.returns-in_err-code-clause-races
+returns-in_err-code-clause-races c = IfOk-from_err c.from_residual-in_err-code.result _ c.from_residual-in_err-code.ensures.0
+
+pub returns-in_err-code-clause-nodes : goal.returns-in_err-code-clause-nodes
+returns-in_err-code-clause-nodes c = IfOk-from_err c.from_residual-in_err-code.result _ c.from_residual-in_err-code.ensures.0
+
+pub returns-in_err-code-clause-few : goal.returns-in_err-code-clause-few
+returns-in_err-code-clause-few c = IfOk-from_err c.from_residual-in_err-code.result _ c.from_residual-in_err-code.ensures.0
+
+pub returns-in_err-code-clause-over : goal.returns-in_err-code-clause-over
+returns-in_err-code-clause-over c = IfOk-from_err c.from_residual-in_err-code.result _ c.from_residual-in_err-code.ensures.0
+
+pub returns-in_err-code-clause-worn : goal.returns-in_err-code-clause-worn
+returns-in_err-code-clause-worn c = λ e. absurd ((memory_only c.from_residual-in_err-code.result c.from_residual-in_err-code.ensures.1).2 e)
+
+pub returns-in_err-code-clause-bad_nodes : goal.returns-in_err-code-clause-bad_nodes
+returns-in_err-code-clause-bad_nodes c = (
+  λ e. absurd ((memory_only c.from_residual-in_err-code.result c.from_residual-in_err-code.ensures.1).0 e),
+  λ bad. absurd (bad c.in_ok-count.ensures.1),
+)
+
+pub returns-in_err-code-clause-bad_steps : goal.returns-in_err-code-clause-bad_steps
+returns-in_err-code-clause-bad_steps c = (
+  λ e. absurd ((memory_only c.from_residual-in_err-code.result c.from_residual-in_err-code.ensures.1).1 e),
+  λ bad. absurd (bad.1 c.in_ok-count.ensures.2),
+)
+
+pub returns-in_err-world-clause-report : goal.returns-in_err-world-clause-report
+returns-in_err-world-clause-report c = IfOk-from_err c.from_residual-in_err-world.result _ c.from_residual-in_err-world.ensures.0
+
+pub returns-in_err-world-clause-kept : goal.returns-in_err-world-clause-kept
+returns-in_err-world-clause-kept c = IfOk-from_err c.from_residual-in_err-world.result _ c.from_residual-in_err-world.ensures.0
+
+pub returns-in_err-world-clause-led : goal.returns-in_err-world-clause-led
+returns-in_err-world-clause-led c = IfOk-from_err c.from_residual-in_err-world.result _ c.from_residual-in_err-world.ensures.0
+
+pub returns-in_err-world-clause-races : goal.returns-in_err-world-clause-races
+returns-in_err-world-clause-races c = IfOk-from_err c.from_residual-in_err-world.result _ c.from_residual-in_err-world.ensures.0
+
+pub returns-in_err-world-clause-nodes : goal.returns-in_err-world-clause-nodes
+returns-in_err-world-clause-nodes c = IfOk-from_err c.from_residual-in_err-world.result _ c.from_residual-in_err-world.ensures.0
+
+pub returns-in_err-world-clause-few : goal.returns-in_err-world-clause-few
+returns-in_err-world-clause-few c = IfOk-from_err c.from_residual-in_err-world.result _ c.from_residual-in_err-world.ensures.0
+
+pub returns-in_err-world-clause-over : goal.returns-in_err-world-clause-over
+returns-in_err-world-clause-over c = IfOk-from_err c.from_residual-in_err-world.result _ c.from_residual-in_err-world.ensures.0
+
+pub returns-in_err-world-clause-worn : goal.returns-in_err-world-clause-worn
+returns-in_err-world-clause-worn c = λ e. absurd ((memory_only c.from_residual-in_err-world.result c.from_residual-in_err-world.ensures.1).2 e)
+
+pub returns-in_err-world-clause-bad_nodes : goal.returns-in_err-world-clause-bad_nodes
+returns-in_err-world-clause-bad_nodes c = (
+  λ e. absurd ((memory_only c.from_residual-in_err-world.result c.from_residual-in_err-world.ensures.1).0 e),
+  λ bad. absurd (bad c.in_ok-count.ensures.1),
+)
+
+pub returns-in_err-world-clause-bad_steps : goal.returns-in_err-world-clause-bad_steps
+returns-in_err-world-clause-bad_steps c = (
+  λ e. absurd ((memory_only c.from_residual-in_err-world.result c.from_residual-in_err-world.ensures.1).1 e),
+  λ bad. absurd (bad.1 c.in_ok-count.ensures.2),
+)
+
+pub returns-in_err-lead-clause-report : goal.returns-in_err-lead-clause-report
+returns-in_err-lead-clause-report c = IfOk-from_err c.from_residual-in_err-lead.result _ c.from_residual-in_err-lead.ensures.0
+
+pub returns-in_err-lead-clause-kept : goal.returns-in_err-lead-clause-kept
+returns-in_err-lead-clause-kept c = IfOk-from_err c.from_residual-in_err-lead.result _ c.from_residual-in_err-lead.ensures.0
+
+pub returns-in_err-lead-clause-led : goal.returns-in_err-lead-clause-led
+returns-in_err-lead-clause-led c = IfOk-from_err c.from_residual-in_err-lead.result _ c.from_residual-in_err-lead.ensures.0
+
+pub returns-in_err-lead-clause-races : goal.returns-in_err-lead-clause-races
+returns-in_err-lead-clause-races c = IfOk-from_err c.from_residual-in_err-lead.result _ c.from_residual-in_err-lead.ensures.0
+
+pub returns-in_err-lead-clause-nodes : goal.returns-in_err-lead-clause-nodes
+returns-in_err-lead-clause-nodes c = IfOk-from_err c.from_residual-in_err-lead.result _ c.from_residual-in_err-lead.ensures.0
+
+pub returns-in_err-lead-clause-few : goal.returns-in_err-lead-clause-few
+returns-in_err-lead-clause-few c = IfOk-from_err c.from_residual-in_err-lead.result _ c.from_residual-in_err-lead.ensures.0
+
+pub returns-in_err-lead-clause-over : goal.returns-in_err-lead-clause-over
+returns-in_err-lead-clause-over c = IfOk-from_err c.from_residual-in_err-lead.result _ c.from_residual-in_err-lead.ensures.0
+
+pub returns-in_err-report-clause-report : goal.returns-in_err-report-clause-report
+returns-in_err-report-clause-report c = IfOk-from_err c.from_residual-in_err-report.result _ c.from_residual-in_err-report.ensures.0
+
+pub returns-in_err-report-clause-kept : goal.returns-in_err-report-clause-kept
+returns-in_err-report-clause-kept c = IfOk-from_err c.from_residual-in_err-report.result _ c.from_residual-in_err-report.ensures.0
+
+pub returns-in_err-report-clause-led : goal.returns-in_err-report-clause-led
+returns-in_err-report-clause-led c = IfOk-from_err c.from_residual-in_err-report.result _ c.from_residual-in_err-report.ensures.0
+
+pub returns-in_err-report-clause-races : goal.returns-in_err-report-clause-races
+returns-in_err-report-clause-races c = IfOk-from_err c.from_residual-in_err-report.result _ c.from_residual-in_err-report.ensures.0
+
+pub returns-in_err-report-clause-nodes : goal.returns-in_err-report-clause-nodes
+returns-in_err-report-clause-nodes c = IfOk-from_err c.from_residual-in_err-report.result _ c.from_residual-in_err-report.ensures.0
+
+pub returns-in_err-report-clause-few : goal.returns-in_err-report-clause-few
+returns-in_err-report-clause-few c = IfOk-from_err c.from_residual-in_err-report.result _ c.from_residual-in_err-report.ensures.0
+
+pub returns-in_err-report-clause-over : goal.returns-in_err-report-clause-over
+returns-in_err-report-clause-over c = IfOk-from_err c.from_residual-in_err-report.result _ c.from_residual-in_err-report.ensures.0
+
+pub returns-in_err-report-clause-bad_nodes : goal.returns-in_err-report-clause-bad_nodes
+returns-in_err-report-clause-bad_nodes c = (
+  λ e. absurd ((memory_only c.from_residual-in_err-report.result c.from_residual-in_err-report.ensures.1).0 e),
+  λ bad. absurd (bad c.in_ok-count.ensures.1),
+)
+
+pub returns-in_err-report-clause-bad_steps : goal.returns-in_err-report-clause-bad_steps
+returns-in_err-report-clause-bad_steps c = (
+  λ e. absurd ((memory_only c.from_residual-in_err-report.result c.from_residual-in_err-report.ensures.1).1 e),
+  λ bad. absurd (bad.1 c.in_ok-count.ensures.2),
+)
+
+pub returns-clause-worn : goal.returns-clause-worn
+returns-clause-worn c = λ e. cc
+
+pub returns-clause-bad_nodes : goal.returns-clause-bad_nodes
+returns-clause-bad_nodes c = (λ e. cc, λ bad. absurd (bad c.in_ok-count.ensures.1))
+
+pub returns-clause-bad_steps : goal.returns-clause-bad_steps
+returns-clause-bad_steps c = (λ e. cc, λ bad. absurd (bad.1 c.in_ok-count.ensures.2))
