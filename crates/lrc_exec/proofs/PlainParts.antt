@@ -59,7 +59,7 @@ node_within m machine node view some =
     (cases_lt node (length m.runners.items))
 
 module _ (m : Inside) (machine : Plain) (node : ℕ) (d : Runner) (view : plain_of m ≡ machine) where
-  thread_in-inside : node < length m.runners.items → thread_in machine node ≡ runner_thread (get_or m.runners.items node d)
+  pub thread_in-inside : node < length m.runners.items → thread_in machine node ≡ runner_thread (get_or m.runners.items node d)
   thread_in-inside within =
       ap (λ M. thread_in M node) (sym view) ∙ get_or-map runner_thread m.runners.items node d None within
 

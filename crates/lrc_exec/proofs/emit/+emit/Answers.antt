@@ -2,6 +2,7 @@
 use Rattle.std.proofs.Common.{◌≡◌, ◌-◌, ◌<◌, [], ◌∷◌, ◌++◌, List, length, drop, get_or, refl, sym, ap, ◌∙◌}
 use Rattle.std.proofs.Common.{subst, suc, set, ℕ, arith, append_assoc, length-append}
 use Rattle.std.specs.Prelude.{IfOk, Result, Ok, Err}
+use Rattle.std.proofs.lemmas.Result.{IfOk-from_err}
 use Rattle.std.proofs.Math.Seq.{drop-cons, drop-length, get_or-append_seam}
 use Rattle.lrc_lang.specs.declared.program.Statement.{Statement}
 use Rattle.lrc_exec.specs.declared.code.Instruction.{Instruction}
@@ -95,3 +96,18 @@ put_statement-returns-in_default t c =
     let items = rw c.straight-in_default.ensures at c.put-in_default.ensures.items in
     grown_put c.put-in_default.result code code c.put-in_default.new.code.items i (c.args.statement.now ∷ []) next c.put-in_default.ensures.place items
     (grown_straight code i c.args.statement.now next refl refl refl refl c.requires c.in_default.not-If c.in_default.not-While)
+
+pub put_block-returns-in_err-place : goal.put_block-returns-in_err-place
+put_block-returns-in_err-place t c = IfOk-from_err c.from_residual.result _ c.from_residual.ensures.0
+
+pub put_statement-returns-in_err-then-in-If : goal.put_statement-returns-in_err-then-in-If
+put_statement-returns-in_err-then-in-If t c = IfOk-from_err c.from_residual.result _ c.from_residual.ensures.0
+
+pub put_statement-returns-in_err-otherwise-in-If : goal.put_statement-returns-in_err-otherwise-in-If
+put_statement-returns-in_err-otherwise-in-If t c = IfOk-from_err c.from_residual-in_err-otherwise-in-If.result _ c.from_residual-in_err-otherwise-in-If.ensures.0
+
+pub put_statement-returns-in_err-place-in-While : goal.put_statement-returns-in_err-place-in-While
+put_statement-returns-in_err-place-in-While t c = IfOk-from_err c.from_residual-in_err-place-in-While.result _ c.from_residual-in_err-place-in-While.ensures.0
+
+pub put_statement-returns-in_err-then-in-While : goal.put_statement-returns-in_err-then-in-While
+put_statement-returns-in_err-then-in-While t c = IfOk-from_err c.from_residual-in_err-then-in-While.result _ c.from_residual-in_err-then-in-While.ensures.0

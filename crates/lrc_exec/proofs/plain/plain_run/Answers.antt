@@ -1,14 +1,16 @@
 -- Each act is the next of the plain machine, and where there is none there are no acts.
 use Rattle.std.proofs.Common.{◌≡◌, ℕ, suc, ◌+◌, ◌<◌, ◌≤◌, ◌∙◌, Option, Some, None, List, [], ◌∷◌, ◌++◌, length, get_or, take, drop, refl, sym, ap, subst, arith}
 use Rattle.std.specs.Prelude.{option_map, slice_index}
-use Rattle.std.proofs.lemmas.List.{take_more, take-append-drop}
+use Rattle.std.proofs.lemmas.List.{take_more, take_all, take-append-drop}
 use Rattle.std.proofs.lemmas.List.FromFn.{length-map-range_with_len}
+use Rattle.std.proofs.lemmas.Result.{IfOk-from_err}
 use Rattle.std.proofs.Math.Seq.{drop-cons}
 use Rattle.lrc_lang.specs.declared.program.Program.{Program}
 use Rattle.lrc_trace.specs.declared.act.Act.{Act}
 use Rattle.lrc_trace.specs.declared.act.Deed.{Deed}
 use Rattle.lrc_exec.specs.Plain.{Plain, start_of, plain_start, plain_step, plain_from, plain}
 use Rattle.lrc_exec.proofs.PlainLaws.{no_arrivals, plain_from-last, plain_from-stuck, plain_step-grows}
+use Rattle.lrc_exec.proofs.PlainParts.{step-fits, thread_within}
 use Rattle.lrc_exec.proofs.plain.plain_run.Invariants.{HasCome}
 use Rattle.lrc_exec.proofs.plain.plain_run.Goals as goal
 
@@ -69,3 +71,28 @@ pub loop-node-preserved : goal.loop-node-preserved
 loop-node-preserved c =
     goes_on (plain_start c.args.program.now c.args.nodes) c.args.order.now c.args.nodes c.loop-node.node-index c.loop-node.acts.items c.push.new.self.items
     c.loop-node.machine c.make.new.self c.in-Some.deed c.loop-node-test.true c.loop-node.invariant c.make.ensures c.in_ok-push.ensures.items
+
+pub returns-in_err-code : goal.returns-in_err-code
+returns-in_err-code c = IfOk-from_err c.from_residual.result _ c.from_residual.ensures.0
+
+pub returns-in_err-machine : goal.returns-in_err-machine
+returns-in_err-machine c = IfOk-from_err c.from_residual-in_err-machine.result _ c.from_residual-in_err-machine.ensures.0
+
+pub returns-in_err-push : goal.returns-in_err-push
+returns-in_err-push c = IfOk-from_err c.from_residual-in_err-push.result _ c.from_residual-in_err-push.ensures.0
+
+pub make-requires-clause-can : goal.make-requires-clause-can
+make-requires-clause-can c = sym c.in-Some.ensures
+
+pub overflow_cast-node : goal.overflow_cast-node
+overflow_cast-node c =
+    let node = get_or c.args.order.now c.loop-node.node-index 0 in
+    let steps = step-fits c.loop-node.machine node c.in-Some.deed (sym c.in-Some.ensures) in
+    omega (arith, thread_within c.loop-node.machine node steps.0 steps.1, c.loop-node.invariant.all_nodes, c.requires.few_nodes)
+
+pub returns : goal.returns
+returns c =
+    let start = plain_start c.args.program.now c.args.nodes in
+    let whole : take c.loop-node.node-index c.args.order.now ≡ c.args.order.now =
+    take_all c.loop-node.node-index c.args.order.now c.loop-node-test.false in
+    ap (option_map (λ (run : List Act × Plain). run.0)) (sym (ap (plain_from start) (sym whole) ∙ c.loop-node.invariant.acts_are))

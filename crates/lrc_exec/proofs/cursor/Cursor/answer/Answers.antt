@@ -102,3 +102,35 @@ returns-in-While c =
     (completes-at c.self.inside c.args.self.now c.index-self-index.result c.in-Some.index c.self.view_is c.self.invariant c.in-Some.ensures.0
     c.in-Some.ensures.1 c.args.number _ c.in-While.is c.requires.number)
     c.chosen-self-inside-in-While.ensures c.requires.takes
+
+pub invariant_of-self-in-Read : goal.invariant_of-self-in-Read
+invariant_of-self-in-Read c =
+    running-at c.self.inside c.args.self.now c.index-self-index.result c.in-Some.index c.self.view_is c.self.invariant c.in-Some.ensures.0
+    c.in-Some.ensures.1 _
+    c.set_name-in-Read.new.privates c.self.inside.held
+    (next_within c.self.inside c.args.self.now c.index-self-index.result c.in-Some.index c.self.view_is c.self.invariant c.in-Some.ensures.0
+    c.in-Some.ensures.1)
+
+pub invariant_of-self-in-Acquire : goal.invariant_of-self-in-Acquire
+invariant_of-self-in-Acquire c =
+    running-at c.self.inside c.args.self.now c.index-self-index.result c.in-Some.index c.self.view_is c.self.invariant c.in-Some.ensures.0
+    c.in-Some.ensures.1 _
+    c.self.inside.privates c.set_held.new.locks
+    (next_within c.self.inside c.args.self.now c.index-self-index.result c.in-Some.index c.self.view_is c.self.invariant c.in-Some.ensures.0
+    c.in-Some.ensures.1)
+
+pub invariant_of-self-in-Release : goal.invariant_of-self-in-Release
+invariant_of-self-in-Release c =
+    running-at c.self.inside c.args.self.now c.index-self-index.result c.in-Some.index c.self.view_is c.self.invariant c.in-Some.ensures.0
+    c.in-Some.ensures.1 _
+    c.self.inside.privates c.set_held-in-Release.new.locks
+    (next_within c.self.inside c.args.self.now c.index-self-index.result c.in-Some.index c.self.view_is c.self.invariant c.in-Some.ensures.0
+    c.in-Some.ensures.1)
+
+pub invariant_of-self-in_default-statement : goal.invariant_of-self-in_default-statement
+invariant_of-self-in_default-statement c =
+    running-at c.self.inside c.args.self.now c.index-self-index.result c.in-Some.index c.self.view_is c.self.invariant c.in-Some.ensures.0
+    c.in-Some.ensures.1 _
+    c.self.inside.privates c.self.inside.held
+    (next_within c.self.inside c.args.self.now c.index-self-index.result c.in-Some.index c.self.view_is c.self.invariant c.in-Some.ensures.0
+    c.in-Some.ensures.1)

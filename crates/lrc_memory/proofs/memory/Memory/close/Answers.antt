@@ -1,18 +1,41 @@
-use Rattle.std.proofs.Common.{◌≡◌, ◌∙◌, ◌+◌, ◌<◌, ap, length, get_or, sym, subst, []}
+use Rattle.std.proofs.Common.{◌≡◌, ◌∙◌, ◌+◌, ◌<◌, ap, length, get_or, refl, sym, subst, arith, [], length-set}
 use Rattle.std.specs.Prelude.{All}
-use Rattle.std.proofs.lemmas.List.{get_or_default}
+use Rattle.std.proofs.lemmas.List.{get_or_default, length-map}
+use Rattle.std.proofs.lemmas.Result.{IfOk-from_err}
 use Rattle.lrc_time.specs.Time.{entry}
-use Rattle.lrc_store.specs.Interval.{IntervalRecord}
+use Rattle.lrc_store.specs.Interval.{IntervalRecord, index_of}
 use Rattle.lrc_store.specs.Store.{StoreRecord, IsStore, added}
 use Rattle.lrc_table.specs.PageCopy.{PageCopy, closed, fresh, without_twin}
 use Rattle.lrc_table.specs.Table.{Table, with_each}
 use Rattle.lrc_table.proofs.Tables.{closed-none}
 use Rattle.lrc_memory.specs.Notes.{named_of}
 use Rattle.lrc_memory.specs.View.{NodeMemory, IsKept, node_seen}
+use Rattle.lrc_memory.proofs.Discards.{same-seen}
 use Rattle.lrc_memory.proofs.Inside.{kept}
 use Rattle.lrc_memory.proofs.Noting.{long-named, noting, only-named}
 use Rattle.lrc_memory.proofs.Closes.{closed_at, told_ok, told_err, interval-is, closed-is, written-below, kept-dropped, kept-closed, seen-closed}
 use Rattle.lrc_memory.proofs.memory.Memory.close.Goals as goal
+
+pub new-interval-requires-clause-counted : goal.new-interval-requires-clause-counted
+new-interval-requires-clause-counted c =
+    subst (λ n. c.self.inside.me < n)
+    (sym (ap length c.copy.ensures ∙ c.requires.stamp ∙ sym (ap (λ (n : NodeMemory). length n.memory.store.last) c.self.view_is))) c.self.invariant.me
+
+pub new-interval-requires-clause-begun : goal.new-interval-requires-clause-begun
+new-interval-requires-clause-begun c =
+    let next = subst (λ (n : NodeMemory). entry c.args.stamp.now n.me ≡ entry n.memory.store.last n.me + 1) (sym c.self.view_is) c.requires.next in
+    omega (arith, ap (λ stamp. entry stamp c.self.inside.me) c.copy.ensures, next)
+
+pub add-requires-clause-stamp : goal.add-requires-clause-stamp
+add-requires-clause-stamp c =
+    ap (λ (i : IntervalRecord). length i.stamp) c.new-interval.ensures ∙ ap length c.copy.ensures ∙ c.requires.stamp
+    ∙ sym (ap (λ (n : NodeMemory). length n.memory.store.last) c.self.view_is)
+
+pub add-requires-clause-next : goal.add-requires-clause-next
+add-requires-clause-next c =
+    ap index_of c.new-interval.ensures ∙ ap (λ stamp. entry stamp c.self.inside.me) c.copy.ensures
+    ∙ subst (λ (n : NodeMemory). entry c.args.stamp.now n.me ≡ entry n.memory.store.last n.me + 1) (sym c.self.view_is) c.requires.next
+    ∙ sym (ap (λ (i : IntervalRecord). entry c.self.inside.store.last i.node + 1) c.new-interval.ensures)
 
 pub add-requires-clause-pages : goal.add-requires-clause-pages
 add-requires-clause-pages c =
@@ -78,3 +101,38 @@ pub returns-clause-ok : goal.returns-clause-ok
 returns-clause-ok c =
     ap node_seen (done c)
     ∙ seen-closed (kept c.self.inside) c.args.stamp.now _ c.self.view_is c.self.invariant c.size-whole.ensures.whole (next c)
+
+pub returns-clause-same : goal.returns-clause-same
+returns-clause-same c =
+    let k = kept c.self.inside in
+    let table : c.close.new.self ≡ with_each c.self.inside.table closed = c.in_ok-pages.ensures.ok in
+    let store = told_ok c.add.result c.add.ensures.ok (sym c.is_err.ensures.value ∙ c.if-is_err.false) in
+    same-seen k (noting (record k { store = c.add.new.self; table = c.close.new.self }) c.name_pages.new.notes.items) c.args.self.now c.self.view_is refl
+    (ap (λ (t : Table). t.size) table) (ap (λ (t : Table). length t.copies) table ∙ length-map c.self.inside.table.copies closed)
+    (ap (λ (s : StoreRecord). length s.last) store ∙ length-set c.self.inside.store.last _ _)
+
+pub returns-then-is_err : goal.returns-then-is_err
+returns-then-is_err c =
+    let k = kept c.self.inside in
+    let store : c.add.new.self ≡ c.self.inside.store = told_err c.add.result c.add.ensures.err (sym c.is_err.ensures.value ∙ c.if-is_err.true) in
+    let closing : c.close.new.self ≡ with_each c.self.inside.table closed = c.in_ok-pages.ensures.ok in
+    let table : c.drop_twins.new.self ≡ with_each (with_each c.self.inside.table closed) without_twin =
+    c.drop_twins.ensures ∙ ap (λ (t : Table). with_each t without_twin) closing in
+    record {
+      ok = tt;
+      same = same-seen k (record k { store = c.add.new.self; table = c.drop_twins.new.self }) c.args.self.now c.self.view_is refl
+          (ap (λ (t : Table). t.size) table)
+          (ap (λ (t : Table). length t.copies) table ∙ length-map (with_each c.self.inside.table closed).copies without_twin
+          ∙ length-map c.self.inside.table.copies closed)
+          (ap (λ (s : StoreRecord). length s.last) store);
+    }
+
+pub returns-in_err-pages : goal.returns-in_err-pages
+returns-in_err-pages c =
+    let k = kept c.self.inside in
+    let table : c.close.new.self ≡ c.self.inside.table = c.in_err-pages.ensures.err in
+    record {
+      ok = IfOk-from_err c.from_residual.result _ c.from_residual.ensures.0;
+      same = same-seen k (record k { table = c.close.new.self }) c.args.self.now c.self.view_is refl (ap (λ (t : Table). t.size) table)
+          (ap (λ (t : Table). length t.copies) table) refl;
+    }

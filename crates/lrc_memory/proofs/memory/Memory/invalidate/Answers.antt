@@ -1,6 +1,10 @@
 use Rattle.std.proofs.Common.{◌≡◌, ◌∙◌, ◌&&◌, ap, length, set, refl, sym, subst, arith}
+use Rattle.std.proofs.lemmas.Result.{IfOk-from_err}
+use Rattle.lrc_store.specs.Store.{StoreRecord}
+use Rattle.lrc_table.specs.Table.{Table}
 use Rattle.lrc_memory.specs.Notes.{named_of}
 use Rattle.lrc_memory.specs.View.{NodeMemory, IsKept, node_seen}
+use Rattle.lrc_memory.proofs.Discards.{same-seen}
 use Rattle.lrc_memory.proofs.Inside.{kept}
 use Rattle.lrc_memory.proofs.InStep.{was-kept}
 use Rattle.lrc_memory.proofs.Copies.{within-seen}
@@ -104,3 +108,23 @@ returns-in_default-clause-ok c =
     stays-seen (kept c.self.inside) _ c.args.page c.args.before.now c.self.view_is
     (within-seen (kept c.self.inside) _ _ c.self.view_is c.requires.in_range)
     (λ valid. c.in_default.not-Valid (c.state.ensures ∙ valid))
+
+pub invariant_of-self : goal.invariant_of-self
+invariant_of-self c =
+    let k = kept c.self.inside in
+    let failed = c.in_err-settle_page.ensures in
+    subst IsKept
+    (sym (ap (λ (s : StoreRecord). record k { store = s; table = c.settle_page.new.table }) failed.err_store
+    ∙ ap (λ (t : Table). record k { table = t }) failed.err_table))
+    c.self.invariant
+
+pub returns-in_err-settle_page : goal.returns-in_err-settle_page
+returns-in_err-settle_page c =
+    let k = kept c.self.inside in
+    let failed = c.in_err-settle_page.ensures in
+    record {
+      ok = IfOk-from_err c.from_residual.result _ c.from_residual.ensures.0;
+      same = same-seen k (record k { store = c.settle_page.new.store; table = c.settle_page.new.table }) c.args.self.now c.self.view_is refl
+          (ap (λ (t : Table). t.size) failed.err_table) (ap (λ (t : Table). length t.copies) failed.err_table)
+          (ap (λ (s : StoreRecord). length s.last) failed.err_store);
+    }

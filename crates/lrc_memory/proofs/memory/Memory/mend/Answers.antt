@@ -1,4 +1,4 @@
-use Rattle.std.proofs.Common.{◌≡◌, ◌<◌, ◌∙◌, List, true, ap, length, sym, subst, arith}
+use Rattle.std.proofs.Common.{◌≡◌, ◌<◌, ◌∙◌, List, true, ap, length, refl, sym, subst, arith, length-set}
 use Rattle.std.specs.Prelude.{All}
 use Rattle.lrc_store.specs.declared.key.Key.{Key}
 use Rattle.lrc_table.specs.Table.{Table}
@@ -6,7 +6,7 @@ use Rattle.lrc_protocol.specs.Pages as machine
 use Rattle.lrc_protocol.specs.Pages.{first_values}
 use Rattle.lrc_need.specs.Seen.{seen_base}
 use Rattle.lrc_memory.specs.Turns.{is_mendable}
-use Rattle.lrc_memory.specs.View.{NodeMemory, IsKept, node_seen, with_known}
+use Rattle.lrc_memory.specs.View.{NodeMemory, IsKept, SameMemory, node_seen, with_known}
 use Rattle.lrc_memory.proofs.Inside.{kept}
 use Rattle.lrc_memory.proofs.Copies.{within-seen}
 use Rattle.lrc_memory.proofs.Mending.{fits-seen, kept-mended, seen-mended, table-mended}
@@ -72,3 +72,8 @@ returns-clause-mended c =
     ∙ ap (λ (keys : List Key). with_known c.args.self.now (machine.with_copy c.args.self.now.memory c.args.need.now.page
     (machine.valid (machine.all_applied c.args.self.now.memory.store
     (first_values (machine.copy_at c.args.self.now.memory c.args.need.now.page) c.args.need.now.base) keys)))) c.missing.ensures
+
+pub returns-clause-same : goal.returns-clause-same
+returns-clause-same c =
+    subst (SameMemory c.args.self.now) (sym (returns-clause-mended c))
+    (record { me = refl; size = refl; pages = length-set c.args.self.now.memory.copies _ _; nodes = refl })
