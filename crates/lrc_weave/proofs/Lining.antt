@@ -67,7 +67,7 @@ all_then a b old mid new false first then =
       then.0,
       within,
       subst (λ ms. AreNext ms (line_at old then.0) [] false) (sym (only_apart then.0 a b))
-      (next_then (only_to then.0 a) (only_to then.0 b) (line_at old then.0) (line_at mid then.0) [] false (first.1 then.0 within) then.2),
+          (next_then (only_to then.0 a) (only_to then.0 b) (line_at old then.0) (line_at mid then.0) [] false (first.1 then.0 within) then.2),
     )
 
 all_not : (a b : List Flying) (old new : List Line) → AreAllNext a old new false → AreAllNext (a ++ b) old new false
@@ -75,7 +75,7 @@ all_not a b old new apart = (
   apart.0,
   apart.1,
   subst (λ ms. AreNext ms (line_at old apart.0) [] false) (sym (only_apart apart.0 a b))
-  (next_not (only_to apart.0 a) (only_to apart.0 b) (line_at old apart.0) [] apart.2),
+      (next_not (only_to apart.0 a) (only_to apart.0 b) (line_at old apart.0) [] apart.2),
 )
 
 -- the same of what elements send

@@ -47,7 +47,9 @@ pub(crate) fn are_matched(
 fn are_all_by_nodes(wires: &[Mailbox], nodes: usize) -> bool
     ensures { result ≡ list_all (λ mailbox. list_all (is_by_node nodes) mailbox.history) wires.now }
 {
-    wires.iter().all(|mailbox| are_by_nodes(mailbox.history(), nodes))
+    wires
+        .iter()
+        .all(|mailbox| are_by_nodes(mailbox.history(), nodes))
 }
 
 // Whether each put is by one of so many nodes.
@@ -74,11 +76,7 @@ fn is_matched(
 }
 
 // Whether the lines are what a log sends to each node, in order.
-fn are_sent(
-    spare: &mut Vec<u8>,
-    lines: &mut [&[&Wire]],
-    log: &[Entry],
-) -> Result<bool, AllocError>
+fn are_sent(spare: &mut Vec<u8>, lines: &mut [&[&Wire]], log: &[Entry]) -> Result<bool, AllocError>
     ensures { IfOk result (λ are. IsTrue are ↔ AreSent log.now (map (λ line. map (λ wire. message_of wire.now) line.now) lines.old)) }
 {
     for entry in log {

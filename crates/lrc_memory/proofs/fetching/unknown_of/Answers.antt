@@ -50,7 +50,7 @@ loop-key-preserved c =
     let kept = ap (λ (l : List Key). l ++ (if c.is_none.result then get_or c.args.keys.now c.loop-key.key-index first_key ∷ [] else []))
     c.loop-key.invariant in
     elim c.if-is_none.branch [
-      then-is_none+in_ok-push w ↦ ap (λ (v : Vec Key Global). v.items) w.unknown-is ∙ w.in_ok-push.ensures.items
+      | then-is_none+in_ok-push w ↦ ap (λ (v : Vec Key Global). v.items) w.unknown-is ∙ w.in_ok-push.ensures.items
           ∙ ap more (sym w.if-is_none.true) ∙ kept ∙ sym on
       | else-is_none w ↦ ap (λ (v : Vec Key Global). v.items) w.unknown-is ∙ sym (append-nil c.loop-key.unknown.items)
           ∙ ap more (sym w.if-is_none.false) ∙ kept ∙ sym on

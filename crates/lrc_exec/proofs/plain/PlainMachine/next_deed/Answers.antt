@@ -199,7 +199,7 @@ returns-in_default c =
     let other : ((word : ℕ) → c.in_default.ask ≡ Read word → ⊥)
     × ((lock : ℕ) → c.in_default.ask ≡ Acquire lock → nobody_holds c.args.self.now lock ≡ true)
     × (c.in_default.ask ≡ ask_of (next_of runner.machine)) = elim c.in_default.branch [
-      in_default-via-in-Acquire+else-is_some w ↦ (
+      | in_default-via-in-Acquire+else-is_some w ↦ (
         λ word asked. cc,
         λ lock asked.
             let below = asked_fits runner.machine (Acquire w.in-Acquire.lock) w.in-Acquire.ensures.asked in
