@@ -1,34 +1,12 @@
-use Rattle.std.proofs.Common.{◌≡◌, ◌∙◌, ℕ, ◌<◌, true, false, List, length, Option, Ok, Err, refl, ap, arith}
+use Rattle.std.proofs.Common.{◌≡◌, ◌∙◌, length, true, false, Ok, refl, ap, arith}
 use Rattle.std.proofs.lemmas.Grind.{common_steps}
 use Rattle.std.proofs.lemmas.List.{length-replicate}
-use Rattle.std.proofs.lemmas.Bool.{lt-ltb}
 use Rattle.std.proofs.lemmas.Result.{err_from_is_err_and}
 use Rattle.lrc_time.specs.Time.{entry}
-use Rattle.lrc_wire.specs.declared.fault.WireFault.{WireFault}
-use Rattle.lrc_wire.specs.declared.fault.WireFault.TheVariants.{NotAscending}
-use Rattle.lrc_wire.specs.declared.version.Version.{Version}
-use Rattle.lrc_wire.specs.Reading.{◌>>=◌, byte_at, is_after, is_below, next_interval_at, pages_at, stamp_at, tested}
+use Rattle.lrc_wire.specs.Reading.{◌>>=◌, is_after, is_below, next_interval_at, pages_at}
+use Rattle.lrc_wire.proofs.NextInterval.{bad_node, but_pages, no_node, not_after, stamp_wrong}
 use Rattle.lrc_wire.proofs.reading.intervals.read_next_interval.Goals as goal
 use Rattle.lrc_wire.proofs.reading.intervals.read_next_interval.Goals.{Else-is_some_and}
-
-module _ (v : Version) (nodes : ℕ) (before : Option (ℕ × ℕ)) (bytes : List ℕ) (node : ℕ) (rest : List ℕ)
-    (read : byte_at bytes ≡ Ok (node, rest)) (in_range : node < nodes) where
-  -- a stamp has a fault
-  stamp_wrong : (fault : WireFault) → stamp_at nodes node rest ≡ Err fault → next_interval_at v nodes before bytes ≡ Err fault
-  unfolding next_interval_at tested
-  stamp_wrong fault wrong = rw (read, lt-ltb node nodes in_range, wrong) refl
-
-  -- the interval does not come after the one before it
-  not_after : (stamp after : List ℕ) → stamp_at nodes node rest ≡ Ok (stamp, after) → is_after is_below before (node, entry stamp node) ≡ false
-      → next_interval_at v nodes before bytes ≡ Err NotAscending
-  unfolding next_interval_at tested
-  not_after stamp after is late = rw (read, lt-ltb node nodes in_range, is, late) refl
-
-  -- what is left is the pages
-  but_pages : (stamp after : List ℕ) → stamp_at nodes node rest ≡ Ok (stamp, after) → is_after is_below before (node, entry stamp node) ≡ true
-      → next_interval_at v nodes before bytes ≡ (pages_at v after >>= λ pages. Ok (record { node = node; stamp = stamp; pages = pages.0 }, pages.1))
-  unfolding next_interval_at tested
-  but_pages stamp after is late = rw (read, lt-ltb node nodes in_range, is, late) refl
 
 -- the interval comes after the one before it
 after : (c : Else-is_some_and) → is_after is_below c.args.before (c.in_ok-node.node, entry c.read_stamp.new.stamp c.in_ok-node.node) ≡ true
@@ -41,6 +19,20 @@ pages_left c =
     but_pages c.args.version c.args.nodes c.args.before c.args.bytes.now.now c.in_ok-node.node c.read_u8.new.bytes.now c.in_ok-node.ensures
     c.if-node-nodes.false c.read_stamp.new.stamp c.read_stamp.new.bytes.now
     (rw (ap length c.new-stamp.ensures ∙ length-replicate c.args.nodes 0) at c.in_ok-read_stamp.ensures.exact) (after c)
+
+pub returns-in_err-node : goal.returns-in_err-node
+returns-in_err-node c =
+    let p = err_from_is_err_and c.from_residual.result c.from_residual.ensures.1 in
+    rw (p.1, p.2) (λ other. no_node c.args.version c.args.nodes c.args.before c.args.bytes.now.now _ (c.in_err-node.ensures other))
+
+pub returns-then-node-nodes : goal.returns-then-node-nodes
+returns-then-node-nodes c = λ _.
+    bad_node c.args.version c.args.nodes c.args.before c.args.bytes.now.now c.in_ok-node.node c.read_u8.new.bytes.now c.in_ok-node.ensures c.if-node-nodes.true
+
+pub returns-in_err-push : goal.returns-in_err-push
+returns-in_err-push c =
+    let p = err_from_is_err_and c.from_residual-in_err-push.result c.from_residual-in_err-push.ensures.1 in
+    rw (p.1, p.2) (λ other. absurd (other refl))
 
 pub returns-in_err-read_stamp : goal.returns-in_err-read_stamp
 returns-in_err-read_stamp c =
@@ -69,3 +61,16 @@ returns c = (
   c.in_ok-push.ensures.items,
   rw (c.new.ensures, c.at.ensures) refl,
 )
+
+pub read_stamp-requires : goal.read_stamp-requires
+read_stamp-requires c = rw (ap length c.new-stamp.ensures ∙ length-replicate c.args.nodes 0) c.if-node-nodes.false
+
+pub at-requires : goal.at-requires
+at-requires c =
+    rw (c.in_ok-read_stamp.ensures.long ∙ ap length c.new-stamp.ensures ∙ length-replicate c.args.nodes 0) c.if-node-nodes.false
+
+pub new-requires : goal.new-requires
+new-requires c = record {
+  counted = rw (c.in_ok-read_stamp.ensures.long ∙ ap length c.new-stamp.ensures ∙ length-replicate c.args.nodes 0) c.if-node-nodes.false;
+  begun = c.in_ok-read_stamp.ensures.begun;
+}
