@@ -1,8 +1,11 @@
 -- The last element of a list that one was added to.
-use Rattle.std.proofs.Common.{◌≡◌, ◌∙◌, ℕ, ◌-◌, ◌<◌, List, [], ◌∷◌, ◌++◌, length, get_or, Some, sym, arith, length-append, inl, inr}
+use Rattle.std.proofs.Common.{◌≡◌, ◌∙◌, ℕ, ◌-◌, ◌+◌, ◌<◌, List, [], ◌∷◌, ◌++◌, length, get_or, Some, sym, arith, length-append, inl, inr}
 use Rattle.std.specs.Prelude.{slice_get, All, AllPairs}
+use Rattle.std.specs.List.Sorted.{IsStrictlyIncreasing}
 use Rattle.std.specs.Option.{ForSome}
 use Rattle.std.proofs.lemmas.Bool.{cases_lt}
+use Rattle.std.proofs.lemmas.List.Kept.{AllPairs-from_increasing}
+use Rattle.std.proofs.lemmas.List.Quantifiers.{all_pairs_push}
 use Rattle.std.proofs.Math.Seq.{get_or-append_seam}
 use Rattle.std.proofs.lemmas.Option.{get_or_from_slice_get, slice_get-get_or}
 
@@ -21,3 +24,11 @@ last_above {A} key xs n rises below k d within =
       | inl lt ↦ omega (arith, rises k (length xs - 1) d lt (omega arith), last_is)
       | inr le ↦ let same : k ≡ length xs - 1 = omega arith in rw same last_is
     ]
+
+-- a list that ascends, with a greater number behind it
+pub increasing_pushed : (xs : List ℕ) (n : ℕ) → IsStrictlyIncreasing xs → ForSome (slice_get xs (length xs - 1)) (λ last. last < n)
+    → IsStrictlyIncreasing (xs ++ n ∷ [])
+increasing_pushed xs n rises below =
+    let pairs = AllPairs-from_increasing xs rises in
+    let more = all_pairs_push (λ (a b : ℕ). a < b) xs n pairs (last_above (λ m. m) xs n pairs below) in
+    λ k within. more k (k + 1) 0 (omega arith) within

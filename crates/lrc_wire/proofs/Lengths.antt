@@ -138,6 +138,16 @@ length_news entries is = omega (arith, length-append (time entries) (intervals i
 pub length_page_values : (vs : List ℕ) → length (page_values Two vs) ≡ 2 + 8 * length vs
 length_page_values vs = omega (arith, length-append (number w16 (length vs)) (numbers w64 vs), length_number_16 (length vs), length_numbers_64 vs)
 
+-- what stands behind a byte, a page, and an episode with a flag
+pub length_behind_byte : (n : ℕ) (rest : List ℕ) → length (byte n ++ rest) ≡ 1 + length rest
+length_behind_byte n rest = omega (arith, length-append (byte n) rest, length_byte n)
+
+pub length_behind_page : (n : ℕ) (rest : List ℕ) → length (number w16 n ++ rest) ≡ 2 + length rest
+length_behind_page n rest = omega (arith, length-append (number w16 n) rest, length_number_16 n)
+
+pub length_behind_flag : (n : ℕ) (b : Bool) (rest : List ℕ) → length (number w32 n ++ (flag b ++ rest)) ≡ 5 + length rest
+length_behind_flag n b rest = omega (arith, length-append (number w32 n) (flag b ++ rest), length-append (flag b) rest, length_number_32 n, length_flag b)
+
 -- one more element
 pub length-take_more : {A : Type 0} (f : A → List ℕ) (xs : List A) (i : ℕ) (d : A) → i < length xs
     → length (flat_map f (take (i + 1) xs)) ≡ length (flat_map f (take i xs)) + length (f (get_or xs i d))

@@ -8,6 +8,7 @@ pub mod Agrees
 mod Sequences
 pub mod Fields
 pub mod Intervals
+pub mod NextInterval
 pub mod Listed
 mod Singly
 mod Cuts

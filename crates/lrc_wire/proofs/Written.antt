@@ -1,9 +1,9 @@
 -- Writing elements one after the other, as a loop does.
-use Rattle.std.proofs.Common.{◌≡◌, ◌∙◌, ℕ, ◌+◌, ◌<◌, List, [], ◌∷◌, ◌++◌, length, get_or, take, Result, Ok, Err, sym, ap}
+use Rattle.std.proofs.Common.{◌≡◌, ◌∙◌, ℕ, ◌+◌, ◌<◌, ◌≤◌, List, [], ◌∷◌, ◌++◌, length, get_or, take, Result, Ok, Err, sym, ap}
 use Rattle.std.specs.Prelude.{OnOk}
 use Rattle.std.specs.Int.{Width}
 use Rattle.std.specs.List.{flat_map}
-use Rattle.std.proofs.lemmas.List.{flat_map_more, take_more}
+use Rattle.std.proofs.lemmas.List.{append-nil, flat_map_more, take_more, take_all}
 use Rattle.lrc_wire.specs.Spelling.{number, numbers}
 
 -- one more element
@@ -26,3 +26,15 @@ numbers-more w before xs x = flat_map_more (number w) before xs x
 pub on_ok_so : {T E P Q : Type 0} (r : Result T E) → (P → Q) → OnOk r P → OnOk r Q
 on_ok_so (Ok x) f p = f p
 on_ok_so (Err e) f p = tt
+
+-- before the first number, and after the last
+pub numbers-none : (w : Width) (before : List ℕ) → before ≡ before ++ numbers w []
+unfolding numbers
+numbers-none w before = sym (append-nil before)
+
+pub numbers-all : (w : Width) (before xs out : List ℕ) (i : ℕ) → length xs ≤ i → out ≡ before ++ numbers w (take i xs) → out ≡ before ++ numbers w xs
+numbers-all w before xs out i past e = e ∙ ap (λ (ns : List ℕ). before ++ numbers w ns) (take_all i xs past)
+
+pub flat_map-all : {X : Type 0} (f : X → List ℕ) (before out : List ℕ) (xs : List X) (i : ℕ) → length xs ≤ i
+    → out ≡ before ++ flat_map f (take i xs) → out ≡ before ++ flat_map f xs
+flat_map-all {X} f before out xs i past e = e ∙ ap (λ (ys : List X). before ++ flat_map f ys) (take_all i xs past)

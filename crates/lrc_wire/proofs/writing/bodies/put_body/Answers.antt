@@ -50,3 +50,27 @@ put_changes_reply-requires c =
     let m = c.in-ChangesReply.m in
     let short = rw c.in-ChangesReply.is at c.requires in
     omega (arith, short, few_parts m.parts, length-append (number w16 m.page) (parts Two runs_of m.parts))
+
+pub returns-in-LockRequest : goal.returns-in-LockRequest
+returns-in-LockRequest c = rw c.in-LockRequest.is c.put_lock_request.ensures
+
+pub returns-in-LockForward : goal.returns-in-LockForward
+returns-in-LockForward c = rw c.in-LockForward.is c.put_lock_forward.ensures
+
+pub returns-in-LockGrant : goal.returns-in-LockGrant
+returns-in-LockGrant c = rw c.in-LockGrant.is c.put_lock_grant.ensures
+
+pub returns-in-Arrive : goal.returns-in-Arrive
+returns-in-Arrive c = rw c.in-Arrive.is c.put_arrive.ensures
+
+pub returns-in-Depart : goal.returns-in-Depart
+returns-in-Depart c = rw c.in-Depart.is c.put_depart.ensures
+
+pub returns-in-ChangesRequest : goal.returns-in-ChangesRequest
+returns-in-ChangesRequest c = rw c.in-ChangesRequest.is c.put_changes_request.ensures
+
+pub returns-in-ChangesReply : goal.returns-in-ChangesReply
+returns-in-ChangesReply c = rw c.in-ChangesReply.is c.put_changes_reply.ensures
+
+pub returns-in-PageReply : goal.returns-in-PageReply
+returns-in-PageReply c = rw c.in-PageReply.is c.put_page_reply.ensures
