@@ -9,6 +9,7 @@ pub mod Reduced
 pub mod Reducing
 pub mod Meetings
 pub mod Spots
+pub mod Deeds
 pub mod Same
 pub mod Pairs
 pub mod Standing

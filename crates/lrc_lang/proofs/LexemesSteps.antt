@@ -56,3 +56,10 @@ pub comment_is_passed : (line : ℕ) (text words rest : List ℕ) → 1 ≤ leng
 unfolding rest_of
 comment_is_passed line text words rest some hash span all inside =
     subst (λ t. Lexes line t all) (sym (opened text some)) (passes_comment hash span inside)
+
+-- a text by its first byte and the rest behind that, as the code has them
+pub front_is : (text : List ℕ) → 1 ≤ length text → text ≡ get_or text 0 0 ∷ take (length text - 1) (drop 1 text)
+front_is text some = first_rest text 0 some
+
+pub begins_so : (IsSuch : ℕ → Type 0) (text : List ℕ) → 1 ≤ length text → IsSuch (get_or text 0 0) → BeginsWith IsSuch text
+begins_so IsSuch text some is = subst (BeginsWith IsSuch) (sym (front_is text some)) is
