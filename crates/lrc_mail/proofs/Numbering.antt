@@ -9,7 +9,7 @@ use Rattle.lrc_envelope.specs.Envelope.{EnvelopeRecord}
 use Rattle.lrc_protocol.specs.Times.{MOST_NUMBER}
 use Rattle.lrc_protocol.specs.Node.{Letter, numbered, envelope_of}
 use Rattle.lrc_mail.specs.declared.fault.MailFault.{MailFault}
-use Rattle.lrc_mail.specs.declared.fault.MailFault.TheVariants.{NoMemory, Worn}
+use Rattle.lrc_mail.specs.declared.fault.MailFault.TheVariants.{Worn}
 use Rattle.lrc_mail.specs.Sent.{AreCounts, number_after}
 
 -- what is numbered, behind what was numbered before
@@ -86,7 +86,7 @@ pub wears : (me first : ℕ) (start : List ℕ) (all : List Letter) (sent : List
 wears me first start all sent out letter rest m e =
     m.same ∙ stops me first sent out letter rest (nat_le (first + slice_index sent letter.to) MOST_NUMBER) e
 
--- where no memory was left no number was too large
-pub never_worn : {T : Type 0} (r : Result T MailFault) → IsErrAnd r (λ fault. fault ≡ NoMemory) → r ≡ Err Worn → ⊥
-never_worn (Ok x) given worn = absurd given
-never_worn (Err fault) given worn = cc
+-- a fault that is handed up as `Worn` was `Worn`
+pub fault_is_worn : {T : Type 0} (r : Result T MailFault) (fault : MailFault) → IsErrAnd r (λ f. f ≡ fault) → r ≡ Err Worn → fault ≡ Worn
+fault_is_worn (Ok x) fault given worn = absurd given
+fault_is_worn (Err other) fault given worn = cc
