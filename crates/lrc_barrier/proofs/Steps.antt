@@ -1,10 +1,11 @@
 -- What the last arrival does.
 use Rattle.std.proofs.Common.{ℕ, suc, ◌≡◌, ◌≢◌, ◌+◌, ◌<◌, ◌∙◌, Bool, true, false, if◌then◌else◌, Option, Some, None, Result, Ok, Err, List, [], ◌∷◌, All}
 use Rattle.std.proofs.Common.{IfSome, length, map, set, get_or, replicate, is_some, is_ok, refl, ap, sym, subst, zero-add, ⊎_elim, arith}
+use Rattle.std.specs.Result.{IsErrAnd, IfErr}
 use Rattle.std.specs.Option.{unwrap_or}
-use Rattle.std.specs.List.{enumerate_from, flat_map, fold, list_all}
+use Rattle.std.specs.List.{enumerate_from, flat_map, fold, list_all, refill}
 use Rattle.std.proofs.lemmas.Bool.{cases_eq, true≢false}
-use Rattle.std.proofs.lemmas.List.{get_or-map, get_or-set_other, length-map, length-set}
+use Rattle.std.proofs.lemmas.List.{get_or-map, get_or-set_same, get_or-set_other, length-map, length-set, take-append-le, take_all}
 use Rattle.std.proofs.lemmas.List.Elements.{All-append, All-filter, All-map, All-nil}
 use Rattle.std.proofs.lemmas.List.FromFn.{get_or-enumerate_from, length-enumerate_from}
 use Rattle.std.proofs.lemmas.List.Sums.{AllPass-from_list_all}
@@ -14,8 +15,10 @@ use Rattle.lrc_store.specs.Interval.{IntervalRecord}
 use Rattle.lrc_barrier.specs.declared.fault.BarrierFault.{BarrierFault}
 use Rattle.lrc_barrier.specs.declared.fault.BarrierFault.TheVariants.{WrongEpisode, Twice}
 use Rattle.lrc_barrier.specs.declared.arrival.Arrival.{Arrival}
-use Rattle.lrc_barrier.specs.Barrier.{ManagerRecord, departs, arrivals_of, arrived, asks, departed, departure_to, departures_of, has_arrived}
-use Rattle.lrc_barrier.specs.Barrier.{intervals_of, is_news, is_next, joined_time, with_arrival, IsArrival, IsDeparture}
+use Rattle.lrc_barrier.specs.declared.departure.Departure.{Departure}
+use Rattle.lrc_barrier.specs.Barrier.{ManagerRecord, ArriveStep, departs, refuses, waits, accepted, is_accepted}
+use Rattle.lrc_barrier.specs.Barrier.{arrivals_of, arrived, asks, departed, departure_to, departures_of, has_arrived}
+use Rattle.lrc_barrier.specs.Barrier.{intervals_of, is_news, is_next, joined_time, with_arrival, IsArrival, IsDeparture, IsManager}
 use Rattle.lrc_barrier.specs.Filled.{all_with, AreArrivals}
 use Rattle.lrc_barrier.proofs.Filled.{arrivals_with, filled_at}
 
@@ -144,3 +147,111 @@ are_departures nodes arrivals count are k d h =
           All-filter (is_news some.time) (λ (i : IntervalRecord). length i.stamp ≡ nodes) (intervals_of arrivals)
           (All-flat_map (λ (i : IntervalRecord). length i.stamp ≡ nodes) (λ (a : Arrival). a.intervals) arrivals stamps);
     })
+
+-- ---- what an arrival is answered
+
+away : (next here : Bool) (fault : BarrierFault) (step : ArriveStep) → expectation next here ≡ Err fault
+    → (if next then (if here then refuses Twice else step) else refuses WrongEpisode) ≡ refuses fault
+away true true fault step same = cc
+away true false fault step same = absurd (true≢false (ap is_ok same))
+away false here fault step same = cc
+
+pub turned_away : (manager : ManagerRecord) (from : ℕ) (arrival : Arrival) (fault : BarrierFault)
+    → expectation (is_next manager arrival.episode) (has_arrived manager from) ≡ Err fault → arrived manager from arrival ≡ refuses fault
+turned_away manager from arrival fault same =
+    away (is_next manager arrival.episode) (has_arrived manager from) fault (accepted (with_arrival manager from arrival)) same
+
+pub others_come : (manager : ManagerRecord) (from : ℕ) (arrival : Arrival)
+    → expectation true false ≡ expectation (is_next manager arrival.episode) (has_arrived manager from)
+    → list_all is_some (set manager.arrivals from (Some arrival)) ≡ false
+    → arrived manager from arrival ≡ waits (with_arrival manager from arrival)
+others_come manager from arrival fine all =
+    let parts = expected (is_next manager arrival.episode) (has_arrived manager from) fine in
+    rw (parts.0, parts.1, all) refl
+
+pub was_last : (manager : ManagerRecord) (from : ℕ) (arrival : Arrival) → IsManager manager → from < length manager.last
+    → expectation true false ≡ expectation (is_next manager arrival.episode) (has_arrived manager from)
+    → list_all is_some (set manager.arrivals from (Some arrival)) ≡ true
+    → arrived manager from arrival
+    ≡ departs (departures_of (all_with arrival manager.arrivals)) (departed (with_arrival manager from arrival))
+was_last manager from arrival is within fine all =
+    let parts = expected (is_next manager arrival.episode) (has_arrived manager from) fine in
+    all_depart manager from arrival (omega (arith, within, is.places)) parts.0 parts.1 all
+
+pub one_fault : (step : ArriveStep) (a b : BarrierFault) → step ≡ refuses a → step ≡ refuses b → a ≡ b
+one_fault step a b first second = cc
+
+pub none_waits : (step : ArriveStep) (next : ManagerRecord) (fault : BarrierFault) → step ≡ waits next → step ≡ refuses fault → ⊥
+none_waits step next fault first second = cc
+
+pub none_departs : (step : ArriveStep) (all : List Departure) (next : ManagerRecord) (fault : BarrierFault)
+    → step ≡ departs all next → step ≡ refuses fault → ⊥
+none_departs step all next fault first second = cc
+
+pub not_accepted : (step : ArriveStep) (fault : BarrierFault) → step ≡ refuses fault → is_accepted step ≡ true → ⊥
+not_accepted step fault first accepts = true≢false (sym accepts ∙ ap is_accepted first)
+
+pub fault_up : {T : Type 0} (r : Result T BarrierFault) (fault : BarrierFault) → IsErrAnd r (λ f. f ≡ fault) → r ≡ Err fault
+fault_up (Ok x) fault is = absurd is
+fault_up (Err f) fault is = ap Err is
+
+pub fault_is : {T : Type 0} (r : Result T BarrierFault) (P : BarrierFault → Type 0) → IsErrAnd r P → IfErr r P
+fault_is (Ok x) P is = tt
+fault_is (Err f) P is = is
+
+pub kept_on_err : {T : Type 0} (r : Result T BarrierFault) (P : Type 0) → P → IfErr r (λ _. P)
+kept_on_err (Ok x) P holds = tt
+kept_on_err (Err f) P holds = holds
+
+-- ---- a manager that keeps an arrival
+
+refilled : {X : Type 0} (xs old : List X) (at : ℕ) (x : X) → old ≡ xs → refill (length xs) xs (set old at x) ≡ set xs at x
+refilled xs old at x same =
+    let long : length (set old at x) ≡ length xs = length-set old at x ∙ ap length same in
+    take-append-le (length xs) (set old at x) _ (omega (arith, long))
+    ∙ take_all (length xs) (set old at x) (omega (arith, long))
+    ∙ ap (λ l. set l at x) same
+
+pub with_kept : {done : ℕ} {last : List ℕ} {arrivals : List (Option Arrival)} {cleans : Option (List Bool)}
+    (manager : ManagerRecord) (from : ℕ) (arrival : Arrival) (place own : ℕ) (last' : List ℕ) (arrivals' : List (Option Arrival))
+    → record { done = done; last = last; arrivals = arrivals; cleans = cleans } ≡ manager
+    → last' ≡ last → arrivals' ≡ arrivals → place ≡ from → own ≡ entry arrival.time from
+    → record {
+      done = done;
+      last = refill (length last) last (set last' place own);
+      arrivals = refill (length arrivals) arrivals (set arrivals' place (Some arrival));
+      cleans = cleans;
+    }
+    ≡ with_arrival manager from arrival
+with_kept {done} {last} {arrivals} {cleans} manager from arrival place own last' arrivals' is last_is arrivals_is place_is own_is =
+    let make : List ℕ → List (Option Arrival) → ManagerRecord =
+    λ l a. record { done = done; last = l; arrivals = a; cleans = cleans } in
+    ap (λ l. make l (refill (length arrivals) arrivals (set arrivals' place (Some arrival))))
+    (refilled last last' place own last_is ∙ ap (λ n. set last n own) place_is ∙ ap (set last from) own_is)
+    ∙ ap (make (set last from (entry arrival.time from)))
+    (refilled arrivals arrivals' place (Some arrival) arrivals_is ∙ ap (λ n. set arrivals n (Some arrival)) place_is)
+    ∙ ap (λ m. with_arrival m from arrival) is
+
+pub keeps : (manager : ManagerRecord) (from : ℕ) (arrival : Arrival) → IsManager manager → from < length manager.last
+    → IsArrival (length manager.last) from arrival → IsManager (with_arrival manager from arrival)
+keeps manager from arrival is within own =
+    let long : length (set manager.last from (entry arrival.time from)) ≡ length manager.last =
+    length-set manager.last from (entry arrival.time from) in
+    let arrivals = set manager.arrivals from (Some arrival) in
+    let own_here : IfSome (get_or arrivals from None) (IsArrival (length manager.last) from) =
+    subst (λ (p : Option Arrival). IfSome p (IsArrival (length manager.last) from))
+    (sym (get_or-set_same manager.arrivals from (Some arrival) None (omega (arith, within, is.places)))) own in
+    let kept : (node : ℕ) → IfSome (get_or arrivals node None) (IsArrival (length manager.last) node) =
+    λ node. ⊎_elim
+    (λ (same : node ≡ from). subst (λ k. IfSome (get_or arrivals k None) (IsArrival (length manager.last) k)) (sym same) own_here)
+    (λ (differ : node ≢ from).
+    subst (λ (p : Option Arrival). IfSome p (IsArrival (length manager.last) node))
+    (sym (get_or-set_other manager.arrivals from node (Some arrival) None differ)) (is.kept node))
+    (cases_eq node from) in
+    record {
+      some = omega (arith, is.some, long);
+      few = omega (arith, is.few, long);
+      places = length-set manager.arrivals from (Some arrival) ∙ is.places ∙ sym long;
+      cleans = subst (λ n. IfSome manager.cleans (λ cleans. length cleans ≡ n)) (sym long) is.cleans;
+      kept = λ node. subst (λ n. IfSome (get_or arrivals node None) (IsArrival n node)) (sym long) (kept node);
+    }

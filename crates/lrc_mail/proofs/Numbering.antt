@@ -1,12 +1,15 @@
 -- Letters that get numbers one after another.
 use Rattle.std.proofs.Common.{◌≡◌, ℕ, ◌+◌, ◌<◌, Bool, true, false, List, [], ◌∷◌, ◌++◌, length, refl, sym, ap, ◌∙◌, subst, append_assoc}
-use Rattle.std.specs.Prelude.{Option, Some, None, option_map, nat_le, if◌then◌else◌, slice_index, slice_set, All}
+use Rattle.std.specs.Result.{IsErrAnd}
+use Rattle.std.specs.Prelude.{Result, Ok, Err, Option, Some, None, option_map, nat_le, if◌then◌else◌, slice_index, slice_set, All}
 use Rattle.std.proofs.lemmas.List.{length-set, append-nil}
 use Rattle.std.proofs.lemmas.List.Elements.{All-tail}
 use Rattle.std.proofs.lemmas.Option.{same_Some}
 use Rattle.lrc_envelope.specs.Envelope.{EnvelopeRecord}
 use Rattle.lrc_protocol.specs.Times.{MOST_NUMBER}
 use Rattle.lrc_protocol.specs.Node.{Letter, numbered, envelope_of}
+use Rattle.lrc_mail.specs.declared.fault.MailFault.{MailFault}
+use Rattle.lrc_mail.specs.declared.fault.MailFault.TheVariants.{Worn}
 use Rattle.lrc_mail.specs.Sent.{AreCounts, number_after}
 
 -- what is numbered, behind what was numbered before
@@ -82,3 +85,8 @@ pub wears : (me first : ℕ) (start : List ℕ) (all : List Letter) (sent : List
     → Midway me first start all sent out (letter ∷ rest) → number_after first (slice_index sent letter.to) ≡ None → numbered me first start all ≡ None
 wears me first start all sent out letter rest m e =
     m.same ∙ stops me first sent out letter rest (nat_le (first + slice_index sent letter.to) MOST_NUMBER) e
+
+-- a fault that is handed up as `Worn` was `Worn`
+pub fault_is_worn : {T : Type 0} (r : Result T MailFault) (fault : MailFault) → IsErrAnd r (λ f. f ≡ fault) → r ≡ Err Worn → fault ≡ Worn
+fault_is_worn (Ok x) fault given worn = absurd given
+fault_is_worn (Err other) fault given worn = cc

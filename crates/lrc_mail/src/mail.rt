@@ -1,10 +1,10 @@
 // A node's mail.
 
-ghost use Rattle.std.specs.Prelude.{◌≡◌, ◌+◌, ◌<◌, ◌≤◌, Some, None, Err, All, IfOk, OnErr, OnOk, OnSome, false, [], length, replicate, slice_index, slice_set};
+ghost use Rattle.std.specs.Prelude.{◌≡◌, ◌+◌, ◌<◌, ◌≤◌, Some, None, Err, All, IfOk, OnErr, OnOk, OnSome, false, [], ◌∷◌, ◌++◌, length, replicate, slice_index, slice_set};
 ghost use Rattle.lrc_envelope.specs.declared.limits.TheConstants.{MOST_NODES};
 ghost use Rattle.lrc_mail.specs.declared.fault.MailFault.TheVariants.{Worn};
 ghost use Rattle.lrc_protocol.specs.Times.{MOST_NUMBER};
-ghost use Rattle.lrc_protocol.specs.Node.{fresh_mail, nothing, was_taken, with_taken, numbered};
+ghost use Rattle.lrc_protocol.specs.Node.{envelope_of, fresh_mail, nothing, was_taken, with_taken, numbered};
 ghost use Rattle.lrc_mail.specs.Sent.{AreCounts, number_after};
 
 use crate::fault::MailFault;
@@ -215,15 +215,36 @@ fn number_all(
     ensures counts { AreCounts sent.new }
 {
     for letter in letters.drain(..) {
-        let Some(number) = next_number(sent, letter.to, first) else {
-            return Err(MailFault::Worn);
-        };
-        envelopes.push(Envelope {
-            from: me,
-            to: letter.to,
-            number,
-            message: letter.message,
-        })?;
+        put_numbered(sent, me, first, letter, &mut envelopes)?;
     }
     Ok(envelopes)
+}
+
+/// Puts the letter, with its number, which counts as sent, behind others.
+fn put_numbered(
+    sent: &mut [u64],
+    me: u8,
+    first: u32,
+    letter: Letter,
+    envelopes: &mut Vec<Envelope>,
+) -> Result<(), MailFault>
+    requires counts { AreCounts sent.old }
+    requires me { me < MOST_NODES }
+    requires to { letter.to < length sent.old }
+    ensures number { OnOk result (number_after first (slice_index sent.old letter.to) ≡ Some (first + slice_index sent.old letter.to)) }
+    ensures put { OnOk result (envelopes.new.items ≡ envelopes.old.items ++ envelope_of me (first + slice_index sent.old letter.to) letter ∷ []) }
+    ensures after { OnOk result (sent.new ≡ slice_set sent.old letter.to (slice_index sent.old letter.to + 1)) }
+    ensures worn { result ≡ Err Worn → number_after first (slice_index sent.old letter.to) ≡ None }
+    ensures counts { AreCounts sent.new }
+{
+    let Some(number) = next_number(sent, letter.to, first) else {
+        return Err(MailFault::Worn);
+    };
+    envelopes.push(Envelope {
+        from: me,
+        to: letter.to,
+        number,
+        message: letter.message,
+    })?;
+    Ok(())
 }

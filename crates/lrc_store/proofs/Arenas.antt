@@ -1,15 +1,16 @@
 -- The intervals with their notices, as they stand in two arenas.
 use Rattle.std.proofs.Common.{◌≡◌, ℕ, zero, suc, ◌+◌, ◌<◌, ◌≤◌, ◌∙◌, Bool, true, false, cond, List, [], ◌∷◌, ◌++◌, length, get_or, set, map, take}
-use Rattle.std.proofs.Common.{drop, refl, ap, sym, subst, arith}
+use Rattle.std.proofs.Common.{drop, refl, ap, sym, subst, arith, append_assoc, None}
 use Rattle.std.specs.List.{All, filter, flat_map}
 use Rattle.std.proofs.Math.Seq.{take-append_seam, drop-append_seam, take-length, take-set-lt}
 use Rattle.std.proofs.lemmas.List.{length-append, length-map, take-append-le, drop-append-le, take-append-drop, take-map, drop-map, take-set-le}
-use Rattle.std.proofs.lemmas.List.{drop-set-lt, drop-set-add, get_or-map, length-take-le, drop-drop, map-append, map-set}
+use Rattle.std.proofs.lemmas.List.{map_more, drop-set-lt, drop-set-add, get_or-map, length-take-le, drop-drop, map-append, map-set}
 use Rattle.std.proofs.lemmas.List.Concat.{flat_map-cons}
 use Rattle.std.proofs.lemmas.List.Elements.{All-cons, All-head, All-tail, filter-append}
+use Rattle.lrc_time.specs.Time.{weight_of}
 use Rattle.lrc_store.specs.declared.key.Key.{Key}
 use Rattle.lrc_store.specs.Arena.{NotedRecord, fresh_in, notice_in, rank_of, stored_from}
-use Rattle.lrc_store.specs.Interval.{IntervalRecord}
+use Rattle.lrc_store.specs.Interval.{IntervalRecord, index_of}
 use Rattle.lrc_store.specs.Links.{page_named, ranked, ranked_of, ranked_pages}
 use Rattle.lrc_store.specs.Lists.{keys_of}
 use Rattle.lrc_store.specs.Store.{NoticeRecord, StoredRecord, interval_of, key_of, unread, without_changes}
@@ -265,3 +266,24 @@ interval_of-stored intervals noted at i d within are =
     let inside : at < length (stored_from intervals noted) = omega (arith, within, length-stored intervals noted) in
     sym (get_or-map interval_of (stored_from intervals noted) at d i inside)
     ∙ ap (λ (l : List IntervalRecord). get_or l at i) (intervals_of-stored intervals noted are)
+
+-- one notice more of an interval, behind others
+pub noted-more : (before now after : List NotedRecord) (pages : List ℕ) (n : ℕ) (interval : IntervalRecord) (weight index node : ℕ)
+    → after ≡ now ++ record { weight = weight; key = record { node = node; index = index; page = get_or pages n 0 }; changes = None } ∷ []
+    → now ≡ before ++ map (fresh_in interval) (take n pages)
+    → weight ≡ weight_of interval.stamp → index ≡ index_of interval → node ≡ interval.node → n < length pages
+    → after ≡ before ++ map (fresh_in interval) (take (n + 1) pages)
+noted-more before now after pages n interval weight index node after_is now_is weight_is index_is node_is within =
+    let page = get_or pages n 0 in
+    let fresh : ℕ → ℕ → ℕ → NotedRecord =
+    λ w i m. record { weight = w; key = record { node = m; index = i; page = page }; changes = None } in
+    let done = map (fresh_in interval) (take n pages) in
+    let same : fresh weight index node ≡ fresh_in interval page =
+    ap (λ w. fresh w index node) weight_is
+    ∙ ap (λ i. fresh (weight_of interval.stamp) i node) index_is
+    ∙ ap (fresh (weight_of interval.stamp) (index_of interval)) node_is in
+    after_is
+    ∙ ap (λ (l : List NotedRecord). l ++ fresh weight index node ∷ []) now_is
+    ∙ append_assoc before done (fresh weight index node ∷ [])
+    ∙ ap (λ (l : List NotedRecord). before ++ l)
+    (ap (λ (x : NotedRecord). done ++ x ∷ []) same ∙ sym (map_more (fresh_in interval) pages n 0 within))

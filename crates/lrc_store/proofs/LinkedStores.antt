@@ -26,7 +26,7 @@ use Rattle.lrc_store.proofs.Walks.{IsKnownFirst}
 use Rattle.lrc_store.proofs.Filtered.{filter-flat_map}
 use Rattle.lrc_store.specs.Rows.{HasNoGaps}
 use Rattle.lrc_store.proofs.Rowed.{HasNoGaps-push, HasNoGaps-filter, places_from-filter}
-use Rattle.lrc_store.proofs.Starts.{count_of, AreStarts-push}
+use Rattle.lrc_store.proofs.Starts.{count_of, AreStarts-none, AreStarts-push}
 use Rattle.lrc_store.proofs.Stores.{IsStore-added, IsStore-attached, IsStore-discarded, intervals_of-added, intervals_of-attached, intervals_of-discarded}
 
 -- ---- how many notices there are
@@ -319,3 +319,45 @@ known_first store by_node by_page notices page since linked first = λ i j d les
     λ earlier_on later_on known.
     ap (knows_notice since) (sym a)
     ∙ kept i j d.1 less inside (ap (λ (k : Key). k.page) a ∙ earlier_on) (ap (λ (k : Key). k.page) b ∙ later_on) (ap (knows_notice since) b ∙ known)
+
+-- ---- links of a store that has nothing, and links that are the same
+
+pub IsLinkedUp-none : (by_node : NodesRecord) (by_page : ChainsRecord) (notices : List (ℕ × Key)) (store : StoreRecord)
+    → store.entries ≡ [] → notices ≡ [] → by_node.keys ≡ [] → by_node.lists ≡ length store.last → by_node.starts ≡ []
+    → by_page.keys ≡ [] → by_page.lists ≡ store.pages → IsLinkedUp store by_node by_page notices
+IsLinkedUp-none by_node by_page notices store entries none keys lists starts page_keys page_lists =
+    let intervals : intervals_of store ≡ [] = ap (map interval_of) entries in
+    record {
+      sound = record {
+        stamps = subst (All (λ i. length i.stamp ≡ length store.last)) (sym intervals) (λ k d within. absurd (omega (arith, within)));
+        pages = subst (All (λ i. All (λ page. page < store.pages) i.pages)) (sym intervals) (λ k d within. absurd (omega (arith, within)));
+        counted = subst (All (λ i. index_of i ≤ entry store.last i.node)) (sym intervals) (λ k d within. absurd (omega (arith, within)));
+        ascending =
+            subst (AllPairs (λ a b. a.node ≡ b.node → index_of a < index_of b)) (sym intervals)
+            (λ i j d before within. absurd (omega (arith, within)));
+      };
+      intervals = subst (All IsInterval) (sym intervals) (λ k d within. absurd (omega (arith, within)));
+      nodes = keys ∙ sym (ap (map (λ (i : IntervalRecord). i.node)) intervals);
+      node_lists = lists;
+      gapless = subst (HasNoGaps store.last) (sym intervals) tt;
+      starts = subst (AreStarts by_node.starts) (sym intervals) (subst (λ s. AreStarts s []) (sym starts) AreStarts-none);
+      noted = none ∙ sym (ap ranked_of intervals);
+      pages = page_keys ∙ sym (ap (map page_named) none);
+      page_lists = page_lists;
+    }
+
+pub IsLinkedUp-same : (by_node by_node' : NodesRecord) (by_page by_page' : ChainsRecord) (notices : List (ℕ × Key)) (store : StoreRecord)
+    → IsLinkedUp store by_node by_page notices → by_node'.keys ≡ by_node.keys → by_node'.lists ≡ by_node.lists
+    → by_node'.starts ≡ by_node.starts → by_page'.keys ≡ by_page.keys → by_page'.lists ≡ by_page.lists
+    → IsLinkedUp store by_node' by_page' notices
+IsLinkedUp-same by_node by_node' by_page by_page' notices store is keys lists starts page_keys page_lists = record {
+  sound = is.sound;
+  intervals = is.intervals;
+  nodes = keys ∙ is.nodes;
+  node_lists = lists ∙ is.node_lists;
+  gapless = is.gapless;
+  starts = subst (λ s. AreStarts s (intervals_of store)) (sym starts) is.starts;
+  noted = is.noted;
+  pages = page_keys ∙ is.pages;
+  page_lists = page_lists ∙ is.page_lists;
+}

@@ -1,6 +1,9 @@
-use Rattle.std.proofs.Common.{◌≡◌, ◌++◌, ◌∙◌, IsTrue, ap, arith, length, refl, sym, take, ◌+◌, List}
+use Rattle.std.proofs.Common.{◌≡◌, ◌++◌, ◌∙◌, IsTrue, ap, arith, length, refl, sym, take, ◌+◌, List, Option}
 use Rattle.std.specs.List.{filter}
+use Rattle.std.proofs.lemmas.List.{take_all}
 use Rattle.std.proofs.lemmas.List.Elements.{filter-append}
+use Rattle.std.proofs.lemmas.Result.{IfOk-from_err}
+use Rattle.lrc_barrier.specs.declared.arrival.Arrival.{Arrival}
 use Rattle.std.proofs.lemmas.List.Kept.{AllPairs-filter}
 use Rattle.lrc_store.specs.Interval.{IntervalRecord, by_node}
 use Rattle.lrc_barrier.specs.Barrier.{intervals_of, is_news, IsArrival}
@@ -46,3 +49,22 @@ from_ascending-requires c =
     rw c.loop-node.invariant.news
     (AllPairs-filter (λ (a b : IntervalRecord). IsTrue (by_node a b)) (is_news c.args.since.now)
     (intervals_of (all_with c.args.last.now (take c.loop-node.node c.args.kept.now))) c.loop-node.invariant.ascending)
+
+pub returns-in_err-news : goal.returns-in_err-news
+returns-in_err-news c = IfOk-from_err _ _ c.from_residual.ensures.0
+
+pub returns-in_err-add_news : goal.returns-in_err-add_news
+returns-in_err-add_news c = IfOk-from_err _ _ c.from_residual-in_err-add_news.ensures.0
+
+pub loop-node-init : goal.loop-node-init
+loop-node-init c = record {
+  news = c.in_ok-news.ensures.items;
+  ascending = λ i j d h within. absurd (omega (arith, within));
+  below = λ k d within. absurd (omega (arith, within));
+}
+
+pub returns : goal.returns
+returns c =
+    c.from_ascending.ensures ∙ c.loop-node.invariant.news
+    ∙ ap (λ (kept : List (Option Arrival)). filter (is_news c.args.since.now) (intervals_of (all_with c.args.last.now kept)))
+    (take_all c.loop-node.node c.args.kept.now (omega (arith, c.loop-node-test.false)))

@@ -3,6 +3,15 @@ use Rattle.lrc_page.specs.declared.TheConstants.{MOST_PAGES}
 use Rattle.lrc_page.proofs.PageLists.{IsPlaceOf, contains-insert, rising-insert, all-insert}
 use Rattle.lrc_page.proofs.pages.Pages.insert.Goals as goal
 
+pub place_of-place-requires : goal.place_of-place-requires
+place_of-place-requires c = record {
+  rising = rw c.as_slice.ensures c.self.invariant.0;
+  other = rw (c.as_slice.ensures, c.self.view_is) c.requires.other;
+}
+
+pub invariant_of-self : goal.invariant_of-self
+invariant_of-self c = rw c.in_err-insert.ensures.err c.self.invariant
+
 pub invariant_of-self-2 : goal.invariant_of-self-2
 invariant_of-self-2 c =
     let items = c.self.inside.list.items in

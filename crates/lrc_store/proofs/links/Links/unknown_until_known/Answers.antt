@@ -1,6 +1,8 @@
-use Rattle.std.proofs.Common.{◌<◌, ◌∙◌, ◌++◌, ◌∷◌, [], ℕ, false, Some, length, sym, ap}
+use Rattle.std.proofs.Common.{◌<◌, ◌∙◌, ◌++◌, ◌∷◌, [], ℕ, false, Option, Some, length, sym, subst, ap, arith}
+use Rattle.std.proofs.lemmas.Result.{IfOk-from_err}
 use Rattle.lrc_time.specs.Time.{knows}
 use Rattle.lrc_store.specs.declared.key.Key.{Key}
+use Rattle.lrc_store.proofs.Chained.{reach}
 use Rattle.lrc_store.proofs.Walks.{IsWalked, walk_starts, walk_at, walk_falls, walk_within, walk_goes_on, walk_stops, walk_ends}
 use Rattle.lrc_store.proofs.links.Links.unknown_until_known.Goals as goal
 use Rattle.lrc_store.proofs.links.Links.unknown_until_known.Goals.{In-Some}
@@ -44,3 +46,12 @@ loop-next-smaller c =
 pub returns : goal.returns
 returns c =
     walk_ends c.args.page c.args.since.now c.args.arena.now.notices _ c.loop-next.found.items _ c.in_default.is c.loop-next.invariant c.reverse.ensures.items
+
+pub returns-in_err-found : goal.returns-in_err-found
+returns-in_err-found c = IfOk-from_err _ _ c.from_residual.ensures.0
+
+pub returns-in_err-push : goal.returns-in_err-push
+returns-in_err-push c = IfOk-from_err _ _ c.from_residual-in_err-push.ensures.0
+
+pub loop-next-smaller-then-is_known : goal.loop-next-smaller-then-is_known
+loop-next-smaller-then-is_known c = subst (λ (next : Option ℕ). 0 < reach next) (sym c.in-Some.is) (omega arith)

@@ -1,8 +1,9 @@
 use Rattle.std.proofs.Common.{◌≡◌, ℕ, List, length, [], ◌∷◌, ◌++◌, set, sym, ap, ◌∙◌, subst}
 use Rattle.lrc_store.specs.Interval.{IntervalRecord, index_of}
-use Rattle.lrc_store.specs.Store.{StoreRecord, added, without_changes}
+use Rattle.lrc_store.specs.Arena.{ArenaRecord}
+use Rattle.lrc_store.specs.Store.{StoreRecord, StoredRecord, added, without_changes}
 use Rattle.lrc_store.specs.Links.{IsLinkedUp}
-use Rattle.lrc_store.proofs.LinkedStores.{IsLinkedUp-added}
+use Rattle.lrc_store.proofs.LinkedStores.{IsLinkedUp-added, IsLinkedUp-same}
 use Rattle.lrc_store.proofs.store.Store.add.Goals as goal
 use Rattle.lrc_store.proofs.store.Store.add.Goals.{After-raise}
 
@@ -57,3 +58,31 @@ invariant_of-self-2 c = linked c
 
 pub returns-clause-sound : goal.returns-clause-sound
 returns-clause-sound c = (linked (goal.at.returns-clause-sound c).After-raise).sound
+
+-- without memory
+
+pub invariant_of-self : goal.invariant_of-self
+invariant_of-self c =
+    let room = c.make_room.ensures in
+    IsLinkedUp-same c.self.inside.links.by_node c.make_room.new.self.by_node c.self.inside.links.by_page c.make_room.new.self.by_page
+    c.self.inside.arena.notices (record { pages = c.self.inside.pages; last = c.self.inside.last; entries = c.self.inside.arena.entries })
+    c.self.invariant room.node_keys room.node_lists room.node_starts room.page_keys room.page_lists
+
+pub invariant_of-self-in_err-push : goal.invariant_of-self-in_err-push
+invariant_of-self-in_err-push c =
+    let room = c.make_room.ensures in
+    subst (λ (a : ArenaRecord). IsLinkedUp (record { pages = c.self.inside.pages; last = c.self.inside.last; entries = a.entries })
+    c.make_room.new.self.by_node c.make_room.new.self.by_page a.notices) (sym c.in_err-push.ensures.err)
+    (IsLinkedUp-same c.self.inside.links.by_node c.make_room.new.self.by_node c.self.inside.links.by_page c.make_room.new.self.by_page
+    c.self.inside.arena.notices (record { pages = c.self.inside.pages; last = c.self.inside.last; entries = c.self.inside.arena.entries })
+    c.self.invariant room.node_keys room.node_lists room.node_starts room.page_keys room.page_lists)
+
+pub returns-clause-ok : goal.returns-clause-ok
+returns-clause-ok c =
+    let last = c.self.inside.last in
+    let make : List ℕ → List StoredRecord → StoreRecord =
+    λ last entries. record { pages = c.self.inside.pages; last = last; entries = entries } in
+    let a = (goal.at.returns-clause-ok c).After-raise in
+    ap (λ last. make last c.push.new.self.entries) (last_after a)
+    ∙ ap (make (set last c.args.interval.now.node (index_of c.args.interval.now))) (entries_after a)
+    ∙ ap (λ (s : StoreRecord). added s c.args.interval.now) c.self.view_is

@@ -1,0 +1,23 @@
+use Rattle.std.proofs.Common.{◌≡◌, ◌∙◌, ◌++◌, ◌∷◌, [], ℕ, List, ap, arith}
+use Rattle.std.specs.Prelude.{replicate}
+use Rattle.std.proofs.lemmas.List.{replicate_more}
+use Rattle.std.proofs.lemmas.Result.{IfOk-from_err}
+use Rattle.lrc_mail.proofs.mail.none_sent.Goals as goal
+
+pub returns-in_err-sent : goal.returns-in_err-sent
+returns-in_err-sent c = IfOk-from_err _ _ c.from_residual.ensures.0
+
+pub loop-init : goal.loop-init
+loop-init c = c.in_ok-sent.ensures.items
+
+pub returns-in_err-push : goal.returns-in_err-push
+returns-in_err-push c = IfOk-from_err _ _ c.from_residual-in_err-push.ensures.0
+
+pub loop-preserved : goal.loop-preserved
+loop-preserved c =
+    c.in_ok-push.ensures.items ∙ ap (λ (sent : List ℕ). sent ++ 0 ∷ []) c.loop.invariant ∙ replicate_more c.loop.counter 0
+
+pub returns : goal.returns
+returns c =
+    let all : c.loop.counter ≡ c.args.nodes = omega (arith, c.loop-test.false, c.loop.auto.counter-end) in
+    c.loop.invariant ∙ ap (λ n. replicate n 0) all
