@@ -3,7 +3,7 @@ use Rattle.std.proofs.Common.{◌≡◌, ◌++◌}
 use Rattle.std.proofs.lemmas.Result.{IfOk-from_err}
 use Rattle.std.specs.Prelude.{codes, decimal}
 use Rattle.lrc_text.specs.ActText.{act_text}
-use Rattle.lrc_text.proofs.Fronts.{begins_both, begins_still, ends_err, ends_ok, grown, told_err}
+use Rattle.lrc_text.proofs.Fronts.{begins_still, ends_err, ends_ok, grown, told_err}
 use Rattle.lrc_text.proofs.act.push_act_line.Goals as goal
 use Rattle.lrc_text.proofs.act.push_act_line.Goals.{After-extend_from_slice}
 
