@@ -8,7 +8,7 @@ pub begins_still : (old words now next : List ℕ) → now ≡ old ++ words → 
 begins_still old words now next is begins =
     record { rest = words ++ begins.rest; whole = begins.whole ∙ ap (λ l. l ++ begins.rest) is ∙ append_assoc old words begins.rest }
 
--- a text that a word and more were added to begins as the text before; so it does after more of them
+-- a text that words were added to begins as the text before; so it does after more of them
 pub begins_first : {old next : List ℕ} (a b : List ℕ) → next ≡ old ++ a ++ b → BeginsWith next old
 begins_first {old} a b is = record { rest = a ++ b; whole = is ∙ append_assoc old a b }
 
@@ -50,7 +50,7 @@ told_err (Err e) b = b
 -- a last word is added or refused
 pub ends_ok : {T E : Type 0} {now next : List ℕ} (r : Result T E) (old words last : List ℕ) → now ≡ old ++ words
     → next ≡ (if is_ok r then now ++ last else now) → OnOk r (next ≡ old ++ (words ++ last))
-ends_ok (Ok x) old words last was is = is ∙ ap (λ l. l ++ last) was ∙ append_assoc old words last
+ends_ok (Ok x) old words last was is = grown_by old words last was is
 ends_ok (Err e) old words last was is = tt
 
 pub ends_err : {T E : Type 0} {now next : List ℕ} (r : Result T E) (old words last : List ℕ) → now ≡ old ++ words
@@ -58,12 +58,8 @@ pub ends_err : {T E : Type 0} {now next : List ℕ} (r : Result T E) (old words 
 ends_err (Ok x) old words last was is = tt
 ends_err (Err e) old words last was is = record { rest = words; whole = is ∙ was }
 
--- what the last of several calls leaves, if it ends well or not
-pub last_ok : {T E : Type 0} {now : List ℕ} (r : Result T E) (old words a next : List ℕ) → now ≡ old ++ words → OnOk r (next ≡ now ++ a)
-    → OnOk r (next ≡ old ++ (words ++ a))
-last_ok (Ok x) old words a next was is = grown_by old words a was is
-last_ok (Err e) old words a next was is = tt
-
-pub last_err : {T E : Type 0} {old now : List ℕ} (r : Result T E) (next : List ℕ) → BeginsWith now old → OnErr r (BeginsWith next now) → OnErr r (BeginsWith next old)
+-- what the last of several calls leaves where it is refused
+pub last_err : {T E : Type 0} {old now : List ℕ} (r : Result T E) (next : List ℕ) → BeginsWith now old → OnErr r (BeginsWith next now)
+    → OnErr r (BeginsWith next old)
 last_err (Ok x) next before after = tt
 last_err (Err e) next before after = begins_both after before

@@ -22,7 +22,8 @@ returns-in_err-extend_from_slice c = record {
 node : (c : After-push_deed)
     → c.extend_from_slice.new.self.items ≡ c.args.text.now.items ++ (decimal c.args.act.node ++ codes " ")
 node c =
-    c.in_ok-extend_from_slice.ensures.items ∙ ap (λ l. l ++ codes " ") (grown_first c.args.text.now.items (codes "") _ _ c.in_ok-push_number.ensures.ok c.from.ensures)
+    c.in_ok-extend_from_slice.ensures.items ∙ ap (λ l. l ++ codes " ")
+    (grown_first c.args.text.now.items (codes "") _ _ c.in_ok-push_number.ensures.ok c.from.ensures)
     ∙ append_assoc c.args.text.now.items (decimal c.args.act.node) (codes " ")
 
 pub returns : goal.returns
