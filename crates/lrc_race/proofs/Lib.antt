@@ -8,3 +8,5 @@ pub mod Parts
 pub mod Found
 pub mod Agreement
 pub mod OfRuns
+pub mod Rises
+pub mod Segments

@@ -1,13 +1,9 @@
 -- What a refused end leaves: four parts were added before it.
-use Rattle.std.proofs.Common.{◌≡◌, ◌∙◌, ◌++◌, ℕ, List, ap, append_assoc}
+use Rattle.std.proofs.Common.{◌∙◌}
 use Rattle.std.proofs.lemmas.Result.{on_err_weaker}
 use Rattle.lrc_text.specs.Front.{BeginsWith}
-use Rattle.lrc_text.proofs.Fronts.{begins_still}
+use Rattle.lrc_text.proofs.Fronts.{begins_still, four}
 use Rattle.lrc_acts.proofs.judge_lines.push_unordered.Goals as goal
-
-four : (old a b c d : List ℕ) → old ++ a ++ b ++ c ++ d ≡ old ++ (a ++ b ++ c ++ d)
-four old a b c d =
-    ap (λ l. l ++ c ++ d) (append_assoc old a b) ∙ ap (λ l. l ++ d) (append_assoc old (a ++ b) c) ∙ append_assoc old (a ++ b ++ c) d
 
 pub returns-clause-err : goal.returns-clause-err
 returns-clause-err c =

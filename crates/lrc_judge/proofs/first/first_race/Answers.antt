@@ -1,6 +1,7 @@
 -- No position so far races with an earlier one; the first that does is the answer.
-use Rattle.std.proofs.Common.{inl, inr, subst, arith}
-use Rattle.std.proofs.lemmas.Bool.{cases_eq, false≢true}
+use Rattle.std.proofs.Common.{inl, inr, refl, subst, arith}
+use Rattle.std.proofs.lemmas.Bool.{cases_eq, cases_lt, false≢true}
+use Rattle.std.proofs.lemmas.Result.{IfOk-from_err}
 use Rattle.lrc_trace.specs.Conflict.{Races}
 use Rattle.lrc_judge.proofs.Touching.{AreTouched-none, Races-within}
 use Rattle.lrc_judge.proofs.first.first_race.Goals as goal
@@ -22,6 +23,28 @@ loop-position-preserved c = record {
         | inr before ↦ c.loop-position.invariant.none i j (omega arith) r
       ];
 }
+
+pub returns-in_err-past : goal.returns-in_err-past
+returns-in_err-past c = IfOk-from_err _ _ c.from_residual.ensures.0
+
+pub returns-in_err-note : goal.returns-in_err-note
+returns-in_err-note c = IfOk-from_err _ _ c.from_residual-in_err-note.ensures.0
+
+pub returns-in_err-note-2 : goal.returns-in_err-note-2
+returns-in_err-note-2 c = IfOk-from_err _ _ c.from_residual-in_err-note-2.ensures.0
+
+pub returns-then-races : goal.returns-then-races
+returns-then-races c =
+    let race = c.if-races.ensures.0 refl in
+    record {
+      with = race.0;
+      races = race.1;
+      least = λ i j r.
+          elim (cases_lt j c.loop-position.position) [
+            | inl before ↦ absurd (c.loop-position.invariant.none i j before r)
+            | inr not_before ↦ not_before
+          ];
+    }
 
 pub returns : goal.returns
 returns c = λ i j r.

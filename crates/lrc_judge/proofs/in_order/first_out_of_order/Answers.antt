@@ -1,11 +1,13 @@
 -- One position more, and the whole run.
-use Rattle.std.proofs.Common.{◌≡◌, inl, inr, subst, get_or, arith}
+use Rattle.std.proofs.Common.{◌≡◌, inl, inr, subst, sym, get_or, arith}
 use Rattle.std.proofs.lemmas.Bool.{cases_eq}
+use Rattle.std.proofs.lemmas.Result.{IfOk-from_err}
 use Rattle.lrc_trace.specs.declared.act.Act.{Act}
 use Rattle.lrc_trace.specs.declared.act.Deed.TheVariants.{Quiet, Read, Write}
 use Rattle.lrc_trace.specs.Run.{Does}
 use Rattle.lrc_trace.proofs.Positions.{Does-read, Does-deed, Does-one_deed, Does-within}
-use Rattle.lrc_judge.proofs.LastWritten.{IsMemory-same, IsMemory-next}
+use Rattle.lrc_judge.specs.InOrder.{IsLastWritten}
+use Rattle.lrc_judge.proofs.LastWritten.{IsMemory-none, IsMemory-same, IsMemory-next}
 use Rattle.lrc_judge.proofs.in_order.first_out_of_order.Goals as goal
 use Rattle.lrc_judge.proofs.in_order.first_out_of_order.Goals.{in-Read+else-value-last_written, in-Write+in_ok-insert-in-Write, in_default}
 
@@ -56,6 +58,30 @@ loop-position-preserved c =
             ];
       }
     ]
+
+pub loop-position-init : goal.loop-position-init
+loop-position-init c = record {
+  memory = IsMemory-none c.args.acts.now c.new-memory.result c.new-memory.ensures.empty;
+  reads = λ j word v lt. absurd (omega arith);
+}
+
+pub returns-in_err-insert-in-Write : goal.returns-in_err-insert-in-Write
+returns-in_err-insert-in-Write c = IfOk-from_err _ _ c.from_residual.ensures.0
+
+pub returns-then-value-last_written : goal.returns-then-value-last_written
+returns-then-value-last_written c =
+    let quiet : Act = record { node = 0; deed = Quiet } in
+    let run = c.args.acts.now in
+    let n = c.loop-position.position in
+    record {
+      word = c.in-Read.word;
+      value = c.in-Read.value;
+      read = ((get_or run n quiet).node, Does-deed c.in-Read.is (Does-read run n quiet c.loop-position-test.true));
+      written = subst (λ v. IsLastWritten run n c.in-Read.word v) (sym c.last_written-last_written.ensures)
+          (c.loop-position.invariant.memory c.in-Read.word);
+      apart = c.if-value-last_written.true;
+      earlier = c.loop-position.invariant.reads;
+    }
 
 pub returns : goal.returns
 returns c j word value r =
