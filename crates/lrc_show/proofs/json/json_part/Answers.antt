@@ -1,9 +1,11 @@
-use Rattle.std.proofs.Common.{◌≡◌, ◌∙◌, ◌<◌, ◌+◌, ◌++◌, [], ℕ, List, ap, ap₂, sym, subst, arith, get_or, length}
+use Rattle.std.proofs.Common.{◌≡◌, ◌∙◌, ◌<◌, ◌≤◌, ◌+◌, ◌++◌, [], ℕ, List, ap, ap₂, sym, subst, arith, get_or, length}
 use Rattle.std.specs.Prelude.{slice_index, slice_index_or}
-use Rattle.std.proofs.lemmas.List.{get_or_default}
+use Rattle.std.proofs.lemmas.List.{get_or_default, take_all}
+use Rattle.std.proofs.lemmas.Result.{IfOk-from_err}
 use Rattle.lrc_trace.specs.declared.act.Act.{Act}
 use Rattle.lrc_trace.specs.declared.act.Deed.TheVariants.{Quiet}
 use Rattle.lrc_trace.specs.Interval.{closes, interval_at}
+use Rattle.lrc_show.specs.Each.{each}
 use Rattle.lrc_show.specs.Json.{json_line}
 use Rattle.lrc_show.specs.Tally.{tallied}
 use Rattle.lrc_show.proofs.Each.{each_more}
@@ -52,3 +54,15 @@ loop-position-preserved c =
       closed = subst (λ (l : List ℕ). Tallies closes acts (n + 1) l) (sym counts_is)
           (tallies_next closes acts n no_act within counts c.of.ensures.in_range closed);
     }
+
+pub returns : goal.returns
+returns c =
+    let acts = c.args.acts.now in
+    let all : length acts ≤ c.loop-position.position = c.loop-position-test.false in
+    let of : ℕ → Act → List ℕ =
+    λ position act. json_line position act (slice_index c.args.lines.now position) (interval_at acts act.node position)
+    (slice_index_or c.args.times.now position []) in
+    c.loop-position.invariant.lines ∙ ap (each of) (take_all c.loop-position.position acts all)
+
+pub returns-in_err-push_json_line : goal.returns-in_err-push_json_line
+returns-in_err-push_json_line c = IfOk-from_err c.from_residual.result _ c.from_residual.ensures.0

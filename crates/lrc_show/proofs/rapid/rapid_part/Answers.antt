@@ -1,7 +1,9 @@
-use Rattle.std.proofs.Common.{◌∙◌, ◌<◌, ◌+◌, ◌++◌, ℕ, List, ap, ap₂, sym, subst, arith, get_or, length, take}
+use Rattle.std.proofs.Common.{◌∙◌, ◌<◌, ◌≤◌, ◌+◌, ◌++◌, ℕ, List, ap, ap₂, sym, subst, arith, get_or, length, take}
 use Rattle.std.specs.Prelude.{slice_index}
 use Rattle.std.specs.List.{flat_map}
+use Rattle.std.proofs.lemmas.List.{take_all}
 use Rattle.std.proofs.lemmas.List.Concat.{flat_map-append}
+use Rattle.std.proofs.lemmas.Result.{IfOk-from_err}
 use Rattle.lrc_trace.specs.declared.act.Act.{Act}
 use Rattle.lrc_trace.specs.declared.act.Deed.TheVariants.{Quiet}
 use Rattle.lrc_trace.specs.Run.{is_arrive, is_depart}
@@ -65,3 +67,15 @@ loop-position-preserved c =
       departed = subst (λ (l : List ℕ). Tallies is_depart acts (n + 1) l) (sym (c.note-in-loop-position.ensures ∙ ap (tallied departs act.node) c.leaves_barrier.ensures))
           (tallies_next is_depart acts n no_act within departs c.of-departed.ensures.in_range c.loop-position.invariant.departed);
     }
+
+pub returns : goal.returns
+returns c =
+    let acts = c.args.acts.now in
+    let n = c.loop-position.position in
+    let all : length acts ≤ n = c.loop-position-test.false in
+    let own : RapidStep → List ℕ = λ s. step_line (slice_index c.args.lines.now s.position) s in
+    let of : ℕ → Act → List RapidStep = λ position act. rapid_steps (meeting_at c.args.locks c.args.nodes acts act.node position) position act.node act.deed in
+    c.loop-position.invariant.lines ∙ ap (λ l. flat_map own (each of l)) (take_all n acts all)
+
+pub returns-in_err-push_steps : goal.returns-in_err-push_steps
+returns-in_err-push_steps c = IfOk-from_err c.from_residual.result _ c.from_residual.ensures.0

@@ -1,4 +1,4 @@
-use Rattle.std.proofs.Common.{◌∙◌, ap, append-nil, sym}
+use Rattle.std.proofs.Common.{◌≡◌, ◌∙◌, ◌+◌, ℕ, List, add-one, ap, ap₂, append-nil, drop, drop-cons, sym}
 use Rattle.std.specs.Prelude.{◌++◌, codes}
 use Rattle.std.specs.List.{flat_map}
 use Rattle.std.proofs.lemmas.List.{drop_all}
@@ -24,3 +24,21 @@ returns c =
     (paragraph_written room c.args.first.now rest (texts_of phrases) c.args.text.now.items c.extend_from_slice.new.self.items text c.push_end.new.text.items
     c.in_ok-extend_from_slice.ensures.items last)
     c.push_end.ensures
+
+pub loop-phrase-preserved : goal.loop-phrase-preserved
+loop-phrase-preserved c =
+    let room = c.args.room in
+    let phrases = c.args.phrases.now in
+    let i = c.loop-phrase.phrase-index in
+    let item = c.phrase-item.result in
+    let left : flat_map (pieces_of room) (texts_of (drop i phrases))
+    ≡ pieces_of room c.as_slice.result.now ++ flat_map (pieces_of room) (texts_of (drop (i + 1) phrases)) =
+    ap (λ l. flat_map (pieces_of room) (texts_of l)) (drop-cons phrases i item c.loop-phrase-test.true)
+    ∙ ap₂ (λ (words : List ℕ) (k : ℕ). pieces_of room words ++ flat_map (pieces_of room) (texts_of (drop k phrases)))
+    (ap (λ v. v.items) (sym c.phrase-item.is) ∙ sym c.as_slice.ensures.value) (sym (add-one i)) in
+    record {
+      text = c.in_ok-used.ensures.text (flat_map (pieces_of room) (texts_of (drop (i + 1) phrases)))
+          ∙ ap (λ l. c.loop-phrase.text.items ++ written room (codes "\n" ++ c.args.rest.now) c.loop-phrase.used l) (sym left)
+          ∙ c.loop-phrase.invariant.text;
+      short = c.in_ok-used.ensures.short;
+    }

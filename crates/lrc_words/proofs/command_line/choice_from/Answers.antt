@@ -1,10 +1,10 @@
-use Rattle.std.proofs.Common.{◌≡◌, ◌∙◌, List, Option, None, Some, IsSomeAnd, codes, inl, inr, refl}
+use Rattle.std.proofs.Common.{◌≡◌, ◌∙◌, List, Option, None, Some, IsSomeAnd, codes, inl, inr, refl, sym}
 use Rattle.std.proofs.lemmas.Result.{IfErr-weaker, IfOk-weaker}
 use Rattle.clap.specs.Words.{Row, Text, first_of, found_of, rows_of, subcommand_rows_of}
 use Rattle.clap.specs.declared.parser.matches.ArgMatches.TheViews.{out-ArgMatches}
 use Rattle.lrc_words.specs.CommandLine.{HasMisfit, HasShowMisfit, IsChoice}
 use Rattle.lrc_words.specs.declared.misfit.Misfit.{Misfit}
-use Rattle.lrc_words.proofs.FoundLemmas.{found_as, found_at, name_before}
+use Rattle.lrc_words.proofs.FoundLemmas.{found_as, found_at, name_before, check_rows, plain_rows, judge_rows, explore_rows, show_left}
 use Rattle.lrc_words.proofs.command_line.choice_from.Goals as goal
 
 -- what does not fit in a command that shows something of a run does not fit
@@ -12,6 +12,39 @@ shown : (found : Option (Text × List Row)) (misfit : Misfit) → IsSomeAnd foun
     → IsSomeAnd found (λ f. HasMisfit f misfit)
 shown None misfit has = absurd has
 shown (Some f) misfit has = inr (inr (inr has))
+
+pub text_of-requires : goal.text_of-requires
+text_of-requires c =
+    check_rows (subcommand_rows_of c.args.matches.now) (rows_of (found_of c.in-Some.options.now)) c.in-Some.ensures.rows c.requires
+    (name_before (out-ArgMatches c.args.matches.now).subcommand ∙ c.in-Some.ensures.found.0 refl)
+
+pub plain_choice-requires : goal.plain_choice-requires
+plain_choice-requires c =
+    plain_rows (subcommand_rows_of c.args.matches.now) (rows_of (found_of c.in-Some-subcommand_matches.options.now))
+    c.in-Some-subcommand_matches.ensures.rows c.requires
+    (name_before (out-ArgMatches c.args.matches.now).subcommand ∙ c.in-Some-subcommand_matches.ensures.found.0 refl)
+
+pub judge_choice-requires : goal.judge_choice-requires
+judge_choice-requires c =
+    judge_rows (subcommand_rows_of c.args.matches.now) (rows_of (found_of c.in-Some-subcommand_matches-2.options.now))
+    c.in-Some-subcommand_matches-2.ensures.rows c.requires
+    (name_before (out-ArgMatches c.args.matches.now).subcommand ∙ c.in-Some-subcommand_matches-2.ensures.found.0 refl)
+
+pub explore_choice-requires : goal.explore_choice-requires
+explore_choice-requires c =
+    explore_rows (subcommand_rows_of c.args.matches.now) (rows_of (found_of c.in-Some-subcommand_matches-3.options.now))
+    c.in-Some-subcommand_matches-3.ensures.rows c.requires
+    (name_before (out-ArgMatches c.args.matches.now).subcommand ∙ c.in-Some-subcommand_matches-3.ensures.found.0 refl)
+
+pub shown_from-requires : goal.shown_from-requires
+shown_from-requires c =
+    let known = name_before (out-ArgMatches c.args.matches.now).subcommand in
+    show_left (subcommand_rows_of c.args.matches.now) (λ e. c.in_default.ensures.found.1 (sym known ∙ e))
+    (λ e. c.in_default-subcommand_matches.ensures.found.1 (sym known ∙ e)) (λ e. c.in_default-subcommand_matches-2.ensures.found.1 (sym known ∙ e))
+    (λ e. c.in_default-subcommand_matches-3.ensures.found.1 (sym known ∙ e)) c.requires
+
+pub returns-clause-ok : goal.returns-clause-ok
+returns-clause-ok c = c.shown_from.ensures.ok
 
 pub returns-clause-err : goal.returns-clause-err
 returns-clause-err c = IfErr-weaker c.shown_from.result _ _ (λ misfit has. shown (subcommand_rows_of c.args.matches.now) misfit has) c.shown_from.ensures.err
