@@ -1,5 +1,5 @@
 -- Acts that compare equal are equal.
-use Rattle.std.proofs.Common.{◌≡◌, List, [], ◌∷◌, true, refl, ◌∙◌, ap}
+use Rattle.std.proofs.Common.{◌≡◌, List, [], ◌∷◌, true, false, refl, ◌∙◌, ap}
 use Rattle.std.specs.Prelude.{nat_eq}
 use Rattle.std.proofs.lemmas.Bool.{and_parts, eqb-true}
 use lib.Pointwise.{pointwise}
@@ -12,13 +12,16 @@ use Rattle.lrc_trace.specs.contracts.act.CausePartialEq.TheImpl.{eq-value as cau
 use Rattle.lrc_trace.specs.contracts.act.DeedPartialEq.TheImpl.{eq-value as deed_eq}
 use Rattle.lrc_trace.specs.contracts.act.ActPartialEq.TheImpl.{eq-value as act_eq}
 
+pub unlike : {A : Type 0} → false ≡ true → A
+unlike e = cc
+
 cause_same : (a b : Cause) → cause_eq.it a b ≡ true → a ≡ b
 cause_same DivisionByZero DivisionByZero e = refl
 cause_same WordOutOfRange WordOutOfRange e = refl
 cause_same LockOutOfRange LockOutOfRange e = refl
 cause_same LockHeld LockHeld e = refl
 cause_same LockNotHeld LockNotHeld e = refl
-cause_same _ _ e = cc
+cause_same _ _ e = unlike e
 
 deed_same : (a b : Deed) → deed_eq.it a b ≡ true → a ≡ b
 deed_same Quiet Quiet e = refl
@@ -35,7 +38,7 @@ deed_same Arrive Arrive e = refl
 deed_same Depart Depart e = refl
 deed_same (Trap v) (Trap w) e = ap Trap (cause_same v w e)
 deed_same End End e = refl
-deed_same _ _ e = cc
+deed_same _ _ e = unlike e
 
 act_same : (a b : Act) → act_eq.it a b ≡ true → a ≡ b
 act_same a b e =
