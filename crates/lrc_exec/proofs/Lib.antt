@@ -1,6 +1,7 @@
 pub mod Beginning
 pub mod Flat
 pub mod NextLaws
+pub mod PlainDeeds
 pub mod PlainLaws
 pub mod PlainParts
 pub mod Privates

@@ -1,7 +1,7 @@
 -- Acts that compare equal are equal.
-use Rattle.std.proofs.Common.{◌≡◌, List, [], ◌∷◌, true, refl, ◌∙◌, ap}
+use Rattle.std.proofs.Common.{◌≡◌, List, [], ◌∷◌, true, refl, sym, ◌∙◌, ap}
 use Rattle.std.specs.Prelude.{nat_eq}
-use Rattle.std.proofs.lemmas.Bool.{and_parts, eqb-true}
+use Rattle.std.proofs.lemmas.Bool.{and_parts, eqb-true, true≢false}
 use lib.Pointwise.{pointwise}
 use Rattle.lrc_trace.specs.declared.act.Act.{Act}
 use Rattle.lrc_trace.specs.declared.act.Cause.{Cause}
@@ -18,7 +18,7 @@ cause_same WordOutOfRange WordOutOfRange e = refl
 cause_same LockOutOfRange LockOutOfRange e = refl
 cause_same LockHeld LockHeld e = refl
 cause_same LockNotHeld LockNotHeld e = refl
-cause_same _ _ e = cc
+cause_same _ _ e = absurd (true≢false (sym e))
 
 deed_same : (a b : Deed) → deed_eq.it a b ≡ true → a ≡ b
 deed_same Quiet Quiet e = refl
@@ -35,7 +35,7 @@ deed_same Arrive Arrive e = refl
 deed_same Depart Depart e = refl
 deed_same (Trap v) (Trap w) e = ap Trap (cause_same v w e)
 deed_same End End e = refl
-deed_same _ _ e = cc
+deed_same _ _ e = absurd (true≢false (sym e))
 
 act_same : (a b : Act) → act_eq.it a b ≡ true → a ≡ b
 act_same a b e =

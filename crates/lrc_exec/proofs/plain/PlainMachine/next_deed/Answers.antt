@@ -1,84 +1,21 @@
 -- What a node can do is the deed of what its thread asks for.
 use Rattle.std.proofs.Common.{◌≡◌, ◌∙◌, ℕ, ◌<◌, ◌≤◌, Bool, true, false, Option, Some, None, length, get_or, refl, sym, ap, subst, arith, rules}
-use Rattle.std.specs.Prelude.{option_map, option_and_then, map, slice_index, if◌then◌else◌, not, is_some, IsSome}
+use Rattle.std.specs.Prelude.{map, slice_index, if◌then◌else◌, not, is_some, IsSome}
 use Rattle.std.proofs.lemmas.List.{get_or_past, length-map, get_or_read}
-use Rattle.lrc_trace.specs.declared.act.Deed.{Deed}
 use Rattle.lrc_trace.specs.declared.act.Deed.TheVariants as deeds
 use Rattle.lrc_exec.specs.declared.machine.Ask.{Ask}
 use Rattle.lrc_exec.specs.declared.machine.Ask.TheVariants.{Read, Acquire}
-use Rattle.lrc_exec.specs.declared.machine.Ask.TheVariants as asks
 use Rattle.lrc_exec.specs.declared.plain.Runner.{Runner}
 use Rattle.lrc_exec.specs.declared.plain.PlainMachine.TheInside.{Inside}
-use Rattle.lrc_exec.specs.Ask.{ask_of, deed_asked}
-use Rattle.lrc_exec.specs.Meaning.{Thread, Next, quiet, prints, reads, writes, acquires, releases, arrives, departs, traps, ends, next_of}
-use Rattle.lrc_exec.specs.Plain.{Plain, thread_in, nobody_holds, all_arrived, deed_done}
+use Rattle.lrc_exec.specs.Ask.{ask_of}
+use Rattle.lrc_exec.specs.Meaning.{next_of}
+use Rattle.lrc_exec.specs.Plain.{Plain, thread_in, nobody_holds, all_arrived}
 use Rattle.lrc_exec.specs.PlainCode.{runner_thread, plain_of, IsPlain}
-use Rattle.lrc_exec.proofs.NextLaws.{IsFine, next_of-fine}
+use Rattle.lrc_exec.proofs.NextLaws.{next_of-fine}
+use Rattle.lrc_exec.proofs.PlainDeeds.{acquire_no_read, deed_of, deed_now, if_first, deed_is, other_deed, asked_fits, same_lock}
 use Rattle.lrc_exec.proofs.PlainParts.{thread_in-inside}
 use Rattle.lrc_exec.proofs.plain.PlainMachine.next_deed.Goals as goal
 use Rattle.lrc_exec.proofs.plain.PlainMachine.next_deed.Goals.{in_default-via-in-Acquire+else-is_some, in_default-via-in_default}
-
--- what a node with this thread can do
-abbrev deed_of : Plain → ℕ → Option Thread → Option Deed
-deed_of machine node o = option_map (λ step. step.0) (option_and_then (λ thread. deed_done machine node (next_of thread)) o)
-
--- what is done where a thread asks for this
-abbrev deed_now : Plain → Ask → Option Deed
-deed_now machine (Read word) = Some (deeds.Read word (slice_index machine.memory word))
-deed_now machine (Acquire lock) = if nobody_holds machine lock then Some (deeds.Acquire lock) else None
-deed_now machine ask = Some (deed_asked 0 ask)
-
-if_first : (test : Bool) (deed : Deed) (after : Plain)
-    → option_map (λ (step : Deed × Plain). step.0) (if test then Some (deed, after) else None) ≡ (if test then Some deed else None)
-if_first true deed after = refl
-if_first false deed after = refl
-
-deed_is : (machine : Plain) (node : ℕ) (thread : Thread) (next : Next) → IsFine thread next → thread.arrived ≡ false
-    → option_map (λ step. step.0) (deed_done machine node next) ≡ deed_now machine (ask_of next)
-deed_is machine node thread (quiet after) fine stays = refl
-deed_is machine node thread (prints value after) fine stays = refl
-deed_is machine node thread (reads word after) fine stays = refl
-deed_is machine node thread (writes word value after) fine stays = refl
-deed_is machine node thread (acquires lock after) fine stays = if_first (nobody_holds machine lock) (deeds.Acquire lock) _
-deed_is machine node thread (releases lock after) fine stays = refl
-deed_is machine node thread (arrives after) fine stays = refl
-deed_is machine node thread (departs after) fine stays = cc
-deed_is machine node thread (traps cause) fine stays = refl
-deed_is machine node thread ends fine stays = refl
-
--- nothing but a word of the memory and a lock that another may hold depends on the machine
-other_deed : (machine : Plain) (ask : Ask) → ((word : ℕ) → ask ≡ Read word → ⊥) → ((lock : ℕ) → ask ≡ Acquire lock → nobody_holds machine lock ≡ true)
-    → Some (deed_asked 0 ask) ≡ deed_now machine ask
-other_deed machine asks.Quiet not_read free = refl
-other_deed machine (asks.Print value) not_read free = refl
-other_deed machine (Read word) not_read free = absurd (not_read word refl)
-other_deed machine (asks.Write word value) not_read free = refl
-other_deed machine (Acquire lock) not_read free = ap (λ b. if b then Some (deeds.Acquire lock) else None) (sym (free lock refl))
-other_deed machine (asks.Release lock) not_read free = refl
-other_deed machine asks.Barrier not_read free = refl
-other_deed machine (asks.Trap cause) not_read free = refl
-other_deed machine asks.End not_read free = refl
-
--- what is asked for is there
-abbrev Fits : Thread → Ask → Type 0
-Fits thread (Read word) = word < thread.setting.words
-Fits thread (Acquire lock) = lock < thread.setting.locks
-Fits thread ask = Unit {0}
-
-ask_fits : (thread : Thread) (next : Next) → IsFine thread next → Fits thread (ask_of next)
-ask_fits thread (quiet after) fine = tt
-ask_fits thread (prints value after) fine = tt
-ask_fits thread (reads word after) fine = fine.0
-ask_fits thread (writes word value after) fine = tt
-ask_fits thread (acquires lock after) fine = fine.0
-ask_fits thread (releases lock after) fine = tt
-ask_fits thread (arrives after) fine = tt
-ask_fits thread (departs after) fine = tt
-ask_fits thread (traps cause) fine = tt
-ask_fits thread ends fine = tt
-
-asked_fits : (thread : Thread) (ask : Ask) → ask ≡ ask_of (next_of thread) → Fits thread ask
-asked_fits thread ask asked = subst (Fits thread) (sym asked) (ask_fits thread (next_of thread) (next_of-fine thread))
 
 module _ (m : Inside) (machine : Plain) (node : ℕ) (view : plain_of m ≡ machine) where
   -- a node past the last has no thread
@@ -200,10 +137,10 @@ returns-in_default c =
     × ((lock : ℕ) → c.in_default.ask ≡ Acquire lock → nobody_holds c.args.self.now lock ≡ true)
     × (c.in_default.ask ≡ ask_of (next_of runner.machine)) = elim c.in_default.branch [
       | in_default-via-in-Acquire+else-is_some w ↦ (
-        λ word asked. cc,
+        λ word asked. acquire_no_read w.in-Acquire.lock word (sym w.ask-is ∙ asked),
         λ lock asked.
             let below = asked_fits runner.machine (Acquire w.in-Acquire.lock) w.in-Acquire.ensures.asked in
-            let same : w.in-Acquire.lock ≡ lock = cc in
+            let same = same_lock w.in-Acquire.lock lock (sym w.ask-is ∙ asked) in
             ap (nobody_holds c.args.self.now) (sym same)
             ∙ holder_is c.self.inside c.args.self.now c.args.node c.self.view_is w.in-Acquire.lock _
             (omega (arith, below, locks_known c.self.inside c.args.self.now c.args.node c.self.view_is runner within is c.self.invariant))

@@ -1,4 +1,5 @@
 use Rattle.std.proofs.Common.{◌∙◌, arith}
+use Rattle.std.proofs.lemmas.Result.{IfOk-from_err}
 use Rattle.lrc_explore.specs.States.{machine_begun, plain_at}
 use Rattle.lrc_explore.proofs.Counting.{step_counts}
 use Rattle.lrc_explore.proofs.Gathering.{count_grows, led_next, next_more}
@@ -40,3 +41,15 @@ loop-node-preserved c =
       next = next_more c.args.flat.now c.loop-node.self.states c.add.new.self.states c.args.key.now c.in_ok-after.after c.loop-node.node
           c.in-Some.deed e.widens i.next c.in_ok-after.ensures.made c.in_ok-after.ensures.notes e.has;
     }
+
+pub returns-in_err-after : goal.returns-in_err-after
+returns-in_err-after c =
+    let r = c.from_residual.result in
+    let e = c.from_residual.ensures.0 in
+    record { widens = IfOk-from_err r _ e; led = IfOk-from_err r _ e; same = c.loop-node.invariant.same; next = IfOk-from_err r _ e; }
+
+pub returns-in_err-add : goal.returns-in_err-add
+returns-in_err-add c =
+    let r = c.from_residual-in_err-add.result in
+    let e = c.from_residual-in_err-add.ensures.0 in
+    record { widens = IfOk-from_err r _ e; led = IfOk-from_err r _ e; same = c.add.ensures.same ∙ c.loop-node.invariant.same; next = IfOk-from_err r _ e; }

@@ -1,4 +1,5 @@
 use Rattle.std.proofs.Common.{◌≡◌, ◌∙◌, sym, subst, true, false}
+use Rattle.std.proofs.lemmas.Result.{IfOk-from_err}
 use Rattle.lrc_explore.specs.States.{machine_begun}
 use Rattle.lrc_explore.specs.Kept.{Grows}
 use Rattle.lrc_explore.specs.Outcome.{AreSound, EndsWith}
@@ -44,3 +45,21 @@ returns-else-is_still-clause-done c =
     let e = c.in_ok-expand.ensures in
     done_at c.args.flat.now c.args.self.now.states c.expand.new.self.states c.expand.new.self.outcomes.keys c.args.place key e.widens c.in_ok-key.ensures
     e.next (λ still. let t = c.is_still.ensures.1 still in let x : true ≡ false = sym t ∙ c.if-is_still.false in cc)
+
+pub returns-in_err-key : goal.returns-in_err-key
+returns-in_err-key c =
+    let r = c.from_residual.result in
+    let e = c.from_residual.ensures.0 in
+    record { widens = IfOk-from_err r _ e; led = IfOk-from_err r _ e; more = IfOk-from_err r _ e; sound = IfOk-from_err r _ e; done = IfOk-from_err r _ e; }
+
+pub returns-in_err-expand : goal.returns-in_err-expand
+returns-in_err-expand c =
+    let r = c.from_residual-in_err-expand.result in
+    let e = c.from_residual-in_err-expand.ensures.0 in
+    record { widens = IfOk-from_err r _ e; led = IfOk-from_err r _ e; more = IfOk-from_err r _ e; sound = IfOk-from_err r _ e; done = IfOk-from_err r _ e; }
+
+pub returns-in_err-insert_full : goal.returns-in_err-insert_full
+returns-in_err-insert_full c =
+    let r = c.from_residual-in_err-insert_full.result in
+    let e = c.from_residual-in_err-insert_full.ensures.0 in
+    record { widens = IfOk-from_err r _ e; led = IfOk-from_err r _ e; more = IfOk-from_err r _ e; sound = IfOk-from_err r _ e; done = IfOk-from_err r _ e; }

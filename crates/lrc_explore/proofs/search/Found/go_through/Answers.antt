@@ -1,7 +1,11 @@
-use Rattle.std.proofs.Common.{◌+◌, ◌<◌, ◌∙◌, sym, subst, arith}
+use Rattle.std.proofs.Common.{◌≡◌, ◌+◌, ◌<◌, ◌∙◌, sym, subst, arith}
+use Rattle.std.proofs.lemmas.Result.{IfOk-from_err}
+use Rattle.lrc_explore.specs.declared.search.ExploreFault.TheVariants.{BadNodes, NoMemory}
 use Rattle.lrc_explore.specs.Kept.{size}
+use Rattle.lrc_explore.specs.Limit.{IsExploreFault}
 use Rattle.lrc_explore.specs.Search.{IsVisit}
 use Rattle.lrc_explore.proofs.Exploring.{Going, going_stuck, going_past, gone_through}
+use Rattle.lrc_explore.proofs.Faults.{fault_up}
 use Rattle.lrc_explore.proofs.search.Found.go_through.Goals.{in-Stuck, in-Past}
 use Rattle.lrc_explore.proofs.search.Found.go_through.Goals as goal
 
@@ -44,3 +48,16 @@ returns-then-len-most-clause-faults c =
 
 pub returns-clause-fits : goal.returns-clause-fits
 returns-clause-fits c = c.loop-place.invariant.1 (omega (arith, c.loop-place-test.false, c.len.ensures.len))
+
+pub returns-in_err-p : goal.returns-in_err-p
+returns-in_err-p c =
+    let r = c.from_residual.result in
+    let e = c.from_residual.ensures in
+    record {
+      found = IfOk-from_err r _ e.0;
+      widens = IfOk-from_err r _ e.0;
+      end = IfOk-from_err r _ e.0;
+      fits = IfOk-from_err r _ e.0;
+      faults = fault_up r NoMemory (IsExploreFault c.args.flat.now c.args.self.now.states c.args.most) e.1 tt;
+      nodes = fault_up r NoMemory (λ f. f ≡ BadNodes → ⊥) e.1 (λ e. cc);
+    }

@@ -1,5 +1,6 @@
 use Rattle.std.proofs.Common.{◌≡◌, ◌∙◌, [], ◌∷◌, ◌++◌, ap, subst, append_assoc}
 use Rattle.std.specs.Prelude.{Some, None}
+use Rattle.std.proofs.lemmas.Result.{IfOk-from_err}
 use Rattle.lrc_explore.specs.declared.search.End.TheVariants.{Meeting, Through}
 use Rattle.lrc_explore.specs.Search.{IsEnd}
 use Rattle.lrc_explore.specs.Limit.{FitsEnd}
@@ -61,3 +62,27 @@ returns-in-Through-None-clause-fits c = λ program most start few free.
     let is : c.args.end ≡ Through None = c.in-Through-None.is ∙ ap Through none in
     let end : IsEnd flat states (Through None) = subst (IsEnd flat states) is c.requires.end in
     fits_in program flat states start most c.requires.found.full end.0 (subst (FitsEnd states most) is few)
+
+pub returns-in_err-order-in-Meeting : goal.returns-in_err-order-in-Meeting
+returns-in_err-order-in-Meeting c =
+    let r = c.from_residual.result in
+    let e = c.from_residual.ensures.0 in
+    record { verdict = λ program start. IfOk-from_err r _ e; fits = λ program most start few. IfOk-from_err r _ e; }
+
+pub returns-in_err-push-in-Meeting : goal.returns-in_err-push-in-Meeting
+returns-in_err-push-in-Meeting c =
+    let r = c.from_residual-in_err-push-in-Meeting.result in
+    let e = c.from_residual-in_err-push-in-Meeting.ensures.0 in
+    record { verdict = λ program start. IfOk-from_err r _ e; fits = λ program most start few. IfOk-from_err r _ e; }
+
+pub returns-in_err-push-in-Meeting-2 : goal.returns-in_err-push-in-Meeting-2
+returns-in_err-push-in-Meeting-2 c =
+    let r = c.from_residual-in_err-push-in-Meeting-2.result in
+    let e = c.from_residual-in_err-push-in-Meeting-2.ensures.0 in
+    record { verdict = λ program start. IfOk-from_err r _ e; fits = λ program most start few. IfOk-from_err r _ e; }
+
+pub returns-in_err-order-in-Through-Some : goal.returns-in_err-order-in-Through-Some
+returns-in_err-order-in-Through-Some c =
+    let r = c.from_residual-in_err-order-in-Through-Some.result in
+    let e = c.from_residual-in_err-order-in-Through-Some.ensures.0 in
+    record { verdict = λ program start. IfOk-from_err r _ e; fits = λ program most start few. IfOk-from_err r _ e; }

@@ -1,5 +1,6 @@
 -- What was seen at the state at a place.
 use Rattle.std.proofs.Common.{◌≡◌, ◌∙◌, refl, sym, true, false}
+use Rattle.std.proofs.lemmas.Result.{IfOk-from_err}
 use Rattle.lrc_explore.specs.States.{plain_at}
 use Rattle.lrc_explore.specs.Search.{Stands}
 use Rattle.lrc_explore.proofs.Searching.{stands_grown}
@@ -51,3 +52,15 @@ returns-clause-visit c =
       record { calm = c.in_default.ensures; after = c.in_ok-expand.ensures.after },
       λ stuck. let t = c.is_stuck.ensures.1 stuck in let x : true ≡ false = sym t ∙ c.if-is_stuck.false in cc,
     )
+
+pub returns-in_err-state : goal.returns-in_err-state
+returns-in_err-state c =
+    let r = c.from_residual.result in
+    let e = c.from_residual.ensures.0 in
+    record { found = IfOk-from_err r _ e; counted = IfOk-from_err r _ e; widens = IfOk-from_err r _ e; visit = IfOk-from_err r _ e; }
+
+pub returns-in_err-expand : goal.returns-in_err-expand
+returns-in_err-expand c =
+    let r = c.from_residual-in_err-expand.result in
+    let e = c.from_residual-in_err-expand.ensures.0 in
+    record { found = IfOk-from_err r _ e; counted = IfOk-from_err r _ e; widens = IfOk-from_err r _ e; visit = IfOk-from_err r _ e; }

@@ -9,7 +9,8 @@ use Rattle.lrc_exec.specs.Plain.{all_arrived, nobody_holds}
 use Rattle.lrc_exec.specs.Spots.{thread_at}
 use Rattle.lrc_explore.specs.declared.state.State.{State}
 use Rattle.lrc_explore.specs.States.{plain_at}
-use Rattle.lrc_explore.proofs.Deeds.{asked_fits, deed_of, default_deed, going_thread, if_first, no_thread, own_deed, placed_at, stopped_thread}
+use Rattle.lrc_exec.proofs.PlainDeeds.{acquire_no_read, asked_fits, deed_of, if_first, same_lock}
+use Rattle.lrc_explore.proofs.Deeds.{default_deed, going_thread, no_thread, own_deed, placed_at, stopped_thread}
 use Rattle.lrc_explore.proofs.state.State.next_deed.Goals as goal
 use Rattle.lrc_explore.proofs.state.State.next_deed.Goals.{in_default-via-in-Acquire+else-is_some, in_default-via-in_default}
 
@@ -17,12 +18,6 @@ holder_is : (flat : Flat) (state : State) (lock : ℕ) (holder : Option ℕ) →
     → holder ≡ get_or state.holders.items lock holder → (held : Bool) → held ≡ is_some holder → nobody_holds (plain_at flat state) lock ≡ not held
 holder_is flat state lock holder there is held known =
     ap (λ o. not (is_some o)) (sym (get_or_read state.holders.items lock holder there is None)) ∙ ap not (sym known)
-
-acquire_no_read : (lock word : ℕ) → Acquire lock ≡ Read word → ⊥
-acquire_no_read lock word e = absurd (cc)
-
-same_lock : (lock other : ℕ) → Acquire lock ≡ Acquire other → lock ≡ other
-same_lock lock other e = cc
 
 pub returns-in_err-spot : goal.returns-in_err-spot
 returns-in_err-spot c =
