@@ -19,7 +19,7 @@ loop-envelope-preserved c =
     let of = sent_text c.args.node in
     let before = flat_map of (take i out) in
     let more = ap (flat_map of) (take_more out i item c.loop-envelope-test.true) ∙ flat_map-append of (take i out) (get_or out i item ∷ [])
-        ∙ ap (λ l. before ++ l) (append-nil (of (get_or out i item)) ∙ ap of (sym c.envelope-item.is)) in
+    ∙ ap (λ l. before ++ l) (append-nil (of (get_or out i item)) ∙ ap of (sym c.envelope-item.is)) in
     and_then c.args.text.now.items before c.loop-envelope.text.items c.push_sent.new.text.items c.loop-envelope.invariant (of item)
     c.in_ok-push_sent.ensures.ok ∙ ap (λ l. c.args.text.now.items ++ l) (sym more)
 

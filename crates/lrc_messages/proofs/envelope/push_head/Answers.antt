@@ -19,7 +19,7 @@ returns c =
     let last = c.push_number-3.new.text.items in
     record {
       ok = number_ok text words_second second last second_is c.push_number-3.result c.args.way.now c.from-3.result c.args.other c.push_number-3.ensures.ok
-      c.from-3.ensures;
+          c.from-3.ensures;
       err = then_err text words_second second last second_is c.push_number-3.result c.push_number-3.ensures.err;
     }
 

@@ -16,7 +16,7 @@ returns c =
     let last = c.push_number-2.new.text.items in
     record {
       ok = number_ok text words_first first last first_is c.push_number-2.result (codes ".") c.from-2.result (index_of c.args.interval.now)
-      c.push_number-2.ensures.ok (c.from-2.ensures ∙ c.index.ensures.index);
+          c.push_number-2.ensures.ok (c.from-2.ensures ∙ c.index.ensures.index);
       err = then_err text words_first first last first_is c.push_number-2.result c.push_number-2.ensures.err;
     }
 

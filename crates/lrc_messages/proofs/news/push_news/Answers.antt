@@ -22,7 +22,7 @@ returns c =
     let last = c.push_intervals_or_dash.new.text.items in
     record {
       ok = then_ok text words_second second last second_is c.push_intervals_or_dash.result (separated_or_dash (codes " ") interval_text
-      c.args.news.now.intervals)
+          c.args.news.now.intervals)
           (subst (λ (m : NewsRecord). OnOk c.push_intervals_or_dash.result (last ≡ second ++ separated_or_dash (codes " ") interval_text m.intervals))
           c.news.view_is c.push_intervals_or_dash.ensures.ok);
       err = then_err text words_second second last second_is c.push_intervals_or_dash.result c.push_intervals_or_dash.ensures.err;
