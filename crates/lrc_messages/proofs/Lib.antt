@@ -1,3 +1,4 @@
 pub mod Joined
+pub mod Pushed
 pub mod Sizes
 pub mod Zeros

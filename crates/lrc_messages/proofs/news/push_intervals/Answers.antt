@@ -1,18 +1,34 @@
-use Rattle.std.proofs.Common.{rules}
+use Rattle.std.proofs.Common.{◌++◌, ◌<◌, ◌∙◌, ◌≤◌, ap, append-nil, subst, sym}
 use Rattle.std.specs.Prelude.{codes}
-use Rattle.lrc_text.specs.Front.{BeginsWith}
+use Rattle.std.proofs.lemmas.List.{take_all}
+use Rattle.std.proofs.lemmas.Result.{IfOk-from_err}
 use Rattle.lrc_text.proofs.Fronts.{begins_still}
+use Rattle.lrc_messages.specs.Lists.{separated}
 use Rattle.lrc_messages.specs.MessageText.{interval_text}
 use Rattle.lrc_messages.proofs.Joined.{joined_next}
+use Rattle.lrc_messages.proofs.Pushed.{err_is}
 use Rattle.lrc_messages.proofs.news.push_intervals.Goals as goal
+
+pub loop-place-init : goal.loop-place-init
+loop-place-init c = sym (append-nil c.args.text.now.items)
+
+pub returns-clause-ok : goal.returns-clause-ok
+returns-clause-ok c =
+    let all = subst (λ n. n ≤ c.loop-place.place) c.len-place-end.ensures.count c.loop-place-test.false in
+    c.loop-place.invariant ∙ ap (λ l. c.args.text.now.items ++ separated (codes " ") interval_text l) (take_all c.loop-place.place c.args.intervals.now all)
+
+pub at-requires : goal.at-requires
+at-requires c = subst (λ n. c.loop-place.place < n) c.len-place-end.ensures.count c.loop-place-test.true
 
 pub loop-place-preserved : goal.loop-place-preserved
 loop-place-preserved c =
     joined_next (codes " ") interval_text c.args.intervals.now c.loop-place.place c.at.result.now c.args.text.now.items
     c.loop-place.text.items c.push_interval.new.text.items c.at.ensures c.loop-place.invariant c.in_ok-push_interval.ensures.ok
 
+pub returns-in_err-push_interval-clause-ok : goal.returns-in_err-push_interval-clause-ok
+returns-in_err-push_interval-clause-ok c = IfOk-from_err c.from_residual.result _ c.from_residual.ensures.0
+
 pub returns-in_err-push_interval-clause-err : goal.returns-in_err-push_interval-clause-err
 returns-in_err-push_interval-clause-err c =
-    let begins : BeginsWith c.push_interval.new.text.items c.args.text.now.items =
-    begins_still c.args.text.now.items _ c.loop-place.text.items c.push_interval.new.text.items c.loop-place.invariant c.in_err-push_interval.ensures.err in
-    search rules
+    err_is c.from_residual.result
+    (begins_still c.args.text.now.items _ c.loop-place.text.items c.push_interval.new.text.items c.loop-place.invariant c.in_err-push_interval.ensures.err)
