@@ -132,5 +132,28 @@ passed_loop holds old items pushed s e v body inside todo holds_is old_is pushed
     ∙ sym (passed_pop holds old items s old_is ∙ ap (λ b. beyond b s.first.now s.lines.now (rest_of s items)) holds_is
     ∙ beyond_while_true s.first.now e v s.lines.now (rest_of s items) is)
 
--- whatever a statement is, where it leads
-pub ruleset passings = (passed_pop, todo_of_push, beyond_if_true, beyond_if_false, beyond_while_true, beyond_while_false, beyond_straight)
+-- a test that holds: its first block comes first
+pub passed_then : (holds : Bool) (old items left : List Stretch) (s : Stretch) (e : _) (v w : _) (body : List Statement) (inside : List ℕ) (todo : List Task) →
+    holds ≡ true → old ≡ items ++ s ∷ [] → todo_of left ≡ rest_of s items → s.first.now ≡ If e v w → body ≡ v.items → inside ≡ drop 1 s.lines.now →
+    todo ≡ tasks body inside ++ todo_of left → todo ≡ passed holds (todo_of old)
+passed_then holds old items left s e v w body inside todo holds_is old_is left_is is body_is inside_is todo_is =
+    todo_is ∙ ap (λ l. tasks l inside ++ todo_of left) body_is ∙ ap (λ l. tasks v.items l ++ todo_of left) inside_is
+    ∙ ap (λ l. tasks v.items (drop 1 s.lines.now) ++ l) left_is
+    ∙ sym (passed_pop holds old items s old_is ∙ ap (λ b. beyond b s.first.now s.lines.now (rest_of s items)) holds_is
+    ∙ beyond_if_true s.first.now e v w s.lines.now (rest_of s items) is)
+
+-- one that does not: its second block does
+pub passed_else : (holds : Bool) (old items left : List Stretch) (s : Stretch) (e : _) (v w : _) (first second : List Statement) (inside later : List ℕ)
+    (todo : List Task) → holds ≡ false → old ≡ items ++ s ∷ [] → todo_of left ≡ rest_of s items → s.first.now ≡ If e v w → first ≡ v.items → second ≡ w.items
+    → inside ≡ drop 1 s.lines.now → later ≡ behind_all first inside → todo ≡ tasks second later ++ todo_of left → todo ≡ passed holds (todo_of old)
+passed_else holds old items left s e v w first second inside later todo holds_is old_is left_is is first_is second_is inside_is later_is todo_is =
+    todo_is ∙ ap (λ l. tasks l later ++ todo_of left) second_is
+    ∙ ap (λ l. tasks w.items l ++ todo_of left) (later_is ∙ ap (λ l. behind_all l inside) first_is ∙ ap (behind_all v.items) inside_is)
+    ∙ ap (λ l. tasks w.items (behind_all v.items (drop 1 s.lines.now)) ++ l) left_is
+    ∙ sym (passed_pop holds old items s old_is ∙ ap (λ b. beyond b s.first.now s.lines.now (rest_of s items)) holds_is
+    ∙ beyond_if_false s.first.now e v w s.lines.now (rest_of s items) is)
+
+-- a loop whose condition does not hold, and what has no block, are left behind
+pub passed_over : (holds : Bool) (old items : List Stretch) (s : Stretch) (todo : List Task) → old ≡ items ++ s ∷ []
+    → beyond holds s.first.now s.lines.now (rest_of s items) ≡ rest_of s items → todo ≡ rest_of s items → todo ≡ passed holds (todo_of old)
+passed_over holds old items s todo old_is beyond_is todo_is = todo_is ∙ sym (passed_pop holds old items s old_is ∙ beyond_is)

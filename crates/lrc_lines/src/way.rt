@@ -34,7 +34,6 @@ fn tail(lines: &[u32]) -> &[u32]
 
 // The lines behind those of a statement.
 #[cycle(behind)]
-#[tactic(auto, using(crate::proofs::Passing::behind_if, crate::proofs::Passing::behind_while, crate::proofs::Passing::behind_straight))]
 fn behind<'l>(statement: &Statement, lines: &'l [u32]) -> &'l [u32]
     ensures { result.now ≡ behind statement.now lines.now }
 {
@@ -48,7 +47,6 @@ fn behind<'l>(statement: &Statement, lines: &'l [u32]) -> &'l [u32]
 
 // The lines behind those of statements.
 #[cycle(behind)]
-#[tactic(auto, using(crate::proofs::Passing::behind_all_more))]
 fn behind_all<'l>(statements: &[Statement], lines: &'l [u32]) -> &'l [u32]
     ensures { result.now ≡ fold (λ left s. behind s left) lines.now statements.now }
 {
@@ -106,7 +104,6 @@ impl<'c> Way<'c> {
 
     // What comes next is done, or its condition was evaluated. Passing needs room for one stretch at most, which is got before
     // anything changes.
-    #[tactic(auto, using(crate::proofs::Passing::passings))]
     pub(crate) fn pass(&mut self, holds: bool) -> Result<(), AllocError>
         ensures ok { OnOk result (todo_of self.new.stretches.items ≡ passed holds (todo_of self.old.stretches.items)) }
         ensures err { OnErr result (self.new.stretches.items ≡ self.old.stretches.items) }
