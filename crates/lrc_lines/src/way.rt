@@ -84,7 +84,6 @@ impl<'c> Way<'c> {
     }
 
     // These statements come first. Only where there is no room is memory asked for.
-    #[tactic(auto, using(crate::proofs::Passing::todo_of_push))]
     fn open(&mut self, statements: &'c [Statement], lines: &'c [u32]) -> Result<(), AllocError>
         ensures ok { OnOk result (todo_of self.new.stretches.items
             ≡ tasks statements.now lines.now ++ todo_of self.old.stretches.items) }
@@ -104,6 +103,7 @@ impl<'c> Way<'c> {
 
     // What comes next is done, or its condition was evaluated. Passing needs room for one stretch at most, which is got before
     // anything changes.
+    #[tactic(auto, using(crate::proofs::Passing::passings))]
     pub(crate) fn pass(&mut self, holds: bool) -> Result<(), AllocError>
         ensures ok { OnOk result (todo_of self.new.stretches.items ≡ passed holds (todo_of self.old.stretches.items)) }
         ensures err { OnErr result (self.new.stretches.items ≡ self.old.stretches.items) }

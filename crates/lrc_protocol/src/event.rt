@@ -1,7 +1,7 @@
 // What may happen next in a run.
 
 /// What may happen next in a run.
-#[derive(Clone, Copy, PartialEq, Eq)]
+#[derive(Clone, Copy, Debug, PartialEq, Eq)]
 pub enum Event {
     /// This node goes on. Skipped where no node has this number, or it is not ready.
     Run(u32),

@@ -21,7 +21,7 @@ use std::collections::VecDeque;
 use std::marker::Model;
 
 /// An event of a run that was not skipped, and the node whose turn it made.
-#[derive(Clone, Copy, PartialEq, Eq)]
+#[derive(Clone, Copy, Debug, PartialEq, Eq)]
 pub struct Turned {
     pub event: Event,
     pub node: u8,

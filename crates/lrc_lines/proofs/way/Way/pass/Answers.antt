@@ -3,7 +3,7 @@ use Rattle.std.proofs.Common.{rules, ◌≡◌, ◌∙◌, sym, ap, true, false,
 use Rattle.std.proofs.lemmas.Result.{on_err_weaker}
 use Rattle.lrc_lines.specs.Tasks.{beyond}
 use Rattle.lrc_lines.proofs.Following.{on_ok}
-use Rattle.lrc_lines.proofs.Passing.{passed_loop, passed_then, passed_else, passed_over, rest_of, beyond_straight, beyond_while_false}
+use Rattle.lrc_lines.proofs.Passing.{passed_loop, passed_then, passed_over, rest_of, beyond_straight, beyond_while_false}
 use Rattle.lrc_lines.proofs.way.Way.pass.Goals as goal
 
 pub returns-in_ok-push-in-While-clause-ok : goal.returns-in_ok-push-in-While-clause-ok
@@ -23,15 +23,6 @@ returns-then-holds-clause-ok c =
     c.in-If.field-0 c.in-If.first c.in-If.second c.deref.result.now c.tail-inside.result.now _ c.if-holds.true
     (sym c.in_ok-reserve.ensures.items ∙ c.in-Some.ensures.items) c.in_ok-leave-in-If.ensures.ok c.in-If.is c.deref.ensures.value c.tail-inside.ensures todo)
     c.open.ensures.ok
-
-pub returns-else-holds-clause-ok : goal.returns-else-holds-clause-ok
-returns-else-holds-clause-ok c =
-    on_ok c.open-else-holds.result
-    (λ todo. passed_else c.args.holds c.args.self.now.stretches.items c.pop.new.self.items c.leave.new.self.stretches.items c.in-Some.stretch
-    c.in-If.field-0 c.in-If.first c.in-If.second c.deref-else-holds-2.result.now c.deref-else-holds.result.now c.tail-inside.result.now
-    c.behind_all.result.now _ c.if-holds.false (sym c.in_ok-reserve.ensures.items ∙ c.in-Some.ensures.items) c.in_ok-leave-in-If.ensures.ok c.in-If.is
-    c.deref-else-holds-2.ensures.value c.deref-else-holds.ensures.value c.tail-inside.ensures c.behind_all.ensures todo)
-    c.open-else-holds.ensures.ok
 
 pub returns-then-not-holds-clause-ok : goal.returns-then-not-holds-clause-ok
 returns-then-not-holds-clause-ok c =
