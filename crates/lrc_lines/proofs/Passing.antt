@@ -1,5 +1,5 @@
 -- What is still to do once a statement is passed.
-use Rattle.std.proofs.Common.{◌≡◌, ℕ, suc, ◌+◌, ◌-◌, ◌<◌, Bool, true, false, List, [], ◌∷◌, ◌++◌, Some, None, refl, sym, ap, ◌∙◌, arith}
+use Rattle.std.proofs.Common.{◌≡◌, ℕ, suc, ◌+◌, ◌-◌, ◌<◌, ◌≤◌, Bool, true, false, List, [], ◌∷◌, ◌++◌, Some, None, refl, sym, ap, ◌∙◌, arith}
 use Rattle.std.proofs.Common.{get_or, take, length, drop, fold}
 use Rattle.std.specs.Prelude.{slice_get, slice_index_or}
 use Rattle.std.proofs.lemmas.List.{take_more}
@@ -61,6 +61,17 @@ behind_all_more all i d lines inside =
 -- where a stretch was pushed, its statements come first
 pub todo_of_push : (all items : List Stretch) (stretch : Stretch) → all ≡ items ++ stretch ∷ [] → todo_of all ≡ tasks_of stretch ++ todo_of items
 todo_of_push all items stretch is = ap todo_of is ∙ fold_append (λ outer s. tasks_of s ++ outer) [] items (stretch ∷ [])
+
+-- where a stretch of these statements was pushed, they come first
+pub todo_of_opened : (statements : List Statement) (lines : List ℕ) (all items : List Stretch) (s : Stretch) → 1 ≤ length statements
+    → s.first.now ≡ get_or statements 0 s.first.now → s.others.now ≡ drop 1 statements → s.lines.now ≡ lines → all ≡ items ++ s ∷ []
+    → todo_of all ≡ tasks statements lines ++ todo_of items
+todo_of_opened [] lines all items s some first_is others_is lines_is is = absurd (omega arith)
+todo_of_opened (x ∷ xs) lines all items s some first_is others_is lines_is is =
+    todo_of_push all items s is
+    ∙ ap (λ l. tasks (s.first.now ∷ s.others.now) l ++ todo_of items) lines_is
+    ∙ ap (λ first. tasks (first ∷ s.others.now) lines ++ todo_of items) first_is
+    ∙ ap (λ others. tasks (x ∷ others) lines ++ todo_of items) others_is
 
 -- the last stretch gives the line
 pub last_line : (end : ℕ) (outer : List Task) (items : List Stretch) (s : Stretch) → slice_get items (length items - 1) ≡ Some s →
@@ -131,6 +142,21 @@ passed_loop holds old items pushed s e v body inside todo holds_is old_is pushed
     ∙ ap (λ l. tasks v.items (drop 1 s.lines.now) ++ l) (todo_of_push pushed items s pushed_is)
     ∙ sym (passed_pop holds old items s old_is ∙ ap (λ b. beyond b s.first.now s.lines.now (rest_of s items)) holds_is
     ∙ beyond_while_true s.first.now e v s.lines.now (rest_of s items) is)
+
+-- a test that holds: its first block comes first
+pub passed_then : (holds : Bool) (old items left : List Stretch) (s : Stretch) (e : _) (v w : _) (body : List Statement) (inside : List ℕ) (todo : List Task) →
+    holds ≡ true → old ≡ items ++ s ∷ [] → todo_of left ≡ rest_of s items → s.first.now ≡ If e v w → body ≡ v.items → inside ≡ drop 1 s.lines.now →
+    todo ≡ tasks body inside ++ todo_of left → todo ≡ passed holds (todo_of old)
+passed_then holds old items left s e v w body inside todo holds_is old_is left_is is body_is inside_is todo_is =
+    todo_is ∙ ap (λ l. tasks l inside ++ todo_of left) body_is ∙ ap (λ l. tasks v.items l ++ todo_of left) inside_is
+    ∙ ap (λ l. tasks v.items (drop 1 s.lines.now) ++ l) left_is
+    ∙ sym (passed_pop holds old items s old_is ∙ ap (λ b. beyond b s.first.now s.lines.now (rest_of s items)) holds_is
+    ∙ beyond_if_true s.first.now e v w s.lines.now (rest_of s items) is)
+
+-- a loop whose condition does not hold, and what has no block, are left behind
+pub passed_over : (holds : Bool) (old items : List Stretch) (s : Stretch) (todo : List Task) → old ≡ items ++ s ∷ []
+    → beyond holds s.first.now s.lines.now (rest_of s items) ≡ rest_of s items → todo ≡ rest_of s items → todo ≡ passed holds (todo_of old)
+passed_over holds old items s todo old_is beyond_is todo_is = todo_is ∙ sym (passed_pop holds old items s old_is ∙ beyond_is)
 
 -- whatever a statement is, where it leads
 pub ruleset passings = (passed_pop, todo_of_push, beyond_if_true, beyond_if_false, beyond_while_true, beyond_while_false, beyond_straight)

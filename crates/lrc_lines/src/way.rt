@@ -34,7 +34,6 @@ fn tail(lines: &[u32]) -> &[u32]
 
 // The lines behind those of a statement.
 #[cycle(behind)]
-#[tactic(auto, using(crate::proofs::Passing::behind_if, crate::proofs::Passing::behind_while, crate::proofs::Passing::behind_straight))]
 fn behind<'l>(statement: &Statement, lines: &'l [u32]) -> &'l [u32]
     ensures { result.now ≡ behind statement.now lines.now }
 {
@@ -48,7 +47,6 @@ fn behind<'l>(statement: &Statement, lines: &'l [u32]) -> &'l [u32]
 
 // The lines behind those of statements.
 #[cycle(behind)]
-#[tactic(auto, using(crate::proofs::Passing::behind_all_more))]
 fn behind_all<'l>(statements: &[Statement], lines: &'l [u32]) -> &'l [u32]
     ensures { result.now ≡ fold (λ left s. behind s left) lines.now statements.now }
 {
@@ -86,7 +84,6 @@ impl<'c> Way<'c> {
     }
 
     // These statements come first. Only where there is no room is memory asked for.
-    #[tactic(auto, using(crate::proofs::Passing::todo_of_push))]
     fn open(&mut self, statements: &'c [Statement], lines: &'c [u32]) -> Result<(), AllocError>
         ensures ok { OnOk result (todo_of self.new.stretches.items
             ≡ tasks statements.now lines.now ++ todo_of self.old.stretches.items) }

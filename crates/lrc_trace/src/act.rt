@@ -16,7 +16,7 @@ pub enum Cause {
 }
 
 /// What a node does in one act.
-#[derive(Clone, Copy, Debug, PartialEq, Eq, Hash)]
+#[derive(Clone, Copy, PartialEq, Eq, Hash)]
 pub enum Deed {
     /// A step that only this node sees: an assignment, or a condition.
     Quiet,
@@ -41,7 +41,7 @@ pub enum Deed {
 }
 
 /// One act of one node. A run is a list of acts, and positions in it count from 0.
-#[derive(Clone, Copy, Debug, PartialEq, Eq, Hash)]
+#[derive(Clone, Copy, PartialEq, Eq, Hash)]
 pub struct Act {
     /// The node, 0 to 15.
     pub node: u8,

@@ -2,7 +2,7 @@
 
 /// Two accesses to one word, in no order, named by their nodes and intervals. The order of races is that of the
 /// fields.
-#[derive(Clone, Copy, Debug, PartialEq, Eq, PartialOrd, Ord, Hash)]
+#[derive(Clone, Copy, PartialEq, Eq, PartialOrd, Ord)]
 pub struct Race {
     /// The word of shared memory.
     pub word: u32,

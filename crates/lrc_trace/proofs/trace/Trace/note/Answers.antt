@@ -1,9 +1,11 @@
-use Rattle.std.proofs.Common.{ℕ, ◌≡◌, ◌≢◌, ◌∙◌, ◌<◌, ◌-◌, ◌++◌, ◌∷◌, [], List, length, get_or, set, ap, sym, subst, arith}
-use Rattle.std.proofs.lemmas.List.{get_or_default}
+use Rattle.std.proofs.Common.{ℕ, ◌≡◌, ◌≢◌, ◌∙◌, ◌<◌, ◌-◌, ◌++◌, ◌∷◌, [], List, Result, Ok, Err, length, get_or, set, ap, sym, refl, subst, arith}
+use Rattle.std.specs.Result.{OnErr}
+use Rattle.std.proofs.lemmas.List.{get_or_default, set-get_or}
+use Rattle.std.proofs.lemmas.Result.{IfOk-from_err}
 use Rattle.lrc_page.specs.declared.size.Size.{Size}
 use Rattle.lrc_trace.specs.Trace.{TraceRecord, MayNote, noted_in}
 use Rattle.lrc_trace.specs.declared.trace.Segment.{Segment}
-use Rattle.lrc_trace.specs.Segments.{opened, with_access, IsSegment}
+use Rattle.lrc_trace.specs.Segments.{opened, with_access, IsSegment, AreSegments}
 use Rattle.lrc_trace.proofs.SegmentLists.{interval-with_access, note-later, noted-fresh, noted-open}
 use Rattle.lrc_trace.proofs.SegmentLists.{segment-opened, segment-with_access, segments-push, segments-set}
 use Rattle.lrc_trace.proofs.trace.Trace.note.Goals as goal
@@ -50,6 +52,48 @@ returns-then-index-interval-clause-ok c =
     ∙ ap (λ n. set segments n c.add.new.self) (sym count) in
     rw (← c.self.view_is, ← c.page_of-page.ensures.page, ← c.offset_of-offset.ensures.offset)
     (ap (λ list. trace_of c.self.inside.node c.self.inside.size list) (sym noted_is))
+
+-- ---- in none: memory ran out
+
+on_err_known : {T E P : Type 0} (r : Result T E) → P → OnErr r P
+on_err_known (Ok x) known = tt
+on_err_known (Err e) known = known
+
+-- the last segment is written back as it was
+unchanged : (c : goal.After-from_residual)
+    → set c.self.inside.segments.items (c.len-count.result - 1) c.add.new.self ≡ c.self.inside.segments.items
+unchanged c =
+    let segments = c.self.inside.segments.items in
+    let last = c.len-count.result - 1 in
+    ap (λ (s : Segment). set segments last s) (c.in_err-add.ensures.err ∙ c.index_mut.ensures.value)
+    ∙ set-get_or segments last c.index_mut.result.now
+
+pub invariant_of-self : goal.invariant_of-self
+invariant_of-self c = subst (λ segments. AreSegments segments) (sym (unchanged c)) c.self.invariant
+
+pub returns-in_err-add-clause-ok : goal.returns-in_err-add-clause-ok
+returns-in_err-add-clause-ok c = IfOk-from_err c.from_residual.result _ c.from_residual.ensures.0
+
+pub returns-in_err-add-clause-err : goal.returns-in_err-add-clause-err
+returns-in_err-add-clause-err c =
+    on_err_known c.from_residual.result (ap (trace_of c.self.inside.node c.self.inside.size) (unchanged c) ∙ c.self.view_is)
+
+pub returns-in_err-add-2-clause-ok : goal.returns-in_err-add-2-clause-ok
+returns-in_err-add-2-clause-ok c = IfOk-from_err c.from_residual-in_err-add-2.result _ c.from_residual-in_err-add-2.ensures.0
+
+pub returns-in_err-add-2-clause-err : goal.returns-in_err-add-2-clause-err
+returns-in_err-add-2-clause-err c = on_err_known c.from_residual-in_err-add-2.result refl
+
+pub invariant_of-self-in_err-push : goal.invariant_of-self-in_err-push
+invariant_of-self-in_err-push c = subst (λ segments. AreSegments segments) (sym c.in_err-push.ensures.items) c.self.invariant
+
+pub returns-in_err-push-clause-ok : goal.returns-in_err-push-clause-ok
+returns-in_err-push-clause-ok c = IfOk-from_err c.from_residual-in_err-push.result _ c.from_residual-in_err-push.ensures.0
+
+pub returns-in_err-push-clause-err : goal.returns-in_err-push-clause-err
+returns-in_err-push-clause-err c =
+    on_err_known c.from_residual-in_err-push.result
+    (ap (trace_of c.self.inside.node c.self.inside.size) c.in_err-push.ensures.items ∙ c.self.view_is)
 
 -- ---- in one more
 
