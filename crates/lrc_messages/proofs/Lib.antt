@@ -1,4 +1,3 @@
 pub mod Joined
-pub mod Pushed
 pub mod Sizes
 pub mod Zeros

@@ -4,7 +4,7 @@ use Rattle.std.proofs.lemmas.Result.{IfOk-from_err}
 use Rattle.lrc_text.proofs.Fronts.{begins_still}
 use Rattle.lrc_messages.specs.Lists.{separated}
 use Rattle.lrc_messages.specs.MessageText.{change_text}
-use Rattle.lrc_messages.proofs.Pushed.{and_then, err_is, slice_err, slice_ok, unchanged}
+use Rattle.lrc_text.proofs.Pushed.{and_then, err_is, slice_err, slice_ok, unchanged}
 use Rattle.lrc_messages.proofs.changes.push_bracketed.Goals as goal
 
 pub returns : goal.returns

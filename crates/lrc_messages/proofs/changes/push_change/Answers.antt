@@ -3,7 +3,7 @@ use Rattle.std.specs.Prelude.{codes, decimal}
 use Rattle.std.proofs.lemmas.Result.{IfOk-from_err}
 use Rattle.lrc_text.proofs.Fronts.{begins_still}
 use Rattle.lrc_messages.specs.Lists.{before}
-use Rattle.lrc_messages.proofs.Pushed.{err_is, number_is, number_ok, then_err}
+use Rattle.lrc_text.proofs.Pushed.{err_is, number_is, number_ok, then_err}
 use Rattle.lrc_messages.proofs.changes.push_change.Goals as goal
 
 pub returns : goal.returns

@@ -5,7 +5,7 @@ use Rattle.lrc_text.proofs.Fronts.{begins_still}
 use Rattle.lrc_envelope.specs.Records.{IndexedChangesRecord}
 use Rattle.lrc_messages.specs.Lists.{before, separated}
 use Rattle.lrc_messages.specs.MessageText.{change_text}
-use Rattle.lrc_messages.proofs.Pushed.{bracketed_ok, err_is, number_is, then_err}
+use Rattle.lrc_text.proofs.Pushed.{bracketed_ok, err_is, number_is, then_err}
 use Rattle.lrc_messages.proofs.changes.push_part.Goals as goal
 
 pub returns : goal.returns

@@ -6,7 +6,7 @@ use Rattle.lrc_text.proofs.Fronts.{begins_still}
 use Rattle.lrc_messages.specs.Lists.{separated}
 use Rattle.lrc_messages.specs.MessageText.{part_text}
 use Rattle.lrc_messages.proofs.Joined.{joined_next}
-use Rattle.lrc_messages.proofs.Pushed.{err_is}
+use Rattle.lrc_text.proofs.Pushed.{err_is}
 use Rattle.lrc_messages.proofs.changes.push_parts.Goals as goal
 
 pub loop-place-init : goal.loop-place-init

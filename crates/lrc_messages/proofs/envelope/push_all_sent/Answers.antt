@@ -5,7 +5,7 @@ use Rattle.std.proofs.lemmas.List.Concat.{flat_map-append}
 use Rattle.std.proofs.lemmas.Result.{IfOk-from_err}
 use Rattle.lrc_text.proofs.Fronts.{begins_still}
 use Rattle.lrc_messages.specs.TurnText.{sent_text, sent_texts}
-use Rattle.lrc_messages.proofs.Pushed.{and_then, err_is}
+use Rattle.lrc_text.proofs.Pushed.{and_then, err_is}
 use Rattle.lrc_messages.proofs.envelope.push_all_sent.Goals as goal
 
 pub loop-envelope-init : goal.loop-envelope-init

@@ -3,7 +3,7 @@ use Rattle.std.specs.Prelude.{codes}
 use Rattle.std.proofs.lemmas.Result.{IfOk-from_err}
 use Rattle.lrc_text.proofs.Fronts.{begins_still}
 use Rattle.lrc_messages.specs.TurnText.{size_text}
-use Rattle.lrc_messages.proofs.Pushed.{and_then, err_is, slice_err, slice_ok, unchanged}
+use Rattle.lrc_text.proofs.Pushed.{and_then, err_is, slice_err, slice_ok, unchanged}
 use Rattle.lrc_messages.proofs.envelope.push_bytes.Goals as goal
 
 pub returns : goal.returns

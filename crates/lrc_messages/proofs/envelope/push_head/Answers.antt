@@ -2,7 +2,7 @@ use Rattle.std.proofs.Common.{◌≡◌, ◌++◌, ℕ, List}
 use Rattle.std.specs.Prelude.{codes, decimal}
 use Rattle.std.proofs.lemmas.Result.{IfOk-from_err}
 use Rattle.lrc_text.proofs.Fronts.{begins_still}
-use Rattle.lrc_messages.proofs.Pushed.{and_number, err_is, number_is, number_ok, then_err}
+use Rattle.lrc_text.proofs.Pushed.{and_number, err_is, number_is, number_ok, then_err}
 use Rattle.lrc_messages.proofs.envelope.push_head.Goals as goal
 
 pub returns : goal.returns

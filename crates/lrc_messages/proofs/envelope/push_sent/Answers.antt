@@ -5,7 +5,7 @@ use Rattle.lrc_text.proofs.Fronts.{begins_still}
 use Rattle.lrc_envelope.specs.Envelope.{EnvelopeRecord}
 use Rattle.lrc_messages.specs.MessageText.{message_text}
 use Rattle.lrc_messages.specs.TurnText.{size_text}
-use Rattle.lrc_messages.proofs.Pushed.{and_then, err_is, slice_err, slice_ok}
+use Rattle.lrc_text.proofs.Pushed.{and_then, err_is, slice_err, slice_ok}
 use Rattle.lrc_messages.proofs.envelope.push_sent.Goals as goal
 
 with_size : (head size : List ℕ) → head ++ (codes ", " ++ size ++ codes " bytes: ") ≡ head ++ codes ", " ++ size ++ codes " bytes: "

@@ -6,7 +6,7 @@ use Rattle.lrc_wire.specs.declared.kind.Kind.TheVariants as kinds
 use Rattle.lrc_envelope.specs.Records.{ChangesReplyRecord}
 use Rattle.lrc_messages.specs.Lists.{separated}
 use Rattle.lrc_messages.specs.MessageText.{named, part_text}
-use Rattle.lrc_messages.proofs.Pushed.{and_then, err_is, then_err, then_ok, unchanged}
+use Rattle.lrc_text.proofs.Pushed.{and_then, err_is, then_err, then_ok, unchanged}
 use Rattle.lrc_messages.proofs.message.push_changes_reply.Goals as goal
 
 pub returns : goal.returns

@@ -6,7 +6,7 @@ use Rattle.lrc_wire.specs.declared.kind.Kind.TheVariants as kinds
 use Rattle.lrc_show.specs.Json.{with_commas}
 use Rattle.lrc_envelope.specs.Records.{ChangesRequestRecord}
 use Rattle.lrc_messages.specs.MessageText.{named}
-use Rattle.lrc_messages.proofs.Pushed.{and_then, err_is, then_err, then_ok, unchanged}
+use Rattle.lrc_text.proofs.Pushed.{and_then, err_is, then_err, then_ok, unchanged}
 use Rattle.lrc_messages.proofs.message.push_changes_request.Goals as goal
 
 pub returns : goal.returns

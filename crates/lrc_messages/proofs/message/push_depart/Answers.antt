@@ -5,7 +5,7 @@ use Rattle.lrc_text.proofs.Fronts.{begins_still}
 use Rattle.lrc_wire.specs.declared.kind.Kind.TheVariants as kinds
 use Rattle.lrc_envelope.specs.Records.{DepartRecord}
 use Rattle.lrc_messages.specs.MessageText.{collect_text, named, news_text}
-use Rattle.lrc_messages.proofs.Pushed.{and_then, err_is, then_err, then_ok}
+use Rattle.lrc_text.proofs.Pushed.{and_then, err_is, then_err, then_ok}
 use Rattle.lrc_messages.proofs.message.push_depart.Goals as goal
 
 pub returns : goal.returns

@@ -4,7 +4,7 @@ use Rattle.std.proofs.lemmas.Result.{IfOk-from_err}
 use Rattle.lrc_wire.specs.declared.kind.Kind.TheVariants as kinds
 use Rattle.lrc_envelope.specs.Records.{LockGrantRecord}
 use Rattle.lrc_messages.specs.MessageText.{named, news_text}
-use Rattle.lrc_messages.proofs.Pushed.{err_is, then_err, then_ok}
+use Rattle.lrc_text.proofs.Pushed.{err_is, then_err, then_ok}
 use Rattle.lrc_messages.proofs.message.push_lock_grant.Goals as goal
 
 pub returns : goal.returns

@@ -6,7 +6,7 @@ use Rattle.lrc_wire.specs.declared.kind.Kind.TheVariants as kinds
 use Rattle.lrc_envelope.specs.Records.{PageReplyRecord}
 use Rattle.lrc_messages.specs.Lists.{separated_or_dash}
 use Rattle.lrc_messages.specs.MessageText.{change_text, named, nonzero_words}
-use Rattle.lrc_messages.proofs.Pushed.{and_then, err_is, then_err, then_ok, unchanged}
+use Rattle.lrc_text.proofs.Pushed.{and_then, err_is, then_err, then_ok, unchanged}
 use Rattle.lrc_messages.proofs.message.push_page_reply.Goals as goal
 
 pub returns : goal.returns

@@ -5,7 +5,7 @@ use Rattle.lrc_text.proofs.Fronts.{begins_still}
 use Rattle.lrc_show.specs.Json.{with_commas}
 use Rattle.lrc_store.specs.Interval.{IntervalRecord, index_of}
 use Rattle.lrc_messages.specs.Lists.{before}
-use Rattle.lrc_messages.proofs.Pushed.{bracketed_ok, err_is, then_err}
+use Rattle.lrc_text.proofs.Pushed.{bracketed_ok, err_is, then_err}
 use Rattle.lrc_messages.proofs.news.push_interval.Goals as goal
 
 pub returns : goal.returns

@@ -2,7 +2,7 @@ use Rattle.std.proofs.Common.{◌≡◌, ◌∙◌, ◌++◌, ℕ, List, [], ap}
 use Rattle.std.specs.Prelude.{codes, decimal}
 use Rattle.std.proofs.lemmas.Result.{IfOk-from_err}
 use Rattle.lrc_store.specs.Interval.{IntervalRecord, index_of}
-use Rattle.lrc_messages.proofs.Pushed.{err_is, number_is, number_ok, then_err}
+use Rattle.lrc_text.proofs.Pushed.{err_is, number_is, number_ok, then_err}
 use Rattle.lrc_messages.proofs.news.push_interval_name.Goals as goal
 
 pub returns : goal.returns

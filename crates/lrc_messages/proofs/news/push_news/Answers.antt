@@ -5,7 +5,7 @@ use Rattle.lrc_text.proofs.Fronts.{begins_still}
 use Rattle.lrc_envelope.specs.Records.{NewsRecord}
 use Rattle.lrc_messages.specs.Lists.{separated_or_dash}
 use Rattle.lrc_messages.specs.MessageText.{interval_text, time_text}
-use Rattle.lrc_messages.proofs.Pushed.{and_then, err_is, then_err, then_ok, unchanged}
+use Rattle.lrc_text.proofs.Pushed.{and_then, err_is, then_err, then_ok, unchanged}
 use Rattle.lrc_messages.proofs.news.push_news.Goals as goal
 
 pub returns : goal.returns

@@ -1,9 +1,9 @@
 -- What a text holds where more is added behind what was added before.
-use Rattle.std.proofs.Common.{◌≡◌, ◌∙◌, ◌++◌, ℕ, List, [], ap, append-nil, append_assoc, sym}
+use Rattle.std.proofs.Common.{◌≡◌, ◌∙◌, ◌++◌, ℕ, List, [], ap, append-nil, sym}
 use Rattle.std.specs.Prelude.{Err, Ok, OnErr, OnOk, Result, codes, cond, decimal, is_ok}
 use Rattle.std.proofs.lemmas.Result.{on_err_weaker, on_ok_weaker}
 use Rattle.lrc_text.specs.Front.{BeginsWith}
-use Rattle.lrc_text.proofs.Fronts.{begins_still}
+use Rattle.lrc_text.proofs.Fronts.{begins_still, grown, grown_by, grown_first, three}
 
 -- what holds in any case holds of an error
 pub err_is : {R E P : Type 0} (result : Result R E) → P → OnErr result P
@@ -26,14 +26,14 @@ extended_err (Err fault) now more next is = unchanged now next is
 
 -- a word and a number behind a text
 pub number_is : (old word next : List ℕ) (m n : ℕ) → next ≡ old ++ word ++ decimal m → m ≡ n → next ≡ old ++ (word ++ decimal n)
-number_is old word next m n last same = last ∙ ap (λ k. old ++ word ++ decimal k) same ∙ append_assoc old word (decimal n)
+number_is old word next m n last same = grown_first old word m n last same
 
 in_brackets : (name inner : List ℕ) → name ++ (codes "[" ++ inner ++ codes "]") ≡ name ++ codes "[" ++ inner ++ codes "]"
-in_brackets name inner = sym (append_assoc (name ++ codes "[") inner (codes "]") ∙ append_assoc name (codes "[") (inner ++ codes "]"))
+in_brackets name inner = sym (three name (codes "[") inner (codes "]"))
 
 module _ (old words now next : List ℕ) (is : now ≡ old ++ words) where
   pub and_then : (more : List ℕ) → next ≡ now ++ more → next ≡ old ++ (words ++ more)
-  and_then more last = last ∙ ap (λ l. l ++ more) is ∙ append_assoc old words more
+  and_then more last = grown_by old words more is last
 
   pub then_ok : {R E : Type 0} (result : Result R E) (more : List ℕ) → OnOk result (next ≡ now ++ more) → OnOk result (next ≡ old ++ (words ++ more))
   then_ok result more last = on_ok_weaker result (and_then more) last
@@ -42,9 +42,7 @@ module _ (old words now next : List ℕ) (is : now ≡ old ++ words) where
   then_err result last = on_err_weaker result (begins_still old words now next is) last
 
   pub and_number : (word : List ℕ) (m n : ℕ) → next ≡ now ++ word ++ decimal m → m ≡ n → next ≡ old ++ (words ++ word ++ decimal n)
-  and_number word m n last same =
-      number_is now word next m n last same ∙ ap (λ l. l ++ (word ++ decimal n)) is ∙ append_assoc old words (word ++ decimal n)
-      ∙ ap (λ l. old ++ l) (sym (append_assoc words word (decimal n)))
+  and_number word m n last same = grown old words word m n is last same
 
   pub number_ok : {R E : Type 0} (result : Result R E) (word : List ℕ) (m n : ℕ) → OnOk result (next ≡ now ++ word ++ decimal m) → m ≡ n
       → OnOk result (next ≡ old ++ (words ++ word ++ decimal n))
