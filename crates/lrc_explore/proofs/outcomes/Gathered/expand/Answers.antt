@@ -46,10 +46,10 @@ pub returns-in_err-after : goal.returns-in_err-after
 returns-in_err-after c =
     let r = c.from_residual.result in
     let e = c.from_residual.ensures.0 in
-    record { widens = IfOk-from_err r _ e; led = IfOk-from_err r _ e; same = c.loop-node.invariant.same; next = IfOk-from_err r _ e; }
+    record { widens = IfOk-from_err r _ e; led = IfOk-from_err r _ e; same = c.loop-node.invariant.same; next = IfOk-from_err r _ e }
 
 pub returns-in_err-add : goal.returns-in_err-add
 returns-in_err-add c =
     let r = c.from_residual-in_err-add.result in
     let e = c.from_residual-in_err-add.ensures.0 in
-    record { widens = IfOk-from_err r _ e; led = IfOk-from_err r _ e; same = c.add.ensures.same ∙ c.loop-node.invariant.same; next = IfOk-from_err r _ e; }
+    record { widens = IfOk-from_err r _ e; led = IfOk-from_err r _ e; same = c.add.ensures.same ∙ c.loop-node.invariant.same; next = IfOk-from_err r _ e }

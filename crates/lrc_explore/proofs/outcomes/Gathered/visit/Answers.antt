@@ -50,16 +50,16 @@ pub returns-in_err-key : goal.returns-in_err-key
 returns-in_err-key c =
     let r = c.from_residual.result in
     let e = c.from_residual.ensures.0 in
-    record { widens = IfOk-from_err r _ e; led = IfOk-from_err r _ e; more = IfOk-from_err r _ e; sound = IfOk-from_err r _ e; done = IfOk-from_err r _ e; }
+    record { widens = IfOk-from_err r _ e; led = IfOk-from_err r _ e; more = IfOk-from_err r _ e; sound = IfOk-from_err r _ e; done = IfOk-from_err r _ e }
 
 pub returns-in_err-expand : goal.returns-in_err-expand
 returns-in_err-expand c =
     let r = c.from_residual-in_err-expand.result in
     let e = c.from_residual-in_err-expand.ensures.0 in
-    record { widens = IfOk-from_err r _ e; led = IfOk-from_err r _ e; more = IfOk-from_err r _ e; sound = IfOk-from_err r _ e; done = IfOk-from_err r _ e; }
+    record { widens = IfOk-from_err r _ e; led = IfOk-from_err r _ e; more = IfOk-from_err r _ e; sound = IfOk-from_err r _ e; done = IfOk-from_err r _ e }
 
 pub returns-in_err-insert_full : goal.returns-in_err-insert_full
 returns-in_err-insert_full c =
     let r = c.from_residual-in_err-insert_full.result in
     let e = c.from_residual-in_err-insert_full.ensures.0 in
-    record { widens = IfOk-from_err r _ e; led = IfOk-from_err r _ e; more = IfOk-from_err r _ e; sound = IfOk-from_err r _ e; done = IfOk-from_err r _ e; }
+    record { widens = IfOk-from_err r _ e; led = IfOk-from_err r _ e; more = IfOk-from_err r _ e; sound = IfOk-from_err r _ e; done = IfOk-from_err r _ e }

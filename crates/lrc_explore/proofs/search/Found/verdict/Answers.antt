@@ -67,22 +67,22 @@ pub returns-in_err-order-in-Meeting : goal.returns-in_err-order-in-Meeting
 returns-in_err-order-in-Meeting c =
     let r = c.from_residual.result in
     let e = c.from_residual.ensures.0 in
-    record { verdict = λ program start. IfOk-from_err r _ e; fits = λ program most start few. IfOk-from_err r _ e; }
+    record { verdict = λ program start. IfOk-from_err r _ e; fits = λ program most start few. IfOk-from_err r _ e }
 
 pub returns-in_err-push-in-Meeting : goal.returns-in_err-push-in-Meeting
 returns-in_err-push-in-Meeting c =
     let r = c.from_residual-in_err-push-in-Meeting.result in
     let e = c.from_residual-in_err-push-in-Meeting.ensures.0 in
-    record { verdict = λ program start. IfOk-from_err r _ e; fits = λ program most start few. IfOk-from_err r _ e; }
+    record { verdict = λ program start. IfOk-from_err r _ e; fits = λ program most start few. IfOk-from_err r _ e }
 
 pub returns-in_err-push-in-Meeting-2 : goal.returns-in_err-push-in-Meeting-2
 returns-in_err-push-in-Meeting-2 c =
     let r = c.from_residual-in_err-push-in-Meeting-2.result in
     let e = c.from_residual-in_err-push-in-Meeting-2.ensures.0 in
-    record { verdict = λ program start. IfOk-from_err r _ e; fits = λ program most start few. IfOk-from_err r _ e; }
+    record { verdict = λ program start. IfOk-from_err r _ e; fits = λ program most start few. IfOk-from_err r _ e }
 
 pub returns-in_err-order-in-Through-Some : goal.returns-in_err-order-in-Through-Some
 returns-in_err-order-in-Through-Some c =
     let r = c.from_residual-in_err-order-in-Through-Some.result in
     let e = c.from_residual-in_err-order-in-Through-Some.ensures.0 in
-    record { verdict = λ program start. IfOk-from_err r _ e; fits = λ program most start few. IfOk-from_err r _ e; }
+    record { verdict = λ program start. IfOk-from_err r _ e; fits = λ program most start few. IfOk-from_err r _ e }

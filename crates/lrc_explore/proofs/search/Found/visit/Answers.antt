@@ -57,10 +57,10 @@ pub returns-in_err-state : goal.returns-in_err-state
 returns-in_err-state c =
     let r = c.from_residual.result in
     let e = c.from_residual.ensures.0 in
-    record { found = IfOk-from_err r _ e; counted = IfOk-from_err r _ e; widens = IfOk-from_err r _ e; visit = IfOk-from_err r _ e; }
+    record { found = IfOk-from_err r _ e; counted = IfOk-from_err r _ e; widens = IfOk-from_err r _ e; visit = IfOk-from_err r _ e }
 
 pub returns-in_err-expand : goal.returns-in_err-expand
 returns-in_err-expand c =
     let r = c.from_residual-in_err-expand.result in
     let e = c.from_residual-in_err-expand.ensures.0 in
-    record { found = IfOk-from_err r _ e; counted = IfOk-from_err r _ e; widens = IfOk-from_err r _ e; visit = IfOk-from_err r _ e; }
+    record { found = IfOk-from_err r _ e; counted = IfOk-from_err r _ e; widens = IfOk-from_err r _ e; visit = IfOk-from_err r _ e }
