@@ -1,0 +1,2 @@
+pub mod OfText
+pub mod OfRuns
