@@ -12,7 +12,7 @@ use Rattle.lrc_protocol.specs.Run.{Input, run, taken, EntryRecord, Logged, logge
 use Rattle.lrc_node.specs.declared.fault.NodeFault.{NodeFault}
 use Rattle.lrc_node.specs.declared.fault.NodeFault.TheVariants.{Failed, NotReady, Unexpected, Worn, NoMemory}
 use Rattle.lrc_node.specs.Fault.{MayAnswer, is_final}
-use Rattle.lrc_node.specs.Node.{TracedNode, AnswersTurn, unready, unawaited, too_large as too_large_answer, without_memory}
+use Rattle.lrc_node.specs.Node.{TracedNode, sound_node, AnswersTurn, unready, unawaited, too_large as too_large_answer, without_memory}
 use Rattle.lrc_node.specs.Logged.{LoggedNode, TracedLog, Logs, Enters, MakesRoom, NotesIn, NotesFault}
 
 -- a refusal of the node is one of the node with its log
@@ -120,7 +120,7 @@ notes_refused old new NoMemory e = tt
 
 -- what was logged was noted, where what was noted is the access of the turn
 notes_entered : (old new : TracedLog) (mid : TracedNode) (log : List EntryRecord) (input : Input) (came : ℕ) (turn : TurnRecord) (after : Node)
-    (result : Result (Unit {0}) NodeFault) → log ≡ old.logged.log → mid ≡ record { node = Some after; trace = with_act after turn.act old.trace }
+    (result : Result (Unit {0}) NodeFault) → log ≡ old.logged.log → mid ≡ sound_node after (with_act after turn.act old.trace)
     → Enters (record { node = mid.node; log = log }) input came turn new.logged result → new.trace ≡ mid.trace → NotesIn old new result
 notes_entered old new mid log input came turn after (Ok tt) same made h kept = λ node entry at logged.
     let mine : EntryRecord = record { input = input; stamp = next_stamp log came; turn = turn } in
@@ -139,20 +139,20 @@ notes_entered old new mid log input came turn after (Err Unexpected) same made h
 
 pub notes_settled : (old new : TracedLog) (mid : TracedNode) (log : List EntryRecord) (input : Input) (came : ℕ) (o : Outcome)
     (r : Result TurnRecord NodeFault) (result : Result (Unit {0}) NodeFault) (trace : TraceRecord) → trace ≡ old.trace → log ≡ old.logged.log
-    → IfOk r (λ turn. (after : Node) × (o ≡ done turn after) × (mid ≡ record { node = Some after; trace = with_act after turn.act trace }))
+    → IfOk r (λ turn. (after : Node) × (o ≡ done turn after) × (mid ≡ sound_node after (with_act after turn.act trace)))
     → OnErr r (mid.trace ≡ trace)
     → MatchResult r (λ turn. Enters (record { node = mid.node; log = log }) input came turn new.logged result)
     (λ fault. (result ≡ Err fault) × (new.logged ≡ record { node = mid.node; log = log }))
     → new.trace ≡ mid.trace → NotesIn old new result
 notes_settled old new mid log input came o (Ok turn) result trace at same made refused settled kept =
     notes_entered old new mid log input came turn made.0 result same
-    (made.2 ∙ ap (λ (t : TraceRecord). let m : TracedNode = record { node = Some made.0; trace = with_act made.0 turn.act t } in m) at) settled kept
+    (made.2 ∙ ap (λ (t : TraceRecord). sound_node made.0 (with_act made.0 turn.act t)) at) settled kept
 notes_settled old new mid log input came o (Err fault) result trace at same made refused settled kept =
     subst (NotesIn old new) (sym settled.0) (notes_refused old new fault (kept ∙ refused ∙ at))
 
 -- without the trace
 pub seen_made : (mid : TracedNode) (o : Outcome) (trace : TraceRecord) (r : Result TurnRecord NodeFault)
-    → IfOk r (λ turn. (after : Node) × (o ≡ done turn after) × (mid ≡ record { node = Some after; trace = with_act after turn.act trace }))
+    → IfOk r (λ turn. (after : Node) × (o ≡ done turn after) × (mid ≡ sound_node after (with_act after turn.act trace)))
     → IfOk r (λ turn. (after : Node) × (o ≡ done turn after) × (mid.node ≡ Some after))
 seen_made mid o trace (Ok turn) made = (made.0, made.1, ap (λ (m : TracedNode). m.node) made.2)
 seen_made mid o trace (Err fault) made = tt
@@ -199,7 +199,7 @@ noted_entered mid input came turn after old new left (Err Unexpected) h e = absu
 
 pub failing_settled : (old new : TracedLog) (mid : TracedNode) (log : List EntryRecord) (input : Input) (came : ℕ) (node : Node) (o : Outcome)
     (r : Result TurnRecord NodeFault) (result : Result (Unit {0}) NodeFault) (trace : TraceRecord) → trace ≡ old.trace
-    → IfOk r (λ turn. (after : Node) × (o ≡ done turn after) × (mid ≡ record { node = Some after; trace = with_act after turn.act trace }))
+    → IfOk r (λ turn. (after : Node) × (o ≡ done turn after) × (mid ≡ sound_node after (with_act after turn.act trace)))
     → IfErr r (λ fault. AnswersTurn o node fault mid.node) → OnErr r (mid.trace ≡ trace)
     → MatchResult r (λ turn. Enters (record { node = mid.node; log = log }) input came turn new.logged result)
     (λ fault. (result ≡ Err fault) × (new.logged ≡ record { node = mid.node; log = log }))

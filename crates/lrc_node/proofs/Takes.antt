@@ -1,14 +1,14 @@
 -- What comes of a message that is taken.
-use Rattle.std.proofs.Common.{◌≡◌, Bool, true, false, cond, ◌⊎◌, ⊎_elim, Some, None, sym, ap, ◌∙◌, subst, ℕ, refl}
-use Rattle.std.specs.Prelude.{if◌then◌else◌, Result, Ok, Err, IfErr, ◌==◌, ◌&&◌, Option, option_map, option_and_then, is_some}
+use Rattle.std.proofs.Common.{◌≡◌, Bool, true, false, ◌⊎◌, ⊎_elim, Some, None, sym, ap, ◌∙◌, subst, ℕ, refl}
+use Rattle.std.specs.Prelude.{if◌then◌else◌, Result, Ok, Err, IfErr, ◌==◌, ◌&&◌, Option, option_map, option_and_then}
+use Rattle.std.specs.Bool.{then_some}
 use Rattle.std.proofs.lemmas.Bool.{and_parts, and_from}
 use Rattle.lrc_envelope.specs.Envelope.{EnvelopeRecord}
 use Rattle.lrc_envelope.specs.declared.message.Message.{Message}
 use Rattle.lrc_envelope.specs.declared.message.Message.TheVariants.{LockRequest, LockForward, LockGrant, Arrive, Depart, Clean, Discard}
 use Rattle.lrc_envelope.specs.declared.message.Message.TheVariants.{ChangesRequest, ChangesReply, PageRequest, PageReply}
 use Rattle.lrc_barrier.specs.Barrier.{ManagerRecord, arrived, cleaned}
-use Rattle.lrc_trace.specs.Trace.{TraceRecord}
-use Rattle.lrc_node_laws.specs.Traced.{IsTraced}
+use Rattle.lrc_parts.specs.declared.end.End.{End}
 use Rattle.lrc_protocol.specs.Node.{Node, Effect}
 use Rattle.lrc_protocol.specs.Follows.{awaits_discard}
 use Rattle.lrc_protocol.specs.Turn.{Outcome, done, unexpected, worn, empty_turn, take_turn, take_anew, taking, is_addressed}
@@ -23,7 +23,8 @@ use Rattle.lrc_node.specs.declared.fault.NodeFault.{NodeFault}
 use Rattle.lrc_node.specs.declared.fault.NodeFault.TheVariants.{Worn, NoMemory}
 use Rattle.lrc_node.specs.Fault.{MayAnswer, is_final}
 use Rattle.lrc_node.specs.Taken.{RefusesTake, unawaited, too_large, without_memory}
-use Rattle.lrc_node.specs.Node.{AnswersTurn, unawaited as answers_unawaited, too_large as answers_too_large, without_memory as answers_without_memory}
+use Rattle.lrc_node.proofs.Outcomes.{none_of}
+use Rattle.lrc_node.specs.Node.{AnswersTurn, seen_node, unawaited as answers_unawaited, too_large as answers_too_large, without_memory as answers_without_memory}
 
 -- a node that is to take a message does not answer that it is not ready
 pub may_take : {outcome : Outcome} {node after : Node} {fault : NodeFault} (envelope : EnvelopeRecord) → RefusesTake outcome node fault after
@@ -74,10 +75,6 @@ takes-made node from (ChangesReply m) e = given-made (expects_changes_reply node
 takes-made node from (PageRequest page) e = given-made (expects_page_request node from page) _ (and_parts _ _ e).0
 takes-made node from (PageReply m) e = given-made (expects_page_reply node from m) _ e
 
-none_there : {X : Type 0} (o : Option X) → is_some o ≡ false → o ≡ None
-none_there None e = refl
-none_there (Some x) e = cc
-
 -- what comes of a message that is expected, and of one that is not
 pub awaited : (node : Node) (envelope : EnvelopeRecord) → is_expected node envelope.from envelope.message ≡ true
     → take_anew node envelope ≡ turn_or unexpected (effect_of (taking node envelope) envelope.from envelope.message)
@@ -90,7 +87,7 @@ pub unawaited_so : (node : Node) (envelope : EnvelopeRecord) → is_expected nod
     → take_anew node envelope ≡ unexpected
 unawaited_so node envelope e =
     ap (turn_or unexpected)
-    (none_there (takes (taking node envelope) envelope.from envelope.message) (still_expected node envelope envelope.from envelope.message ∙ e))
+    (none_of (takes (taking node envelope) envelope.from envelope.message) (still_expected node envelope envelope.from envelope.message ∙ e))
 
 -- why an expected message is not taken
 pub refuses_anew : (outcome : Outcome) (node after : Node) (fault : NodeFault) → ((fault ≡ Worn) × (outcome ≡ worn)) ⊎ (fault ≡ NoMemory)
@@ -101,18 +98,18 @@ refuses_anew outcome node after fault h =
     (λ m. subst (λ (f : NodeFault). RefusesTake outcome node f after) (sym m) without_memory) h
 
 -- with the fault that is answered the node is as it was, or it has failed
-pub answers_take : {outcome : Outcome} {fault : NodeFault} (node after : Node) → RefusesTake outcome node fault after
-    → AnswersTurn outcome node fault (cond (is_final fault) None (Some after))
-answers_take _ _ unawaited = answers_unawaited
-answers_take _ _ too_large = answers_too_large
-answers_take _ _ without_memory = answers_without_memory
+pub answers_take : {outcome : Outcome} {fault : NodeFault} (node after : Node) (end : End) → RefusesTake outcome node fault after
+    → AnswersTurn outcome node fault (seen_node (then_some (is_final fault) end) after)
+answers_take _ _ end unawaited = answers_unawaited
+answers_take _ _ end too_large = answers_too_large
+answers_take _ _ end without_memory = answers_without_memory
 
 -- a node that goes on is as it was
-pub traced_take : {outcome : Outcome} {fault : NodeFault} (node after : Node) (trace : TraceRecord) → RefusesTake outcome node fault after
-    → IsTraced node trace → is_final fault ≡ false → IsTraced after trace
-traced_take _ _ trace unawaited t e = t
-traced_take _ _ trace too_large t e = cc
-traced_take _ _ trace without_memory t e = cc
+pub same_take : {outcome : Outcome} {fault : NodeFault} (node after : Node) → RefusesTake outcome node fault after
+    → is_final fault ≡ false → after ≡ node
+same_take _ _ unawaited e = refl
+same_take _ _ too_large e = cc
+same_take _ _ without_memory e = cc
 
 -- what holds of an error for a weaker reason
 pub weaker : {A : Type 0} (r : Result A NodeFault) (P Q : NodeFault → Type 0) → ((fault : NodeFault) → P fault → Q fault) → IfErr r P → IfErr r Q

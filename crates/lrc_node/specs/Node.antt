@@ -1,24 +1,33 @@
 -- What a caller sees of a node.
-use Rattle.std.specs.Prelude.{Bool, Option, Some, None, option_and_then, option_map, if◌then◌else◌}
+use Rattle.std.specs.Prelude.{Option, Some, None, option_and_then, option_map, unwrap_or}
 use Rattle.lrc_exec.specs.declared.machine.Ask.{Ask}
 use Rattle.lrc_exec.specs.Ask.{ask_of}
 use Rattle.lrc_trace.specs.Trace.{TraceRecord}
 use Rattle.lrc_protocol.specs.Node.{Node}
 use Rattle.lrc_protocol.specs.Turn.{Outcome, begins, not_ready, unexpected, worn}
 use Rattle.lrc_parts.specs.declared.end.End.{End}
-use Rattle.lrc_parts.specs.declared.end.End.TheVariants.{Unfinished}
 use Rattle.lrc_parts.specs.Text.{end_of}
 use Rattle.lrc_node.specs.declared.fault.NodeFault.{NodeFault}
 use Rattle.lrc_node.specs.declared.fault.NodeFault.TheVariants.{NotReady, Unexpected, Worn, NoMemory}
 
--- a node as the protocol has it, none once it has failed
-abbrev pub seen_node : Bool → Node → Option Node
-seen_node failed node = if failed then None else Some node
+-- A node as the protocol has it, none once it has failed. Of one that has failed it is known how it had ended.
+abbrev pub seen_node : Option End → Node → Option Node
+seen_node None node = Some node
+seen_node (Some end) node = None
 
--- the same, and the trace of the accesses that it made
+-- how it ended, so far
+abbrev pub seen_end : Option End → Node → End
+seen_end failed node = unwrap_or failed (end_of node.course)
+
+-- what is seen of it: the node, the trace of the accesses that it made, and how it ended, so far
 pub record TracedNode : Type 0 where
   pub node : Option Node
   pub trace : TraceRecord
+  pub end : End
+
+-- a node that has not failed, with its trace
+abbrev pub sound_node : Node → TraceRecord → TracedNode
+sound_node node trace = record { node = Some node; trace = trace; end = end_of node.course }
 
 -- what a node begins if it is named; a failed one begins nothing
 abbrev pub wish_of : Option Node → Option Ask
@@ -30,8 +39,3 @@ pub data AnswersTurn : Outcome → Node → NodeFault → Option Node → Type 0
   unawaited : {node : Node} → AnswersTurn unexpected node Unexpected (Some node)
   too_large : {node : Node} → AnswersTurn worn node Worn None
   without_memory : {outcome : Outcome} {node : Node} → AnswersTurn outcome node NoMemory None
-
--- how a node ended; a failed one is unfinished
-abbrev pub end_in : Option Node → End
-end_in None = Unfinished
-end_in (Some node) = end_of node.course

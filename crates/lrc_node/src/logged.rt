@@ -47,7 +47,7 @@ impl Model for Entry {
 }
 
 /// A node with its log: the turns that it made, with their stamps. A turn's stamp is one more than the greater of the
-/// node's last one and of that of the turn that sent the message. A refused call adds nothing.
+/// node's last one and of that of the turn that sent the message. A refused call adds nothing to the log.
 #[derive(Drop)]
 pub struct Logged<'c> {
     node: Node<'c>,
@@ -252,7 +252,8 @@ impl<'c> Logged<'c> {
         self.log.as_slice()
     }
 
-    /// Forgets all turns but the newest. Nothing that the node does later depends on the others.
+    /// Forgets all turns but the newest. Nothing that the node does later depends on the others, but how it ended, once it
+    /// has failed, is told by the turns that are left.
     pub fn forget(&mut self)
         ensures log { self.new.logged ≡ record { node = self.old.logged.node; log = newest self.old.logged.log } }
         ensures trace { self.new.trace ≡ self.old.trace }

@@ -6,8 +6,10 @@ ghost use Rattle.lrc_protocol.specs.Traced.{with_act};
 ghost use Rattle.lrc_protocol.specs.Turn.{done, is_ready, not_ready, run_turn, take_turn, unexpected};
 ghost use Rattle.lrc_protocol.specs.Run.{run, taken};
 ghost use Rattle.lrc_node.specs.Fault.{MayAnswer};
-ghost use Rattle.lrc_node.specs.Node.{AnswersTurn, end_in, wish_of};
+ghost use Rattle.lrc_node.specs.Node.{AnswersTurn, sound_node, wish_of};
 ghost use Rattle.lrc_node.specs.declared.fault.NodeFault.TheVariants.{Failed, NoMemory, NotReady, Unexpected};
+ghost use Rattle.lrc_parts.specs.Text.{end_of};
+ghost use Rattle.lrc_parts.specs.declared.end.End.TheVariants.{Unfinished};
 
 use crate::fault::NodeFault;
 use crate::options::Options;
@@ -22,28 +24,30 @@ use std::alloc::{AllocError, Global};
 use std::marker::Model;
 
 /// A node, which runs a program and takes messages, and keeps a trace of its accesses. In a contract it is that of the
-/// protocol machine, and none once it has failed: a number was too large, or no memory was left.
+/// protocol machine, and none once it has failed: a number was too large, or no memory was left. How it had ended by then
+/// stays.
 #[derive(Drop)]
 pub struct Node<'c> {
     state: NodeState<'c>,
     trace: Trace,
-    failed: bool,
+    // How the node had ended when it failed, none while it has not failed.
+    failed: Option<End>,
 }
 
 impl<'c> Model for Node<'c> {
-    ghost use Rattle.std.specs.Prelude.{◌≡◌, false};
+    ghost use Rattle.std.specs.Prelude.{◌≡◌, None};
     ghost use Rattle.std.specs.Coded.{codes};
     ghost use Rattle.lrc_lang.specs.contracts.program.Statement as statement;
     ghost use Rattle.lrc_node_laws.specs.Traced.{IsTraced};
-    ghost use Rattle.lrc_node.specs.Node.{TracedNode, seen_node};
+    ghost use Rattle.lrc_node.specs.Node.{TracedNode, seen_end, seen_node};
 
     ghost Value = { TracedNode };
 
     ghost coded = { Prim.hlevel (codes, statement.the_row.coded) };
 
-    ghost view = { λ n. record { node = seen_node n.failed n.state; trace = n.trace } };
+    ghost view = { λ n. record { node = seen_node n.failed n.state; trace = n.trace; end = seen_end n.failed n.state } };
 
-    ghost invariant = { λ n. n.failed ≡ false → IsTraced n.state n.trace };
+    ghost invariant = { λ n. n.failed ≡ None → IsTraced n.state n.trace };
 }
 
 impl<'c> Node<'c> {
@@ -60,12 +64,13 @@ impl<'c> Node<'c> {
         ensures { IfOk result (λ node. node ≡ record {
           node = Some (fresh_node code.now nodes options.now me);
           trace = record { node = me; size = options.now.size; segments = [] };
+          end = Unfinished;
         }) }
     {
         Ok(Node {
             state: NodeState::new(alloc, code, me, nodes, options)?,
             trace: Trace::new(alloc, me, options.size),
-            failed: false,
+            failed: None,
         })
     }
 
@@ -76,10 +81,11 @@ impl<'c> Node<'c> {
         ensures failed { self.old.node ≡ None → (result ≡ Err Failed) × (self.new ≡ self.old) }
         ensures done { (node : NodeRecord) → self.old.node ≡ Some node
             → IfOk result (λ turn. (after : NodeRecord) × (run_turn node ≡ done turn after)
-            × (self.new ≡ record { node = Some after; trace = with_act after turn.act self.old.trace })) }
+            × (self.new ≡ sound_node after (with_act after turn.act self.old.trace))) }
         ensures refused { (node : NodeRecord) → self.old.node ≡ Some node → IfErr result (λ fault. AnswersTurn (run_turn node) node fault self.new.node) }
         ensures ready { (node : NodeRecord) → self.old.node ≡ Some node → run_turn node ≡ not_ready → result ≡ Err NotReady }
         ensures kept { OnErr result (self.new.trace ≡ self.old.trace) }
+        ensures ended { OnErr result (self.new.end ≡ self.old.end) }
         ensures fault { IfErr result (MayAnswer run) }
     {
         let wish = self.wish();
@@ -91,7 +97,11 @@ impl<'c> Node<'c> {
     pub(crate) fn wish(&self) -> Option<Ask>
         ensures { result ≡ wish_of self.now.node }
     {
-        if self.failed { None } else { self.state.wish() }
+        if self.failed.is_some() {
+            None
+        } else {
+            self.state.wish()
+        }
     }
 
     /// Goes on as `run` does, by what its wish has said.
@@ -100,19 +110,21 @@ impl<'c> Node<'c> {
         ensures failed { self.old.node ≡ None → (result ≡ Err Failed) × (self.new ≡ self.old) }
         ensures done { (node : NodeRecord) → self.old.node ≡ Some node
             → IfOk result (λ turn. (after : NodeRecord) × (run_turn node ≡ done turn after)
-            × (self.new ≡ record { node = Some after; trace = with_act after turn.act self.old.trace })) }
+            × (self.new ≡ sound_node after (with_act after turn.act self.old.trace))) }
         ensures refused { (node : NodeRecord) → self.old.node ≡ Some node → IfErr result (λ fault. AnswersTurn (run_turn node) node fault self.new.node) }
         ensures ready { (node : NodeRecord) → self.old.node ≡ Some node → run_turn node ≡ not_ready → result ≡ Err NotReady }
         ensures kept { OnErr result (self.new.trace ≡ self.old.trace) }
+        ensures ended { OnErr result (self.new.end ≡ self.old.end) }
         ensures fault { IfErr result (MayAnswer run) }
     {
-        if self.failed {
+        if self.failed.is_some() {
             return Err(NodeFault::Failed);
         }
         match self.state.run_noting(wish, &mut self.trace) {
             Ok(turn) => Ok(turn),
             Err(fault) => {
-                self.failed = fault.is_final();
+                // One that had ended is not ready, so it does not fail here.
+                self.failed = fault.is_final().then_some(End::Unfinished);
                 Err(fault)
             }
         }
@@ -124,7 +136,7 @@ impl<'c> Node<'c> {
         requires { wish_of self.old.node ≡ Some Ask.Quiet }
         ensures { (node : NodeRecord) → self.old.node ≡ Some node
             → (after : NodeRecord) × (run_turn node ≡ done result after)
-            × (self.new ≡ record { node = Some after; trace = with_act after result.act self.old.trace }) }
+            × (self.new ≡ sound_node after (with_act after result.act self.old.trace)) }
     {
         self.state.run_quietly()
     }
@@ -136,20 +148,22 @@ impl<'c> Node<'c> {
         ensures failed { self.old.node ≡ None → (result ≡ Err Failed) × (self.new ≡ self.old) }
         ensures done { (node : NodeRecord) → self.old.node ≡ Some node
             → IfOk result (λ turn. (after : NodeRecord) × (take_turn node envelope.now ≡ done turn after)
-            × (self.new ≡ record { node = Some after; trace = with_act after turn.act self.old.trace })) }
+            × (self.new ≡ sound_node after (with_act after turn.act self.old.trace))) }
         ensures refused { (node : NodeRecord) → self.old.node ≡ Some node
             → IfErr result (λ fault. AnswersTurn (take_turn node envelope.now) node fault self.new.node) }
         ensures unexpected { (node : NodeRecord) → self.old.node ≡ Some node → take_turn node envelope.now ≡ unexpected → result ≡ Err Unexpected }
         ensures kept { OnErr result (self.new.trace ≡ self.old.trace) }
+        ensures ended { OnErr result (self.new.end ≡ self.old.end) }
         ensures fault { IfErr result (MayAnswer (taken envelope.now)) }
     {
-        if self.failed {
+        if self.failed.is_some() {
             return Err(NodeFault::Failed);
         }
+        let end = self.state.end();
         match self.state.take_noting(&mut self.trace, envelope) {
             Ok(turn) => Ok(turn),
             Err(fault) => {
-                self.failed = fault.is_final();
+                self.failed = fault.is_final().then_some(end);
                 Err(fault)
             }
         }
@@ -159,14 +173,14 @@ impl<'c> Node<'c> {
     pub(crate) fn has_failed(&self) -> bool
         ensures { result ≡ is_none self.now.node }
     {
-        self.failed
+        self.failed.is_some()
     }
 
-    /// The node fails: every later turn is refused.
+    /// The node fails: every later turn is refused. It ended as it had ended before.
     pub(crate) fn fail(&mut self)
-        ensures { self.new ≡ record { node = None; trace = self.old.trace } }
+        ensures { self.new ≡ record { node = None; trace = self.old.trace; end = self.old.end } }
     {
-        self.failed = true;
+        self.failed = Some(self.end());
     }
 
     /// Keeps a list of messages that are of no use any more, whose place those of a later turn take.
@@ -180,17 +194,17 @@ impl<'c> Node<'c> {
     pub fn ready(&self) -> bool
         ensures { result ≡ unwrap_or (option_map is_ready self.now.node) false }
     {
-        !self.failed && self.state.is_ready()
+        self.failed.is_none() && self.state.is_ready()
     }
 
-    /// How the node ended. A failed one is unfinished.
+    /// How the node ended. A failed one ended as it had ended before it failed.
     pub fn end(&self) -> End
-        ensures { result ≡ end_in self.now.node }
+        ensures kept { result ≡ self.now.end }
+        ensures sound { (node : NodeRecord) → self.now.node ≡ Some node → result ≡ end_of node.course }
     {
-        if self.failed {
-            End::Unfinished
-        } else {
-            self.state.text.end()
+        match self.failed {
+            Some(end) => end,
+            None => self.state.end(),
         }
     }
 

@@ -104,3 +104,37 @@ const ONE_BARRIER: &Play = &Play {
 fn a_node_fails_where_numbers_are_used_up(rt: HostRuntime) {
     holds(&rt, plays_alone(rt.alloc(), ONE_BARRIER));
 }
+
+// Node 0 lets two nodes depart from the first barrier, at time 1,1: its interval 1 wrote nothing. Then it asks for what
+// node 1's interval 1 changed in page 0.
+const DEPARTURE: [u8; 42] = [
+    2, 5, 0, 1, 0, 0, 0, 0, 0, 0, 0, 30, 0, 0, 0, 1, 0, 2, 0, 0, 0, 1, 0, 0, 0, 1, 0, 0, 0, 1, 0,
+    2, 0, 0, 0, 1, 0, 0, 0, 0, 0, 0,
+];
+
+const CHANGES_REQUEST: [u8; 22] = [
+    2, 8, 0, 1, 0, 0, 0, 1, 0, 0, 0, 10, 0, 0, 0, 0, 0, 1, 0, 0, 0, 1,
+];
+
+// Node 1's arrival has the largest number there is, so once it has come to its end it can't answer.
+const ENDED: &Play = &Play {
+    text: b"words 1; locks 0; if me == 1 { [0] = 5; } barrier;",
+    node: 1,
+    nodes: 2,
+    first: 4_294_967_295,
+    steps: &[
+        Step::Often(2),
+        Step::Runs(Ok((Some((1, Deed::Arrive)), 1))),
+        Step::Takes(Some(&DEPARTURE), Ok((Some((1, Deed::Depart)), 0))),
+        Step::Runs(Ok((Some((1, Deed::End)), 0))),
+        Step::Stands(false, End::Ended),
+        Step::Takes(Some(&CHANGES_REQUEST), Err(NodeFault::Worn)),
+        Step::Takes(Some(&CHANGES_REQUEST), Err(NodeFault::Failed)),
+        Step::Stands(false, End::Ended),
+    ],
+};
+
+#[test]
+fn a_node_that_fails_at_its_end_has_ended(rt: HostRuntime) {
+    holds(&rt, plays_alone(rt.alloc(), ENDED));
+}
