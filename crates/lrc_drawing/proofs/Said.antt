@@ -7,7 +7,7 @@ use Rattle.lrc_svg.specs.declared.name.Key.{Key}
 use Rattle.lrc_svg.specs.declared.name.Key.TheVariants as keys
 use Rattle.lrc_svg.specs.declared.name.Tag.TheVariants as tags
 use Rattle.lrc_drawing.specs.Attributes.{said}
-use Rattle.lrc_drawing.specs.Marks.{Mark, attribute_value, key_number, named_once, names_key, own, stroke, word}
+use Rattle.lrc_drawing.specs.Marks.{Mark, attribute_value, key_number, named_once, names_key, own, stroke, undrawn, word}
 
 abbrev Saying : Type 0
 Saying = Key × List ℕ
@@ -63,6 +63,7 @@ line_shows a x y u v more is =
     ap₂ (λ l m. stroke l m ∷ []) (value_is _ a ∙ ap (value_said _) is) (value_is _ a ∙ ap (value_said _) is)
 
 -- an element in which nothing shows anything
-pub shows_alone : (old shown by_itself inside : List Mark) → by_itself ≡ shown → inside ≡ [] → old ++ by_itself ++ inside ++ [] ≡ old ++ shown
+pub shows_alone : (old shown by_itself inside : List Mark) → by_itself ≡ shown → inside ≡ []
+    → old ++ by_itself ++ undrawn inside ++ [] ≡ old ++ shown
 shows_alone old shown by_itself inside is none =
-    append-nil (old ++ by_itself ++ inside) ∙ ap₂ (λ (o i : List Mark). old ++ o ++ i) is none ∙ append-nil (old ++ shown)
+    append-nil (old ++ by_itself ++ undrawn inside) ∙ ap₂ (λ (o i : List Mark). old ++ o ++ undrawn i) is none ∙ append-nil (old ++ shown)

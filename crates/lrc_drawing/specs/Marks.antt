@@ -19,7 +19,8 @@ pub data Mark : Type 0 where
   -- what stands between these two is one element
   begins : Mark
   ends : Mark
-  -- an element that names an attribute twice, which no reader takes
+  -- an element that names an attribute twice, which no reader takes; a picture within another, of a size of its own; or what stands in an
+  -- element in which no reader draws anything
   unreadable : Mark
 
 -- the number of a name
@@ -83,17 +84,27 @@ own tags.Hint attributes words = hint words ∷ []
 own tags.Box attributes words = box ∷ []
 own tags.Path attributes words = path ∷ []
 own tags.Group attributes words = begins ∷ []
-own tags.Picture attributes words = []
+own tags.Picture attributes words = unreadable ∷ []
 
 -- what it shows behind what stands in it
 abbrev pub behind : Tag → List Mark
 behind tags.Group = ends ∷ []
 behind other = []
 
+-- marks where no reader draws any
+abbrev pub undrawn : List Mark → List Mark
+undrawn [] = []
+undrawn (first ∷ more) = unreadable ∷ []
+
+-- what is seen of these marks in it: a group alone holds elements
+abbrev pub held : Tag → (inside : List Mark) → List Mark
+held tags.Group inside = inside
+held other inside = undrawn inside
+
 -- what it shows, with these words and marks in it
 abbrev pub shown_marks : Tag → List Attribute → (words : List ℕ) → (inside : List Mark) → List Mark
 shown_marks tag attributes words inside =
-    cond (named_once attributes) (own tag attributes words ++ inside ++ behind tag) (unreadable ∷ [])
+    cond (named_once attributes) (own tag attributes words ++ held tag inside ++ behind tag) (unreadable ∷ [])
 
 -- words that stand alone
 abbrev pub plain_words : Content → List ℕ
@@ -116,6 +127,6 @@ abbrev mutual
   row_marks end_of-Content = []
   row_marks (more_of-Content first more) = marks first ++ row_marks more
 
--- what all these show
+-- what all these show, where elements may stand: in a group, and in the picture itself
 abbrev pub all_marks : List Content → List Mark
 all_marks contents = flat_map marks contents

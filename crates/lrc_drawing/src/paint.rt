@@ -2,7 +2,7 @@
 
 ghost use Rattle.std.specs.Prelude.{◌≡◌, ◌++◌, ◌∷◌, [], IfOk, OnOk, codes, decimal, true};
 ghost use Rattle.lrc_drawing.specs.Attributes.{anchor_word, said};
-ghost use Rattle.lrc_drawing.specs.Marks.{all_marks, all_words, begins, behind, box, ends, hint, named_once, own, path, stroke, word};
+ghost use Rattle.lrc_drawing.specs.Marks.{all_marks, all_words, begins, behind, box, ends, held, hint, named_once, own, path, stroke, word};
 
 use crate::layout::width;
 use crate::style::{Anchor, GROUND, Hand, Style};
@@ -202,7 +202,7 @@ fn push_element(
 ) -> Result<(), AllocError>
     requires { named_once attributes.items ≡ true }
     ensures { OnOk result (all_marks contents.new.items
-        ≡ all_marks contents.old.items ++ own tag attributes.items (all_words inside.items) ++ all_marks inside.items ++ behind tag) }
+        ≡ all_marks contents.old.items ++ own tag attributes.items (all_words inside.items) ++ held tag (all_marks inside.items) ++ behind tag) }
 {
     contents.push(Content::Element(tag, attributes, inside))?;
     Ok(())

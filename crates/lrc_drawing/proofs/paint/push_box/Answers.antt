@@ -1,5 +1,7 @@
-use Rattle.std.proofs.Common.{refl}
-use Rattle.lrc_drawing.proofs.Said.{once_by, said_in_two}
+use Rattle.std.proofs.Common.{◌∙◌, ◌∷◌, [], ap, refl}
+use Rattle.lrc_svg.proofs.Rows.{on_ok}
+use Rattle.lrc_drawing.specs.Marks.{all_marks, box}
+use Rattle.lrc_drawing.proofs.Said.{once_by, said_in_two, shows_alone}
 use Rattle.lrc_drawing.proofs.paint.push_box.Goals as goal
 
 pub push_element-requires : goal.push_element-requires
@@ -8,3 +10,9 @@ push_element-requires c =
     (said_in_two c.new-attributes.result.items c.push_area.new.attributes.items _ _ _ c.new-attributes.ensures.items
     c.in_ok-push_area.ensures c.in_ok-push_style.ensures)
     refl
+
+pub returns : goal.returns
+returns c =
+    on_ok c.push_element.result
+    (λ marks_are. marks_are ∙ shows_alone (all_marks c.args.contents.now.items) (box ∷ []) _ _ refl (ap all_marks c.new.ensures.items))
+    c.push_element.ensures
