@@ -109,7 +109,7 @@ impl Way {
     // A way to a column's right side that stays beside it.
     fn from_right(side: u128) -> Way
         requires least { 100 ≤ side }
-        requires most { side < 2 ^ 100 }
+        requires most { side < 2 ^ 104 }
         ensures leaves { result.leaves.now ≡ codes "h-8" }
         ensures comes { result.comes.now ≡ codes "h-12 l9 -4 v8 l-9 -4" }
     {

@@ -208,7 +208,7 @@ fn push_column(
     name: &Vec<u8>,
 ) -> Result<(), AllocError>
     requires order { lane.left ≤ lane.right }
-    requires far { lane.left < 2 ^ 100 }
+    requires far { lane.left < 2 ^ 104 }
     ensures { OnOk result (all_marks contents.new.items ≡ all_marks contents.old.items ++ column_marks name.now) }
 {
     let whole = Area {
