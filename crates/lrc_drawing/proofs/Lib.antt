@@ -1,2 +1,4 @@
 pub mod Painted
+pub mod Points
 pub mod Said
+pub mod Ways

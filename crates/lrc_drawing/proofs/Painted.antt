@@ -13,7 +13,7 @@ use Rattle.lrc_svg.specs.declared.element.Content.{Content, Row_of-Content, end_
 use Rattle.lrc_svg.specs.declared.element.Content.{items-the_row-Content, items_hidden-the_row-Content-0}
 use Rattle.lrc_svg.specs.declared.element.Content.TheBlock.{hidden-the_row-Content-0}
 use Rattle.lrc_svg.specs.declared.element.Content.TheVariants.{Element}
-use Rattle.lrc_drawing.specs.Marks.{Mark, all_marks, all_words, behind, marks, named_once, own, plain_words, row_marks, row_words, shown_marks, unreadable}
+use Rattle.lrc_drawing.specs.Marks.{Mark, all_marks, all_words, behind, held, marks, named_once, own, plain_words, row_marks, row_words, shown_marks, unreadable}
 
 row_marks_are : (n : _) (row : Row_of-Content n) → row_marks row ≡ all_marks (items-the_row-Content n row)
 row_marks_are _ end_of-Content = refl
@@ -24,23 +24,23 @@ row_words_are _ end_of-Content = refl
 row_words_are _ (more_of-Content first more) = ap (λ l. plain_words first ++ l) (row_words_are _ more)
 
 pub element_marks : (tag : _) (a : Vec Attribute Global) (v : Vec Content Global) → named_once a.items ≡ true
-    → marks (Element tag a v) ≡ own tag a.items (all_words v.items) ++ all_marks v.items ++ behind tag
+    → marks (Element tag a v) ≡ own tag a.items (all_words v.items) ++ held tag (all_marks v.items) ++ behind tag
 element_marks tag a v once =
     ap₂ (λ (w : List ℕ) (l : List Mark). shown_marks tag a.items w l)
     (row_words_are _ (hidden-the_row-Content-0 v) ∙ ap all_words (items_hidden-the_row-Content-0 v))
     (row_marks_are _ (hidden-the_row-Content-0 v) ∙ ap all_marks (items_hidden-the_row-Content-0 v))
-    ∙ ap (λ b. cond b (own tag a.items (all_words v.items) ++ all_marks v.items ++ behind tag) (unreadable ∷ [])) once
+    ∙ ap (λ b. cond b (own tag a.items (all_words v.items) ++ held tag (all_marks v.items) ++ behind tag) (unreadable ∷ [])) once
 
 regrouped_three : (start a b c : List Mark) → start ++ ((a ++ b) ++ c) ≡ ((start ++ a) ++ b) ++ c
 regrouped_three start a b c = simp append_assoc
 
 -- an element more
 pub one_more : (old : List Content) (tag : _) (a : Vec Attribute Global) (v : Vec Content Global) → named_once a.items ≡ true
-    → all_marks (old ++ Element tag a v ∷ []) ≡ all_marks old ++ own tag a.items (all_words v.items) ++ all_marks v.items ++ behind tag
+    → all_marks (old ++ Element tag a v ∷ []) ≡ all_marks old ++ own tag a.items (all_words v.items) ++ held tag (all_marks v.items) ++ behind tag
 one_more old tag a v once =
     flat_map-append marks old (Element tag a v ∷ [])
     ∙ ap (λ l. all_marks old ++ l) (append-nil (marks (Element tag a v)) ∙ element_marks tag a v once)
-    ∙ regrouped_three (all_marks old) (own tag a.items (all_words v.items)) (all_marks v.items) (behind tag)
+    ∙ regrouped_three (all_marks old) (own tag a.items (all_words v.items)) (held tag (all_marks v.items)) (behind tag)
 
 -- one item more, by its position
 pub each_marked : {X : Type 0} (of : ℕ → X → List Mark) (items : List X) (k : ℕ) (item : X) (start old new : List Mark) → k < length items

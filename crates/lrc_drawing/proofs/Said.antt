@@ -1,5 +1,5 @@
 -- Names and values of attributes, read off what the attributes say.
-use Rattle.std.proofs.Common.{◌≡◌, ◌∙◌, ◌++◌, ◌∷◌, [], ◌==◌, ◌&&◌, ◌||◌, ℕ, Bool, List, false, true, ap, ap₂, append-nil, refl}
+use Rattle.std.proofs.Common.{◌≡◌, ◌∙◌, ◌++◌, ◌∷◌, [], ◌==◌, ◌&&◌, ◌||◌, ◌<◌, ◌^◌, ℕ, Bool, List, false, true, ap, ap₂, append-nil, decimal, refl}
 use Rattle.std.specs.Prelude.{cond, not}
 use Rattle.std.proofs.lemmas.List.{map-append}
 use Rattle.lrc_svg.specs.declared.element.Attribute.{Attribute}
@@ -7,7 +7,8 @@ use Rattle.lrc_svg.specs.declared.name.Key.{Key}
 use Rattle.lrc_svg.specs.declared.name.Key.TheVariants as keys
 use Rattle.lrc_svg.specs.declared.name.Tag.TheVariants as tags
 use Rattle.lrc_drawing.specs.Attributes.{said}
-use Rattle.lrc_drawing.specs.Marks.{Mark, attribute_value, key_number, named_once, names_key, own, stroke, word}
+use Rattle.lrc_drawing.specs.Marks.{Mark, attribute_value, begins_with_digit, box, is_dashes, key_number, named_once, names_key, own, path, path_of, stroke, undrawn, word}
+use Rattle.lrc_drawing.proofs.Points.{start_is, strokes_are, written}
 
 abbrev Saying : Type 0
 Saying = Key × List ℕ
@@ -52,17 +53,34 @@ said_in_one none all a empty first = first ∙ ap (λ n. said n ++ a) empty
 pub once_by : (a : List Attribute) (s : List Saying) → said a ≡ s → said_once s ≡ true → named_once a ≡ true
 once_by a s is once = once_is a ∙ ap said_once is ∙ once
 
--- what labels and lines show by what their attributes say
+-- what labels, lines, boxes and paths show by what their attributes say
 pub label_shows : (a : List Attribute) (words told x y : List ℕ) (more : List Saying) → said a ≡ (keys.X, x) ∷ (keys.Y, y) ∷ more → words ≡ told
     → own tags.Label a words ≡ word y told ∷ []
 label_shows a words told x y more is = ap₂ (λ l w. word l w ∷ []) (value_is _ a ∙ ap (value_said _) is)
 
-pub line_shows : (a : List Attribute) (x y u v : List ℕ) (more : List Saying)
-    → said a ≡ (keys.FromX, x) ∷ (keys.FromY, y) ∷ (keys.ToX, u) ∷ (keys.ToY, v) ∷ more → own tags.Line a [] ≡ stroke y v ∷ []
-line_shows a x y u v more is =
-    ap₂ (λ l m. stroke l m ∷ []) (value_is _ a ∙ ap (value_said _) is) (value_is _ a ∙ ap (value_said _) is)
+pub line_shows : (a : List Attribute) (x y u v stroke_of width dashes : List ℕ)
+    → said a ≡ (keys.FromX, x) ∷ (keys.FromY, y) ∷ (keys.ToX, u) ∷ (keys.ToY, v) ∷ (keys.Stroke, stroke_of) ∷ (keys.StrokeWidth, width)
+    ∷ (keys.Dashes, dashes) ∷ [] → own tags.Line a [] ≡ stroke y v dashes ∷ []
+line_shows a x y u v stroke_of width dashes is =
+    ap₂ (λ l m. stroke l m (attribute_value is_dashes a) ∷ []) (value_is _ a ∙ ap (value_said _) is) (value_is _ a ∙ ap (value_said _) is)
+    ∙ ap (λ d. stroke y v d ∷ []) (value_is is_dashes a ∙ ap (value_said is_dashes) is)
+
+pub box_shows : (a : List Attribute) (x y u v fill stroke_of width dashes : List ℕ)
+    → said a ≡ (keys.X, x) ∷ (keys.Y, y) ∷ (keys.Width, u) ∷ (keys.Height, v) ∷ (keys.Fill, fill) ∷ (keys.Stroke, stroke_of)
+    ∷ (keys.StrokeWidth, width) ∷ (keys.Dashes, dashes) ∷ [] → own tags.Box a [] ≡ box width dashes ∷ []
+box_shows a x y u v fill stroke_of width dashes is =
+    ap₂ (λ l m. box l m ∷ []) (value_is _ a ∙ ap (value_said _) is) (value_is _ a ∙ ap (value_said _) is)
+
+pub path_shows : (a : List Attribute) (x y : ℕ) (strokes fill stroke_of width dashes : List ℕ) → x < 10 ^ 64 → y < 10 ^ 64
+    → begins_with_digit strokes ≡ false
+    → said a ≡ (keys.Points, written x y strokes) ∷ (keys.Fill, fill) ∷ (keys.Stroke, stroke_of) ∷ (keys.StrokeWidth, width)
+    ∷ (keys.Dashes, dashes) ∷ [] → own tags.Path a [] ≡ path (decimal y) strokes dashes ∷ []
+path_shows a x y strokes fill stroke_of width dashes few some none is =
+    ap₂ (λ p d. path_of p d ∷ []) (value_is _ a ∙ ap (value_said _) is) (value_is _ a ∙ ap (value_said _) is)
+    ∙ ap₂ (λ l m. path l m dashes ∷ []) (start_is x y strokes few some none) (strokes_are x y strokes few some none)
 
 -- an element in which nothing shows anything
-pub shows_alone : (old shown by_itself inside : List Mark) → by_itself ≡ shown → inside ≡ [] → old ++ by_itself ++ inside ++ [] ≡ old ++ shown
+pub shows_alone : (old shown by_itself inside : List Mark) → by_itself ≡ shown → inside ≡ []
+    → old ++ by_itself ++ undrawn inside ++ [] ≡ old ++ shown
 shows_alone old shown by_itself inside is none =
-    append-nil (old ++ by_itself ++ inside) ∙ ap₂ (λ (o i : List Mark). old ++ o ++ i) is none ∙ append-nil (old ++ shown)
+    append-nil (old ++ by_itself ++ undrawn inside) ∙ ap₂ (λ (o i : List Mark). old ++ o ++ undrawn i) is none ∙ append-nil (old ++ shown)

@@ -1,6 +1,6 @@
 -- What a reader sees in a tree of elements, read off it in order: words with the height of their foot, straight lines with the heights of
--- their ends, boxes, paths, hints, and which of these are one element.
-use Rattle.std.specs.Prelude.{ℕ, ◌==◌, ◌&&◌, ◌||◌, Bool, true, false, not, List, [], ◌∷◌, ◌++◌, cond}
+-- their ends, boxes with their borders, paths with their strokes, hints, and which of these are one element.
+use Rattle.std.specs.Prelude.{ℕ, ◌==◌, ◌&&◌, ◌||◌, Bool, true, false, not, List, [], ◌∷◌, ◌++◌, cond, nat_le}
 use Rattle.std.specs.List.{flat_map}
 use Rattle.lrc_svg.specs.declared.element.Attribute.{Attribute}
 use Rattle.lrc_svg.specs.declared.element.Content.{Content, Row_of-Content, end_of-Content, more_of-Content}
@@ -12,14 +12,18 @@ use Rattle.lrc_svg.specs.declared.name.Tag.TheVariants as tags
 
 pub data Mark : Type 0 where
   word : (foot : List ℕ) → (words : List ℕ) → Mark
-  stroke : (from to : List ℕ) → Mark
+  -- a straight line, and the lengths of its dashes
+  stroke : (from to dashes : List ℕ) → Mark
   hint : (words : List ℕ) → Mark
-  box : Mark
-  path : Mark
+  -- a box: how wide its border is, and the lengths of the border's dashes
+  box : (width dashes : List ℕ) → Mark
+  -- a path: the height where it starts, its strokes from there, and the lengths of their dashes
+  path : (start strokes dashes : List ℕ) → Mark
   -- what stands between these two is one element
   begins : Mark
   ends : Mark
-  -- an element that names an attribute twice, which no reader takes
+  -- an element that names an attribute twice, which no reader takes; a picture within another, of a size of its own; or what stands in an
+  -- element in which no reader draws anything
   unreadable : Mark
 
 -- the number of a name
@@ -70,30 +74,81 @@ abbrev is_to : Key → Bool
 is_to keys.ToY = true
 is_to other = false
 
+abbrev is_border : Key → Bool
+is_border keys.StrokeWidth = true
+is_border other = false
+
+abbrev pub is_dashes : Key → Bool
+is_dashes keys.Dashes = true
+is_dashes other = false
+
+abbrev is_points : Key → Bool
+is_points keys.Points = true
+is_points other = false
+
 -- the value of the first attribute of such a name
 abbrev pub attribute_value : (Key → Bool) → List Attribute → List ℕ
 attribute_value is [] = []
 attribute_value is (first ∷ more) = cond (is first.key) first.value.items (attribute_value is more)
 
+abbrev pub is_digit : ℕ → Bool
+is_digit byte = nat_le 48 byte && nat_le byte 57
+
+abbrev pub begins_with_digit : List ℕ → Bool
+begins_with_digit [] = false
+begins_with_digit (first ∷ more) = is_digit first
+
+-- the digits that a text begins with, and what stands behind them
+abbrev pub digits_first : List ℕ → List ℕ
+digits_first [] = []
+digits_first (first ∷ more) = cond (is_digit first) (first ∷ digits_first more) []
+
+abbrev pub behind_digits : List ℕ → List ℕ
+behind_digits [] = []
+behind_digits (first ∷ more) = cond (is_digit first) (behind_digits more) (first ∷ more)
+
+-- what stands behind this byte, with which a text begins
+abbrev pub behind_byte : ℕ → List ℕ → List ℕ
+behind_byte byte [] = []
+behind_byte byte (first ∷ more) = cond (first == byte) more []
+
+-- the points of a path from the height where it starts: behind an `M`, which is 77, the place from the left, and a blank
+abbrev pub from_height : (points : List ℕ) → List ℕ
+from_height points = behind_byte 32 (behind_digits (behind_byte 77 points))
+
+abbrev pub path_of : (points dashes : List ℕ) → Mark
+path_of points dashes = path (digits_first (from_height points)) (behind_digits (from_height points)) dashes
+
 -- what an element shows by itself, with these words in it
 abbrev pub own : Tag → List Attribute → (words : List ℕ) → List Mark
 own tags.Label attributes words = word (attribute_value is_foot attributes) words ∷ []
-own tags.Line attributes words = stroke (attribute_value is_from attributes) (attribute_value is_to attributes) ∷ []
+own tags.Line attributes words =
+    stroke (attribute_value is_from attributes) (attribute_value is_to attributes) (attribute_value is_dashes attributes) ∷ []
 own tags.Hint attributes words = hint words ∷ []
-own tags.Box attributes words = box ∷ []
-own tags.Path attributes words = path ∷ []
+own tags.Box attributes words = box (attribute_value is_border attributes) (attribute_value is_dashes attributes) ∷ []
+own tags.Path attributes words = path_of (attribute_value is_points attributes) (attribute_value is_dashes attributes) ∷ []
 own tags.Group attributes words = begins ∷ []
-own tags.Picture attributes words = []
+own tags.Picture attributes words = unreadable ∷ []
 
 -- what it shows behind what stands in it
 abbrev pub behind : Tag → List Mark
 behind tags.Group = ends ∷ []
 behind other = []
 
+-- marks where no reader draws any
+abbrev pub undrawn : List Mark → List Mark
+undrawn [] = []
+undrawn (first ∷ more) = unreadable ∷ []
+
+-- what is seen of these marks in it: a group alone holds elements
+abbrev pub held : Tag → (inside : List Mark) → List Mark
+held tags.Group inside = inside
+held other inside = undrawn inside
+
 -- what it shows, with these words and marks in it
 abbrev pub shown_marks : Tag → List Attribute → (words : List ℕ) → (inside : List Mark) → List Mark
 shown_marks tag attributes words inside =
-    cond (named_once attributes) (own tag attributes words ++ inside ++ behind tag) (unreadable ∷ [])
+    cond (named_once attributes) (own tag attributes words ++ held tag inside ++ behind tag) (unreadable ∷ [])
 
 -- words that stand alone
 abbrev pub plain_words : Content → List ℕ
@@ -116,6 +171,6 @@ abbrev mutual
   row_marks end_of-Content = []
   row_marks (more_of-Content first more) = marks first ++ row_marks more
 
--- what all these show
+-- what all these show, where elements may stand: in a group, and in the picture itself
 abbrev pub all_marks : List Content → List Mark
 all_marks contents = flat_map marks contents

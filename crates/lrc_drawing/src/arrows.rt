@@ -1,10 +1,10 @@
 // Messages, as arrows between columns.
 
-ghost use Rattle.std.specs.Prelude.{◌≡◌, ◌≤◌, ◌<◌, ◌^◌, ◌++◌, OnOk};
+ghost use Rattle.std.specs.Prelude.{◌≡◌, ◌≤◌, ◌<◌, ◌^◌, ◌++◌, OnOk, codes};
 ghost use Rattle.std.specs.List.{flat_map};
 ghost use Rattle.lrc_show.specs.Each.{each};
 ghost use Rattle.lrc_drawing.specs.Marks.{all_marks};
-ghost use Rattle.lrc_drawing.specs.Shown.{arrow_label, arrow_marks, lost_label, lost_marks};
+ghost use Rattle.lrc_drawing.specs.Shown.{arrow_label, arrow_marks, coming, leaving, lost_label, lost_marks};
 
 use crate::layout::{Layout, height, height_below};
 use crate::paint::{Point, push_group, push_hint, push_label, push_line, push_path, push_plated};
@@ -45,7 +45,10 @@ pub(crate) struct Way {
 }
 
 impl Way {
-    pub(crate) fn between(layout: Layout, from: u8, to: u8) -> Way {
+    pub(crate) fn between(layout: Layout, from: u8, to: u8) -> Way
+        ensures leaves { result.leaves.now ≡ leaving from to }
+        ensures comes { result.comes.now ≡ coming from to }
+    {
         if from < to {
             Way::to_right(layout, from, to)
         } else if to < from {
@@ -55,7 +58,10 @@ impl Way {
         }
     }
 
-    fn to_right(layout: Layout, from: u8, to: u8) -> Way {
+    fn to_right(layout: Layout, from: u8, to: u8) -> Way
+        ensures leaves { result.leaves.now ≡ codes "h-8" }
+        ensures comes { result.comes.now ≡ codes "h12 l-9 -4 v8 l9 -4" }
+    {
         let start = layout.column(usize::from(from)).right;
         let end = layout.column(usize::from(to)).left;
         Way {
@@ -72,7 +78,10 @@ impl Way {
         }
     }
 
-    fn to_left(layout: Layout, from: u8, to: u8) -> Way {
+    fn to_left(layout: Layout, from: u8, to: u8) -> Way
+        ensures leaves { result.leaves.now ≡ codes "h8" }
+        ensures comes { result.comes.now ≡ codes "h-12 l9 -4 v8 l-9 -4" }
+    {
         let start = layout.column(usize::from(from)).left;
         let end = layout.column(usize::from(to)).right;
         Way {
@@ -84,7 +93,10 @@ impl Way {
         }
     }
 
-    fn to_itself(layout: Layout, column: u8) -> Way {
+    fn to_itself(layout: Layout, column: u8) -> Way
+        ensures leaves { result.leaves.now ≡ codes "h-8" }
+        ensures comes { result.comes.now ≡ codes "h-8 l8 -4 v8 l-8 -4" }
+    {
         let side = layout.column(usize::from(column)).right;
         Way {
             from: side + 8,
@@ -97,7 +109,9 @@ impl Way {
     // A way to a column's right side that stays beside it.
     fn from_right(side: u128) -> Way
         requires least { 100 ≤ side }
-        requires most { side < 2 ^ 100 }
+        requires most { side < 2 ^ 104 }
+        ensures leaves { result.leaves.now ≡ codes "h-8" }
+        ensures comes { result.comes.now ≡ codes "h-12 l9 -4 v8 l-9 -4" }
     {
         Way {
             start: side,

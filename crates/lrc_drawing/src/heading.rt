@@ -1,9 +1,9 @@
 // What stands around the rows: the title, the legend and the columns.
 
-ghost use Rattle.std.specs.Prelude.{◌≡◌, ◌++◌, ◌∷◌, ◌<◌, ◌≤◌, ◌^◌, [], OnOk, decimal};
+ghost use Rattle.std.specs.Prelude.{◌≡◌, ◌++◌, ◌∷◌, ◌<◌, ◌≤◌, ◌^◌, [], OnOk, decimal, false};
 ghost use Rattle.std.specs.List.{flat_map};
-ghost use Rattle.lrc_drawing.specs.Marks.{all_marks, box, word};
-ghost use Rattle.lrc_drawing.specs.Shown.{column_marks, legend_marks, line, sample, signs_named, words_named};
+ghost use Rattle.lrc_drawing.specs.Marks.{all_marks, begins_with_digit, word};
+ghost use Rattle.lrc_drawing.specs.Shown.{column_marks, legend_marks, line, lines_named, sample, samples_named, signs_named, unframed, words_named};
 
 use crate::layout::{Lane, Layout};
 use crate::paint::{Area, Point, push_box, push_label, push_path};
@@ -30,7 +30,7 @@ pub(crate) fn push_title(
     size: Point,
     title: &[u8],
 ) -> Result<(), AllocError>
-    ensures { OnOk result (all_marks contents.new.items ≡ all_marks contents.old.items ++ box ∷ word (decimal 24) title.now ∷ []) }
+    ensures { OnOk result (all_marks contents.new.items ≡ all_marks contents.old.items ++ unframed ∷ word (decimal 24) title.now ∷ []) }
 {
     let ground = Area {
         x: 0,
@@ -63,10 +63,10 @@ fn push_sample(
     alloc: Global,
     contents: &mut Vec<Content>,
     x: u16,
-    style: Style,
+    kind: Kind,
     name: &[u8],
 ) -> Result<(), AllocError>
-    ensures { OnOk result (all_marks contents.new.items ≡ all_marks contents.old.items ++ sample name.now) }
+    ensures { OnOk result (all_marks contents.new.items ≡ all_marks contents.old.items ++ sample kind name.now) }
 {
     let area = Area {
         x: u128::from(x),
@@ -74,7 +74,7 @@ fn push_sample(
         width: 28,
         height: 12,
     };
-    push_box(alloc, contents, area, style)?;
+    push_box(alloc, contents, area, Style::row(kind))?;
     push_named(alloc, contents, x, name)
 }
 
@@ -87,7 +87,8 @@ fn push_stroke(
     style: Style,
     name: &[u8],
 ) -> Result<(), AllocError>
-    ensures { OnOk result (all_marks contents.new.items ≡ all_marks contents.old.items ++ line name.now) }
+    requires { begins_with_digit strokes.now ≡ false }
+    ensures { OnOk result (all_marks contents.new.items ≡ all_marks contents.old.items ++ line strokes.now style.dashes.now name.now) }
 {
     let at = Point {
         x: u128::from(x),
@@ -97,21 +98,21 @@ fn push_stroke(
     push_named(alloc, contents, x, name)
 }
 
-// Adds what boxes and lines are.
-fn push_signs(alloc: Global, contents: &mut Vec<Content>) -> Result<(), AllocError>
-    ensures { OnOk result (all_marks contents.new.items ≡ all_marks contents.old.items ++ signs_named) }
+// Adds what boxes are.
+fn push_samples(alloc: Global, contents: &mut Vec<Content>) -> Result<(), AllocError>
+    ensures { OnOk result (all_marks contents.new.items ≡ all_marks contents.old.items ++ samples_named) }
 {
-    push_sample(alloc, contents, 8, Style::row(Kind::Act), b"act")?;
-    push_sample(alloc, contents, 80, Style::row(Kind::Wait), b"waits")?;
-    push_sample(
-        alloc,
-        contents,
-        167,
-        Style::row(Kind::Message),
-        b"messages alone",
-    )?;
-    push_sample(alloc, contents, 320, Style::row(Kind::Trap), b"trap")?;
-    push_sample(alloc, contents, 400, Style::row(Kind::Barrier), b"barrier")?;
+    push_sample(alloc, contents, 8, Kind::Act, b"act")?;
+    push_sample(alloc, contents, 80, Kind::Wait, b"waits")?;
+    push_sample(alloc, contents, 167, Kind::Message, b"messages alone")?;
+    push_sample(alloc, contents, 320, Kind::Trap, b"trap")?;
+    push_sample(alloc, contents, 400, Kind::Barrier, b"barrier")
+}
+
+// Adds what lines are.
+fn push_lines(alloc: Global, contents: &mut Vec<Content>) -> Result<(), AllocError>
+    ensures { OnOk result (all_marks contents.new.items ≡ all_marks contents.old.items ++ lines_named) }
+{
     push_stroke(
         alloc,
         contents,
@@ -152,6 +153,14 @@ fn push_signs(alloc: Global, contents: &mut Vec<Content>) -> Result<(), AllocErr
         Style::line(RACE, b"3"),
         b"race",
     )
+}
+
+// Adds what boxes and lines are.
+fn push_signs(alloc: Global, contents: &mut Vec<Content>) -> Result<(), AllocError>
+    ensures { OnOk result (all_marks contents.new.items ≡ all_marks contents.old.items ++ signs_named) }
+{
+    push_samples(alloc, contents)?;
+    push_lines(alloc, contents)
 }
 
 // Adds a word of the legend.
@@ -199,7 +208,7 @@ fn push_column(
     name: &Vec<u8>,
 ) -> Result<(), AllocError>
     requires order { lane.left ≤ lane.right }
-    requires far { lane.left < 2 ^ 100 }
+    requires far { lane.left < 2 ^ 104 }
     ensures { OnOk result (all_marks contents.new.items ≡ all_marks contents.old.items ++ column_marks name.now) }
 {
     let whole = Area {

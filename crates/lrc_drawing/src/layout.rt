@@ -1,6 +1,6 @@
 // Where things stand, in pixels: columns from the left, rows from the top.
 
-ghost use Rattle.std.specs.Prelude.{◌≡◌, ◌≤◌, ◌<◌, ◌+◌, ◌*◌, ◌^◌};
+ghost use Rattle.std.specs.Prelude.{◌≡◌, ◌≤◌, ◌<◌, ◌+◌, ◌*◌, ◌^◌, length};
 ghost use Rattle.lrc_drawing.specs.Heights.{height};
 
 use lrc_picture::{Arrow, Lost, Picture, Race, Row};
@@ -31,17 +31,19 @@ pub(crate) struct Lane {
 /// of races.
 #[derive(Clone, Copy)]
 pub(crate) struct Layout {
-    words: u8,
-    time: u8,
-    invalid: u8,
-    place: u8,
-    label: u8,
-    group: u8,
+    words: u32,
+    time: u32,
+    invalid: u32,
+    place: u32,
+    label: u32,
+    group: u32,
 }
 
-// How many letters there are, 255 at most.
-fn letters(words: &[u8]) -> u8 {
-    words.len().min(255) as u8
+// How many letters there are. No words come to the bound, of 4 GiB: the longest of a run are a list of 1,024 pages, about 4,000 letters.
+fn letters(words: &[u8]) -> u32
+    ensures { length words.now < 2 ^ 32 → result ≡ length words.now }
+{
+    words.len().min(4_294_967_295) as u32
 }
 
 /// How wide so many letters are.
@@ -52,8 +54,8 @@ pub(crate) fn width(letters: u64) -> u128
 }
 
 // How wide a part of a row is, with a gap behind it.
-fn part(letters: u8) -> u128
-    ensures { result ≤ 2048 }
+fn part(letters: u32) -> u128
+    ensures { result ≤ 2 ^ 35 }
 {
     if letters == 0 {
         0
@@ -64,8 +66,8 @@ fn part(letters: u8) -> u128
 
 // How far a column is from the first.
 fn across(column: usize, pitch: u128) -> u128
-    requires { pitch ≤ 16384 }
-    ensures { result ≤ 2 ^ 78 }
+    requires { pitch ≤ 2 ^ 38 }
+    ensures { result ≤ 2 ^ 102 }
 {
     column as u128 * pitch
 }
@@ -136,28 +138,28 @@ impl Layout {
 
     /// Where a row's time begins, from the column's left.
     pub(crate) fn time(self) -> u128
-        ensures { result ≤ 2054 }
+        ensures { result ≤ 2 ^ 35 + 6 }
     {
         part(self.words) + 6
     }
 
     /// Where its invalid pages begin.
     pub(crate) fn invalid(self) -> u128
-        ensures { result ≤ 4102 }
+        ensures { result ≤ 2 ^ 36 + 6 }
     {
         self.time() + part(self.time)
     }
 
     // How wide a column is.
     fn lane(self) -> u128
-        ensures { result ≤ 8198 }
+        ensures { result ≤ 2 ^ 37 + 6 }
     {
         self.invalid() + part(self.invalid) + part(self.place)
     }
 
     // How far it is from a column's left to that of the next: between them are kinds of messages and the ends of their arrows.
     fn pitch(self) -> u128
-        ensures { result ≤ 10300 }
+        ensures { result ≤ 2 ^ 38 }
     {
         self.lane() + part(self.label) + 36
     }
@@ -165,7 +167,7 @@ impl Layout {
     /// Where a column begins.
     pub(crate) fn left(self, column: usize) -> u128
         ensures least { 100 ≤ result }
-        ensures most { result < 2 ^ 90 }
+        ensures most { result < 2 ^ 103 }
     {
         100 + across(column, self.pitch())
     }
@@ -174,7 +176,7 @@ impl Layout {
     pub(crate) fn column(self, column: usize) -> Lane
         ensures least { 100 ≤ result.left }
         ensures order { result.left ≤ result.right }
-        ensures most { result.right < 2 ^ 91 }
+        ensures most { result.right < 2 ^ 104 }
     {
         let left = self.left(column);
         Lane {

@@ -1,8 +1,9 @@
 // What is painted: elements, one behind another.
 
-ghost use Rattle.std.specs.Prelude.{◌≡◌, ◌++◌, ◌∷◌, [], IfOk, OnOk, codes, decimal, true};
+ghost use Rattle.std.specs.Prelude.{◌≡◌, ◌++◌, ◌∷◌, [], IfOk, OnOk, codes, decimal, false, true};
 ghost use Rattle.lrc_drawing.specs.Attributes.{anchor_word, said};
-ghost use Rattle.lrc_drawing.specs.Marks.{all_marks, all_words, begins, behind, box, ends, hint, named_once, own, path, stroke, word};
+ghost use Rattle.lrc_drawing.specs.Marks.{all_marks, all_words, begins, begins_with_digit, behind, box, ends, held, hint, named_once, own, path, stroke, word};
+ghost use Rattle.lrc_drawing.specs.Shown.{unframed};
 
 use crate::layout::width;
 use crate::style::{Anchor, GROUND, Hand, Style};
@@ -202,7 +203,7 @@ fn push_element(
 ) -> Result<(), AllocError>
     requires { named_once attributes.items ≡ true }
     ensures { OnOk result (all_marks contents.new.items
-        ≡ all_marks contents.old.items ++ own tag attributes.items (all_words inside.items) ++ all_marks inside.items ++ behind tag) }
+        ≡ all_marks contents.old.items ++ own tag attributes.items (all_words inside.items) ++ held tag (all_marks inside.items) ++ behind tag) }
 {
     contents.push(Content::Element(tag, attributes, inside))?;
     Ok(())
@@ -215,7 +216,7 @@ pub(crate) fn push_box(
     area: Area,
     style: Style,
 ) -> Result<(), AllocError>
-    ensures { OnOk result (all_marks contents.new.items ≡ all_marks contents.old.items ++ box ∷ []) }
+    ensures { OnOk result (all_marks contents.new.items ≡ all_marks contents.old.items ++ box style.width.now style.dashes.now ∷ []) }
 {
     let mut attributes = Vec::new(alloc);
     push_area(alloc, &mut attributes, area)?;
@@ -223,7 +224,7 @@ pub(crate) fn push_box(
     push_element(contents, Tag::Box, attributes, Vec::new(alloc))
 }
 
-/// Adds a shape through points.
+/// Adds a shape from a place on, by strokes.
 pub(crate) fn push_path(
     alloc: Global,
     contents: &mut Vec<Content>,
@@ -231,7 +232,9 @@ pub(crate) fn push_path(
     strokes: &[u8],
     style: Style,
 ) -> Result<(), AllocError>
-    ensures { OnOk result (all_marks contents.new.items ≡ all_marks contents.old.items ++ path ∷ []) }
+    requires { begins_with_digit strokes.now ≡ false }
+    ensures { OnOk result (all_marks contents.new.items
+        ≡ all_marks contents.old.items ++ path (decimal start.y) strokes.now style.dashes.now ∷ []) }
 {
     let mut attributes = Vec::new(alloc);
     push_points(alloc, &mut attributes, start, strokes)?;
@@ -247,7 +250,8 @@ pub(crate) fn push_line(
     to: Point,
     style: Style,
 ) -> Result<(), AllocError>
-    ensures { OnOk result (all_marks contents.new.items ≡ all_marks contents.old.items ++ stroke (decimal from.y) (decimal to.y) ∷ []) }
+    ensures { OnOk result (all_marks contents.new.items
+        ≡ all_marks contents.old.items ++ stroke (decimal from.y) (decimal to.y) style.dashes.now ∷ []) }
 {
     let mut attributes = Vec::new(alloc);
     push_ends(alloc, &mut attributes, from, to)?;
@@ -294,7 +298,7 @@ pub(crate) fn push_plated(
     hand: Hand,
     words: &[u8],
 ) -> Result<(), AllocError>
-    ensures { OnOk result (all_marks contents.new.items ≡ all_marks contents.old.items ++ box ∷ word (decimal at.y) words.now ∷ []) }
+    ensures { OnOk result (all_marks contents.new.items ≡ all_marks contents.old.items ++ unframed ∷ word (decimal at.y) words.now ∷ []) }
 {
     let area = plate(at, hand.anchor, words.len());
     push_box(alloc, contents, area, Style::plain(GROUND))?;

@@ -1,10 +1,10 @@
 // Groups of races, as lines between two acts, and barriers, as bands across the columns.
 
-ghost use Rattle.std.specs.Prelude.{◌≡◌, ◌<◌, ◌^◌, ◌++◌, OnOk};
+ghost use Rattle.std.specs.Prelude.{◌≡◌, ◌<◌, ◌^◌, ◌++◌, OnOk, decimal};
 ghost use Rattle.std.specs.List.{flat_map};
 ghost use Rattle.lrc_show.specs.Each.{each};
 ghost use Rattle.lrc_drawing.specs.Marks.{all_marks};
-ghost use Rattle.lrc_drawing.specs.Shown.{band_marks, race_marks};
+ghost use Rattle.lrc_drawing.specs.Shown.{band_marks, knotted, race_marks};
 
 use crate::arrows::Way;
 use crate::layout::{Layout, height, height_below};
@@ -18,6 +18,20 @@ use std::alloc::{AllocError, Global};
 
 // The sign at each end of a race.
 const KNOT: &[u8] = b"m-5 -5 h10 v10 h-10 z";
+
+// Adds a line with a knot at each end.
+fn push_knotted(
+    alloc: Global,
+    inside: &mut Vec<Content>,
+    from: Point,
+    to: Point,
+) -> Result<(), AllocError>
+    ensures { OnOk result (all_marks inside.new.items ≡ all_marks inside.old.items ++ knotted (decimal from.y) (decimal to.y)) }
+{
+    push_line(alloc, inside, from, to, Style::line(RACE, b"3"))?;
+    push_path(alloc, inside, from, KNOT, Style::plain(RACE))?;
+    push_path(alloc, inside, to, KNOT, Style::plain(RACE))
+}
 
 // Adds the line of a group, and its words on a line below the rows and what is used there.
 fn push_race(
@@ -46,9 +60,7 @@ fn push_race(
     };
     let mut inside = Vec::new(alloc);
     push_hint(alloc, &mut inside, race.hint.as_slice())?;
-    push_line(alloc, &mut inside, from, to, Style::line(RACE, b"3"))?;
-    push_path(alloc, &mut inside, from, KNOT, Style::plain(RACE))?;
-    push_path(alloc, &mut inside, to, KNOT, Style::plain(RACE))?;
+    push_knotted(alloc, &mut inside, from, to)?;
     push_label(
         alloc,
         &mut inside,

@@ -2,8 +2,8 @@
 
 ghost use Rattle.std.specs.Prelude.{◌≡◌, ◌≤◌, ◌<◌, ◌^◌, ◌++◌, ◌∷◌, OnOk};
 ghost use Rattle.lrc_show.specs.Each.{each};
-ghost use Rattle.lrc_drawing.specs.Marks.{all_marks, box};
-ghost use Rattle.lrc_drawing.specs.Shown.{row_marks_at, row_words_at, rule_marks};
+ghost use Rattle.lrc_drawing.specs.Marks.{all_marks};
+ghost use Rattle.lrc_drawing.specs.Shown.{row_box, row_marks_at, row_words_at, rule_marks};
 
 use crate::layout::{Lane, Layout, height};
 use crate::paint::{Area, Point, push_box, push_group, push_hint, push_label};
@@ -23,7 +23,7 @@ fn push_frame(
     requires middle { 124 ≤ middle }
     requires far { middle < 2 ^ 90 }
     requires order { lane.left ≤ lane.right }
-    ensures { OnOk result (all_marks inside.new.items ≡ all_marks inside.old.items ++ box ∷ rule_marks row.now.closes) }
+    ensures { OnOk result (all_marks inside.new.items ≡ all_marks inside.old.items ++ row_box row.now.kind ∷ rule_marks row.now.closes) }
 {
     let frame = Area {
         x: lane.left,

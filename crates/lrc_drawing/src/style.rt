@@ -1,7 +1,8 @@
 // Colours, lines and letters. Each kind of row has a border of its own, so that it is told apart in grey too.
 
-ghost use Rattle.std.specs.Prelude.{◌≡◌};
+ghost use Rattle.std.specs.Prelude.{◌≡◌, codes};
 ghost use Rattle.lrc_drawing.specs.Attributes.{anchor_word};
+ghost use Rattle.lrc_drawing.specs.Shown.{message_dashes, row_border, row_dashes, through};
 
 use lrc_picture::Kind;
 
@@ -16,7 +17,10 @@ pub(crate) struct Style {
 
 impl Style {
     /// An area of one colour.
-    pub(crate) fn plain(fill: &'static [u8]) -> Style {
+    pub(crate) fn plain(fill: &'static [u8]) -> Style
+        ensures width { result.width.now ≡ codes "0" }
+        ensures dashes { result.dashes.now ≡ through }
+    {
         Style::bordered(fill, b"none", b"0")
     }
 
@@ -25,7 +29,10 @@ impl Style {
         fill: &'static [u8],
         stroke: &'static [u8],
         width: &'static [u8],
-    ) -> Style {
+    ) -> Style
+        ensures width { result.width.now ≡ width.now }
+        ensures dashes { result.dashes.now ≡ through }
+    {
         Style {
             fill,
             stroke,
@@ -35,12 +42,16 @@ impl Style {
     }
 
     /// A line that runs through.
-    pub(crate) fn line(stroke: &'static [u8], width: &'static [u8]) -> Style {
+    pub(crate) fn line(stroke: &'static [u8], width: &'static [u8]) -> Style
+        ensures { result.dashes.now ≡ through }
+    {
         Style::bordered(b"none", stroke, width)
     }
 
     /// The line of a message: of one that is taken again, dashed.
-    pub(crate) fn message(again: bool) -> Style {
+    pub(crate) fn message(again: bool) -> Style
+        ensures { result.dashes.now ≡ message_dashes again }
+    {
         Style {
             dashes: if again { b"6 4" } else { b"none" },
             ..Style::line(MESSAGE, b"1.5")
@@ -48,7 +59,10 @@ impl Style {
     }
 
     /// The box of a row.
-    pub(crate) fn row(kind: Kind) -> Style {
+    pub(crate) fn row(kind: Kind) -> Style
+        ensures width { result.width.now ≡ row_border kind }
+        ensures dashes { result.dashes.now ≡ row_dashes kind }
+    {
         match kind {
             Kind::Act => Style::bordered(GROUND, INK, b"1"),
             Kind::Wait => Style {

@@ -6,6 +6,8 @@ mod drawing;
 #[cfg(test)]
 mod legend;
 #[cfg(test)]
+mod long;
+#[cfg(test)]
 mod lost;
 #[cfg(test)]
 mod sketching;

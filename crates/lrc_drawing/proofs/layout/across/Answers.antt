@@ -4,12 +4,12 @@ use Rattle.lrc_drawing.proofs.layout.across.Goals as goal
 
 pub overflow_mul-result : goal.overflow_mul-result
 overflow_mul-result c =
-    let most : c.args.column * c.args.pitch ≤ 18446744073709551616 * 16384 =
-    mul-le c.args.column c.args.pitch 18446744073709551616 16384 (omega arith) c.requires in
+    let most : c.args.column * c.args.pitch ≤ 18446744073709551616 * 274877906944 =
+    mul-le c.args.column c.args.pitch 18446744073709551616 274877906944 (omega arith) c.requires in
     omega (arith, most)
 
 pub returns : goal.returns
 returns c =
-    let most : c.args.column * c.args.pitch ≤ 18446744073709551616 * 16384 =
-    mul-le c.args.column c.args.pitch 18446744073709551616 16384 (omega arith) c.requires in
+    let most : c.args.column * c.args.pitch ≤ 18446744073709551616 * 274877906944 =
+    mul-le c.args.column c.args.pitch 18446744073709551616 274877906944 (omega arith) c.requires in
     omega (arith, most)

@@ -17,5 +17,5 @@ returns c =
     said_in_two c.new-attributes.result.items c.push_ends.new.attributes.items c.push_line_style.new.attributes.items _ _
     c.new-attributes.ensures.items c.in_ok-push_ends.ensures c.in_ok-push_line_style.ensures in
     on_ok c.push_element.result
-    (λ marks_are. marks_are ∙ shows_alone (all_marks c.args.contents.now.items) _ _ _ (line_shows _ _ _ _ _ _ said_is) (ap all_marks c.new.ensures.items))
+    (λ marks_are. marks_are ∙ shows_alone (all_marks c.args.contents.now.items) _ _ _ (line_shows _ _ _ _ _ _ _ _ said_is) (ap all_marks c.new.ensures.items))
     c.push_element.ensures

@@ -1,0 +1,20 @@
+use Rattle.std.specs.Prelude.{codes}
+use Rattle.lrc_picture.specs.declared.picture.Kind.TheVariants as kinds
+use Rattle.lrc_svg.proofs.Rows.{on_ok}
+use Rattle.lrc_drawing.specs.Marks.{all_marks}
+use Rattle.lrc_drawing.specs.Shown.{sample}
+use Rattle.lrc_drawing.proofs.Painted.{five}
+use Rattle.lrc_drawing.proofs.heading.push_samples.Goals as goal
+
+pub returns : goal.returns
+returns c =
+    on_ok c.push_sample-5.result
+    (five (all_marks c.args.contents.now.items) (all_marks c.push_sample.new.contents.items)
+    (all_marks c.push_sample-2.new.contents.items)
+    (all_marks c.push_sample-3.new.contents.items)
+    (all_marks c.push_sample-4.new.contents.items)
+    (all_marks c.push_sample-5.new.contents.items)
+    (sample kinds.Act (codes "act")) (sample kinds.Wait (codes "waits")) (sample kinds.Message (codes "messages alone"))
+    (sample kinds.Trap (codes "trap")) (sample kinds.Barrier (codes "barrier"))
+    c.in_ok-push_sample.ensures c.in_ok-push_sample-2.ensures c.in_ok-push_sample-3.ensures c.in_ok-push_sample-4.ensures)
+    c.push_sample-5.ensures

@@ -1,0 +1,25 @@
+use Rattle.std.proofs.Common.{◌≡◌, ◌∙◌, ◌++◌, ◌∷◌, [], ℕ, List, ap, decimal}
+use Rattle.lrc_svg.proofs.Rows.{on_ok}
+use Rattle.lrc_drawing.specs.Marks.{all_marks, path, stroke}
+use Rattle.lrc_drawing.specs.Shown.{knot, through}
+use Rattle.lrc_drawing.proofs.Painted.{joined}
+use Rattle.lrc_drawing.proofs.races.push_knotted.Goals as goal
+
+pub returns : goal.returns
+returns c =
+    let from = decimal c.args.from.y in
+    let to = decimal c.args.to.y in
+    let start = all_marks c.args.inside.now.items in
+    let lined = all_marks c.push_line.new.contents.items in
+    let begun = all_marks c.push_path.new.contents.items in
+    let end = all_marks c.push_path-2.new.contents.items in
+    let line : lined ≡ start ++ stroke from to through ∷ [] =
+    c.in_ok-push_line.ensures ∙ ap (λ (d : List ℕ). start ++ stroke from to d ∷ []) c.line.ensures in
+    let first : begun ≡ lined ++ path from knot through ∷ [] =
+    c.in_ok-push_path.ensures ∙ ap (λ (d : List ℕ). lined ++ path from knot d ∷ []) c.plain.ensures.dashes in
+    on_ok c.push_path-2.result
+    (λ last.
+    joined start begun end (stroke from to through ∷ path from knot through ∷ []) (path to knot through ∷ [])
+    (joined start lined begun (stroke from to through ∷ []) (path from knot through ∷ []) line first)
+    (last ∙ ap (λ (d : List ℕ). begun ++ path to knot d ∷ []) c.plain-2.ensures.dashes))
+    c.push_path-2.ensures
