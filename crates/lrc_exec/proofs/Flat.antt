@@ -15,7 +15,7 @@ use Rattle.lrc_lang.specs.declared.program.Statement.TheVariants.{Assign, Read, 
 use Rattle.lrc_lang.specs.declared.program.Statement.TheVariants.{While, outs-If', outs-While', rolls-If, rolls-While}
 use Rattle.lrc_exec.specs.declared.code.Instruction.{Instruction}
 use Rattle.lrc_exec.specs.Meaning.{block}
-use Rattle.lrc_exec.specs.Flat.{rests_from, rest_at, where_it_holds, where_it_fails, IsSoundAt, IsSoundFrom, IsGrown, IsCodeOf}
+use Rattle.lrc_exec.specs.Flat.{rests_from, rest_at, where_it_holds, where_it_fails, IsSoundAt, IsSoundFrom, IsGrown, IsPut, IsCodeOf}
 use Rattle.lrc_exec.proofs.Privates.{HasFew, HaveFew, few_of_one, few_front, few_behind, few_first, few_second, few_inside}
 
 -- the rows of a block are the items of its vector
@@ -369,10 +369,12 @@ grown_loop old c2 s e a next then is_s within g =
 
 -- code that grew from nothing is the code of its statements
 pub grown_code : (old new : List Instruction) (statements : List Statement) (start : ℕ) → old ≡ [] → HaveFew statements
-    → IsGrown old new statements 0 start → IsCodeOf new start statements
-grown_code old new statements start empty few g =
+    → IsPut old new statements 0 start → IsCodeOf new start statements
+grown_code old new statements start empty few p =
+    let g = p.grown in
     record {
       within = g.within;
       leads = g.leads ∙ ap (λ l. statements ++ l) (rest_at-end new) ∙ append-nil statements;
       sound = λ k i past is. g.sound few k i (omega (arith, ap length empty)) is;
+      each = omega (arith, p.each, ap length empty);
     }

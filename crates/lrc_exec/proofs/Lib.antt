@@ -1,4 +1,5 @@
 pub mod Beginning
+pub mod Counts
 pub mod Flat
 pub mod NextLaws
 pub mod PlainDeeds

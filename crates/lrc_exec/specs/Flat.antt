@@ -1,8 +1,8 @@
 -- Flat code: which statements are still to do at each place, and what makes an instruction sound.
-use Rattle.std.specs.Prelude.{◌≡◌, ℕ, ◌≤◌, Some, List, [], ◌∷◌, ◌++◌, length, slice_get, slice_index_or}
+use Rattle.std.specs.Prelude.{◌≡◌, ℕ, ◌+◌, ◌≤◌, Some, List, [], ◌∷◌, ◌++◌, length, slice_get, slice_index_or}
 use Rattle.lrc_lang.specs.declared.program.Statement.{Statement}
 use Rattle.lrc_lang.specs.declared.program.Statement.TheVariants.{If', While'}
-use Rattle.lrc_lang.specs.Statements.{statement_of, block_of}
+use Rattle.lrc_lang.specs.Statements.{Statement as Tree, if_else, while_do, Block, empty, next, statement_of, block_of}
 use Rattle.lrc_lang.specs.Sizes.{names_in_statement, names_in}
 use Rattle.lrc_exec.specs.declared.code.Instruction.{Instruction}
 use Rattle.lrc_exec.specs.Meaning.{block}
@@ -42,6 +42,17 @@ pub record IsSoundAt (code : List Instruction) (k : ℕ) (instruction : Instruct
 abbrev pub IsSoundFrom : ℕ → List Instruction → Type 0
 IsSoundFrom from code = (k : ℕ) (instruction : Instruction) → from ≤ k → slice_get code k ≡ Some instruction → IsSoundAt code k instruction
 
+-- how many statements stand in a statement, itself among them, and in a block
+abbrev mutual
+  pub statements_in_statement : Tree → ℕ
+  statements_in_statement (if_else condition then otherwise) = 1 + (statements_in then + statements_in otherwise)
+  statements_in_statement (while_do condition inside) = 1 + statements_in inside
+  statements_in_statement _ = 1
+
+  pub statements_in : Block → ℕ
+  statements_in empty = 0
+  statements_in (next first others) = statements_in_statement first + statements_in others
+
 -- The code has grown by instructions that at `place` begin these statements, after which comes `next`. They are sound
 -- where the private names of the statements are among the 32 that there are.
 pub record IsGrown (old new : List Instruction) (statements : List Statement) (next place : ℕ) : Type 0 where
@@ -51,8 +62,14 @@ pub record IsGrown (old new : List Instruction) (statements : List Statement) (n
   pub leads : rest_at new place ≡ statements ++ rest_at new next
   pub sound : names_in (block_of statements) ≤ 32 → IsSoundFrom (length old) new
 
--- the code of these statements, which begin at `start`
+-- it has grown so by an instruction for each statement that stands in these
+pub record IsPut (old new : List Instruction) (statements : List Statement) (next place : ℕ) : Type 0 where
+  pub grown : IsGrown old new statements next place
+  pub each : length new ≡ length old + statements_in (block_of statements)
+
+-- the code of these statements, which begin at `start`: an instruction for each statement that stands in them
 pub record IsCodeOf (code : List Instruction) (start : ℕ) (statements : List Statement) : Type 0 where
   pub within : start ≤ length code
   pub leads : rest_at code start ≡ statements
   pub sound : IsSoundFrom 0 code
+  pub each : length code ≡ statements_in (block_of statements)

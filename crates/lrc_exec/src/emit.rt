@@ -1,7 +1,7 @@
 // The making of flat code.
 
 ghost use Rattle.std.specs.Prelude.{◌≡◌, ◌+◌, ◌≤◌, [], ◌∷◌, ◌++◌, length, IfOk};
-ghost use Rattle.lrc_exec.specs.Flat.{IsGrown};
+ghost use Rattle.lrc_exec.specs.Flat.{IsPut};
 
 use crate::code::Instruction;
 use lrc_lang::program::Statement;
@@ -28,7 +28,7 @@ pub(crate) fn put_block<'p>(
     next: usize,
 ) -> Result<usize, AllocError>
     requires { next ≤ length code.old.items }
-    ensures { IfOk result (λ place. IsGrown code.old.items code.new.items statements.now next place) }
+    ensures { IfOk result (λ place. IsPut code.old.items code.new.items statements.now next place) }
 {
     let mut place = next;
     for i in (0..statements.len()).rev() {
@@ -46,7 +46,7 @@ fn put_statement<'p>(
     next: usize,
 ) -> Result<usize, AllocError>
     requires { next ≤ length code.old.items }
-    ensures { IfOk result (λ place. IsGrown code.old.items code.new.items (statement.now ∷ []) next place) }
+    ensures { IfOk result (λ place. IsPut code.old.items code.new.items (statement.now ∷ []) next place) }
 {
     match statement {
         Statement::If(_, first, second) => {

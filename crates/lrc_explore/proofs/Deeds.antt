@@ -99,6 +99,7 @@ state_memory flat state word value s = record {
   holders = s.holders;
   arrivals = s.arrivals;
   spots = s.spots;
+  numbers = s.numbers;
   within = s.within;
   blank = s.blank;
 }
@@ -110,6 +111,7 @@ state_holders flat state lock holder s = record {
   holders = length-set state.holders.items lock holder ∙ s.holders;
   arrivals = s.arrivals;
   spots = s.spots;
+  numbers = s.numbers;
   within = s.within;
   blank = s.blank;
 }
@@ -121,6 +123,7 @@ state_arrivals flat state node count s = record {
   holders = s.holders;
   arrivals = length-set state.arrivals.items node count ∙ s.arrivals;
   spots = s.spots;
+  numbers = s.numbers;
   within = s.within;
   blank = s.blank;
 }

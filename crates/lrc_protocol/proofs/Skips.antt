@@ -158,11 +158,22 @@ same_after world flight n l input (logged entry after) next at e i is =
 same_after world flight n l input refused next at e i is = subst (IsSame world) (same_Some world next is) (refl, refl, refl)
 same_after world flight n l input too_large next at e i is = cc
 
+-- whatever becomes of the message: it is marked as taken, or leaves the flight
+repeat-left : (world after : World) (flight : List Flying) (place : ℕ) (flying : Flying) (l : Logged) → slice_get world.flight place ≡ Some flying
+    → slice_get world.nodes flying.envelope.to ≡ Some l → is_addressed l.node flying.envelope ≡ true
+    → is_repeat l.node flying.envelope ≡ true → delivers world flight (slice_get world.flight place) ≡ Some after → IsSame world after
+repeat-left world after flight place flying l at there a r e =
+    same_after world flight flying.envelope.to l (taken flying.envelope) (logs l (taken flying.envelope) flying.stamp) after there
+    (repeat-turn l.node flying.envelope a r)
+    (logs-entries l (taken flying.envelope) flying.stamp)
+    (sym (delivered world flight (slice_get world.flight place) flying l at there) ∙ e)
+
 pub repeat-run : (world after : World) (place : ℕ) (flying : Flying) (l : Logged) → slice_get world.flight place ≡ Some flying
     → slice_get world.nodes flying.envelope.to ≡ Some l → is_addressed l.node flying.envelope ≡ true
     → is_repeat l.node flying.envelope ≡ true → event_on world (Repeat place) ≡ Some after → IsSame world after
-repeat-run world after place flying l at there a r e =
-    same_after world (with_mark world.flight place) flying.envelope.to l (taken flying.envelope) (logs l (taken flying.envelope) flying.stamp) after there
-    (repeat-turn l.node flying.envelope a r)
-    (logs-entries l (taken flying.envelope) flying.stamp)
-    (sym (delivered world (with_mark world.flight place) (slice_get world.flight place) flying l at there) ∙ e)
+repeat-run world after place flying l at there a r e = repeat-left world after (with_mark world.flight place) place flying l at there a r e
+
+pub repeat-delivered : (world after : World) (place : ℕ) (flying : Flying) (l : Logged) → slice_get world.flight place ≡ Some flying
+    → slice_get world.nodes flying.envelope.to ≡ Some l → is_addressed l.node flying.envelope ≡ true
+    → is_repeat l.node flying.envelope ≡ true → event_on world (Deliver place) ≡ Some after → IsSame world after
+repeat-delivered world after place flying l at there a r e = repeat-left world after (remove world.flight place) place flying l at there a r e

@@ -54,13 +54,18 @@ pub fn skipped_events_change_nothing()
 {}
 
 /// A message that its receiver has taken before makes an empty turn that leaves the node as it was. In a run it changes
-/// no node's state, no act and no time.
+/// no node's state, no act and no time, whether it stays in flight or leaves it.
 pub fn repeats_change_nothing_but_the_log()
     ensures turn { (node : Node) (envelope : EnvelopeRecord) → is_addressed node envelope ≡ true
         → is_repeat node envelope ≡ true → take_turn node envelope ≡ done empty_turn node }
     ensures run { (world after : World) (place : ℕ) (flying : Flying) (l : Logged) → slice_get world.flight place ≡ Some flying
         → slice_get world.nodes flying.envelope.to ≡ Some l → is_addressed l.node flying.envelope ≡ true
         → is_repeat l.node flying.envelope ≡ true → event_on world (Repeat place) ≡ Some after
+        → (after.acts ≡ world.acts) × (after.times ≡ world.times)
+        × (map (λ (l : Logged). l.node) after.nodes ≡ map (λ (l : Logged). l.node) world.nodes) }
+    ensures delivered { (world after : World) (place : ℕ) (flying : Flying) (l : Logged) → slice_get world.flight place ≡ Some flying
+        → slice_get world.nodes flying.envelope.to ≡ Some l → is_addressed l.node flying.envelope ≡ true
+        → is_repeat l.node flying.envelope ≡ true → event_on world (Deliver place) ≡ Some after
         → (after.acts ≡ world.acts) × (after.times ≡ world.times)
         × (map (λ (l : Logged). l.node) after.nodes ≡ map (λ (l : Logged). l.node) world.nodes) }
 {}
@@ -94,7 +99,8 @@ pub fn acts_follow_the_text()
         → MakesTo (Some (start_of program nodes n)) (deeds_of n world.acts) (thread_of l.node.course) }
 {}
 
-/// In every run there is a time for each act: that of its node just after it.
+/// In every run there are as many times as acts, one for each. (That an act's time is that of its node just after it says
+/// `times_are_those_of_the_nodes` of lrc_timed.)
 pub fn each_act_has_its_time()
     ensures { (program : Program) (nodes : ℕ) (options : OptionsRecord) (events : List Event) (world : World)
         → run_of program nodes options events ≡ Some world → length world.times ≡ length world.acts }
