@@ -1,5 +1,6 @@
 -- What every run and every report promises: the sequential-consistency theorem among it.
-use Rattle.std.proofs.Common.{◌≡◌, ℕ, ◌<◌, List, map, sym, subst}
+use Rattle.std.proofs.Common.{◌≡◌, ◌∙◌, ℕ, ◌<◌, false, List, map, sym, subst}
+use Rattle.std.proofs.lemmas.Option.{same_Some}
 use Rattle.std.specs.Prelude.{Some}
 use Rattle.lrc_lang.specs.declared.program.Program.{Program}
 use Rattle.lrc_trace.specs.declared.act.Act.{Act}
@@ -14,6 +15,7 @@ use Rattle.lrc_parts.specs.declared.end.End.{End}
 use Rattle.lrc_world.specs.declared.report.Report.{Report}
 use Rattle.lrc_world.specs.Promises.{AreKept, IsConsistent}
 use Rattle.lrc_world.specs.Report.{IsReportOf, end_of_logged}
+use Rattle.lrc_world.specs.World.{sends_long}
 use Rattle.lrc_world.proofs.EndsOfRuns.{ends_of_acts}
 use Rattle.lrc_world.proofs.Moments.{refuses_none, each_token, covered_acts}
 
@@ -32,13 +34,15 @@ module _ (program : Program) (nodes : ℕ) (options : OptionsRecord) (events : L
     unraced = is_race_free program nodes options (reads program nodes options) run reached;
   })
 
-  -- all that a run promises
-  pub all_kept : 0 < nodes → (ends : List End) → ends ≡ map end_of_logged run.nodes → AreKept program nodes options events acts ends
-  all_kept some ends told = record {
+  -- all that a run with no message that is too long promises
+  pub all_kept : 0 < nodes → sends_long run ≡ false → (ends : List End) → ends ≡ map end_of_logged run.nodes
+      → AreKept program nodes options events acts ends
+  all_kept some short ends told = record {
     ended = ends_of_acts program nodes options events acts ends run runs same told;
     accepted = refuses_none program nodes options events;
     tokens = each_token program nodes options events some;
     covered = covered_acts program nodes options events acts run runs same;
+    short = λ other found. subst (λ (r : Run). sends_long r ≡ false) (same_Some run other (sym runs ∙ found)) short;
     theorem = consistent_acts;
   }
 

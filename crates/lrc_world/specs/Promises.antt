@@ -1,5 +1,5 @@
 -- What every run promises.
-use Rattle.std.specs.Prelude.{◌≡◌, ℕ, Some, List}
+use Rattle.std.specs.Prelude.{◌≡◌, ℕ, false, Some, List}
 use Rattle.lrc_lang.specs.declared.program.Program.{Program}
 use Rattle.lrc_trace.specs.declared.act.Act.{Act}
 use Rattle.lrc_trace.specs.Conflict.{IsRaceFree, IsFirstRace}
@@ -14,6 +14,7 @@ use Rattle.lrc_protocol.specs.Node.{OptionsRecord}
 use Rattle.lrc_protocol.specs.Run.{World as Run, run_of}
 use Rattle.lrc_world.specs.Ends.{ends_of}
 use Rattle.lrc_world.specs.Moments.{AreCovered, HasEachToken, RefusesNone, Throughout}
+use Rattle.lrc_world.specs.World.{sends_long}
 
 -- The sequential-consistency theorem, of a run's acts in their order. They are well synchronized, and each node reads what was written
 -- last by what happens before. Where no two conflicting accesses are unordered, the plain machine makes the same acts; every run is plain
@@ -27,10 +28,11 @@ pub record IsConsistent (program : Program) (nodes : ℕ) (acts : List Act) : Ty
 
 -- A program's run of some events makes these acts, and so its nodes end. At each moment each message in flight is from one of the nodes
 -- and for one of them, which does not refuse it, and each lock's token is in one place; and at each access the node's time knows just
--- what happens before it. The theorem holds of the acts.
+-- what happens before it. No turn of the run sends a message that is too long. The theorem holds of the acts.
 pub record AreKept (program : Program) (nodes : ℕ) (options : OptionsRecord) (events : List Event) (acts : List Act) (ends : List End) : Type 0 where
   pub ended : ends ≡ ends_of nodes acts
   pub accepted : Throughout program nodes options events RefusesNone
   pub tokens : Throughout program nodes options events (HasEachToken program.locks)
   pub covered : (run : Run) → run_of program nodes options events ≡ Some run → AreCovered acts run.times
+  pub short : (run : Run) → run_of program nodes options events ≡ Some run → sends_long run ≡ false
   pub theorem : IsConsistent program nodes acts

@@ -31,7 +31,7 @@ use std::alloc::Global;
 ///
 /// At each moment of the run each message in flight is from one of the nodes and for one of them, which does not refuse it, of
 /// whatever kind and in whatever order they come; each lock's token is in one place; and at each access the node's time knows just
-/// what happens before it.
+/// what happens before it. None of its turns sends a message that is too long.
 ///
 /// The sequential-consistency theorem is among its promises: where no two conflicting accesses are unordered by program, lock
 /// and barrier order, the plain machine, led by the order of the acts, makes the same acts. Every run is plain up to its first

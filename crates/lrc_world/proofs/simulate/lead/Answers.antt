@@ -172,7 +172,7 @@ returns-clause-kept c =
     let told = c.in_ok-report.ensures.report (starts_of c.args.program.now c.args.nodes c.args.options.now c.args.keep) r.run r.shows in
     let runs = ap (λ v. played start v.items) c.in_ok-report.ensures.events ∙ led_played s start c.lead.new.self.events.items r.run r.standing r.led in
     all_kept c.args.program.now c.args.nodes c.args.options.now c.in_ok-report.field-0.0.items c.in_ok-report.field-0.1.acts.items r.run runs told.acts
-    (omega (arith, c.in_ok-count.ensures.1.0)) c.in_ok-report.field-0.1.ends.items told.ends
+    (omega (arith, c.in_ok-count.ensures.1.0)) r.shows.short c.in_ok-report.field-0.1.ends.items told.ends
 
 pub returns-in_err-count-clause-worn : goal.returns-in_err-count-clause-worn
 returns-in_err-count-clause-worn c = λ e. absurd

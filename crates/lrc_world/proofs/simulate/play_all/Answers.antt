@@ -36,10 +36,11 @@ returns-clause-report c =
     )
 
 pub returns-clause-kept : goal.returns-clause-kept
+unfolding returns-clause-report
 returns-clause-kept c =
     let is = returns-clause-report c in
     all_kept c.args.program.now c.args.nodes c.args.options.now c.args.events.now c.in_ok-report.field-0.acts.items is.0 is.1 is.2.acts
-    (omega (arith, c.in_ok-count.ensures.1.0)) c.in_ok-report.field-0.ends.items is.2.ends
+    (omega (arith, c.in_ok-count.ensures.1.0)) c.loop-event.invariant.2.short c.in_ok-report.field-0.ends.items is.2.ends
 
 pub returns-clause-races : goal.returns-clause-races
 returns-clause-races c =
