@@ -1,46 +1,43 @@
 -- What is answered where a node wore out.
-use Rattle.std.proofs.Common.{◌≡◌, ◌∙◌, ◌<◌, ◌^◌, ℕ, List, Result, Ok, Err, inl, inr, refl, subst, sym, length, map}
-use Rattle.std.specs.Prelude.{IfOk}
-use Rattle.std.proofs.lemmas.List.{length-map}
+use Rattle.std.proofs.Common.{◌≡◌, ◌<◌, ◌^◌, ℕ, List, Result, Ok, Err, inl, inr, refl, subst, sym, length, map}
+use Rattle.std.specs.Prelude.{IfOk, Option}
 use Rattle.lrc_lang.specs.declared.program.Program.{Program}
 use Rattle.lrc_protocol.specs.declared.event.Event.{Event}
 use Rattle.lrc_protocol.specs.Node.{OptionsRecord}
-use Rattle.lrc_protocol.specs.Run.{EntryRecord, Flying}
+use Rattle.lrc_protocol.specs.Run.{Input, EntryRecord}
 use Rattle.lrc_weave.specs.declared.fault.WeaveFault.{WeaveFault}
 use Rattle.lrc_weave.specs.declared.fault.WeaveFault.TheVariants as weaving
 use Rattle.lrc_run.specs.declared.fault.RunFault.{RunFault}
 use Rattle.lrc_run.specs.declared.fault.RunFault.TheVariants.{BadNodes, BadSteps, Worn, Mismatch, NoMemory}
 use Rattle.lrc_post.specs.Mailbox.{MailboxRecord}
-use Rattle.lrc_weave.specs.Logs.{AreLogs}
-use Rattle.lrc_weave.specs.Matched.{AreMatched}
-use Rattle.lrc_weave.specs.Woven.{AreWoven}
 use Rattle.lrc_world.specs.declared.report.SimFault.{SimFault}
 use Rattle.lrc_world.specs.declared.report.SimFault.TheVariants as playing
 use Rattle.lrc_exec.specs.Nodes.{AreNodes}
 use Rattle.lrc_world.specs.Range.{AreSteps}
 use Rattle.lrc_world.specs.Report.{IsWornBy}
 use Rattle.lrc_run.specs.Faults.{AnswersEvents, AnswersWorn, AreEventsOf, AreUnmatched, of_playing}
+use Rattle.lrc_run.specs.Unfinished.{unfinished}
 use Rattle.lrc_run.specs.Run.{IsLate, WearsOutSoon, of_weaving}
 
-module _ (program : Program) (nodes : ℕ) (options : OptionsRecord) (logs : List (List EntryRecord)) where
-  -- the logs are not woven
-  pub unwoven : (fault : WeaveFault) → (fault ≡ weaving.Mismatch → AreUnmatched logs) → AnswersWorn program nodes options logs (of_weaving fault)
+module _ (program : Program) (nodes : ℕ) (options : OptionsRecord) (logs : List (List EntryRecord)) (wires : List MailboxRecord) (node : ℕ) where
+  -- the unfinished turn has no event
+  pub unwoven : (fault : WeaveFault) → (fault ≡ weaving.Mismatch → AreUnmatched logs (unfinished logs wires node)) → AnswersWorn program nodes options logs wires node (of_weaving fault)
   unwoven weaving.Mismatch unmatched = inr (inl (refl, unmatched refl))
   unwoven weaving.NoMemory unmatched = inl refl
 
-  -- they are
-  pub woven : (events : List Event) (fault : RunFault) → length events < 2 ^ 64 → AreEventsOf logs events
-      → AnswersEvents program nodes options events fault → AnswersWorn program nodes options logs fault
+  -- it has
+  pub woven : (events : List Event) (fault : RunFault) → length events < 2 ^ 64 → AreEventsOf logs node (unfinished logs wires node) events
+      → AnswersEvents program nodes options events fault → AnswersWorn program nodes options logs wires node fault
   woven events fault few of answers = inr (inr (events, few, of, answers))
 
   -- events wear out
-  pub worn_soon : (fault : RunFault) → AnswersWorn program nodes options logs fault → fault ≡ Worn → WearsOutSoon program nodes options
+  pub worn_soon : (fault : RunFault) → AnswersWorn program nodes options logs wires node fault → fault ≡ Worn → WearsOutSoon program nodes options
   worn_soon fault (inl short) is = cc
   worn_soon fault (inr (inl unmatched)) is = let same = unmatched.0 in cc
   worn_soon fault (inr (inr h)) is = (h.0, h.1, subst (AnswersEvents program nodes options h.0) is h.3)
 
   -- the run was in range
-  pub is_late : (fault : RunFault) → AnswersWorn program nodes options logs fault → IsLate fault
+  pub is_late : (fault : RunFault) → AnswersWorn program nodes options logs wires node fault → IsLate fault
   is_late BadNodes (inl short) = cc
   is_late BadNodes (inr (inl unmatched)) = let same = unmatched.0 in cc
   is_late BadNodes (inr (inr h)) = h.3
@@ -53,25 +50,18 @@ module _ (program : Program) (nodes : ℕ) (options : OptionsRecord) (logs : Lis
 
 -- ---- events
 
-module _ {A : Type 0} (seen : A → List EntryRecord) (found : List A) (logs : List (List EntryRecord)) (same : map seen found ≡ logs) where
+module _ {A : Type 0} (seen : A → List EntryRecord) (found logs : List A) (same : found ≡ logs) (node : ℕ) (input known : Option Input) (is : input ≡ known) where
   -- the events that are made are those of the logs
   pub events_same : {E : Type 0} (result : Result E WeaveFault) (items : E → List Event)
-      → IfOk result (λ e. (program : Program) (nodes : ℕ) (options : OptionsRecord) (wires : List MailboxRecord)
-      → AreLogs program nodes options (map seen found) → AreMatched (map seen found) wires → length wires ≡ length found
-      → (flight : List Flying) × AreWoven (map seen found) (items e) flight)
-      → IfOk result (λ e. AreEventsOf logs (items e))
+      → IfOk result (λ e. AreEventsOf (map seen found) node known (items e)) → IfOk result (λ e. AreEventsOf (map seen logs) node input (items e))
   events_same (Ok e) items made =
-      subst (λ l. AreEventsOf l (items e)) same
-      (λ program nodes options wires are matched count. made program nodes options wires are matched (count ∙ length-map found seen))
+      subst (λ l. AreEventsOf (map seen l) node input (items e)) same
+      (subst (λ o. AreEventsOf (map seen found) node o (items e)) (sym is) made)
   events_same (Err fault) items made = tt
 
-  -- where none are made the logs match nothing
-  pub unmatched_same : ((program : Program) (nodes : ℕ) (options : OptionsRecord) (wires : List MailboxRecord)
-      → AreLogs program nodes options (map seen found) → AreMatched (map seen found) wires → length wires ≡ length found → ⊥)
-      → AreUnmatched logs
-  unmatched_same none =
-      subst AreUnmatched same
-      (λ program nodes options wires are matched count. none program nodes options wires are matched (count ∙ length-map found seen))
+  -- where none are made the logs have none
+  pub unmatched_same : AreUnmatched (map seen found) known → AreUnmatched (map seen logs) input
+  unmatched_same none = subst (λ l. AreUnmatched (map seen l) input) same (subst (AreUnmatched (map seen found)) (sym is) none)
 
 -- a run of events that was refused wears out, or memory was missing; its count of nodes is given as a wider number
 pub refused : (program : Program) (nodes wide : ℕ) (options : OptionsRecord) (events : List Event) (fault : SimFault) → wide ≡ nodes

@@ -1,5 +1,5 @@
 -- The turn that a node did not finish, as its log and what its mailbox kept tell.
-use Rattle.std.specs.Prelude.{ℕ, Bool, true, false, Option, Some, None, option_and_then, Result, Ok, Err, List, [], ◌∷◌, ◌++◌, count_by, filter_map, slice_get, slice_set}
+use Rattle.std.specs.Prelude.{ℕ, Bool, true, false, Option, Some, None, option_and_then, Result, Ok, Err, List, count_by, filter_map, slice_get}
 use Rattle.lrc_wire.specs.declared.fault.WireFault.{WireFault}
 use Rattle.lrc_envelope.specs.Envelope.{EnvelopeRecord}
 use Rattle.lrc_wire.specs.Reading.{envelope_of}
@@ -42,21 +42,12 @@ abbrev pub input_of : Option (List ℕ) → Input
 input_of None = run
 input_of (Some bytes) = input_read (envelope_of bytes)
 
--- The turn that the node did not finish: by the message that was taken next, or by itself. It stands behind all others, and neither
--- acts nor sends.
-abbrev pub unfinished : List EntryRecord → List Wire → EntryRecord
-unfinished log history = record {
-  input = input_of (next_taken log history);
-  stamp = 18446744073709551615;
-  turn = record { act = None; out = [] };
-}
+-- the input of that turn, where the node has a log and a mailbox
+abbrev pub input_behind : Option (List EntryRecord) → Option MailboxRecord → Option Input
+input_behind None mailbox = None
+input_behind (Some log) None = None
+input_behind (Some log) (Some mailbox) = Some (input_of (next_taken log mailbox.history))
 
--- the logs with that turn behind those of a node, where the node has a mailbox and a log
-abbrev pub with_unfinished : List (List EntryRecord) → ℕ → Option MailboxRecord → Option (List EntryRecord) → List (List EntryRecord)
-with_unfinished logs node None log = logs
-with_unfinished logs node (Some mailbox) None = logs
-with_unfinished logs node (Some mailbox) (Some log) = slice_set logs node (log ++ unfinished log mailbox.history ∷ [])
-
--- the logs and mailboxes of nodes of which one stopped in a turn: the logs, with that turn behind the others of its node
-abbrev pub left_behind : List (List EntryRecord) → List MailboxRecord → ℕ → List (List EntryRecord)
-left_behind logs wires node = with_unfinished logs node (slice_get wires node) (slice_get logs node)
+-- the same of the logs and mailboxes of nodes of which this one stopped in a turn: by the message that was taken next, or by itself
+abbrev pub unfinished : List (List EntryRecord) → List MailboxRecord → ℕ → Option Input
+unfinished logs wires node = input_behind (slice_get logs node) (slice_get wires node)

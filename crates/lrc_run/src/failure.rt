@@ -9,15 +9,15 @@ ghost use Rattle.lrc_world.specs.Range.{AreSteps};
 ghost use Rattle.lrc_world.specs.Report.{IsWornBy};
 ghost use Rattle.lrc_run.specs.Faults.{AnswersEvents, AnswersStop, AnswersWorn, AreEventsOf, AreUnmatched, of_playing};
 ghost use Rattle.lrc_run.specs.Run.{IsLate, WearsOutSoon};
-ghost use Rattle.lrc_run.specs.Unfinished.{input_of, is_take, left_behind, next_taken, put_at, unfinished};
+ghost use Rattle.lrc_run.specs.Unfinished.{input_of, is_take, next_taken, put_at, unfinished};
 
 use crate::fault::RunFault;
 use bytes::Bytes;
-use lrc_node::{Entry, Input, Turn};
+use lrc_node::{Entry, Input};
 use lrc_post::{Mailbox, Wire};
 use lrc_protocol::Event;
 use lrc_threads::{Failure, Setting, Stop};
-use lrc_weave::{WeaveFault, events_of};
+use lrc_weave::{WeaveFault, events_of, events_with};
 use lrc_wire::{WireFault, decode};
 use lrc_world::report::SimFault;
 use lrc_world::simulate::replay_briefly;
@@ -46,7 +46,7 @@ pub(crate) fn fault_of(
     ensures soon { result ≡ RunFault.Worn → WearsOutSoon setting.now.program.now setting.now.nodes setting.now.options }
     ensures late { IsLate result }
     ensures stop { AnswersStop setting.now.program.now setting.now.nodes setting.now.options
-        (left_behind (map (λ log. log.items) remains.entry.logs.items) remains.entry.wires.now failure.node) failure.stop result }
+        (map (λ log. log.items) remains.entry.logs.items) remains.entry.wires.now failure.node failure.stop result }
 {
     match failure.stop {
         Stop::Worn => worn_out(alloc, setting, remains, failure.node),
@@ -59,7 +59,7 @@ fn worn_out(alloc: Global, setting: &Setting<'_>, remains: Remains<'_>, node: us
     requires few { length remains.logs.items ≤ 16 }
     requires range { AreNodes setting.now.nodes × AreSteps setting.now.options.steps }
     ensures { AnswersWorn setting.now.program.now setting.now.nodes setting.now.options
-        (left_behind (map (λ log. log.items) remains.entry.logs.items) remains.entry.wires.now node) result }
+        (map (λ log. log.items) remains.entry.logs.items) remains.entry.wires.now node result }
 {
     let events = match events_until(alloc, remains, node) {
         Ok(events) => events,
@@ -109,52 +109,23 @@ pub(crate) fn count_of(events: &[Event]) -> usize
     events.len()
 }
 
-// The events that make all turns, and behind them the one at which the node wore out.
+// The events that make all turns, and behind them the one of the turn that the node did not finish.
 fn events_until(alloc: Global, remains: Remains<'_>, node: usize) -> Result<Vec<Event>, WeaveFault>
     requires few { length remains.logs.items ≤ 16 }
-    ensures events { IfOk result (λ events. AreEventsOf
-        (left_behind (map (λ log. log.items) remains.entry.logs.items) remains.entry.wires.now node) events.items) }
-    ensures mismatch { result ≡ Err weaving.Mismatch → AreUnmatched
-        (left_behind (map (λ log. log.items) remains.entry.logs.items) remains.entry.wires.now node) }
+    ensures events { IfOk result (λ events. AreEventsOf (map (λ log. log.items) remains.entry.logs.items) node
+        (unfinished (map (λ log. log.items) remains.entry.logs.items) remains.entry.wires.now node) events.items) }
+    ensures mismatch { result ≡ Err weaving.Mismatch → AreUnmatched (map (λ log. log.items) remains.entry.logs.items)
+        (unfinished (map (λ log. log.items) remains.entry.logs.items) remains.entry.wires.now node) }
 {
-    let logs = left_behind(alloc, remains, node)?;
-    events_of(alloc, logs.as_slice())
-}
-
-// The logs, with the turn behind its own that the node did not finish.
-fn left_behind(
-    alloc: Global,
-    remains: Remains<'_>,
-    node: usize,
-) -> Result<Vec<Vec<Entry>>, AllocError>
-    ensures logs { IfOk result (λ logs. map (λ log. log.items) logs.items
-        ≡ left_behind (map (λ log. log.items) remains.entry.logs.items) remains.entry.wires.now node) }
-    ensures count { IfOk result (λ logs. length logs.items ≡ length remains.entry.logs.items) }
-{
-    let Remains { mut logs, wires } = remains;
-    let Some(mailbox) = wires.get(node) else {
-        return Ok(logs);
+    let logs = remains.logs.as_slice();
+    let Some(mailbox) = remains.wires.get(node) else {
+        return events_of(alloc, logs);
     };
-    let Some(log) = logs.get_mut(node) else {
-        return Ok(logs);
+    let Some(log) = logs.get(node) else {
+        return events_of(alloc, logs);
     };
-    let last = unfinished(alloc, log.as_slice(), mailbox)?;
-    log.push(last)?;
-    Ok(logs)
-}
-
-// The turn that a node did not finish. It stands behind all others.
-fn unfinished(alloc: Global, log: &[Entry], mailbox: &Mailbox) -> Result<Entry, AllocError>
-    ensures { IfOk result (λ entry. entry ≡ unfinished log.now mailbox.now.history) }
-{
-    Ok(Entry {
-        input: input_behind(alloc, log, mailbox.history())?,
-        stamp: u64::MAX,
-        turn: Turn {
-            act: None,
-            out: Vec::new(alloc),
-        },
-    })
+    let input = input_behind(alloc, log.as_slice(), mailbox.history())?;
+    events_with(alloc, logs, node as u8, &input)
 }
 
 // The input of that turn: the next message that the node took, or else it went on by itself.

@@ -12,9 +12,8 @@ use Rattle.lrc_protocol.specs.declared.event.Event.{Event}
 use Rattle.lrc_weave.specs.declared.events.MessageName.{MessageName}
 use Rattle.lrc_lang.specs.declared.program.Program.{Program}
 use Rattle.lrc_protocol.specs.Node.{OptionsRecord}
-use Rattle.lrc_post.specs.Mailbox.{MailboxRecord}
 use Rattle.lrc_weave.specs.Logs.{AreLogs}
-use Rattle.lrc_weave.specs.Matched.{AreMatched}
+use Rattle.lrc_weave.specs.Sent.{AreTakesSent}
 use Rattle.lrc_weave.specs.Events.{IsTurnOf, IsUnsent, NotesTurn}
 use Rattle.lrc_weave.proofs.Heads.{head_stamp, AreHeads}
 use Rattle.lrc_weave.proofs.Weaving.{to_come, one_less}
@@ -124,13 +123,13 @@ module _ {V : Type 0} (f : V → List EntryRecord) where
   pub so_unsent : (vs : List V) (come : List ℕ) (names : List MessageName) (events : List Event) (acts : List Act) (n place : ℕ) (v : V)
       → (length come ≡ length vs) × WovenSo (map f vs) come names events acts → IsNextOf (map f vs) come (Some n) → v ≡ slice_index_or vs n v
       → place ≡ come_of come n → IsUnsent (f v) place names
-      → (program : Program) (nodes : ℕ) (options : OptionsRecord) (wires : List MailboxRecord) → AreLogs program nodes options (map f vs)
-      → AreMatched (map f vs) wires → length wires ≡ length vs → ⊥
-  so_unsent vs come names events acts n place v so next v_is place_is unsent program nodes options wires are matched count =
+      → (program : Program) (nodes : ℕ) (options : OptionsRecord) → AreLogs program nodes options (map f vs)
+      → AreTakesSent (map f vs) → ⊥
+  so_unsent vs come names events acts n place v so next v_is place_is unsent program nodes options are sources =
       let log_is : f v ≡ log_of (map f vs) n = ap f v_is ∙ sym (log_at vs n v (next_node vs come n next)) in
       so_sent (map f vs) come names events acts n (so.0 ∙ sym (length-map vs f)) next
       (subst (λ p. IsUnsent (log_of (map f vs) n) p names) place_is (subst (λ l. IsUnsent l place names) log_is unsent)) so.1
-      program nodes options wires are matched (count ∙ sym (length-map vs f))
+      program nodes options are sources
 
   pub smaller : (vs : List V) (come : List ℕ) (n place x : ℕ) → length come ≡ length vs → IsNextOf (map f vs) come (Some n) → place ≡ come_of come n
       → x ≡ place + 1

@@ -8,17 +8,15 @@ use Rattle.std.proofs.lemmas.List.{get_or-replicate, get_or-set_same, get_or-set
 use Rattle.std.proofs.lemmas.Option.{slice_get-get_or, slice_get_within, same_Some}
 use Rattle.lrc_lang.specs.declared.program.Program.{Program}
 use Rattle.lrc_envelope.specs.Envelope.{EnvelopeRecord}
-use Rattle.lrc_post.specs.Mailbox.{MailboxRecord}
 use Rattle.lrc_protocol.specs.declared.event.Event.{Event}
 use Rattle.lrc_protocol.specs.Node.{OptionsRecord}
 use Rattle.lrc_protocol.specs.Run.{taken, EntryRecord, next_stamp, Flying, marked, sent_by}
 use Rattle.lrc_weave.specs.Logs.{AreLogs}
-use Rattle.lrc_weave.specs.Matched.{AreMatched}
+use Rattle.lrc_weave.specs.Sent.{IsSent, AreTakesSent}
 use Rattle.lrc_weave.specs.Woven.{IsUpTo, IsNext, takes_same, is_taken_among, IsTakenAt, MakesNextTurn, runs, takes_last, takes_again}
 use Rattle.lrc_protocol.specs.Follows.{log_of, come_of, next_entry}
 use Rattle.lrc_weave.proofs.Places.{within_outer, false_true}
 use Rattle.lrc_weave.proofs.Members.{IsIn, in_left, in_right, of_map, stays_in, in_drop}
-use Rattle.lrc_weave.proofs.Paired.{IsSent, paired}
 use Rattle.lrc_weave.proofs.Rising.{above_came, rises}
 
 -- this message with this stamp is in flight
@@ -153,7 +151,7 @@ module _ (logs : List (List EntryRecord)) where
       ]
 
   module _ (program : Program) (nodes : ℕ) (options : OptionsRecord) (are : AreLogs program nodes options logs)
-      (wires : List MailboxRecord) (matched : AreMatched logs wires) (count : length wires ≡ length logs) where
+      (sources : AreTakesSent logs) where
     rises_at : (s j k : ℕ) (x y : EntryRecord) → slice_get (log_of logs s) j ≡ Some x → slice_get (log_of logs s) k ≡ Some y → j ≤ k → x.stamp ≤ y.stamp
     rises_at s j k x y at_j at_k le =
         rises (log_of logs s) _ (are.each s (log_of logs s) (slice_get-get_or logs s [] (within_outer logs s j x at_j))) j k x y at_j at_k le
@@ -200,7 +198,7 @@ module _ (logs : List (List EntryRecord)) where
         → entry.input ≡ taken envelope → Holds come flight
         → (place : ℕ) × (flying : Flying) × IsTakenAt n (take (come_of come n) (log_of logs n)) entry flight place flying × (flying.envelope ≡ envelope)
     can_take come flight n entry envelope next is holds =
-        let p = paired logs wires matched count n (come_of come n) entry envelope next.next is in
+        let p = sources.each n (come_of come n) entry envelope next.next is in
         let s : IsSent logs n (take (come_of come n) (log_of logs n)) entry p.0 = p.2 in
         let h : Has flight p.0 = holds n (come_of come n) s.sender s.place entry s.turn p.0 (omega arith) next.next (is ∙ ap taken (sym p.1)) s.receiver
         (has_come come n entry _ p.0 next s) s.there s.sent in (

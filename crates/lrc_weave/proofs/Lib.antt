@@ -14,3 +14,4 @@ mod Comparing
 mod Lining
 mod Looping
 mod Repeated
+mod Further

@@ -11,19 +11,10 @@ use Rattle.lrc_protocol.specs.Run.{Input, run, taken, EntryRecord, next_stamp, F
 use Rattle.lrc_weave.specs.Logs.{all_sent, sent_to}
 use Rattle.lrc_weave.specs.Matched.{message_of, is_put_by, puts_by, place_taken, message_if, message_at, Takes}
 use Rattle.lrc_weave.specs.Matched.{takes_none, takes_not, takes_one, IsMatched, AreMatched}
+use Rattle.lrc_weave.specs.Sent.{IsSent, AreTakesSent}
 use Rattle.lrc_protocol.specs.Follows.{log_of}
 use Rattle.lrc_weave.proofs.Places.{within_outer}
 use Rattle.lrc_weave.proofs.Members.{IsIn, in_filter, of_filter, in_map, of_map, of_flat}
-
--- a message for a node, with a stamp that gives this entry's, and the turn that sent it
-pub record IsSent (logs : List (List EntryRecord)) (n : ℕ) (before : List EntryRecord) (entry : EntryRecord) (flying : Flying) : Type 0 where
-  pub receiver : flying.envelope.to ≡ n
-  pub stamp : entry.stamp ≡ next_stamp before flying.stamp
-  pub sender : ℕ
-  pub place : ℕ
-  pub turn : EntryRecord
-  pub there : slice_get (log_of logs sender) place ≡ Some turn
-  pub sent : IsIn flying (sent_by turn)
 
 not_taken : (input : Input) (envelope : EnvelopeRecord) → input ≡ run → input ≡ taken envelope → ⊥
 not_taken input envelope a b = cc
@@ -66,7 +57,7 @@ of_some xs x place at =
     (place, from.1 ∙ ap Some same)
 
 -- what an entry takes was sent by a turn of some log
-pub paired : (logs : List (List EntryRecord)) (wires : List MailboxRecord) → AreMatched logs wires → length wires ≡ length logs
+paired : (logs : List (List EntryRecord)) (wires : List MailboxRecord) → AreMatched logs wires → length wires ≡ length logs
     → (n k : ℕ) (entry : EntryRecord) (envelope : EnvelopeRecord) → slice_get (log_of logs n) k ≡ Some entry → entry.input ≡ taken envelope
     → (flying : Flying) × (flying.envelope ≡ envelope) × IsSent logs n (take k (log_of logs n)) entry flying
 paired logs wires are same_count n k entry envelope at is =
@@ -101,3 +92,7 @@ paired logs wires are same_count n k entry envelope at is =
     there_is [] i lt = absurd (omega (arith, lt))
     there_is (x ∷ xs) zero lt = (x, refl)
     there_is (x ∷ xs) (suc i) lt = there_is xs i (omega (arith, lt))
+
+-- so what all take was sent
+pub sent_where_matched : (logs : List (List EntryRecord)) (wires : List MailboxRecord) → AreMatched logs wires → length wires ≡ length logs → AreTakesSent logs
+sent_where_matched logs wires matched count = record { each = paired logs wires matched count }

@@ -12,7 +12,6 @@ use Rattle.std.proofs.lemmas.Option.{slice_get-get_or, slice_get_within, same_So
 use Rattle.lrc_lang.specs.declared.program.Program.{Program}
 use Rattle.lrc_trace.specs.declared.act.Act.{Act}
 use Rattle.lrc_envelope.specs.Envelope.{EnvelopeRecord}
-use Rattle.lrc_post.specs.Mailbox.{MailboxRecord}
 use Rattle.lrc_protocol.specs.declared.event.Event.{Event}
 use Rattle.lrc_protocol.specs.Node.{OptionsRecord}
 use Rattle.lrc_protocol.specs.Turn.{Outcome, unexpected, is_addressed, is_repeat, take_anew, empty_turn, done}
@@ -22,7 +21,7 @@ use Rattle.lrc_order_laws.specs.Numbers.{numbers_between, Rises}
 use Rattle.lrc_order_laws.proofs.InFlight.{Sends, all_send}
 use Rattle.lrc_weave.specs.declared.events.MessageName.{MessageName}
 use Rattle.lrc_weave.specs.Logs.{GoesOnBy, AreLogs}
-use Rattle.lrc_weave.specs.Matched.{AreMatched}
+use Rattle.lrc_weave.specs.Sent.{AreTakesSent}
 use Rattle.lrc_weave.specs.Woven.{IsNext, is_taken_among, IsTakenAt, MakesNextTurn, runs, takes_last, takes_again, Woven, nothing_yet, then_one, AreWoven}
 use Rattle.lrc_protocol.specs.Follows.{log_of, come_of}
 use Rattle.lrc_weave.specs.Next.{IsNextOf}
@@ -147,28 +146,28 @@ passes_none p xs k x none at passes =
 
 -- what the code keeps stands for a part of the weave
 abbrev pub WovenSo : List (List EntryRecord) → List ℕ → List MessageName → List Event → List Act → Type 0
-WovenSo logs come names events acts = (program : Program) (nodes : ℕ) (options : OptionsRecord) (wires : List MailboxRecord) → AreLogs program nodes options logs
-    → AreMatched logs wires → length wires ≡ length logs
+WovenSo logs come names events acts = (program : Program) (nodes : ℕ) (options : OptionsRecord) → AreLogs program nodes options logs
+    → AreTakesSent logs
     → (flight : List Flying) × (woven : Woven logs come flight events) × Holds logs come flight × (map name_at flight ≡ names) × (acts_in woven ≡ acts)
 
 pub so_start : (logs : List (List EntryRecord)) → WovenSo logs (replicate (length logs) 0) [] [] []
-so_start logs program nodes options wires are matched count = ([], nothing_yet, holds_start logs, refl, refl)
+so_start logs program nodes options are sources = ([], nothing_yet, holds_start logs, refl, refl)
 
 pub so_all : (logs : List (List EntryRecord)) (come : List ℕ) (names : List MessageName) (events : List Event) (acts : List Act)
     → WovenSo logs come names events acts → IsNextOf logs come None
-    → (program : Program) (nodes : ℕ) (options : OptionsRecord) (wires : List MailboxRecord) → AreLogs program nodes options logs
-    → AreMatched logs wires → length wires ≡ length logs → (flight : List Flying) × AreWoven logs events flight × (length flight ≡ length names)
-so_all logs come names events acts so none program nodes options wires are matched count =
-    let s = so program nodes options wires are matched count in
-    (s.0, record { come = come; woven = s.1; all = none }, sym (length-map s.0 name_at) ∙ ap length s.3)
+    → (program : Program) (nodes : ℕ) (options : OptionsRecord) → AreLogs program nodes options logs
+    → AreTakesSent logs → (flight : List Flying) × AreWoven logs events flight × (map name_at flight ≡ names)
+so_all logs come names events acts so none program nodes options are sources =
+    let s = so program nodes options are sources in
+    (s.0, record { come = come; woven = s.1; all = none }, s.3)
 
 -- the run of these events
 pub so_run : (logs : List (List EntryRecord)) (come : List ℕ) (names : List MessageName) (events : List Event) (acts : List Act)
     → WovenSo logs come names events acts → IsNextOf logs come None
-    → (program : Program) (nodes : ℕ) (options : OptionsRecord) (wires : List MailboxRecord) → AreLogs program nodes options logs
-    → AreMatched logs wires → length wires ≡ length logs → MakesRun program nodes options logs events acts (length names)
-so_run logs come names events acts so none program nodes options wires are matched count =
-    let s = so program nodes options wires are matched count in
+    → (program : Program) (nodes : ℕ) (options : OptionsRecord) → AreLogs program nodes options logs
+    → AreTakesSent logs → MakesRun program nodes options logs events acts (length names)
+so_run logs come names events acts so none program nodes options are sources =
+    let s = so program nodes options are sources in
     let m = makes_run logs program nodes options are events s.0 (record { come = come; woven = s.1; all = none }) in
     record {
       world = m.world;
@@ -180,8 +179,8 @@ so_run logs come names events acts so none program nodes options wires are match
 
 module _ (logs : List (List EntryRecord)) (come : List ℕ) (events : List Event) (counted : length come ≡ length logs)
     (node : ℕ) (entry : EntryRecord) (next : IsNext logs come node entry)
-    (program : Program) (nodes : ℕ) (options : OptionsRecord) (wires : List MailboxRecord) (are : AreLogs program nodes options logs)
-    (matched : AreMatched logs wires) (count : length wires ≡ length logs) (flight : List Flying) (woven : Woven logs come flight events)
+    (program : Program) (nodes : ℕ) (options : OptionsRecord) (are : AreLogs program nodes options logs)
+    (sources : AreTakesSent logs) (flight : List Flying) (woven : Woven logs come flight events)
     (holds : Holds logs come flight) where
   abbrev before : List EntryRecord
   before = take (come_of come node) (log_of logs node)
@@ -236,7 +235,7 @@ module _ (logs : List (List EntryRecord)) (come : List ℕ) (events : List Event
   by_take : (names left : List MessageName) (event : Event) (envelope : EnvelopeRecord) → map name_at flight ≡ names → entry.input ≡ taken envelope
       → IsTakenFrom names envelope (is_taken_among envelope later) left event → MadeOf event left
   by_take names left event envelope same is t =
-      let can = can_take logs program nodes options are wires matched count come flight node entry envelope next is holds in
+      let can = can_take logs program nodes options are sources come flight node entry envelope next is holds in
       let found = position-Some (has_name envelope) names t.0 (message_name envelope) t.1 in
       let there : slice_get (map name_at flight) t.0 ≡ Some (slice_index_or names t.0 (message_name envelope)) =
       ap (λ ks. slice_get ks t.0) same ∙ slice_get-get_or names t.0 (message_name envelope) found.0 in
@@ -281,7 +280,7 @@ module _ (logs : List (List EntryRecord)) (come : List ℕ) (events : List Event
   lacks_none : (names : List MessageName) (input : Input) → map name_at flight ≡ names → entry.input ≡ input → LacksMessage names input → ⊥
   lacks_none names run same is lacks = lacks
   lacks_none names (taken envelope) same is lacks =
-      let can = can_take logs program nodes options are wires matched count come flight node entry envelope next is holds in
+      let can = can_take logs program nodes options are sources come flight node entry envelope next is holds in
       passes_none (has_name envelope) names can.0 (name_at can.1) lacks
       (ap (λ ks. slice_get ks can.0) (sym same) ∙ in_map name_at flight can.1 can.0 can.2.there)
       (ap (λ e. has_name envelope (message_name e)) can.3 ∙ named_itself envelope)
@@ -291,9 +290,9 @@ pub so_more : (logs : List (List EntryRecord)) (come : List ℕ) (names new : Li
     (node : ℕ) → length come ≡ length logs → IsNextOf logs come (Some node) → IsTurnOf node (log_of logs node) (come_of come node) names new event
     → NotesTurn (log_of logs node) (come_of come node) acts noted
     → WovenSo logs come names events acts → WovenSo logs (slice_set come node (come_of come node + 1)) new (events ++ event ∷ []) noted
-so_more logs come names new events event acts noted node counted next t notes so program nodes options wires are matched count =
-    let s = so program nodes options wires are matched count in
-    let step = one_step logs come events counted node next.0 next.1 program nodes options wires are matched count s.0 s.1 s.2 names new event s.3 t in (
+so_more logs come names new events event acts noted node counted next t notes so program nodes options are sources =
+    let s = so program nodes options are sources in
+    let step = one_step logs come events counted node next.0 next.1 program nodes options are sources s.0 s.1 s.2 names new event s.3 t in (
       step.0,
       step.1,
       step.2,
@@ -306,10 +305,10 @@ so_more logs come names new events event acts noted node counted next t notes so
 pub so_sent : (logs : List (List EntryRecord)) (come : List ℕ) (names : List MessageName) (events : List Event) (acts : List Act) (node : ℕ)
     → length come ≡ length logs → IsNextOf logs come (Some node) → IsUnsent (log_of logs node) (come_of come node) names
     → WovenSo logs come names events acts
-    → (program : Program) (nodes : ℕ) (options : OptionsRecord) (wires : List MailboxRecord) → AreLogs program nodes options logs
-    → AreMatched logs wires → length wires ≡ length logs → ⊥
-so_sent logs come names events acts node counted next unsent so program nodes options wires are matched count =
-    let s = so program nodes options wires are matched count in
+    → (program : Program) (nodes : ℕ) (options : OptionsRecord) → AreLogs program nodes options logs
+    → AreTakesSent logs → ⊥
+so_sent logs come names events acts node counted next unsent so program nodes options are sources =
+    let s = so program nodes options are sources in
     let same : unsent.0 ≡ next.0 = same_Some unsent.0 next.0 (sym unsent.1 ∙ next.1.next) in
-    lacks_none logs come events counted node next.0 next.1 program nodes options wires are matched count s.0 s.1 s.2 names unsent.0.input s.3
+    lacks_none logs come events counted node next.0 next.1 program nodes options are sources s.0 s.1 s.2 names unsent.0.input s.3
     (ap (λ (e : EntryRecord). e.input) (sym same)) unsent.2

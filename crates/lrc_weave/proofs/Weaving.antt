@@ -1,16 +1,15 @@
--- Logs and mailboxes that match can be woven.
+-- Logs whose messages were sent can be woven.
 use Rattle.std.proofs.Common.{◌≡◌, ℕ, zero, suc, ◌+◌, ◌-◌, Bool, true, false, List, [], ◌∷◌, ◌++◌, length, replicate, take, drop, refl, ◌∙◌, arith}
 use Rattle.std.specs.Prelude.{Option, Some, None, remove, slice_set}
 use Rattle.std.proofs.lemmas.List.{length-set, length-replicate}
 use Rattle.std.proofs.lemmas.Option.{slice_get_within}
 use Rattle.lrc_lang.specs.declared.program.Program.{Program}
-use Rattle.lrc_post.specs.Mailbox.{MailboxRecord}
 use Rattle.lrc_protocol.specs.declared.event.Event.{Event}
 use Rattle.lrc_protocol.specs.declared.event.Event.TheVariants.{Run, Deliver, Repeat}
 use Rattle.lrc_protocol.specs.Node.{OptionsRecord}
 use Rattle.lrc_protocol.specs.Run.{Input, run, taken, EntryRecord, Flying, sent_by, with_mark}
 use Rattle.lrc_weave.specs.Logs.{AreLogs}
-use Rattle.lrc_weave.specs.Matched.{AreMatched}
+use Rattle.lrc_weave.specs.Sent.{AreTakesSent}
 use Rattle.lrc_weave.specs.Woven.{IsNext, is_taken_among, IsTakenAt, MakesNextTurn, runs}
 use Rattle.lrc_protocol.specs.Follows.{log_of, come_of, next_entry}
 use Rattle.lrc_weave.specs.Woven.{takes_last, takes_again, Woven, nothing_yet, then_one, AreWoven}
@@ -35,7 +34,7 @@ one_less (log ∷ logs) (c ∷ come) (suc n) entry count at = omega (arith, one_
 -- ---- the whole weave
 
 module _ (program : Program) (nodes : ℕ) (options : OptionsRecord) (logs : List (List EntryRecord)) (are : AreLogs program nodes options logs)
-    (wires : List MailboxRecord) (matched : AreMatched logs wires) (count : length wires ≡ length logs) where
+    (sources : AreTakesSent logs) where
   -- an event makes the next turn
   abbrev Made : List ℕ → List Flying → ℕ → EntryRecord → Type 0
   Made come flight n entry = (event : Event) × (left : List Flying)
@@ -51,7 +50,7 @@ module _ (program : Program) (nodes : ℕ) (options : OptionsRecord) (logs : Lis
       → Holds logs come flight → Made come flight n entry
   by_input come flight n entry run is next holds = (Run n, flight, runs is)
   by_input come flight n entry (taken envelope) is next holds =
-      let t = can_take logs program nodes options are wires matched count come flight n entry envelope next is holds in
+      let t = can_take logs program nodes options are sources come flight n entry envelope next is holds in
       by_last come flight n t.0 entry t.1 t.2 (is_taken_among t.1.envelope (drop (come_of come n + 1) (log_of logs n))) refl
 
   abbrev Whole : Type 0

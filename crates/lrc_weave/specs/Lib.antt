@@ -6,3 +6,5 @@ pub mod Whole
 pub mod Next
 pub mod Again
 pub mod Events
+pub mod Sent
+pub mod Further

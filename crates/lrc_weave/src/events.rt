@@ -44,8 +44,8 @@ pub(crate) fn turn(
     Ok(event)
 }
 
-// The event of an input. `Mismatch` where a message is taken that is not in flight.
-fn event_of(
+/// The event of an input. `Mismatch` where a message is taken that is not in flight.
+pub(crate) fn event_of(
     flight: &mut Vec<MessageName>,
     node: u8,
     input: &Input,

@@ -14,4 +14,4 @@ mod spelled;
 mod woven;
 
 pub use fault::WeaveFault;
-pub use woven::{WovenRun, events_of, weave, weave_run};
+pub use woven::{WovenRun, events_of, events_with, weave, weave_run};

@@ -2,22 +2,24 @@
 
 ghost use Rattle.std.specs.Prelude.{◌≡◌, ◌≤◌, ◌<◌, ◌+◌, ℕ, List, Err, IfOk, OnOk, length, map};
 ghost use Rattle.lrc_lang.specs.declared.program.Program.{Program};
-ghost use Rattle.lrc_post.specs.Mailbox.{MailboxRecord};
+ghost use Rattle.lrc_node.specs.Logged.{seen_input};
 ghost use Rattle.lrc_protocol.specs.Node.{OptionsRecord};
 ghost use Rattle.lrc_protocol.specs.Run.{Flying};
 ghost use Rattle.lrc_weave.specs.declared.fault.WeaveFault.TheVariants.{Mismatch};
-ghost use Rattle.lrc_weave.specs.Events.{NotesTurn};
+ghost use Rattle.lrc_weave.specs.Events.{message_name, NotesTurn};
+ghost use Rattle.lrc_weave.specs.Further.{AreWovenWith, AreWovenWithout};
 ghost use Rattle.lrc_weave.specs.Logs.{AreLogs};
 ghost use Rattle.lrc_weave.specs.Matched.{AreMatched};
+ghost use Rattle.lrc_weave.specs.Sent.{AreTakesSent};
 ghost use Rattle.lrc_weave.specs.Whole.{MakesRun};
 ghost use Rattle.lrc_weave.specs.Woven.{AreWoven};
 
 use crate::again::all_again;
 use crate::compared::are_matched;
-use crate::events::turn;
+use crate::events::{MessageName, event_of, turn};
 use crate::fault::WeaveFault;
 use crate::order::{first_stamps, next_turn, stamp_at};
-use lrc_node::Entry;
+use lrc_node::{Entry, Input};
 use lrc_post::Mailbox;
 use lrc_protocol::Event;
 use lrc_trace::act::Act;
@@ -77,23 +79,22 @@ pub fn weave_run(
         return Err(WeaveFault::Mismatch);
     }
     match run_of_logs(alloc, logs) {
-        Ok(run) => Ok(run),
+        Ok(run) => Ok(whole(run)),
         // The logs match the mailboxes. Where they are those of a program's nodes, as they should be, each message was sent.
         Err(_fault) => Err(WeaveFault::NoMemory),
     }
 }
 
-/// The events that make all turns of the logs of a program's nodes, in the order of [`weave`], where there are mailboxes that tell
-/// of the same messages. `Mismatch` only where there are none: a message was taken that none of the logs sent before.
+/// The events that make all turns of the logs of a program's nodes, in the order of [`weave`], where each message that is taken was
+/// sent. `Mismatch` only where one was not: none of the logs sent it before.
 pub fn events_of(alloc: Global, logs: &[Vec<Entry>]) -> Result<Vec<Event>, WeaveFault>
     requires few { length logs.now ≤ 16 }
-    ensures woven { IfOk result (λ events. (program : Program) (nodes : ℕ) (options : OptionsRecord) (wires : List MailboxRecord)
-        → AreLogs program nodes options (map (λ log. log.items) logs.now) → AreMatched (map (λ log. log.items) logs.now) wires
-        → length wires ≡ length logs.now
+    ensures woven { IfOk result (λ events. (program : Program) (nodes : ℕ) (options : OptionsRecord)
+        → AreLogs program nodes options (map (λ log. log.items) logs.now) → AreTakesSent (map (λ log. log.items) logs.now)
         → (flight : List Flying) × AreWoven (map (λ log. log.items) logs.now) events.items flight) }
-    ensures mismatch { result ≡ Err Mismatch → (program : Program) (nodes : ℕ) (options : OptionsRecord) (wires : List MailboxRecord)
-        → AreLogs program nodes options (map (λ log. log.items) logs.now) → AreMatched (map (λ log. log.items) logs.now) wires
-        → length wires ≡ length logs.now → ⊥ }
+    ensures mismatch { result ≡ Err Mismatch → (program : Program) (nodes : ℕ) (options : OptionsRecord)
+        → AreLogs program nodes options (map (λ log. log.items) logs.now) → AreTakesSent (map (λ log. log.items) logs.now)
+        → ⊥ }
 {
     match run_of_logs(alloc, logs) {
         Ok(run) => Ok(run.events),
@@ -101,20 +102,63 @@ pub fn events_of(alloc: Global, logs: &[Vec<Entry>]) -> Result<Vec<Event>, Weave
     }
 }
 
-// The run of these events.
-fn run_of_logs(alloc: Global, logs: &[Vec<Entry>]) -> Result<WovenRun, WeaveFault>
+/// The events that make all turns of the logs, as [`events_of`] has them, and behind them the one at which this node makes one turn
+/// more by this input. A message is delivered for the last time. `Mismatch` only where a message was taken that none of the logs
+/// sent before, or the input is a message that is not in flight after all turns.
+pub fn events_with(
+    alloc: Global,
+    logs: &[Vec<Entry>],
+    node: u8,
+    input: &Input,
+) -> Result<Vec<Event>, WeaveFault>
     requires few { length logs.now ≤ 16 }
-    ensures woven { IfOk result (λ run. (program : Program) (nodes : ℕ) (options : OptionsRecord) (wires : List MailboxRecord)
-        → AreLogs program nodes options (map (λ log. log.items) logs.now) → AreMatched (map (λ log. log.items) logs.now) wires
-        → length wires ≡ length logs.now
-        → (flight : List Flying) × AreWoven (map (λ log. log.items) logs.now) run.events.items flight) }
-    ensures makes { IfOk result (λ run. (program : Program) (nodes : ℕ) (options : OptionsRecord) (wires : List MailboxRecord)
-        → AreLogs program nodes options (map (λ log. log.items) logs.now) → AreMatched (map (λ log. log.items) logs.now) wires
-        → length wires ≡ length logs.now
-        → MakesRun program nodes options (map (λ log. log.items) logs.now) run.events.items run.acts.items run.in_flight) }
-    ensures mismatch { result ≡ Err Mismatch → (program : Program) (nodes : ℕ) (options : OptionsRecord) (wires : List MailboxRecord)
-        → AreLogs program nodes options (map (λ log. log.items) logs.now) → AreMatched (map (λ log. log.items) logs.now) wires
-        → length wires ≡ length logs.now → ⊥ }
+    ensures woven { IfOk result (λ events. (program : Program) (nodes : ℕ) (options : OptionsRecord)
+        → AreLogs program nodes options (map (λ log. log.items) logs.now) → AreTakesSent (map (λ log. log.items) logs.now)
+        → AreWovenWith (map (λ log. log.items) logs.now) node (seen_input input.now) events.items) }
+    ensures mismatch { result ≡ Err Mismatch → (program : Program) (nodes : ℕ) (options : OptionsRecord)
+        → AreLogs program nodes options (map (λ log. log.items) logs.now) → AreTakesSent (map (λ log. log.items) logs.now)
+        → AreWovenWithout (map (λ log. log.items) logs.now) (seen_input input.now) }
+{
+    let mut run = run_of_logs(alloc, logs)?;
+    let event = event_of(&mut run.flight, node, input, false)?;
+    run.events.push(event)?;
+    Ok(run.events)
+}
+
+// The run that logs make, with what is in flight after it.
+#[derive(Drop)]
+struct LogRun {
+    events: Vec<Event>,
+    acts: Vec<Act>,
+    flight: Vec<MessageName>,
+}
+
+// The run as others see it.
+fn whole(run: LogRun) -> WovenRun
+    ensures events { result.events ≡ run.events }
+    ensures acts { result.acts ≡ run.acts }
+    ensures flight { result.in_flight ≡ length run.flight.items }
+{
+    WovenRun {
+        in_flight: run.flight.len(),
+        events: run.events,
+        acts: run.acts,
+    }
+}
+
+// The run of these events.
+fn run_of_logs(alloc: Global, logs: &[Vec<Entry>]) -> Result<LogRun, WeaveFault>
+    requires few { length logs.now ≤ 16 }
+    ensures woven { IfOk result (λ run. (program : Program) (nodes : ℕ) (options : OptionsRecord)
+        → AreLogs program nodes options (map (λ log. log.items) logs.now) → AreTakesSent (map (λ log. log.items) logs.now)
+        → (flight : List Flying) × AreWoven (map (λ log. log.items) logs.now) run.events.items flight
+        × (map (λ flying. message_name flying.envelope) flight ≡ run.flight.items)) }
+    ensures makes { IfOk result (λ run. (program : Program) (nodes : ℕ) (options : OptionsRecord)
+        → AreLogs program nodes options (map (λ log. log.items) logs.now) → AreTakesSent (map (λ log. log.items) logs.now)
+        → MakesRun program nodes options (map (λ log. log.items) logs.now) run.events.items run.acts.items (length run.flight.items)) }
+    ensures mismatch { result ≡ Err Mismatch → (program : Program) (nodes : ℕ) (options : OptionsRecord)
+        → AreLogs program nodes options (map (λ log. log.items) logs.now) → AreTakesSent (map (λ log. log.items) logs.now)
+        → ⊥ }
 {
     let again = all_again(alloc, logs)?;
     let mut come = vec![in alloc; 0usize; logs.len()]?;
@@ -132,10 +176,10 @@ fn run_of_logs(alloc: Global, logs: &[Vec<Entry>]) -> Result<WovenRun, WeaveFaul
         come[node] = next;
         stamps[node] = stamp_at(log, next);
     }
-    Ok(WovenRun {
+    Ok(LogRun {
         events,
         acts,
-        in_flight: flight.len(),
+        flight,
     })
 }
 

@@ -1,15 +1,81 @@
-use Rattle.std.proofs.Common.{◌≡◌, ◌∙◌, ap, map, rules}
+use Rattle.std.proofs.Common.{◌≡◌, ◌∙◌, ◌<◌, ◌≤◌, None, Some, ap, get_or, length, map, sym, rules}
+use Rattle.std.specs.Prelude.{slice_get}
+use Rattle.std.proofs.lemmas.Bool.{ltb-true}
+use Rattle.std.proofs.lemmas.Option.{slice_get-get_or, slice_get_past}
+use Rattle.lrc_node.specs.Logged.{seen_input}
+use Rattle.lrc_run.specs.Unfinished.{input_of, next_taken, unfinished}
+use Rattle.lrc_run.proofs.Behind.{no_log, no_mailbox, one_behind}
 use Rattle.lrc_run.proofs.Worn.{events_same, unmatched_same}
 use Rattle.lrc_run.proofs.failure.events_until.Goals as goal
 
+pub returns-in_default-clause-events : goal.returns-in_default-clause-events
+returns-in_default-clause-events c =
+    let logs = c.args.remains.logs.items in
+    let wires = c.args.remains.wires.now in
+    let past : length wires ≤ c.args.node = search rules in
+    events_same (λ log. log.items) c.as_slice-logs.result.now logs (search rules) c.args.node (unfinished (map (λ log. log.items) logs) wires c.args.node) None
+    (no_mailbox (λ log. log.items) logs wires c.args.node (slice_get_past wires c.args.node past)) c.events_of.result (λ events. events.items) c.events_of.ensures.woven
+
+pub returns-in_default-clause-mismatch : goal.returns-in_default-clause-mismatch
+returns-in_default-clause-mismatch c = λ is.
+    let logs = c.args.remains.logs.items in
+    let wires = c.args.remains.wires.now in
+    let past : length wires ≤ c.args.node = search rules in
+    unmatched_same (λ log. log.items) c.as_slice-logs.result.now logs (search rules) c.args.node (unfinished (map (λ log. log.items) logs) wires c.args.node) None
+    (no_mailbox (λ log. log.items) logs wires c.args.node (slice_get_past wires c.args.node past)) (c.events_of.ensures.mismatch is)
+
+pub returns-in_default-get-clause-events : goal.returns-in_default-get-clause-events
+returns-in_default-get-clause-events c =
+    let logs = c.args.remains.logs.items in
+    let wires = c.args.remains.wires.now in
+    let past : length logs ≤ c.args.node = search rules in
+    events_same (λ log. log.items) c.as_slice-logs.result.now logs (search rules) c.args.node (unfinished (map (λ log. log.items) logs) wires c.args.node) None
+    (no_log (λ log. log.items) logs wires c.args.node (slice_get_past logs c.args.node past)) c.events_of-in_default-get.result (λ events. events.items) c.events_of-in_default-get.ensures.woven
+
+pub returns-in_default-get-clause-mismatch : goal.returns-in_default-get-clause-mismatch
+returns-in_default-get-clause-mismatch c = λ is.
+    let logs = c.args.remains.logs.items in
+    let wires = c.args.remains.wires.now in
+    let past : length logs ≤ c.args.node = search rules in
+    unmatched_same (λ log. log.items) c.as_slice-logs.result.now logs (search rules) c.args.node (unfinished (map (λ log. log.items) logs) wires c.args.node) None
+    (no_log (λ log. log.items) logs wires c.args.node (slice_get_past logs c.args.node past)) (c.events_of-in_default-get.ensures.mismatch is)
+
 pub returns-clause-events : goal.returns-clause-events
 returns-clause-events c =
-    let at : c.as_slice.result.now ≡ c.in_ok-logs.logs.items = search rules in
-    events_same (λ log. log.items) c.as_slice.result.now _ (ap (map (λ log. log.items)) at ∙ c.in_ok-logs.ensures.logs) c.events_of.result
-    (λ events. events.items) c.events_of.ensures.woven
+    let logs = c.args.remains.logs.items in
+    let wires = c.args.remains.wires.now in
+    let log = c.in-Some-get.log.now in
+    let mailbox = c.in-Some.mailbox.now in
+    let lookup = c.in-Some.ensures.lookup in
+    let there : slice_get wires c.args.node ≡ Some mailbox =
+    slice_get-get_or wires c.args.node mailbox (ltb-true c.args.node (length wires) (sym lookup.0)) ∙ ap Some (sym lookup.1) in
+    let inside : c.args.node < length logs = search rules in
+    let value : log ≡ get_or logs c.args.node log = search rules in
+    let at : slice_get logs c.args.node ≡ Some log = slice_get-get_or logs c.args.node log inside ∙ ap Some (sym value) in
+    let entries : c.as_slice.result.now ≡ log.items = search rules in
+    let kept : c.history.result.now ≡ mailbox.history = search rules in
+    let input : seen_input c.in_ok-input.input ≡ input_of (next_taken log.items mailbox.history) =
+    c.in_ok-input.ensures ∙ ap (λ l. input_of (next_taken l c.history.result.now)) entries ∙ ap (λ h. input_of (next_taken log.items h)) kept in
+    events_same (λ log. log.items) c.as_slice-logs.result.now logs (search rules) c.args.node (unfinished (map (λ log. log.items) logs) wires c.args.node)
+    (Some (seen_input c.in_ok-input.input)) (one_behind (λ log. log.items) logs wires c.args.node mailbox log there at ∙ ap Some (sym input))
+    c.events_with.result (λ events. events.items) c.events_with.ensures.woven
 
 pub returns-clause-mismatch : goal.returns-clause-mismatch
-returns-clause-mismatch c =
-    let at : c.as_slice.result.now ≡ c.in_ok-logs.logs.items = search rules in
-    λ is. unmatched_same (λ log. log.items) c.as_slice.result.now _ (ap (map (λ log. log.items)) at ∙ c.in_ok-logs.ensures.logs)
-    (c.events_of.ensures.mismatch is)
+returns-clause-mismatch c = λ is.
+    let logs = c.args.remains.logs.items in
+    let wires = c.args.remains.wires.now in
+    let log = c.in-Some-get.log.now in
+    let mailbox = c.in-Some.mailbox.now in
+    let lookup = c.in-Some.ensures.lookup in
+    let there : slice_get wires c.args.node ≡ Some mailbox =
+    slice_get-get_or wires c.args.node mailbox (ltb-true c.args.node (length wires) (sym lookup.0)) ∙ ap Some (sym lookup.1) in
+    let inside : c.args.node < length logs = search rules in
+    let value : log ≡ get_or logs c.args.node log = search rules in
+    let at : slice_get logs c.args.node ≡ Some log = slice_get-get_or logs c.args.node log inside ∙ ap Some (sym value) in
+    let entries : c.as_slice.result.now ≡ log.items = search rules in
+    let kept : c.history.result.now ≡ mailbox.history = search rules in
+    let input : seen_input c.in_ok-input.input ≡ input_of (next_taken log.items mailbox.history) =
+    c.in_ok-input.ensures ∙ ap (λ l. input_of (next_taken l c.history.result.now)) entries ∙ ap (λ h. input_of (next_taken log.items h)) kept in
+    unmatched_same (λ log. log.items) c.as_slice-logs.result.now logs (search rules) c.args.node (unfinished (map (λ log. log.items) logs) wires c.args.node)
+    (Some (seen_input c.in_ok-input.input)) (one_behind (λ log. log.items) logs wires c.args.node mailbox log there at ∙ ap Some (sym input))
+    (c.events_with.ensures.mismatch is)

@@ -1,7 +1,5 @@
-use Rattle.std.proofs.Common.{◌≡◌, rules, length, map, subst, sym, ◌∙◌}
+use Rattle.std.proofs.Common.{rules, map, subst}
 use Rattle.std.specs.Prelude.{Some}
-use Rattle.std.proofs.lemmas.List.{length-map}
-use Rattle.lrc_weave.specs.Whole.{MakesRun}
 use Rattle.lrc_weave.specs.Next.{stamp_of, IsFirst, IsNextOf}
 use Rattle.lrc_weave.proofs.Heads.{next_of}
 use Rattle.lrc_weave.proofs.Stepping.{so_all, so_run}
@@ -90,28 +88,25 @@ loop-node-preserved c = (
 )
 
 pub returns-clause-woven : goal.returns-clause-woven
-returns-clause-woven c = λ program nodes options wires are matched count.
-    let w = so_all (map (λ log. log.items) c.args.logs.now) c.loop-node.come.items c.loop-node.flight.items c.loop-node.events.items c.loop-node.acts.items
+returns-clause-woven c = λ program nodes options are sources.
+    so_all (map (λ log. log.items) c.args.logs.now) c.loop-node.come.items c.loop-node.flight.items c.loop-node.events.items c.loop-node.acts.items
     c.loop-node.invariant.0.1
     (subst (λ o. IsNextOf (map (λ log. log.items) c.args.logs.now) c.loop-node.come.items o) c.in_default.is
     (next_of (map (λ log. log.items) c.args.logs.now) c.loop-node.come.items c.loop-node.stamps.items c.next_turn.result c.loop-node.invariant.1.1
     (subst (λ xs. IsFirst (stamp_of xs) c.next_turn.result) c.as_slice.ensures.value c.next_turn.ensures)))
-    program nodes options wires are matched (count ∙ sym (length-map c.args.logs.now (λ log. log.items))) in
-    (w.0, w.1)
+    program nodes options are sources
 
 pub returns-clause-makes : goal.returns-clause-makes
-returns-clause-makes c = λ program nodes options wires are matched count.
-    let count_is : length c.loop-node.flight.items ≡ c.len.result = search rules in
-    subst (MakesRun program nodes options (map (λ log. log.items) c.args.logs.now) c.loop-node.events.items c.loop-node.acts.items) count_is
-    (so_run (map (λ log. log.items) c.args.logs.now) c.loop-node.come.items c.loop-node.flight.items c.loop-node.events.items c.loop-node.acts.items
+returns-clause-makes c = λ program nodes options are sources.
+    so_run (map (λ log. log.items) c.args.logs.now) c.loop-node.come.items c.loop-node.flight.items c.loop-node.events.items c.loop-node.acts.items
     c.loop-node.invariant.0.1
     (subst (λ o. IsNextOf (map (λ log. log.items) c.args.logs.now) c.loop-node.come.items o) c.in_default.is
     (next_of (map (λ log. log.items) c.args.logs.now) c.loop-node.come.items c.loop-node.stamps.items c.next_turn.result c.loop-node.invariant.1.1
     (subst (λ xs. IsFirst (stamp_of xs) c.next_turn.result) c.as_slice.ensures.value c.next_turn.ensures)))
-    program nodes options wires are matched (count ∙ sym (length-map c.args.logs.now (λ log. log.items))))
+    program nodes options are sources
 
 pub returns-in_err-event-clause-mismatch : goal.returns-in_err-event-clause-mismatch
-returns-in_err-event-clause-mismatch c = λ e program nodes options wires are matched count.
+returns-in_err-event-clause-mismatch c = λ e program nodes options are sources.
     so_unsent (λ log. log.items) c.args.logs.now c.loop-node.come.items c.loop-node.flight.items c.loop-node.events.items c.loop-node.acts.items
     c.in-Some.node c.index-place.result.now c.index-logs-node.result c.loop-node.invariant.0
     (next_of (map (λ log. log.items) c.args.logs.now) c.loop-node.come.items c.loop-node.stamps.items (Some c.in-Some.node) c.loop-node.invariant.1.1
@@ -122,4 +117,4 @@ returns-in_err-event-clause-mismatch c = λ e program nodes options wires are ma
     (subst (λ xs. IsFirst (stamp_of xs) (Some c.in-Some.node)) c.as_slice.ensures.value c.in-Some.ensures))
     (search rules))
     (c.turn.ensures.unsent (search rules))
-    program nodes options wires are matched count
+    program nodes options are sources
