@@ -1,5 +1,5 @@
 -- What is known of a run by what came of it.
-use Rattle.std.proofs.Common.{◌≡◌, ◌<◌, ◌≤◌, ℕ, false, List, All, Option, Result, Ok, Err, ap, arith, get_or, length, map, refl, sym, subst}
+use Rattle.std.proofs.Common.{◌≡◌, ◌<◌, ◌≤◌, ℕ, false, List, All, Option, Some, Result, Ok, Err, ap, arith, get_or, length, map, refl, sym, subst}
 use Rattle.std.proofs.lemmas.Bool.{false≢true}
 use Rattle.std.specs.Result.{MatchResult, is_ok}
 use Rattle.lrc_lang.specs.declared.program.Program.{Program}
@@ -12,13 +12,15 @@ use Rattle.lrc_words.specs.declared.choice.Way.{Way}
 use Rattle.lrc_words.specs.declared.choice.Way.TheVariants.{Rounds, Random}
 use Rattle.lrc_judge.specs.Races.{AreNamedRaces}
 use Rattle.lrc_protocol.specs.Node.{OptionsRecord}
-use Rattle.lrc_protocol.specs.Run.{EntryRecord}
+use Rattle.lrc_protocol.specs.Run.{EntryRecord, World as Run, run_of}
+use Rattle.lrc_world.specs.Promises.{AreKept}
 use Rattle.lrc_world.specs.Random.{IsWandering}
 use Rattle.lrc_world.specs.Report.{AreAll, IsBriefOf}
 use Rattle.lrc_world.specs.Rounds.{AreRounds}
 use Rattle.lrc_world.specs.declared.report.Brief.{Brief}
 use Rattle.lrc_world.specs.Turned.{HaveLogs}
-use Rattle.lrc_cli.specs.Runs.{Account, AreEventsOfWay, AreToEnd, IsBriefRun, IsReported, account_with, options_of}
+use Rattle.lrc_world.specs.World.{sends_long}
+use Rattle.lrc_cli.specs.Runs.{Account, AreEventsOfWay, AreShort, AreToEnd, IsBriefRun, IsReported, account_with, options_of}
 
 -- a value stays as it is where an error would have been replaced
 pub value_stays : {T E F : Type 0} (r : Result T E) (s : Result T F) (Q : E → Type 0) (x : T) → MatchResult r (λ y. s ≡ Ok y) Q
@@ -30,12 +32,17 @@ value_stays (Err e) s Q x passed alike is = absurd (false≢true (sym (subst (λ
 module _ (program : Program) (options : RunOptions) (setting : OptionsRecord) (events_text : Option (List ℕ)) (events : List Event) (brief : Brief)
     (same : setting ≡ options_of options) (is : IsBriefOf program options.nodes.count setting events brief)
     (races : AreNamedRaces brief.acts.items brief.races.items) (few : length events ≤ 100000000)
-    (over : length events < 100000000 → AreAll program options.nodes.count setting events) where
+    (over : length events < 100000000 → AreAll program options.nodes.count setting events)
+    (kept : AreKept program options.nodes.count setting events brief.acts.items brief.ends.items) where
   to_end : AreToEnd program options events
   to_end = record {
     few = few;
     over = subst (λ (o : OptionsRecord). length events < 100000000 → AreAll program options.nodes.count o events) same over;
   }
+
+  short : AreShort program options events
+  short =
+      subst (λ (o : OptionsRecord). (run : Run) → run_of program options.nodes.count o events ≡ Some run → sends_long run ≡ false) same kept.short
 
   brief_run : (way : Way) → ((logs : List (List EntryRecord)) → AreEventsOfWay way program options events_text (account_with brief logs) events)
       → IsBriefRun way program options events_text brief
@@ -53,13 +60,13 @@ module _ (program : Program) (options : RunOptions) (setting : OptionsRecord) (e
   pub brief_in_rounds : (order : Picker) → AreRounds program options.nodes.count setting order events
       → IsBriefRun (Rounds order) program options events_text brief
   brief_in_rounds order rounds =
-      brief_run (Rounds order) (λ logs. (subst (λ (o : OptionsRecord). AreRounds program options.nodes.count o order events) same rounds, to_end))
+      brief_run (Rounds order) (λ logs. (subst (λ (o : OptionsRecord). AreRounds program options.nodes.count o order events) same rounds, to_end, short))
 
   -- and in a random order
   pub brief_at_random : (seed : ℕ) → IsWandering program options.nodes.count setting seed events
       → IsBriefRun (Random seed) program options events_text brief
   brief_at_random seed wandering =
-      brief_run (Random seed) (λ logs. (subst (λ (o : OptionsRecord). IsWandering program options.nodes.count o seed events) same wandering, to_end))
+      brief_run (Random seed) (λ logs. (subst (λ (o : OptionsRecord). IsWandering program options.nodes.count o seed events) same wandering, to_end, short))
 
 module _ (program : Program) (options : RunOptions) (events : List Event) (account : Account) (reported : IsReported program options events account) where
   -- its logs are those of its events

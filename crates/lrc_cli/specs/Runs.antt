@@ -15,6 +15,7 @@ use Rattle.lrc_world.specs.Random.{IsWandering, WanderingWearsOut}
 use Rattle.lrc_world.specs.Report.{AreAll, IsWornBy, end_of_logged}
 use Rattle.lrc_world.specs.Rounds.{AreRounds, RoundsWearOut}
 use Rattle.lrc_world.specs.Turned.{turned_of}
+use Rattle.lrc_world.specs.World.{sends_long}
 use Rattle.lrc_world.specs.declared.report.Brief.{Brief}
 use Rattle.lrc_world.specs.declared.report.Report.{Report}
 use Rattle.lrc_world.specs.declared.turned.Turned.{Turned}
@@ -82,6 +83,11 @@ pub record AreToEnd (program : Program) (options : RunOptions) (events : List Ev
   pub few : length events ≤ 100000000
   pub over : length events < 100000000 → AreAll program options.nodes.count (options_of options) events
 
+-- no turn of the run sends a message that is too long
+abbrev pub AreShort : Program → RunOptions → List Event → Type 0
+AreShort program options events =
+    (run : Run) → run_of program options.nodes.count (options_of options) events ≡ Some run → sends_long run ≡ false
+
 -- The events make the turns of nodes on threads, whose messages went through mailboxes, of which each take was of the parcel that the
 -- order names.
 pub record AreThreaded (program : Program) (options : RunOptions) (order : Picker) (report : Report) (events : List Event) : Type 0 where
@@ -89,15 +95,15 @@ pub record AreThreaded (program : Program) (options : RunOptions) (order : Picke
   pub wires : List MailboxRecord
   pub posted : AreWiresOf options.nodes.count order report wires
 
--- The events of a run that goes on in some way: those that a text names, those of its rounds, those of its random order, or those that
--- its nodes on threads made.
+-- The events of a run that goes on in some way: those that a text names, those of its rounds, or those of its random order, and then no
+-- message of the run is too long; or those that its nodes on threads made.
 abbrev pub AreEventsOfWay : Way → Program → RunOptions → Option (List ℕ) → Account → List Event → Type 0
 AreEventsOfWay (ways.Events file) program options None account events = ⊥
-AreEventsOfWay (ways.Events file) program options (Some events_text) account events = ReadsEvents events_text (Ok events)
+AreEventsOfWay (ways.Events file) program options (Some events_text) account events = ReadsEvents events_text (Ok events) × AreShort program options events
 AreEventsOfWay (ways.Rounds order) program options events_text account events =
-    AreRounds program options.nodes.count (options_of options) order events × AreToEnd program options events
+    AreRounds program options.nodes.count (options_of options) order events × AreToEnd program options events × AreShort program options events
 AreEventsOfWay (ways.Random seed) program options events_text account events =
-    IsWandering program options.nodes.count (options_of options) seed events × AreToEnd program options events
+    IsWandering program options.nodes.count (options_of options) seed events × AreToEnd program options events × AreShort program options events
 AreEventsOfWay (ways.Threads order) program options events_text account events =
     (report : Report) × (account ≡ account_of report) × AreThreaded program options order report events
 

@@ -1,7 +1,7 @@
 // The run that a choice asks for, by the way in which it goes on.
 
 ghost use Rattle.std.specs.Prelude.{◌≡◌, ℕ, IfErr, IfOk, List, Ok as Was, Option, false, is_some, option_map, true};
-ghost use Rattle.lrc_cli.specs.Runs.{AreToEnd, IsBriefRun, IsLedFault, IsPlayedFault, IsReported, IsRunFault, IsRunOfWay, account_of, is_led, options_of};
+ghost use Rattle.lrc_cli.specs.Runs.{AreShort, AreToEnd, IsBriefRun, IsLedFault, IsPlayedFault, IsReported, IsRunFault, IsRunOfWay, account_of, is_led, options_of};
 ghost use Rattle.lrc_events.specs.EventsText.{ReadsEvents};
 ghost use Rattle.lrc_words.specs.Files.{events_along, is_on_threads};
 ghost use Rattle.lrc_words.specs.declared.choice.Way.TheVariants.{Random as AtRandom, Rounds as InRounds};
@@ -90,6 +90,7 @@ fn played(
     text: &[u8],
 ) -> Result<Run, Fault>
     ensures events { IfOk result (λ run. ReadsEvents text.now (Was run.events.items)) }
+    ensures short { IfOk result (λ run. AreShort program.now options.now run.events.items) }
     ensures reported { IfOk result (λ run. IsReported program.now options.now run.events.items (account_of run.report)) }
     ensures err { IfErr result (IsPlayedFault program.now options.now text.now) }
 {
@@ -109,6 +110,7 @@ fn driven(
 ) -> Result<Run, Fault>
     ensures events { IfOk result (λ run. AreRounds program.now options.now.nodes.count (options_of options.now) order run.events.items) }
     ensures to_end { IfOk result (λ run. AreToEnd program.now options.now run.events.items) }
+    ensures short { IfOk result (λ run. AreShort program.now options.now run.events.items) }
     ensures reported { IfOk result (λ run. IsReported program.now options.now run.events.items (account_of run.report)) }
     ensures err { IfErr result (IsLedFault
         (RoundsWearOut program.now options.now.nodes.count (options_of options.now) order)) }
@@ -128,6 +130,7 @@ fn wandered(
 ) -> Result<Run, Fault>
     ensures events { IfOk result (λ run. IsWandering program.now options.now.nodes.count (options_of options.now) seed run.events.items) }
     ensures to_end { IfOk result (λ run. AreToEnd program.now options.now run.events.items) }
+    ensures short { IfOk result (λ run. AreShort program.now options.now run.events.items) }
     ensures reported { IfOk result (λ run. IsReported program.now options.now run.events.items (account_of run.report)) }
     ensures err { IfErr result (IsLedFault
         (WanderingWearsOut program.now options.now.nodes.count (options_of options.now) seed)) }

@@ -9,4 +9,4 @@ returns-clause-ok c = λ events_text.
     c.map_err.ensures.variant c.in_ok-_events.was in
     brief_at_random c.args.program.now c.args.options.now c.options_of.result events_text c.in_ok-_events._events.items c.in_ok-_events.brief
     c.options_of.ensures (IfOk-at_ok _ made done.ensures.report) (IfOk-at_ok _ made done.ensures.races) (IfOk-at_ok _ made done.ensures.few)
-    (IfOk-at_ok _ made done.ensures.over) c.args.seed (IfOk-at_ok _ made done.ensures.wandering)
+    (IfOk-at_ok _ made done.ensures.over) (IfOk-at_ok _ made done.ensures.kept) c.args.seed (IfOk-at_ok _ made done.ensures.wandering)
