@@ -8,7 +8,7 @@ use lrc_node::{Entry, Input};
 use lrc_post::{Mailbox, Post};
 use lrc_protocol::Event;
 use lrc_run::run;
-use lrc_weave::{WeaveFault, WovenRun, weave, weave_run};
+use lrc_weave::{WeaveFault, WovenRun, events_with, weave, weave_run};
 use lrc_wire::encode;
 use lrc_world::report::Report;
 use lrc_world::simulate::simulate;
@@ -151,6 +151,68 @@ fn both<R: Threads + Wait + Sync>(
 fn turns_are_woven_by_their_mailboxes(rt: HostRuntime) {
     for order in ORDERS {
         let found = both(&rt, rt.alloc(), order);
+        assert!(rt; found == Some((true, Some(WeaveFault::Mismatch))));
+    }
+}
+
+// The node of the last turn: that with the greatest stamp, and of several the highest.
+fn last_node(logs: &[Vec<Entry>]) -> Option<u8> {
+    let mut node = None;
+    let mut greatest = 0;
+    for (log, number) in logs.iter().zip(0..16u8) {
+        if let Some(entry) = log.last()
+            && entry.stamp >= greatest
+        {
+            greatest = entry.stamp;
+            node = Some(number);
+        }
+    }
+    node
+}
+
+// The first message that a log takes.
+fn first_taken(log: &[Entry]) -> Option<&Input> {
+    log.iter()
+        .map(|entry| &entry.input)
+        .find(|input| matches!(input, Input::Taken(_)))
+}
+
+// The events of these logs, and behind them that of a turn more.
+fn further(
+    alloc: Global,
+    logs: &[Vec<Entry>],
+    node: u8,
+    input: &Input,
+) -> Option<Result<Vec<Event>, WeaveFault>> {
+    if logs.len() > 16 {
+        return None;
+    }
+    Some(events_with(alloc, logs, node, input))
+}
+
+// Whether the turns of a run but the last one, and that one behind them, have the events of all turns; and what is answered for one
+// turn more than all by a message that was taken before.
+fn last_behind<R: Threads + Wait + Sync>(
+    rt: &R,
+    alloc: Global,
+    order: Picker,
+) -> Option<(bool, Option<WeaveFault>)> {
+    let program = parse(alloc, ONE_WRITES).ok()?;
+    let (report, wires) = run(rt, alloc, &program, 3, &options(0), order).ok()?;
+    let events = woven(alloc, &report.logs, wires.mailboxes())?.ok()?;
+    let mut logs = report.logs;
+    let taken = first_taken(logs.first()?)?;
+    let again = further(alloc, &logs, 0, taken)?.err();
+    let node = last_node(&logs)?;
+    let last = logs.get_mut(usize::from(node))?.pop()?;
+    let found = further(alloc, &logs, node, &last.input)?.ok()?;
+    Some((found.as_slice() == events.as_slice(), again))
+}
+
+#[test]
+fn the_last_turn_is_woven_behind_the_others(rt: HostRuntime) {
+    for order in [Picker::Oldest, Picker::Newest] {
+        let found = last_behind(&rt, rt.alloc(), order);
         assert!(rt; found == Some((true, Some(WeaveFault::Mismatch))));
     }
 }
