@@ -5,7 +5,7 @@ use Rattle.lrc_protocol.specs.Run.{run, taken, Logged}
 use Rattle.lrc_node.specs.Logged.{LoggedNode, sound}
 use Rattle.lrc_threads.specs.declared.stop.Stop.{Stop}
 use Rattle.lrc_threads.specs.declared.stop.Stop.TheVariants.{Closed, Worn, NoMemory}
-use Rattle.lrc_threads.specs.Worker.{Step, goes_on, takes_message, drops, GoesThrough, stays, steps, Turns, none, more, GoesTo}
+use Rattle.lrc_threads.specs.Worker.{Step, goes_on, takes_message, drops, GoesThrough, stays, steps, WearsOut, outgrows, overflows, Turns, none, more, GoesTo}
 
 module _ {S : Type 0} (puts : S → List Parcel → S → Type 0) (takes : S → Parcel → S → Type 0) where
   -- a step is a turn of the node, or none
@@ -29,12 +29,17 @@ module _ {S : Type 0} (puts : S → List Parcel → S → Type 0) (takes : S →
   goes_after before stays = before
   goes_after before (steps others step) = steps (goes_after before others) step
 
+  -- why a thread wears out, after more steps
+  wears_further : {s m : S} {l k : Logged} → GoesThrough puts takes s l m k → WearsOut puts takes m k → WearsOut puts takes s l
+  wears_further before (outgrows others gives large) = outgrows (goes_after before others) gives large
+  wears_further before (overflows others gives turn long) = overflows (goes_after before others) gives turn long
+
   -- what comes of more steps
   pub goes_further : {A : Type 0} (s m t : S) (l k : Logged) (new : LoggedNode) (r : Result A Stop) → GoesThrough puts takes s l m k
       → GoesTo puts takes m k t new r → GoesTo puts takes s l t new r
   goes_further s m t l k new (Ok done) before h = (h.0, h.1, goes_after before h.2)
   goes_further s m t l k new (Err Closed) before h = (h.0, h.1, turns_after (all_turns before) h.2)
-  goes_further s m t l k new (Err Worn) before h = tt
+  goes_further s m t l k new (Err Worn) before h = wears_further before h
   goes_further s m t l k new (Err NoMemory) before h = tt
 
   -- what comes of an answer with which the thread goes on

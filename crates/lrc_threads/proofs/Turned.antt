@@ -5,7 +5,7 @@ use Rattle.lrc_wire.specs.declared.fault.WireFault.{WireFault}
 use Rattle.lrc_envelope.specs.Envelope.{EnvelopeRecord}
 use Rattle.lrc_wire.specs.Reading.{envelope_of}
 use Rattle.lrc_post.specs.declared.parcel.Parcel.{Parcel}
-use Rattle.lrc_protocol.specs.Run.{Input, run, taken, EntryRecord, Logged, logged, refused, logs}
+use Rattle.lrc_protocol.specs.Run.{Input, run, taken, EntryRecord, Logged, logged, refused, too_large, logs}
 use Rattle.lrc_protocol.proofs.Worlds.{Entries, IsEntry, logs-entries}
 use Rattle.lrc_node.specs.Logged.{LoggedNode, sound, Logs, LogsTo}
 use Rattle.lrc_node.specs.declared.fault.NodeFault.{NodeFault}
@@ -13,7 +13,7 @@ use Rattle.lrc_node.specs.declared.fault.NodeFault.TheVariants as NodeFaults
 use Rattle.lrc_node.specs.declared.fault.NodeFault.TheVariants.{Failed, NotReady, Unexpected}
 use Rattle.lrc_threads.specs.declared.stop.Stop.{Stop}
 use Rattle.lrc_threads.specs.declared.stop.Stop.TheVariants.{Closed, Worn, NoMemory}
-use Rattle.lrc_threads.specs.Worker.{goes_on, takes_message, drops, GoesThrough, stays, steps, none, more, GoesTo, SendsTo, LogsLast, IsRefused, made_of}
+use Rattle.lrc_threads.specs.Worker.{goes_on, takes_message, drops, GoesThrough, stays, steps, Gives, nothing, message, outgrows, overflows, none, more, GoesTo, SendsTo, LogsLast, IsRefused, made_of}
 
 -- a node made a turn
 pub record IsTurn (l : Logged) (input : Input) (came : ℕ) (new : LoggedNode) : Type 0 where
@@ -47,13 +47,32 @@ unturned l input came old new (Err NodeFaults.Worn) h is made = cc
 unturned l input came old new (Err NodeFaults.NoMemory) h is made = cc
 unturned l input came old new (Err Failed) h is made = cc
 
+-- a node made none, since it would be too large
+outgrown : (l : Logged) (input : Input) (came : ℕ) (old new : LoggedNode) (r : Result (Unit {0}) NodeFault) → LogsTo old input came new r
+    → old ≡ sound l → made_of r ≡ Err Worn → logs l input came ≡ too_large
+outgrown l input came old new (Ok tt) h is made = cc
+outgrown l input came old new (Err NotReady) h is made = cc
+outgrown l input came old new (Err Unexpected) h is made = cc
+outgrown l input came old new (Err NodeFaults.Worn) h is made = h l is
+outgrown l input came old new (Err NodeFaults.NoMemory) h is made = cc
+outgrown l input came old new (Err Failed) h is made = cc
+
+-- no node closes the post
+unclosed : (r : Result (Unit {0}) NodeFault) → made_of r ≡ Err Closed → ⊥
+unclosed (Ok tt) made = cc
+unclosed (Err NotReady) made = cc
+unclosed (Err Unexpected) made = cc
+unclosed (Err NodeFaults.Worn) made = cc
+unclosed (Err NodeFaults.NoMemory) made = cc
+unclosed (Err Failed) made = cc
+
 module _ {S : Type 0} (puts : S → List Parcel → S → Type 0) (takes : S → Parcel → S → Type 0) where
   -- the messages of a turn that the node made by itself
   pub sent_run : (s t : S) (l : Logged) (new : LoggedNode) (r : Result (Unit {0}) Stop) (i : IsTurn l run 0 new) → SendsTo puts s i.entry t r
       → GoesTo puts takes s l t new r
   sent_run s t l new (Ok tt) i h = (i.after, i.now, steps stays (goes_on i.turn h))
   sent_run s t l new (Err Closed) i h = (i.after, i.now, more run 0 none refl i.turn)
-  sent_run s t l new (Err Worn) i h = tt
+  sent_run s t l new (Err Worn) i h = overflows stays nothing i.turn h
   sent_run s t l new (Err NoMemory) i h = tt
 
   -- the messages of a turn in which the node took one
@@ -62,8 +81,18 @@ module _ {S : Type 0} (puts : S → List Parcel → S → Type 0) (takes : S →
       → SendsTo puts m i.entry t r → GoesTo puts takes s l t new r
   sent_take s m t l new (Ok tt) parcel envelope took said i h = (i.after, i.now, steps stays (takes_message took said i.turn h))
   sent_take s m t l new (Err Closed) parcel envelope took said i h = (i.after, i.now, more (taken envelope) parcel.stamp none tt i.turn)
-  sent_take s m t l new (Err Worn) parcel envelope took said i h = tt
+  sent_take s m t l new (Err Worn) parcel envelope took said i h = overflows stays (message took said) i.turn h
   sent_take s m t l new (Err NoMemory) parcel envelope took said i h = tt
+
+  -- an input with which the node fails
+  pub failed : {A : Type 0} (s t : S) (l : Logged) (input : Input) (came : ℕ) (old new : LoggedNode) (r : Result (Unit {0}) NodeFault) (stop : Stop)
+      (q : Result A Stop) → LogsTo old input came new r → old ≡ sound l → made_of r ≡ Err stop → IsErrAnd q (λ f. f ≡ stop)
+      → Gives takes s input came → GoesTo puts takes s l t new q
+  failed s t l input came old new r stop (Ok x) h is made err gives = absurd err
+  failed s t l input came old new r stop (Err Closed) h is made err gives = absurd (unclosed r (made ∙ ap Err (sym err)))
+  failed s t l input came old new r stop (Err Worn) h is made err gives =
+      outgrows stays gives (outgrown l input came old new r h is (made ∙ ap Err (sym err)))
+  failed s t l input came old new r stop (Err NoMemory) h is made err gives = tt
 
   -- a node that stays as it is
   pub unmoved : (s t : S) (l : Logged) (new : LoggedNode) → t ≡ s → new ≡ sound l → (j : Logged) × (new ≡ sound j) × GoesThrough puts takes s l t j
@@ -75,19 +104,19 @@ module _ {S : Type 0} (puts : S → List Parcel → S → Type 0) (takes : S →
   dropped s t l new parcel took refuses is = (l, is, steps stays (drops took refuses))
 
   -- there is no next parcel, since the post refuses
-  pub waited : {A : Type 0} (s t : S) (l : Logged) (new : LoggedNode) (stop : Stop) (r : Result A Stop) → IsErrAnd r (λ f. f ≡ stop) → new ≡ sound l
-      → GoesTo puts takes s l t new r
-  waited s t l new stop (Ok x) err is = absurd err
-  waited s t l new stop (Err Closed) err is = (l, is, none)
-  waited s t l new stop (Err Worn) err is = tt
-  waited s t l new stop (Err NoMemory) err is = tt
+  pub waited : {A : Type 0} (s t : S) (l : Logged) (new : LoggedNode) (stop : Stop) (r : Result A Stop) → IsErrAnd r (λ f. f ≡ stop) → (stop ≡ Worn → ⊥)
+      → new ≡ sound l → GoesTo puts takes s l t new r
+  waited s t l new stop (Ok x) err other is = absurd err
+  waited s t l new stop (Err Closed) err other is = (l, is, none)
+  waited s t l new stop (Err Worn) err other is = absurd (other (sym err))
+  waited s t l new stop (Err NoMemory) err other is = tt
 
   -- an answer with which a thread stops is handed on
   pub handed_on : {A B : Type 0} (s t : S) (l : Logged) (new : LoggedNode) (stop : Stop) (q : Result A Stop) (r : Result B Stop) → q ≡ Err stop
       → IsErrAnd r (λ f. f ≡ stop) → GoesTo puts takes s l t new q → GoesTo puts takes s l t new r
   handed_on s t l new stop q (Ok x) is err h = absurd err
   handed_on {A = A} s t l new stop q (Err Closed) is err h = subst (GoesTo {A = A} puts takes s l t new) (is ∙ ap Err (sym err)) h
-  handed_on s t l new stop q (Err Worn) is err h = tt
+  handed_on {A = A} s t l new stop q (Err Worn) is err h = subst (GoesTo {A = A} puts takes s l t new) (is ∙ ap Err (sym err)) h
   handed_on s t l new stop q (Err NoMemory) is err h = tt
 
 -- bytes that spell no message are refused

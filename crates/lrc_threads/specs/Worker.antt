@@ -1,15 +1,19 @@
 -- What one node's thread does: its turns, what it puts and what it takes.
-use Rattle.std.specs.Prelude.{◌≡◌, ℕ, Bool, true, false, Option, Some, None, Result, Ok, Err, is_err, List, [], ◌∷◌, ◌++◌, map}
+use Rattle.std.specs.Prelude.{◌≡◌, ℕ, ◌<◌, Bool, true, false, Option, Some, None, Result, Ok, Err, is_err, List, [], ◌∷◌, ◌++◌, Any, length, map}
 use Rattle.lrc_wire.specs.declared.fault.WireFault.{WireFault}
+use Rattle.lrc_wire.specs.declared.limits.TheConstants.{MOST_BODY_BYTES}
+use Rattle.lrc_wire.specs.declared.version.Version.TheVariants.{Two}
 use Rattle.lrc_envelope.specs.Envelope.{EnvelopeRecord}
 use Rattle.lrc_wire.specs.Reading.{envelope_of}
+use Rattle.lrc_wire.specs.Runs.{runs_of}
+use Rattle.lrc_wire.specs.Spelling.{body}
 use Rattle.lrc_post.specs.declared.fault.PostFault.{PostFault}
 use Rattle.lrc_post.specs.declared.fault.PostFault.TheVariants as PostFaults
 use Rattle.lrc_post.specs.declared.parcel.Parcel.{Parcel}
 use Rattle.lrc_trace.specs.Trace.{TraceRecord}
 use Rattle.lrc_protocol.specs.Node.{Node}
 use Rattle.lrc_protocol.specs.Turn.{is_ready}
-use Rattle.lrc_protocol.specs.Run.{Input, run, taken, EntryRecord, Logged, logged, refused, logs}
+use Rattle.lrc_protocol.specs.Run.{Input, run, taken, EntryRecord, Logged, logged, refused, too_large, logs}
 use Rattle.lrc_protocol.specs.Follows.{inputs_of}
 use Rattle.lrc_protocol.specs.Traced.{traced, trace_of}
 use Rattle.lrc_node.specs.Logged.{LoggedNode, TracedLog, LeadsFrom, sound}
@@ -40,13 +44,24 @@ abbrev pub IsRefused : Logged → ℕ → Result EnvelopeRecord WireFault → Ty
 IsRefused l stamp (Ok envelope) = logs l (taken envelope) stamp ≡ refused
 IsRefused l stamp (Err fault) = Unit {0}
 
+-- a message has more bytes than may be sent
+abbrev pub IsTooLong : EnvelopeRecord → Type 0
+IsTooLong envelope = MOST_BODY_BYTES < length (body Two runs_of envelope.message)
+
+-- one of the messages of a turn has
+abbrev pub SendsTooLong : EntryRecord → Type 0
+SendsTooLong entry = Any IsTooLong entry.turn.out
+
 -- the messages of a turn are put
 abbrev pub Sends : {S : Type 0} → (S → List Parcel → S → Type 0) → S → EntryRecord → S → Type 0
 Sends puts s entry t = (parcels : List Parcel) × AreParcels entry parcels × puts s parcels t
 
+-- that as an answer; where the answer is that the thread is worn, one of them is too long
 abbrev pub SendsTo : {S : Type 0} → (S → List Parcel → S → Type 0) → S → EntryRecord → S → Result (Unit {0}) Stop → Type 0
 SendsTo puts s entry t (Ok done) = Sends puts s entry t
-SendsTo puts s entry t (Err stop) = Unit {0}
+SendsTo puts s entry t (Err Closed) = Unit {0}
+SendsTo puts s entry t (Err Worn) = SendsTooLong entry
+SendsTo puts s entry t (Err NoMemory) = Unit {0}
 
 -- One step of a node's thread, from a state of its mail and a node with its log on. The node goes on by itself, and the messages of
 -- its turn are put. Or a parcel is taken, and the node takes its message with the parcel's stamp; or refuses it, and makes no turn.
@@ -65,6 +80,21 @@ pub data GoesThrough {S : Type 0} (puts : S → List Parcel → S → Type 0) (t
   stays : GoesThrough puts takes s l s l
   steps : {m t : S} {k j : Logged} → GoesThrough puts takes s l m k → Step puts takes m k t j → GoesThrough puts takes s l t j
 
+-- what a thread gives its node, from a state of its mail: nothing, where the node goes on by itself; or the message of a parcel that
+-- is taken, with the parcel's stamp
+pub data Gives {S : Type 0} (takes : S → Parcel → S → Type 0) (s : S) : Input → ℕ → Type 0 where
+  nothing : Gives takes s run 0
+  message : {t : S} {parcel : Parcel} {envelope : EnvelopeRecord}
+      → takes s parcel t → envelope_of parcel.bytes ≡ Ok envelope → Gives takes s (taken envelope) parcel.stamp
+
+-- Why a thread wears out, after any number of steps: the node's next turn is too large, or one of the messages of that turn is too long.
+pub data WearsOut {S : Type 0} (puts : S → List Parcel → S → Type 0) (takes : S → Parcel → S → Type 0) (s : S) (l : Logged) : Type 0 where
+  outgrows : {m : S} {k : Logged} {input : Input} {came : ℕ}
+      → GoesThrough puts takes s l m k → Gives takes m input came → logs k input came ≡ too_large → WearsOut puts takes s l
+  overflows : {m : S} {k j : Logged} {input : Input} {came : ℕ} {entry : EntryRecord}
+      → GoesThrough puts takes s l m k → Gives takes m input came → logs k input came ≡ logged entry j → SendsTooLong entry
+      → WearsOut puts takes s l
+
 -- any number of turns of a node with its log
 pub data Turns (l : Logged) : Logged → Type 0 where
   none : Turns l l
@@ -80,12 +110,13 @@ abbrev pub IsLogOf : Node → List EntryRecord → Type 0
 IsLogOf start log = GoesOnBy (no_turn_yet start) log
 
 -- What comes of a thread's steps: its log tells what it put and took. Where the post was closed while the node had messages to
--- send, its log is still that of its turns. Otherwise the node has failed.
+-- send, its log is still that of its turns. Where the thread is worn, it has worn out. Where no memory
+-- is left, nothing more is said.
 abbrev pub GoesTo : {S A : Type 0} → (S → List Parcel → S → Type 0) → (S → Parcel → S → Type 0)
     → S → Logged → S → LoggedNode → Result A Stop → Type 0
 GoesTo puts takes s l t new (Ok done) = (j : Logged) × (new ≡ sound j) × GoesThrough puts takes s l t j
 GoesTo puts takes s l t new (Err Closed) = (j : Logged) × (new ≡ sound j) × Turns l j
-GoesTo puts takes s l t new (Err Worn) = Unit {0}
+GoesTo puts takes s l t new (Err Worn) = WearsOut puts takes s l
 GoesTo puts takes s l t new (Err NoMemory) = Unit {0}
 
 -- What came of a node that started like this, where its thread goes on or the post was closed: its log leads to it from there, and

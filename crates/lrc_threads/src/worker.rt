@@ -1,12 +1,12 @@
 // One node's thread.
 
-ghost use Rattle.std.specs.Prelude.{List, ◌≡◌, ◌++◌, ◌∷◌, [], IfOk, OnOk, Ok, map, MatchOption, is_err, true, false, IfErr, IfSome, IfNone};
+ghost use Rattle.std.specs.Prelude.{List, ◌≡◌, ◌++◌, ◌∷◌, [], IfOk, OnOk, Ok, map, MatchOption, is_err, true, false, IfErr, IfSome, IfNone, ◌≢◌, Any};
 ghost use Rattle.lrc_protocol.specs.Run as log;
 ghost use Rattle.lrc_protocol.specs.Run.{EntryRecord};
 ghost use Rattle.lrc_node.specs.Logged.{sound};
 ghost use Rattle.lrc_wire.specs.Reading.{envelope_of};
-ghost use Rattle.lrc_threads.specs.declared.stop.Stop.TheVariants.{NoMemory};
-ghost use Rattle.lrc_threads.specs.Worker.{GoesTo, IsIdle, IsRead, LogsLast, SendsTo, TakesIn, TakesNext, TracesTo, made_of, shown, shown_sent, stop_of};
+ghost use Rattle.lrc_threads.specs.declared.stop.Stop.TheVariants.{NoMemory, Worn};
+ghost use Rattle.lrc_threads.specs.Worker.{GoesTo, IsIdle, IsRead, IsTooLong, LogsLast, SendsTo, TakesIn, TakesNext, TracesTo, made_of, shown, shown_sent, stop_of};
 
 use crate::gate::Gate;
 use crate::mail::Mail;
@@ -27,7 +27,8 @@ const TURNS: u32 = 64;
 /// A node's turns, until there will be no message for it any more and it waits: it goes on while it is ready, and takes its messages,
 /// which it waits for where it is not ready. A node that is ready looks for messages after each release of a lock, and after each 64 turns; one
 /// that spins under a lock lets other threads go on meanwhile. What a turn sends is put before the next one. A message that cannot
-/// be read, or that the node does not expect, is taken and makes no turn.
+/// be read, or that the node does not expect, is taken and makes no turn. `Worn` comes only of a turn that is too large, or that has a
+/// message which is too long to be sent.
 pub fn work<M: Mail, G: Gate, R: Wait>(
     rt: &R,
     alloc: Global,
@@ -144,7 +145,8 @@ fn receive<M: Mail, G: Gate>(
 
 // The next parcel: one that is there, or else one that is waited for.
 fn next_parcel<M: Mail>(mail: &mut M, ready: bool) -> Result<Option<Parcel>, Stop>
-    ensures { IfOk result (λ parcel. TakesNext M.takes mail.old parcel mail.new) }
+    ensures next { IfOk result (λ parcel. TakesNext M.takes mail.old parcel mail.new) }
+    ensures unworn { IfErr result (λ stop. stop ≢ Worn) }
 {
     let taken = if ready { mail.poll() } else { mail.take() };
     match taken {
@@ -189,7 +191,8 @@ fn send_last<M: Mail>(alloc: Global, mail: &mut M, node: &Logged<'_>) -> Result<
 
 // The parcels of messages that are sent in one turn.
 fn parcels_of(alloc: Global, out: &[Envelope], stamp: u64) -> Result<Vec<Parcel>, Stop>
-    ensures { IfOk result (λ parcels. map shown parcels.items ≡ map (shown_sent stamp) out.now) }
+    ensures shown { IfOk result (λ parcels. map shown parcels.items ≡ map (shown_sent stamp) out.now) }
+    ensures worn { IfErr result (λ stop. stop ≡ Worn → Any IsTooLong out.now) }
 {
     let mut parcels = Vec::with_capacity(alloc, out.len())?;
     for envelope in out {
@@ -200,7 +203,8 @@ fn parcels_of(alloc: Global, out: &[Envelope], stamp: u64) -> Result<Vec<Parcel>
 
 // The parcel of a message.
 fn parcel_of(alloc: Global, envelope: &Envelope, stamp: u64) -> Result<Parcel, Stop>
-    ensures { IfOk result (λ parcel. shown parcel ≡ shown_sent stamp envelope.now) }
+    ensures shown { IfOk result (λ parcel. shown parcel ≡ shown_sent stamp envelope.now) }
+    ensures worn { IfErr result (λ stop. stop ≡ Worn → IsTooLong envelope.now) }
 {
     match encode(alloc, envelope) {
         Ok(bytes) => Ok(Parcel {

@@ -6,7 +6,7 @@ use Rattle.lrc_threads.proofs.worker.receive.Goals as goal
 pub returns-in_err-parcel-clause-goes : goal.returns-in_err-parcel-clause-goes
 returns-in_err-parcel-clause-goes g c = λ l is.
     waited g.M.Mail.puts g.M.Mail.takes c.args.mail.now c.next_parcel.new.mail l c.args.node.now.logged c.in_err-parcel.field-0.0 c.from_residual.result
-    c.from_residual.ensures.1 is
+    c.from_residual.ensures.1 c.in_err-parcel.ensures.unworn is
 
 pub returns-in_default-clause-goes : goal.returns-in_default-clause-goes
 returns-in_default-clause-goes g c = λ l is.

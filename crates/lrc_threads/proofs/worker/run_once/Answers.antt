@@ -1,8 +1,8 @@
-use Rattle.std.proofs.Common.{◌≡◌, Ok, true, false, refl, rules}
+use Rattle.std.proofs.Common.{◌≡◌, Ok, Err, true, false, refl, rules}
 use Rattle.lrc_protocol.specs.Run as log
-use Rattle.lrc_threads.specs.Worker.{made_of}
+use Rattle.lrc_threads.specs.Worker.{made_of, nothing}
 use Rattle.lrc_threads.proofs.Traced.{traces_any, traces_input}
-use Rattle.lrc_threads.proofs.Turned.{turned, unturned, sent_run, unmoved}
+use Rattle.lrc_threads.proofs.Turned.{turned, unturned, sent_run, failed, unmoved}
 use Rattle.lrc_threads.proofs.worker.run_once.Goals as goal
 
 pub returns-then-branch-clause-goes : goal.returns-then-branch-clause-goes
@@ -10,6 +10,12 @@ returns-then-branch-clause-goes g c = λ l is.
     let made : made_of c.run.result ≡ Ok true = search rules in
     let i = turned l log.run 0 c.args.node.now.logged c.run.new.self.logged c.run.result c.run.ensures.logs is made in
     sent_run g.M.Mail.puts g.M.Mail.takes c.args.mail.now c.send_last.new.mail l c.run.new.self.logged c.send_last.result i (c.send_last.ensures i.entry i.last)
+
+pub returns-in_err-is_made-clause-goes : goal.returns-in_err-is_made-clause-goes
+returns-in_err-is_made-clause-goes g c = λ l is.
+    let made : made_of c.run.result ≡ Err c.in_err-is_made.field-0.0 = search rules in
+    failed g.M.Mail.puts g.M.Mail.takes c.args.mail.now c.args.mail.now l log.run 0 c.args.node.now.logged c.run.new.self.logged c.run.result
+    c.in_err-is_made.field-0.0 c.from_residual.result c.run.ensures.logs is made c.from_residual.ensures.1 nothing
 
 pub returns-else-branch-clause-goes : goal.returns-else-branch-clause-goes
 returns-else-branch-clause-goes g c = λ l is.

@@ -1,10 +1,10 @@
-use Rattle.std.proofs.Common.{◌≡◌, Ok, true, false, sym, subst, rules}
+use Rattle.std.proofs.Common.{◌≡◌, Ok, Err, true, false, sym, subst, rules}
 use Rattle.std.specs.Prelude.{is_err}
 use Rattle.lrc_wire.specs.Reading.{envelope_of}
 use Rattle.lrc_protocol.specs.Run as log
-use Rattle.lrc_threads.specs.Worker.{IsRefused, made_of}
+use Rattle.lrc_threads.specs.Worker.{IsRefused, made_of, message}
 use Rattle.lrc_threads.proofs.Traced.{same_trace, traces_any, traces_input}
-use Rattle.lrc_threads.proofs.Turned.{turned, unturned, sent_take, dropped, unread}
+use Rattle.lrc_threads.proofs.Turned.{turned, unturned, sent_take, failed, dropped, unread}
 use Rattle.lrc_threads.proofs.worker.take_in.Goals as goal
 
 pub returns-in_default-clause-goes : goal.returns-in_default-clause-goes
@@ -21,6 +21,14 @@ returns-then-branch-clause-goes g c = λ l is s took.
     c.take.ensures.logs is made in
     sent_take g.M.Mail.puts g.M.Mail.takes s c.args.mail.now c.send_last.new.mail l c.take.new.self.logged c.send_last.result c.args.parcel.now
     c.in-Some.envelope took said i (c.send_last.ensures i.entry i.last)
+
+pub returns-in_err-is_made-clause-goes : goal.returns-in_err-is_made-clause-goes
+returns-in_err-is_made-clause-goes g c = λ l is s took.
+    let made : made_of c.take.result ≡ Err c.in_err-is_made.field-0.0 = search rules in
+    let said : envelope_of c.args.parcel.now.bytes ≡ Ok c.in-Some.envelope = search rules in
+    failed g.M.Mail.puts g.M.Mail.takes s c.args.mail.now l (log.taken c.in-Some.envelope) c.args.parcel.now.stamp c.args.node.now.logged
+    c.take.new.self.logged c.take.result c.in_err-is_made.field-0.0 c.from_residual-in_err-is_made.result c.take.ensures.logs is made
+    c.from_residual-in_err-is_made.ensures.1 (message took said)
 
 pub returns-else-branch-clause-goes : goal.returns-else-branch-clause-goes
 returns-else-branch-clause-goes g c = λ l is s took.
