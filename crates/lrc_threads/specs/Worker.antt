@@ -110,8 +110,7 @@ abbrev pub IsLogOf : Node → List EntryRecord → Type 0
 IsLogOf start log = GoesOnBy (no_turn_yet start) log
 
 -- What comes of a thread's steps: its log tells what it put and took. Where the post was closed while the node had messages to
--- send, its log is still that of its turns. Where the thread is worn, it has worn out. Where no memory
--- is left, nothing more is said.
+-- send, its log is still that of its turns. Where it stops as worn, it says why. Where no memory is left, nothing more is said.
 abbrev pub GoesTo : {S A : Type 0} → (S → List Parcel → S → Type 0) → (S → Parcel → S → Type 0)
     → S → Logged → S → LoggedNode → Result A Stop → Type 0
 GoesTo puts takes s l t new (Ok done) = (j : Logged) × (new ≡ sound j) × GoesThrough puts takes s l t j
