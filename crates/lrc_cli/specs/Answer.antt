@@ -9,7 +9,7 @@ use Rattle.lrc_lang.specs.Tree.{program_of}
 use Rattle.lrc_lang.specs.declared.program.Program.{Program}
 use Rattle.lrc_trace.specs.declared.act.Act.{Act}
 use Rattle.lrc_text.specs.Parts.{whole_text}
-use Rattle.lrc_explored.specs.Explored.{Explores, MeetsTooMany}
+use Rattle.lrc_explored.specs.Explored.{Explores, MeetsFew, MeetsTooMany}
 use Rattle.lrc_protocol.specs.declared.event.Event.{Event}
 use Rattle.lrc_verdict.specs.Judgement.{Judges}
 use Rattle.lrc_world.specs.Ends.{ends_of}
@@ -57,10 +57,12 @@ pub record IsShowing (run : RunChoice) (shape : Shape) (text : List ℕ) (events
 abbrev pub judged_nodes : Judging → Option ℕ
 judged_nodes judging = option_map (λ nodes. nodes.count) judging.nodes
 
--- the text and the status are what is said of every order of the program that this text is of
+-- The text and the status are what is said of every order of the program that this text is of, and the search met no more states than it
+-- may.
 abbrev pub IsExploration : Exploring → List ℕ → Program → List ℕ → ℕ → Type 0
 IsExploration exploring text program out status = (places : List ℕ) × HasLines text (program_of program) places
     × Explores program exploring.nodes.count places exploring.outcomes out status
+    × MeetsFew program exploring.nodes.count exploring.most.count exploring.outcomes status
 
 -- What is printed, with the status: `ok` where the text is a program's, the report of what the program does in rounds on
 -- the plain machine, what is shown of its run, a judgement of acts, or what every order of the program comes to.

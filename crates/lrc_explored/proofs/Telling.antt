@@ -1,6 +1,6 @@
 -- What is told of a program.
 use Rattle.std.proofs.Common.{◌≡◌, ℕ, ◌+◌, ◌-◌, List, [], ◌++◌, Bool, true, false, Result, Ok, Err, IfOk, IfErr, length, append-nil, refl, sym, subst, ◌∙◌, ap, ap₂, arith}
-use Rattle.std.specs.Prelude.{Some, codes}
+use Rattle.std.specs.Prelude.{◌≢◌, Some, codes}
 use Rattle.std.proofs.lemmas.Option.{same_Some}
 use Rattle.lrc_lang.specs.declared.program.Program.{Program}
 use Rattle.lrc_trace.specs.declared.act.Act.{Act}
@@ -11,12 +11,12 @@ use Rattle.lrc_exec.specs.Plain.{plain}
 use Rattle.lrc_plain_laws.specs.Racing.{HasNoRace}
 use Rattle.lrc_explore.specs.declared.search.ExploreFault.{ExploreFault}
 use Rattle.lrc_explore.specs.declared.search.ExploreFault.TheVariants.{TooMany}
-use Rattle.lrc_explore.specs.Limit.{HasMoreStates}
-use Rattle.lrc_explore.specs.Outcome.{HasMoreNoted}
+use Rattle.lrc_explore.specs.Limit.{FitsIn, HasMoreStates}
+use Rattle.lrc_explore.specs.Outcome.{FitsNoted, HasMoreNoted}
 use Rattle.lrc_explore.specs.Stuck.{GetsStuck}
 use Rattle.lrc_explore.specs.Verdict.{LeadsToRace}
 use Rattle.lrc_explored.specs.declared.explored.Printout.{Printout}
-use Rattle.lrc_explored.specs.Explored.{Explores, MeetsTooMany, tells_orders, tells_outcomes}
+use Rattle.lrc_explored.specs.Explored.{Explores, MeetsFew, MeetsTooMany, tells_orders, tells_outcomes}
 use Rattle.lrc_explored.specs.LastRaces.{AreRacesAt}
 use Rattle.lrc_explored.specs.Orders.{TellsOrders, ends_text, order_text, racy, stuck}
 use Rattle.lrc_explored.specs.Outcomes.{TellsOutcomes}
@@ -45,6 +45,12 @@ module _ (program : Program) (nodes most : ℕ) (outcomes : Bool) (r : Result Pr
   pub more_states : outcomes ≡ false → IfErr r (λ f. f ≡ TooMany → HasMoreStates program nodes most)
       → IfErr r (λ f. f ≡ TooMany → MeetsTooMany program nodes most outcomes)
   more_states is h = subst (λ b. IfErr r (λ f. f ≡ TooMany → MeetsTooMany program nodes most b)) (sym is) h
+
+  pub fits_noted : outcomes ≡ true → IfOk r (λ p. FitsNoted program nodes most) → IfOk r (λ p. MeetsFew program nodes most outcomes p.status)
+  fits_noted is h = subst (λ b. IfOk r (λ p. MeetsFew program nodes most b p.status)) (sym is) h
+
+  pub fits_in : outcomes ≡ false → IfOk r (λ p. p.status ≢ 3 → FitsIn program nodes most) → IfOk r (λ p. MeetsFew program nodes most outcomes p.status)
+  fits_in is h = subst (λ b. IfOk r (λ p. MeetsFew program nodes most b p.status)) (sym is) h
 
 -- ---- one order
 

@@ -3,7 +3,7 @@
 ghost use Rattle.std.specs.Prelude.{◌≡◌, ◌≢◌, IfErr, IfOk};
 ghost use Rattle.lrc_text.specs.Parts.{whole_text};
 ghost use Rattle.lrc_exec.specs.Nodes.{AreNodes};
-ghost use Rattle.lrc_explored.specs.Explored.{Explores, MeetsTooMany};
+ghost use Rattle.lrc_explored.specs.Explored.{Explores, MeetsFew, MeetsTooMany};
 
 use crate::orders::orders_told;
 use crate::outcomes::outcomes_told;
@@ -33,6 +33,7 @@ pub fn explored(
 ) -> Result<Printout, ExploreFault>
     requires { AreNodes nodes }
     ensures ok { IfOk result (λ printout. Explores program.now nodes lines.now outcomes (whole_text printout.parts.items) printout.status) }
+    ensures fits { IfOk result (λ printout. MeetsFew program.now nodes most outcomes printout.status) }
     ensures nodes { IfErr result (λ fault. fault ≢ ExploreFault.BadNodes) }
     ensures too_many { IfErr result (λ fault. fault ≡ ExploreFault.TooMany → MeetsTooMany program.now nodes most outcomes) }
 {

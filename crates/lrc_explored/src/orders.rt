@@ -5,9 +5,9 @@ ghost use Rattle.lrc_judge.specs.declared.TheConstants.{NODES};
 ghost use Rattle.lrc_text.specs.Parts.{whole_text};
 ghost use Rattle.lrc_exec.specs.Plain.{plain};
 ghost use Rattle.lrc_exec.specs.Nodes.{AreNodes};
-ghost use Rattle.lrc_explore.specs.Limit.{HasMoreStates};
+ghost use Rattle.lrc_explore.specs.Limit.{FitsIn, HasMoreStates};
 ghost use Rattle.lrc_explore.specs.Stuck.{GetsStuck};
-ghost use Rattle.lrc_explore.specs.Verdict.{IsVerdict, LeadsToRace, NeverStuck};
+ghost use Rattle.lrc_explore.specs.Verdict.{FindsNoRace, IsVerdict, LeadsToRace, NeverStuck};
 ghost use Rattle.lrc_plain_laws.specs.Racing.{HasNoRace};
 ghost use Rattle.lrc_explored.specs.Orders.{TellsOrders, ends_text, order_text};
 
@@ -34,6 +34,7 @@ pub(crate) fn orders_told(
 ) -> Result<Printout, ExploreFault>
     requires { AreNodes nodes }
     ensures ok { IfOk result (λ printout. TellsOrders program.now nodes lines.now (whole_text printout.parts.items) printout.status) }
+    ensures fits { IfOk result (λ printout. printout.status ≢ 3 → FitsIn program.now nodes most) }
     ensures nodes { IfErr result (λ fault. fault ≢ ExploreFault.BadNodes) }
     ensures too_many { IfErr result (λ fault. fault ≡ ExploreFault.TooMany → HasMoreStates program.now nodes most) }
 {
@@ -51,7 +52,8 @@ fn verdict_told(
 ) -> Result<Printout, AllocError>
     requires nodes { AreNodes nodes }
     requires verdict { IsVerdict program.now nodes verdict.now }
-    ensures { IfOk result (λ printout. TellsOrders program.now nodes lines.now (whole_text printout.parts.items) printout.status) }
+    ensures ok { IfOk result (λ printout. TellsOrders program.now nodes lines.now (whole_text printout.parts.items) printout.status) }
+    ensures free { IfOk result (λ printout. printout.status ≢ 3 → FindsNoRace verdict.now) }
 {
     match verdict {
         Verdict::RaceFree { stuck: None } => free_told(alloc, program, lines, nodes),
@@ -109,7 +111,8 @@ fn race_told(
 ) -> Result<Printout, AllocError>
     requires nodes { AreNodes nodes }
     requires leads { LeadsToRace program.now nodes order.now }
-    ensures { IfOk result (λ printout. TellsOrders program.now nodes lines.now (whole_text printout.parts.items) printout.status) }
+    ensures ok { IfOk result (λ printout. TellsOrders program.now nodes lines.now (whole_text printout.parts.items) printout.status) }
+    ensures status { IfOk result (λ printout. printout.status ≡ 3) }
 {
     let acts = acts_of(alloc, program, nodes, order)?;
     last_race_told(alloc, program, lines, nodes, &acts)
@@ -125,7 +128,8 @@ fn last_race_told(
 ) -> Result<Printout, AllocError>
     requires in_range { All (λ act. act.node < NODES) acts.now }
     requires leads { (order : List ℕ) × (leads : LeadsToRace program.now nodes order) × (leads.run ≡ acts.now) }
-    ensures { IfOk result (λ printout. TellsOrders program.now nodes lines.now (whole_text printout.parts.items) printout.status) }
+    ensures ok { IfOk result (λ printout. TellsOrders program.now nodes lines.now (whole_text printout.parts.items) printout.status) }
+    ensures status { IfOk result (λ printout. printout.status ≡ 3) }
 {
     let last = last_of(acts);
     let races = races_at(alloc, acts, last)?;

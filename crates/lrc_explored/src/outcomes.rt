@@ -5,7 +5,7 @@ ghost use Rattle.std.specs.List.{IsDistinct};
 ghost use Rattle.lrc_exec.specs.Nodes.{AreNodes};
 ghost use Rattle.lrc_explore.specs.contracts.outcomes.OutcomePartialEq.TheImpl.{eq-value};
 ghost use Rattle.lrc_text.specs.Parts.{texts_of, whole_text};
-ghost use Rattle.lrc_explore.specs.Outcome.{HasMoreNoted};
+ghost use Rattle.lrc_explore.specs.Outcome.{FitsNoted, HasMoreNoted};
 ghost use Rattle.lrc_explored.specs.Outcomes.{ListsOutcomes, TellsOutcomes, on_one_line, outcome_line, spaced};
 
 use crate::explored::Printout;
@@ -29,6 +29,7 @@ pub(crate) fn outcomes_told(
     requires { AreNodes nodes }
     ensures text { IfOk result (λ printout. TellsOutcomes program.now nodes (whole_text printout.parts.items)) }
     ensures status { IfOk result (λ printout. printout.status ≡ 0) }
+    ensures fits { IfOk result (λ _. FitsNoted program.now nodes most) }
     ensures nodes { IfErr result (λ fault. fault ≢ ExploreFault.BadNodes) }
     ensures too_many { IfErr result (λ fault. fault ≡ ExploreFault.TooMany → HasMoreNoted program.now nodes most) }
 {

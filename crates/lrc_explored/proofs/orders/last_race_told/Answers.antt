@@ -6,8 +6,8 @@ use Rattle.lrc_explored.specs.Orders.{order_text}
 use Rattle.lrc_explored.proofs.Telling.{of_race}
 use Rattle.lrc_explored.proofs.orders.last_race_told.Goals as goal
 
-pub returns : goal.returns
-returns c =
+pub returns-clause-ok : goal.returns-clause-ok
+returns-clause-ok c =
     let program = c.args.program.now in
     let nodes = c.args.nodes in
     let lines = c.args.lines.now in
