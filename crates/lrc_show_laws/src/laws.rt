@@ -1,17 +1,27 @@
 // What always holds of texts of the runs of a program. Each function is a theorem: its body is empty, and its clauses are the law.
 
-ghost use Rattle.std.specs.Prelude.{◌≡◌, ◌≢◌, ◌↔◌, ℕ, List, Some};
+ghost use Rattle.std.specs.Prelude.{◌≡◌, ◌≢◌, ◌<◌, ◌≤◌, ◌⊎◌, ◌↔◌, ℕ, All, List, length, IfSome, MatchResult, Option, Result, Some};
 ghost use Rattle.lrc_lang.specs.declared.program.Program.{Program};
+ghost use Rattle.lrc_lang.specs.Faults.{IsText};
+ghost use Rattle.lrc_lang.specs.Tree.{program_of};
 ghost use Rattle.lrc_trace.specs.declared.act.Act.{Act};
 ghost use Rattle.lrc_trace.specs.Conflict.{Accesses};
 ghost use Rattle.lrc_trace.specs.Order.{HappensBefore};
+ghost use Rattle.lrc_trace.specs.Reading.{ReadsLazily};
 ghost use Rattle.lrc_trace.specs.Synchronization.{WaitsAtBarriers};
 ghost use Rattle.lrc_plain_laws.specs.Follows.{FollowsText};
 ghost use Rattle.lrc_protocol.specs.declared.event.Event.{Event};
 ghost use Rattle.lrc_protocol.specs.Node.{OptionsRecord};
 ghost use Rattle.lrc_protocol.specs.Run.{World, run_of};
+ghost use Rattle.lrc_text.specs.Lines.{lines_of};
+ghost use Rattle.lrc_acts.specs.ActsText.{ReadsActs, SayActs, most_bytes};
+ghost use Rattle.lrc_acts.specs.Printed.{IsRanged, numbers_from};
+ghost use Rattle.lrc_acts.specs.declared.reading.ActsFault.{ActsFault};
+ghost use Rattle.lrc_acts.specs.declared.reading.ActsFault.TheVariants.{BadAct, NoMemory};
+ghost use Rattle.lrc_acts.specs.declared.reading.LinedActs.{LinedActs};
 ghost use Rattle.lrc_show.specs.Rapid.{rapid_of};
 ghost use Rattle.lrc_show.specs.RapidOrder.{IsOf, Orders};
+ghost use Rattle.lrc_show_laws.specs.PrintedRun.{IsPrintedRun};
 
 /// Where each node's acts are those of the text, each act is of one of the nodes, and each lock that is acquired or released is
 /// one of the program's.
@@ -32,4 +42,26 @@ pub fn order_in_rapid_of_every_run_is_happens_before()
         (i j p q v w : ℕ) → run_of program nodes options events ≡ Some world → Accesses world.acts i p v
         → Accesses world.acts j q w → i ≢ j
         → HappensBefore world.acts i j ↔ Orders (rapid_of program.locks nodes world.acts) i j }
+{}
+
+/// Where acts follow the text of a program on at most 16 nodes and read lazily, the numbers of each act are of their kinds: nodes
+/// 0 to 15, words of 32 bits, values of 64, locks of 8.
+pub fn acts_of_a_text_are_in_range()
+    ensures { (text : List ℕ) (program : Program) (nodes : ℕ) (acts : List Act) → IsText text (program_of program) → nodes ≤ 16
+        → FollowsText program nodes acts → ReadsLazily acts → All IsRanged acts }
+{}
+
+/// What is printed of every run of a program is read as its acts, the first of them on line 1 and each on a line of its own, also
+/// where a number of nodes is given that is no less than theirs. So where it is not too long the reader answers just these acts,
+/// unless memory runs out; where it is too long it answers that the first line is bad.
+pub fn printed_acts_of_every_run_are_read()
+    ensures ranged { (nodes : ℕ) (acts : List Act) (printed : List ℕ) → IsPrintedRun nodes acts printed → All IsRanged acts }
+    ensures read { (nodes : ℕ) (acts : List Act) (printed : List ℕ) (given : Option ℕ) → IsPrintedRun nodes acts printed
+        → IfSome given (λ most. nodes ≤ most) → SayActs given 1 (lines_of printed) acts (numbers_from 1 acts) }
+    ensures whole { (nodes : ℕ) (acts : List Act) (printed : List ℕ) (given : Option ℕ) (result : Result LinedActs ActsFault)
+        → IsPrintedRun nodes acts printed → IfSome given (λ most. nodes ≤ most) → length printed ≤ most_bytes
+        → ReadsActs given printed result
+        → MatchResult result (λ lined. (lined.acts.items ≡ acts) × (lined.lines.items ≡ numbers_from 1 acts)) (λ fault. fault ≡ NoMemory) }
+    ensures too_long { (printed : List ℕ) (given : Option ℕ) (result : Result LinedActs ActsFault) → most_bytes < length printed
+        → ReadsActs given printed result → MatchResult result (λ _. ⊥) (λ fault. (fault ≡ BadAct 1) ⊎ (fault ≡ NoMemory)) }
 {}
