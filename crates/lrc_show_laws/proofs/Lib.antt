@@ -6,3 +6,4 @@ pub mod Ranged
 pub mod PlacesFit
 pub mod Reading
 pub mod Printing
+pub mod Judging

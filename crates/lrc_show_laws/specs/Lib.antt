@@ -1,1 +1,2 @@
 pub mod PrintedRun
+pub mod JudgedRun

@@ -1,11 +1,12 @@
 // What always holds of texts of the runs of a program. Each function is a theorem: its body is empty, and its clauses are the law.
 
-ghost use Rattle.std.specs.Prelude.{◌≡◌, ◌≢◌, ◌<◌, ◌≤◌, ◌⊎◌, ◌↔◌, ℕ, All, List, length, IfSome, MatchResult, Option, Result, Some};
+ghost use Rattle.std.specs.Prelude.{◌≡◌, ◌≢◌, ◌<◌, ◌≤◌, ◌⊎◌, ◌↔◌, ◌++◌, ℕ, All, Bool, List, length};
+ghost use Rattle.std.specs.Prelude.{IfSome, MatchResult, Option, Result, Some};
 ghost use Rattle.lrc_lang.specs.declared.program.Program.{Program};
 ghost use Rattle.lrc_lang.specs.Faults.{IsText};
 ghost use Rattle.lrc_lang.specs.Tree.{program_of};
 ghost use Rattle.lrc_trace.specs.declared.act.Act.{Act};
-ghost use Rattle.lrc_trace.specs.Conflict.{Accesses};
+ghost use Rattle.lrc_trace.specs.Conflict.{Accesses, IsRaceFree};
 ghost use Rattle.lrc_trace.specs.Order.{HappensBefore};
 ghost use Rattle.lrc_trace.specs.Reading.{ReadsLazily};
 ghost use Rattle.lrc_trace.specs.Synchronization.{WaitsAtBarriers};
@@ -15,12 +16,15 @@ ghost use Rattle.lrc_protocol.specs.Node.{OptionsRecord};
 ghost use Rattle.lrc_protocol.specs.Run.{World, run_of};
 ghost use Rattle.lrc_text.specs.Lines.{lines_of};
 ghost use Rattle.lrc_acts.specs.ActsText.{ReadsActs, SayActs, most_bytes};
+ghost use Rattle.lrc_acts.specs.JudgeLines.{lazy_line, synchronized_line};
 ghost use Rattle.lrc_acts.specs.Printed.{IsRanged, numbers_from};
 ghost use Rattle.lrc_acts.specs.declared.reading.ActsFault.{ActsFault};
 ghost use Rattle.lrc_acts.specs.declared.reading.ActsFault.TheVariants.{BadAct, NoMemory};
 ghost use Rattle.lrc_acts.specs.declared.reading.LinedActs.{LinedActs};
+ghost use Rattle.lrc_verdict.specs.Judgement.{CountsNodes, IsJudgement};
 ghost use Rattle.lrc_show.specs.Rapid.{rapid_of};
 ghost use Rattle.lrc_show.specs.RapidOrder.{IsOf, Orders};
+ghost use Rattle.lrc_show_laws.specs.JudgedRun.{IsJudgedRun};
 ghost use Rattle.lrc_show_laws.specs.PrintedRun.{IsPrintedRun};
 
 /// Where each node's acts are those of the text, each act is of one of the nodes, and each lock that is acquired or released is
@@ -64,4 +68,15 @@ pub fn printed_acts_of_every_run_are_read()
         → MatchResult result (λ lined. (lined.acts.items ≡ acts) × (lined.lines.items ≡ numbers_from 1 acts)) (λ fault. fault ≡ NoMemory) }
     ensures too_long { (printed : List ℕ) (given : Option ℕ) (result : Result LinedActs ActsFault) → most_bytes < length printed
         → ReadsActs given printed result → MatchResult result (λ _. ⊥) (λ fault. (fault ≡ BadAct 1) ⊎ (fault ≡ NoMemory)) }
+{}
+
+/// What a judge says of what is printed of a run is what the definitions say of the run's acts. It begins with the lines
+/// `well synchronized` and `reads lazily`, and the status behind it tells whether the run has a race.
+pub fn printed_runs_are_judged_as_their_acts()
+    ensures judgement { (acts : List Act) (pairs : Bool) (out : List ℕ) (status : ℕ) (is : IsJudgedRun acts pairs out status)
+        → (count : ℕ) × CountsNodes is.given acts count × IsJudgement count acts (numbers_from 1 acts) pairs out status }
+    ensures begins { (acts : List Act) (pairs : Bool) (out : List ℕ) (status : ℕ) → IsJudgedRun acts pairs out status
+        → (rest : List ℕ) × (out ≡ synchronized_line ++ lazy_line ++ rest) }
+    ensures status { (acts : List Act) (pairs : Bool) (out : List ℕ) (status : ℕ) → IsJudgedRun acts pairs out status
+        → ((status ≡ 0) × IsRaceFree acts) ⊎ ((status ≡ 3) × ¬ IsRaceFree acts) }
 {}
