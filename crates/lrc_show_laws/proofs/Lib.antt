@@ -1,2 +1,4 @@
 pub mod OfText
 pub mod OfRuns
+pub mod Groups
+pub mod WellFormed
