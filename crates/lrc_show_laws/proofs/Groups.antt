@@ -1,5 +1,6 @@
 -- Where the steps of an act stand in a trace in the form of RAPID: side by side, from where those of the acts before it end.
-use Rattle.std.proofs.Common.{◌≡◌, ◌∙◌, ◌<◌, ◌≤◌, ◌+◌, ◌*◌, ◌-◌, ◌⊎◌, ℕ, zero, suc, inl, inr, refl, sym, ap, subst, arith, List, [], ◌∷◌, ◌++◌, length}
+use Rattle.std.proofs.Common.{◌≡◌, ◌∙◌, ◌<◌, ◌≤◌, ◌+◌, ◌*◌, ◌-◌, ◌⊎◌, ℕ, zero, suc, inl, inr, refl, sym, ap, subst, arith}
+use Rattle.std.proofs.Common.{List, [], ◌∷◌, ◌++◌, length}
 use Rattle.std.specs.Prelude.{Some, slice_get}
 use Rattle.std.specs.List.{flat_map, range_with_len}
 use Rattle.std.proofs.lemmas.Bool.{cases_lt}
@@ -54,9 +55,10 @@ module _ {X Y : Type 0} (of : ℕ → X → List Y) where
               stands = omega arith;
             }
         | inr high ↦
-            let past : k ≡ length (of n x) + (k - length (of n x)) = omega arith in
+            let o = k - length (of n x) in
+            let past : k ≡ length (of n x) + o = omega arith in
             let moved = ap (slice_get (of n x ++ rest)) past in
-            let later = found (n + 1) xs (k - length (of n x)) y (sym (slice_get-back (of n x) rest (k - length (of n x))) ∙ sym moved ∙ h) in
+            let later = found (n + 1) xs o y (sym (slice_get-back (of n x) rest o) ∙ sym moved ∙ h) in
             let same : n + 1 + later.item ≡ n + suc later.item = omega arith in
             record {
               item = suc later.item;
@@ -158,7 +160,8 @@ module _ (locks nodes : ℕ) (acts : List Act) (position node : ℕ) where
   abbrev departed_before : ℕ
   departed_before = departs_before acts node position
 
-  position_is : {deed : Deed} {s : RapidStep} → Comes (meeting_at locks nodes acts node position) position node deed s → s.position ≡ position
+  position_is : {deed : Deed} {s : RapidStep} → Comes (meeting_at locks nodes acts node position) position node deed s
+      → s.position ≡ position
   position_is reading = refl
   position_is writing = refl
   position_is acquiring = refl
@@ -168,10 +171,12 @@ module _ (locks nodes : ℕ) (acts : List Act) (position node : ℕ) where
   position_is (departing few) = refl
   position_is (departed few) = refl
 
-  goes_on : (deed : Deed) (o l : ℕ) → slice_get (steps_of deed) o ≡ Some (got node position l) → GoesOn locks position node deed l (steps_of deed) o
+  goes_on : (deed : Deed) (o l : ℕ) → slice_get (steps_of deed) o ≡ Some (got node position l)
+      → GoesOn locks position node deed l (steps_of deed) o
   goes_on (Read w value) zero l h = let never = same_operation _ _ h in absurd cc
   goes_on (Write w value) zero l h = let never = same_operation _ _ h in absurd cc
-  goes_on (Acquire k) zero l h = let both = same_operation (got node position k) (got node position l) h in let same : k ≡ l = cc in inl (ap Acquire same)
+  goes_on (Acquire k) zero l h =
+      let both = same_operation (got node position k) (got node position l) h in let same : k ≡ l = cc in inl (ap Acquire same)
   goes_on (Release k) zero l h = let never = same_operation _ _ h in absurd cc
   goes_on Arrive o l h =
       let (q, same, next) = pairs_next position node (λ q. locks + arrived_before * nodes + node) 0 1 o l h in
@@ -188,7 +193,8 @@ module _ (locks nodes : ℕ) (acts : List Act) (position node : ℕ) where
   goes_on (Trap cause) o l h = absurd (nowhere o (got node position l) h)
   goes_on End o l h = absurd (nowhere o (got node position l) h)
 
-  came_from : (deed : Deed) (o l : ℕ) → slice_get (steps_of deed) o ≡ Some (gave node position l) → CameFrom locks position node deed l (steps_of deed) o
+  came_from : (deed : Deed) (o l : ℕ) → slice_get (steps_of deed) o ≡ Some (gave node position l)
+      → CameFrom locks position node deed l (steps_of deed) o
   came_from (Read w value) zero l h = let never = same_operation _ _ h in absurd cc
   came_from (Write w value) zero l h = let never = same_operation _ _ h in absurd cc
   came_from (Acquire k) zero l h = let never = same_operation _ _ h in absurd cc
@@ -215,6 +221,10 @@ module _ (locks nodes : ℕ) (acts : List Act) where
   abbrev of : ℕ → Act → List RapidStep
   of position act = rapid_steps (meeting_at locks nodes acts act.node position) position act.node act.deed
 
+  abbrev steps : List RapidStep
+  steps = rapid_of locks nodes acts
+
+  -- the steps of one act
   abbrev group : ℕ → ℕ → Deed → List RapidStep
   group place node deed = rapid_steps (meeting_at locks nodes acts node place) place node deed
 
@@ -226,13 +236,14 @@ module _ (locks nodes : ℕ) (acts : List Act) where
     here : slice_get (group s.position s.node deed) offset ≡ Some s
     stands : k ≡ start of 0 acts s.position + offset
 
-  is_at : (k : ℕ) (s : RapidStep) → slice_get (rapid_of locks nodes acts) k ≡ Some s → IsAt k s
+  is_at : (k : ℕ) (s : RapidStep) → slice_get steps k ≡ Some s → IsAt k s
   is_at k s h =
       let f = found of 0 acts k s h in
       let begin : 0 + f.item ≡ f.item = omega arith in
       let node = f.value.node in
       let deed = f.value.deed in
-      let here : slice_get (group f.item node deed) f.offset ≡ Some s = subst (λ m. slice_get (of m f.value) f.offset ≡ Some s) begin f.is in
+      let here : slice_get (group f.item node deed) f.offset ≡ Some s =
+      subst (λ m. slice_get (of m f.value) f.offset ≡ Some s) begin f.is in
       let come = comes (meeting_at locks nodes acts node f.item) f.item node deed f.offset s here in
       let place : f.item ≡ s.position = sym (position_is locks nodes acts f.item node come) in
       let own : node ≡ s.node = sym (node_is come) in
@@ -246,8 +257,9 @@ module _ (locks nodes : ℕ) (acts : List Act) where
         stands = subst (λ p. k ≡ start of 0 acts p + f.offset) place f.stands;
       }
 
-  in_group : (place node : ℕ) (deed : Deed) (o : ℕ) (s : RapidStep) → Does acts place node deed → slice_get (group place node deed) o ≡ Some s
-      → slice_get (rapid_of locks nodes acts) (start of 0 acts place + o) ≡ Some s
+  in_group : (place node : ℕ) (deed : Deed) (o : ℕ) (s : RapidStep) → Does acts place node deed
+      → slice_get (group place node deed) o ≡ Some s
+      → slice_get steps (start of 0 acts place + o) ≡ Some s
   in_group place node deed o s does h =
       let begin : place ≡ 0 + place = omega arith in
       let act : Act = record { node = node; deed = deed } in
@@ -255,14 +267,15 @@ module _ (locks nodes : ℕ) (acts : List Act) where
 
   -- where an act has one step, no other stands at its position
   pub alone : (i node : ℕ) (deed : Deed) → Does acts i node deed → length (group i node deed) ≡ 1 → (k m : ℕ) (s t : RapidStep)
-      → slice_get (rapid_of locks nodes acts) k ≡ Some s → slice_get (rapid_of locks nodes acts) m ≡ Some t → s.position ≡ i → t.position ≡ i → k ≡ m
+      → slice_get steps k ≡ Some s → slice_get steps m ≡ Some t → s.position ≡ i → t.position ≡ i → k ≡ m
   alone i node deed does one k m s t hk hm first second = same_start (offset_is k s hk first) (offset_is m t hm second)
     where
-      offset_is : (p : ℕ) (x : RapidStep) → slice_get (rapid_of locks nodes acts) p ≡ Some x → x.position ≡ i → p ≡ start of 0 acts i
+      offset_is : (p : ℕ) (x : RapidStep) → slice_get steps p ≡ Some x → x.position ≡ i → p ≡ start of 0 acts i
       offset_is p x h at =
           let a = is_at p x h in
           let there : Does acts i x.node a.deed = subst (λ z. Does acts z x.node a.deed) at a.does in
-          let here : slice_get (group i x.node a.deed) a.offset ≡ Some x = subst (λ z. slice_get (group z x.node a.deed) a.offset ≡ Some x) at a.here in
+          let here : slice_get (group i x.node a.deed) a.offset ≡ Some x =
+          subst (λ z. slice_get (group z x.node a.deed) a.offset ≡ Some x) at a.here in
           let own : slice_get (group i node deed) a.offset ≡ Some x =
           subst (λ (d : Deed). slice_get (group i node d) a.offset ≡ Some x) (Does-one_deed there does)
           (subst (λ n. slice_get (group i n a.deed) a.offset ≡ Some x) (Does-one_node there does) here) in
@@ -274,9 +287,9 @@ module _ (locks nodes : ℕ) (acts : List Act) where
       same_start x y = x ∙ sym y
 
   -- what follows a step that acquires a lock
-  pub next : (k node position l : ℕ) → slice_get (rapid_of locks nodes acts) k ≡ Some (got node position l)
+  pub next : (k node position l : ℕ) → slice_get steps k ≡ Some (got node position l)
       → Does acts position node (Acquire l)
-      ⊎ ((locks ≤ l) × (slice_get (rapid_of locks nodes acts) (suc k) ≡ Some (gave node position l)))
+      ⊎ ((locks ≤ l) × (slice_get steps (suc k) ≡ Some (gave node position l)))
   next k node position l h =
       let s = got node position l in
       let a = is_at k s h in
@@ -287,14 +300,14 @@ module _ (locks nodes : ℕ) (acts : List Act) where
             let release = gave node position l in
             let after = in_group position node a.deed (suc a.offset) release a.does pair.1 in
             let there : begin + suc a.offset ≡ suc k = omega (arith, a.stands) in
-            inr (pair.0, subst (λ m. slice_get (rapid_of locks nodes acts) m ≡ Some release) there after)
+            inr (pair.0, subst (λ m. slice_get steps m ≡ Some release) there after)
       ]
 
   -- what comes before a step that releases one
-  pub previous : (k node position l : ℕ) → slice_get (rapid_of locks nodes acts) k ≡ Some (gave node position l)
+  pub previous : (k node position l : ℕ) → slice_get steps k ≡ Some (gave node position l)
       → Does acts position node (Release l)
       ⊎ ((locks ≤ l)
-      × ((b : ℕ) × (k ≡ suc b) × (slice_get (rapid_of locks nodes acts) b ≡ Some (got node position l))))
+      × ((b : ℕ) × (k ≡ suc b) × (slice_get steps b ≡ Some (got node position l))))
   previous k node position l h =
       let s = gave node position l in
       let a = is_at k s h in

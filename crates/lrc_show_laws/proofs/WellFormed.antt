@@ -11,8 +11,8 @@ use Rattle.lrc_trace.specs.Synchronization.{IsWellSynchronized}
 use Rattle.lrc_trace.proofs.Positions.{Does-deed, Does-node, Does-one_deed}
 use Rattle.lrc_show.specs.Rapid.{RapidStep, meeting_at, rapid_of, rapid_steps}
 use Rattle.lrc_show.specs.RapidOrder.{IsOf}
-use Rattle.lrc_show.proofs.Steps.{Comes, act_of_step, acquiring, arrived, arriving, departed, departing, later, reading, releasing, step_of_act}
-use Rattle.lrc_show.proofs.Steps.{writing}
+use Rattle.lrc_show.proofs.Steps.{Comes, acquiring, arrived, arriving, departed, departing, reading, releasing, writing}
+use Rattle.lrc_show.proofs.Steps.{act_of_step, later, step_of_act}
 use Rattle.lrc_show_laws.specs.Traces.{DoesStep, HasStep, HoldsStep, IsWellFormed, KeepsAccesses}
 use Rattle.lrc_show_laws.proofs.Groups.{alone, gave, got, next, previous, same_operation}
 
@@ -67,7 +67,8 @@ module _ (locks nodes : ℕ) (acts : List Act) (is_of : IsOf locks nodes acts) w
                 kept = λ p low high gives.
                     let given = gave other p l in
                     let (m, at) = step_of_act locks nodes acts p other (Release l) 0 given gives refl in
-                    kept m (before since m had given at_since at low) (before m k given this at at_k high) (releases_there steps m other l p at);
+                    kept m (before since m had given at_since at low) (before m k given this at at_k high)
+                    (releases_there steps m other l p at);
               })
           | inr not_less ↦
               let same : j ≡ i = omega arith in
@@ -119,7 +120,8 @@ module _ (locks nodes : ℕ) (acts : List Act) (is_of : IsOf locks nodes acts) w
                     | inl more ↦ holds.kept p more less release
                     | inr not_more ↦
                         let same : p ≡ holds.since = omega arith in
-                        let never : Release l ≡ Acquire l = Does-one_deed (subst (λ z. Does acts z node (Release l)) same release) holds.acquired in
+                        let moved : Does acts holds.since node (Release l) = subst (λ z. Does acts z node (Release l)) same release in
+                        let never : Release l ≡ Acquire l = Does-one_deed moved holds.acquired in
                         cc
                   ]
                   | inr not_less ↦
@@ -185,34 +187,39 @@ module _ (locks nodes : ℕ) (acts : List Act) (is_of : IsOf locks nodes acts) w
   write_behind w v i n place node deed s (departing few) e = let never = same_step _ _ e in absurd cc
   write_behind w v i n place node deed s (departed few) e = let never = same_step _ _ e in absurd cc
 
-  -- the node of the step of an access
-  node_of_read : (w v i n : ℕ) (s : RapidStep) → is_for i n (Read w v) s → s.node ≡ n
-  node_of_read w v i n s e = sym (ap (λ (x : RapidStep). x.node) (one _ s e))
+  -- the node of a step that stands for an access
+  node_of_read : (w v i n : ℕ) (s : RapidStep) → is_for i n (Read w v) s → n ≡ s.node
+  node_of_read w v i n s e = ap (λ (x : RapidStep). x.node) (one _ s e)
 
-  node_of_write : (w v i n : ℕ) (s : RapidStep) → is_for i n (Write w v) s → s.node ≡ n
-  node_of_write w v i n s e = sym (ap (λ (x : RapidStep). x.node) (one _ s e))
+  node_of_write : (w v i n : ℕ) (s : RapidStep) → is_for i n (Write w v) s → n ≡ s.node
+  node_of_write w v i n s e = ap (λ (x : RapidStep). x.node) (one _ s e)
 
-  -- the act of a step, by the step's own position and node
-  own_act : (i node place own : ℕ) (deed : Deed) → i ≡ place → own ≡ node → Does acts place own deed → Does acts i node deed
-  own_act i node place own deed at by does = subst (λ z. Does acts z node deed) (sym at) (Does-node by does)
+  -- the act of a step, by the step's own position
+  own_act : (n place node : ℕ) (deed : Deed) (s : RapidStep) → s.position ≡ place → s.node ≡ node → n ≡ s.node → Does acts place node deed
+      → Does acts s.position n deed
+  own_act n place node deed s at by own does = subst (λ z. Does acts z n deed) (sym at) (Does-node (sym (own ∙ by)) does)
 
   is_read : (k node word value : ℕ) (does : DoesStep steps k node (Read word value))
       → (own : ℕ) × Does acts does.step.position node (Read word own)
   is_read k node word value does =
       let s = does.step in
-      let a = act_of_step locks nodes acts k s does.stands in
+      let i = s.position in
       let e = does.is (meeting_at 0 0 [] 0 0) in
-      let (own, is) = read_behind word value s.position node a.place a.node a.deed s a.comes e in
-      (own, Does-deed is (own_act s.position node a.place a.node a.deed a.position (sym a.same_node ∙ node_of_read word value s.position node s e) a.does))
+      let a = act_of_step locks nodes acts k s does.stands in
+      let (own, is) = read_behind word value i node a.place a.node a.deed s a.comes e in
+      let same = node_of_read word value i node s e in
+      (own, Does-deed is (own_act node a.place a.node a.deed s a.position a.same_node same a.does))
 
   is_write : (k node word value : ℕ) (does : DoesStep steps k node (Write word value))
       → (own : ℕ) × Does acts does.step.position node (Write word own)
   is_write k node word value does =
       let s = does.step in
-      let a = act_of_step locks nodes acts k s does.stands in
+      let i = s.position in
       let e = does.is (meeting_at 0 0 [] 0 0) in
-      let (own, is) = write_behind word value s.position node a.place a.node a.deed s a.comes e in
-      (own, Does-deed is (own_act s.position node a.place a.node a.deed a.position (sym a.same_node ∙ node_of_write word value s.position node s e) a.does))
+      let a = act_of_step locks nodes acts k s does.stands in
+      let (own, is) = write_behind word value i node a.place a.node a.deed s a.comes e in
+      let same = node_of_write word value i node s e in
+      (own, Does-deed is (own_act node a.place a.node a.deed s a.position a.same_node same a.does))
 
   read : (i node word value : ℕ) → Does acts i node (Read word value) → HasStep steps i node (Read word value)
   read i node word value does =

@@ -5,7 +5,8 @@ use Rattle.lrc_show_laws.proofs.traces.trace_of_every_run_is_well_formed.Goals a
 
 pub returns-clause-well_formed : goal.returns-clause-well_formed
 returns-clause-well_formed c = λ program nodes options events world e.
-    well_formed program.locks nodes world.acts (run_is_of program nodes options events world e) (synchronized program nodes options events world e)
+    well_formed program.locks nodes world.acts (run_is_of program nodes options events world e)
+    (synchronized program nodes options events world e)
 
 pub returns-clause-accesses : goal.returns-clause-accesses
 returns-clause-accesses c = λ program nodes options events world e.
