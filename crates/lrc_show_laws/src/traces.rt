@@ -12,8 +12,9 @@ ghost use Rattle.lrc_show.specs.Rapid.{rapid_of};
 ghost use Rattle.lrc_show.specs.RapidOrder.{IsOf};
 ghost use Rattle.lrc_show_laws.specs.Traces.{IsWellFormed, KeepsAccesses};
 
-/// Where acts are well synchronized, their trace in the form of RAPID is well formed: no step acquires a lock that a node holds, and
-/// each step that releases a lock is of the node that holds it.
+/// Where acts are well synchronized, and of the locks of a program, their trace in the form of RAPID is well formed: no step acquires
+/// a lock that a node holds, and each step that releases a lock is of the node that holds it. That goes for the locks that stand for
+/// barriers too.
 pub fn trace_of_synchronized_acts_is_well_formed()
     ensures { (locks nodes : ℕ) (acts : List Act) → IsOf locks nodes acts → IsWellSynchronized nodes acts
         → IsWellFormed (rapid_of locks nodes acts) }
