@@ -7,3 +7,5 @@ pub mod PlacesFit
 pub mod Reading
 pub mod Printing
 pub mod Judging
+pub mod Groups
+pub mod WellFormed

@@ -1,2 +1,3 @@
 pub mod PrintedRun
 pub mod JudgedRun
+pub mod Traces
