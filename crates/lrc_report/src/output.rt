@@ -63,6 +63,8 @@ pub fn put_parts<W: Write>(output: &mut Output<'_, W>, parts: &[Vec<u8>]) -> io:
     ensures same_writer { output.new.writer.ghost_name ≡ output.old.writer.ghost_name }
     ensures ok { OnOk result (Appends (W.contents output.old.writer.now) (W.contents output.new.writer.now) (whole_text parts.now)) }
     ensures err { OnErr result (AppendsFront (W.contents output.old.writer.now) (W.contents output.new.writer.now) (whole_text parts.now)) }
+    ensures fine { OnOk result (output.new.failed ≡ false) }
+    ensures failed { OnErr result (output.new.failed ≡ true) }
 {
     for part in parts {
         put(output, part)?;
