@@ -57,10 +57,10 @@ module _ (picture : Picture) (few : length picture.columns.items ≤ 16) where
   row_short number row low =
       short_both 100 (begin_lines picture number ++ turn_lines picture number row) (end_lines picture number)
       (short_both 100 (begin_lines picture number) (turn_lines picture number row)
-      (short_flat 100 (λ (band : Band). lines_if (band.from == number) (band_lines columns (codes " begins") band)) picture.bands.items
-      (λ band. if_short (band.from == number) (band_lines columns (codes " begins") band) (band_short (codes " begins") band))) (turn_short number row low))
-      (short_flat 100 (λ (band : Band). lines_if (band.to == number) (band_lines columns (codes " ends") band)) picture.bands.items
-      (λ band. if_short (band.to == number) (band_lines columns (codes " ends") band) (band_short (codes " ends") band)))
+      (short_flat 100 (λ (band : Band). lines_if (band.from == number) (band_lines columns (codes " from here") band)) picture.bands.items
+      (λ band. if_short (band.from == number) (band_lines columns (codes " from here") band) (band_short (codes " from here") band))) (turn_short number row low))
+      (short_flat 100 (λ (band : Band). lines_if (band.to == number) (band_lines columns (codes " to here") band)) picture.bands.items
+      (λ band. if_short (band.to == number) (band_lines columns (codes " to here") band) (band_short (codes " to here") band)))
 
   names_short : AreShort 100 (each (name_lines columns) picture.columns.items)
   names_short =

@@ -24,7 +24,7 @@ abbrev pub legend_signs : List ℕ
 legend_signs = codes "*  act   .  begins to wait   o  messages alone   !  trap   =  at a barrier   -*-  an interval ends"
 
 abbrev pub legend_messages : List ℕ
-legend_messages = codes ">N  message N is sent   <N  it is taken   +--->  from its sender to its taker   again  a repeat"
+legend_messages = codes ">N  message N is sent   <N  it is taken   +--->  from sender to taker   again  taken a second time"
 
 abbrev pub legend_others : List ℕ
 legend_others = codes ">x  a message that is never taken   race N  an act of that group of races; the groups stand below"
@@ -54,7 +54,7 @@ turn_lines picture number row =
     headed (row_margin columns number (shape_of number row picture.arrows.items)) (bars_margin columns)
     (paragraph (room_of columns) (row_phrases picture number row))
 
--- a barrier, where it begins or ends
+-- a barrier, at the first and at the last row at which a node comes to it or leaves it
 abbrev pub band_lines : (columns : ℕ) → (end : List ℕ) → Band → List (List ℕ)
 band_lines columns end band = headed (band_margin columns) (bars_margin columns) (paragraph (room_of columns) ((band.label.items ++ end) ∷ []))
 
@@ -64,11 +64,11 @@ lines_if false lines = []
 
 abbrev pub begin_lines : Picture → (number : ℕ) → List (List ℕ)
 begin_lines picture number =
-    flat_map (λ band. lines_if (band.from == number) (band_lines (length picture.columns.items) (codes " begins") band)) picture.bands.items
+    flat_map (λ band. lines_if (band.from == number) (band_lines (length picture.columns.items) (codes " from here") band)) picture.bands.items
 
 abbrev pub end_lines : Picture → (number : ℕ) → List (List ℕ)
 end_lines picture number =
-    flat_map (λ band. lines_if (band.to == number) (band_lines (length picture.columns.items) (codes " ends") band)) picture.bands.items
+    flat_map (λ band. lines_if (band.to == number) (band_lines (length picture.columns.items) (codes " to here") band)) picture.bands.items
 
 abbrev pub row_lines : Picture → (number : ℕ) → Row → List (List ℕ)
 row_lines picture number row = begin_lines picture number ++ turn_lines picture number row ++ end_lines picture number

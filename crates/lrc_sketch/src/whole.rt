@@ -38,7 +38,7 @@ fn push_legend(text: &mut Vec<u8>) -> Result<(), AllocError>
     text.extend_from_slice(
         b"
 *  act   .  begins to wait   o  messages alone   !  trap   =  at a barrier   -*-  an interval ends
->N  message N is sent   <N  it is taken   +--->  from its sender to its taker   again  a repeat
+>N  message N is sent   <N  it is taken   +--->  from sender to taker   again  taken a second time
 >x  a message that is never taken   race N  an act of that group of races; the groups stand below
 
 ",
@@ -138,7 +138,7 @@ fn push_band(
     push_paragraph(text, &first, margin, room_of(columns), &phrases)
 }
 
-// Adds the barriers that begin before a row.
+// Adds the barriers whose first row is this one, before it.
 fn push_begins(
     alloc: Global,
     text: &mut Vec<u8>,
@@ -157,14 +157,14 @@ fn push_begins(
             columns,
             margin,
             band,
-            b" begins",
+            b" from here",
             band.from == number,
         )?;
     }
     Ok(())
 }
 
-// Adds the barriers that end behind a row.
+// Adds the barriers whose last row is this one, behind it.
 fn push_ends(
     alloc: Global,
     text: &mut Vec<u8>,
@@ -183,7 +183,7 @@ fn push_ends(
             columns,
             margin,
             band,
-            b" ends",
+            b" to here",
             band.to == number,
         )?;
     }

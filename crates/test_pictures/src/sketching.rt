@@ -8,19 +8,19 @@ use std::alloc::{AllocError, Global};
 const WANTED: &[u8] = b"sample
 
 *  act   .  begins to wait   o  messages alone   !  trap   =  at a barrier   -*-  an interval ends
->N  message N is sent   <N  it is taken   +--->  from its sender to its taker   again  a repeat
+>N  message N is sent   <N  it is taken   +--->  from sender to taker   again  taken a second time
 >x  a message that is never taken   race N  an act of that group of races; the groups stand below
 
        node 0
        |       node 1
    0   |       .       waits             line 3  >1 lock-request to node 0
    1   o<------+       <1 lock-request  >2 lock-grant again to node 1
-      ================ barrier 1 begins
+      ================ barrier 1 from here
    2   +------>*-      acquire 0         line 3, interval 1  0,1  invalid 4  <2 lock-grant again
        |       |       race 1
    3   !       |       trap 4            line 5, interval 1  >x arrive to node 1, never taken
        |       |       race 1
-      ================ barrier 1 ends
+      ================ barrier 1 to here
 
 race 1: row 2 and row 3  acquire 0  trap 4  race line 3 write, line 5 read  word 0, act 0, act 1
 ";

@@ -8,4 +8,4 @@ use Rattle.lrc_sketch.proofs.whole.push_ends.Given as goal
 abbrev pub invariant-loop-band : goal.invariant-loop-band
 invariant-loop-band l =
     l.text.items ≡ l.initial.text.items ++ lines_text
-    (flat_map (λ band. lines_if (band.to == l.number) (band_lines (length l.picture.columns.items) (codes " ends") band)) (take l.band-index l.picture.bands.items))
+    (flat_map (λ band. lines_if (band.to == l.number) (band_lines (length l.picture.columns.items) (codes " to here") band)) (take l.band-index l.picture.bands.items))
