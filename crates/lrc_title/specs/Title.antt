@@ -1,4 +1,4 @@
--- The shortest command line that makes a chart.
+-- A command line that makes a chart: its file as it was given, and the options that are others than they are without words.
 use Rattle.std.specs.Prelude.{◌==◌, ℕ, Option, Some, None, List, [], ◌++◌, codes, decimal, if◌then◌else◌}
 use Rattle.lrc_page.specs.declared.size.Size.{Size}
 use Rattle.lrc_page.specs.declared.size.Size.TheVariants.{Words64, Words256}

@@ -1,4 +1,4 @@
-//! The title of a chart: the shortest command line that makes it.
+//! The title of a chart: a command line that makes it.
 #![tactic(auto)]
 
 mod title;

@@ -17,8 +17,8 @@ const DEFAULT_COLLECT: u64 = 0;
 
 const DEFAULT_SEED: u64 = 0;
 
-/// The title of a chart of a run: the shortest command line that makes it. A chart for a terminal has the same title as the
-/// document.
+/// The title of a chart of a run: a command line that makes it, where its file's name has no blank and begins with no `-`. A chart
+/// for a terminal has the same title as the document.
 pub fn title_of(
     alloc: Global,
     run: &RunChoice<'_>,
