@@ -7,7 +7,7 @@ use Rattle.lrc_svg.specs.declared.name.Key.{Key}
 use Rattle.lrc_svg.specs.declared.name.Key.TheVariants as keys
 use Rattle.lrc_svg.specs.declared.name.Tag.TheVariants as tags
 use Rattle.lrc_drawing.specs.Attributes.{said}
-use Rattle.lrc_drawing.specs.Marks.{Mark, attribute_value, begins_with_digit, box, is_dashes, key_number, named_once, names_key, own, path, path_of, stroke, undrawn, word}
+use Rattle.lrc_drawing.specs.Marks.{Mark, attribute_value, begins_with_digit, box, is_border, is_dashes, is_down, is_high, key_number, named_once, names_key, own, path, path_of, stroke, undrawn, word}
 use Rattle.lrc_drawing.proofs.Points.{start_is, strokes_are, written}
 
 abbrev Saying : Type 0
@@ -67,9 +67,11 @@ line_shows a x y u v stroke_of width dashes is =
 
 pub box_shows : (a : List Attribute) (x y u v fill stroke_of width dashes : List ℕ)
     → said a ≡ (keys.X, x) ∷ (keys.Y, y) ∷ (keys.Width, u) ∷ (keys.Height, v) ∷ (keys.Fill, fill) ∷ (keys.Stroke, stroke_of)
-    ∷ (keys.StrokeWidth, width) ∷ (keys.Dashes, dashes) ∷ [] → own tags.Box a [] ≡ box width dashes ∷ []
+    ∷ (keys.StrokeWidth, width) ∷ (keys.Dashes, dashes) ∷ [] → own tags.Box a [] ≡ box y v width dashes ∷ []
 box_shows a x y u v fill stroke_of width dashes is =
-    ap₂ (λ l m. box l m ∷ []) (value_is _ a ∙ ap (value_said _) is) (value_is _ a ∙ ap (value_said _) is)
+    ap₂ (λ l m. box l m (attribute_value is_border a) (attribute_value is_dashes a) ∷ []) (value_is is_down a ∙ ap (value_said is_down) is)
+    (value_is is_high a ∙ ap (value_said is_high) is)
+    ∙ ap₂ (λ l m. box y v l m ∷ []) (value_is is_border a ∙ ap (value_said is_border) is) (value_is is_dashes a ∙ ap (value_said is_dashes) is)
 
 pub path_shows : (a : List Attribute) (x y : ℕ) (strokes fill stroke_of width dashes : List ℕ) → x < 10 ^ 64 → y < 10 ^ 64
     → begins_with_digit strokes ≡ false

@@ -1,4 +1,6 @@
 pub mod Attributes
 pub mod Heights
 pub mod Marks
+pub mod Root
 pub mod Shown
+pub mod Widths

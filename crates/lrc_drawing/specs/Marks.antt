@@ -1,5 +1,5 @@
 -- What a reader sees in a tree of elements, read off it in order: words with the height of their foot, straight lines with the heights of
--- their ends, boxes with their borders, paths with their strokes, hints, and which of these are one element.
+-- their ends, boxes with their tops, heights and borders, paths with their strokes, hints, and which of these are one element.
 use Rattle.std.specs.Prelude.{ℕ, ◌==◌, ◌&&◌, ◌||◌, Bool, true, false, not, List, [], ◌∷◌, ◌++◌, cond, nat_le}
 use Rattle.std.specs.List.{flat_map}
 use Rattle.lrc_svg.specs.declared.element.Attribute.{Attribute}
@@ -15,8 +15,8 @@ pub data Mark : Type 0 where
   -- a straight line, and the lengths of its dashes
   stroke : (from to dashes : List ℕ) → Mark
   hint : (words : List ℕ) → Mark
-  -- a box: how wide its border is, and the lengths of the border's dashes
-  box : (width dashes : List ℕ) → Mark
+  -- a box: how far down its top is, how high it is, how wide its border is, and the lengths of the border's dashes
+  box : (top high border dashes : List ℕ) → Mark
   -- a path: the height where it starts, its strokes from there, and the lengths of their dashes
   path : (start strokes dashes : List ℕ) → Mark
   -- what stands between these two is one element
@@ -58,9 +58,14 @@ abbrev pub named_once : List Attribute → Bool
 named_once [] = true
 named_once (first ∷ more) = not (names_key (key_number first.key) more) && named_once more
 
-abbrev is_foot : Key → Bool
-is_foot keys.Y = true
-is_foot other = false
+-- how far down a box's top or the foot of words is
+abbrev pub is_down : Key → Bool
+is_down keys.Y = true
+is_down other = false
+
+abbrev pub is_high : Key → Bool
+is_high keys.Height = true
+is_high other = false
 
 abbrev pub is_space : Key → Bool
 is_space keys.Space = true
@@ -74,7 +79,7 @@ abbrev is_to : Key → Bool
 is_to keys.ToY = true
 is_to other = false
 
-abbrev is_border : Key → Bool
+abbrev pub is_border : Key → Bool
 is_border keys.StrokeWidth = true
 is_border other = false
 
@@ -121,11 +126,13 @@ path_of points dashes = path (digits_first (from_height points)) (behind_digits 
 
 -- what an element shows by itself, with these words in it
 abbrev pub own : Tag → List Attribute → (words : List ℕ) → List Mark
-own tags.Label attributes words = word (attribute_value is_foot attributes) words ∷ []
+own tags.Label attributes words = word (attribute_value is_down attributes) words ∷ []
 own tags.Line attributes words =
     stroke (attribute_value is_from attributes) (attribute_value is_to attributes) (attribute_value is_dashes attributes) ∷ []
 own tags.Hint attributes words = hint words ∷ []
-own tags.Box attributes words = box (attribute_value is_border attributes) (attribute_value is_dashes attributes) ∷ []
+own tags.Box attributes words =
+    box (attribute_value is_down attributes) (attribute_value is_high attributes) (attribute_value is_border attributes)
+    (attribute_value is_dashes attributes) ∷ []
 own tags.Path attributes words = path_of (attribute_value is_points attributes) (attribute_value is_dashes attributes) ∷ []
 own tags.Group attributes words = begins ∷ []
 own tags.Picture attributes words = unreadable ∷ []

@@ -1,8 +1,9 @@
 -- What a picture shows, in order: the title, the legend, barriers, columns, messages, races, rows, and the messages' kinds. Each row,
 -- each message and each group of races is one element with one hint, each of the latter with one straight line, between the heights of
 -- its rows, and a sign at each end of it. A message that is taken again is dashed, one that is never taken ends in a cross, and a row's
--- box has the border of its kind. Below all these is the ground.
-use Rattle.std.specs.Prelude.{ℕ, ◌+◌, Bool, true, false, List, [], ◌∷◌, ◌++◌, codes, decimal, if◌then◌else◌, length, nat_lt, Vec}
+-- box has the border of its kind. Each box is as high as what it is for, and stands at its height: a barrier's band goes from its first row
+-- to its last. Below all these is the ground, as high as the picture.
+use Rattle.std.specs.Prelude.{ℕ, ◌+◌, ◌-◌, Bool, true, false, List, [], ◌∷◌, ◌++◌, codes, decimal, if◌then◌else◌, length, nat_lt, Vec}
 use Rattle.std.specs.declared.alloc.Global.{Global}
 use Rattle.std.specs.List.{flat_map}
 use Rattle.lrc_show.specs.Each.{each}
@@ -14,7 +15,7 @@ use Rattle.lrc_picture.specs.declared.picture.Lost.{Lost}
 use Rattle.lrc_picture.specs.declared.picture.Picture.{Picture}
 use Rattle.lrc_picture.specs.declared.picture.Race.{Race}
 use Rattle.lrc_picture.specs.declared.picture.Row.{Row}
-use Rattle.lrc_drawing.specs.Heights.{below, foot, middle}
+use Rattle.lrc_drawing.specs.Heights.{band_high, band_top, below, box_top, columns_foot, columns_top, foot, middle, picture_high, rule_top}
 use Rattle.lrc_drawing.specs.Marks.{Mark, begins, box, ends, hint, path, stroke, word}
 
 -- the dashes of a line that runs through, and of a message
@@ -26,11 +27,11 @@ message_dashes true = codes "6 4"
 message_dashes false = through
 
 -- an area with no border, and one with a thin one
-abbrev pub unframed : Mark
-unframed = box (codes "0") through
+abbrev pub unframed : (top high : ℕ) → Mark
+unframed top high = box (decimal top) (decimal high) (codes "0") through
 
-abbrev pub framed : Mark
-framed = box (codes "1") through
+abbrev pub framed : (top high : ℕ) → Mark
+framed top high = box (decimal top) (decimal high) (codes "1") through
 
 -- the border of a row's box, by its kind: those of an act and of messages alone differ in their colours
 abbrev pub row_border : Kind → List ℕ
@@ -44,8 +45,8 @@ abbrev pub row_dashes : Kind → List ℕ
 row_dashes kinds.Wait = codes "3 3"
 row_dashes other = through
 
-abbrev pub row_box : Kind → Mark
-row_box kind = box (row_border kind) (row_dashes kind)
+abbrev pub row_box : (top high : ℕ) → Kind → Mark
+row_box top high kind = box (decimal top) (decimal high) (row_border kind) (row_dashes kind)
 
 -- the strokes by which an arrow leaves a box: to the left for a column there
 abbrev pub leaving : (sender receiver : ℕ) → List ℕ
@@ -70,7 +71,7 @@ abbrev named : List ℕ → List Mark
 named name = word (decimal 48) name ∷ []
 
 abbrev pub sample : Kind → List ℕ → List Mark
-sample kind name = row_box kind ∷ named name
+sample kind name = row_box 38 12 kind ∷ named name
 
 abbrev pub line : (strokes dashes : List ℕ) → List ℕ → List Mark
 line strokes dashes name = path (decimal 44) strokes dashes ∷ named name
@@ -102,16 +103,18 @@ words_named =
 abbrev pub legend_marks : List Mark
 legend_marks = signs_named ++ words_named
 
-abbrev pub column_marks : Vec ℕ Global → List Mark
-column_marks name = framed ∷ framed ∷ word (decimal 98) name.items ∷ []
+-- a column, down to its foot, and its head with its name
+abbrev pub column_marks : (foot : ℕ) → Vec ℕ Global → List Mark
+column_marks foot name =
+    framed columns_top (foot - columns_top) ∷ framed columns_top 20 ∷ word (decimal 98) name.items ∷ []
 
 abbrev pub band_marks : Band → List Mark
-band_marks band = framed ∷ word (foot band.from) band.label.items ∷ []
+band_marks band = framed (band_top band) (band_high band) ∷ word (foot band.from) band.label.items ∷ []
 
 -- below the box of a row that closes an interval is another one
-abbrev pub rule_marks : (closes : Bool) → List Mark
-rule_marks true = unframed ∷ []
-rule_marks false = []
+abbrev pub rule_marks : (top : ℕ) → (closes : Bool) → List Mark
+rule_marks top true = unframed top 3 ∷ []
+rule_marks top false = []
 
 abbrev pub row_words_at : ℕ → Row → List Mark
 row_words_at position row =
@@ -120,7 +123,8 @@ row_words_at position row =
 
 abbrev pub row_marks_at : ℕ → Row → List Mark
 row_marks_at position row =
-    begins ∷ hint row.hint.items ∷ row_box row.kind ∷ (rule_marks row.closes ++ row_words_at position row ++ ends ∷ [])
+    begins ∷ hint row.hint.items ∷ row_box (box_top position) 18 row.kind
+    ∷ (rule_marks (rule_top position) row.closes ++ row_words_at position row ++ ends ∷ [])
 
 abbrev pub arrow_marks : Arrow → List Mark
 arrow_marks arrow =
@@ -128,8 +132,12 @@ arrow_marks arrow =
     ∷ path (middle arrow.from) (leaving arrow.sender arrow.receiver) through
     ∷ path (middle arrow.to) (coming arrow.sender arrow.receiver) through ∷ ends ∷ []
 
+-- words on an area that goes from 10 pixels above their foot to 3 below it
+abbrev pub plated : (foot : ℕ) → List ℕ → List Mark
+plated foot words = unframed (foot - 10) 13 ∷ word (decimal foot) words ∷ []
+
 abbrev pub arrow_label : Arrow → List Mark
-arrow_label arrow = unframed ∷ word (below arrow.to) arrow.label.items ∷ []
+arrow_label arrow = plated (below arrow.to) arrow.label.items
 
 -- a message that was never taken ends below the rows, at a line of its own
 abbrev pub lost_marks : (rows : ℕ) → ℕ → Lost → List Mark
@@ -152,7 +160,7 @@ race_marks used place race =
 
 -- barriers, and columns over them
 abbrev pub ground_marks : Picture → List Mark
-ground_marks picture = flat_map band_marks picture.bands.items ++ flat_map column_marks picture.columns.items
+ground_marks picture = flat_map band_marks picture.bands.items ++ flat_map (column_marks (columns_foot picture)) picture.columns.items
 
 -- lines, and rows over them, behind each of which a line goes on unseen
 abbrev pub run_marks : Picture → List Mark
@@ -167,4 +175,5 @@ kind_marks picture = flat_map arrow_label picture.arrows.items ++ each (lost_lab
 
 abbrev pub picture_marks : Picture → List Mark
 picture_marks picture =
-    unframed ∷ word (decimal 24) picture.title.items ∷ (legend_marks ++ ground_marks picture ++ run_marks picture ++ kind_marks picture)
+    unframed 0 (picture_high picture) ∷ word (decimal 24) picture.title.items
+    ∷ (legend_marks ++ ground_marks picture ++ run_marks picture ++ kind_marks picture)

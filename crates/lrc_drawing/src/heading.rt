@@ -30,7 +30,7 @@ pub(crate) fn push_title(
     size: Point,
     title: &[u8],
 ) -> Result<(), AllocError>
-    ensures { OnOk result (all_marks contents.new.items ≡ all_marks contents.old.items ++ unframed ∷ word (decimal 24) title.now ∷ []) }
+    ensures { OnOk result (all_marks contents.new.items ≡ all_marks contents.old.items ++ unframed 0 size.y ∷ word (decimal 24) title.now ∷ []) }
 {
     let ground = Area {
         x: 0,
@@ -209,7 +209,7 @@ fn push_column(
 ) -> Result<(), AllocError>
     requires order { lane.left ≤ lane.right }
     requires far { lane.left < 2 ^ 104 }
-    ensures { OnOk result (all_marks contents.new.items ≡ all_marks contents.old.items ++ column_marks name.now) }
+    ensures { OnOk result (all_marks contents.new.items ≡ all_marks contents.old.items ++ column_marks foot name.now) }
 {
     let whole = Area {
         x: lane.left,
@@ -238,7 +238,7 @@ pub(crate) fn push_columns(
     foot: u128,
     names: &[Vec<u8>],
 ) -> Result<(), AllocError>
-    ensures { OnOk result (all_marks contents.new.items ≡ all_marks contents.old.items ++ flat_map column_marks names.now) }
+    ensures { OnOk result (all_marks contents.new.items ≡ all_marks contents.old.items ++ flat_map (column_marks foot) names.now) }
 {
     for (column, name) in names.iter().enumerate() {
         push_column(alloc, contents, layout.column(column), foot, name)?;

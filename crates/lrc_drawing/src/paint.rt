@@ -1,9 +1,9 @@
 // What is painted: elements, one behind another.
 
-ghost use Rattle.std.specs.Prelude.{◌≡◌, ◌++◌, ◌∷◌, [], IfOk, OnOk, codes, decimal, false, true};
+ghost use Rattle.std.specs.Prelude.{◌≡◌, ◌-◌, ◌++◌, ◌∷◌, [], IfOk, OnOk, codes, decimal, false, true};
 ghost use Rattle.lrc_drawing.specs.Attributes.{anchor_word, said};
 ghost use Rattle.lrc_drawing.specs.Marks.{all_marks, all_words, begins, begins_with_digit, behind, box, ends, held, hint, named_once, own, path, stroke, word};
-ghost use Rattle.lrc_drawing.specs.Shown.{unframed};
+ghost use Rattle.lrc_drawing.specs.Shown.{plated};
 
 use crate::layout::width;
 use crate::style::{Anchor, GROUND, Hand, Style};
@@ -209,14 +209,15 @@ fn push_element(
     Ok(())
 }
 
-/// Adds a box.
+/// Adds a box at its height.
 pub(crate) fn push_box(
     alloc: Global,
     contents: &mut Vec<Content>,
     area: Area,
     style: Style,
 ) -> Result<(), AllocError>
-    ensures { OnOk result (all_marks contents.new.items ≡ all_marks contents.old.items ++ box style.width.now style.dashes.now ∷ []) }
+    ensures { OnOk result (all_marks contents.new.items ≡ all_marks contents.old.items
+        ++ box (decimal area.y) (decimal area.height) style.width.now style.dashes.now ∷ []) }
 {
     let mut attributes = Vec::new(alloc);
     push_area(alloc, &mut attributes, area)?;
@@ -276,7 +277,10 @@ pub(crate) fn push_label(
 }
 
 // The area behind words.
-fn plate(at: Point, anchor: Anchor, letters: usize) -> Area {
+fn plate(at: Point, anchor: Anchor, letters: usize) -> Area
+    ensures top { result.y ≡ at.y - 10 }
+    ensures high { result.height ≡ 13 }
+{
     let width = width(letters as u64) + 4;
     let before = match anchor {
         Anchor::Start => 2,
@@ -298,7 +302,7 @@ pub(crate) fn push_plated(
     hand: Hand,
     words: &[u8],
 ) -> Result<(), AllocError>
-    ensures { OnOk result (all_marks contents.new.items ≡ all_marks contents.old.items ++ unframed ∷ word (decimal at.y) words.now ∷ []) }
+    ensures { OnOk result (all_marks contents.new.items ≡ all_marks contents.old.items ++ plated at.y words.now) }
 {
     let area = plate(at, hand.anchor, words.len());
     push_box(alloc, contents, area, Style::plain(GROUND))?;

@@ -1,6 +1,6 @@
 // Rows, as boxes in their columns.
 
-ghost use Rattle.std.specs.Prelude.{◌≡◌, ◌≤◌, ◌<◌, ◌^◌, ◌++◌, ◌∷◌, OnOk};
+ghost use Rattle.std.specs.Prelude.{◌≡◌, ◌≤◌, ◌<◌, ◌+◌, ◌-◌, ◌^◌, ◌++◌, ◌∷◌, OnOk};
 ghost use Rattle.lrc_show.specs.Each.{each};
 ghost use Rattle.lrc_drawing.specs.Marks.{all_marks};
 ghost use Rattle.lrc_drawing.specs.Shown.{row_box, row_marks_at, row_words_at, rule_marks};
@@ -23,7 +23,8 @@ fn push_frame(
     requires middle { 124 ≤ middle }
     requires far { middle < 2 ^ 90 }
     requires order { lane.left ≤ lane.right }
-    ensures { OnOk result (all_marks inside.new.items ≡ all_marks inside.old.items ++ row_box row.now.kind ∷ rule_marks row.now.closes) }
+    ensures { OnOk result (all_marks inside.new.items ≡ all_marks inside.old.items
+        ++ row_box (middle - 9) 18 row.now.kind ∷ rule_marks (middle - 9 + 18) row.now.closes) }
 {
     let frame = Area {
         x: lane.left,
@@ -43,7 +44,7 @@ fn push_rule(
     closes: bool,
 ) -> Result<(), AllocError>
     requires { frame.y < 2 ^ 100 }
-    ensures { OnOk result (all_marks inside.new.items ≡ all_marks inside.old.items ++ rule_marks closes) }
+    ensures { OnOk result (all_marks inside.new.items ≡ all_marks inside.old.items ++ rule_marks (frame.y + 18) closes) }
 {
     if closes {
         let rule = Area {

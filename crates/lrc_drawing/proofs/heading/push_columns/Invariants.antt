@@ -6,4 +6,4 @@ use Rattle.lrc_drawing.proofs.heading.push_columns.Given as goal
 
 abbrev pub invariant-loop-column : goal.invariant-loop-column
 invariant-loop-column l =
-    all_marks l.contents.items ≡ all_marks l.initial.contents.items ++ flat_map column_marks (take l.column l.names)
+    all_marks l.contents.items ≡ all_marks l.initial.contents.items ++ flat_map (column_marks l.foot) (take l.column l.names)
