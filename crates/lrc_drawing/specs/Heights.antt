@@ -18,12 +18,9 @@ foot row = decimal (height row + 4)
 abbrev pub below : ℕ → ℕ
 below row = height row + 13
 
--- the top of a row's box, which is 18 pixels high, and of the rule right below it
+-- the top of a row's box, which is 18 pixels high
 abbrev pub box_top : ℕ → ℕ
 box_top row = height row - 9
-
-abbrev pub rule_top : ℕ → ℕ
-rule_top row = box_top row + 18
 
 -- the top of a barrier's band, half a row above the middle of its first row, and how far from there it is to half a row below the middle of
 -- its last row, or of its first row where no row of it comes later

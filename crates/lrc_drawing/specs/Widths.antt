@@ -47,6 +47,9 @@ pitch layout = lane layout + part layout.label + 36
 abbrev pub left : Layout → (column : ℕ) → ℕ
 left layout column = 100 + column * pitch layout
 
+abbrev pub right : Layout → (column : ℕ) → ℕ
+right layout column = left layout column + lane layout
+
 -- how wide the whole is: there is room for each column with what stands behind it, for each group of races, for the title, and for the legend
 abbrev pub groups_right : Layout → ℕ
 groups_right layout = 100 + part layout.group

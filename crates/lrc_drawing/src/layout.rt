@@ -78,7 +78,7 @@ fn across(column: usize, pitch: u128) -> u128
 
 impl Layout {
     ghost use Rattle.std.specs.Prelude.{◌≡◌, ◌<◌, ◌≤◌, ◌+◌, ◌^◌, max};
-    ghost use Rattle.lrc_drawing.specs.Widths.{groups_right, invalid_at, lane, layout_of, left, letters, pitch, time_at};
+    ghost use Rattle.lrc_drawing.specs.Widths.{groups_right, invalid_at, lane, layout_of, left, letters, pitch, right, time_at};
 
     /// The layout of a picture.
     pub(crate) fn of(picture: &Picture) -> Layout
@@ -220,7 +220,7 @@ impl Layout {
         ensures order { result.left ≤ result.right }
         ensures most { result.right < 2 ^ 104 }
         ensures left { result.left ≡ left self column }
-        ensures right { result.right ≡ left self column + lane self }
+        ensures right { result.right ≡ right self column }
     {
         let left = self.left(column);
         Lane {

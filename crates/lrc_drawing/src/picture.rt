@@ -5,7 +5,7 @@ ghost use Rattle.lrc_drawing.specs.Attributes.{said};
 ghost use Rattle.lrc_drawing.specs.Heights.{columns_foot, picture_high};
 ghost use Rattle.lrc_drawing.specs.Marks.{all_marks, is_space, named_once, attribute_value};
 ghost use Rattle.lrc_drawing.specs.Root.{IsRootOf, whole_said};
-ghost use Rattle.lrc_drawing.specs.Shown.{ground_marks, kind_marks, picture_marks, run_marks};
+ghost use Rattle.lrc_drawing.specs.Shown.{ground_marks, kind_marks, marks_by, picture_marks, run_marks};
 ghost use Rattle.lrc_drawing.specs.Widths.{layout_of, picture_wide};
 
 use crate::arrows::{push_all_lost, push_arrow_labels, push_arrows, push_lost_labels};
@@ -96,8 +96,8 @@ fn push_ground(
     size: Size,
     picture: &Picture,
 ) -> Result<(), AllocError>
-    requires { size.foot ≡ columns_foot picture.now }
-    ensures { OnOk result (all_marks contents.new.items ≡ all_marks contents.old.items ++ ground_marks picture.now) }
+    ensures { OnOk result (all_marks contents.new.items
+        ≡ all_marks contents.old.items ++ ground_marks layout size.whole.x size.foot picture.now) }
 {
     push_bands(alloc, contents, size.whole.x, picture.bands.as_slice())?;
     push_columns(
@@ -116,7 +116,7 @@ fn push_run(
     layout: Layout,
     picture: &Picture,
 ) -> Result<(), AllocError>
-    ensures { OnOk result (all_marks contents.new.items ≡ all_marks contents.old.items ++ run_marks picture.now) }
+    ensures { OnOk result (all_marks contents.new.items ≡ all_marks contents.old.items ++ run_marks layout picture.now) }
 {
     let rows = picture.rows.len();
     let used = rows as u128 + picture.lost.len() as u128;
@@ -133,7 +133,7 @@ fn push_kinds(
     layout: Layout,
     picture: &Picture,
 ) -> Result<(), AllocError>
-    ensures { OnOk result (all_marks contents.new.items ≡ all_marks contents.old.items ++ kind_marks picture.now) }
+    ensures { OnOk result (all_marks contents.new.items ≡ all_marks contents.old.items ++ kind_marks layout picture.now) }
 {
     push_arrow_labels(alloc, contents, layout, picture.arrows.as_slice())?;
     push_lost_labels(
@@ -153,9 +153,8 @@ fn push_picture(
     size: Size,
     picture: &Picture,
 ) -> Result<(), AllocError>
-    requires high { size.whole.y ≡ picture_high picture.now }
-    requires foot { size.foot ≡ columns_foot picture.now }
-    ensures { OnOk result (all_marks contents.new.items ≡ all_marks contents.old.items ++ picture_marks picture.now) }
+    ensures { OnOk result (all_marks contents.new.items
+        ≡ all_marks contents.old.items ++ marks_by layout size.whole.x size.whole.y size.foot picture.now) }
 {
     push_title(alloc, contents, size.whole, picture.title.as_slice())?;
     push_legend(alloc, contents)?;
