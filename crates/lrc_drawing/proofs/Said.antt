@@ -7,7 +7,9 @@ use Rattle.lrc_svg.specs.declared.name.Key.{Key}
 use Rattle.lrc_svg.specs.declared.name.Key.TheVariants as keys
 use Rattle.lrc_svg.specs.declared.name.Tag.TheVariants as tags
 use Rattle.lrc_drawing.specs.Attributes.{said}
-use Rattle.lrc_drawing.specs.Marks.{Mark, attribute_value, begins_with_digit, behind_digits, box, digits_first, from_height, is_anchor, is_border, is_dashes, is_down, is_from, is_from_left, is_high, is_left, is_to, is_to_left, is_wide, key_number, named_once, names_key, own, path, path_of, stroke, undrawn, word}
+use Rattle.lrc_drawing.specs.Marks.{Mark, attribute_value, begins_with_digit, behind_digits, box, digits_first, from_height}
+use Rattle.lrc_drawing.specs.Marks.{is_anchor, is_border, is_dashes, is_down, is_from, is_from_left, is_high, is_left, is_to, is_to_left}
+use Rattle.lrc_drawing.specs.Marks.{is_wide, key_number, named_once, names_key, own, path, path_of, stroke, undrawn, word}
 use Rattle.lrc_drawing.proofs.Points.{left_is, start_is, strokes_are, written}
 
 abbrev Saying : Type 0
@@ -75,11 +77,14 @@ pub box_shows : (a : List Attribute) (x y u v fill stroke_of width dashes : List
     → said a ≡ (keys.X, x) ∷ (keys.Y, y) ∷ (keys.Width, u) ∷ (keys.Height, v) ∷ (keys.Fill, fill) ∷ (keys.Stroke, stroke_of)
     ∷ (keys.StrokeWidth, width) ∷ (keys.Dashes, dashes) ∷ [] → own tags.Box a [] ≡ box x y u v width dashes ∷ []
 box_shows a x y u v fill stroke_of width dashes is =
-    ap₂ (λ l m. box l m (attribute_value is_wide a) (attribute_value is_high a) (attribute_value is_border a) (attribute_value is_dashes a) ∷ [])
+    ap₂
+    (λ l m.
+    box l m (attribute_value is_wide a) (attribute_value is_high a) (attribute_value is_border a) (attribute_value is_dashes a) ∷ [])
     (value_is is_left a ∙ ap (value_said is_left) is) (value_is is_down a ∙ ap (value_said is_down) is)
     ∙ ap₂ (λ l m. box x y l m (attribute_value is_border a) (attribute_value is_dashes a) ∷ [])
     (value_is is_wide a ∙ ap (value_said is_wide) is) (value_is is_high a ∙ ap (value_said is_high) is)
-    ∙ ap₂ (λ l m. box x y u v l m ∷ []) (value_is is_border a ∙ ap (value_said is_border) is) (value_is is_dashes a ∙ ap (value_said is_dashes) is)
+    ∙ ap₂ (λ l m. box x y u v l m ∷ []) (value_is is_border a ∙ ap (value_said is_border) is)
+    (value_is is_dashes a ∙ ap (value_said is_dashes) is)
 
 pub path_shows : (a : List Attribute) (x y : ℕ) (strokes fill stroke_of width dashes : List ℕ) → x < 10 ^ 64 → y < 10 ^ 64
     → begins_with_digit strokes ≡ false

@@ -16,8 +16,8 @@ pub data Mark : Type 0 where
   -- a straight line: how far from the left and how far down it begins, the same of where it ends, and the lengths of its dashes
   stroke : (from_left from to_left to dashes : List ℕ) → Mark
   hint : (words : List ℕ) → Mark
-  -- a box: how far from the left and how far down its corner is, how wide and how high it is, how wide its border is, and the lengths of the
-  -- border's dashes
+  -- a box: how far from the left and how far down its corner is, how wide and how high it is, how wide its border is, and the lengths of
+  -- the border's dashes
   box : (left top wide high border dashes : List ℕ) → Mark
   -- a path: how far from the left and how far down it starts, its strokes from there, and the lengths of their dashes
   path : (left start strokes dashes : List ℕ) → Mark
@@ -156,7 +156,8 @@ own tags.Line attributes words =
     (attribute_value is_to attributes) (attribute_value is_dashes attributes) ∷ []
 own tags.Hint attributes words = hint words ∷ []
 own tags.Box attributes words =
-    box (attribute_value is_left attributes) (attribute_value is_down attributes) (attribute_value is_wide attributes) (attribute_value is_high attributes) (attribute_value is_border attributes)
+    box (attribute_value is_left attributes) (attribute_value is_down attributes) (attribute_value is_wide attributes)
+    (attribute_value is_high attributes) (attribute_value is_border attributes)
     (attribute_value is_dashes attributes) ∷ []
 own tags.Path attributes words = path_of (attribute_value is_points attributes) (attribute_value is_dashes attributes) ∷ []
 own tags.Group attributes words = begins ∷ []

@@ -1,8 +1,8 @@
 -- What a picture shows, in order: the title, the legend, barriers, columns, messages, races, rows, and the messages' kinds. Each row,
 -- each message and each group of races is one element with one hint, each of the latter with one straight line, between the heights of
 -- its rows, and a sign at each end of it. A message that is taken again is dashed, one that is never taken ends in a cross, and a row's
--- box has the border of its kind, and stands in the column of its node. A barrier's band goes from its first row to its last, and across the
--- picture. Below all these is the ground, as large as the picture.
+-- box has the border of its kind, and stands in the column of its node. A barrier's band goes from its first row to its last, and across
+-- the picture. Below all these is the ground, as large as the picture.
 use Rattle.std.specs.Prelude.{ℕ, ◌+◌, ◌-◌, Bool, true, false, List, [], ◌∷◌, ◌++◌, codes, decimal, if◌then◌else◌, length, nat_lt, Vec}
 use Rattle.std.specs.declared.alloc.Global.{Global}
 use Rattle.std.specs.List.{flat_map}

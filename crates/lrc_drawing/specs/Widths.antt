@@ -1,4 +1,4 @@
--- How wide things are, in pixels, by how many letters stand beside each other at most.
+-- How wide things are, in pixels, and how far they stand from the left, by how many letters stand beside each other at most.
 use Rattle.std.specs.Prelude.{ℕ, ◌+◌, ◌*◌, ◌/◌, ◌==◌, List, fold, if◌then◌else◌, length, max, min}
 use Rattle.lrc_picture.specs.declared.picture.Picture.{Picture}
 use Rattle.lrc_drawing.specs.declared.layout.Layout.{Layout}
@@ -22,14 +22,15 @@ layout_of picture = record {
   group = most (λ race. race.label.items) 0 picture.races.items;
 }
 
--- how wide so many letters are, and with a gap behind them, where there are any
+-- how wide so many letters are, and with a gap of a letter behind them, where there are any
 abbrev pub wide : (letters : ℕ) → ℕ
 wide letters = letters * 73 / 10
 
 abbrev pub part : (letters : ℕ) → ℕ
 part letters = if letters == 0 then 0 else wide (letters + 1)
 
--- how wide a column is: what was done, the node's time, invalid pages, and the place
+-- in a row what was done comes first, then the node's time, invalid pages, and the place: where these two begin from the column's left, and
+-- how wide a column is
 abbrev pub time_at : Layout → ℕ
 time_at layout = part layout.words + 6
 
@@ -43,14 +44,14 @@ lane layout = invalid_at layout + part layout.invalid + part layout.place
 abbrev pub pitch : Layout → ℕ
 pitch layout = lane layout + part layout.label + 36
 
--- where a column begins
+-- where a column begins, and where it ends
 abbrev pub left : Layout → (column : ℕ) → ℕ
 left layout column = 100 + column * pitch layout
 
 abbrev pub right : Layout → (column : ℕ) → ℕ
 right layout column = left layout column + lane layout
 
--- how wide the whole is: there is room for each column with what stands behind it, for each group of races, for the title, and for the legend
+-- where groups of races end, the title with a margin, and the legend
 abbrev pub groups_right : Layout → ℕ
 groups_right layout = 100 + part layout.group
 
@@ -60,6 +61,7 @@ title_right picture = wide (length picture.title.items) + 16
 abbrev pub legend_wide : ℕ
 legend_wide = 1092
 
+-- how wide the whole is: there is room for these, and for each column and what stands behind it
 abbrev pub picture_wide : Picture → ℕ
 picture_wide picture =
     let layout = layout_of picture in

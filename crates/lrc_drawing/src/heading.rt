@@ -3,8 +3,8 @@
 ghost use Rattle.std.specs.Prelude.{◌≡◌, ◌+◌, ◌++◌, ◌∷◌, ◌<◌, ◌≤◌, ◌^◌, [], OnOk, decimal, false};
 ghost use Rattle.lrc_show.specs.Each.{each};
 ghost use Rattle.lrc_drawing.specs.Marks.{all_marks, begins_with_digit};
-ghost use Rattle.lrc_drawing.specs.Shown.{column_between, column_marks, legend_marks, line, lines_named, sample, samples_named, signs_named, title_marks, told};
-ghost use Rattle.lrc_drawing.specs.Shown.{words_from, words_named};
+ghost use Rattle.lrc_drawing.specs.Shown.{column_between, column_marks, legend_marks, line, lines_named, sample, samples_named};
+ghost use Rattle.lrc_drawing.specs.Shown.{signs_named, title_marks, told, words_from, words_named};
 
 use crate::layout::{Lane, Layout};
 use crate::paint::{Area, Point, push_box, push_label, push_path};
@@ -210,7 +210,8 @@ fn push_column(
 ) -> Result<(), AllocError>
     requires order { lane.left ≤ lane.right }
     requires far { lane.left < 2 ^ 104 }
-    ensures { OnOk result (all_marks contents.new.items ≡ all_marks contents.old.items ++ column_between lane.left lane.right foot name.now) }
+    ensures { OnOk result (all_marks contents.new.items
+        ≡ all_marks contents.old.items ++ column_between lane.left lane.right foot name.now) }
 {
     let whole = Area {
         x: lane.left,

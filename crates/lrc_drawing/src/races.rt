@@ -26,7 +26,8 @@ fn push_knotted(
     from: Point,
     to: Point,
 ) -> Result<(), AllocError>
-    ensures { OnOk result (all_marks inside.new.items ≡ all_marks inside.old.items ++ knotted (decimal from.x) (decimal from.y) (decimal to.x) (decimal to.y)) }
+    ensures { OnOk result (all_marks inside.new.items
+        ≡ all_marks inside.old.items ++ knotted (decimal from.x) (decimal from.y) (decimal to.x) (decimal to.y)) }
 {
     push_line(alloc, inside, from, to, Style::line(RACE, b"3"))?;
     push_path(alloc, inside, from, KNOT, Style::plain(RACE))?;

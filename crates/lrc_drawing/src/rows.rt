@@ -44,7 +44,8 @@ fn push_rule(
     closes: bool,
 ) -> Result<(), AllocError>
     requires { frame.y < 2 ^ 100 }
-    ensures { OnOk result (all_marks inside.new.items ≡ all_marks inside.old.items ++ rule_marks frame.x (frame.y + 18) frame.width closes) }
+    ensures { OnOk result (all_marks inside.new.items
+        ≡ all_marks inside.old.items ++ rule_marks frame.x (frame.y + 18) frame.width closes) }
 {
     if closes {
         let rule = Area {

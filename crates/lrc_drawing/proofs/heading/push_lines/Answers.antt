@@ -26,7 +26,8 @@ returns c =
     (line 750 (codes "h28") (message_dashes true) (codes "taken again"))
     (line 881 (codes "h23 m-5 -5 l10 10 m-10 0 l10 -10") (message_dashes false) (codes "never taken"))
     (line 1012 (codes "m0 -4 v8 m0 -4 h28 m0 -4 v8") through (codes "race"))
-    (dashed start one _ _ _ _ _ c.in_ok-push_stroke.ensures c.line.ensures) (dashed one two _ _ _ _ _ c.in_ok-push_stroke-2.ensures c.message.ensures)
+    (dashed start one _ _ _ _ _ c.in_ok-push_stroke.ensures c.line.ensures)
+    (dashed one two _ _ _ _ _ c.in_ok-push_stroke-2.ensures c.message.ensures)
     (dashed two three _ _ _ _ _ c.in_ok-push_stroke-3.ensures c.message-2.ensures)
     (dashed three four _ _ _ _ _ c.in_ok-push_stroke-4.ensures c.message-3.ensures) (dashed four end _ _ _ _ _ last c.line-2.ensures))
     c.push_stroke-5.ensures

@@ -13,6 +13,8 @@ returns c =
     (all_marks c.push_told-3.new.contents.items)
     (all_marks c.push_told-4.new.contents.items)
     (all_marks c.push_told-5.new.contents.items)
-    (told 8 (codes "in a box:")) (told 90 (codes "what was done")) (told 205 (codes "the node's time")) (told 335 (codes "pages now invalid"))
-    (told 480 (codes "line and interval")) c.in_ok-push_told.ensures c.in_ok-push_told-2.ensures c.in_ok-push_told-3.ensures c.in_ok-push_told-4.ensures)
+    (told 8 (codes "in a box:")) (told 90 (codes "what was done"))
+    (told 205 (codes "the node's time")) (told 335 (codes "pages now invalid"))
+    (told 480 (codes "line and interval"))
+    c.in_ok-push_told.ensures c.in_ok-push_told-2.ensures c.in_ok-push_told-3.ensures c.in_ok-push_told-4.ensures)
     c.push_told-5.ensures

@@ -20,5 +20,6 @@ returns c =
     (all_marks c.push_run.new.contents.items)
     (all_marks c.push_kinds.new.contents.items)
     (title_marks size.whole.x size.whole.y picture.title.items) legend_marks (ground_marks layout size.whole.x size.foot picture)
-    (run_marks layout picture) (kind_marks layout picture) title c.in_ok-push_legend.ensures c.in_ok-push_ground.ensures c.in_ok-push_run.ensures)
+    (run_marks layout picture) (kind_marks layout picture)
+    title c.in_ok-push_legend.ensures c.in_ok-push_ground.ensures c.in_ok-push_run.ensures)
     c.push_kinds.ensures

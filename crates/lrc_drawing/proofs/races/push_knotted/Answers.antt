@@ -21,7 +21,8 @@ returns c =
     c.in_ok-push_path.ensures ∙ ap (λ (d : List ℕ). lined ++ path from_left from knot d ∷ []) c.plain.ensures.dashes in
     on_ok c.push_path-2.result
     (λ last.
-    joined start begun end (stroke from_left from to_left to through ∷ path from_left from knot through ∷ []) (path to_left to knot through ∷ [])
+    joined start begun end (stroke from_left from to_left to through ∷ path from_left from knot through ∷ [])
+    (path to_left to knot through ∷ [])
     (joined start lined begun (stroke from_left from to_left to through ∷ []) (path from_left from knot through ∷ []) line first)
     (last ∙ ap (λ (d : List ℕ). begun ++ path to_left to knot d ∷ []) c.plain-2.ensures.dashes))
     c.push_path-2.ensures
