@@ -2,6 +2,7 @@
 use Rattle.std.specs.Prelude.{◌≡◌, ◌<◌, ◌≤◌, ℕ, Bool, false, true, List, codes, length, map}
 use Rattle.lrc_clock.specs.Keeping.{KeepsTime}
 use Rattle.lrc_drawing.specs.Marks.{all_marks, is_space, named_once, attribute_value}
+use Rattle.lrc_drawing.specs.Root.{IsRootOf}
 use Rattle.lrc_drawing.specs.Shown.{picture_marks}
 use Rattle.lrc_judge.specs.FirstPairs.{AreFirstPairs}
 use Rattle.lrc_lang.specs.declared.program.Program.{Program}
@@ -37,11 +38,13 @@ pub record IsCourse (text : List ℕ) (program : Program) (options : RunOptions)
 abbrev pub part_of : Charting → Part
 part_of charting = record { from = charting.from; to = charting.to }
 
--- An SVG document that shows a picture: its elements are those of scalable vector graphics, and show what the picture has.
+-- An SVG document that shows a picture: its elements are those of scalable vector graphics, and show what the picture has, and it is as
+-- large as the picture.
 pub record IsShownBy (picture : Picture) (document : Document) : Type 0 where
   pub marks : all_marks document.inside.items ≡ picture_marks picture
   pub once : named_once document.attributes.items ≡ true
   pub space : attribute_value is_space document.attributes.items ≡ codes "http://www.w3.org/2000/svg"
+  pub root : IsRootOf picture document.attributes.items
 
 -- a picture for a terminal, or as an SVG document
 abbrev pub IsDrawn : (terminal : Bool) → Picture → List ℕ → Type 0

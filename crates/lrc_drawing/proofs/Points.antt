@@ -45,6 +45,13 @@ from_is x y s few =
     (ap (λ l. l ++ s) (append_assoc (decimal x) blank (decimal y)) ∙ append_assoc (decimal x) (blank ++ decimal y) s)
     ∙ ap (behind_byte 32) (all_behind (decimal x) (blank ++ decimal y ++ s) (decimal_digits x few))
 
+pub left_is : (x y : ℕ) (s : List ℕ) → x < 10 ^ 64 → digits_first (behind_byte 77 (written x y s)) ≡ decimal x
+left_is x y s few =
+    let blank : List ℕ = 32 ∷ [] in
+    ap digits_first
+    (ap (λ l. l ++ s) (append_assoc (decimal x) blank (decimal y)) ∙ append_assoc (decimal x) (blank ++ decimal y) s)
+    ∙ all_first (decimal x) (blank ++ decimal y ++ s) (decimal_digits x few) ∙ append-nil (decimal x)
+
 pub start_is : (x y : ℕ) (s : List ℕ) → x < 10 ^ 64 → y < 10 ^ 64 → begins_with_digit s ≡ false
     → digits_first (from_height (written x y s)) ≡ decimal y
 start_is x y s few some none =

@@ -1,5 +1,5 @@
--- What a reader sees in a tree of elements, read off it in order: words with the height of their foot, straight lines with the heights of
--- their ends, boxes with their borders, paths with their strokes, hints, and which of these are one element.
+-- What a reader sees in a tree of elements, read off it in order: words with their places, straight lines with those of their ends, boxes
+-- with their places, sizes and borders, paths with their places and strokes, hints, and which of these are one element.
 use Rattle.std.specs.Prelude.{ℕ, ◌==◌, ◌&&◌, ◌||◌, Bool, true, false, not, List, [], ◌∷◌, ◌++◌, cond, nat_le}
 use Rattle.std.specs.List.{flat_map}
 use Rattle.lrc_svg.specs.declared.element.Attribute.{Attribute}
@@ -11,14 +11,16 @@ use Rattle.lrc_svg.specs.declared.name.Tag.{Tag}
 use Rattle.lrc_svg.specs.declared.name.Tag.TheVariants as tags
 
 pub data Mark : Type 0 where
-  word : (foot : List ℕ) → (words : List ℕ) → Mark
-  -- a straight line, and the lengths of its dashes
-  stroke : (from to dashes : List ℕ) → Mark
+  -- words: how far they are from the left, how far down their foot is, whether they begin or end there, and what they are
+  word : (left foot anchor words : List ℕ) → Mark
+  -- a straight line: how far from the left and how far down it begins, the same of where it ends, and the lengths of its dashes
+  stroke : (from_left from to_left to dashes : List ℕ) → Mark
   hint : (words : List ℕ) → Mark
-  -- a box: how wide its border is, and the lengths of the border's dashes
-  box : (width dashes : List ℕ) → Mark
-  -- a path: the height where it starts, its strokes from there, and the lengths of their dashes
-  path : (start strokes dashes : List ℕ) → Mark
+  -- a box: how far from the left and how far down its corner is, how wide and how high it is, how wide its border is, and the lengths of
+  -- the border's dashes
+  box : (left top wide high border dashes : List ℕ) → Mark
+  -- a path: how far from the left and how far down it starts, its strokes from there, and the lengths of their dashes
+  path : (left start strokes dashes : List ℕ) → Mark
   -- what stands between these two is one element
   begins : Mark
   ends : Mark
@@ -58,23 +60,48 @@ abbrev pub named_once : List Attribute → Bool
 named_once [] = true
 named_once (first ∷ more) = not (names_key (key_number first.key) more) && named_once more
 
-abbrev is_foot : Key → Bool
-is_foot keys.Y = true
-is_foot other = false
+-- how far from the left a box or words are, and how far down
+abbrev pub is_left : Key → Bool
+is_left keys.X = true
+is_left other = false
+
+abbrev pub is_down : Key → Bool
+is_down keys.Y = true
+is_down other = false
+
+abbrev pub is_wide : Key → Bool
+is_wide keys.Width = true
+is_wide other = false
+
+abbrev pub is_high : Key → Bool
+is_high keys.Height = true
+is_high other = false
 
 abbrev pub is_space : Key → Bool
 is_space keys.Space = true
 is_space other = false
 
-abbrev is_from : Key → Bool
+abbrev pub is_from_left : Key → Bool
+is_from_left keys.FromX = true
+is_from_left other = false
+
+abbrev pub is_from : Key → Bool
 is_from keys.FromY = true
 is_from other = false
 
-abbrev is_to : Key → Bool
+abbrev pub is_to_left : Key → Bool
+is_to_left keys.ToX = true
+is_to_left other = false
+
+abbrev pub is_to : Key → Bool
 is_to keys.ToY = true
 is_to other = false
 
-abbrev is_border : Key → Bool
+abbrev pub is_anchor : Key → Bool
+is_anchor keys.Anchor = true
+is_anchor other = false
+
+abbrev pub is_border : Key → Bool
 is_border keys.StrokeWidth = true
 is_border other = false
 
@@ -117,15 +144,21 @@ abbrev pub from_height : (points : List ℕ) → List ℕ
 from_height points = behind_byte 32 (behind_digits (behind_byte 77 points))
 
 abbrev pub path_of : (points dashes : List ℕ) → Mark
-path_of points dashes = path (digits_first (from_height points)) (behind_digits (from_height points)) dashes
+path_of points dashes =
+    path (digits_first (behind_byte 77 points)) (digits_first (from_height points)) (behind_digits (from_height points)) dashes
 
 -- what an element shows by itself, with these words in it
 abbrev pub own : Tag → List Attribute → (words : List ℕ) → List Mark
-own tags.Label attributes words = word (attribute_value is_foot attributes) words ∷ []
+own tags.Label attributes words =
+    word (attribute_value is_left attributes) (attribute_value is_down attributes) (attribute_value is_anchor attributes) words ∷ []
 own tags.Line attributes words =
-    stroke (attribute_value is_from attributes) (attribute_value is_to attributes) (attribute_value is_dashes attributes) ∷ []
+    stroke (attribute_value is_from_left attributes) (attribute_value is_from attributes) (attribute_value is_to_left attributes)
+    (attribute_value is_to attributes) (attribute_value is_dashes attributes) ∷ []
 own tags.Hint attributes words = hint words ∷ []
-own tags.Box attributes words = box (attribute_value is_border attributes) (attribute_value is_dashes attributes) ∷ []
+own tags.Box attributes words =
+    box (attribute_value is_left attributes) (attribute_value is_down attributes) (attribute_value is_wide attributes)
+    (attribute_value is_high attributes) (attribute_value is_border attributes)
+    (attribute_value is_dashes attributes) ∷ []
 own tags.Path attributes words = path_of (attribute_value is_points attributes) (attribute_value is_dashes attributes) ∷ []
 own tags.Group attributes words = begins ∷ []
 own tags.Picture attributes words = unreadable ∷ []

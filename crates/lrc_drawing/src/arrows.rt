@@ -45,7 +45,20 @@ pub(crate) struct Way {
 }
 
 impl Way {
+    ghost use Rattle.std.specs.Prelude.{◌+◌, ◌-◌};
+    ghost use Rattle.lrc_drawing.specs.Ways.{beside, beside_anchor, beyond, beyond_anchor, end_side, head, start_side, tail};
+    ghost use Rattle.lrc_drawing.specs.Widths.{left, right};
+    ghost use Rattle.lrc_drawing.specs.declared.style.Anchor.TheVariants.{Start, End};
+
     pub(crate) fn between(layout: Layout, from: u8, to: u8) -> Way
+        ensures start { result.start ≡ start_side layout from to }
+        ensures end { result.end ≡ end_side layout from to }
+        ensures tail { result.from ≡ tail layout from to }
+        ensures head { result.to ≡ head layout from to }
+        ensures words { result.words ≡ beside layout from to }
+        ensures anchor { result.anchor ≡ beside_anchor from to }
+        ensures beyond { result.beyond ≡ beyond layout from to }
+        ensures beyond_anchor { result.beyond_anchor ≡ beyond_anchor from to }
         ensures leaves { result.leaves.now ≡ leaving from to }
         ensures comes { result.comes.now ≡ coming from to }
     {
@@ -59,6 +72,14 @@ impl Way {
     }
 
     fn to_right(layout: Layout, from: u8, to: u8) -> Way
+        ensures start { result.start ≡ right layout from }
+        ensures end { result.end ≡ left layout to }
+        ensures tail { result.from ≡ right layout from + 8 }
+        ensures head { result.to ≡ left layout to - 12 }
+        ensures words { result.words ≡ left layout to - 13 }
+        ensures anchor { result.anchor ≡ End }
+        ensures beyond { result.beyond ≡ left layout to + 4 }
+        ensures beyond_anchor { result.beyond_anchor ≡ Start }
         ensures leaves { result.leaves.now ≡ codes "h-8" }
         ensures comes { result.comes.now ≡ codes "h12 l-9 -4 v8 l9 -4" }
     {
@@ -79,6 +100,14 @@ impl Way {
     }
 
     fn to_left(layout: Layout, from: u8, to: u8) -> Way
+        ensures start { result.start ≡ left layout from }
+        ensures end { result.end ≡ right layout to }
+        ensures tail { result.from ≡ left layout from - 8 }
+        ensures head { result.to ≡ right layout to + 12 }
+        ensures words { result.words ≡ right layout to + 13 }
+        ensures anchor { result.anchor ≡ Start }
+        ensures beyond { result.beyond ≡ right layout to - 4 }
+        ensures beyond_anchor { result.beyond_anchor ≡ End }
         ensures leaves { result.leaves.now ≡ codes "h8" }
         ensures comes { result.comes.now ≡ codes "h-12 l9 -4 v8 l-9 -4" }
     {
@@ -94,6 +123,14 @@ impl Way {
     }
 
     fn to_itself(layout: Layout, column: u8) -> Way
+        ensures start { result.start ≡ right layout column }
+        ensures end { result.end ≡ right layout column }
+        ensures tail { result.from ≡ right layout column + 8 }
+        ensures head { result.to ≡ right layout column + 8 }
+        ensures words { result.words ≡ right layout column + 13 }
+        ensures anchor { result.anchor ≡ Start }
+        ensures beyond { result.beyond ≡ right layout column - 4 }
+        ensures beyond_anchor { result.beyond_anchor ≡ End }
         ensures leaves { result.leaves.now ≡ codes "h-8" }
         ensures comes { result.comes.now ≡ codes "h-8 l8 -4 v8 l-8 -4" }
     {
@@ -110,6 +147,14 @@ impl Way {
     fn from_right(side: u128) -> Way
         requires least { 100 ≤ side }
         requires most { side < 2 ^ 104 }
+        ensures start { result.start ≡ side }
+        ensures end { result.end ≡ side }
+        ensures tail { result.from ≡ side + 12 }
+        ensures head { result.to ≡ side + 12 }
+        ensures words { result.words ≡ side + 13 }
+        ensures anchor { result.anchor ≡ Start }
+        ensures beyond { result.beyond ≡ side - 4 }
+        ensures beyond_anchor { result.beyond_anchor ≡ End }
         ensures leaves { result.leaves.now ≡ codes "h-8" }
         ensures comes { result.comes.now ≡ codes "h-12 l9 -4 v8 l-9 -4" }
     {
@@ -129,7 +174,8 @@ impl Way {
 
     // Where an arrow's line begins, and where it ends.
     fn tail(self, row: u128) -> Point
-        ensures { result.y ≡ row }
+        ensures left { result.x ≡ self.from }
+        ensures row { result.y ≡ row }
     {
         Point {
             x: self.from,
@@ -138,7 +184,8 @@ impl Way {
     }
 
     fn head(self, row: u128) -> Point
-        ensures { result.y ≡ row }
+        ensures left { result.x ≡ self.to }
+        ensures row { result.y ≡ row }
     {
         Point { x: self.to, y: row }
     }
@@ -151,7 +198,7 @@ fn push_arrow(
     layout: Layout,
     arrow: &Arrow,
 ) -> Result<(), AllocError>
-    ensures { OnOk result (all_marks contents.new.items ≡ all_marks contents.old.items ++ arrow_marks arrow.now) }
+    ensures { OnOk result (all_marks contents.new.items ≡ all_marks contents.old.items ++ arrow_marks layout arrow.now) }
 {
     let way = Way::between(layout, arrow.sender, arrow.receiver);
     let from = way.tail(height(arrow.from));
@@ -179,7 +226,7 @@ fn push_lost(
     place: usize,
     lost: &Lost,
 ) -> Result<(), AllocError>
-    ensures { OnOk result (all_marks contents.new.items ≡ all_marks contents.old.items ++ lost_marks rows place lost.now) }
+    ensures { OnOk result (all_marks contents.new.items ≡ all_marks contents.old.items ++ lost_marks layout rows place lost.now) }
 {
     let way = Way::between(layout, lost.sender, lost.receiver);
     let from = way.tail(height(lost.from));
@@ -199,7 +246,7 @@ fn push_arrow_label(
     layout: Layout,
     arrow: &Arrow,
 ) -> Result<(), AllocError>
-    ensures { OnOk result (all_marks contents.new.items ≡ all_marks contents.old.items ++ arrow_label arrow.now) }
+    ensures { OnOk result (all_marks contents.new.items ≡ all_marks contents.old.items ++ arrow_label layout arrow.now) }
 {
     let way = Way::between(layout, arrow.sender, arrow.receiver);
     let at = Point {
@@ -219,7 +266,7 @@ fn push_lost_label(
     place: usize,
     lost: &Lost,
 ) -> Result<(), AllocError>
-    ensures { OnOk result (all_marks contents.new.items ≡ all_marks contents.old.items ++ lost_label rows place lost.now) }
+    ensures { OnOk result (all_marks contents.new.items ≡ all_marks contents.old.items ++ lost_label layout rows place lost.now) }
 {
     let way = Way::between(layout, lost.sender, lost.receiver);
     let at = Point {
@@ -237,7 +284,7 @@ pub(crate) fn push_arrows(
     layout: Layout,
     arrows: &[Arrow],
 ) -> Result<(), AllocError>
-    ensures { OnOk result (all_marks contents.new.items ≡ all_marks contents.old.items ++ flat_map arrow_marks arrows.now) }
+    ensures { OnOk result (all_marks contents.new.items ≡ all_marks contents.old.items ++ flat_map (arrow_marks layout) arrows.now) }
 {
     for arrow in arrows {
         push_arrow(alloc, contents, layout, arrow)?;
@@ -253,7 +300,7 @@ pub(crate) fn push_all_lost(
     rows: usize,
     lost: &[Lost],
 ) -> Result<(), AllocError>
-    ensures { OnOk result (all_marks contents.new.items ≡ all_marks contents.old.items ++ each (lost_marks rows) lost.now) }
+    ensures { OnOk result (all_marks contents.new.items ≡ all_marks contents.old.items ++ each (lost_marks layout rows) lost.now) }
 {
     for (place, one) in lost.iter().enumerate() {
         push_lost(alloc, contents, layout, rows, place, one)?;
@@ -268,7 +315,7 @@ pub(crate) fn push_arrow_labels(
     layout: Layout,
     arrows: &[Arrow],
 ) -> Result<(), AllocError>
-    ensures { OnOk result (all_marks contents.new.items ≡ all_marks contents.old.items ++ flat_map arrow_label arrows.now) }
+    ensures { OnOk result (all_marks contents.new.items ≡ all_marks contents.old.items ++ flat_map (arrow_label layout) arrows.now) }
 {
     for arrow in arrows {
         push_arrow_label(alloc, contents, layout, arrow)?;
@@ -284,7 +331,7 @@ pub(crate) fn push_lost_labels(
     rows: usize,
     lost: &[Lost],
 ) -> Result<(), AllocError>
-    ensures { OnOk result (all_marks contents.new.items ≡ all_marks contents.old.items ++ each (lost_label rows) lost.now) }
+    ensures { OnOk result (all_marks contents.new.items ≡ all_marks contents.old.items ++ each (lost_label layout rows) lost.now) }
 {
     for (place, one) in lost.iter().enumerate() {
         push_lost_label(alloc, contents, layout, rows, place, one)?;

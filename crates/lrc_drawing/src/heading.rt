@@ -1,9 +1,10 @@
 // What stands around the rows: the title, the legend and the columns.
 
-ghost use Rattle.std.specs.Prelude.{◌≡◌, ◌++◌, ◌∷◌, ◌<◌, ◌≤◌, ◌^◌, [], OnOk, decimal, false};
-ghost use Rattle.std.specs.List.{flat_map};
-ghost use Rattle.lrc_drawing.specs.Marks.{all_marks, begins_with_digit, word};
-ghost use Rattle.lrc_drawing.specs.Shown.{column_marks, legend_marks, line, lines_named, sample, samples_named, signs_named, unframed, words_named};
+ghost use Rattle.std.specs.Prelude.{◌≡◌, ◌+◌, ◌++◌, ◌∷◌, ◌<◌, ◌≤◌, ◌^◌, [], OnOk, decimal, false};
+ghost use Rattle.lrc_show.specs.Each.{each};
+ghost use Rattle.lrc_drawing.specs.Marks.{all_marks, begins_with_digit};
+ghost use Rattle.lrc_drawing.specs.Shown.{column_between, column_marks, legend_marks, line, lines_named, sample, samples_named};
+ghost use Rattle.lrc_drawing.specs.Shown.{signs_named, title_marks, told, words_from, words_named};
 
 use crate::layout::{Lane, Layout};
 use crate::paint::{Area, Point, push_box, push_label, push_path};
@@ -30,7 +31,7 @@ pub(crate) fn push_title(
     size: Point,
     title: &[u8],
 ) -> Result<(), AllocError>
-    ensures { OnOk result (all_marks contents.new.items ≡ all_marks contents.old.items ++ unframed ∷ word (decimal 24) title.now ∷ []) }
+    ensures { OnOk result (all_marks contents.new.items ≡ all_marks contents.old.items ++ title_marks size.x size.y title.now) }
 {
     let ground = Area {
         x: 0,
@@ -49,7 +50,7 @@ fn push_named(
     x: u16,
     name: &[u8],
 ) -> Result<(), AllocError>
-    ensures { OnOk result (all_marks contents.new.items ≡ all_marks contents.old.items ++ word (decimal 48) name.now ∷ []) }
+    ensures { OnOk result (all_marks contents.new.items ≡ all_marks contents.old.items ++ words_from (x + 34) (decimal 48) name.now ∷ []) }
 {
     let at = Point {
         x: u128::from(x) + 34,
@@ -66,7 +67,7 @@ fn push_sample(
     kind: Kind,
     name: &[u8],
 ) -> Result<(), AllocError>
-    ensures { OnOk result (all_marks contents.new.items ≡ all_marks contents.old.items ++ sample kind name.now) }
+    ensures { OnOk result (all_marks contents.new.items ≡ all_marks contents.old.items ++ sample x kind name.now) }
 {
     let area = Area {
         x: u128::from(x),
@@ -88,7 +89,7 @@ fn push_stroke(
     name: &[u8],
 ) -> Result<(), AllocError>
     requires { begins_with_digit strokes.now ≡ false }
-    ensures { OnOk result (all_marks contents.new.items ≡ all_marks contents.old.items ++ line strokes.now style.dashes.now name.now) }
+    ensures { OnOk result (all_marks contents.new.items ≡ all_marks contents.old.items ++ line x strokes.now style.dashes.now name.now) }
 {
     let at = Point {
         x: u128::from(x),
@@ -171,7 +172,7 @@ fn push_told(
     colour: &'static [u8],
     name: &[u8],
 ) -> Result<(), AllocError>
-    ensures { OnOk result (all_marks contents.new.items ≡ all_marks contents.old.items ++ word (decimal 68) name.now ∷ []) }
+    ensures { OnOk result (all_marks contents.new.items ≡ all_marks contents.old.items ++ told x name.now) }
 {
     let at = Point {
         x: u128::from(x),
@@ -209,7 +210,8 @@ fn push_column(
 ) -> Result<(), AllocError>
     requires order { lane.left ≤ lane.right }
     requires far { lane.left < 2 ^ 104 }
-    ensures { OnOk result (all_marks contents.new.items ≡ all_marks contents.old.items ++ column_marks name.now) }
+    ensures { OnOk result (all_marks contents.new.items
+        ≡ all_marks contents.old.items ++ column_between lane.left lane.right foot name.now) }
 {
     let whole = Area {
         x: lane.left,
@@ -238,7 +240,7 @@ pub(crate) fn push_columns(
     foot: u128,
     names: &[Vec<u8>],
 ) -> Result<(), AllocError>
-    ensures { OnOk result (all_marks contents.new.items ≡ all_marks contents.old.items ++ flat_map column_marks names.now) }
+    ensures { OnOk result (all_marks contents.new.items ≡ all_marks contents.old.items ++ each (column_marks layout foot) names.now) }
 {
     for (column, name) in names.iter().enumerate() {
         push_column(alloc, contents, layout.column(column), foot, name)?;

@@ -1,5 +1,5 @@
-//! What a picture of a run shows, laid out as a tree of elements. What is shown, and at which heights, is `specs/Shown.antt`; how wide
-//! things are, and their colours, is code alone.
+//! What a picture of a run shows, laid out as a tree of elements. What is shown, where it stands and how large it is, is
+//! `specs/Shown.antt`, and how large the whole is `specs/Root.antt`; colours, and how thick lines and letters are, are code alone.
 #![tactic(auto)]
 
 mod arrows;

@@ -1,9 +1,10 @@
 // What is painted: elements, one behind another.
 
-ghost use Rattle.std.specs.Prelude.{◌≡◌, ◌++◌, ◌∷◌, [], IfOk, OnOk, codes, decimal, false, true};
+ghost use Rattle.std.specs.Prelude.{◌≡◌, ◌+◌, ◌-◌, ◌++◌, ◌∷◌, [], IfOk, OnOk, codes, decimal, false, true};
 ghost use Rattle.lrc_drawing.specs.Attributes.{anchor_word, said};
 ghost use Rattle.lrc_drawing.specs.Marks.{all_marks, all_words, begins, begins_with_digit, behind, box, ends, held, hint, named_once, own, path, stroke, word};
-ghost use Rattle.lrc_drawing.specs.Shown.{unframed};
+ghost use Rattle.lrc_drawing.specs.Shown.{plate_left, plated};
+ghost use Rattle.lrc_drawing.specs.Widths.{wide};
 
 use crate::layout::width;
 use crate::style::{Anchor, GROUND, Hand, Style};
@@ -216,7 +217,8 @@ pub(crate) fn push_box(
     area: Area,
     style: Style,
 ) -> Result<(), AllocError>
-    ensures { OnOk result (all_marks contents.new.items ≡ all_marks contents.old.items ++ box style.width.now style.dashes.now ∷ []) }
+    ensures { OnOk result (all_marks contents.new.items ≡ all_marks contents.old.items
+        ++ box (decimal area.x) (decimal area.y) (decimal area.width) (decimal area.height) style.width.now style.dashes.now ∷ []) }
 {
     let mut attributes = Vec::new(alloc);
     push_area(alloc, &mut attributes, area)?;
@@ -234,7 +236,7 @@ pub(crate) fn push_path(
 ) -> Result<(), AllocError>
     requires { begins_with_digit strokes.now ≡ false }
     ensures { OnOk result (all_marks contents.new.items
-        ≡ all_marks contents.old.items ++ path (decimal start.y) strokes.now style.dashes.now ∷ []) }
+        ≡ all_marks contents.old.items ++ path (decimal start.x) (decimal start.y) strokes.now style.dashes.now ∷ []) }
 {
     let mut attributes = Vec::new(alloc);
     push_points(alloc, &mut attributes, start, strokes)?;
@@ -251,7 +253,7 @@ pub(crate) fn push_line(
     style: Style,
 ) -> Result<(), AllocError>
     ensures { OnOk result (all_marks contents.new.items
-        ≡ all_marks contents.old.items ++ stroke (decimal from.y) (decimal to.y) style.dashes.now ∷ []) }
+        ≡ all_marks contents.old.items ++ stroke (decimal from.x) (decimal from.y) (decimal to.x) (decimal to.y) style.dashes.now ∷ []) }
 {
     let mut attributes = Vec::new(alloc);
     push_ends(alloc, &mut attributes, from, to)?;
@@ -267,7 +269,8 @@ pub(crate) fn push_label(
     hand: Hand,
     words: &[u8],
 ) -> Result<(), AllocError>
-    ensures { OnOk result (all_marks contents.new.items ≡ all_marks contents.old.items ++ word (decimal at.y) words.now ∷ []) }
+    ensures { OnOk result (all_marks contents.new.items
+        ≡ all_marks contents.old.items ++ word (decimal at.x) (decimal at.y) (anchor_word hand.anchor) words.now ∷ []) }
 {
     let mut attributes = Vec::new(alloc);
     push_hand(alloc, &mut attributes, at, hand)?;
@@ -276,7 +279,12 @@ pub(crate) fn push_label(
 }
 
 // The area behind words.
-fn plate(at: Point, anchor: Anchor, letters: usize) -> Area {
+fn plate(at: Point, anchor: Anchor, letters: usize) -> Area
+    ensures left { result.x ≡ plate_left anchor at.x (wide letters + 4) }
+    ensures top { result.y ≡ at.y - 10 }
+    ensures wide { result.width ≡ wide letters + 4 }
+    ensures high { result.height ≡ 13 }
+{
     let width = width(letters as u64) + 4;
     let before = match anchor {
         Anchor::Start => 2,
@@ -298,7 +306,7 @@ pub(crate) fn push_plated(
     hand: Hand,
     words: &[u8],
 ) -> Result<(), AllocError>
-    ensures { OnOk result (all_marks contents.new.items ≡ all_marks contents.old.items ++ unframed ∷ word (decimal at.y) words.now ∷ []) }
+    ensures { OnOk result (all_marks contents.new.items ≡ all_marks contents.old.items ++ plated hand.anchor at.x at.y words.now) }
 {
     let area = plate(at, hand.anchor, words.len());
     push_box(alloc, contents, area, Style::plain(GROUND))?;

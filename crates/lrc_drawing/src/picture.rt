@@ -2,8 +2,11 @@
 
 ghost use Rattle.std.specs.Prelude.{◌≡◌, ◌++◌, ◌∷◌, [], IfOk, OnOk, codes, decimal, true};
 ghost use Rattle.lrc_drawing.specs.Attributes.{said};
+ghost use Rattle.lrc_drawing.specs.Heights.{columns_foot, picture_high};
 ghost use Rattle.lrc_drawing.specs.Marks.{all_marks, is_space, named_once, attribute_value};
-ghost use Rattle.lrc_drawing.specs.Shown.{ground_marks, kind_marks, picture_marks, run_marks};
+ghost use Rattle.lrc_drawing.specs.Root.{IsRootOf, whole_said};
+ghost use Rattle.lrc_drawing.specs.Shown.{ground_marks, kind_marks, marks_by, picture_marks, run_marks};
+ghost use Rattle.lrc_drawing.specs.Widths.{layout_of, picture_wide};
 
 use crate::arrows::{push_all_lost, push_arrow_labels, push_arrows, push_lost_labels};
 use crate::heading::{LEGEND_WIDTH, push_columns, push_legend, push_title};
@@ -23,7 +26,12 @@ struct Size {
 }
 
 impl Size {
-    fn of(layout: Layout, picture: &Picture) -> Size {
+    fn of(layout: Layout, picture: &Picture) -> Size
+        requires { layout ≡ layout_of picture.now }
+        ensures wide { result.whole.x ≡ picture_wide picture.now }
+        ensures high { result.whole.y ≡ picture_high picture.now }
+        ensures foot { result.foot ≡ columns_foot picture.now }
+    {
         let foot = height_below(picture.rows.len() as u128, picture.lost.len());
         let columns = layout.left(picture.columns.len());
         let words = layout.group().max(width(picture.title.len() as u64) + 16);
@@ -56,10 +64,7 @@ fn push_attributes(
     attributes: &mut Vec<Attribute>,
     size: Point,
 ) -> Result<(), AllocError>
-    ensures { OnOk result (said attributes.new.items ≡ said attributes.old.items
-        ++ (Key.Space, codes "http://www.w3.org/2000/svg") ∷ (Key.View, codes "0 0 " ++ decimal size.x ++ codes " " ++ decimal size.y)
-        ∷ (Key.Width, decimal size.x) ∷ (Key.Height, decimal size.y)
-        ∷ (Key.Family, codes "DejaVu Sans Mono, Menlo, Consolas, monospace") ∷ (Key.FontSize, codes "12") ∷ []) }
+    ensures { OnOk result (said attributes.new.items ≡ said attributes.old.items ++ whole_said size.x size.y) }
 {
     push_value(alloc, attributes, Key::Space, b"http://www.w3.org/2000/svg")?;
     push_size(alloc, attributes, size)?;
@@ -76,6 +81,7 @@ fn push_attributes(
 fn attributes_of(alloc: Global, size: Point) -> Result<Vec<Attribute>, AllocError>
     ensures once { IfOk result (λ attributes. named_once attributes.items ≡ true) }
     ensures space { IfOk result (λ attributes. attribute_value is_space attributes.items ≡ codes "http://www.w3.org/2000/svg") }
+    ensures said { IfOk result (λ attributes. said attributes.items ≡ whole_said size.x size.y) }
 {
     let mut attributes = Vec::new(alloc);
     push_attributes(alloc, &mut attributes, size)?;
@@ -90,7 +96,8 @@ fn push_ground(
     size: Size,
     picture: &Picture,
 ) -> Result<(), AllocError>
-    ensures { OnOk result (all_marks contents.new.items ≡ all_marks contents.old.items ++ ground_marks picture.now) }
+    ensures { OnOk result (all_marks contents.new.items
+        ≡ all_marks contents.old.items ++ ground_marks layout size.whole.x size.foot picture.now) }
 {
     push_bands(alloc, contents, size.whole.x, picture.bands.as_slice())?;
     push_columns(
@@ -109,7 +116,7 @@ fn push_run(
     layout: Layout,
     picture: &Picture,
 ) -> Result<(), AllocError>
-    ensures { OnOk result (all_marks contents.new.items ≡ all_marks contents.old.items ++ run_marks picture.now) }
+    ensures { OnOk result (all_marks contents.new.items ≡ all_marks contents.old.items ++ run_marks layout picture.now) }
 {
     let rows = picture.rows.len();
     let used = rows as u128 + picture.lost.len() as u128;
@@ -126,7 +133,7 @@ fn push_kinds(
     layout: Layout,
     picture: &Picture,
 ) -> Result<(), AllocError>
-    ensures { OnOk result (all_marks contents.new.items ≡ all_marks contents.old.items ++ kind_marks picture.now) }
+    ensures { OnOk result (all_marks contents.new.items ≡ all_marks contents.old.items ++ kind_marks layout picture.now) }
 {
     push_arrow_labels(alloc, contents, layout, picture.arrows.as_slice())?;
     push_lost_labels(
@@ -146,7 +153,8 @@ fn push_picture(
     size: Size,
     picture: &Picture,
 ) -> Result<(), AllocError>
-    ensures { OnOk result (all_marks contents.new.items ≡ all_marks contents.old.items ++ picture_marks picture.now) }
+    ensures { OnOk result (all_marks contents.new.items
+        ≡ all_marks contents.old.items ++ marks_by layout size.whole.x size.whole.y size.foot picture.now) }
 {
     push_title(alloc, contents, size.whole, picture.title.as_slice())?;
     push_legend(alloc, contents)?;
@@ -155,11 +163,13 @@ fn push_picture(
     push_kinds(alloc, contents, layout, picture)
 }
 
-/// The picture as a document: what it shows, in order, is the definition's. Its elements are those of scalable vector graphics.
+/// The picture as a document: what it shows, in order, and how large it is, are the definitions'. Its elements are those of scalable vector
+/// graphics.
 pub fn document_of(alloc: Global, picture: &Picture) -> Result<Document, AllocError>
     ensures shown { IfOk result (λ document. all_marks document.inside.items ≡ picture_marks picture.now) }
     ensures once { IfOk result (λ document. named_once document.attributes.items ≡ true) }
     ensures space { IfOk result (λ document. attribute_value is_space document.attributes.items ≡ codes "http://www.w3.org/2000/svg") }
+    ensures root { IfOk result (λ document. IsRootOf picture.now document.attributes.items) }
 {
     let layout = Layout::of(picture);
     let size = Size::of(layout, picture);

@@ -26,7 +26,8 @@ fn push_knotted(
     from: Point,
     to: Point,
 ) -> Result<(), AllocError>
-    ensures { OnOk result (all_marks inside.new.items ≡ all_marks inside.old.items ++ knotted (decimal from.y) (decimal to.y)) }
+    ensures { OnOk result (all_marks inside.new.items
+        ≡ all_marks inside.old.items ++ knotted (decimal from.x) (decimal from.y) (decimal to.x) (decimal to.y)) }
 {
     push_line(alloc, inside, from, to, Style::line(RACE, b"3"))?;
     push_path(alloc, inside, from, KNOT, Style::plain(RACE))?;
@@ -43,7 +44,7 @@ fn push_race(
     race: &Race,
 ) -> Result<(), AllocError>
     requires { used < 2 ^ 66 }
-    ensures { OnOk result (all_marks contents.new.items ≡ all_marks contents.old.items ++ race_marks used place race.now) }
+    ensures { OnOk result (all_marks contents.new.items ≡ all_marks contents.old.items ++ race_marks layout used place race.now) }
 {
     let way = Way::between(layout, race.first, race.second);
     let from = Point {
@@ -80,7 +81,7 @@ pub(crate) fn push_races(
     races: &[Race],
 ) -> Result<(), AllocError>
     requires { used < 2 ^ 66 }
-    ensures { OnOk result (all_marks contents.new.items ≡ all_marks contents.old.items ++ each (race_marks used) races.now) }
+    ensures { OnOk result (all_marks contents.new.items ≡ all_marks contents.old.items ++ each (race_marks layout used) races.now) }
 {
     for (place, race) in races.iter().enumerate() {
         push_race(alloc, contents, layout, used, place, race)?;
@@ -95,7 +96,7 @@ fn push_band(
     width: u128,
     band: &Band,
 ) -> Result<(), AllocError>
-    ensures { OnOk result (all_marks contents.new.items ≡ all_marks contents.old.items ++ band_marks band.now) }
+    ensures { OnOk result (all_marks contents.new.items ≡ all_marks contents.old.items ++ band_marks width band.now) }
 {
     let top = height(band.from);
     let area = Area {
@@ -116,7 +117,7 @@ pub(crate) fn push_bands(
     width: u128,
     bands: &[Band],
 ) -> Result<(), AllocError>
-    ensures { OnOk result (all_marks contents.new.items ≡ all_marks contents.old.items ++ flat_map band_marks bands.now) }
+    ensures { OnOk result (all_marks contents.new.items ≡ all_marks contents.old.items ++ flat_map (band_marks width) bands.now) }
 {
     for band in bands {
         push_band(alloc, contents, width, band)?;

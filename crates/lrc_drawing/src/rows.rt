@@ -1,9 +1,9 @@
 // Rows, as boxes in their columns.
 
-ghost use Rattle.std.specs.Prelude.{◌≡◌, ◌≤◌, ◌<◌, ◌^◌, ◌++◌, ◌∷◌, OnOk};
+ghost use Rattle.std.specs.Prelude.{◌≡◌, ◌≤◌, ◌<◌, ◌+◌, ◌-◌, ◌^◌, ◌++◌, OnOk};
 ghost use Rattle.lrc_show.specs.Each.{each};
 ghost use Rattle.lrc_drawing.specs.Marks.{all_marks};
-ghost use Rattle.lrc_drawing.specs.Shown.{row_box, row_marks_at, row_words_at, rule_marks};
+ghost use Rattle.lrc_drawing.specs.Shown.{row_frame, row_marks_at, row_words_at, rule_marks};
 
 use crate::layout::{Lane, Layout, height};
 use crate::paint::{Area, Point, push_box, push_group, push_hint, push_label};
@@ -23,7 +23,8 @@ fn push_frame(
     requires middle { 124 ≤ middle }
     requires far { middle < 2 ^ 90 }
     requires order { lane.left ≤ lane.right }
-    ensures { OnOk result (all_marks inside.new.items ≡ all_marks inside.old.items ++ row_box row.now.kind ∷ rule_marks row.now.closes) }
+    ensures { OnOk result (all_marks inside.new.items ≡ all_marks inside.old.items
+        ++ row_frame lane.left lane.right (middle - 9) row.now.kind row.now.closes) }
 {
     let frame = Area {
         x: lane.left,
@@ -43,7 +44,8 @@ fn push_rule(
     closes: bool,
 ) -> Result<(), AllocError>
     requires { frame.y < 2 ^ 100 }
-    ensures { OnOk result (all_marks inside.new.items ≡ all_marks inside.old.items ++ rule_marks closes) }
+    ensures { OnOk result (all_marks inside.new.items
+        ≡ all_marks inside.old.items ++ rule_marks frame.x (frame.y + 18) frame.width closes) }
 {
     if closes {
         let rule = Area {
@@ -64,7 +66,7 @@ fn push_words(
     position: usize,
     row: &Row,
 ) -> Result<(), AllocError>
-    ensures { OnOk result (all_marks inside.new.items ≡ all_marks inside.old.items ++ row_words_at position row.now) }
+    ensures { OnOk result (all_marks inside.new.items ≡ all_marks inside.old.items ++ row_words_at layout position row.now) }
 {
     let lane = layout.column(usize::from(row.column));
     let words = Point {
@@ -109,7 +111,7 @@ fn push_row(
     position: usize,
     row: &Row,
 ) -> Result<(), AllocError>
-    ensures { OnOk result (all_marks contents.new.items ≡ all_marks contents.old.items ++ row_marks_at position row.now) }
+    ensures { OnOk result (all_marks contents.new.items ≡ all_marks contents.old.items ++ row_marks_at layout position row.now) }
 {
     let lane = layout.column(usize::from(row.column));
     let mut inside = Vec::new(alloc);
@@ -126,7 +128,7 @@ pub(crate) fn push_rows(
     layout: Layout,
     rows: &[Row],
 ) -> Result<(), AllocError>
-    ensures { OnOk result (all_marks contents.new.items ≡ all_marks contents.old.items ++ each row_marks_at rows.now) }
+    ensures { OnOk result (all_marks contents.new.items ≡ all_marks contents.old.items ++ each (row_marks_at layout) rows.now) }
 {
     for (position, row) in rows.iter().enumerate() {
         push_row(alloc, contents, layout, position, row)?;

@@ -2,6 +2,7 @@
 
 ghost use Rattle.std.specs.Prelude.{◌≡◌, codes};
 ghost use Rattle.lrc_drawing.specs.Attributes.{anchor_word};
+ghost use Rattle.lrc_drawing.specs.declared.style.Anchor.TheVariants.{Start};
 ghost use Rattle.lrc_drawing.specs.Shown.{message_dashes, row_border, row_dashes, through};
 
 use lrc_picture::Kind;
@@ -106,12 +107,16 @@ pub(crate) struct Hand {
 
 impl Hand {
     /// Words that begin at their place.
-    pub(crate) fn plain(colour: &'static [u8]) -> Hand {
+    pub(crate) fn plain(colour: &'static [u8]) -> Hand
+        ensures { result.anchor ≡ Start }
+    {
         Hand::anchored(Anchor::Start, colour)
     }
 
     /// Words that begin or end there.
-    pub(crate) fn anchored(anchor: Anchor, colour: &'static [u8]) -> Hand {
+    pub(crate) fn anchored(anchor: Anchor, colour: &'static [u8]) -> Hand
+        ensures { result.anchor ≡ anchor }
+    {
         Hand {
             anchor,
             colour,
@@ -120,7 +125,9 @@ impl Hand {
     }
 
     /// A name.
-    pub(crate) fn bold() -> Hand {
+    pub(crate) fn bold() -> Hand
+        ensures { result.anchor ≡ Start }
+    {
         Hand {
             weight: b"bold",
             ..Hand::plain(INK)

@@ -1,6 +1,6 @@
 -- A reader of elements, byte by byte, that keeps which elements are open. What it reads to the end is well-formed (XML 1.0, W3C 2008):
--- one root, each element closed by its own name, each value between quotation marks, and the signs of the form in texts and values by
--- their names alone. It does not look whether an element names an attribute twice.
+-- one root, each element closed by its own name, names that begin with a letter, each value between quotation marks, and the signs of the
+-- form in texts and values by their names alone. It does not look whether an element names an attribute twice.
 use Rattle.std.specs.Prelude.{◌≡◌, ℕ, ◌==◌, ◌&&◌, ◌||◌, Bool, true, false, List, [], ◌∷◌, ◌++◌, codes, fold, nat_le, if◌then◌else◌}
 
 -- Where the reader is. The names of the elements that are open stand innermost first.
@@ -32,10 +32,18 @@ pub data Reader : Type 0 where
   -- the text is not well-formed
   broken : Reader
 
+-- a letter, with which a name begins
+abbrev pub is_name_start : ℕ → Bool
+is_name_start byte = (nat_le 97 byte && nat_le byte 122) || (nat_le 65 byte && nat_le byte 90)
+
 -- a letter, a digit or a hyphen
 abbrev pub is_name_byte : ℕ → Bool
-is_name_byte byte =
-    (nat_le 97 byte && nat_le byte 122) || ((nat_le 65 byte && nat_le byte 90) || ((nat_le 48 byte && nat_le byte 57) || (byte == 45)))
+is_name_byte byte = is_name_start byte || ((nat_le 48 byte && nat_le byte 57) || (byte == 45))
+
+-- a byte with which a name may go on that is read so far
+abbrev pub goes_on : (name : List ℕ) → ℕ → Bool
+goes_on [] byte = is_name_start byte
+goes_on (first ∷ more) byte = is_name_byte byte
 
 -- a byte that may stand for itself in a text: printable ASCII, and no `>`
 abbrev pub is_text_byte : ℕ → Bool
@@ -69,14 +77,14 @@ reader_behind (inside around) byte =
     if byte == 60 then begun around else if byte == 38 then sign around [] else if is_text_byte byte then inside around else broken
 reader_behind (sign around name) byte =
     if is_name_byte byte then sign around (name ++ byte ∷ []) else if (byte == 59) && is_sign name then inside around else broken
-reader_behind (begun around) byte = if byte == 47 then ending around [] else if is_name_byte byte then naming around (byte ∷ []) else broken
+reader_behind (begun around) byte = if byte == 47 then ending around [] else if is_name_start byte then naming around (byte ∷ []) else broken
 reader_behind (naming around name) byte =
     if is_name_byte byte then naming around (name ++ byte ∷ [])
     else if byte == 32 then key around name []
     else if byte == 62 then inside (name ∷ around)
     else broken
 reader_behind (key around name attribute) byte =
-    if is_name_byte byte then key around name (attribute ++ byte ∷ [])
+    if goes_on attribute byte then key around name (attribute ++ byte ∷ [])
     else if (byte == 61) && is_some_name attribute then given around name
     else broken
 reader_behind (given around name) byte = if byte == 34 then value around name else broken

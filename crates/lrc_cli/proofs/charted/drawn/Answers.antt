@@ -13,4 +13,5 @@ returns-in_ok-document_of c =
       marks = c.in_ok-document_of.ensures.shown;
       once = c.in_ok-document_of.ensures.once;
       space = c.in_ok-document_of.ensures.space;
+      root = c.in_ok-document_of.ensures.root;
     }

@@ -6,4 +6,4 @@ use Rattle.lrc_drawing.proofs.arrows.push_all_lost.Given as goal
 
 abbrev pub invariant-loop-place : goal.invariant-loop-place
 invariant-loop-place l =
-    all_marks l.contents.items ≡ all_marks l.initial.contents.items ++ each (lost_marks l.rows) (take l.place l.lost)
+    all_marks l.contents.items ≡ all_marks l.initial.contents.items ++ each (lost_marks l.layout l.rows) (take l.place l.lost)

@@ -5,6 +5,7 @@ use Rattle.lrc_drawing.proofs.arrows.push_arrows.Goals as goal
 
 pub loop-arrow-preserved : goal.loop-arrow-preserved
 loop-arrow-preserved c =
-    flat_marked arrow_marks c.args.arrows.now c.loop-arrow.arrow-index c.arrow-item.result (all_marks c.args.contents.now.items)
+    flat_marked (arrow_marks c.args.layout) c.args.arrows.now c.loop-arrow.arrow-index c.arrow-item.result
+    (all_marks c.args.contents.now.items)
     (all_marks c.loop-arrow.contents.items) (all_marks c.push_arrow.new.contents.items) c.loop-arrow-test.true c.arrow-item.is
     c.loop-arrow.invariant c.in_ok-push_arrow.ensures

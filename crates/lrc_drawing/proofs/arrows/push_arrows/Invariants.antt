@@ -6,4 +6,4 @@ use Rattle.lrc_drawing.proofs.arrows.push_arrows.Given as goal
 
 abbrev pub invariant-loop-arrow : goal.invariant-loop-arrow
 invariant-loop-arrow l =
-    all_marks l.contents.items ≡ all_marks l.initial.contents.items ++ flat_map arrow_marks (take l.arrow-index l.arrows)
+    all_marks l.contents.items ≡ all_marks l.initial.contents.items ++ flat_map (arrow_marks l.layout) (take l.arrow-index l.arrows)

@@ -6,4 +6,4 @@ use Rattle.lrc_drawing.proofs.arrows.push_lost_labels.Given as goal
 
 abbrev pub invariant-loop-place : goal.invariant-loop-place
 invariant-loop-place l =
-    all_marks l.contents.items ≡ all_marks l.initial.contents.items ++ each (lost_label l.rows) (take l.place l.lost)
+    all_marks l.contents.items ≡ all_marks l.initial.contents.items ++ each (lost_label l.layout l.rows) (take l.place l.lost)

@@ -7,9 +7,9 @@ use Rattle.lrc_drawing.proofs.Painted.{five}
 use Rattle.lrc_drawing.proofs.heading.push_lines.Goals as goal
 
 -- a line of these dashes
-dashed : (old new : List Mark) (strokes dashes are name : List ℕ) → new ≡ old ++ line strokes dashes name → dashes ≡ are
-    → new ≡ old ++ line strokes are name
-dashed old new strokes dashes are name new_is is = new_is ∙ ap (λ d. old ++ line strokes d name) is
+dashed : (old new : List Mark) (left : ℕ) (strokes dashes are name : List ℕ) → new ≡ old ++ line left strokes dashes name → dashes ≡ are
+    → new ≡ old ++ line left strokes are name
+dashed old new left strokes dashes are name new_is is = new_is ∙ ap (λ d. old ++ line left strokes d name) is
 
 pub returns : goal.returns
 returns c =
@@ -22,11 +22,12 @@ returns c =
     on_ok c.push_stroke-5.result
     (λ last.
     five start one two three four end
-    (line (codes "h28") through (codes "interval ends")) (line (codes "h28") (message_dashes false) (codes "message"))
-    (line (codes "h28") (message_dashes true) (codes "taken again"))
-    (line (codes "h23 m-5 -5 l10 10 m-10 0 l10 -10") (message_dashes false) (codes "never taken"))
-    (line (codes "m0 -4 v8 m0 -4 h28 m0 -4 v8") through (codes "race"))
-    (dashed start one _ _ _ _ c.in_ok-push_stroke.ensures c.line.ensures) (dashed one two _ _ _ _ c.in_ok-push_stroke-2.ensures c.message.ensures)
-    (dashed two three _ _ _ _ c.in_ok-push_stroke-3.ensures c.message-2.ensures)
-    (dashed three four _ _ _ _ c.in_ok-push_stroke-4.ensures c.message-3.ensures) (dashed four end _ _ _ _ last c.line-2.ensures))
+    (line 502 (codes "h28") through (codes "interval ends")) (line 648 (codes "h28") (message_dashes false) (codes "message"))
+    (line 750 (codes "h28") (message_dashes true) (codes "taken again"))
+    (line 881 (codes "h23 m-5 -5 l10 10 m-10 0 l10 -10") (message_dashes false) (codes "never taken"))
+    (line 1012 (codes "m0 -4 v8 m0 -4 h28 m0 -4 v8") through (codes "race"))
+    (dashed start one _ _ _ _ _ c.in_ok-push_stroke.ensures c.line.ensures)
+    (dashed one two _ _ _ _ _ c.in_ok-push_stroke-2.ensures c.message.ensures)
+    (dashed two three _ _ _ _ _ c.in_ok-push_stroke-3.ensures c.message-2.ensures)
+    (dashed three four _ _ _ _ _ c.in_ok-push_stroke-4.ensures c.message-3.ensures) (dashed four end _ _ _ _ _ last c.line-2.ensures))
     c.push_stroke-5.ensures

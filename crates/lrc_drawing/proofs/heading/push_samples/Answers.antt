@@ -14,7 +14,7 @@ returns c =
     (all_marks c.push_sample-3.new.contents.items)
     (all_marks c.push_sample-4.new.contents.items)
     (all_marks c.push_sample-5.new.contents.items)
-    (sample kinds.Act (codes "act")) (sample kinds.Wait (codes "waits")) (sample kinds.Message (codes "messages alone"))
-    (sample kinds.Trap (codes "trap")) (sample kinds.Barrier (codes "barrier"))
+    (sample 8 kinds.Act (codes "act")) (sample 80 kinds.Wait (codes "waits")) (sample 167 kinds.Message (codes "messages alone"))
+    (sample 320 kinds.Trap (codes "trap")) (sample 400 kinds.Barrier (codes "barrier"))
     c.in_ok-push_sample.ensures c.in_ok-push_sample-2.ensures c.in_ok-push_sample-3.ensures c.in_ok-push_sample-4.ensures)
     c.push_sample-5.ensures

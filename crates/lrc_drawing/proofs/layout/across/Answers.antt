@@ -8,8 +8,8 @@ overflow_mul-result c =
     mul-le c.args.column c.args.pitch 18446744073709551616 274877906944 (omega arith) c.requires in
     omega (arith, most)
 
-pub returns : goal.returns
-returns c =
+pub returns-clause-most : goal.returns-clause-most
+returns-clause-most c =
     let most : c.args.column * c.args.pitch ≤ 18446744073709551616 * 274877906944 =
     mul-le c.args.column c.args.pitch 18446744073709551616 274877906944 (omega arith) c.requires in
     omega (arith, most)

@@ -16,5 +16,5 @@ returns c =
     on_ok c.push_element.result
     (λ marks_are. marks_are
     ∙ shows_alone (all_marks c.args.contents.now.items) _ _ _
-    (label_shows _ _ _ _ _ _ said_is c.in_ok-inside.ensures.told) c.in_ok-inside.ensures.alone)
+    (label_shows _ _ _ _ _ _ _ said_is c.in_ok-inside.ensures.told) c.in_ok-inside.ensures.alone)
     c.push_element.ensures

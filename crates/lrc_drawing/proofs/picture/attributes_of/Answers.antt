@@ -12,3 +12,7 @@ pub returns-clause-space : goal.returns-clause-space
 returns-clause-space c =
     value_is is_space c.push_attributes.new.attributes.items
     ∙ ap (value_said is_space) (said_in_one c.new-attributes.result.items _ _ c.new-attributes.ensures.items c.in_ok-push_attributes.ensures)
+
+pub returns-clause-said : goal.returns-clause-said
+returns-clause-said c =
+    said_in_one c.new-attributes.result.items _ _ c.new-attributes.ensures.items c.in_ok-push_attributes.ensures

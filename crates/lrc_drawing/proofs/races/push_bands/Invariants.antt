@@ -6,4 +6,4 @@ use Rattle.lrc_drawing.proofs.races.push_bands.Given as goal
 
 abbrev pub invariant-loop-band : goal.invariant-loop-band
 invariant-loop-band l =
-    all_marks l.contents.items ≡ all_marks l.initial.contents.items ++ flat_map band_marks (take l.band-index l.bands)
+    all_marks l.contents.items ≡ all_marks l.initial.contents.items ++ flat_map (band_marks l.width) (take l.band-index l.bands)

@@ -6,4 +6,4 @@ use Rattle.lrc_drawing.proofs.races.push_races.Given as goal
 
 abbrev pub invariant-loop-place : goal.invariant-loop-place
 invariant-loop-place l =
-    all_marks l.contents.items ≡ all_marks l.initial.contents.items ++ each (race_marks l.used) (take l.place l.races)
+    all_marks l.contents.items ≡ all_marks l.initial.contents.items ++ each (race_marks l.layout l.used) (take l.place l.races)

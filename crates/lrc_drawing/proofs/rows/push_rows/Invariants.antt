@@ -6,4 +6,4 @@ use Rattle.lrc_drawing.proofs.rows.push_rows.Given as goal
 
 abbrev pub invariant-loop-position : goal.invariant-loop-position
 invariant-loop-position l =
-    all_marks l.contents.items ≡ all_marks l.initial.contents.items ++ each row_marks_at (take l.position l.rows)
+    all_marks l.contents.items ≡ all_marks l.initial.contents.items ++ each (row_marks_at l.layout) (take l.position l.rows)
