@@ -3,3 +3,4 @@ pub mod Stamps
 pub mod Changes
 pub mod Law
 pub mod Writes
+pub mod Fixed

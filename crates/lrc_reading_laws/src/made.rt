@@ -1,13 +1,13 @@
 // What the nodes store and tell one another of intervals, in every run, and what the acts made in them. Each function is a theorem:
 // its body is empty, and its clauses are the law.
 
-ghost use Rattle.std.specs.Prelude.{◌≡◌, ◌⊎◌, ℕ, ◌<◌, List, Some, length, slice_get, Contains};
+ghost use Rattle.std.specs.Prelude.{◌≡◌, ◌⊎◌, ℕ, ◌<◌, List, Some, length, map, slice_get, Contains};
 ghost use Rattle.lrc_lang.specs.declared.program.Program.{Program};
 ghost use Rattle.lrc_page.specs.declared.size.Size.{Size};
 ghost use Rattle.lrc_page.specs.Page.{words_of};
 ghost use Rattle.lrc_page.specs.Changes.{change_at};
 ghost use Rattle.lrc_store.specs.Interval.{IntervalRecord};
-ghost use Rattle.lrc_store.specs.Store.{StoredRecord};
+ghost use Rattle.lrc_store.specs.Store.{StoredRecord, interval_of};
 ghost use Rattle.lrc_copies.specs.Word.{Fits};
 ghost use Rattle.lrc_copies.specs.Page.{at_word, page_below};
 ghost use Rattle.lrc_copies.specs.Stamps.{stamp_index};
@@ -62,4 +62,13 @@ pub fn changes_are_last_writes()
         → IsLastWriteIn world.acts (length world.acts) (word_on size page offset) x.node (stamp_index made_stamps x) i value
         → (change_at (changes_on page x) offset ≡ Some value)
         ⊎ Fits (at_word (page_history size world.acts page) offset) value (page_below (page_history size world.acts page) made x) }
+{}
+
+/// In every run the acts fix the intervals: of two such lists each has those of the other, with the same stamps and pages.
+pub fn acts_fix_what_was_made()
+    ensures { (program : Program) (nodes : ℕ) (options : OptionsRecord) (events : List Event) (world : World)
+        (made other : List StoredRecord) (x : StoredRecord) → run_of program nodes options events ≡ Some world
+        → AreKnown nodes made world → AreOfActs options.size nodes made world
+        → AreKnown nodes other world → AreOfActs options.size nodes other world
+        → Contains made x → Contains (map interval_of other) (interval_of x) }
 {}
