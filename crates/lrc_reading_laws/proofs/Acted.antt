@@ -4,3 +4,4 @@ pub mod Changes
 pub mod Law
 pub mod Writes
 pub mod Fixed
+pub mod Once

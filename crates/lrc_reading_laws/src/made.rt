@@ -3,6 +3,7 @@
 
 ghost use Rattle.std.specs.Prelude.{◌≡◌, ◌⊎◌, ℕ, ◌<◌, List, Some, length, map, slice_get, Contains};
 ghost use Rattle.lrc_lang.specs.declared.program.Program.{Program};
+ghost use Rattle.lrc_trace.specs.Conflict.{IsRaceFree};
 ghost use Rattle.lrc_page.specs.declared.size.Size.{Size};
 ghost use Rattle.lrc_page.specs.Page.{words_of};
 ghost use Rattle.lrc_page.specs.Changes.{change_at};
@@ -64,11 +65,18 @@ pub fn changes_are_last_writes()
         ⊎ Fits (at_word (page_history size world.acts page) offset) value (page_below (page_history size world.acts page) made x) }
 {}
 
-/// In every run the acts fix the intervals: of two such lists each has those of the other, with the same stamps and pages.
+/// In every run the acts fix the intervals: of two such lists each has those of the other, with the same stamps and pages; and where no
+/// two conflicting accesses are unordered, with the same changes.
 pub fn acts_fix_what_was_made()
-    ensures { (program : Program) (nodes : ℕ) (options : OptionsRecord) (events : List Event) (world : World)
+    ensures intervals { (program : Program) (nodes : ℕ) (options : OptionsRecord) (events : List Event) (world : World)
         (made other : List StoredRecord) (x : StoredRecord) → run_of program nodes options events ≡ Some world
         → AreKnown nodes made world → AreOfActs options.size nodes made world
         → AreKnown nodes other world → AreOfActs options.size nodes other world
         → Contains made x → Contains (map interval_of other) (interval_of x) }
+    ensures changes { (program : Program) (nodes : ℕ) (options : OptionsRecord) (events : List Event) (world : World)
+        (made other : List StoredRecord) (x y : StoredRecord) (page : ℕ) → run_of program nodes options events ≡ Some world
+        → AreKnown nodes made world → AreOfActs options.size nodes made world
+        → AreKnown nodes other world → AreOfActs options.size nodes other world
+        → IsRaceFree world.acts → Contains made x → Contains other y → interval_of x ≡ interval_of y
+        → changes_on page x ≡ changes_on page y }
 {}

@@ -31,7 +31,7 @@ use Rattle.lrc_reading_laws.proofs.Closed.History.{History, KeptByHistory, by_hi
 -- ---- pages and notices
 
 -- a page that is named has a notice
-noticed_in : (page : ℕ) (notices : List NoticeRecord) → Contains (map (λ (notice : NoticeRecord). notice.page) notices) page
+pub noticed_in : (page : ℕ) (notices : List NoticeRecord) → Contains (map (λ (notice : NoticeRecord). notice.page) notices) page
     → is_some (find (λ (notice : NoticeRecord). notice.page == page) notices) ≡ true
 noticed_in page [] c = absurd (none_Contains page c)
 noticed_in page (first ∷ notices) c =
