@@ -38,13 +38,13 @@ pub fn what_is_stored_is_what_is_not_collected()
         → StoresJust made l.node }
 {}
 
-/// In every run there is one such list, each interval with changes of all pages that it names, with which agrees all that nodes know,
-/// and the acts do: the intervals that nodes store and tell of are in it; each stamp is a cut of the list, and so is each time that a
-/// node has, collected or remembers of an invalid copy: it covers the stamp of each interval that it covers; the changes that a node
-/// knows, or that a reply on its way tells, are those of the list; and each interval, also one that all have collected, has the stamp
-/// at which its node closed it, names just the pages that its node wrote in it, and has of each the words at which a page that fits
-/// the intervals below differs from what the node's last writes made of it. (Intervals and diffs of multiple writers: Keleher, Cox
-/// and Zwaenepoel 1992; Amza et al. 1996.)
+/// In every run there is one such list, of intervals with the changes of all pages that they name, with which the nodes and the acts
+/// agree. The intervals that nodes store and tell of are in it, and the changes that a node knows, or that a reply on its way tells,
+/// are those of the list. Each stamp is a cut of the list, and so is each time that a node has, collected or remembers of an invalid
+/// copy: it covers the stamp of each interval that it covers. And each interval, also one that all have collected, has the stamp at
+/// which its node closed it, names just the pages that its node wrote in it, and has of each the words at which a page that fits the
+/// intervals below differs from what the node's last writes in the interval made of it. (Intervals and diffs of multiple writers:
+/// Keleher, Cox and Zwaenepoel 1992; Amza et al. 1996.)
 pub fn what_is_known_was_made()
     ensures { (program : Program) (nodes : ℕ) (options : OptionsRecord) (events : List Event) (world : World)
         → run_of program nodes options events ≡ Some world

@@ -21,6 +21,7 @@ pub offset_of-word_on : (size : Size) (page offset : ℕ) → offset < words_of 
 offset_of-word_on Words64 page offset lt = omega (arith, lt)
 offset_of-word_on Words256 page offset lt = omega (arith, lt)
 
+-- and a word stands at its offset of its page
 pub word_on-page_of : (size : Size) (word : ℕ) → word_on size (page_of word size) (offset_of word size) ≡ word
 word_on-page_of Words64 word = omega arith
 word_on-page_of Words256 word = omega arith
