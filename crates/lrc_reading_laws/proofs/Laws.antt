@@ -20,6 +20,7 @@ use Rattle.lrc_protocol.proofs.Worlds.{IsEntry}
 use Rattle.lrc_protocol.proofs.Induction.{Comes}
 use Rattle.lrc_order_laws.proofs.Reached.{IsReached}
 use Rattle.lrc_reading_laws.specs.Written.{made_stamps, changes_on}
+use Rattle.lrc_reading_laws.specs.Acted.{WritesPage}
 use Rattle.lrc_reading_laws.proofs.Written.History.{page_history, open_record}
 use Rattle.lrc_reading_laws.proofs.Closed.History.{History, closed_by}
 -- ---- stamps and changes
@@ -41,13 +42,15 @@ pub record AreWritten (options : OptionsRecord) (made : List StoredRecord) (worl
       → ((values twin : List ℕ) → copy_at l.node.memory page ≡ written values twin → ⊥)
       → IsUntouchedBy (page_history options.size world.acts page) (words_of options.size) (open_record l.node)
 
--- A turn changes nothing of what closed intervals wrote; and the interval that it closes has for each page that was written the
+-- A turn changes nothing of what closed intervals wrote; and the interval that it closes wrote each page that has a twin and has its
 -- changes between twin and copy, and did not write any other.
 pub record TurnWrites (options : OptionsRecord) (made : List StoredRecord) (before after : World) (node : Node) (closed : List StoredRecord)
     : Type 0 where
   pub stay : (page : ℕ) → AgreeOnPage made (page_history options.size before.acts page) (page_history options.size after.acts page)
   pub closes : (x : StoredRecord) (page : ℕ) (values twin : List ℕ) → Contains closed x → copy_at node.memory page ≡ written values twin
       → IsClosedWith (page_history options.size after.acts page) x twin values
+  pub writes : (x : StoredRecord) (page : ℕ) (values twin : List ℕ) → Contains closed x → copy_at node.memory page ≡ written values twin
+      → WritesPage options.size after.acts page x
   pub leaves : (x : StoredRecord) (page : ℕ) → Contains closed x
       → ((values twin : List ℕ) → copy_at node.memory page ≡ written values twin → ⊥)
       → IsUntouchedBy (page_history options.size after.acts page) (words_of options.size) x × (changes_on page x ≡ [])

@@ -7,6 +7,7 @@ pub mod Written
 pub mod Traced
 pub mod Collected
 pub mod Lazy
+pub mod Acted
 pub mod Whole
 pub mod Arriving
 pub mod Received

@@ -1,4 +1,5 @@
 pub mod Made
 pub mod Written
+pub mod Acted
 pub mod Known
 pub mod Requested

@@ -1,4 +1,4 @@
--- The intervals that were ever closed, and who tells of them.
+-- A list of intervals, and who stores and tells of them.
 use Rattle.std.specs.Prelude.{◌≡◌, ◌↔◌, ℕ, ◌<◌, ◌≤◌, Option, Some, None, List, [], ◌∷◌, Contains, slice_get}
 use Rattle.std.specs.List.{range_with_len}
 use Rattle.lrc_time.specs.Time.{entry}
@@ -14,7 +14,7 @@ use Rattle.lrc_protocol.specs.Node.{Node}
 use Rattle.lrc_protocol.specs.Run.{Logged, World}
 use Rattle.lrc_protocol.specs.Follows.{pending}
 
--- each of these intervals was made
+-- each of these intervals is in the list
 abbrev pub AllMade : List IntervalRecord → List IntervalRecord → Type 0
 AllMade made [] = Unit {0}
 AllMade made (interval ∷ intervals) = Contains made interval × AllMade made intervals
@@ -26,7 +26,7 @@ intervals_in (Arrive m) = m.intervals
 intervals_in (Depart m) = m.intervals
 intervals_in _ = []
 
--- each message tells of intervals that were made
+-- each message tells of intervals of the list
 abbrev pub AllTold : List IntervalRecord → List EnvelopeRecord → Type 0
 AllTold made [] = Unit {0}
 AllTold made (envelope ∷ envelopes) = AllMade made (intervals_in envelope.message) × AllTold made envelopes
@@ -42,9 +42,9 @@ abbrev pub ManagerKeeps : List IntervalRecord → Option ManagerRecord → Type 
 ManagerKeeps made None = Unit {0}
 ManagerKeeps made (Some manager) = AllKept made manager.arrivals
 
--- These are the intervals that were closed so far, in the order of closing: those of each node have the indices from 1 up to
--- its own entry in its time, one after another; and what a node stores, what a pending message tells of, and what the manager
--- keeps of arrivals is among them.
+-- The list has of each node one interval for each index from 1 up to the node's own entry in its time, one after another; and what a
+-- node stores, what a pending message tells of, and what the manager keeps of arrivals is in it. It leaves open what the stamp and
+-- the pages are of an interval that nobody stores or tells of.
 pub record AreMade (made : List IntervalRecord) (world : World) : Type 0 where
   pub exact : (q : ℕ) (l : Logged) → slice_get world.nodes q ≡ Some l
       → indices_by made q ≡ range_with_len 1 (entry l.node.locks.time q)

@@ -11,7 +11,8 @@ use Rattle.lrc_page.specs.declared.size.Size.{Size}
 use Rattle.lrc_page.specs.Page.{words_of}
 use Rattle.lrc_store.specs.declared.key.Key.{Key}
 use Rattle.lrc_store.specs.Store.{StoredRecord, notice_of, stored_at}
-use Rattle.lrc_copies.specs.Stamps.{Stamps}
+use Rattle.lrc_copies.specs.Page.{PageHistory}
+use Rattle.lrc_copies.specs.Stamps.{Stamps, stamp_index, page_of_stamps}
 
 -- ---- what was written
 
@@ -49,3 +50,8 @@ made_changes made key = option_and_then (λ notice. notice.changes) (option_and_
 -- the word of a page at an offset
 abbrev pub word_on : Size → ℕ → ℕ → ℕ
 word_on size page offset = page * words_of size + offset
+
+-- what each interval did to a page, by these acts and its changes, and how the intervals stand to one another by their stamps
+abbrev pub page_history : Size → List Act → ℕ → PageHistory StoredRecord
+page_history size acts page =
+    page_of_stamps made_stamps (λ x offset. last_write acts x.node (stamp_index made_stamps x) (word_on size page offset)) (changes_on page)

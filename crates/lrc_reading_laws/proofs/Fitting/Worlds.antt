@@ -233,7 +233,7 @@ module _ (program : Program) (nodes : ℕ) (options : OptionsRecord) (stamps : S
         unknown_by made time (entry l.node.locks.time l.node.setting.me) (closed_record l.node) full counted index_is
         (subst (λ y. IsTrue (stamps_covered made_stamps time y)) (sym (closed-is l.node after.node x c)) covered)
 
-    closed-at : IsClosedAt made_stamps nodes made l.node.locks.time (closed_record l.node)
+    pub closed-at : IsClosedAt made_stamps nodes made l.node.locks.time (closed_record l.node)
     closed-at =
         let me : ℕ = l.node.setting.me in
         record {

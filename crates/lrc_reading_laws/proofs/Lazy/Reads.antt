@@ -18,8 +18,6 @@ use Rattle.lrc_trace.proofs.Intervals.{never_fall}
 use Rattle.lrc_trace.proofs.Prefixes.{ReadsLazily-more}
 use Rattle.lrc_exec.specs.Meaning.{Setting}
 use Rattle.lrc_exec.specs.Plain.{setting_of}
-use Rattle.lrc_page.specs.declared.size.Size.{Size}
-use Rattle.lrc_page.specs.declared.size.Size.TheVariants.{Words64, Words256}
 use Rattle.lrc_page.specs.Page.{words_of}
 use Rattle.lrc_page.specs.Place.{page_of, offset_of}
 use Rattle.lrc_page.proofs.PageLists.{offset_of-within}
@@ -55,6 +53,7 @@ use Rattle.lrc_node_laws.proofs.Always.{whole_at, known_at}
 use Rattle.lrc_node_laws.proofs.Whole.{readable-long}
 use Rattle.lrc_reading_laws.specs.Written.{made_stamps, last_write, word_on, changes_on}
 use Rattle.lrc_reading_laws.proofs.Written.History.{open_record}
+use Rattle.lrc_reading_laws.proofs.Written.Pages.{word_on-page_of}
 use Rattle.lrc_reading_laws.proofs.Closed.Stored.{reached}
 use Rattle.lrc_reading_laws.proofs.Stamped.Lists.{found_once}
 use Rattle.lrc_reading_laws.proofs.Closed.History.{History, one_more, KeptByHistory, by_history, reached_by, history_of, closed_by}
@@ -64,12 +63,7 @@ use Rattle.lrc_reading_laws.proofs.Lazy.Made.{member_at}
 use Rattle.lrc_reading_laws.proofs.Lazy.Times.{covers_acts, own_is_most, stamps_cover}
 use Rattle.lrc_reading_laws.proofs.Lazy.Turns.{HasRead, has_read}
 
--- ---- words and copies
-
--- a word stands at its offset of its page
-word_is : (word : ℕ) (size : Size) → word_on size (page_of word size) (offset_of word size) ≡ word
-word_is word Words64 = omega arith
-word_is word Words256 = omega arith
+-- ---- copies
 
 -- a page that can be read is there
 readable-there : (copies : List Copy) (page : ℕ) → is_readable (slice_index_or copies page absent) ≡ true → page < length copies
@@ -216,7 +210,7 @@ module _ (program : Program) (nodes : ℕ) (options : OptionsRecord) (stamps : S
     wrote a = last_write world.acts a.node (stamp_index made_stamps a) (word_on options.size (page_of word options.size) (offset_of word options.size))
 
     wrote_is : (a : StoredRecord) → wrote a ≡ last_write world.acts a.node (stamp_index made_stamps a) word
-    wrote_is a = ap (last_write world.acts a.node (stamp_index made_stamps a)) (word_is word options.size)
+    wrote_is a = ap (last_write world.acts a.node (stamp_index made_stamps a)) (word_on-page_of options.size word)
 
     wrote_last : (a : StoredRecord) (v : ℕ) → wrote a ≡ Some v
         → (i : ℕ) × IsLastWriteIn world.acts j word a.node (stamp_index made_stamps a) i v

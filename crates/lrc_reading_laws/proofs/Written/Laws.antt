@@ -27,11 +27,12 @@ use Rattle.lrc_order_laws.specs.Waiting.{next_in, FixesNext}
 use Rattle.lrc_order_laws.proofs.Reached.{IsReached}
 use Rattle.lrc_order_laws.proofs.Shift.{part_of, Shifted, ShiftedIf, shifts, deed_made}
 use Rattle.lrc_reading_laws.specs.Written.{last_write, made_stamps, changes_on, word_on}
+use Rattle.lrc_reading_laws.specs.Acted.{WritesPage}
 use Rattle.lrc_reading_laws.proofs.Written.History.{page_history, open_record}
 use Rattle.lrc_reading_laws.proofs.Closed.History.{History, KeptByHistory, by_history, reached_by, closed_record, closed_by}
 use Rattle.lrc_reading_laws.proofs.Laws.{TurnWrites, WritesLaw, TurnsLaw}
 use Rattle.lrc_reading_laws.proofs.Written.Deeds.{written_in, last_scanned, written-more}
-use Rattle.lrc_reading_laws.proofs.Written.Nodes.{is_me, me_within, follows, fits, own, open_index, made_of_twin, untouched_by_open}
+use Rattle.lrc_reading_laws.proofs.Written.Nodes.{is_me, me_within, follows, fits, own, open_index, made_of_twin, writes_open, untouched_by_open}
 use Rattle.lrc_reading_laws.proofs.Written.Notices.{closed_changes, closed_none, unnamed}
 use Rattle.lrc_reading_laws.proofs.Written.Turns.{WritesNone, OwnMoves, acquires_next, awaits_some, own_moves}
 
@@ -167,6 +168,21 @@ module _ (program : Program) (nodes : ℕ) (options : OptionsRecord) (world : Wo
         changes = closed_changes l.node page values twin e;
       })
 
+  closes_writing : (x : StoredRecord) (page : ℕ) (values twin : List ℕ) → Contains (closed_by l.node after.node) x
+      → copy_at l.node.memory page ≡ written values twin → WritesPage options.size next.acts page x
+  closes_writing x page values twin c e =
+      let new : IsNew x = closed_new x c in
+      let writes : WritesPage options.size world.acts page (open_record l.node) = writes_open program nodes options world r n l at page values twin e in
+      subst (WritesPage options.size next.acts page) (sym new.is)
+      (record {
+        offset = writes.offset;
+        value = writes.value;
+        within = writes.within;
+        wrote =
+            sym (stays_me (stamp_index made_stamps (open_record l.node)) (word_on options.size page writes.offset) (inl new.none))
+            ∙ writes.wrote;
+      })
+
   leaves_alone : (x : StoredRecord) (page : ℕ) → Contains (closed_by l.node after.node) x
       → ((values twin : List ℕ) → copy_at l.node.memory page ≡ written values twin → ⊥)
       → IsUntouchedBy (page_history options.size next.acts page) (words_of options.size) x × (changes_on page x ≡ [])
@@ -232,6 +248,7 @@ module _ (program : Program) (nodes : ℕ) (options : OptionsRecord) (world : Wo
       below = λ a b c d. refl;
     };
     closes = closes_with;
+    writes = closes_writing;
     leaves = leaves_alone;
   }
 

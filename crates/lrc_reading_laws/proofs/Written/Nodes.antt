@@ -8,6 +8,8 @@ use Rattle.lrc_lang.specs.declared.program.Program.{Program}
 use Rattle.lrc_trace.specs.declared.act.Deed.{Deed}
 use Rattle.lrc_page.specs.declared.size.Size.{Size}
 use Rattle.lrc_page.specs.Page.{words_of}
+use Rattle.lrc_page.specs.Place.{offset_of}
+use Rattle.lrc_page.proofs.PageLists.{offset_of-within}
 use Rattle.lrc_time.specs.Time.{entry}
 use Rattle.lrc_time.proofs.Times.{entry-set_same}
 use Rattle.lrc_exec.specs.Meaning.{Setting}
@@ -34,9 +36,10 @@ use Rattle.lrc_node_laws.specs.Opened.{on_page, open_writes, open_in, IsMadeBy, 
 use Rattle.lrc_node_laws.proofs.Wrote.{wrote}
 use Rattle.lrc_node_laws.proofs.Always.{whole_at}
 use Rattle.lrc_reading_laws.specs.Written.{last_write, made_stamps, word_on}
+use Rattle.lrc_reading_laws.specs.Acted.{WritesPage}
 use Rattle.lrc_reading_laws.proofs.Written.History.{page_history, open_record}
 use Rattle.lrc_reading_laws.proofs.Written.Deeds.{written_in, last_scanned, last_of, not_yet, opened}
-use Rattle.lrc_reading_laws.proofs.Written.Pages.{page_of-word_on, offset_of-word_on, made_at, none_at}
+use Rattle.lrc_reading_laws.proofs.Written.Pages.{page_of-word_on, offset_of-word_on, word_on-page_of, made_at, none_at, FoundOn, found_on}
 
 -- the interval after the closed ones has the open writes,
 idle_written : (deeds : List Deed) (k word : ℕ) → k ≡ count closes deeds + 0 → written_in deeds (k + 1) word ≡ last_of word None (open_writes deeds)
@@ -151,6 +154,29 @@ module _ (program : Program) (nodes : ℕ) (options : OptionsRecord) (world : Wo
             ∙ made_at options.size page offset word (page_of-word_on options.size page offset within) (offset_of-word_on options.size page offset within)
             writes twin (subst (λ k. offset < k) (sym long.1) within)
             ∙ ap (λ o. unwrap_or o (slice_index twin offset)) (sym (open_last word));
+      }
+
+  -- a twin is a whole page
+  pub twin_long : (page : ℕ) (values twin : List ℕ) → copy_at l.node.memory page ≡ written values twin → length twin ≡ words_of options.size
+  twin_long page values twin e =
+      let long : IsWholeCopy l.node.setting.nodes (words_of options.size) (written values twin) =
+      subst (IsWholeCopy l.node.setting.nodes (words_of options.size)) e (whole page) in
+      long.1
+
+  -- the open interval wrote a written page
+  pub writes_open : (page : ℕ) (values twin : List ℕ) → copy_at l.node.memory page ≡ written values twin
+      → WritesPage options.size world.acts page (open_record l.node)
+  writes_open page values twin e =
+      let of_copy : IsMadeBy options.size page writes (written values twin) = subst (IsMadeBy options.size page writes) e (made page) in
+      let found : FoundOn options.size page writes = found_on options.size page writes of_copy.1 in
+      let offset : ℕ = offset_of found.word options.size in
+      let word_is : word_on options.size page offset ≡ found.word =
+      ap (λ p. word_on options.size p offset) (sym found.on) ∙ word_on-page_of options.size found.word in
+      record {
+        offset = offset;
+        value = (found.last None).0;
+        within = offset_of-within found.word options.size;
+        wrote = open_last (word_on options.size page offset) ∙ ap (λ w. last_of w None writes) word_is ∙ (found.last None).1;
       }
 
   -- any other page was not written

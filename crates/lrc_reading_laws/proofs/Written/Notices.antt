@@ -1,8 +1,8 @@
 -- The notices of an interval that a node closes: one for each page that was written, with the changes between twin and copy.
-use Rattle.std.proofs.Common.{◌≡◌, ℕ, zero, suc, ◌+◌, ◌<◌, List, [], ◌∷◌, cond, refl, sym, ap, ◌∙◌, arith}
-use Rattle.std.specs.Prelude.{Option, Some, None, unwrap_or, option_map, option_and_then, ◌==◌, map, find, filter_map, slice_index_or}
+use Rattle.std.proofs.Common.{◌≡◌, ℕ, zero, suc, ◌+◌, ◌<◌, List, [], ◌∷◌, true, cond, refl, sym, ap, ◌∙◌, arith}
+use Rattle.std.specs.Prelude.{Option, Some, None, is_some, unwrap_or, option_map, option_and_then, ◌==◌, map, find, filter_map, slice_index_or}
 use Rattle.std.specs.List.{enumerate_from, cons_option}
-use Rattle.std.proofs.lemmas.Bool.{eq-eqb, ne_eqb}
+use Rattle.std.proofs.lemmas.Bool.{eq-eqb, ne_eqb, false≢true}
 use Rattle.lrc_page.specs.declared.changes.Change.{Change}
 use Rattle.lrc_page.specs.Changes.{changes_between}
 use Rattle.lrc_store.specs.Store.{NoticeRecord, notice_of}
@@ -86,6 +86,18 @@ module _ (node : Node) (page : ℕ) where
   -- any other has none
   pub closed_none : ((values twin : List ℕ) → copy_at node.memory page ≡ written values twin → ⊥) → changes_on page (closed_record node) ≡ []
   closed_none h = changes_are ∙ ap (λ o. unwrap_or o []) (unwritten_none (copy_at node.memory page) h)
+
+  -- a page with a notice was written
+  pub noticed : is_some (notice_of page (closed_record node)) ≡ true
+      → (values : List ℕ) × (twin : List ℕ) × (copy_at node.memory page ≡ written values twin)
+  noticed some = of_copy (copy_at node.memory page) refl (sym (ap is_some notice_is) ∙ some)
+    where
+      of_copy : (copy : Copy) → copy_at node.memory page ≡ copy → is_some (option_map (notice_with page) (changes_of copy)) ≡ true
+          → (values : List ℕ) × (twin : List ℕ) × (copy_at node.memory page ≡ written values twin)
+      of_copy (valid values) e s = absurd (false≢true s)
+      of_copy (written values twin) e s = (values, twin, e)
+      of_copy (invalid values since) e s = absurd (false≢true s)
+      of_copy absent e s = absurd (false≢true s)
 
   -- a page without a notice was not written
   pub unnamed : notice_of page (closed_record node) ≡ None → (values twin : List ℕ) → copy_at node.memory page ≡ written values twin → ⊥

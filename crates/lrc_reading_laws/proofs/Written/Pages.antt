@@ -1,5 +1,5 @@
 -- What a list of writes makes of one page, word by word.
-use Rattle.std.proofs.Common.{◌≡◌, ℕ, ◌<◌, List, [], ◌∷◌, cond, length, refl, sym, ap, subst, ◌∙◌, inl, inr, arith}
+use Rattle.std.proofs.Common.{◌≡◌, ℕ, ◌<◌, List, [], ◌∷◌, Bool, true, false, cond, length, refl, sym, ap, subst, ◌∙◌, inl, inr, arith}
 use Rattle.std.specs.Prelude.{Option, Some, None, unwrap_or, ◌==◌, fold, slice_index, slice_set, if◌then◌else◌}
 use Rattle.std.proofs.lemmas.Bool.{cases_eq, eq-eqb, ne_eqb}
 use Rattle.std.proofs.lemmas.List.{length-set, get_or-set_same, get_or-set_other}
@@ -20,6 +20,11 @@ page_of-word_on Words256 page offset lt = omega (arith, lt)
 pub offset_of-word_on : (size : Size) (page offset : ℕ) → offset < words_of size → offset_of (word_on size page offset) size ≡ offset
 offset_of-word_on Words64 page offset lt = omega (arith, lt)
 offset_of-word_on Words256 page offset lt = omega (arith, lt)
+
+-- and a word stands at its offset of its page
+pub word_on-page_of : (size : Size) (word : ℕ) → word_on size (page_of word size) (offset_of word size) ≡ word
+word_on-page_of Words64 word = omega arith
+word_on-page_of Words256 word = omega arith
 
 module _ (size : Size) (page offset word : ℕ) (on : page_of word size ≡ page) (there : offset_of word size ≡ offset) where
   -- a write on the page puts its value where its word is
@@ -82,6 +87,50 @@ module _ (size : Size) (page offset word : ℕ) (on : page_of word size ≡ page
     where
       no_cons : {x : ℕ × ℕ} {xs : List (ℕ × ℕ)} → x ∷ xs ≡ [] → ⊥
       no_cons e = cc
+
+-- ---- a word that is written
+
+-- a word of the page, to which one of these writes is
+pub record FoundOn (size : Size) (page : ℕ) (writes : List (ℕ × ℕ)) : Type 0 where
+  pub word : ℕ
+  pub on : page_of word size ≡ page
+  pub last : (found : Option ℕ) → (value : ℕ) × (last_of word found writes ≡ Some value)
+
+-- what is found stays found
+last_kept : (word : ℕ) (writes : List (ℕ × ℕ)) (before : ℕ) → (value : ℕ) × (last_of word (Some before) writes ≡ Some value)
+last_kept word [] before = (before, refl)
+last_kept word (write ∷ writes) before = kept_by (write.0 == word) (last_kept word writes write.1) (last_kept word writes before)
+  where
+    kept_by : (b : Bool) → (value : ℕ) × (last_of word (Some write.1) writes ≡ Some value)
+        → (value : ℕ) × (last_of word (Some before) writes ≡ Some value)
+        → (value : ℕ) × (last_of word (newer (Some before) (if b then Some write.1 else None)) writes ≡ Some value)
+    kept_by true here later = here
+    kept_by false here later = later
+
+-- the write itself is found
+found_here : (write : ℕ × ℕ) (writes : List (ℕ × ℕ)) (found : Option ℕ) → (value : ℕ) × (last_of write.0 found (write ∷ writes) ≡ Some value)
+found_here write writes found =
+    let kept : (value : ℕ) × (last_of write.0 (Some write.1) writes ≡ Some value) = last_kept write.0 writes write.1 in (
+      kept.0,
+      ap (λ b. last_of write.0 (newer found (if b then Some write.1 else None)) writes) (eq-eqb write.0 write.0 refl) ∙ kept.1,
+    )
+
+-- where some write is on the page, some word of it is written
+pub found_on : (size : Size) (page : ℕ) (writes : List (ℕ × ℕ)) → (on_page size page writes ≡ [] → ⊥) → FoundOn size page writes
+found_on size page [] some = absurd (some refl)
+found_on size page (write ∷ writes) some =
+    let rest : List (ℕ × ℕ) = on_page size page writes in
+    elim (cases_eq (page_of write.0 size) page) [
+      | inl same ↦ record { word = write.0; on = same; last = found_here write writes }
+      | inr other ↦
+          let found : FoundOn size page writes =
+          found_on size page writes (λ e. some (ap (λ b. cond b (write ∷ rest) rest) (ne_eqb (page_of write.0 size) page other) ∙ e)) in
+          record {
+            word = found.word;
+            on = found.on;
+            last = λ before. found.last (newer before (if write.0 == found.word then Some write.1 else None));
+          }
+    ]
 
 -- the values stay as many
 pub puts-length : (size : Size) (writes : List (ℕ × ℕ)) (values : List ℕ) → length (fold (put size) values writes) ≡ length values
