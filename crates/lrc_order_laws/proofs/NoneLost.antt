@@ -69,16 +69,18 @@ module _ (a b k : ℕ) where
       elim (cond_cases c g.envelope.number k (numbers_between a b (envelopes_in flight))
       (subst (λ ns. Contains ns k) (map_cond c g.envelope (filter (are_between a b) (envelopes_in flight))) h)) [
         | inl (is, e) ↦
-            let both : (g.envelope.from == a) ≡ true × (g.envelope.to == b) ≡ true = and_parts (g.envelope.from == a) (g.envelope.to == b) is in
+            let both : (g.envelope.from == a) ≡ true × (g.envelope.to == b) ≡ true =
+            and_parts (g.envelope.from == a) (g.envelope.to == b) is in
             inr (subst (λ (f : Flying). Bears a b k f.envelope) (same_Some g f at)
             (record { from = eqb-true g.envelope.from a both.0; to = eqb-true g.envelope.to b both.1; number = e }))
         | inr later ↦ inl later
       ]
   leaves (g ∷ flight) (suc place) f at h =
       let c : Bool = are_between a b g.envelope in
-      let others : List ℕ = numbers_between a b (envelopes_in (remove flight place)) in
-      let still : Contains (cond c (g.envelope.number ∷ others) others) k → Contains (numbers_between a b (envelopes_in (g ∷ remove flight place))) k =
-      λ there. subst (λ ns. Contains ns k) (sym (map_cond c g.envelope (filter (are_between a b) (envelopes_in (remove flight place))))) there in
+      let rest : List EnvelopeRecord = envelopes_in (remove flight place) in
+      let others : List ℕ = numbers_between a b rest in
+      let still : Contains (cond c (g.envelope.number ∷ others) others) k → Contains (numbers_between a b (g.envelope ∷ rest)) k =
+      λ there. subst (λ ns. Contains ns k) (sym (map_cond c g.envelope (filter (are_between a b) rest))) there in
       elim (cond_cases c g.envelope.number k (numbers_between a b (envelopes_in flight))
       (subst (λ ns. Contains ns k) (map_cond c g.envelope (filter (are_between a b) (envelopes_in flight))) h)) [
         | inl (is, e) ↦ inl (still (cond_first c g.envelope.number k others is e))
@@ -110,8 +112,8 @@ comes_or world _ _ _ a b k (repeated place at) h =
 abbrev has : ℕ → List ℕ → Bool
 has number xs = list_any (λ k. k == number) xs
 
-keeps_taken : (node : Node) (input : Input) (t : List (List ℕ)) (a k : ℕ) → Takes node input t → has k (slice_index_or node.mail.taken a []) ≡ true
-    → has k (slice_index_or t a []) ≡ true
+keeps_taken : (node : Node) (input : Input) (t : List (List ℕ)) (a k : ℕ) → Takes node input t
+    → has k (slice_index_or node.mail.taken a []) ≡ true → has k (slice_index_or t a []) ≡ true
 keeps_taken node _ _ a k by_itself h = h
 keeps_taken node _ _ a k (repeats e again) h = h
 keeps_taken node _ _ a k (anew e new) h =
@@ -129,8 +131,8 @@ has_come node _ _ by_itself = tt
 has_come node _ _ (repeats e again) = λ lt. again
 has_come node _ _ (anew e new) = λ lt. taken-itself node.mail.taken e.from e.number lt
 
-brought : (node : Node) (input : Input) (t : List (List ℕ)) (n a b k : ℕ) → HasCome node input t → a < length node.mail.taken → Brings n input a b k
-    → has k (slice_index_or t a []) ≡ true
+brought : (node : Node) (input : Input) (t : List (List ℕ)) (n a b k : ℕ) → HasCome node input t
+    → a < length node.mail.taken → Brings n input a b k → has k (slice_index_or t a []) ≡ true
 brought node run t n a b k h lt it = absurd it
 brought node (taken e) t n a b k h lt it =
     ap (λ x. has x (slice_index_or t a [])) (sym it.1.number)
@@ -146,8 +148,8 @@ module _ (program : Program) (nodes : ℕ) (options : OptionsRecord) where
     at : slice_get world.nodes m ≡ Some old
     keeps : (a k : ℕ) → was_taken old.node.mail a k ≡ true → was_taken lm.node.mail a k ≡ true
     comes : (a k : ℕ) → a < nodes → Brings n input a m k → was_taken lm.node.mail a k ≡ true
-    sends : (b k : ℕ) → b < nodes → options.first + slice_index old.node.mail.sent b ≤ k → k < options.first + slice_index lm.node.mail.sent b
-        → Contains (numbers_between m b entry.turn.out) k
+    sends : (b k : ℕ) → b < nodes → options.first + slice_index old.node.mail.sent b ≤ k
+        → k < options.first + slice_index lm.node.mail.sent b → Contains (numbers_between m b entry.turn.out) k
 
   pub record AllStay (world : World) : Type 0 where
     pub pending : AllPending program nodes options world
@@ -185,7 +187,8 @@ module _ (program : Program) (nodes : ℕ) (options : OptionsRecord) where
     earlier : (m : ℕ) (lm : Logged) → slice_get (slice_set world.nodes n after) m ≡ Some lm → Earlier world n input entry m lm
     earlier m lm is = elim (cases_eq n m) [
       | inl e ↦
-          let same : after ≡ lm = same_Some after lm (sym (get_set_same world.nodes n l after at) ∙ ap (slice_get (slice_set world.nodes n after)) e ∙ is) in
+          let same : after ≡ lm =
+          same_Some after lm (sym (get_set_same world.nodes n l after at) ∙ ap (slice_get (slice_set world.nodes n after)) e ∙ is) in
           subst (λ m. Earlier world n input entry m lm) e (subst (Earlier world n input entry n) same own)
       | inr ne ↦ record {
         old = lm;
@@ -208,19 +211,21 @@ module _ (program : Program) (nodes : ℕ) (options : OptionsRecord) where
         let eb : Earlier world n input entry b lb = earlier world flight n l after input entry at i h b lb at_b in
         let a_lt : a < nodes = subst (λ size. a < size) h.pending.taken.count (slice_get_within world.nodes a ea.old ea.at) in
         let b_lt : b < nodes = subst (λ size. b < size) h.pending.taken.count (slice_get_within world.nodes b eb.old eb.at) in
-        let flies : Contains (numbers_between a b (envelopes_in flight) ++ numbers_between a b entry.turn.out) k
+        let flying : List ℕ = numbers_between a b (envelopes_in flight) in
+        let new : List ℕ = numbers_between a b entry.turn.out in
+        let flies : Contains (flying ++ new) k
         → Contains (numbers_between a b (envelopes_in (flight ++ sent_by entry))) k =
         λ there. subst (λ ns. Contains ns k) (sym (between-sent a b flight entry)) there in
         elim (cases_lt k (options.first + slice_index ea.old.node.mail.sent b)) [
           | inl before ↦ elim (h.stay a b k ea.old eb.old ea.at eb.at ge before) [
             | inl there ↦ elim (comes_or world n input flight a b k comes there) [
-              | inl still ↦ inl (flies (Contains-append_left (numbers_between a b (envelopes_in flight)) (numbers_between a b entry.turn.out) k still))
+              | inl still ↦ inl (flies (Contains-append_left flying new k still))
               | inr it ↦ inr (eb.comes a k a_lt it)
             ]
             | inr was ↦ inr (eb.keeps a k was)
           ]
           | inr since ↦
-              inl (flies (Contains-append_right (numbers_between a b (envelopes_in flight)) (numbers_between a b entry.turn.out) k (ea.sends b k b_lt since below)))
+              inl (flies (Contains-append_right flying new k (ea.sends b k b_lt since below)))
         ];
   }
 

@@ -1,5 +1,6 @@
 -- In every run the numbers that a node has taken from another rise, each once, and are among those that were sent to it.
-use Rattle.std.proofs.Common.{◌≡◌, ℕ, zero, suc, ◌+◌, ◌<◌, ◌≤◌, List, [], ◌∷◌, Bool, true, false, length, refl, sym, ap, subst, ◌∙◌, inl, inr, arith}
+use Rattle.std.proofs.Common.{◌≡◌, ℕ, zero, suc, ◌+◌, ◌<◌, ◌≤◌, List, [], ◌∷◌, Bool, true, false, length, refl, sym, ap, subst}
+use Rattle.std.proofs.Common.{◌∙◌, inl, inr, arith}
 use Rattle.std.specs.Prelude.{Some, ◌==◌, nat_lt, cond, replicate, filter, slice_get, slice_set, slice_index, slice_index_or}
 use Rattle.std.specs.List.{list_any}
 use Rattle.std.proofs.lemmas.Bool.{cases_eq, eq-eqb, eqb-false, ltb-true, ltb-false, and_from, or_parts}
@@ -40,8 +41,9 @@ rises-placed x least bound (y ∷ xs) is new r =
     by_test true lt rest ne = let before : x < y = ltb-true x y lt in (is.0, is.1, (omega (arith, before), r.1, r.2))
     by_test false not_lt rest ne = let after : y ≤ x = ltb-false x y not_lt in (r.0, r.1, rest (omega (arith, after, ne)))
 
-rises-set : (t : List (List ℕ)) (k a x least bound : ℕ) → (k ≡ a → (least ≤ x) × (x < bound)) → list_any (λ y. y == x) (slice_index_or t k []) ≡ false
-    → Rises least bound (slice_index_or t a []) → Rises least bound (slice_index_or (slice_set t k (placed nat_lt x (slice_index_or t k []))) a [])
+rises-set : (t : List (List ℕ)) (k a x least bound : ℕ) → (k ≡ a → (least ≤ x) × (x < bound))
+    → list_any (λ y. y == x) (slice_index_or t k []) ≡ false → Rises least bound (slice_index_or t a [])
+    → Rises least bound (slice_index_or (slice_set t k (placed nat_lt x (slice_index_or t k []))) a [])
 rises-set [] k a x least bound is new r = r
 rises-set (y ∷ t) zero zero x least bound is new r = rises-placed x least bound y (is refl) new r
 rises-set (y ∷ t) zero (suc a) x least bound is new r = r
@@ -49,7 +51,8 @@ rises-set (y ∷ t) (suc k) zero x least bound is new r = r
 rises-set (y ∷ t) (suc k) (suc a) x least bound is new r = rises-set t k a x least bound (λ e. is (ap suc e)) new r
 
 -- a number that rises is within the bounds
-first_within : (c : Bool) (least bound x : ℕ) (rest : List ℕ) → c ≡ true → Rises least bound (cond c (x ∷ rest) rest) → (least ≤ x) × (x < bound)
+first_within : (c : Bool) (least bound x : ℕ) (rest : List ℕ) → c ≡ true → Rises least bound (cond c (x ∷ rest) rest)
+    → (least ≤ x) × (x < bound)
 first_within true least bound x rest e r = (r.0, r.1)
 first_within false least bound x rest e r = cc
 
@@ -75,7 +78,8 @@ in_flight (g ∷ flight) (suc place) f least bound at r =
 abbrev Came : World → ℕ → Input → Type 0
 Came world n run = Unit {0}
 Came world n (taken envelope) =
-    (least bound : ℕ) → Rises least bound (numbers_between envelope.from n (envelopes_in world.flight)) → (least ≤ envelope.number) × (envelope.number < bound)
+    (least bound : ℕ) → Rises least bound (numbers_between envelope.from n (envelopes_in world.flight))
+    → (least ≤ envelope.number) × (envelope.number < bound)
 
 came : (world : World) (n : ℕ) (input : Input) (flight : List Flying) → Comes world n input flight → Came world n input
 came world n _ _ named = tt
@@ -83,9 +87,9 @@ came world _ _ _ (delivered place {flying = f} at) = λ least bound r. in_flight
 came world _ _ _ (repeated place {flying = f} at) = λ least bound r. in_flight world.flight place f least bound at r
 
 -- the numbers taken after a turn rise within the bounds of those before and of the new one
-taken-rises : (world : World) (n : ℕ) (node : Node) (input : Input) (t : List (List ℕ)) (a least bound : ℕ) → Takes node input t → Came world n input
-    → Rises least bound (numbers_between a n (envelopes_in world.flight)) → Rises least bound (slice_index_or node.mail.taken a [])
-    → Rises least bound (slice_index_or t a [])
+taken-rises : (world : World) (n : ℕ) (node : Node) (input : Input) (t : List (List ℕ)) (a least bound : ℕ)
+    → Takes node input t → Came world n input → Rises least bound (numbers_between a n (envelopes_in world.flight))
+    → Rises least bound (slice_index_or node.mail.taken a []) → Rises least bound (slice_index_or t a [])
 taken-rises world n node _ _ a least bound by_itself c r h = h
 taken-rises world n node _ _ a least bound (repeats envelope again) c r h = h
 taken-rises world n node _ _ a least bound (anew envelope new) c r h =

@@ -1,6 +1,7 @@
 // What holds of every run, whatever its events. Each function is a theorem: its body is empty, and its clauses are the law.
 
-ghost use Rattle.std.specs.Prelude.{◌≡◌, ◌⊎◌, ℕ, ◌+◌, ◌<◌, ◌≤◌, true, false, Contains, List, Some, length, map, slice_get, slice_index, slice_index_or, []};
+ghost use Rattle.std.specs.Prelude.{◌≡◌, ◌⊎◌, ℕ, ◌+◌, ◌<◌, ◌≤◌, true, false, Contains, List, Some, [], length, map};
+ghost use Rattle.std.specs.Prelude.{slice_get, slice_index, slice_index_or};
 ghost use Rattle.lrc_lang.specs.declared.program.Program.{Program};
 ghost use Rattle.lrc_protocol.specs.declared.event.Event.{Event};
 ghost use Rattle.lrc_protocol.specs.Node.{OptionsRecord, nothing, grant, was_taken};
