@@ -1,6 +1,6 @@
 // What always holds of tokens. Each function is a law: its clauses are the statement, and there is nothing to do.
 
-ghost use Rattle.std.specs.Prelude.{◌≡◌, ◌≢◌, ◌↔◌, ℕ, ◌<◌, ◌≤◌, IsTrue, IsFalse, List, Some, None, length};
+ghost use Rattle.std.specs.Prelude.{◌≡◌, ◌≢◌, ◌↔◌, ℕ, ◌<◌, ◌≤◌, IsTrue, IsFalse, List, Option, Some, None, length};
 ghost use Rattle.lrc_lock.specs.declared.state.Pass.{Pass};
 ghost use Rattle.lrc_lock.specs.declared.state.Waiter.{Waiter};
 ghost use Rattle.lrc_lock.specs.declared.state.LockState.TheVariants.{Away, Awaited, Free, Held};
@@ -56,6 +56,9 @@ pub fn a_release_serves_the_successor()
         → released held lock now ≡ passes (pass_to lock waiter now) }
     ensures keeps { (held : HeldRecord) (lock : ℕ) (now : List ℕ)
         → lock_at held lock ≡ Held None → released held lock now ≡ stays (Free now) }
+    ensures only { (held : HeldRecord) (lock : ℕ) (now : List ℕ) (pass : Pass)
+        → released held lock now ≡ passes pass
+        → (waiter : Waiter) × (lock_at held lock ≡ Held (Some waiter)) × (pass ≡ pass_to lock waiter now) }
 {}
 
 /// A token comes by a grant alone, to a node that awaits it, and it goes by a pass alone.
@@ -73,6 +76,9 @@ pub fn a_token_comes_by_a_grant_and_goes_by_a_pass()
         → has_token (lock_at (taken held lock) lock) ≡ has_token (lock_at held lock) }
     ensures asked { (held : HeldRecord) (lock : ℕ) → lock_at held lock ≡ Away
         → IsFalse (has_token (lock_at (asked held lock) lock)) }
+    ensures awaited { (held : HeldRecord) (lock : ℕ) (next : LockState)
+        → granted held lock ≡ stays next
+        → (successor : Option Waiter) × (lock_at held lock ≡ Awaited successor) × (next ≡ Held successor) }
 {}
 
 /// A request goes on to whoever asked last before.

@@ -1,9 +1,11 @@
 -- What the text does next to a lock fits its token.
-use Rattle.std.proofs.Common.{◌≡◌, ℕ, true, false, sym, subst, ◌∙◌}
+use Rattle.std.proofs.Common.{◌≡◌, ℕ, true, false, refl, sym, subst, ◌∙◌}
 use Rattle.std.specs.Prelude.{Some}
 use Rattle.lrc_exec.specs.Meaning.{Thread, acquires, releases}
-use Rattle.lrc_lock.specs.Held.{HeldRecord, lock_at, is_held}
-use Rattle.lrc_protocol.specs.Node.{Course, Wait, grant}
+use Rattle.lrc_lock.specs.declared.state.LockState.{LockState}
+use Rattle.lrc_lock.specs.declared.state.LockState.TheVariants.{Away, Awaited, Free, Held}
+use Rattle.lrc_lock.specs.Held.{HeldRecord, lock_at, is_free, is_held}
+use Rattle.lrc_protocol.specs.Node.{Course, Wait, nothing, grant}
 use Rattle.lrc_order_laws.specs.Waiting.{next_in, acquiring}
 use Rattle.lrc_order_laws.specs.Tokens.{is_awaited, HoldsTokens, AwaitsOne}
 use Rattle.lrc_order_laws.proofs.Counts.{lock_next}
@@ -25,3 +27,15 @@ let_go c held lock after h n =
 
 pub granted_is_awaited : (w : Wait) (held : HeldRecord) (lock : ℕ) → AwaitsOne w held → w ≡ grant lock → is_awaited (lock_at held lock) ≡ true
 granted_is_awaited w held lock a e = awaits_it held lock (subst (λ w. AwaitsOne w held) e a)
+
+away_by : (s : LockState) → is_held s ≡ false → is_free s ≡ false → is_awaited s ≡ false → s ≡ Away
+away_by Away h f a = refl
+away_by (Awaited successor) h f a = cc
+away_by (Free kept) h f a = cc
+away_by (Held successor) h f a = cc
+
+-- a token that the text acquires next is away where it is not free, as long as nothing is awaited
+pub asked_is_away : (c : Course) (w : Wait) (held : HeldRecord) (lock : ℕ) → HoldsTokens c held → AwaitsOne w held → w ≡ nothing
+    → acquiring (next_in c) ≡ Some lock → is_free (lock_at held lock) ≡ false → lock_at held lock ≡ Away
+asked_is_away c w held lock h a e n f =
+    away_by (lock_at held lock) (acquired c held lock h n) f (subst (λ w. AwaitsOne w held) e a lock)

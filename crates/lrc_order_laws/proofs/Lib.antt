@@ -16,9 +16,10 @@ pub mod InFlight
 pub mod Rules
 pub mod Calls
 pub mod TakenNumbers
-pub mod TakenBelow
+pub mod TakenOnce
 pub mod TakenMessages
 pub mod Pending
+pub mod NoneLost
 pub mod LockMoves
 pub mod LockActs
 pub mod TokenSteps

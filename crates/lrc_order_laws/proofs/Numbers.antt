@@ -72,7 +72,7 @@ cond_rises : (c : Bool) (least bound x : ℕ) (rest other : List ℕ) → ((leas
 cond_rises true least bound x rest other h r = (r.0, r.1, h (x + 1) r.2)
 cond_rises false least bound x rest other h r = h least r
 
-cond_drops : (c : Bool) (least bound x : ℕ) (rest : List ℕ) → Rises least bound (cond c (x ∷ rest) rest) → Rises least bound rest
+pub cond_drops : (c : Bool) (least bound x : ℕ) (rest : List ℕ) → Rises least bound (cond c (x ∷ rest) rest) → Rises least bound rest
 cond_drops true least bound x rest r = let at_least : least ≤ x = r.0 in rises-lower (x + 1) least bound rest (omega (arith, at_least)) r.2
 cond_drops false least bound x rest r = r
 

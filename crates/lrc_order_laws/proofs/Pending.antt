@@ -30,7 +30,7 @@ use Rattle.lrc_order_laws.proofs.Shift.{AllFrom, Shifted, ShiftedIf, shifts}
 use Rattle.lrc_order_laws.proofs.Numbers.{envelopes_in, map_cond, rises-range, marks, sent-envelopes}
 use Rattle.lrc_order_laws.proofs.InFlight.{Sends}
 use Rattle.lrc_order_laws.proofs.TakenNumbers.{Takes, TakesIf, by_itself, repeats, anew, takes}
-use Rattle.lrc_order_laws.proofs.TakenBelow.{AllTaken, Before, before, taken-kept, taken-fresh}
+use Rattle.lrc_order_laws.proofs.TakenOnce.{AllTaken, Before, before, rises-below, taken-kept, taken-fresh}
 use Rattle.lrc_order_laws.proofs.TakenMessages.{is_taken_by, still, pending-is, filter-all, filter-same, filter-others, Same, Others, Split, splits}
 use Rattle.lrc_order_laws.proofs.TakenMessages.{others, own-taken, other-taken, nowhere-taken, repeat-same, repeat-other, repeat-itself, repeat-below}
 
@@ -162,7 +162,8 @@ module _ (program : Program) (nodes : ℕ) (options : OptionsRecord) where
           (rises-range (l.node.options.first + slice_index l.node.mail.sent x.to) g.more _ refl)) in
           let least : bound ≤ x.number = omega (arith, first, le) in
           let taken_less : Below bound (slice_index_or lb.node.mail.taken n []) =
-          b.takes_more n options.first bound (own.numbers x.to lt) (h.taken.below n x.to l b.old at b.at) in
+          rises-below options.first bound (slice_index_or lb.node.mail.taken n [])
+          (b.takes_more n options.first bound (own.numbers x.to lt) (h.taken.rises n x.to l b.old at b.at)) in
           own-taken (slice_set world.nodes n after) x.to lb x at_b refl
           ∙ repeat-below lb.node x bound least
           (subst (λ a. Below bound (slice_index_or lb.node.mail.taken a [])) (sym (from_at n entry.turn.out k x all_from is)) taken_less)

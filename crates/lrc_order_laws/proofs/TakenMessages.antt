@@ -207,7 +207,7 @@ placed-itself k (y ∷ xs) = by_test (placed-itself k xs) (nat_lt k y)
     by_test rest false = or_right (y == k) (has k (placed nat_lt k xs)) rest
 
 -- no message counts as taken with another's number
-taken-other : (t : List (List ℕ)) (a k from number : ℕ) → (a ≡ from → k ≡ number → ⊥)
+pub taken-other : (t : List (List ℕ)) (a k from number : ℕ) → (a ≡ from → k ≡ number → ⊥)
     → has number (slice_index_or (slice_set t a (placed nat_lt k (slice_index_or t a []))) from []) ≡ has number (slice_index_or t from [])
 taken-other [] a k from number ne = refl
 taken-other (y ∷ t) zero k zero number ne = placed-other k number y (ne refl)

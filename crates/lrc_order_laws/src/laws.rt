@@ -1,9 +1,10 @@
 // What holds of every run, whatever its events. Each function is a theorem: its body is empty, and its clauses are the law.
 
-ghost use Rattle.std.specs.Prelude.{◌≡◌, ℕ, ◌+◌, ◌<◌, true, false, List, Some, length, map, slice_get, slice_index, slice_index_or, []};
+ghost use Rattle.std.specs.Prelude.{◌≡◌, ◌⊎◌, ℕ, ◌+◌, ◌<◌, ◌≤◌, true, false, Contains, List, Some, [], length, map};
+ghost use Rattle.std.specs.Prelude.{slice_get, slice_index, slice_index_or};
 ghost use Rattle.lrc_lang.specs.declared.program.Program.{Program};
 ghost use Rattle.lrc_protocol.specs.declared.event.Event.{Event};
-ghost use Rattle.lrc_protocol.specs.Node.{OptionsRecord, grant};
+ghost use Rattle.lrc_protocol.specs.Node.{OptionsRecord, nothing, grant, was_taken};
 ghost use Rattle.lrc_protocol.specs.Run.{Logged, World, Flying, run_of};
 ghost use Rattle.lrc_exec.specs.Plain.{setting_of};
 ghost use Rattle.lrc_order_laws.specs.Shape.{HasShape};
@@ -11,7 +12,8 @@ ghost use Rattle.lrc_time.specs.Time.{entry};
 ghost use Rattle.lrc_plain_laws.specs.Follows.{deeds_of};
 ghost use Rattle.lrc_order_laws.specs.Counts.{closes, is_arrive, is_depart, count, awaits_acquire, is_inside};
 ghost use Rattle.lrc_exec.specs.Meaning.{Thread, releases};
-ghost use Rattle.lrc_lock.specs.Held.{lock_at, is_held};
+ghost use Rattle.lrc_lock.specs.declared.state.LockState.TheVariants.{Away};
+ghost use Rattle.lrc_lock.specs.Held.{lock_at, is_free, is_held};
 ghost use Rattle.lrc_order_laws.specs.Tokens.{is_awaited, HoldsTokens, AwaitsOne};
 ghost use Rattle.lrc_order_laws.specs.Present.{IsPresent};
 ghost use Rattle.lrc_clock.specs.Times.{time_at, time_before};
@@ -99,13 +101,18 @@ pub fn each_act_follows_its_rule()
         → FollowsRule node (time_before nodes world.acts world.times node j) deed (time_at world.times j) }
 {}
 
-/// In every run a node that acquires a lock next does not hold its token, one that releases a lock next holds its token, and
-/// one that waits for a grant awaits its token: no call on a lock at a node is refused for its state.
+/// In every run a node that acquires a lock next does not hold its token, and where it waits for nothing and the lock is not
+/// free here the token is away; one that releases a lock next holds its token, and one that waits for a grant awaits its
+/// token: no call on a lock that its text or a grant makes is refused for its state.
 pub fn locks_are_called_in_turn()
     ensures acquire { (program : Program) (nodes : ℕ) (options : OptionsRecord) (events : List Event) (world : World)
         (n : ℕ) (l : Logged) (lock : ℕ) → run_of program nodes options events ≡ Some world
         → slice_get world.nodes n ≡ Some l → acquiring (next_in l.node.course) ≡ Some lock
         → is_held (lock_at l.node.locks.held lock) ≡ false }
+    ensures ask { (program : Program) (nodes : ℕ) (options : OptionsRecord) (events : List Event) (world : World)
+        (n : ℕ) (l : Logged) (lock : ℕ) → run_of program nodes options events ≡ Some world
+        → slice_get world.nodes n ≡ Some l → l.node.mail.wait ≡ nothing → acquiring (next_in l.node.course) ≡ Some lock
+        → is_free (lock_at l.node.locks.held lock) ≡ false → lock_at l.node.locks.held lock ≡ Away }
     ensures release { (program : Program) (nodes : ℕ) (options : OptionsRecord) (events : List Event) (world : World)
         (n : ℕ) (l : Logged) (lock : ℕ) (after : Thread) → run_of program nodes options events ≡ Some world
         → slice_get world.nodes n ≡ Some l → next_in l.node.course ≡ Some (releases lock after)
@@ -117,10 +124,25 @@ pub fn locks_are_called_in_turn()
 {}
 
 /// In every run the numbers that a node has taken from another are all below the next one that the sender will give: what
-/// was taken was sent.
+/// was taken was sent. They stand in order, each once, and are from `first` on.
 pub fn messages_taken_were_sent()
-    ensures { (program : Program) (nodes : ℕ) (options : OptionsRecord) (events : List Event) (world : World)
+    ensures below { (program : Program) (nodes : ℕ) (options : OptionsRecord) (events : List Event) (world : World)
         (from to : ℕ) (sender receiver : Logged) → run_of program nodes options events ≡ Some world
         → slice_get world.nodes from ≡ Some sender → slice_get world.nodes to ≡ Some receiver
         → Below (options.first + slice_index sender.node.mail.sent to) (slice_index_or receiver.node.mail.taken from []) }
+    ensures once { (program : Program) (nodes : ℕ) (options : OptionsRecord) (events : List Event) (world : World)
+        (from to : ℕ) (sender receiver : Logged) → run_of program nodes options events ≡ Some world
+        → slice_get world.nodes from ≡ Some sender → slice_get world.nodes to ≡ Some receiver
+        → Rises options.first (options.first + slice_index sender.node.mail.sent to) (slice_index_or receiver.node.mail.taken from []) }
+{}
+
+/// In every run no message is lost: each number that a node has given to a message for another, from `first` on, is that of a
+/// message in flight between them, or was taken.
+pub fn messages_sent_are_in_flight_or_taken()
+    ensures { (program : Program) (nodes : ℕ) (options : OptionsRecord) (events : List Event) (world : World)
+        (from to number : ℕ) (sender receiver : Logged) → run_of program nodes options events ≡ Some world
+        → slice_get world.nodes from ≡ Some sender → slice_get world.nodes to ≡ Some receiver
+        → options.first ≤ number → number < options.first + slice_index sender.node.mail.sent to
+        → Contains (numbers_between from to (map (λ (flying : Flying). flying.envelope) world.flight)) number
+        ⊎ (was_taken receiver.node.mail from number ≡ true) }
 {}
