@@ -1,5 +1,5 @@
 -- A text has one answer: one list of events, or one first bad line, and never both.
-use Rattle.std.proofs.Common.{◌≡◌, ◌<◌, ◌≤◌, ◌∙◌, ◌+◌, ◌==◌, ℕ, zero, suc, List, [], ◌∷◌, ◌++◌, Result, Ok, Err, MatchResult, length}
+use Rattle.std.proofs.Common.{◌≡◌, ◌≤◌, ◌∙◌, ◌+◌, ◌==◌, ℕ, suc, List, [], ◌∷◌, ◌++◌, Result, Ok, Err, MatchResult, length}
 use Rattle.std.proofs.Common.{drop, get_or, cond, refl, sym, ap, ap₂, subst, inl, inr, arith}
 use Rattle.std.specs.Str.Parse.{digits_value}
 use Rattle.lrc_protocol.specs.declared.event.Event.{Event}
