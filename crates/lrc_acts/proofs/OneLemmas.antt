@@ -1,6 +1,6 @@
--- Lines say one list of acts.
-use Rattle.std.proofs.Common.{◌≡◌, ◌∙◌, ◌+◌, ◌*◌, ◌==◌, ℕ, List, [], ◌∷◌, Option, length, get_or, cond}
-use Rattle.std.proofs.Common.{refl, sym, ap, ap₂}
+-- A text has one answer: one list of acts, or one first bad line, and never both.
+use Rattle.std.proofs.Common.{◌≡◌, ◌∙◌, ◌+◌, ◌*◌, ◌==◌, ℕ, suc, List, [], ◌∷◌, ◌++◌, Option, Ok, Err, length, get_or, cond}
+use Rattle.std.proofs.Common.{refl, sym, subst, ap, ap₂, inl, inr, arith}
 use Rattle.std.specs.Str.Parse.{digits_value}
 use Rattle.lrc_trace.specs.declared.act.Act.{Act}
 use Rattle.lrc_trace.specs.declared.act.Cause.{Cause}
@@ -9,7 +9,10 @@ use Rattle.lrc_trace.specs.declared.act.Deed.{Deed}
 use Rattle.lrc_trace.specs.declared.act.Deed.TheVariants.{Quiet, Print, Read, Write, Acquire, Release, Arrive, Depart, Trap, End}
 use Rattle.lrc_trace.specs.Run.{act_of}
 use Rattle.lrc_text.specs.ActText.{cause_number}
-use Rattle.lrc_acts.specs.ActsText.{SayActs, SaysAct, SaysDeed, empty, more, none}
+use Rattle.lrc_text.specs.Lines.{lines_of}
+use Rattle.lrc_acts.specs.declared.reading.ActsFault.TheVariants.{BadAct}
+use Rattle.lrc_acts.specs.declared.reading.LinedActs.{LinedActs}
+use Rattle.lrc_acts.specs.ActsText.{SayActs, SaysAct, SaysDeed, IsBad, IsFirstBad, ReadsActs, empty, more, none}
 
 -- a number that tells the names of deeds apart: by the first byte and the length
 abbrev mark_of : List ℕ → ℕ
@@ -80,3 +83,62 @@ one (more s n) (empty e m) = absurd (let wrong : [] ≡ s.digits ∷ s.rest = sy
 one (more s n) (more t m) =
     let rest = one n m in
     (ap₂ (λ (x : Act) (xs : List Act). x ∷ xs) (sym (act_is _ _ s) ∙ act_is _ _ t) rest.0, same_front rest.1)
+
+-- ---- one first bad line
+
+-- lines that say acts have no bad line
+no_bad : {nodes : Option ℕ} (number : ℕ) (before : List (List ℕ)) (line : List ℕ) (after : List (List ℕ)) {acts : List Act} {numbers : List ℕ}
+    → IsBad nodes line → SayActs nodes number (before ++ line ∷ after) acts numbers → ⊥
+no_bad number [] line after bad (empty e n) = bad.some e
+no_bad number [] line after bad (more s n) = bad.nameless _ s
+no_bad number (first ∷ before) line after bad (empty e n) = no_bad (number + 1) before line after bad n
+no_bad number (first ∷ before) line after bad (more s n) = no_bad (number + 1) before line after bad n
+
+others_say : {nodes : Option ℕ} {number : ℕ} {line : List ℕ} {lines : List (List ℕ)} {acts : List Act} {numbers : List ℕ}
+    → SayActs nodes number (line ∷ lines) acts numbers → (rest : List Act) × (places : List ℕ) × SayActs nodes (number + 1) lines rest places
+others_say (empty e n) = (_, _, n)
+others_say (more s n) = (_, _, n)
+
+-- two bad lines with none before them stand at one place
+one_place : (nodes : Option ℕ) (number : ℕ) (before befores : List (List ℕ)) (line other : List ℕ) (after afters : List (List ℕ))
+    {acts others : List Act} {numbers places : List ℕ} → before ++ line ∷ after ≡ befores ++ other ∷ afters
+    → SayActs nodes number before acts numbers → SayActs nodes number befores others places → IsBad nodes line → IsBad nodes other
+    → length before ≡ length befores
+one_place nodes number [] [] line other after afters e n m bad worse = refl
+one_place nodes number [] (first ∷ befores) line other after afters {others = others} {places = places} e n m bad worse =
+    let same : first ≡ line = cc in
+    absurd (no_bad number [] line befores bad (subst (λ (l : List ℕ). SayActs nodes number (l ∷ befores) others places) same m))
+one_place nodes number (first ∷ before) [] line other after afters {acts = acts} {numbers = numbers} e n m bad worse =
+    let same : first ≡ other = cc in
+    absurd (no_bad number [] other before worse (subst (λ (l : List ℕ). SayActs nodes number (l ∷ before) acts numbers) same n))
+one_place nodes number (first ∷ before) (second ∷ befores) line other after afters e n m bad worse =
+    let rest : before ++ line ∷ after ≡ befores ++ other ∷ afters = cc in
+    let (some, at, n') = others_say n in
+    let (more_acts, places, m') = others_say m in
+    ap suc (one_place nodes (number + 1) before befores line other after afters rest n' m' bad worse)
+
+one_first_bad : (nodes : Option ℕ) (lines : List (List ℕ)) (number other : ℕ) → IsFirstBad nodes lines number → IsFirstBad nodes lines other → number ≡ other
+one_first_bad nodes lines number other a b =
+    let (acts, numbers, good) = a.good in
+    let (others, places, fine) = b.good in
+    let same = one_place nodes 1 a.before b.before a.line b.line a.after b.after (sym a.whole ∙ b.whole) good fine a.bad b.bad in
+    a.counted ∙ ap (λ n. n + 1) same ∙ sym b.counted
+
+-- ---- one answer of a text
+
+pub one_list : (nodes : Option ℕ) (text : List ℕ) (lined others : LinedActs) → ReadsActs nodes text (Ok lined) → ReadsActs nodes text (Ok others)
+    → (lined.acts.items ≡ others.acts.items) × (lined.lines.items ≡ others.lines.items)
+one_list nodes text lined others a b = one a.1 b.1
+
+pub not_both : (nodes : Option ℕ) (text : List ℕ) (lined : LinedActs) (line : ℕ) → ReadsActs nodes text (Ok lined)
+    → ReadsActs nodes text (Err (BadAct line)) → ⊥
+not_both nodes text lined line a (inl long) = omega (arith, a.0, long.0)
+not_both nodes text lined line a (inr short) =
+    no_bad 1 short.1.before short.1.line short.1.after short.1.bad (subst (λ (lines : List (List ℕ)). SayActs nodes 1 lines lined.acts.items lined.lines.items) short.1.whole a.1)
+
+pub one_bad_line : (nodes : Option ℕ) (text : List ℕ) (line other : ℕ) → ReadsActs nodes text (Err (BadAct line))
+    → ReadsActs nodes text (Err (BadAct other)) → line ≡ other
+one_bad_line nodes text line other (inl a) (inl b) = a.1 ∙ sym b.1
+one_bad_line nodes text line other (inl a) (inr b) = absurd (omega (arith, a.0, b.0))
+one_bad_line nodes text line other (inr a) (inl b) = absurd (omega (arith, a.0, b.0))
+one_bad_line nodes text line other (inr a) (inr b) = one_first_bad nodes (lines_of text) line other a.1 b.1

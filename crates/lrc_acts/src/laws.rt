@@ -1,5 +1,9 @@
 // Laws of the text of acts.
 
+ghost use Rattle.std.specs.Prelude.{◌≡◌, ℕ, List, Option, Ok, Err};
+ghost use Rattle.lrc_acts.specs.declared.reading.ActsFault.TheVariants.{BadAct};
+ghost use Rattle.lrc_acts.specs.declared.reading.LinedActs.{LinedActs};
+ghost use Rattle.lrc_acts.specs.ActsText.{ReadsActs};
 ghost use Rattle.lrc_acts.specs.Printed.{PrintedIsRead, SaysOne};
 
 /// What is printed of acts is read as these acts.
@@ -10,4 +14,15 @@ pub fn printed_is_read()
 /// A text says one list of acts.
 pub fn says_one()
     ensures { SaysOne }
+{}
+
+/// No text says two lists of acts, or acts on two lists of lines, none has two first bad lines, and none has one and says acts.
+pub fn texts_of_acts_have_one_answer()
+    ensures acts { (nodes : Option ℕ) (text : List ℕ) (lined others : LinedActs) → ReadsActs nodes text (Ok lined)
+        → ReadsActs nodes text (Ok others)
+        → (lined.acts.items ≡ others.acts.items) × (lined.lines.items ≡ others.lines.items) }
+    ensures never_both { (nodes : Option ℕ) (text : List ℕ) (lined : LinedActs) (line : ℕ)
+        → ReadsActs nodes text (Ok lined) → ReadsActs nodes text (Err (BadAct line)) → ⊥ }
+    ensures line { (nodes : Option ℕ) (text : List ℕ) (line other : ℕ) → ReadsActs nodes text (Err (BadAct line))
+        → ReadsActs nodes text (Err (BadAct other)) → line ≡ other }
 {}

@@ -1,1 +1,2 @@
+pub mod OneLemmas
 pub mod Written

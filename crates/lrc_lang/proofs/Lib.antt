@@ -16,6 +16,7 @@ pub mod OneAnswer
 pub mod Options
 pub mod Reaching
 pub mod Reading
+pub mod Shared
 pub mod Sizes
 pub mod Stages
 pub mod StatementSteps

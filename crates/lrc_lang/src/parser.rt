@@ -123,9 +123,11 @@ pub fn tokens_are_of_one_program()
         IsProgram p tokens → IsProgram q tokens → p ≡ q }
 {}
 
-/// The program of a text takes at most 32 private names, its blocks lie at most 32 deep in one another, and none of
-/// its expressions has more than 256 operators.
+/// The program of a text takes at most 32 private names, its blocks lie at most 32 deep in one another, none of its
+/// expressions has more than 256 operators, and it has 1 to 65,536 words of shared memory and at most 64 locks.
 pub fn texts_are_within_the_limits()
-    ensures { (text : List ℕ) (p : ProgramTree) → IsText text p → (names_in p.statements ≤ 32)
+    ensures sizes { (text : List ℕ) (p : ProgramTree) → IsText text p → (names_in p.statements ≤ 32)
         × (depth_of p.statements ≤ 32) × (most_operators p.statements ≤ 256) }
+    ensures shared { (text : List ℕ) (p : ProgramTree) → IsText text p →
+        (1 ≤ p.words) × (p.words ≤ 65536) × (p.locks ≤ 64) }
 {}

@@ -3,7 +3,7 @@ use Rattle.std.proofs.Common.{◌≡◌, ℕ, zero, suc, ◌+◌, ◌<◌, ◌�
 use Rattle.std.proofs.Common.{take, sym, subst, ◌∙◌, ap, refl, arith, eq-eqb, add-zero, ◌∷◌, [], ◌-◌, cond}
 use Rattle.std.specs.Prelude.{IsTrue, ◌==◌, ◌↔◌}
 use Rattle.std.proofs.lemmas.Bool.{cases_Bool, cases_eq, cases_lt, both_ways, false≢true, and_parts, and_from, eqb-true}
-use Rattle.std.proofs.lemmas.List.{take-take}
+use Rattle.std.proofs.lemmas.List.{take-take, take_all}
 use Rattle.std.proofs.lemmas.List.Sums.{sum_by-take-le, count_by_more_yes, count_by_more_no}
 use Rattle.std.proofs.lemmas.Option.{get_or_from_slice_get}
 use Rattle.lrc_trace.specs.declared.act.Act.{Act}
@@ -77,6 +77,43 @@ none_then_same run node i j lt in_run none =
     let e : i + (j - i) ≡ j = omega arith in
     let h = stays run node i (j - i) (omega arith) (λ k d le lt'. none k d le (omega arith)) in
     ap (λ n. 1 + n) (sym h ∙ ap (λ k. count_of closes node (take k run)) e)
+
+-- behind the end of the run nothing stands, so the count stays there
+behind_the_end : (run : List Act) (node j : ℕ) → length run ≤ j → interval_at run node j ≡ interval_at run node (length run)
+behind_the_end run node j long =
+    ap (λ acts. 1 + count_of closes node acts) (take_all j run long ∙ sym (take_all (length run) run (omega arith)))
+
+none_within : (run : List Act) (node i j : ℕ) → i ≤ j → j ≤ length run
+    → ((k : ℕ) (d : Deed) → i ≤ k → k < j → Does run k node d → IsTrue (closes d) → ⊥) → interval_at run node i ≡ interval_at run node j
+none_within run node i j le in_run none =
+    elim (cases_lt i j) [
+      | inl before ↦ none_then_same run node i j before in_run none
+      | inr not_before ↦ let same : i ≡ j = omega arith in ap (interval_at run node) same
+    ]
+
+none_anywhere : (run : List Act) (node i j : ℕ) → i ≤ j
+    → ((k : ℕ) (d : Deed) → i ≤ k → k < j → Does run k node d → IsTrue (closes d) → ⊥) → interval_at run node i ≡ interval_at run node j
+none_anywhere run node i j le none =
+    elim (cases_lt j (length run)) [
+      | inl inside ↦ none_within run node i j le (omega arith) none
+      | inr outside ↦
+          elim (cases_lt i (length run)) [
+            | inl starts_inside ↦
+                none_within run node i (length run) (omega arith) (omega arith) (λ k d least most. none k d least (omega arith))
+                ∙ sym (behind_the_end run node j (omega arith))
+            | inr starts_outside ↦ behind_the_end run node i (omega arith) ∙ sym (behind_the_end run node j (omega arith))
+          ]
+    ]
+
+-- a node is in one interval at two positions exactly where no closing act of it stands between
+pub same_without_close : (run : List Act) (node i j : ℕ) → i ≤ j
+    → (interval_at run node i ≡ interval_at run node j) ↔ ((k : ℕ) (d : Deed) → i ≤ k → k < j → Does run k node d → IsTrue (closes d) → ⊥)
+same_without_close run node i j le = (same_then_none run node i j, none_anywhere run node i j le)
+
+-- and behind a closing act of it it is in the next
+pub next_behind_close : (run : List Act) (node i : ℕ) (d : Deed) → Does run i node d → IsTrue (closes d)
+    → interval_at run node (i + 1) ≡ interval_at run node i + 1
+next_behind_close run node i d does closing = let more = count_of-more closes run node i d does closing in omega arith
 
 Accesses-within : {run : List Act} {i node word : ℕ} → Accesses run i node word → i < length run
 Accesses-within (inl (value, h)) = Does-within h

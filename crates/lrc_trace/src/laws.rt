@@ -1,6 +1,6 @@
 // Laws of the definitions on runs, and of what a trace notes. Each function is a theorem: its body is empty, and its clause is the law.
 
-ghost use Rattle.std.specs.Prelude.{◌≡◌, ◌≢◌, ℕ, ◌<◌, ◌≤◌, ◌++◌, ◌↔◌, ◌⊎◌, List, [], ◌∷◌, Bool, false, IsTrue, length};
+ghost use Rattle.std.specs.Prelude.{◌≡◌, ◌≢◌, ℕ, ◌<◌, ◌≤◌, ◌+◌, ◌++◌, ◌↔◌, ◌⊎◌, List, [], ◌∷◌, Bool, false, IsTrue, length};
 ghost use Rattle.lrc_trace.specs.declared.act.Act.{Act};
 ghost use Rattle.lrc_trace.specs.declared.act.Deed.{Deed};
 ghost use Rattle.lrc_trace.specs.declared.act.Deed.TheVariants.{Read};
@@ -59,6 +59,16 @@ pub fn same_interval_has_no_close_between()
     ensures { (run : List Act) (node i j v w : ℕ) → i < j → Accesses run i node v → Accesses run j node w
         → ((interval_at run node i ≡ interval_at run node j)
         ↔ ((k : ℕ) (d : Deed) → i ≤ k → k < j → Does run k node d → IsTrue (closes d) → ⊥)) }
+{}
+
+/// A node is in the same interval at two positions exactly where no acquire, release or arrive of it stands from the first
+/// on and before the second, and behind each of these it is in the next one.
+pub fn intervals_rise_at_closes()
+    ensures same { (run : List Act) (node i j : ℕ) → i ≤ j
+        → ((interval_at run node i ≡ interval_at run node j)
+        ↔ ((k : ℕ) (d : Deed) → i ≤ k → k < j → Does run k node d → IsTrue (closes d) → ⊥)) }
+    ensures next { (run : List Act) (node i : ℕ) (d : Deed) → Does run i node d → IsTrue (closes d)
+        → interval_at run node (i + 1) ≡ interval_at run node i + 1 }
 {}
 
 /// Intervals, holders of locks, races, and what a read may give, are on a prefix what they are on the whole run.
