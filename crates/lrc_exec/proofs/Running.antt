@@ -15,8 +15,9 @@ use Rattle.lrc_exec.specs.declared.cursor.Cursor.TheInside.{Inside}
 use Rattle.lrc_exec.specs.Meaning.{Thread, Next, or_trap, if_below, value_in, traps, block, holds, then_does}
 use Rattle.lrc_exec.specs.Meaning.{then_keeps, then_holds, chosen, next_of_statement, first_act, next_of, ends}
 use Rattle.lrc_exec.specs.Ask.{TakesAnswer, ask_of, done, answered}
-use Rattle.lrc_exec.specs.Condition.{first_is_met, condition_holds}
+use Rattle.lrc_exec.specs.Condition.{first_is_met, condition_holds, value_is_met}
 use Rattle.lrc_exec.specs.Flat.{rest_at, where_it_holds, where_it_fails, IsSoundAt}
+use Rattle.lrc_exec.specs.Places.{place_after, place_led_by, place_led_to}
 use Rattle.lrc_exec.specs.Running.{machine_thread, IsRunning}
 use Rattle.lrc_exec.specs.Wish.{Completes}
 use Rattle.lrc_exec.proofs.Flat.{if_made, while_made, rest_at-end, rest_at-instruction}
@@ -187,6 +188,35 @@ module _ (value : ℕ) (thread : Thread) (rest : List Statement) where
   other_done (If' e p a q b) stays not_assign not_read not_acquire not_release not_if not_while goes = absurd (not_if e _ _ (if_made e p a q b))
   other_done (While' e p a) stays not_assign not_read not_acquire not_release not_if not_while goes = absurd (not_while e _ (while_made e p a))
 
+-- where a condition of a value leads
+chosen_met : (n : ℕ) (first second : ℕ) → (if value_is_met (Some n) then first else second) ≡ chosen n first second
+chosen_met zero first second = refl
+chosen_met (suc n) first second = refl
+
+met_place : (o : Option ℕ) (n first second : ℕ) → o ≡ Some n → (if value_is_met o then first else second) ≡ chosen n first second
+met_place o n first second is = ap (λ x. if value_is_met x then first else second) is ∙ chosen_met n first second
+
+if_place : (thread : Thread) (i : Instruction) (e : Expression) (a b : _) (n : ℕ) → value_in thread e ≡ Some n
+    → place_led_to thread i (If e a b) ≡ chosen n i.then i.otherwise
+if_place thread i e a b n is = met_place (value_in thread e) n i.then i.otherwise is
+
+while_place : (thread : Thread) (i : Instruction) (e : Expression) (a : _) (n : ℕ) → value_in thread e ≡ Some n
+    → place_led_to thread i (While e a) ≡ chosen n i.then i.otherwise
+while_place thread i e a n is = met_place (value_in thread e) n i.then i.otherwise is
+
+-- a statement that is no condition leads to the next place
+other_place : (thread : Thread) (i : Instruction) (s : Statement) → ((e : _) (a b : _) → s ≡ If e a b → ⊥) → ((e : _) (a : _) → s ≡ While e a → ⊥)
+    → place_led_to thread i s ≡ i.next
+other_place thread i (Assign n e) not_if not_while = refl
+other_place thread i (Read n e) not_if not_while = refl
+other_place thread i (Write w e) not_if not_while = refl
+other_place thread i (Acquire e) not_if not_while = refl
+other_place thread i (Release e) not_if not_while = refl
+other_place thread i Barrier not_if not_while = refl
+other_place thread i (Print e) not_if not_while = refl
+other_place thread i (If' e p a q b) not_if not_while = absurd (not_if e _ _ (if_made e p a q b))
+other_place thread i (While' e p a) not_if not_while = absurd (not_while e _ (while_made e p a))
+
 -- a machine elsewhere in its code, with other private values and locks
 abbrev pub moved : Inside → (place : ℕ) → List ℕ → List Bool → Inside
 moved m place privates held = record m { place = place; privates = privates; held = held }
@@ -262,6 +292,28 @@ module _ (m : Inside) (thread : Thread) (d : Instruction) (k : ℕ) (view : mach
   pub chosen_within : (v : ℕ) → chosen v (get_or m.code.now k d).then (get_or m.code.now k d).otherwise ≤ length m.code.now
   chosen_within zero = otherwise_within
   chosen_within (suc v) = then_within
+
+  -- the place to which the instruction's statement leads
+  pub placed-at : (s : Statement) → (get_or m.code.now k d).statement.now ≡ s
+      → place_after thread m.code.now m.place ≡ place_led_to thread (get_or m.code.now k d) s
+  placed-at s is_s =
+      let place_is : m.place ≡ suc k = omega arith in
+      ap (place_after thread m.code.now) place_is ∙ ap (place_led_by thread) at_index ∙ ap (place_led_to thread (get_or m.code.now k d)) is_s
+
+  pub other_placed : ((e : _) (a b : _) → (get_or m.code.now k d).statement.now ≡ If e a b → ⊥)
+      → ((e : _) (a : _) → (get_or m.code.now k d).statement.now ≡ While e a → ⊥) → (get_or m.code.now k d).next ≡ place_after thread m.code.now m.place
+  other_placed not_if not_while =
+      let i = get_or m.code.now k d in sym (placed-at i.statement.now refl ∙ other_place thread i i.statement.now not_if not_while)
+
+  pub if_placed : (number place : ℕ) (e : Expression) (a b : _) → (get_or m.code.now k d).statement.now ≡ If e a b → value_in thread e ≡ Some number
+      → place ≡ chosen number (get_or m.code.now k d).then (get_or m.code.now k d).otherwise → place ≡ place_after thread m.code.now m.place
+  if_placed number place e a b is_s number_is place_is =
+      place_is ∙ sym (placed-at (If e a b) is_s ∙ if_place thread (get_or m.code.now k d) e a b number number_is)
+
+  pub while_placed : (number place : ℕ) (e : Expression) (a : _) → (get_or m.code.now k d).statement.now ≡ While e a → value_in thread e ≡ Some number
+      → place ≡ chosen number (get_or m.code.now k d).then (get_or m.code.now k d).otherwise → place ≡ place_after thread m.code.now m.place
+  while_placed number place e a is_s number_is place_is =
+      place_is ∙ sym (placed-at (While e a) is_s ∙ while_place thread (get_or m.code.now k d) e a number number_is)
 
   -- what the instruction's statement needs first has a value, and its lock is among the 64 that the machine knows
   goes_at : (s : Statement) → (get_or m.code.now k d).statement.now ≡ s → GoesOn (next_of thread)

@@ -3,6 +3,7 @@ pub mod Condition
 pub mod Flat
 pub mod Meaning
 pub mod Nodes
+pub mod Places
 pub mod Plain
 pub mod PlainCode
 pub mod Rounds
