@@ -1,0 +1,289 @@
+-- For whom a node is said to wait, and who is said to keep it back.
+use Rattle.std.proofs.Common.{◌≡◌, ◌∙◌, ◌↔◌, ◌⊎◌, ◌≤◌, ◌<◌, ◌+◌, ℕ, zero, suc, inl, inr, Bool, true, false, Contains, List, [], ◌∷◌, ◌++◌, Option, Some, None, length, map, refl, sym, ap, subst, arith}
+use Rattle.std.specs.Prelude.{◌==◌, ◌&&◌, not, nat_lt, slice_index_or}
+use Rattle.std.specs.List.{enumerate_from, flat_map, range_with_len}
+use Rattle.std.proofs.lemmas.Bool.{and_from, and_parts, cases_eq, eqb-false, false_from_ne_true, lt-ltb, ltb-true, ne_eqb, not-true, not_from_false}
+use Rattle.std.proofs.lemmas.List.Concat.{flat_map_single}
+use Rattle.std.proofs.lemmas.List.Elements.{Contains-append_cases, Contains-append_left, Contains-append_right}
+use Rattle.std.proofs.lemmas.List.FromFn.{get_or-map-range_with_len}
+use Rattle.std.proofs.lemmas.Option.{same_Some}
+use Rattle.lrc_lang.specs.declared.program.Program.{Program}
+use Rattle.lrc_trace.specs.declared.act.Act.{Act}
+use Rattle.lrc_trace.specs.Run.{count_of, is_arrive, is_depart}
+use Rattle.lrc_trace.specs.Synchronization.{Holds, IsWellSynchronized}
+use Rattle.lrc_exec.specs.declared.machine.Ask.{Ask}
+use Rattle.lrc_exec.specs.declared.machine.Ask.TheVariants as asks
+use Rattle.lrc_lines.specs.Walks.{act_lines}
+use Rattle.lrc_stuck.specs.declared.holder.Holder.{Holder}
+use Rattle.lrc_stuck.specs.declared.missing.Missing.{Missing}
+use Rattle.lrc_stuck.specs.declared.stand.Coming.{Coming}
+use Rattle.lrc_stuck.specs.declared.stand.Fate.{Fate}
+use Rattle.lrc_stuck.specs.declared.stand.Fate.TheVariants.{Ended, Trapped, Unfinished}
+use Rattle.lrc_stuck.specs.declared.stand.Stand.{Stand}
+use Rattle.lrc_stuck.specs.Circle.{WaitsFor}
+use Rattle.lrc_stuck.specs.Circles.{waits_as, waits_by, waits_for, waits_next, waits_of}
+use Rattle.lrc_stuck.specs.Holder.{holder_of}
+use Rattle.lrc_stuck.specs.Missing.{first_of, has_not_come, missing_if, missing_nodes}
+use Rattle.lrc_stuck.specs.Stand.{ask_behind, fate_of, stand_of, stands_of}
+use Rattle.lrc_explain.specs.Waiting.{AwaitsHolder, AwaitsLowest, IsMissing, IsNext, KeepsBack, departs_in}
+use Rattle.lrc_explain.proofs.Fates.{unfinished_is}
+use Rattle.lrc_explain.proofs.Held.{holds_whole, told_whole}
+use Rattle.lrc_explain.proofs.Spent.{all_acts, coming_if, left_is, spent_for}
+
+-- what stands for each of so many items that are made from their positions
+each_range : {X Y : Type 0} (of : ℕ → X → List Y) (f : ℕ → X) (a n : ℕ)
+    → flat_map (λ (at : ℕ × X). of at.0 at.1) (enumerate_from a (map f (range_with_len a n))) ≡ flat_map (λ k. of k (f k)) (range_with_len a n)
+each_range of f a zero = refl
+each_range of f a (suc n) = ap (λ l. of a (f a) ++ l) (each_range of f (a + 1) n)
+
+-- ---- those that are missing, of nodes of which some are
+
+record Among (test : ℕ → Bool) (f : ℕ → Stand) (a n : ℕ) (m : Missing) : Type 0 where
+  low : a ≤ m.node
+  high : m.node < a + n
+  passes : test m.node ≡ true
+  fate : m.fate ≡ (f m.node).fate
+
+record Only (t : Bool) (k : ℕ) (stand : Stand) (m : Missing) : Type 0 where
+  yes' : t ≡ true
+  node : k ≡ m.node
+  fate : m.fate ≡ stand.fate
+
+only : (t : Bool) (k : ℕ) (stand : Stand) (m : Missing) → Contains (missing_if t k stand) m → Only t k stand m
+only true k stand m (zero, lt, is) = record { yes' = refl; node = ap (λ (x : Missing). x.node) is; fate = sym (ap (λ (x : Missing). x.fate) is) }
+only true k stand m (suc i, lt, is) = absurd (omega (arith, lt))
+only false k stand m (i, lt, is) = absurd (omega (arith, lt))
+
+missing_same : {node node' : ℕ} {fate fate' : Fate} → node ≡ node' → fate ≡ fate'
+    → ◌≡◌ {A = Missing} (record { node = node; fate = fate }) (record { node = node'; fate = fate' })
+missing_same a b = cc
+
+made : (t : Bool) (k : ℕ) (stand : Stand) (m : Missing) → Only t k stand m → Contains (missing_if t k stand) m
+made true k stand m o = (0, omega arith, missing_same o.node (sym o.fate))
+made false k stand m o = let e = o.yes' in let never : ⊥ = cc in absurd never
+
+module _ (test : ℕ → Bool) (f : ℕ → Stand) where
+  abbrev those : ℕ → ℕ → List Missing
+  those a n = flat_map (λ k. missing_if (test k) k (f k)) (range_with_len a n)
+
+  among : (a n : ℕ) (m : Missing) → Contains (those a n) m → Among test f a n m
+  among a zero m (i, lt, is) = absurd (omega (arith, lt))
+  among a (suc n) m inside =
+      elim (Contains-append_cases (missing_if (test a) a (f a)) (those (a + 1) n) m inside) [
+        | inl here ↦
+            let o = only (test a) a (f a) m here in
+            let at = o.node in
+            record {
+              low = omega arith;
+              high = omega arith;
+              passes = ap test (sym at) ∙ o.yes';
+              fate = o.fate ∙ ap (λ k. (f k).fate) at;
+            }
+        | inr later ↦
+            let rest = among (a + 1) n m later in
+            let low = rest.low in
+            let high = rest.high in
+            record { low = omega arith; high = omega arith; passes = rest.passes; fate = rest.fate }
+      ]
+
+  within : (a n : ℕ) (m : Missing) → Among test f a n m → Contains (those a n) m
+  within a zero m at = let low = at.low in let high = at.high in absurd (omega arith)
+  within a (suc n) m at =
+      let low = at.low in
+      let high = at.high in
+      elim (cases_eq a m.node) [
+        | inl same ↦
+            Contains-append_left (missing_if (test a) a (f a)) (those (a + 1) n) m
+            (made (test a) a (f a) m (record { yes' = ap test same ∙ at.passes; node = same; fate = at.fate ∙ ap (λ k. (f k).fate) (sym same) }))
+        | inr other ↦
+            Contains-append_right (missing_if (test a) a (f a)) (those (a + 1) n) m
+            (within (a + 1) n m (record { low = omega (arith, other); high = omega arith; passes = at.passes; fate = at.fate }))
+      ]
+
+  -- the lowest of them
+  record First (a n q : ℕ) : Type 0 where
+    low : a ≤ q
+    high : q < a + n
+    passes : test q ≡ true
+    before : (k : ℕ) → a ≤ k → k < q → test k ≡ false
+
+  first_by : (a n q : ℕ) (t : Bool) → test a ≡ t → (first_of (those (a + 1) n) ≡ Some q → First (a + 1) n q)
+      → first_of (missing_if t a (f a) ++ those (a + 1) n) ≡ Some q → First a (suc n) q
+  first_by a n q true is more found =
+      let same : a ≡ q = same_Some a q found in
+      record { low = omega arith; high = omega arith; passes = ap test (sym same) ∙ is; before = λ k le lt. absurd (omega arith) }
+  first_by a n q false is more found =
+      let rest = more found in
+      let low = rest.low in
+      let high = rest.high in
+      record {
+        low = omega arith;
+        high = omega arith;
+        passes = rest.passes;
+        before = λ k le lt. elim (cases_eq k a) [ inl same ↦ ap test same ∙ is | inr other ↦ rest.before k (omega (arith, other)) lt ];
+      }
+
+  first_is : (a n q : ℕ) → first_of (those a n) ≡ Some q → First a n q
+  first_is a zero q found = let never : ⊥ = cc in absurd never
+  first_is a (suc n) q found = first_by a n q (test a) refl (first_is (a + 1) n q) found
+
+  is_first : (a n q : ℕ) → First a n q → first_of (those a n) ≡ Some q
+  is_first a zero q at = let low = at.low in let high = at.high in absurd (omega arith)
+  is_first a (suc n) q at =
+      let low = at.low in
+      let high = at.high in
+      elim (cases_eq a q) [
+        | inl same ↦
+            ap (λ t. first_of (missing_if t a (f a) ++ those (a + 1) n)) (ap test same ∙ at.passes) ∙ ap Some same
+        | inr other ↦
+            ap (λ t. first_of (missing_if t a (f a) ++ those (a + 1) n)) (at.before a (omega arith) (omega (arith, other)))
+            ∙ is_first (a + 1) n q (record {
+              low = omega (arith, other);
+              high = omega arith;
+              passes = at.passes;
+              before = λ k le lt. at.before k (omega arith) lt;
+            })
+      ]
+
+-- ---- a node after acts
+
+-- whether a node has not come to the next barrier of another one
+abbrev late : List Act → (node other : ℕ) → Bool
+late run node other = not (other == node) && nat_lt (count_of is_arrive other run) (departs_in run node + 1)
+
+late_is : (run : List Act) (node other : ℕ) → (late run node other ≡ true) ↔ KeepsBack run node other
+late_is run node other =
+    let arrived = ap (count_of is_arrive other) (all_acts run) in (
+      (λ e.
+          let (apart, few) = and_parts (not (other == node)) (nat_lt (count_of is_arrive other run) (departs_in run node + 1)) e in
+          let lt = ltb-true (count_of is_arrive other run) (departs_in run node + 1) few in
+          record { another = eqb-false other node (not-true (other == node) apart); late = omega (arith, arrived, lt) }),
+      λ back.
+          let le = back.late in
+          and_from (not (other == node)) (nat_lt (count_of is_arrive other run) (departs_in run node + 1))
+          (not_from_false (other == node) (ne_eqb other node back.another))
+          (lt-ltb (count_of is_arrive other run) (departs_in run node + 1) (omega (arith, arrived, le))),
+    )
+
+module _ (program : Program) (nodes : ℕ) (lines : List ℕ) (steps : Option ℕ) (run : List Act) where
+  abbrev stands : List Stand
+  stands = stands_of program nodes lines steps run
+
+  abbrev at : ℕ → Stand
+  at = stand_of program nodes lines steps run
+
+  missing_are : (node : ℕ) → missing_nodes (departs_in run node + 1) node stands ≡ those (late run node) at 0 nodes
+  missing_are node =
+      each_range (λ k stand. missing_if (has_not_come (departs_in run node + 1) node k stand) k stand) at 0 nodes
+
+  pub missing_is : (node : ℕ) (missing : Missing)
+      → Contains (missing_nodes (departs_in run node + 1) node stands) missing ↔ IsMissing nodes run node missing
+  missing_is node missing = (
+    (λ inside.
+        let m = among (late run node) at 0 nodes missing (subst (λ l. Contains l missing) (missing_are node) inside) in
+        let high = m.high in
+        record { inside = omega arith; back = (late_is run node missing.node).0 m.passes; fate = m.fate }),
+    λ m.
+        let inside = m.inside in
+        subst (λ l. Contains l missing) (sym (missing_are node))
+        (within (late run node) at 0 nodes missing
+        (record { low = omega arith; high = omega arith; passes = (late_is run node missing.node).1 m.back; fate = m.fate })),
+  )
+
+  -- ---- for whom it waits
+
+  waits_are : (node : ℕ) → node < nodes → slice_index_or (waits_of stands) node None ≡ waits_by stands node (at node)
+  waits_are node inside =
+      ap (λ (l : List (Option ℕ)). slice_index_or l node None)
+      (each_range (λ me stand. waits_by stands me stand ∷ []) at 0 nodes ∙ flat_map_single (λ k. waits_by stands k (at k)) (range_with_len 0 nodes))
+      ∙ get_or-map-range_with_len (λ k. waits_by stands k (at k)) 0 nodes node node None inside (omega arith)
+
+  -- the lowest node that keeps another back
+  number_is : (node : ℕ) → count_of is_depart node run + 1 ≡ departs_in run node + 1
+  number_is node = ap (λ (acts : List Act). count_of is_depart node acts + 1) (sym (all_acts run))
+
+  record Lowest (node other : ℕ) : Type 0 where
+    back : KeepsBack run node other
+    lowest : (lower : ℕ) → lower < other → KeepsBack run node lower → ⊥
+
+  first_back : (node other : ℕ) → first_of (missing_nodes (count_of is_depart node run + 1) node stands) ≡ Some other → Lowest node other
+  first_back node other is =
+      let found = ap (λ number. first_of (missing_nodes number node stands)) (sym (number_is node)) ∙ is in
+      let f = first_is (late run node) at 0 nodes other (ap first_of (sym (missing_are node)) ∙ found) in
+      record {
+        back = (late_is run node other).0 f.passes;
+        lowest = λ lower lt back.
+            let no' = f.before lower (omega arith) lt in
+            let yes' = (late_is run node lower).1 back in
+            let never : ⊥ = cc in never;
+      }
+
+  back_first : (node other : ℕ) → other < nodes → Lowest node other → first_of (missing_nodes (count_of is_depart node run + 1) node stands) ≡ Some other
+  back_first node other inside l =
+      ap (λ number. first_of (missing_nodes number node stands)) (number_is node) ∙ ap first_of (missing_are node)
+      ∙ is_first (late run node) at 0 nodes other (record {
+        low = omega arith;
+        high = omega arith;
+        passes = (late_is run node other).1 l.back;
+        before = λ k _ lt. false_from_ne_true (late run node k) (λ e. l.lowest k lt ((late_is run node k).0 e));
+      })
+
+  -- who holds a lock
+  held_of : (lock other : ℕ) → IsWellSynchronized nodes run → (holder : Option Holder) → holder_of lock run (act_lines program nodes lines run) ≡ holder
+      → waits_for holder ≡ Some other → Holds run (length run) other lock
+  held_of lock other synchronized None is w = let never : ⊥ = cc in absurd never
+  held_of lock other synchronized (Some holder) is w =
+      subst (λ k. Holds run (length run) k lock) (same_Some holder.node other w)
+      (holds_whole nodes run (act_lines program nodes lines run) lock holder synchronized is)
+
+  module _ (node other : ℕ) (synchronized : IsWellSynchronized nodes run) where
+    abbrev Awaits : Type 0
+    Awaits = AwaitsHolder program nodes lines steps run node other ⊎ AwaitsLowest program nodes lines steps run node other
+
+    abbrev coming_at : Bool → Ask → Coming
+    coming_at spent ask = coming_if spent (count_of is_depart node run) run (act_lines program nodes lines run) ask
+
+    unfinished_waits : (fate : Fate) (next : Option ℕ) → waits_as fate next ≡ Some other → (fate ≡ Unfinished) × (next ≡ Some other)
+    unfinished_waits Unfinished next is = (refl, is)
+    unfinished_waits Ended next is = let never : ⊥ = cc in absurd never
+    unfinished_waits (Trapped cause) next is = let never : ⊥ = cc in absurd never
+
+    awaits_by : (ask : Ask) → (IsNext program nodes lines steps run node ask) → waits_next stands node (coming_at false ask) ≡ Some other → Awaits
+    awaits_by (asks.Acquire lock) next is =
+        inl (record {
+          lock = lock;
+          next = next;
+          held = held_of lock other synchronized (holder_of lock run (act_lines program nodes lines run)) refl is;
+        })
+    awaits_by asks.Barrier next is =
+        let low = first_back node other is in inr (record { next = next; back = low.back; lowest = low.lowest })
+    awaits_by ask next is = let never : ⊥ = cc in absurd never
+
+    awaits_if : (spent : Bool) (ask : Ask) → (spent ≡ false → IsNext program nodes lines steps run node ask) → waits_next stands node (coming_at spent ask) ≡ Some other → Awaits
+    awaits_if true ask next is = let never : ⊥ = cc in absurd never
+    awaits_if false ask next is = awaits_by ask (next refl) is
+
+    awaits_of : node < nodes → WaitsFor (waits_of stands) node other → Awaits
+    awaits_of inside w =
+        let ask = ask_behind program nodes lines run node in
+        let (fate, next) = unfinished_waits (fate_of node run) (waits_next stands node (at node).coming) (sym (waits_are node inside) ∙ w) in
+        awaits_if (spent_for steps run node ask) ask
+        (λ e. record { unfinished = (unfinished_is run node).0 fate; asked = refl; left = (left_is steps run node ask).0 e }) next
+
+    -- what comes next, as it is told
+    next_told : (ask : Ask) → IsNext program nodes lines steps run node ask → waits_by stands node (at node) ≡ waits_next stands node (coming_at false ask)
+    next_told ask next =
+        ap (λ fate. waits_as fate (waits_next stands node (at node).coming)) ((unfinished_is run node).1 next.unfinished)
+        ∙ ap (λ a. waits_next stands node (coming_at (spent_for steps run node a) a)) next.asked
+        ∙ ap (λ b. waits_next stands node (coming_at b ask)) ((left_is steps run node ask).1 next.left)
+
+    told_of : node < nodes → other < nodes → Awaits → WaitsFor (waits_of stands) node other
+    told_of inside within' (inl w) =
+        waits_are node inside ∙ next_told (asks.Acquire w.lock) w.next
+        ∙ ap waits_for (told_whole nodes run (act_lines program nodes lines run) w.lock other synchronized w.held)
+    told_of inside within' (inr w) =
+        waits_are node inside ∙ next_told asks.Barrier w.next
+        ∙ back_first node other within' (record { back = w.back; lowest = w.lowest })
+
+    pub waits_is : node < nodes → other < nodes → WaitsFor (waits_of stands) node other ↔ Awaits
+    waits_is inside within' = (awaits_of inside, told_of inside within')
