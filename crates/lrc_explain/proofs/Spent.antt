@@ -11,9 +11,9 @@ use Rattle.lrc_exec.specs.declared.machine.Ask.{Ask}
 use Rattle.lrc_exec.specs.declared.machine.Ask.TheVariants as asks
 use Rattle.lrc_exec.specs.Ask.{steps_of}
 use Rattle.lrc_stuck.specs.declared.stand.Coming.{Coming}
-use Rattle.lrc_stuck.specs.declared.stand.Coming.TheVariants.{StepsUsedUp}
+use Rattle.lrc_stuck.specs.declared.stand.Coming.TheVariants.{Barrier, StepsUsedUp}
 use Rattle.lrc_stuck.specs.Stand.{coming_by, coming_of, costs, is_used_up, takes_step}
-use Rattle.lrc_explain.specs.Waiting.{AreLeft, HasStepsFor, deed_by, deed_next, steps_taken}
+use Rattle.lrc_explain.specs.Waiting.{AreLeft, HasStepsFor, deed_by, deed_next, departs_in, steps_taken}
 
 -- all acts stand before the end
 pub all_acts : (run : List Act) → take (length run) run ≡ run
@@ -55,22 +55,26 @@ enough (Some steps) taken true = (
 )
 enough (Some steps) taken false = (λ _. omega arith, λ _. refl)
 
+-- whether a node has arrived at a barrier, and not departed
+abbrev has_arrived : (node : ℕ) → List Act → Bool
+has_arrived node run = nat_lt (count_of is_depart node run) (count_of is_arrive node run)
+
 -- whether a node has no steps for what it asks for
 abbrev pub spent_for : Option ℕ → List Act → ℕ → Ask → Bool
 spent_for steps run node ask =
-    takes_step (nat_lt (count_of is_depart node run) (count_of is_arrive node run)) ask && is_used_up steps (count_of costs node run)
+    takes_step (has_arrived node run) ask && is_used_up steps (count_of costs node run)
 
 next_counts : (run : List Act) (node : ℕ) (ask : Ask)
-    → cond (takes_step (nat_lt (count_of is_depart node run) (count_of is_arrive node run)) ask) 1 0 ≡ steps_of (deed_next run node ask)
+    → cond (takes_step (has_arrived node run) ask) 1 0 ≡ steps_of (deed_next run node ask)
 next_counts run node ask =
-    takes_counts (nat_lt (count_of is_depart node run) (count_of is_arrive node run)) ask
-    ∙ ap (λ (acts : List Act). steps_of (deed_by (nat_lt (count_of is_depart node acts) (count_of is_arrive node acts)) ask)) (sym (all_acts run))
+    takes_counts (has_arrived node run) ask
+    ∙ ap (λ (acts : List Act). steps_of (deed_by (has_arrived node acts) ask)) (sym (all_acts run))
 
 pub left_is : (steps : Option ℕ) (run : List Act) (node : ℕ) (ask : Ask) → (spent_for steps run node ask ≡ false) ↔ HasStepsFor steps run node (deed_next run node ask)
 left_is steps run node ask =
     let counted = steps_counted run node in
     let next = next_counts run node ask in
-    let by' = enough steps (count_of costs node run) (takes_step (nat_lt (count_of is_depart node run) (count_of is_arrive node run)) ask) in (
+    let by' = enough steps (count_of costs node run) (takes_step (has_arrived node run) ask) in (
       (λ e. subst₂ (λ taken more. AreLeft steps taken more) counted next (by'.0 e)),
       λ has. by'.1 (subst₂ (λ taken more. AreLeft steps taken more) (sym counted) (sym next) has),
     )
@@ -103,3 +107,28 @@ used_up_is steps run lines node ask =
       (λ is enough'. both_ways spent (has.1 enough') (at.0 is)),
       λ no. at.1 (true_from_ne_false spent (λ e. no (has.0 e))),
     )
+
+-- ---- the number of a barrier
+
+number_by : (departs number : ℕ) (acts : List Act) (lines : List ℕ) (ask : Ask) → coming_by departs acts lines ask ≡ Barrier number
+    → number ≡ departs + 1
+number_by departs number acts lines asks.Barrier is = cc
+number_by departs number acts lines asks.Quiet is = let never : ⊥ = cc in absurd never
+number_by departs number acts lines (asks.Print value) is = let never : ⊥ = cc in absurd never
+number_by departs number acts lines (asks.Read word) is = let never : ⊥ = cc in absurd never
+number_by departs number acts lines (asks.Write word value) is = let never : ⊥ = cc in absurd never
+number_by departs number acts lines (asks.Acquire lock) is = let never : ⊥ = cc in absurd never
+number_by departs number acts lines (asks.Release lock) is = let never : ⊥ = cc in absurd never
+number_by departs number acts lines (asks.Trap cause) is = let never : ⊥ = cc in absurd never
+number_by departs number acts lines asks.End is = let never : ⊥ = cc in absurd never
+
+number_if : (spent : Bool) (departs number : ℕ) (acts : List Act) (lines : List ℕ) (ask : Ask)
+    → coming_if spent departs acts lines ask ≡ Barrier number → number ≡ departs + 1
+number_if true departs number acts lines ask is = let never : ⊥ = cc in absurd never
+number_if false departs number acts lines ask is = number_by departs number acts lines ask is
+
+pub number_is : (steps : Option ℕ) (run : List Act) (lines : List ℕ) (node number : ℕ) (ask : Ask)
+    → coming_of steps run lines node ask ≡ Barrier number → number ≡ departs_in run node + 1
+number_is steps run lines node number ask is =
+    number_if (spent_for steps run node ask) (count_of is_depart node run) number run lines ask is
+    ∙ ap (λ (acts : List Act). count_of is_depart node acts + 1) (sym (all_acts run))

@@ -2,15 +2,16 @@
 use Rattle.std.proofs.Common.{◌≡◌, ◌∙◌, ◌↔◌, ◌⊎◌, ◌≤◌, ◌<◌, ◌+◌, ℕ, zero, suc, inl, inr, Bool, true, false, Contains, List, [], ◌∷◌, ◌++◌, Option, Some, None, length, map, refl, sym, ap, subst, arith}
 use Rattle.std.specs.Prelude.{◌==◌, ◌&&◌, not, nat_lt, slice_index_or}
 use Rattle.std.specs.List.{enumerate_from, flat_map, range_with_len}
-use Rattle.std.proofs.lemmas.Bool.{and_from, and_parts, cases_eq, eqb-false, false_from_ne_true, lt-ltb, ltb-true, ne_eqb, not-true, not_from_false}
+use Rattle.std.proofs.lemmas.Bool.{and_from, and_parts, cases_eq, cases_lt, eqb-false, false_from_ne_true, lt-ltb, ltb-true, ne_eqb, not-true, not_from_false}
 use Rattle.std.proofs.lemmas.List.Concat.{flat_map_single}
 use Rattle.std.proofs.lemmas.List.Elements.{Contains-append_cases, Contains-append_left, Contains-append_right}
 use Rattle.std.proofs.lemmas.List.FromFn.{get_or-map-range_with_len}
 use Rattle.std.proofs.lemmas.Option.{same_Some}
 use Rattle.lrc_lang.specs.declared.program.Program.{Program}
 use Rattle.lrc_trace.specs.declared.act.Act.{Act}
-use Rattle.lrc_trace.specs.Run.{count_of, is_arrive, is_depart}
-use Rattle.lrc_trace.specs.Synchronization.{Holds, IsWellSynchronized}
+use Rattle.lrc_trace.specs.declared.act.Deed.TheVariants as deeds
+use Rattle.lrc_trace.specs.Run.{act_of, count_of, is_arrive, is_depart}
+use Rattle.lrc_trace.specs.Synchronization.{Holds, IsWellSynchronized, MayGoOn}
 use Rattle.lrc_exec.specs.declared.machine.Ask.{Ask}
 use Rattle.lrc_exec.specs.declared.machine.Ask.TheVariants as asks
 use Rattle.lrc_lines.specs.Walks.{act_lines}
@@ -25,7 +26,7 @@ use Rattle.lrc_stuck.specs.Circles.{waits_as, waits_by, waits_for, waits_next, w
 use Rattle.lrc_stuck.specs.Holder.{holder_of}
 use Rattle.lrc_stuck.specs.Missing.{first_of, has_not_come, missing_if, missing_nodes}
 use Rattle.lrc_stuck.specs.Stand.{ask_behind, fate_of, stand_of, stands_of}
-use Rattle.lrc_explain.specs.Waiting.{AwaitsHolder, AwaitsLowest, IsMissing, IsNext, KeepsBack, departs_in}
+use Rattle.lrc_explain.specs.Waiting.{AwaitsHolder, AwaitsLowest, IsMissing, IsNext, KeepsBack, arrives_in, departs_in}
 use Rattle.lrc_explain.proofs.Fates.{unfinished_is}
 use Rattle.lrc_explain.proofs.Held.{holds_whole, told_whole}
 use Rattle.lrc_explain.proofs.Spent.{all_acts, coming_if, left_is, spent_for}
@@ -188,6 +189,47 @@ module _ (program : Program) (nodes : ℕ) (lines : List ℕ) (steps : Option �
         subst (λ l. Contains l missing) (sym (missing_are node))
         (within (late run node) at 0 nodes missing
         (record { low = omega arith; high = omega arith; passes = (late_is run node missing.node).1 m.back; fate = m.fate })),
+  )
+
+  -- it may depart where it has arrived and nobody keeps it back
+  free : (node : ℕ) → missing_nodes (departs_in run node + 1) node stands ≡ [] → (other : ℕ) → other < nodes → KeepsBack run node other → ⊥
+  free node none other inside back =
+      let one : Missing = record { node = other; fate = fate_of other run } in
+      let m : Contains (missing_nodes (departs_in run node + 1) node stands) one =
+      (missing_is node one).1 (record { inside = inside; back = back; fate = refl }) in
+      let (i, lt, is) = subst (λ l. Contains l one) none m in
+      absurd (omega (arith, lt))
+
+  nobody : (node : ℕ) (missing : List Missing) → ((m : Missing) → Contains missing m → KeepsBack run node m.node)
+      → ((other : ℕ) → other < nodes → KeepsBack run node other → ⊥) → ((m : Missing) → Contains missing m → m.node < nodes) → missing ≡ []
+  nobody node [] back none inside = refl
+  nobody node (m ∷ more) back none inside =
+      let first : Contains (m ∷ more) m = (0, omega arith, refl) in absurd (none m.node (inside m first) (back m first))
+
+  pub may_depart : (node : ℕ) → node < nodes
+      → ((missing_nodes (departs_in run node + 1) node stands ≡ []) × (departs_in run node < arrives_in run node)) ↔ MayGoOn nodes run (act_of node deeds.Depart)
+  may_depart node inside = (
+    (λ can.
+        record {
+          acquires = λ l e. let never : ⊥ = cc in absurd never;
+          releases = λ l e. let never : ⊥ = cc in absurd never;
+          departs = λ _ other within'.
+              elim (cases_eq other node) [
+                | inl same ↦ subst (λ k. departs_in run node < arrives_in run k) (sym same) can.1
+                | inr another ↦
+                    elim (cases_lt (departs_in run node) (arrives_in run other)) [
+                      | inl lt ↦ lt
+                      | inr le ↦ absurd (free node can.0 other within' (record { another = another; late = le }))
+                    ]
+              ];
+        }),
+    λ goes. (
+      nobody node (missing_nodes (departs_in run node + 1) node stands)
+          (λ m has. ((missing_is node m).0 has).back)
+          (λ other within' back. let lt = goes.departs refl other within' in let le = back.late in absurd (omega (arith, lt, le)))
+          (λ m has. ((missing_is node m).0 has).inside),
+      goes.departs refl node inside,
+    ),
   )
 
   -- ---- for whom it waits

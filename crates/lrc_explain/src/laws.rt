@@ -1,19 +1,19 @@
 // Laws of what is explained. These functions do nothing: each contract states a law.
 
-ghost use Rattle.std.specs.Prelude.{◌≡◌, ◌≤◌, ◌<◌, ◌+◌, ◌↔◌, ◌⊎◌, ℕ, Contains, List, Option, Some, length, take, true};
+ghost use Rattle.std.specs.Prelude.{◌≡◌, ◌≤◌, ◌<◌, ◌+◌, ◌↔◌, ◌⊎◌, ℕ, Contains, List, [], Option, Some, length, take, true};
 ghost use Rattle.lrc_lang.specs.declared.program.Program.{Program};
 ghost use Rattle.lrc_trace.specs.declared.act.Act.{Act};
 ghost use Rattle.lrc_trace.specs.declared.act.Cause.{Cause};
 ghost use Rattle.lrc_trace.specs.declared.act.Deed.{Deed};
 ghost use Rattle.lrc_trace.specs.declared.act.Deed.TheVariants as deeds;
-ghost use Rattle.lrc_trace.specs.Run.{Does, count_of};
-ghost use Rattle.lrc_trace.specs.Synchronization.{Holds, IsWellSynchronized};
+ghost use Rattle.lrc_trace.specs.Run.{Does, act_of, count_of};
+ghost use Rattle.lrc_trace.specs.Synchronization.{Holds, IsWellSynchronized, MayGoOn};
 ghost use Rattle.lrc_judge.specs.InOrder.{IsLastWritten};
 ghost use Rattle.lrc_exec.specs.declared.machine.Ask.{Ask};
 ghost use Rattle.lrc_exec.specs.Ask.{steps_of};
 ghost use Rattle.lrc_stuck.specs.declared.holder.Holder.{Holder};
 ghost use Rattle.lrc_stuck.specs.declared.missing.Missing.{Missing};
-ghost use Rattle.lrc_stuck.specs.declared.stand.Coming.TheVariants.{StepsUsedUp};
+ghost use Rattle.lrc_stuck.specs.declared.stand.Coming.TheVariants.{Barrier, StepsUsedUp};
 ghost use Rattle.lrc_stuck.specs.declared.stand.Fate.TheVariants.{Ended, Trapped, Unfinished};
 ghost use Rattle.lrc_stuck.specs.Circle.{WaitsFor};
 ghost use Rattle.lrc_stuck.specs.Circles.{waits_of};
@@ -22,7 +22,8 @@ ghost use Rattle.lrc_stuck.specs.Missing.{missing_nodes};
 ghost use Rattle.lrc_stuck.specs.Stand.{coming_of, costs, fate_of, stands_of};
 ghost use Rattle.lrc_explain.specs.Access.{left_in};
 ghost use Rattle.lrc_explain.specs.Held.{holder_since};
-ghost use Rattle.lrc_explain.specs.Waiting.{AwaitsHolder, AwaitsLowest, HasStepsFor, IsMissing, IsUnfinished, deed_next, departs_in, steps_taken};
+ghost use Rattle.lrc_explain.specs.Waiting.{AwaitsHolder, AwaitsLowest, HasStepsFor, IsMissing, IsUnfinished};
+ghost use Rattle.lrc_explain.specs.Waiting.{arrives_in, deed_next, departs_in, steps_taken};
 
 /// After acts that are well synchronized a lock is said to be held by a node exactly where that node holds it, since the acquire by
 /// which it does.
@@ -52,11 +53,18 @@ pub fn steps_are_those_of_the_plain_machine()
         → (coming_of steps run lines node ask ≡ StepsUsedUp) ↔ (¬ HasStepsFor steps run node (deed_next run node ask)) }
 {}
 
-/// The nodes that are said not to have come to the next barrier of a node are those that keep it from departing from there.
+/// A barrier that is said to come next of a node, or to be where it has arrived, has the number behind those from which the node has
+/// departed. The nodes that are said not to have come to it are those that keep the node from departing; and the node may depart
+/// exactly where none is said so and it has arrived itself.
 pub fn missing_nodes_keep_a_node_back()
-    ensures { (program : Program) (nodes : ℕ) (lines : List ℕ) (steps : Option ℕ) (run : List Act) (node : ℕ) (missing : Missing)
+    ensures number { (steps : Option ℕ) (run : List Act) (lines : List ℕ) (node number : ℕ) (ask : Ask)
+        → coming_of steps run lines node ask ≡ Barrier number → number ≡ departs_in run node + 1 }
+    ensures missing { (program : Program) (nodes : ℕ) (lines : List ℕ) (steps : Option ℕ) (run : List Act) (node : ℕ) (missing : Missing)
         → Contains (missing_nodes (departs_in run node + 1) node (stands_of program nodes lines steps run)) missing
         ↔ IsMissing nodes run node missing }
+    ensures departs { (program : Program) (nodes : ℕ) (lines : List ℕ) (steps : Option ℕ) (run : List Act) (node : ℕ) → node < nodes
+        → ((missing_nodes (departs_in run node + 1) node (stands_of program nodes lines steps run) ≡ [])
+        × (departs_in run node < arrives_in run node)) ↔ MayGoOn nodes run (act_of node deeds.Depart) }
 {}
 
 /// After acts that are well synchronized a node is said to wait for another one exactly where that one holds the lock that comes next
