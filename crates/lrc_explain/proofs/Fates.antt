@@ -77,7 +77,8 @@ unfinished_first node act acts fate is rest =
       )
     ]
 
-unfinished_from : (node : ℕ) (acts : List Act) (fate : Fate) → fold (fated node) fate acts ≡ Unfinished → (fate ≡ Unfinished) × IsUnfinished acts node
+unfinished_from : (node : ℕ) (acts : List Act) (fate : Fate) → fold (fated node) fate acts ≡ Unfinished
+    → (fate ≡ Unfinished) × IsUnfinished acts node
 unfinished_from node [] fate is = (
   is,
   record {
@@ -110,7 +111,8 @@ unfinished_is run node = (λ is. (unfinished_from node run Unfinished is).1, unf
 
 -- ---- ended, or trapped
 
-module _ (node : ℕ) (said : Fate) (by' : Deed) (only : (fate : Fate) (deed : Deed) → fate_after fate deed ≡ said → (fate ≡ said) ⊎ (deed ≡ by')) where
+module _ (node : ℕ) (said : Fate) (by' : Deed)
+    (only : (fate : Fate) (deed : Deed) → fate_after fate deed ≡ said → (fate ≡ said) ⊎ (deed ≡ by')) where
   done_from : (acts : List Act) (fate : Fate) → fold (fated node) fate acts ≡ said → (fate ≡ said) ⊎ ((j : ℕ) × Does acts j node by')
   done_from [] fate is = inl is
   done_from (act ∷ acts) fate is =
@@ -135,7 +137,8 @@ only_end fate (Trap cause) is = let never : ⊥ = cc in absurd never
 only_end fate End is = inr refl
 only_end fate deed is = inl is
 
-only_trap : (cause : Cause) (fate : Fate) (deed : Deed) → fate_after fate deed ≡ Trapped cause → (fate ≡ Trapped cause) ⊎ (deed ≡ Trap cause)
+only_trap : (cause : Cause) (fate : Fate) (deed : Deed) → fate_after fate deed ≡ Trapped cause
+    → (fate ≡ Trapped cause) ⊎ (deed ≡ Trap cause)
 only_trap cause fate (Trap c) is = let same : c ≡ cause = cc in inr (ap (λ x. Trap x) same)
 only_trap cause fate End is = let never : ⊥ = cc in absurd never
 only_trap cause fate deed is = inl is

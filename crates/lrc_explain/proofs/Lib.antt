@@ -1,4 +1,5 @@
 pub mod Earlier
+mod Among
 mod Counting
 mod Fates
 mod Held

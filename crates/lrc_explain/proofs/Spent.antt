@@ -1,5 +1,6 @@
 -- The steps that a node has taken, and whether it has more.
-use Rattle.std.proofs.Common.{◌≡◌, ◌∙◌, ◌↔◌, ◌<◌, ◌+◌, ℕ, Bool, true, false, cond, List, [], ◌∷◌, Option, Some, None, length, take, refl, sym, ap, ap₂, subst₂, arith, take_all}
+use Rattle.std.proofs.Common.{◌≡◌, ◌∙◌, ◌↔◌, ◌<◌, ◌+◌, ℕ, Bool, true, false, cond, List, []}
+use Rattle.std.proofs.Common.{◌∷◌, Option, Some, None, length, take, refl, sym, ap, ap₂, subst₂, arith, take_all}
 use Rattle.std.specs.Prelude.{◌==◌, ◌&&◌, if◌then◌else◌, nat_lt}
 use Rattle.std.proofs.lemmas.Bool.{both_ways, false≢true, leb-false, lt-leb, true_from_ne_false, and_right}
 use Rattle.std.proofs.lemmas.List.Sums.{sum_by-cons}
@@ -70,7 +71,8 @@ next_counts run node ask =
     takes_counts (has_arrived node run) ask
     ∙ ap (λ (acts : List Act). steps_of (deed_by (has_arrived node acts) ask)) (sym (all_acts run))
 
-pub left_is : (steps : Option ℕ) (run : List Act) (node : ℕ) (ask : Ask) → (spent_for steps run node ask ≡ false) ↔ HasStepsFor steps run node (deed_next run node ask)
+pub left_is : (steps : Option ℕ) (run : List Act) (node : ℕ) (ask : Ask)
+    → (spent_for steps run node ask ≡ false) ↔ HasStepsFor steps run node (deed_next run node ask)
 left_is steps run node ask =
     let counted = steps_counted run node in
     let next = next_counts run node ask in
@@ -94,7 +96,8 @@ never_used_up departs acts lines asks.End is = let never : ⊥ = cc in never
 abbrev pub coming_if : Bool → ℕ → List Act → List ℕ → Ask → Coming
 coming_if spent departs acts lines ask = if spent then StepsUsedUp else coming_by departs acts lines ask
 
-used_up_if : (spent : Bool) (departs : ℕ) (acts : List Act) (lines : List ℕ) (ask : Ask) → (coming_if spent departs acts lines ask ≡ StepsUsedUp) ↔ (spent ≡ true)
+used_up_if : (spent : Bool) (departs : ℕ) (acts : List Act) (lines : List ℕ) (ask : Ask)
+    → (coming_if spent departs acts lines ask ≡ StepsUsedUp) ↔ (spent ≡ true)
 used_up_if true departs acts lines ask = (λ _. refl, λ _. refl)
 used_up_if false departs acts lines ask = (λ is. absurd (never_used_up departs acts lines ask is), λ e. absurd (false≢true e))
 

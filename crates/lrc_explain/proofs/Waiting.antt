@@ -1,10 +1,11 @@
 -- For whom a node is said to wait, and who is said to keep it back.
-use Rattle.std.proofs.Common.{◌≡◌, ◌∙◌, ◌↔◌, ◌⊎◌, ◌≤◌, ◌<◌, ◌+◌, ℕ, zero, suc, inl, inr, Bool, true, false, Contains, List, [], ◌∷◌, ◌++◌, Option, Some, None, length, map, refl, sym, ap, subst, arith}
+use Rattle.std.proofs.Common.{◌≡◌, ◌∙◌, ◌↔◌, ◌⊎◌, ◌<◌, ◌+◌, ℕ, inl, inr, Bool, true, false}
+use Rattle.std.proofs.Common.{Contains, List, [], ◌∷◌, Option, Some, None, length, refl, sym, ap, subst, arith}
 use Rattle.std.specs.Prelude.{◌==◌, ◌&&◌, not, nat_lt, slice_index_or}
-use Rattle.std.specs.List.{enumerate_from, flat_map, range_with_len}
-use Rattle.std.proofs.lemmas.Bool.{and_from, and_parts, cases_eq, cases_lt, eqb-false, false_from_ne_true, lt-ltb, ltb-true, ne_eqb, not-true, not_from_false}
+use Rattle.std.specs.List.{range_with_len}
+use Rattle.std.proofs.lemmas.Bool.{and_from, and_parts, cases_eq, cases_lt, eqb-false}
+use Rattle.std.proofs.lemmas.Bool.{false_from_ne_true, lt-ltb, ltb-true, ne_eqb, not-true, not_from_false}
 use Rattle.std.proofs.lemmas.List.Concat.{flat_map_single}
-use Rattle.std.proofs.lemmas.List.Elements.{Contains-append_cases, Contains-append_left, Contains-append_right}
 use Rattle.std.proofs.lemmas.List.FromFn.{get_or-map-range_with_len}
 use Rattle.std.proofs.lemmas.Option.{same_Some}
 use Rattle.lrc_lang.specs.declared.program.Program.{Program}
@@ -27,124 +28,10 @@ use Rattle.lrc_stuck.specs.Holder.{holder_of}
 use Rattle.lrc_stuck.specs.Missing.{first_of, has_not_come, missing_if, missing_nodes}
 use Rattle.lrc_stuck.specs.Stand.{ask_behind, fate_of, stand_of, stands_of}
 use Rattle.lrc_explain.specs.Waiting.{AwaitsHolder, AwaitsLowest, IsMissing, IsNext, KeepsBack, arrives_in, departs_in}
+use Rattle.lrc_explain.proofs.Among.{among, each_range, first_is, is_first, those, within}
 use Rattle.lrc_explain.proofs.Fates.{unfinished_is}
 use Rattle.lrc_explain.proofs.Held.{holds_whole, told_whole}
 use Rattle.lrc_explain.proofs.Spent.{all_acts, coming_if, left_is, spent_for}
-
--- what stands for each of so many items that are made from their positions
-each_range : {X Y : Type 0} (of : ℕ → X → List Y) (f : ℕ → X) (a n : ℕ)
-    → flat_map (λ (at : ℕ × X). of at.0 at.1) (enumerate_from a (map f (range_with_len a n))) ≡ flat_map (λ k. of k (f k)) (range_with_len a n)
-each_range of f a zero = refl
-each_range of f a (suc n) = ap (λ l. of a (f a) ++ l) (each_range of f (a + 1) n)
-
--- ---- those that are missing, of nodes of which some are
-
-record Among (test : ℕ → Bool) (f : ℕ → Stand) (a n : ℕ) (m : Missing) : Type 0 where
-  low : a ≤ m.node
-  high : m.node < a + n
-  passes : test m.node ≡ true
-  fate : m.fate ≡ (f m.node).fate
-
-record Only (t : Bool) (k : ℕ) (stand : Stand) (m : Missing) : Type 0 where
-  yes' : t ≡ true
-  node : k ≡ m.node
-  fate : m.fate ≡ stand.fate
-
-only : (t : Bool) (k : ℕ) (stand : Stand) (m : Missing) → Contains (missing_if t k stand) m → Only t k stand m
-only true k stand m (zero, lt, is) = record { yes' = refl; node = ap (λ (x : Missing). x.node) is; fate = sym (ap (λ (x : Missing). x.fate) is) }
-only true k stand m (suc i, lt, is) = absurd (omega (arith, lt))
-only false k stand m (i, lt, is) = absurd (omega (arith, lt))
-
-missing_same : {node node' : ℕ} {fate fate' : Fate} → node ≡ node' → fate ≡ fate'
-    → ◌≡◌ {A = Missing} (record { node = node; fate = fate }) (record { node = node'; fate = fate' })
-missing_same a b = cc
-
-made : (t : Bool) (k : ℕ) (stand : Stand) (m : Missing) → Only t k stand m → Contains (missing_if t k stand) m
-made true k stand m o = (0, omega arith, missing_same o.node (sym o.fate))
-made false k stand m o = let e = o.yes' in let never : ⊥ = cc in absurd never
-
-module _ (test : ℕ → Bool) (f : ℕ → Stand) where
-  abbrev those : ℕ → ℕ → List Missing
-  those a n = flat_map (λ k. missing_if (test k) k (f k)) (range_with_len a n)
-
-  among : (a n : ℕ) (m : Missing) → Contains (those a n) m → Among test f a n m
-  among a zero m (i, lt, is) = absurd (omega (arith, lt))
-  among a (suc n) m inside =
-      elim (Contains-append_cases (missing_if (test a) a (f a)) (those (a + 1) n) m inside) [
-        | inl here ↦
-            let o = only (test a) a (f a) m here in
-            let at = o.node in
-            record {
-              low = omega arith;
-              high = omega arith;
-              passes = ap test (sym at) ∙ o.yes';
-              fate = o.fate ∙ ap (λ k. (f k).fate) at;
-            }
-        | inr later ↦
-            let rest = among (a + 1) n m later in
-            let low = rest.low in
-            let high = rest.high in
-            record { low = omega arith; high = omega arith; passes = rest.passes; fate = rest.fate }
-      ]
-
-  within : (a n : ℕ) (m : Missing) → Among test f a n m → Contains (those a n) m
-  within a zero m at = let low = at.low in let high = at.high in absurd (omega arith)
-  within a (suc n) m at =
-      let low = at.low in
-      let high = at.high in
-      elim (cases_eq a m.node) [
-        | inl same ↦
-            Contains-append_left (missing_if (test a) a (f a)) (those (a + 1) n) m
-            (made (test a) a (f a) m (record { yes' = ap test same ∙ at.passes; node = same; fate = at.fate ∙ ap (λ k. (f k).fate) (sym same) }))
-        | inr other ↦
-            Contains-append_right (missing_if (test a) a (f a)) (those (a + 1) n) m
-            (within (a + 1) n m (record { low = omega (arith, other); high = omega arith; passes = at.passes; fate = at.fate }))
-      ]
-
-  -- the lowest of them
-  record First (a n q : ℕ) : Type 0 where
-    low : a ≤ q
-    high : q < a + n
-    passes : test q ≡ true
-    before : (k : ℕ) → a ≤ k → k < q → test k ≡ false
-
-  first_by : (a n q : ℕ) (t : Bool) → test a ≡ t → (first_of (those (a + 1) n) ≡ Some q → First (a + 1) n q)
-      → first_of (missing_if t a (f a) ++ those (a + 1) n) ≡ Some q → First a (suc n) q
-  first_by a n q true is more found =
-      let same : a ≡ q = same_Some a q found in
-      record { low = omega arith; high = omega arith; passes = ap test (sym same) ∙ is; before = λ k le lt. absurd (omega arith) }
-  first_by a n q false is more found =
-      let rest = more found in
-      let low = rest.low in
-      let high = rest.high in
-      record {
-        low = omega arith;
-        high = omega arith;
-        passes = rest.passes;
-        before = λ k le lt. elim (cases_eq k a) [ inl same ↦ ap test same ∙ is | inr other ↦ rest.before k (omega (arith, other)) lt ];
-      }
-
-  first_is : (a n q : ℕ) → first_of (those a n) ≡ Some q → First a n q
-  first_is a zero q found = let never : ⊥ = cc in absurd never
-  first_is a (suc n) q found = first_by a n q (test a) refl (first_is (a + 1) n q) found
-
-  is_first : (a n q : ℕ) → First a n q → first_of (those a n) ≡ Some q
-  is_first a zero q at = let low = at.low in let high = at.high in absurd (omega arith)
-  is_first a (suc n) q at =
-      let low = at.low in
-      let high = at.high in
-      elim (cases_eq a q) [
-        | inl same ↦
-            ap (λ t. first_of (missing_if t a (f a) ++ those (a + 1) n)) (ap test same ∙ at.passes) ∙ ap Some same
-        | inr other ↦
-            ap (λ t. first_of (missing_if t a (f a) ++ those (a + 1) n)) (at.before a (omega arith) (omega (arith, other)))
-            ∙ is_first (a + 1) n q (record {
-              low = omega (arith, other);
-              high = omega arith;
-              passes = at.passes;
-              before = λ k le lt. at.before k (omega arith) lt;
-            })
-      ]
 
 -- ---- a node after acts
 
@@ -207,7 +94,8 @@ module _ (program : Program) (nodes : ℕ) (lines : List ℕ) (steps : Option �
       let first : Contains (m ∷ more) m = (0, omega arith, refl) in absurd (none m.node (inside m first) (back m first))
 
   pub may_depart : (node : ℕ) → node < nodes
-      → ((missing_nodes (departs_in run node + 1) node stands ≡ []) × (departs_in run node < arrives_in run node)) ↔ MayGoOn nodes run (act_of node deeds.Depart)
+      → ((missing_nodes (departs_in run node + 1) node stands ≡ []) × (departs_in run node < arrives_in run node))
+      ↔ MayGoOn nodes run (act_of node deeds.Depart)
   may_depart node inside = (
     (λ can.
         record {
@@ -237,7 +125,8 @@ module _ (program : Program) (nodes : ℕ) (lines : List ℕ) (steps : Option �
   waits_are : (node : ℕ) → node < nodes → slice_index_or (waits_of stands) node None ≡ waits_by stands node (at node)
   waits_are node inside =
       ap (λ (l : List (Option ℕ)). slice_index_or l node None)
-      (each_range (λ me stand. waits_by stands me stand ∷ []) at 0 nodes ∙ flat_map_single (λ k. waits_by stands k (at k)) (range_with_len 0 nodes))
+      (each_range (λ me stand. waits_by stands me stand ∷ []) at 0 nodes
+      ∙ flat_map_single (λ k. waits_by stands k (at k)) (range_with_len 0 nodes))
       ∙ get_or-map-range_with_len (λ k. waits_by stands k (at k)) 0 nodes node node None inside (omega arith)
 
   -- the lowest node that keeps another back
@@ -260,7 +149,8 @@ module _ (program : Program) (nodes : ℕ) (lines : List ℕ) (steps : Option �
             let never : ⊥ = cc in never;
       }
 
-  back_first : (node other : ℕ) → other < nodes → Lowest node other → first_of (missing_nodes (count_of is_depart node run + 1) node stands) ≡ Some other
+  back_first : (node other : ℕ) → other < nodes → Lowest node other
+      → first_of (missing_nodes (count_of is_depart node run + 1) node stands) ≡ Some other
   back_first node other inside l =
       ap (λ number. first_of (missing_nodes number node stands)) (number_is node) ∙ ap first_of (missing_are node)
       ∙ is_first (late run node) at 0 nodes other (record {
@@ -271,7 +161,8 @@ module _ (program : Program) (nodes : ℕ) (lines : List ℕ) (steps : Option �
       })
 
   -- who holds a lock
-  held_of : (lock other : ℕ) → IsWellSynchronized nodes run → (holder : Option Holder) → holder_of lock run (act_lines program nodes lines run) ≡ holder
+  held_of : (lock other : ℕ) → IsWellSynchronized nodes run → (holder : Option Holder)
+      → holder_of lock run (act_lines program nodes lines run) ≡ holder
       → waits_for holder ≡ Some other → Holds run (length run) other lock
   held_of lock other synchronized None is w = let never : ⊥ = cc in absurd never
   held_of lock other synchronized (Some holder) is w =
@@ -290,7 +181,8 @@ module _ (program : Program) (nodes : ℕ) (lines : List ℕ) (steps : Option �
     unfinished_waits Ended next is = let never : ⊥ = cc in absurd never
     unfinished_waits (Trapped cause) next is = let never : ⊥ = cc in absurd never
 
-    awaits_by : (ask : Ask) → (IsNext program nodes lines steps run node ask) → waits_next stands node (coming_at false ask) ≡ Some other → Awaits
+    awaits_by : (ask : Ask) → IsNext program nodes lines steps run node ask
+        → waits_next stands node (coming_at false ask) ≡ Some other → Awaits
     awaits_by (asks.Acquire lock) next is =
         inl (record {
           lock = lock;
@@ -301,19 +193,22 @@ module _ (program : Program) (nodes : ℕ) (lines : List ℕ) (steps : Option �
         let low = first_back node other is in inr (record { next = next; back = low.back; lowest = low.lowest })
     awaits_by ask next is = let never : ⊥ = cc in absurd never
 
-    awaits_if : (spent : Bool) (ask : Ask) → (spent ≡ false → IsNext program nodes lines steps run node ask) → waits_next stands node (coming_at spent ask) ≡ Some other → Awaits
+    awaits_if : (spent : Bool) (ask : Ask) → (spent ≡ false → IsNext program nodes lines steps run node ask)
+        → waits_next stands node (coming_at spent ask) ≡ Some other → Awaits
     awaits_if true ask next is = let never : ⊥ = cc in absurd never
     awaits_if false ask next is = awaits_by ask (next refl) is
 
     awaits_of : node < nodes → WaitsFor (waits_of stands) node other → Awaits
     awaits_of inside w =
         let ask = ask_behind program nodes lines run node in
-        let (fate, next) = unfinished_waits (fate_of node run) (waits_next stands node (at node).coming) (sym (waits_are node inside) ∙ w) in
+        let (fate, next) =
+        unfinished_waits (fate_of node run) (waits_next stands node (at node).coming) (sym (waits_are node inside) ∙ w) in
         awaits_if (spent_for steps run node ask) ask
         (λ e. record { unfinished = (unfinished_is run node).0 fate; asked = refl; left = (left_is steps run node ask).0 e }) next
 
     -- what comes next, as it is told
-    next_told : (ask : Ask) → IsNext program nodes lines steps run node ask → waits_by stands node (at node) ≡ waits_next stands node (coming_at false ask)
+    next_told : (ask : Ask) → IsNext program nodes lines steps run node ask
+        → waits_by stands node (at node) ≡ waits_next stands node (coming_at false ask)
     next_told ask next =
         ap (λ fate. waits_as fate (waits_next stands node (at node).coming)) ((unfinished_is run node).1 next.unfinished)
         ∙ ap (λ a. waits_next stands node (coming_at (spent_for steps run node a) a)) next.asked
