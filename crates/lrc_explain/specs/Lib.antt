@@ -4,3 +4,4 @@ pub mod Explain
 pub mod Groups
 pub mod Held
 pub mod Site
+pub mod Waiting

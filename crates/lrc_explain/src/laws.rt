@@ -1,13 +1,29 @@
 // Laws of what is explained. These functions do nothing: each contract states a law.
 
-ghost use Rattle.std.specs.Prelude.{◌≡◌, ◌≤◌, ℕ, List, Some, length, take};
+ghost use Rattle.std.specs.Prelude.{◌≡◌, ◌≤◌, ◌<◌, ◌+◌, ◌↔◌, ◌⊎◌, ℕ, Contains, List, [], Option, Some, length, take, true};
+ghost use Rattle.lrc_lang.specs.declared.program.Program.{Program};
 ghost use Rattle.lrc_trace.specs.declared.act.Act.{Act};
-ghost use Rattle.lrc_trace.specs.Synchronization.{Holds, IsWellSynchronized};
+ghost use Rattle.lrc_trace.specs.declared.act.Cause.{Cause};
+ghost use Rattle.lrc_trace.specs.declared.act.Deed.{Deed};
+ghost use Rattle.lrc_trace.specs.declared.act.Deed.TheVariants as deeds;
+ghost use Rattle.lrc_trace.specs.Run.{Does, act_of, count_of};
+ghost use Rattle.lrc_trace.specs.Synchronization.{Holds, IsWellSynchronized, MayGoOn};
 ghost use Rattle.lrc_judge.specs.InOrder.{IsLastWritten};
+ghost use Rattle.lrc_exec.specs.declared.machine.Ask.{Ask};
+ghost use Rattle.lrc_exec.specs.Ask.{steps_of};
 ghost use Rattle.lrc_stuck.specs.declared.holder.Holder.{Holder};
+ghost use Rattle.lrc_stuck.specs.declared.missing.Missing.{Missing};
+ghost use Rattle.lrc_stuck.specs.declared.stand.Coming.TheVariants.{Barrier, StepsUsedUp};
+ghost use Rattle.lrc_stuck.specs.declared.stand.Fate.TheVariants.{Ended, Trapped, Unfinished};
+ghost use Rattle.lrc_stuck.specs.Circle.{WaitsFor};
+ghost use Rattle.lrc_stuck.specs.Circles.{waits_of};
 ghost use Rattle.lrc_stuck.specs.Holder.{holder_of};
+ghost use Rattle.lrc_stuck.specs.Missing.{missing_nodes};
+ghost use Rattle.lrc_stuck.specs.Stand.{coming_of, costs, fate_of, stands_of};
 ghost use Rattle.lrc_explain.specs.Access.{left_in};
 ghost use Rattle.lrc_explain.specs.Held.{holder_since};
+ghost use Rattle.lrc_explain.specs.Waiting.{AwaitsHolder, AwaitsLowest, HasStepsFor, IsMissing, IsUnfinished};
+ghost use Rattle.lrc_explain.specs.Waiting.{arrives_in, deed_next, departs_in, steps_taken};
 
 /// After acts that are well synchronized a lock is said to be held by a node exactly where that node holds it, since the acquire by
 /// which it does.
@@ -17,6 +33,47 @@ pub fn the_holder_of_a_lock_holds_it()
     ensures told { (nodes : ℕ) (run : List Act) (lines : List ℕ) (lock node : ℕ) → IsWellSynchronized nodes run
         → (held : Holds run (length run) node lock)
         → holder_of lock run lines ≡ Some (holder_since lines node held.since) }
+{}
+
+/// A node is said to be unfinished exactly where it has neither trapped nor come to the end of the text; of one that is said to have
+/// ended or trapped some act did so.
+pub fn how_a_node_ended_its_acts_did()
+    ensures unfinished { (run : List Act) (node : ℕ) → (fate_of node run ≡ Unfinished) ↔ IsUnfinished run node }
+    ensures ended { (run : List Act) (node : ℕ) → fate_of node run ≡ Ended → (j : ℕ) × Does run j node deeds.End }
+    ensures trapped { (run : List Act) (node : ℕ) (cause : Cause) → fate_of node run ≡ Trapped cause
+        → (j : ℕ) × Does run j node (deeds.Trap cause) }
+{}
+
+/// The steps of a node are counted as the plain machine counts them, deed by deed and over all acts; and they are said to be used up
+/// exactly where it has too few of them for what it does next.
+pub fn steps_are_those_of_the_plain_machine()
+    ensures deed { (deed : Deed) → (costs deed ≡ true) ↔ (steps_of deed ≡ 1) }
+    ensures all { (run : List Act) (node : ℕ) → count_of costs node run ≡ steps_taken run node }
+    ensures used_up { (steps : Option ℕ) (run : List Act) (lines : List ℕ) (node : ℕ) (ask : Ask)
+        → (coming_of steps run lines node ask ≡ StepsUsedUp) ↔ (¬ HasStepsFor steps run node (deed_next run node ask)) }
+{}
+
+/// A barrier that is said to come next of a node, or to be where it has arrived, has the number behind those from which the node has
+/// departed. The nodes that are said not to have come to it are those that keep the node from departing; and the node may depart
+/// exactly where none is said so and it has arrived itself.
+pub fn missing_nodes_keep_a_node_back()
+    ensures number { (steps : Option ℕ) (run : List Act) (lines : List ℕ) (node number : ℕ) (ask : Ask)
+        → coming_of steps run lines node ask ≡ Barrier number → number ≡ departs_in run node + 1 }
+    ensures missing { (program : Program) (nodes : ℕ) (lines : List ℕ) (steps : Option ℕ) (run : List Act) (node : ℕ) (missing : Missing)
+        → Contains (missing_nodes (departs_in run node + 1) node (stands_of program nodes lines steps run)) missing
+        ↔ IsMissing nodes run node missing }
+    ensures departs { (program : Program) (nodes : ℕ) (lines : List ℕ) (steps : Option ℕ) (run : List Act) (node : ℕ) → node < nodes
+        → ((missing_nodes (departs_in run node + 1) node (stands_of program nodes lines steps run) ≡ [])
+        × (departs_in run node < arrives_in run node)) ↔ MayGoOn nodes run (act_of node deeds.Depart) }
+{}
+
+/// After acts that are well synchronized a node is said to wait for another one exactly where that one holds the lock that comes next
+/// of the node, or is the lowest of those that keep it back from the barrier that comes next of it or at which it has arrived.
+pub fn a_node_waits_for_whom_its_acts_say()
+    ensures { (program : Program) (nodes : ℕ) (lines : List ℕ) (steps : Option ℕ) (run : List Act) (node other : ℕ)
+        → IsWellSynchronized nodes run → node < nodes → other < nodes
+        → WaitsFor (waits_of (stands_of program nodes lines steps run)) node other
+        ↔ (AwaitsHolder program nodes lines steps run node other ⊎ AwaitsLowest program nodes lines steps run node other) }
 {}
 
 /// What acts leave in a word is what the last write to it before the position wrote, or 0 where there is none.
