@@ -1,5 +1,5 @@
 -- A text within the limits has 1 to 65,536 words and at most 64 locks.
-use Rattle.std.proofs.Common.{◌≡◌, ◌≤◌, ◌<◌, ℕ, List, [], ◌∷◌, ◌++◌, Option, Some, None, refl, sym, subst, inl, inr, ◌∙◌, arith}
+use Rattle.std.proofs.Common.{◌≡◌, ◌≤◌, ◌<◌, ℕ, List, [], ◌∷◌, ◌++◌, Option, Some, None, refl, sym, subst, inl, inr, arith}
 use Rattle.lrc_lang.specs.declared.TheConstants.{MOST_WORDS}
 use Rattle.lrc_lang.specs.declared.token.Keyword.{Keyword}
 use Rattle.lrc_lang.specs.declared.token.Keyword.TheVariants.{Words, Locks}
