@@ -14,6 +14,7 @@ use Rattle.lrc_lang.specs.declared.program.Statement.TheBlock.{hidden-the_row-St
 use Rattle.lrc_lang.specs.declared.program.Statement.TheVariants.{Assign, Read, Write, Acquire, Release, Barrier, Print, If', While', If}
 use Rattle.lrc_lang.specs.declared.program.Statement.TheVariants.{While, outs-If', outs-While', rolls-If, rolls-While}
 use Rattle.lrc_exec.specs.declared.code.Instruction.{Instruction}
+use Rattle.lrc_exec.specs.Laid.{IsLaid}
 use Rattle.lrc_exec.specs.Meaning.{block}
 use Rattle.lrc_exec.specs.Flat.{rests_from, rest_at, where_it_holds, where_it_fails, IsSoundAt, IsSoundFrom, IsGrown, IsPut, IsCodeOf}
 use Rattle.lrc_exec.proofs.Privates.{HasFew, HaveFew, few_of_one, few_front, few_behind, few_first, few_second, few_inside}
@@ -300,11 +301,12 @@ module _ (old more : List Instruction) (s : Bor Statement) (next then otherwise 
       }
 
 -- the instruction at a seam, and those behind it
-slice_get-seam : (old more : List Instruction) (i : Instruction) → slice_get (old ++ i ∷ more) (length old) ≡ Some i
+pub slice_get-seam : (old more : List Instruction) (i : Instruction) → slice_get (old ++ i ∷ more) (length old) ≡ Some i
 slice_get-seam [] more i = refl
 slice_get-seam (j ∷ old) more i = slice_get-seam old more i
 
-slice_get-behind : (old more : List Instruction) (i j : Instruction) (k : ℕ) → length old < k → slice_get (old ++ i ∷ more) k ≡ slice_get (old ++ j ∷ more) k
+pub slice_get-behind : (old more : List Instruction) (i j : Instruction) (k : ℕ) → length old < k
+    → slice_get (old ++ i ∷ more) k ≡ slice_get (old ++ j ∷ more) k
 slice_get-behind [] more i j zero behind = absurd (omega arith)
 slice_get-behind [] more i j (suc k) behind = refl
 slice_get-behind (x ∷ old) more i j zero behind = absurd (omega arith)
@@ -377,4 +379,5 @@ grown_code old new statements start empty few p =
       leads = g.leads ∙ ap (λ l. statements ++ l) (rest_at-end new) ∙ append-nil statements;
       sound = λ k i past is. g.sound few k i (omega (arith, ap length empty)) is;
       each = omega (arith, p.each, ap length empty);
+      laid = subst (λ n. IsLaid new n statements 0 start) (ap length empty) p.laid;
     }

@@ -1,6 +1,7 @@
 pub mod Beginning
 pub mod Counts
 pub mod Flat
+pub mod Laid
 pub mod NextLaws
 pub mod PlainDeeds
 pub mod PlainLaws

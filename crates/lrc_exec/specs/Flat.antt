@@ -5,6 +5,7 @@ use Rattle.lrc_lang.specs.declared.program.Statement.TheVariants.{If', While'}
 use Rattle.lrc_lang.specs.Statements.{Statement as Tree, if_else, while_do, Block, empty, next, statement_of, block_of}
 use Rattle.lrc_lang.specs.Sizes.{names_in_statement, names_in}
 use Rattle.lrc_exec.specs.declared.code.Instruction.{Instruction}
+use Rattle.lrc_exec.specs.Laid.{IsLaid}
 use Rattle.lrc_exec.specs.Meaning.{block}
 
 -- the statements still to do at the places so far and, after them, at those of further instructions
@@ -62,14 +63,16 @@ pub record IsGrown (old new : List Instruction) (statements : List Statement) (n
   pub leads : rest_at new place ≡ statements ++ rest_at new next
   pub sound : names_in (block_of statements) ≤ 32 → IsSoundFrom (length old) new
 
--- it has grown so by an instruction for each statement that stands in these
+-- it has grown so by an instruction for each statement that stands in these, and there they lie
 pub record IsPut (old new : List Instruction) (statements : List Statement) (next place : ℕ) : Type 0 where
   pub grown : IsGrown old new statements next place
   pub each : length new ≡ length old + statements_in (block_of statements)
+  pub laid : IsLaid new (length old) statements next place
 
--- the code of these statements, which begin at `start`: an instruction for each statement that stands in them
+-- the code of these statements, which lie in it from `start` on: an instruction for each statement that stands in them
 pub record IsCodeOf (code : List Instruction) (start : ℕ) (statements : List Statement) : Type 0 where
   pub within : start ≤ length code
   pub leads : rest_at code start ≡ statements
   pub sound : IsSoundFrom 0 code
   pub each : length code ≡ statements_in (block_of statements)
+  pub laid : IsLaid code 0 statements 0 start

@@ -1,6 +1,7 @@
 pub mod Ask
 pub mod Condition
 pub mod Flat
+pub mod Laid
 pub mod Meaning
 pub mod Nodes
 pub mod Places

@@ -1,15 +1,17 @@
 -- How often nodes have arrived, by how many states were found; and states that orders lead to, by how they were found.
-use Rattle.std.proofs.Common.{◌≡◌, ℕ, zero, suc, ◌+◌, ◌<◌, ◌≤◌, [], ◌∷◌, ◌++◌, Bool, true, false, inl, inr}
+use Rattle.std.proofs.Common.{◌≡◌, ℕ, zero, suc, ◌+◌, ◌<◌, ◌≤◌, List, [], ◌∷◌, ◌++◌, Bool, true, false, inl, inr}
 use Rattle.std.proofs.Common.{length, refl, sym, subst, ◌∙◌, ap, arith, replicate}
-use Rattle.std.specs.Prelude.{Option, Some, None, slice_index, slice_set, if◌then◌else◌}
+use Rattle.std.specs.Prelude.{All, Option, Some, None, slice_index, slice_set, if◌then◌else◌}
 use Rattle.std.proofs.lemmas.Bool.{cases_lt, cases_eq}
 use Rattle.std.proofs.lemmas.List.{get_or-set_same, get_or-set_other, get_or_past, length-set}
 use Rattle.std.proofs.lemmas.Option.{some_pair_parts, option_and_then_some}
 use Rattle.lrc_lang.specs.declared.program.Program.{Program}
+use Rattle.lrc_trace.specs.declared.act.Act.{Act}
 use Rattle.lrc_trace.specs.declared.act.Deed.{Deed}
 use Rattle.lrc_trace.specs.declared.act.Deed.TheVariants.{Quiet, Print, Read, Write, Acquire, Release, Arrive, Depart, Trap, End}
 use Rattle.lrc_trace.specs.Run.{act_of}
 use Rattle.lrc_exec.specs.declared.spot.Flat.{Flat}
+use Rattle.lrc_exec.specs.declared.spot.Spot.{Spot}
 use Rattle.lrc_exec.specs.Flat.{IsCodeOf}
 use Rattle.lrc_exec.specs.Meaning.{Thread, Next, quiet, prints, reads, writes, acquires, releases, arrives, departs, traps, ends, next_of}
 use Rattle.lrc_exec.specs.Plain.{Plain, deed_done, nobody_holds, all_arrived, with_thread, thread_in, plain_step, plain_start}
@@ -23,10 +25,11 @@ use Rattle.lrc_explore.specs.Meeting.{IsReachable}
 use Rattle.lrc_explore.specs.contracts.state.StatePartialEq.TheImpl.{eq-value as state_eq}
 use Rattle.lrc_explore.specs.States.{plain_at, machine_begun, IsCopy}
 use Rattle.lrc_explore.specs.Search.{Stands, Steps, IsFound}
-use Rattle.lrc_explore.specs.Limit.{AreCounted, HasMoreStates, MeetsMore}
-use Rattle.lrc_explore.proofs.Searching.{stands_one, stands_grown, stands_within}
+use Rattle.lrc_explore.specs.Led.{beginning, onward, IsFirst, IsLedTo}
+use Rattle.lrc_explore.specs.Limit.{AreCounted, HasMoreStates, MeetsMore, Starts}
+use Rattle.lrc_explore.proofs.Searching.{copy_same, stands_first, stands_one, starts_grown}
 use Rattle.lrc_explore.proofs.Stores.{added_all, listed, listed_apart}
-use Rattle.lrc_explore.proofs.Widening.{apart_at, states_store}
+use Rattle.lrc_explore.proofs.Widening.{apart_at, at_copy, at_within, states_store}
 
 -- a deed with the machine after it, where it can be done
 abbrev done : Deed → Plain → Option (Deed × Plain)
@@ -136,24 +139,13 @@ pub counted_first : (flat : Flat) (place : ℕ) (start : State) → plain_at fla
 counted_first flat place start is node =
     let none : slice_index start.arrivals.items node ≡ 0 = ap (λ (m : Plain). slice_index m.arrivals node) is ∙ zero_at flat.nodes node in omega arith
 
--- at the state at a place
-pub counted_there : (flat : Flat) (states : States) (state : State) (place node : ℕ) → AreCounted states → Stands flat states place (plain_at flat state)
-    → slice_index state.arrivals.items node ≤ place
-counted_there flat states state place node counted there =
-    let same : slice_index there.state.arrivals.items node ≡ slice_index state.arrivals.items node =
-    ap (λ (m : Plain). slice_index m.arrivals node) there.same in
-    let few = counted place there.state there.there node in
-    omega arith
-
 -- at a state to which a step leads
-pub counted_step : (flat : Flat) (states : States) (state : State) (origin : Origin) → AreCounted states → Steps flat states origin (plain_at flat state)
+pub counted_step : (flat : Flat) (states : States) (state : State) (origin : Origin) → AreCounted states → Steps flat states origin state
     → (node : ℕ) → slice_index state.arrivals.items node ≤ size states
 counted_step flat states state origin counted steps node =
-    let more = step_counts steps.before (plain_at flat state) origin.node node steps.deed steps.stepped in
-    let parent : slice_index steps.parent.state.arrivals.items node ≡ slice_index steps.before.arrivals node =
-    ap (λ (m : Plain). slice_index m.arrivals node) steps.parent.same in
-    let few = counted origin.parent steps.parent.state steps.parent.there node in
-    let earlier = stands_within steps.before steps.parent in
+    let more = step_counts (plain_at flat steps.before) (plain_at flat state) origin.node node steps.deed steps.leads.stepped in
+    let few = counted origin.parent steps.before steps.parent node in
+    let earlier = at_within steps.parent in
     omega arith
 
 -- one state more, if it is new
@@ -178,26 +170,53 @@ module _ (program : Program) (flat : Flat) (found : Found) (sound : IsFound flat
         let steps = from.steps in
         let node = from.origin.node in
         let earlier = from.earlier in
-        let r = reached_below bound from.origin.parent steps.parent.state (omega arith) steps.parent.there in
-        let stepped : plain_step (plain_at flat steps.parent.state) node ≡ Some (steps.deed, plain_at flat state) =
-        ap (λ m. plain_step m node) steps.parent.same ∙ steps.stepped in
+        let before = plain_at flat steps.before in
+        let r = reached_below bound from.origin.parent steps.before (omega arith) steps.parent in
         record {
           order = r.order ++ node ∷ [];
           acts = r.acts ++ act_of node steps.deed ∷ [];
-          led = plain_from-joined r.order (node ∷ []) (plain_start program flat.nodes) (plain_at flat steps.parent.state) (plain_at flat state) r.acts
+          led = plain_from-joined r.order (node ∷ []) (plain_start program flat.nodes) before (plain_at flat state) r.acts
               (act_of node steps.deed ∷ []) r.led
-              (one_more (plain_at flat steps.parent.state) (plain_at flat state) (plain_at flat state) node steps.deed [] [] stepped refl);
+              (one_more before (plain_at flat state) (plain_at flat state) node steps.deed [] [] steps.leads.stepped refl);
         }
   ]
 
   pub reached_all : (k : ℕ) (state : State) → IsAt found.states k state → IsReachable program flat.nodes (plain_at flat state)
   reached_all k state at = reached_below (k + 1) k state (omega arith) at
 
+-- and so do its acts in the code
+pub first_copy : (flat : Flat) (place : ℕ) (a b : State) → IsCopy a b → IsFirst flat place b → IsFirst flat place a
+first_copy flat place a b c is = record {
+  begun = copy_same flat a b c ∙ is.begun;
+  placed = subst (All (λ (x : Spot). x.place ≡ place)) (sym c.spots) is.placed;
+}
+
+module _ (flat : Flat) (place : ℕ) (found : Found) (sound : IsFound flat found) (start : Starts flat place found.states) where
+  led_below : (bound k : ℕ) (state : State) → k < bound → IsAt found.states k state → (acts : List Act) × IsLedTo flat place acts state
+  led_below zero k state lt at = absurd (omega arith)
+  led_below (suc bound) k state lt at = elim (cases_eq k 0) [
+    | inl first ↦
+        let here : IsAt found.states 0 state = subst (λ n. IsAt found.states n state) first at in
+        ([], beginning state (first_copy flat place state start.state (at_copy here start.there) start.is))
+    | inr later ↦
+        let from = sound.from k state (omega arith) at in
+        let steps = from.steps in
+        let node = from.origin.node in
+        let earlier = from.earlier in
+        let r = led_below bound from.origin.parent steps.before (omega arith) steps.parent in
+        (r.0 ++ act_of node steps.deed ∷ [], onward r.0 steps.before node steps.deed state r.1 steps.leads)
+  ]
+
+  pub led_all : (k : ℕ) (state : State) → IsAt found.states k state → (acts : List Act) × IsLedTo flat place acts state
+  led_all k state at = led_below (k + 1) k state (omega arith) at
+
 -- a search that met more states than a bound
 pub has_more : (program : Program) (flat : Flat) (place most : ℕ) (first : States) → IsCodeOf flat.code.now place program.statements.items
-    → flat.words ≡ program.words → flat.locks ≡ program.locks → Stands flat first 0 (plain_start program flat.nodes) → MeetsMore flat first most
+    → flat.words ≡ program.words → flat.locks ≡ program.locks → machine_begun flat place ≡ plain_start program flat.nodes → Starts flat place first
+    → MeetsMore flat first most
     → HasMoreStates program flat.nodes most
-has_more program flat place most first code words locks start m =
+has_more program flat place most first code words locks begun start m =
+    let starts = starts_grown m.widens start in
     let all = listed IsAt size Widens IsCopy states_store m.found.states m.sound.full in
     record {
       flat = flat;
@@ -205,10 +224,12 @@ has_more program flat place most first code words locks start m =
       code = code;
       words = words;
       locks = locks;
+      count = refl;
       states = all.list;
       many = subst (λ n. most < n) (sym all.long) m.many;
       distinct = listed_apart IsAt size Widens IsCopy states_store state_eq.it m.found.states (apart_at m.found.states m.sound.distinct) all;
       valid = λ k state there. m.sound.valid k state (all.at k state there);
       reached = λ k state there.
-          reached_all program flat m.found m.sound (stands_grown m.widens start) k state (all.at k state there);
+          reached_all program flat m.found m.sound (subst (Stands flat m.found.states 0) begun (stands_first starts)) k state (all.at k state there);
+      led = λ k state there. led_all flat place m.found m.sound starts k state (all.at k state there);
     }

@@ -16,6 +16,7 @@ use Rattle.lrc_exec.specs.Plain.{Plain, plain_step, plain_from, plain_start}
 use Rattle.lrc_exec.specs.Spots.{spot_thread}
 use Rattle.lrc_exec.proofs.PlainLaws.{plain_from-begins}
 use Rattle.lrc_plain_laws.proofs.Plainly.{one_more, plain_from-joined}
+use Rattle.lrc_explore.specs.declared.state.State.{State}
 use Rattle.lrc_explore.specs.declared.noted.Noted.{Noted}
 use Rattle.lrc_explore.specs.declared.noted.NotedStates.{NotedStates}
 use Rattle.lrc_explore.specs.declared.outcomes.Gathered.{Gathered}
@@ -26,19 +27,20 @@ use Rattle.lrc_explore.specs.Noted.{AreNotedDistinct, AreNotedFull, IsNotedAt, W
 use Rattle.lrc_explore.specs.Notes.{notes_with, notes_of, notes_from}
 use Rattle.lrc_explore.specs.Outcome.{AreGathered, AreSearched, AreSound, EndsWith, FitsNoted, HasNextBelow, HasNoted, HasOutcome}
 use Rattle.lrc_explore.specs.Outcome.{IsGathered, IsLed, IsOutcome, IsSearched, IsSearchedAt, MeetsMoreNoted}
-use Rattle.lrc_explore.specs.States.{machine_begun, thread_begun, plain_at, IsStateOf}
+use Rattle.lrc_explore.specs.States.{machine_begun, thread_begun, plain_at, IsCopy, IsStateOf}
+use Rattle.lrc_explore.specs.Led.{beginning, onward, IsFirst, IsLedTo, LeadsTo}
 use Rattle.lrc_explore.specs.Stuck.{IsAtRest}
-use Rattle.lrc_explore.proofs.Counting.{counted_first, step_threads}
+use Rattle.lrc_explore.proofs.Counting.{counted_first, first_copy, step_threads}
 use Rattle.lrc_explore.proofs.Keeping.{item_at, stands_on}
 use Rattle.lrc_explore.proofs.Ways.{IsNotedCopy, noted_apart, noted_copy, noted_grows, noted_store, noted_within}
 use Rattle.lrc_explore.proofs.Noting.{notes_more, no_more}
-use Rattle.lrc_explore.proofs.Searching.{copy_same, copy_state}
+use Rattle.lrc_explore.proofs.Searching.{copy_led, copy_same, copy_state}
 use Rattle.lrc_explore.proofs.Standing.{step_within}
 use Rattle.lrc_explore.proofs.Stores.{added_all, before, full_more, listed, listed_apart}
 
 -- a search that began with these states is done with those before a place
 pub record Going (flat : Flat) (start : ℕ) (first : NotedStates) (gathered : Gathered) (place : ℕ) : Type 0 where
-  pub led : AreGathered flat (machine_begun flat start) gathered.states
+  pub led : AreGathered flat (machine_begun flat start) start gathered.states
   pub widens : WidensNoted first gathered.states
   pub sound : AreSound flat (machine_begun flat start) gathered.outcomes.keys
   pub done : AreSearched flat gathered.states gathered.outcomes.keys place
@@ -58,51 +60,60 @@ put_all P false old new x is before last k y at = elim (cases_lt k (length old))
       subst (λ n. P n y) (sym end) (subst (P (length old)) same last)
 ]
 
+-- what leads to a state leads to a copy of it
+led_copy : (flat : Flat) (place : ℕ) (acts : List Act) (a b : State) → IsCopy a b → IsLedTo flat place acts b → IsLedTo flat place acts a
+led_copy flat place _ a b c (beginning _ is) = beginning a (first_copy flat place a b c is)
+led_copy flat place _ a b c (onward acts before node deed _ led leads) =
+    onward acts before node deed a led (copy_led flat before a b node deed c leads)
+
 -- a copy is in order as the state is
-gathered_copy : (flat : Flat) (start : Plain) (most : ℕ) (copy key : Noted) → IsNotedCopy copy key → IsGathered flat start most key
-    → IsGathered flat start most copy
-gathered_copy flat start most copy key c g = record {
+gathered_copy : (flat : Flat) (start : Plain) (begins most : ℕ) (copy key : Noted) → IsNotedCopy copy key → IsGathered flat start begins most key
+    → IsGathered flat start begins most copy
+gathered_copy flat start begins most copy key c g = record {
   valid = copy_state flat copy.state key.state c.state g.valid;
   led = record {
     order = g.led.order;
     acts = g.led.acts;
     led = g.led.led ∙ ap (λ m. Some (g.led.acts, m)) (sym (copy_same flat copy.state key.state c.state));
+    led_to = led_copy flat begins g.led.acts copy.state key.state c.state g.led.led_to;
     are = g.led.are ∙ sym c.notes;
   };
   counted = λ node. subst (λ xs. slice_index xs node ≤ most) (sym c.state.arrivals) (g.counted node);
 }
 
 -- a state with notes that is added, if it is new
-pub gathered_put : (flat : Flat) (start : Plain) (old new : NotedStates) (key : Noted) (place : ℕ) (added : Bool) → AreGathered flat start old
-    → IsGathered flat start (noted_count old) key → WidensNoted old new → AreNotedDistinct new → IsAddedAt (noted_count old) (noted_count new) place added
-    → IsNotedAt new place key → AreGathered flat start new
-gathered_put flat start old new key place added g one w distinct put at = record {
+pub gathered_put : (flat : Flat) (start : Plain) (begins : ℕ) (old new : NotedStates) (key : Noted) (place : ℕ) (added : Bool)
+    → AreGathered flat start begins old → IsGathered flat start begins (noted_count old) key → WidensNoted old new → AreNotedDistinct new
+    → IsAddedAt (noted_count old) (noted_count new) place added → IsNotedAt new place key → AreGathered flat start begins new
+gathered_put flat start begins old new key place added g one w distinct put at = record {
   full = full_more IsNotedAt noted_count WidensNoted IsNotedCopy noted_store old new place added key w g.full put at;
   distinct = distinct;
-  each = added_all IsNotedAt noted_count WidensNoted IsNotedCopy noted_store old new place added key w g.full put at (λ k x. IsGathered flat start k x) g.each
-      (λ is copy c. gathered_copy flat start (noted_count old) copy key c one);
+  each = added_all IsNotedAt noted_count WidensNoted IsNotedCopy noted_store old new place added key w g.full put at
+      (λ k x. IsGathered flat start begins k x) g.each (λ is copy c. gathered_copy flat start begins (noted_count old) copy key c one);
 }
 
 -- none yet
-pub gathered_none : (flat : Flat) (start : Plain) (all : NotedStates) → noted_count all ≡ 0 → AreNotedDistinct all → AreGathered flat start all
-gathered_none flat start all none distinct = record {
+pub gathered_none : (flat : Flat) (start : Plain) (begins : ℕ) (all : NotedStates) → noted_count all ≡ 0 → AreNotedDistinct all
+    → AreGathered flat start begins all
+gathered_none flat start begins all none distinct = record {
   full = λ k lt. absurd (omega (arith, lt, none));
   distinct = distinct;
   each = λ k key at. let within = noted_within all k key at in absurd (omega (arith, within, none));
 }
 
 -- one step more
-pub led_next : (flat : Flat) (start : Plain) (key after : Noted) (node : ℕ) (deed : Deed) → IsLed flat start key
-    → plain_step (plain_at flat key.state) node ≡ Some (deed, plain_at flat after.state) → after.notes.items ≡ notes_with key.notes.items (act_of node deed)
-    → node < flat.nodes → IsLed flat start after
-led_next flat start key after node deed l step noted_is lt =
+pub led_next : (flat : Flat) (start : Plain) (begins : ℕ) (key after : Noted) (node : ℕ) (deed : Deed) → IsLed flat start begins key
+    → LeadsTo flat key.state node deed after.state → after.notes.items ≡ notes_with key.notes.items (act_of node deed)
+    → node < flat.nodes → IsLed flat start begins after
+led_next flat start begins key after node deed l leads noted_is lt =
     let act = act_of node deed in
     let from = plain_at flat key.state in
     let to = plain_at flat after.state in
     record {
       order = l.order ++ node ∷ [];
       acts = l.acts ++ act ∷ [];
-      led = plain_from-joined l.order (node ∷ []) start from to l.acts (act ∷ []) l.led (one_more from to to node deed [] [] step refl);
+      led = plain_from-joined l.order (node ∷ []) start from to l.acts (act ∷ []) l.led (one_more from to to node deed [] [] leads.stepped refl);
+      led_to = onward l.acts key.state node deed after.state l.led_to leads;
       are = notes_more flat.nodes l.acts act lt ∙ ap (λ n. notes_with n act) l.are ∙ sym noted_is;
     }
 
@@ -137,9 +148,9 @@ pub count_grows : (old new : NotedStates) → WidensNoted old new → noted_coun
 count_grows old new w = let e = ap length w.ways.is in omega (arith, e, length-append old.ways.keys w.ways.more)
 
 -- an order that leads to where no node can make an act has an outcome
-pub ends_there : (flat : Flat) (start : Plain) (key : Noted) → IsLed flat start key → IsAtRest (plain_at flat key.state)
+pub ends_there : (flat : Flat) (start : Plain) (begins : ℕ) (key : Noted) → IsLed flat start begins key → IsAtRest (plain_at flat key.state)
     → EndsWith start flat.nodes key.notes.items
-ends_there flat start key l still = record {
+ends_there flat start begins key l still = record {
   order = l.order;
   acts = l.acts;
   machine = plain_at flat key.state;
@@ -229,12 +240,18 @@ notes_none zero first = refl
 notes_none (suc count) first = notes_none count (suc first)
 
 -- the start is in order
-pub first_gathered : (flat : Flat) (place : ℕ) (key : Noted) → plain_at flat key.state ≡ machine_begun flat place → IsStateOf flat key.state → key.notes.items ≡ []
-    → IsGathered flat (machine_begun flat place) 0 key
+pub first_gathered : (flat : Flat) (place : ℕ) (key : Noted) → IsFirst flat place key.state → IsStateOf flat key.state → key.notes.items ≡ []
+    → IsGathered flat (machine_begun flat place) place 0 key
 first_gathered flat place key is state notes = record {
   valid = state;
-  led = record { order = []; acts = []; led = ap (λ m. Some ([], m)) (sym is); are = notes_none flat.nodes 0 ∙ sym notes };
-  counted = counted_first flat place key.state is;
+  led = record {
+    order = [];
+    acts = [];
+    led = ap (λ m. Some ([], m)) (sym is.begun);
+    led_to = beginning key.state is;
+    are = notes_none flat.nodes 0 ∙ sym notes;
+  };
+  counted = counted_first flat place key.state is.begun;
 }
 
 -- the outcomes are those of the program
@@ -287,9 +304,9 @@ fits_noted program flat place most all outcomes start first full done few =
     }
 
 -- a search that met more states than a bound
-pub meets_more : (flat : Flat) (start : Plain) (most : ℕ) (all : NotedStates) → AreGathered flat start all → most < noted_count all
-    → MeetsMoreNoted flat start most
-meets_more flat start most all g many =
+pub meets_more : (flat : Flat) (start : Plain) (begins most : ℕ) (all : NotedStates) → AreGathered flat start begins all → most < noted_count all
+    → MeetsMoreNoted flat start begins most
+meets_more flat start begins most all g many =
     let items = listed IsNotedAt noted_count WidensNoted IsNotedCopy noted_store all g.full in
     record {
       keys = items.list;

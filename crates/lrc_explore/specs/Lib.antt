@@ -1,6 +1,7 @@
 pub mod Meeting
 pub mod Stuck
 pub mod States
+pub mod Led
 pub mod Kept
 pub mod Verdict
 pub mod Search

@@ -2,6 +2,7 @@
 use Rattle.std.specs.Prelude.{◌≡◌, ℕ, ◌<◌, ◌≤◌, List, Some, Contains, length, slice_get, slice_index}
 use Rattle.std.specs.List.{IsDistinct}
 use Rattle.lrc_lang.specs.declared.program.Program.{Program}
+use Rattle.lrc_trace.specs.declared.act.Act.{Act}
 use Rattle.lrc_exec.specs.Plain.{Plain}
 use Rattle.lrc_exec.specs.declared.spot.Flat.{Flat}
 use Rattle.lrc_exec.specs.Flat.{IsCodeOf}
@@ -15,21 +16,24 @@ use Rattle.lrc_explore.specs.declared.search.ExploreFault.TheVariants.{BadNodes,
 use Rattle.lrc_explore.specs.contracts.state.StatePartialEq.TheImpl.{eq-value}
 use Rattle.lrc_explore.specs.Kept.{IsAt, Widens, size}
 use Rattle.lrc_explore.specs.Meeting.{IsReachable}
-use Rattle.lrc_explore.specs.States.{plain_at, machine_begun, IsStateOf}
-use Rattle.lrc_explore.specs.Search.{IsFound, Stands}
+use Rattle.lrc_explore.specs.States.{plain_at, IsStateOf}
+use Rattle.lrc_explore.specs.Led.{IsFirst, IsLedTo}
+use Rattle.lrc_explore.specs.Search.{IsFound}
 
--- more states than a bound over the program's code, no two of them equal, to each of which some order leads
+-- more states than a bound over the program's code, no two of them equal, to each of which some order leads, and its acts in the code
 pub record HasMoreStates (program : Program) (nodes most : ℕ) : Type 0 where
   pub flat : Flat
   pub place : ℕ
   pub code : IsCodeOf flat.code.now place program.statements.items
   pub words : flat.words ≡ program.words
   pub locks : flat.locks ≡ program.locks
+  pub count : flat.nodes ≡ nodes
   pub states : List State
   pub many : most < length states
   pub distinct : IsDistinct eq-value.it states
   pub valid : (k : ℕ) (state : State) → slice_get states k ≡ Some state → IsStateOf flat state
   pub reached : (k : ℕ) (state : State) → slice_get states k ≡ Some state → IsReachable program nodes (plain_at flat state)
+  pub led : (k : ℕ) (state : State) → slice_get states k ≡ Some state → (acts : List Act) × IsLedTo flat place acts state
 
 -- all states to which some order leads are among so many
 pub record FitsIn (program : Program) (nodes most : ℕ) : Type 0 where
@@ -49,10 +53,16 @@ pub record MeetsMore (flat : Flat) (first : States) (most : ℕ) : Type 0 where
   pub widens : Widens first found.states
   pub many : most < size found.states
 
+-- the first of the states is the beginning, where the text begins at a place
+pub record Starts (flat : Flat) (place : ℕ) (states : States) : Type 0 where
+  pub state : State
+  pub there : IsAt states 0 state
+  pub is : IsFirst flat place state
+
 -- a search from the start of the code at a place met more than a bound
 pub record MeetsMoreFrom (flat : Flat) (place most : ℕ) : Type 0 where
   pub first : States
-  pub start : Stands flat first 0 (machine_begun flat place)
+  pub start : Starts flat place first
   pub more : MeetsMore flat first most
 
 -- why a search gives up: it met too many states, or had no memory

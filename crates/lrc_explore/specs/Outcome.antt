@@ -15,6 +15,7 @@ use Rattle.lrc_explore.specs.declared.outcomes.Outcome.{Outcome}
 use Rattle.lrc_explore.specs.Notes.{notes_of, notes_with}
 use Rattle.lrc_explore.specs.Noted.{AreNotedDistinct, AreNotedFull, IsNotedAt}
 use Rattle.lrc_explore.specs.States.{plain_at, IsStateOf}
+use Rattle.lrc_explore.specs.Led.{IsLedTo}
 use Rattle.lrc_explore.specs.Stuck.{IsAtRest}
 
 -- an order from this start after which no node can make an act, and what is noted of its acts
@@ -37,11 +38,12 @@ pub record HasOutcome (outcomes : List Outcome) (notes : List Act) : Type 0 wher
   pub there : slice_get outcomes place ≡ Some outcome
   pub same : outcome.notes.items ≡ notes
 
--- some order leads to the state, and its acts have these notes
-pub record IsLed (flat : Flat) (start : Plain) (key : Noted) : Type 0 where
+-- some order leads to the state, and so do its acts in the code, which begins at a place; they have these notes
+pub record IsLed (flat : Flat) (start : Plain) (place : ℕ) (key : Noted) : Type 0 where
   pub order : List ℕ
   pub acts : List Act
   pub led : plain_from start order ≡ Some (acts, plain_at flat key.state)
+  pub led_to : IsLedTo flat place acts key.state
   pub are : notes_of flat.nodes acts ≡ key.notes.items
 
 -- one of the states stands for this one, with these notes
@@ -53,9 +55,9 @@ pub record HasNoted (flat : Flat) (all : NotedStates) (machine : Plain) (notes :
   pub noted : key.notes.items ≡ notes
 
 -- the states are in order, led to, and no node has arrived more often than there are states before
-pub record AreNotedLed (flat : Flat) (start : Plain) (keys : List Noted) : Type 0 where
+pub record AreNotedLed (flat : Flat) (start : Plain) (place : ℕ) (keys : List Noted) : Type 0 where
   pub valid : (k : ℕ) (key : Noted) → slice_get keys k ≡ Some key → IsStateOf flat key.state
-  pub led : (k : ℕ) (key : Noted) → slice_get keys k ≡ Some key → IsLed flat start key
+  pub led : (k : ℕ) (key : Noted) → slice_get keys k ≡ Some key → IsLed flat start place key
   pub counted : (k : ℕ) (key : Noted) → slice_get keys k ≡ Some key → (node : ℕ) → slice_index key.state.arrivals.items node ≤ k
 
 -- no node has arrived more often than so
@@ -63,16 +65,16 @@ abbrev pub CountsUpTo : (most : ℕ) → Noted → Type 0
 CountsUpTo most key = (node : ℕ) → slice_index key.state.arrivals.items node ≤ most
 
 -- the state is in order, led to, and no node has arrived more often than so
-pub record IsGathered (flat : Flat) (start : Plain) (most : ℕ) (key : Noted) : Type 0 where
+pub record IsGathered (flat : Flat) (start : Plain) (place most : ℕ) (key : Noted) : Type 0 where
   pub valid : IsStateOf flat key.state
-  pub led : IsLed flat start key
+  pub led : IsLed flat start place key
   pub counted : CountsUpTo most key
 
 -- so are all, each of them stands once, and no node has arrived more often than there are states before
-pub record AreGathered (flat : Flat) (start : Plain) (all : NotedStates) : Type 0 where
+pub record AreGathered (flat : Flat) (start : Plain) (place : ℕ) (all : NotedStates) : Type 0 where
   pub full : AreNotedFull all
   pub distinct : AreNotedDistinct all
-  pub each : (k : ℕ) (key : Noted) → IsNotedAt all k key → IsGathered flat start k key
+  pub each : (k : ℕ) (key : Noted) → IsNotedAt all k key → IsGathered flat start place k key
 
 -- the states have all that a step of a node below a bound leads to from this one
 abbrev pub HasNextBelow : Flat → NotedStates → Noted → ℕ → Type 0
@@ -103,11 +105,11 @@ pub record FitsNoted (program : Program) (nodes most : ℕ) : Type 0 where
       → Contains states (machine, notes_of nodes acts)
 
 -- a search met more states than a bound, no two of them equal, to each of which some order leads
-pub record MeetsMoreNoted (flat : Flat) (start : Plain) (most : ℕ) : Type 0 where
+pub record MeetsMoreNoted (flat : Flat) (start : Plain) (place most : ℕ) : Type 0 where
   pub keys : List Noted
   pub many : most < length keys
   pub distinct : IsDistinct eq-value.it keys
-  pub led : AreNotedLed flat start keys
+  pub led : AreNotedLed flat start place keys
 
 -- so it is of the code of a program
 pub record HasMoreNoted (program : Program) (nodes most : ℕ) : Type 0 where
@@ -117,4 +119,4 @@ pub record HasMoreNoted (program : Program) (nodes most : ℕ) : Type 0 where
   pub words : flat.words ≡ program.words
   pub locks : flat.locks ≡ program.locks
   pub count : flat.nodes ≡ nodes
-  pub more : MeetsMoreNoted flat (plain_start program nodes) most
+  pub more : MeetsMoreNoted flat (plain_start program nodes) place most

@@ -38,6 +38,7 @@ impl Noted {
     ghost use Rattle.lrc_exec.specs.Spots.{IsFlat};
     ghost use Rattle.lrc_explore.specs.Notes.{notes_with};
     ghost use Rattle.lrc_explore.specs.States.{plain_at, IsStateOf, IsCopy};
+    ghost use Rattle.lrc_explore.specs.Led.{place_then, HasMoved};
 
     // The same state and notes.
     fn copy(&self, alloc: Global) -> Result<Noted, AllocError>
@@ -64,6 +65,7 @@ impl Noted {
         requires can { option_map (λ step. step.0) (plain_step (plain_at flat.now self.now.state) node) ≡ Some deed }
         requires room { slice_index self.now.state.arrivals.items node < 2 ^ 64 - 1 }
         ensures made { IfOk result (λ after. plain_step (plain_at flat.now self.now.state) node ≡ Some (deed, plain_at flat.now after.state)) }
+        ensures moved { IfOk result (λ after. HasMoved self.now.state node (place_then flat.now deed) after.state) }
         ensures state { IfOk result (λ after. IsStateOf flat.now after.state) }
         ensures notes { IfOk result (λ after. after.notes.items ≡ notes_with self.now.notes.items (act_of node deed)) }
     {

@@ -115,12 +115,12 @@ impl Gathered {
         requires distinct { AreNotedDistinct self.old.states }
         requires outcomes { self.old.outcomes.keys ≡ [] }
         ensures start { OnOk result (HasNoted flat.now self.new.states (machine_begun flat.now place) []) }
-        ensures led { OnOk result (AreGathered flat.now (machine_begun flat.now place) self.new.states) }
+        ensures led { OnOk result (AreGathered flat.now (machine_begun flat.now place) place self.new.states) }
         ensures sound { OnOk result (AreSound flat.now (machine_begun flat.now place) self.new.outcomes.keys) }
         ensures done { OnOk result (AreSearched flat.now self.new.states self.new.outcomes.keys (noted_count self.new.states)) }
         ensures fits { OnOk result (noted_count self.new.states ≤ most) }
         ensures nodes { IfErr result (λ fault. fault ≢ ExploreFault.BadNodes) }
-        ensures faults { IfErr result (λ fault. fault ≡ ExploreFault.TooMany → MeetsMoreNoted flat.now (machine_begun flat.now place) most) }
+        ensures faults { IfErr result (λ fault. fault ≡ ExploreFault.TooMany → MeetsMoreNoted flat.now (machine_begun flat.now place) place most) }
     {
         self.begin(alloc, flat, place)?;
         self.go_through(alloc, flat, place, most)
@@ -131,7 +131,7 @@ impl Gathered {
         requires place { place ≤ length flat.now.code.now }
         requires none { noted_count self.old.states ≡ 0 }
         requires distinct { AreNotedDistinct self.old.states }
-        ensures led { OnOk result (AreGathered flat.now (machine_begun flat.now place) self.new.states) }
+        ensures led { OnOk result (AreGathered flat.now (machine_begun flat.now place) place self.new.states) }
         ensures start { OnOk result (HasNoted flat.now self.new.states (machine_begun flat.now place) []) }
         ensures same { self.new.outcomes ≡ self.old.outcomes }
     {
@@ -150,15 +150,15 @@ impl Gathered {
         most: usize,
     ) -> Result<(), ExploreFault>
         requires flat { IsFlat flat.now }
-        requires led { AreGathered flat.now (machine_begun flat.now start) self.old.states }
+        requires led { AreGathered flat.now (machine_begun flat.now start) start self.old.states }
         requires none { self.old.outcomes.keys ≡ [] }
         ensures widens { OnOk result (WidensNoted self.old.states self.new.states) }
-        ensures led { OnOk result (AreGathered flat.now (machine_begun flat.now start) self.new.states) }
+        ensures led { OnOk result (AreGathered flat.now (machine_begun flat.now start) start self.new.states) }
         ensures sound { OnOk result (AreSound flat.now (machine_begun flat.now start) self.new.outcomes.keys) }
         ensures done { OnOk result (AreSearched flat.now self.new.states self.new.outcomes.keys (noted_count self.new.states)) }
         ensures fits { OnOk result (noted_count self.new.states ≤ most) }
         ensures nodes { IfErr result (λ fault. fault ≢ ExploreFault.BadNodes) }
-        ensures faults { IfErr result (λ fault. fault ≡ ExploreFault.TooMany → MeetsMoreNoted flat.now (machine_begun flat.now start) most) }
+        ensures faults { IfErr result (λ fault. fault ≡ ExploreFault.TooMany → MeetsMoreNoted flat.now (machine_begun flat.now start) start most) }
     {
         let mut place = 0;
         while place < self.states.len() {
@@ -180,12 +180,12 @@ impl Gathered {
         place: usize,
     ) -> Result<(), AllocError>
         requires flat { IsFlat flat.now }
-        requires led { AreGathered flat.now (machine_begun flat.now start) self.old.states }
+        requires led { AreGathered flat.now (machine_begun flat.now start) start self.old.states }
         requires sound { AreSound flat.now (machine_begun flat.now start) self.old.outcomes.keys }
         requires within { place < noted_count self.old.states }
         requires small { place < 2 ^ 63 }
         ensures widens { OnOk result (WidensNoted self.old.states self.new.states) }
-        ensures led { OnOk result (AreGathered flat.now (machine_begun flat.now start) self.new.states) }
+        ensures led { OnOk result (AreGathered flat.now (machine_begun flat.now start) start self.new.states) }
         ensures more { OnOk result (Grows self.old.outcomes.keys self.new.outcomes.keys) }
         ensures sound { OnOk result (AreSound flat.now (machine_begun flat.now start) self.new.outcomes.keys) }
         ensures done { OnOk result (IsSearchedAt flat.now self.new.states self.new.outcomes.keys place) }
@@ -208,12 +208,12 @@ impl Gathered {
         key: &Noted,
     ) -> Result<(), AllocError>
         requires flat { IsFlat flat.now }
-        requires led { AreGathered flat.now (machine_begun flat.now start) self.old.states }
+        requires led { AreGathered flat.now (machine_begun flat.now start) start self.old.states }
         requires there { IsNotedAt self.old.states place key.now }
         requires small { place < 2 ^ 63 }
         requires state { IsStateOf flat.now key.now.state }
         ensures widens { OnOk result (WidensNoted self.old.states self.new.states) }
-        ensures led { OnOk result (AreGathered flat.now (machine_begun flat.now start) self.new.states) }
+        ensures led { OnOk result (AreGathered flat.now (machine_begun flat.now start) start self.new.states) }
         ensures same { self.new.outcomes.keys ≡ self.old.outcomes.keys }
         ensures next { OnOk result (HasNextBelow flat.now self.new.states key.now (length key.now.state.spots.items)) }
     {
@@ -235,12 +235,12 @@ impl Gathered {
         start: usize,
         after: Noted,
     ) -> Result<(), AllocError>
-        requires led { AreGathered flat.now (machine_begun flat.now start) self.old.states }
+        requires led { AreGathered flat.now (machine_begun flat.now start) start self.old.states }
         requires state { IsStateOf flat.now after.state }
-        requires led_to { IsLed flat.now (machine_begun flat.now start) after }
+        requires led_to { IsLed flat.now (machine_begun flat.now start) start after }
         requires counted { CountsUpTo (noted_count self.old.states) after }
         ensures widens { OnOk result (WidensNoted self.old.states self.new.states) }
-        ensures led { OnOk result (AreGathered flat.now (machine_begun flat.now start) self.new.states) }
+        ensures led { OnOk result (AreGathered flat.now (machine_begun flat.now start) start self.new.states) }
         ensures same { self.new.outcomes.keys ≡ self.old.outcomes.keys }
         ensures has { OnOk result (HasNoted flat.now self.new.states (plain_at flat.now after.state) after.notes.items) }
     {

@@ -10,7 +10,9 @@ use Rattle.lrc_lang.specs.Statements.{statement_of}
 use Rattle.lrc_exec.specs.declared.code.Instruction.{Instruction}
 use Rattle.lrc_exec.specs.Flat.{IsGrown, IsPut, statements_in_statement}
 use Rattle.lrc_exec.proofs.Flat.{leading, grown_straight, grown_choice, grown_loop}
-use Rattle.lrc_exec.proofs.Counts.{in_choice, in_loop, in_straight, put_none, put_on, put_one}
+use Rattle.lrc_exec.specs.Laid.{IsLaid}
+use Rattle.lrc_exec.proofs.Counts.{in_choice, in_loop, in_straight, longer, put_none, put_on, put_one}
+use Rattle.lrc_exec.proofs.Laid.{laid_choice, laid_loop, laid_on, laid_straight, stand_longer}
 use Rattle.lrc_exec.proofs.emit.+emit.Goals as goal
 
 pub put_block-loop-i-init : goal.put_block-loop-i-init
@@ -54,9 +56,16 @@ put_statement-returns-in_ok-otherwise-in-If t c =
     let first = subst (λ l. IsPut old c1 l next then) c.deref.ensures.value c.in_ok-then-in-If.ensures in
     let second = subst (λ l. IsPut c1 c2 l next otherwise) c.deref-in-If.ensures.value c.in_ok-otherwise-in-If.ensures in
     let grown = grown_choice old c1 c2 i c.in-If.field-0 a b next then otherwise c.in-If.is refl refl refl c.requires first.grown second.grown in
+    let long1 = longer old c1 first.grown.more first.grown.grown in
+    let long2 = longer c1 c2 second.grown.more second.grown.grown in
+    let stand1 = stand_longer c1 c2 second.grown.more (length old) second.grown.grown in
+    let stand2 = stand_longer c2 (c2 ++ i ∷ []) (i ∷ []) (length old) refl in
     subst (λ x. IfOk c.put.result (λ place. IsPut old c.put.new.code.items (x ∷ []) next place)) (sym c.in-If.is)
     (put_one c.put.result old c2 c.put.new.code.items i (If c.in-If.field-0 a b) next c.put.ensures.place c.put.ensures.items grown
-    (omega (arith, first.each, second.each, in_choice c.in-If.field-0 a b)))
+    (omega (arith, first.each, second.each, in_choice c.in-If.field-0 a b))
+    (laid_choice c2 c.args.statement next (length old) then otherwise c.in-If.field-0 a b (omega (arith, long1, long2)) c.in-If.is
+    (laid_on c1 (c2 ++ i ∷ []) (length old) (length old) (omega arith) (λ k x past is. stand2 k x past (stand1 k x past is)) first.laid)
+    (laid_on c2 (c2 ++ i ∷ []) (length c1) (length old) long1 (λ k x past is. stand2 k x (omega (arith, past, long1)) is) second.laid)))
 
 -- the instruction of a loop stands where it was put
 read_loop : (old c2 more : List Instruction) (i d : Instruction) → c2 ≡ (old ++ i ∷ []) ++ more → get_or c2 (length (old ++ i ∷ []) - 1) d ≡ i
@@ -91,9 +100,13 @@ put_statement-returns-in_ok-then-in-While t c =
     ++ before ∷ []))) (sym c.in-While.is) grown in
     let placed = subst (λ n. IsGrown old (set c2 (n - 1) (leading c.args.statement next then next)) (c.args.statement.now ∷ []) next n) (sym place_is) named in
     let each = length-set c2 (place - 1) (leading c.args.statement next then next) in
+    let lies = laid_loop old c2 body.more c.args.statement c.in-While.field-0 c.in-While.body next then c.in-While.is body.grown put.laid in
+    let laid = subst (λ n. IsLaid (set c2 (n - 1) (leading c.args.statement next then next)) (length old) (c.args.statement.now ∷ []) next n) (sym place_is)
+    (subst (λ x. IsLaid (set c2 (length (old ++ before ∷ []) - 1) (leading c.args.statement next then next)) (length old) (x ∷ []) next (length (old
+    ++ before ∷ []))) (sym c.in-While.is) lies) in
     let size = ap (λ x. statements_in_statement (statement_of x)) c.in-While.is ∙ in_loop c.in-While.field-0 c.in-While.body in
     subst (λ x. IsPut old (set c2 (place - 1) x) (c.args.statement.now ∷ []) next place) (sym written)
-    record { grown = placed; each = omega (arith, each, put.each, length-append old (before ∷ []), size) }
+    record { grown = placed; each = omega (arith, each, put.each, length-append old (before ∷ []), size); laid = laid }
 
 pub put_statement-returns-in_default : goal.put_statement-returns-in_default
 put_statement-returns-in_default t c =
@@ -104,6 +117,7 @@ put_statement-returns-in_default t c =
     put_one c.put-in_default.result code code c.put-in_default.new.code.items i c.args.statement.now next c.put-in_default.ensures.place items
     (grown_straight code i c.args.statement.now next refl refl refl refl c.requires c.in_default.not-If c.in_default.not-While)
     (omega (arith, in_straight c.args.statement.now c.in_default.not-If c.in_default.not-While))
+    (laid_straight code c.args.statement next c.in_default.not-If c.in_default.not-While)
 
 pub put_block-returns-in_err-place : goal.put_block-returns-in_err-place
 put_block-returns-in_err-place t c = IfOk-from_err c.from_residual.result _ c.from_residual.ensures.0

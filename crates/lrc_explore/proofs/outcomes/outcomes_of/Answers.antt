@@ -37,5 +37,5 @@ returns-in-Err-clause-too_many c = λ too_many.
       words = c.words.ensures;
       locks = c.locks.ensures;
       count = refl;
-      more = subst (λ m. MeetsMoreNoted flat m c.args.most) start (c.in-Err.ensures.faults too_many);
+      more = subst (λ m. MeetsMoreNoted flat m place c.args.most) start (c.in-Err.ensures.faults too_many);
     }

@@ -1,6 +1,4 @@
-use Rattle.std.proofs.Common.{subst}
 use Rattle.lrc_exec.specs.declared.spot.Flat.{Flat}
-use Rattle.lrc_explore.specs.Search.{Stands}
 use Rattle.lrc_explore.proofs.Counting.{has_more}
 use Rattle.lrc_explore.proofs.Exploring.{begun_is}
 use Rattle.lrc_explore.proofs.Faults.{fault_says}
@@ -29,6 +27,6 @@ returns-clause-too_many c =
     let flat : Flat = record { code = c.parts-place.result.0; words = c.words.result; locks = c.locks.result; nodes = c.args.nodes } in
     let start = begun_is program flat place c.words.ensures c.locks.ensures c.parts-place.ensures.leads in
     fault_says c.search.result (λ fault meets too_many.
-    has_more program flat place c.args.most (meets too_many).first c.parts-place.ensures c.words.ensures c.locks.ensures
-    (subst (Stands flat (meets too_many).first 0) start (meets too_many).start) (meets too_many).more)
+    has_more program flat place c.args.most (meets too_many).first c.parts-place.ensures c.words.ensures c.locks.ensures start
+    (meets too_many).start (meets too_many).more)
     c.search.ensures.too_many

@@ -13,10 +13,10 @@ returns-clause-led c =
     let old = c.args.self.now.states in
     let none = c.requires.none in
     let key : Noted = record { state = c.in_ok-state.state; notes = c.new-notes.result } in
-    gathered_put flat start old c.add.new.self key c.in_ok-_place._place c.in_ok-_place._new
-    (gathered_none flat start old none c.requires.distinct)
-    (subst (λ n. IsGathered flat start n key) (sym none)
-    (first_gathered flat c.args.place key c.in_ok-state.ensures.start c.in_ok-state.ensures.state c.new-notes.ensures.items))
+    gathered_put flat start c.args.place old c.add.new.self key c.in_ok-_place._place c.in_ok-_place._new
+    (gathered_none flat start c.args.place old none c.requires.distinct)
+    (subst (λ n. IsGathered flat start c.args.place n key) (sym none)
+    (first_gathered flat c.args.place key c.in_ok-state.ensures.first c.in_ok-state.ensures.state c.new-notes.ensures.items))
     e.widens e.distinct e.added e.there
 
 pub returns-clause-start : goal.returns-clause-start
@@ -26,6 +26,6 @@ returns-clause-start c =
       place = c.in_ok-_place._place;
       key = key;
       there = c.in_ok-_place.ensures.there;
-      same = c.in_ok-state.ensures.start;
+      same = c.in_ok-state.ensures.first.begun;
       noted = c.new-notes.ensures.items;
     }

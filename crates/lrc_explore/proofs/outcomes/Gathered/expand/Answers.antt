@@ -15,8 +15,9 @@ after-requires-clause-room c =
 pub add-requires-clause-led_to : goal.add-requires-clause-led_to
 add-requires-clause-led_to c =
     let key = c.args.key.now in
-    led_next c.args.flat.now (machine_begun c.args.flat.now c.args.start) key c.in_ok-after.after c.loop-node.node c.in-Some.deed
-    (c.requires.led.each c.args.place key c.requires.there).led c.in_ok-after.ensures.made c.in_ok-after.ensures.notes
+    led_next c.args.flat.now (machine_begun c.args.flat.now c.args.start) c.args.start key c.in_ok-after.after c.loop-node.node c.in-Some.deed
+    (c.requires.led.each c.args.place key c.requires.there).led
+    (record { stepped = c.in_ok-after.ensures.made; moved = c.in_ok-after.ensures.moved }) c.in_ok-after.ensures.notes
     (omega (arith, c.loop-node-test.true, c.loop-node.auto.node-end, c.len-node-end.ensures, key.state.spots.ok.0, c.requires.state.spots))
 
 pub add-requires-clause-counted : goal.add-requires-clause-counted

@@ -29,7 +29,7 @@ loop-place-preserved c =
 pub returns-then-len-most-clause-faults : goal.returns-then-len-most-clause-faults
 returns-then-len-most-clause-faults c = λ e.
     let flat = c.args.flat.now in
-    meets_more flat (machine_begun flat c.args.start) c.args.most c.loop-place.self.states c.loop-place.invariant.0.led
+    meets_more flat (machine_begun flat c.args.start) c.args.start c.args.most c.loop-place.self.states c.loop-place.invariant.0.led
     (omega (arith, c.if-len-most.true, c.len-in-loop-place.ensures.len))
 
 pub returns-clause-fits : goal.returns-clause-fits
@@ -51,5 +51,5 @@ returns-in_err-visit c =
       done = IfOk-from_err r _ e.0;
       fits = IfOk-from_err r _ e.0;
       nodes = fault_up r NoMemory (λ f. f ≡ BadNodes → ⊥) e.1 (λ e. cc);
-      faults = fault_up r NoMemory (λ f. f ≡ TooMany → MeetsMoreNoted flat (machine_begun flat c.args.start) c.args.most) e.1 (λ e. cc);
+      faults = fault_up r NoMemory (λ f. f ≡ TooMany → MeetsMoreNoted flat (machine_begun flat c.args.start) c.args.start c.args.most) e.1 (λ e. cc);
     }

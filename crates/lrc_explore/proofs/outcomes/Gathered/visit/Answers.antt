@@ -29,7 +29,7 @@ returns-in_ok-insert_full-clause-sound c =
     let start = machine_begun flat c.args.start in
     put_all (λ k o. EndsWith start flat.nodes o.notes.items) _ c.expand.new.self.outcomes.keys c.insert_full.new.self.keys _
     c.in_ok-insert_full.ensures.keys (subst (AreSound flat start) (sym c.in_ok-expand.ensures.same) c.requires.sound)
-    (ends_there flat start key (c.requires.led.each c.args.place key c.in_ok-key.ensures).led (c.is_still.ensures.0 c.if-is_still.true))
+    (ends_there flat start c.args.start key (c.requires.led.each c.args.place key c.in_ok-key.ensures).led (c.is_still.ensures.0 c.if-is_still.true))
 
 pub returns-in_ok-insert_full-clause-done : goal.returns-in_ok-insert_full-clause-done
 returns-in_ok-insert_full-clause-done c =

@@ -3,18 +3,18 @@ use Rattle.lrc_explore.specs.declared.search.ExploreFault.TheVariants.{NoMemory,
 use Rattle.lrc_explore.specs.Limit.{IsExploreFault, MeetsMoreFrom}
 use Rattle.lrc_explore.specs.Search.{Stands}
 use Rattle.lrc_explore.proofs.Faults.{fault_up}
-use Rattle.lrc_explore.proofs.Searching.{stands_grown}
+use Rattle.lrc_explore.proofs.Searching.{stands_first, stands_grown}
 use Rattle.lrc_explore.proofs.search.Found.search.Goals as goal
 
 pub returns-clause-verdict : goal.returns-clause-verdict
 returns-clause-verdict c = λ program start.
     c.in_ok-verdict.ensures.verdict program
-    (stands_grown c.in_ok-end.ensures.widens (subst (Stands c.args.flat.now c.begin.new.self.states 0) start c.in_ok-begin.ensures.start))
+    (stands_grown c.in_ok-end.ensures.widens (subst (Stands c.args.flat.now c.begin.new.self.states 0) start (stands_first c.in_ok-begin.ensures.start)))
 
 pub returns-clause-fits : goal.returns-clause-fits
 returns-clause-fits c = λ program start.
     c.in_ok-verdict.ensures.fits program c.args.most
-    (stands_grown c.in_ok-end.ensures.widens (subst (Stands c.args.flat.now c.begin.new.self.states 0) start c.in_ok-begin.ensures.start))
+    (stands_grown c.in_ok-end.ensures.widens (subst (Stands c.args.flat.now c.begin.new.self.states 0) start (stands_first c.in_ok-begin.ensures.start)))
     c.in_ok-end.ensures.fits
 
 pub returns-in_err-end-clause-too_many : goal.returns-in_err-end-clause-too_many

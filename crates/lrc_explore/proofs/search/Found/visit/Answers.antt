@@ -24,7 +24,7 @@ pub expand-requires-clause-state : goal.expand-requires-clause-state
 expand-requires-clause-state c = c.requires.found.valid c.args.place c.in_ok-state.state c.in_ok-state.ensures
 
 pub expand-requires-clause-there : goal.expand-requires-clause-there
-expand-requires-clause-there c = record { state = c.in_ok-state.state; there = c.in_ok-state.ensures; same = refl }
+expand-requires-clause-there c = c.in_ok-state.ensures
 
 pub is_stuck-requires-clause-state : goal.is_stuck-requires-clause-state
 is_stuck-requires-clause-state c = c.requires.found.valid c.args.place c.in_ok-state.state c.in_ok-state.ensures
