@@ -88,10 +88,11 @@ module _ (s : Schedule) where
       ∙ next
   led_played start events run at (passes led on) = led_played start events run _ led
 
-  -- a run that wears out so does by some events
-  pub worn_by : (start : Run) → WearsOut s start → (events : List Event) × IsWornFrom start events
+  -- a run that wears out so does by no more than 100,000,000 events
+  pub worn_by : (start : Run) → WearsOut s start → (events : List Event) × (length events ≤ 100000000) × IsWornFrom start events
   worn_by start w = (
     w.before ++ w.event ∷ [],
+    omega (arith, w.early, length_push w.before w.event),
     record {
       before = w.before;
       event = w.event;
@@ -162,6 +163,7 @@ module _ (s : Schedule) where
     plays_by (Ok u) p = plays_ok u p
     plays_by (Err Worn) p = λ starts start d. record {
       before = old.events.items;
+      early = p.room;
       run = d.run;
       at = from;
       led = led_here starts start d p.room;

@@ -20,8 +20,8 @@ use Rattle.lrc_protocol.specs.Turn.{begins, run_effect, charged, Outcome, done, 
 use Rattle.lrc_protocol.specs.Turn.{turn_or, turn_by, run_turn, take_turn, is_ready, is_addressed, is_repeat, taking, empty_turn}
 use Rattle.lrc_protocol.specs.Turn.{takes}
 use Rattle.lrc_protocol.specs.Run.{Input, EntryRecord, Logged, Logging, logged, refused, too_large, logs, logging, next_stamp, MOST_STAMP}
-use Rattle.lrc_protocol.specs.Run.{World as Run, Flying as Sent, fresh_world, marked, sent_by, with_turn, with_mark, after_input, input_to}
-use Rattle.lrc_protocol.specs.Run.{delivers, event_on, step_of, played, run_of}
+use Rattle.lrc_protocol.specs.Run.{World as Run, Flying as Sent, fresh_world, sent_by, with_mark, after_input, input_to}
+use Rattle.lrc_protocol.specs.Run.{delivers, event_on, played, run_of}
 use Rattle.lrc_protocol.specs.Run as log
 use Rattle.lrc_protocol.proofs.Skips.{ready-goes_on}
 use Rattle.lrc_order_laws.proofs.Timely.{get_within}

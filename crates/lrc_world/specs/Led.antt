@@ -1,5 +1,5 @@
 -- Runs whose events are not given: something else says which event comes next.
-use Rattle.std.specs.Prelude.{◌≡◌, ◌⊎◌, ℕ, true, Some, None, List, [], ◌∷◌, ◌++◌}
+use Rattle.std.specs.Prelude.{◌≡◌, ◌⊎◌, ◌<◌, ℕ, true, Some, None, List, [], ◌∷◌, ◌++◌, length}
 use Rattle.lrc_lang.specs.declared.program.Program.{Program}
 use Rattle.lrc_protocol.specs.declared.event.Event.{Event}
 use Rattle.lrc_protocol.specs.Node.{OptionsRecord}
@@ -28,10 +28,11 @@ abbrev pub AreLed : Schedule → Program → ℕ → OptionsRecord → List Even
 AreLed schedule program nodes options events =
     (run : Run) × (at : schedule.Standing) × Led schedule (fresh_world program nodes options) events run at
 
--- A run that is led so from a world on comes to an event at which a number, an interval's index or a stamp would be too large, or a
--- message is longer than may be sent.
+-- A run that is led so from a world on comes, after fewer than 100,000,000 events, to one at which a number, an interval's index or a
+-- stamp would be too large, or a message is longer than may be sent.
 pub record WearsOut (schedule : Schedule) (start : Run) : Type 0 where
   pub before : List Event
+  pub early : length before < 100000000
   pub run : Run
   pub at : schedule.Standing
   pub led : Led schedule start before run at

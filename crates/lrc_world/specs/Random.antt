@@ -55,6 +55,6 @@ wandering nodes seed = record {
 abbrev pub IsWandering : Program → ℕ → OptionsRecord → ℕ → List Event → Type 0
 IsWandering program nodes options seed events = AreLed (wandering nodes seed) program nodes options events
 
--- a number or a message becomes too large at an event of that run
+-- a number or a message becomes too large at one of the first 100,000,000 events of that run
 abbrev pub WanderingWearsOut : Program → ℕ → OptionsRecord → ℕ → Type 0
 WanderingWearsOut program nodes options seed = WearsOut (wandering nodes seed) (fresh_world program nodes options)

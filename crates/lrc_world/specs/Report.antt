@@ -1,5 +1,5 @@
 -- What is reported of a run.
-use Rattle.std.specs.Prelude.{◌≡◌, ◌⊎◌, ℕ, false, true, Some, None, List, [], ◌∷◌, ◌++◌, MatchOption, map}
+use Rattle.std.specs.Prelude.{◌≡◌, ◌⊎◌, ◌≤◌, ℕ, false, true, Some, None, List, [], ◌∷◌, ◌++◌, MatchOption, length, map}
 use Rattle.std.specs.List.{list_any}
 use Rattle.lrc_lang.specs.declared.program.Program.{Program}
 use Rattle.lrc_trace.specs.Conflict.{IsFirstRace, IsRaceFree}
@@ -52,6 +52,10 @@ pub record IsWornFrom (start : Run) (events : List Event) : Type 0 where
 -- the same from the beginning of a program on
 abbrev pub IsWornBy : Program → ℕ → OptionsRecord → List Event → Type 0
 IsWornBy program nodes options events = IsWornFrom (fresh_world program nodes options) events
+
+-- so it is at one of no more than 100,000,000 events of a program
+abbrev pub WearsOutEarly : Program → ℕ → OptionsRecord → Type 0
+WearsOutEarly program nodes options = (events : List Event) × (length events ≤ 100000000) × IsWornBy program nodes options events
 
 -- the report is that of the program's run of these events
 abbrev pub IsReportOf : Program → ℕ → OptionsRecord → List Event → Report → Type 0

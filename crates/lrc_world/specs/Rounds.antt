@@ -56,6 +56,6 @@ schedule_of_rounds picker nodes = record { Standing = Stage; first = at_node zer
 abbrev pub AreRounds : Program → ℕ → OptionsRecord → Picker → List Event → Type 0
 AreRounds program nodes options picker events = AreLed (schedule_of_rounds picker nodes) program nodes options events
 
--- a number or a message becomes too large at an event of a program's run in rounds
+-- a number or a message becomes too large at one of the first 100,000,000 events of a program's run in rounds
 abbrev pub RoundsWearOut : Program → ℕ → OptionsRecord → Picker → Type 0
 RoundsWearOut program nodes options picker = WearsOut (schedule_of_rounds picker nodes) (fresh_world program nodes options)

@@ -1,16 +1,15 @@
 // Runs of a program, by a list of events, in rounds or in a random order.
 
-ghost use Rattle.std.specs.Prelude.{◌≡◌, ◌<◌, ◌≤◌, ◌↔◌, List, length, IfOk, Err, true};
+ghost use Rattle.std.specs.Prelude.{◌≡◌, ◌<◌, ◌≤◌, ◌↔◌, length, IfOk, Err, true};
 ghost use Rattle.lrc_judge.specs.Races.{AreNamedRaces};
 ghost use Rattle.lrc_exec.specs.Nodes.{AreNodes};
-ghost use Rattle.lrc_protocol.specs.declared.event.Event.{Event as AnyEvent};
 ghost use Rattle.lrc_protocol.specs.Run.{fresh_world};
 ghost use Rattle.lrc_world.specs.Driven.{schedule_of};
 ghost use Rattle.lrc_world.specs.Led.{AreLed, WearsOut};
 ghost use Rattle.lrc_world.specs.Random.{IsWandering, WanderingWearsOut};
 ghost use Rattle.lrc_world.specs.Range.{AreSteps};
 ghost use Rattle.lrc_world.specs.Promises.{AreKept};
-ghost use Rattle.lrc_world.specs.Report.{AreAll, IsBriefOf, IsKeptReportOf, IsReportOf, IsWornBy};
+ghost use Rattle.lrc_world.specs.Report.{AreAll, IsBriefOf, IsKeptReportOf, IsReportOf, IsWornBy, WearsOutEarly};
 ghost use Rattle.lrc_world.specs.Rounds.{AreRounds, RoundsWearOut};
 ghost use Rattle.lrc_world.specs.Turned.{AreAllTurned};
 
@@ -121,7 +120,7 @@ pub fn drive(
     // Unless there are 100,000,000 events, no node is ready and no message is in flight after them.
     ensures few { IfOk result (λ done. length done.0.items ≤ 100000000) }
     ensures over { IfOk result (λ done. length done.0.items < 100000000 → AreAll program.now nodes options.now done.0.items) }
-    ensures worn { result ≡ Err SimFault.Worn → (events : List AnyEvent) × IsWornBy program.now nodes options.now events }
+    ensures worn { result ≡ Err SimFault.Worn → WearsOutEarly program.now nodes options.now }
     ensures worn_rounds { result ≡ Err SimFault.Worn → RoundsWearOut program.now nodes options.now picker }
     ensures bad_nodes { (result ≡ Err SimFault.BadNodes) ↔ (¬ AreNodes nodes) }
     ensures bad_steps { (result ≡ Err SimFault.BadSteps) ↔ (AreNodes nodes × ¬ AreSteps options.now.steps) }
@@ -148,7 +147,7 @@ pub fn drive_briefly(
     // Unless there are 100,000,000 events, no node is ready and no message is in flight after them.
     ensures few { IfOk result (λ done. length done.0.items ≤ 100000000) }
     ensures over { IfOk result (λ done. length done.0.items < 100000000 → AreAll program.now nodes options.now done.0.items) }
-    ensures worn { result ≡ Err SimFault.Worn → (events : List AnyEvent) × IsWornBy program.now nodes options.now events }
+    ensures worn { result ≡ Err SimFault.Worn → WearsOutEarly program.now nodes options.now }
     ensures worn_rounds { result ≡ Err SimFault.Worn → RoundsWearOut program.now nodes options.now picker }
     ensures bad_nodes { (result ≡ Err SimFault.BadNodes) ↔ (¬ AreNodes nodes) }
     ensures bad_steps { (result ≡ Err SimFault.BadSteps) ↔ (AreNodes nodes × ¬ AreSteps options.now.steps) }
@@ -180,7 +179,7 @@ pub fn wander(
     // Unless there are 100,000,000 events, no node is ready and no message is in flight after them.
     ensures few { IfOk result (λ done. length done.0.items ≤ 100000000) }
     ensures over { IfOk result (λ done. length done.0.items < 100000000 → AreAll program.now nodes options.now done.0.items) }
-    ensures worn { result ≡ Err SimFault.Worn → (events : List AnyEvent) × IsWornBy program.now nodes options.now events }
+    ensures worn { result ≡ Err SimFault.Worn → WearsOutEarly program.now nodes options.now }
     ensures worn_wandering { result ≡ Err SimFault.Worn → WanderingWearsOut program.now nodes options.now seed }
     ensures bad_nodes { (result ≡ Err SimFault.BadNodes) ↔ (¬ AreNodes nodes) }
     ensures bad_steps { (result ≡ Err SimFault.BadSteps) ↔ (AreNodes nodes × ¬ AreSteps options.now.steps) }
@@ -207,7 +206,7 @@ pub fn wander_briefly(
     // Unless there are 100,000,000 events, no node is ready and no message is in flight after them.
     ensures few { IfOk result (λ done. length done.0.items ≤ 100000000) }
     ensures over { IfOk result (λ done. length done.0.items < 100000000 → AreAll program.now nodes options.now done.0.items) }
-    ensures worn { result ≡ Err SimFault.Worn → (events : List AnyEvent) × IsWornBy program.now nodes options.now events }
+    ensures worn { result ≡ Err SimFault.Worn → WearsOutEarly program.now nodes options.now }
     ensures worn_wandering { result ≡ Err SimFault.Worn → WanderingWearsOut program.now nodes options.now seed }
     ensures bad_nodes { (result ≡ Err SimFault.BadNodes) ↔ (¬ AreNodes nodes) }
     ensures bad_steps { (result ≡ Err SimFault.BadSteps) ↔ (AreNodes nodes × ¬ AreSteps options.now.steps) }

@@ -1,4 +1,4 @@
-use Rattle.std.proofs.Common.{◌≡◌, ◌∙◌, ◌++◌, ◌+◌, ◌||◌, [], ◌∷◌, ℕ, Bool, true, false, List, Some, Ok, append_assoc, arith, sym, ap, map, suc, take}
+use Rattle.std.proofs.Common.{◌≡◌, ◌∙◌, ◌++◌, ◌+◌, ◌||◌, [], ◌∷◌, ℕ, Bool, true, false, List, Some, append_assoc, arith, sym, ap, map, suc, take}
 use Rattle.std.specs.Prelude.{slice_get}
 use Rattle.std.specs.List.{list_any}
 use Rattle.lrc_envelope.specs.Envelope.{EnvelopeRecord}
