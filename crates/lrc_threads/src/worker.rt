@@ -1,12 +1,12 @@
 // One node's thread.
 
-ghost use Rattle.std.specs.Prelude.{List, ◌≡◌, ◌++◌, ◌∷◌, [], IfOk, OnOk, Ok, map, MatchOption, is_err, true, false, IfErr, IfSome, IfNone, ◌≢◌, Any};
+ghost use Rattle.std.specs.Prelude.{List, ◌≡◌, ◌++◌, ◌∷◌, [], IfOk, OnOk, Ok, map, MatchOption, is_err, true, false, IfErr, IfSome, IfNone, ◌≢◌, All, Any};
 ghost use Rattle.lrc_protocol.specs.Run as log;
 ghost use Rattle.lrc_protocol.specs.Run.{EntryRecord};
 ghost use Rattle.lrc_node.specs.Logged.{sound};
 ghost use Rattle.lrc_wire.specs.Reading.{envelope_of};
 ghost use Rattle.lrc_threads.specs.declared.stop.Stop.TheVariants.{Closed, NoMemory, Worn};
-ghost use Rattle.lrc_threads.specs.Worker.{GoesTo, IsIdle, IsRead, IsTooLong, LogsLast, SendsTo, TakesIn, TakesNext, TracesTo, made_of, shown, shown_sent, stop_of};
+ghost use Rattle.lrc_threads.specs.Worker.{GoesTo, IsIdle, IsRead, IsShort, IsTooLong, LogsLast, SendsTo, TakesIn, TakesNext, TracesTo, made_of, shown, shown_sent, stop_of};
 
 use crate::gate::Gate;
 use crate::mail::Mail;
@@ -205,6 +205,7 @@ fn send_last<M: Mail>(alloc: Global, mail: &mut M, node: &Logged<'_>) -> Result<
 // The parcels of messages that are sent in one turn.
 fn parcels_of(alloc: Global, out: &[Envelope], stamp: u64) -> Result<Vec<Parcel>, Stop>
     ensures shown { IfOk result (λ parcels. map shown parcels.items ≡ map (shown_sent stamp) out.now) }
+    ensures short { OnOk result (All IsShort out.now) }
     ensures worn { IfErr result (λ stop. stop ≡ Worn → Any IsTooLong out.now) }
     ensures open { IfErr result (λ stop. stop ≢ Closed) }
 {
@@ -218,6 +219,7 @@ fn parcels_of(alloc: Global, out: &[Envelope], stamp: u64) -> Result<Vec<Parcel>
 // The parcel of a message.
 fn parcel_of(alloc: Global, envelope: &Envelope, stamp: u64) -> Result<Parcel, Stop>
     ensures shown { IfOk result (λ parcel. shown parcel ≡ shown_sent stamp envelope.now) }
+    ensures short { OnOk result (IsShort envelope.now) }
     ensures worn { IfErr result (λ stop. stop ≡ Worn → IsTooLong envelope.now) }
     ensures open { IfErr result (λ stop. stop ≢ Closed) }
 {
