@@ -56,11 +56,11 @@ SendsTooLong entry = Any IsTooLong entry.turn.out
 abbrev pub IsShort : EnvelopeRecord → Type 0
 IsShort envelope = length (body Two runs_of envelope.message) ≤ MOST_BODY_BYTES
 
--- so has each message of a turn
+-- the same of each message of a turn
 abbrev pub SendsShort : EntryRecord → Type 0
 SendsShort entry = All IsShort entry.turn.out
 
--- and each of all turns of a log
+-- the same of each turn of a log
 abbrev pub AreShort : List EntryRecord → Type 0
 AreShort log = All SendsShort log
 
