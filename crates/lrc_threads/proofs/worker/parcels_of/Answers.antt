@@ -7,5 +7,6 @@ use Rattle.lrc_threads.proofs.worker.parcels_of.Goals as goal
 pub loop-envelope-preserved : goal.loop-envelope-preserved
 loop-envelope-preserved c = record {
   shown = grind (arith, common_steps);
-  short = All-more IsShort c.args.out.now c.loop-envelope.envelope-index c.envelope-item.result (search rules) c.loop-envelope.invariant.short (search rules);
+  short = All-more IsShort c.args.out.now c.loop-envelope.envelope-index c.envelope-item.result (search rules)
+      c.loop-envelope.invariant.short (search rules);
 }
