@@ -2,11 +2,14 @@
 use Rattle.std.proofs.Common.{◌≡◌, ◌∙◌, ◌<◌, ◌≤◌, ◌+◌, ℕ, suc, List, [], ◌∷◌, ◌⊎◌, inl, inr, Bool, true, false, length, Some, ◌||◌, refl, sym, ap, subst, arith, map}
 use Rattle.std.specs.Prelude.{All, MatchOption, slice_get}
 use Rattle.std.specs.List.{enumerate_from, list_any}
+use Rattle.std.proofs.lemmas.Bool.{le-ltb}
+use Rattle.std.proofs.lemmas.List.Elements.{All-head, All-tail}
 use Rattle.lrc_lang.specs.declared.program.Program.{Program}
 use Rattle.lrc_trace.specs.declared.act.Act.{Act}
 use Rattle.lrc_trace.specs.declared.race.Race.{Race}
 use Rattle.lrc_trace.specs.Conflict.{IsFirstRace, IsRaceFree}
 use Rattle.lrc_trace.specs.Trace.{TraceRecord}
+use Rattle.lrc_envelope.specs.Envelope.{EnvelopeRecord}
 use Rattle.lrc_judge.specs.Races.{AreNamedRaces}
 use Rattle.lrc_race.specs.Races.{AreRacesOf, AreTracesOf}
 use Rattle.lrc_post.specs.Mailbox.{MailboxRecord}
@@ -18,6 +21,10 @@ use Rattle.lrc_protocol.specs.Traced.{trace_of, traced, traces_of}
 use Rattle.lrc_protocol.specs.Turn.{is_ready}
 use Rattle.lrc_protocol.proofs.Traces.{traced_node}
 use Rattle.lrc_protocol.proofs.Worlds.{run-whole}
+use Rattle.lrc_wire.specs.declared.limits.TheConstants.{MOST_BODY_BYTES}
+use Rattle.lrc_wire.specs.declared.version.Version.TheVariants.{Two}
+use Rattle.lrc_wire.specs.Runs.{runs_of}
+use Rattle.lrc_wire.specs.Spelling.{body}
 use Rattle.lrc_weave.proofs.Places.{some_same}
 use Rattle.lrc_weave.specs.Logs.{AreLogs}
 use Rattle.lrc_weave.specs.Matched.{AreMatched}
@@ -27,6 +34,7 @@ use Rattle.lrc_world.specs.declared.report.Report.{Report}
 use Rattle.lrc_world.specs.Ends.{ends_of}
 use Rattle.lrc_world.specs.Promises.{IsConsistent}
 use Rattle.lrc_world.specs.Report.{AreAll, IsReportOf, end_of_logged}
+use Rattle.lrc_world.specs.World.{entry_is_long, is_long, log_is_long, sends_long}
 use Rattle.lrc_world.proofs.Driven.{none_long}
 use Rattle.lrc_world.proofs.EndsOfRuns.{ends_of_acts}
 use Rattle.lrc_world.proofs.Races.{races_there, raceless_there, traces_there}
@@ -34,7 +42,34 @@ use Rattle.lrc_world.proofs.Theorem.{consistent_acts}
 use Rattle.lrc_world.proofs.Worlds.{acts_in_range}
 use Rattle.lrc_run.specs.Run.{IsWovenReport, turns_of_nodes}
 use Rattle.lrc_threads.specs.Threads.{is_any_ready_after, traces_of_logs}
-use Rattle.lrc_threads.specs.Worker.{is_ready_after}
+use Rattle.lrc_threads.specs.Worker.{AreShort, IsShort, SendsShort, is_ready_after}
+
+-- ---- messages that are short
+
+neither : (a b : Bool) → a ≡ false → b ≡ false → (a || b) ≡ false
+neither false b first other = other
+neither true b first other = cc
+
+-- a test that each fails is passed by none
+none_pass : {A : Type 0} (test : A → Bool) (P : A → Type 0) → ((x : A) → P x → test x ≡ false) → (xs : List A) → All P xs → list_any test xs ≡ false
+none_pass test P fails [] all = refl
+none_pass test P fails (x ∷ xs) all =
+    neither (test x) (list_any test xs) (fails x (All-head P x xs all)) (none_pass test P fails xs (All-tail P x xs all))
+
+short_message : (envelope : EnvelopeRecord) → IsShort envelope → is_long envelope ≡ false
+short_message envelope short = le-ltb MOST_BODY_BYTES (length (body Two runs_of envelope.message)) short
+
+short_turn : (entry : EntryRecord) → SendsShort entry → entry_is_long entry ≡ false
+short_turn entry short = none_pass is_long IsShort short_message entry.turn.out short
+
+short_nodes : (ls : List Logged) → All AreShort (map (λ (l : Logged). l.log) ls) → list_any log_is_long ls ≡ false
+short_nodes [] all = refl
+short_nodes (l ∷ ls) all =
+    let others : List (List EntryRecord) = map (λ (l : Logged). l.log) ls in
+    neither (log_is_long l) (list_any log_is_long ls) (none_pass entry_is_long SendsShort short_turn l.log (All-head AreShort l.log others all))
+    (short_nodes ls (All-tail AreShort l.log others all))
+
+-- ---- a run that logs tell of
 
 true_false : true ≡ false → ⊥
 true_false e = cc
@@ -127,6 +162,13 @@ module _ (program : Program) (nodes : ℕ) (options : OptionsRecord) (logs : Lis
       ap (λ (w : World). length w.flight) (some_same (run_of program nodes options events) m.world all.0 m.runs all.1) ∙ ap length all.2.taken in
       omega (arith, some, m.flight, none)
 
+  -- ---- how long its messages are
+
+  pub short_told : All AreShort logs → (run : World) → run_of program nodes options events ≡ Some run → sends_long run ≡ false
+  short_told short run runs =
+      subst (λ (w : World). sends_long w ≡ false) (some_same (run_of program nodes options events) m.world run m.runs runs)
+      (short_nodes m.world.nodes (subst (All AreShort) (sym m.logs_are) short))
+
   -- ---- the report
 
   pub report_told : (report : Report) → report.acts.items ≡ acts → report.ends.items ≡ ends_of nodes acts → turns_of_nodes report ≡ logs
@@ -144,12 +186,14 @@ module _ (program : Program) (nodes : ℕ) (options : OptionsRecord) (logs : Lis
   )
 
   pub woven_told : (report : Report) → IsReportOf program nodes options events report → turns_of_nodes report ≡ logs
-      → (flight : List Flying) × AreWoven logs events flight → AreAll program nodes options events → IsWovenReport program nodes options events report
-  woven_told report is same_turns woven over = record {
+      → (flight : List Flying) × AreWoven logs events flight → AreAll program nodes options events → All AreShort logs
+      → IsWovenReport program nodes options events report
+  woven_told report is same_turns woven over short = record {
     flight = woven.0;
     reported = is;
     woven = subst (λ turns. AreWoven turns events woven.0) (sym same_turns) woven.1;
     over = over;
+    short = short_told short;
   }
 
 -- what agrees with the logs agrees with a report that has them

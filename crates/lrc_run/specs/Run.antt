@@ -1,18 +1,19 @@
 -- What a run of nodes on threads answers.
-use Rattle.std.specs.Prelude.{◌≡◌, ℕ, ◌<◌, ◌^◌, ◌⊎◌, List, length, map}
+use Rattle.std.specs.Prelude.{◌≡◌, ℕ, ◌<◌, ◌^◌, ◌⊎◌, false, Some, List, length, map}
 use Rattle.lrc_lang.specs.declared.program.Program.{Program}
 use Rattle.lrc_envelope.specs.declared.picker.Picker.{Picker}
 use Rattle.lrc_post.specs.Mailbox.{MailboxRecord}
 use Rattle.lrc_post.specs.Post.{AreOf, AreWires}
 use Rattle.lrc_protocol.specs.declared.event.Event.{Event}
 use Rattle.lrc_protocol.specs.Node.{OptionsRecord}
-use Rattle.lrc_protocol.specs.Run.{EntryRecord, Flying}
+use Rattle.lrc_protocol.specs.Run.{EntryRecord, Flying, World, run_of}
 use Rattle.lrc_weave.specs.declared.fault.WeaveFault.{WeaveFault}
 use Rattle.lrc_weave.specs.declared.fault.WeaveFault.TheVariants as weaving
 use Rattle.lrc_weave.specs.Matched.{AreMatched}
 use Rattle.lrc_weave.specs.Woven.{AreWoven}
 use Rattle.lrc_world.specs.declared.report.Report.{Report}
 use Rattle.lrc_world.specs.Report.{AreAll, IsReportOf, IsWornBy}
+use Rattle.lrc_world.specs.World.{sends_long}
 use Rattle.lrc_run.specs.declared.fault.RunFault.{RunFault}
 use Rattle.lrc_run.specs.declared.fault.RunFault.TheVariants.{BadNodes, BadSteps, Worn, Mismatch, NoMemory}
 
@@ -21,12 +22,13 @@ abbrev pub turns_of_nodes : Report → List (List EntryRecord)
 turns_of_nodes report = map (λ log. log.items) report.logs.items
 
 -- The report is that of these events, which make all turns of its logs, ordered by their stamps and, where those are the same, by
--- their nodes. After them no node is ready, and no message is in flight.
+-- their nodes. After them no node is ready, and no message is in flight. No turn of their run sends a message that is too long.
 pub record IsWovenReport (program : Program) (nodes : ℕ) (options : OptionsRecord) (events : List Event) (report : Report) : Type 0 where
   pub flight : List Flying
   pub reported : IsReportOf program nodes options events report
   pub woven : AreWoven (turns_of_nodes report) events flight
   pub over : AreAll program nodes options events
+  pub short : (run : World) → run_of program nodes options events ≡ Some run → sends_long run ≡ false
 
 -- There is a mailbox for each node, with a legal history: exactly the puts that the senders' logs make to it, and the takes of its
 -- owner's log, each once and in the order of each log. Each take is of the parcel that the picker gives of those in flight then.

@@ -1,6 +1,6 @@
 // Runs of a program whose nodes are on threads.
 
-ghost use Rattle.std.specs.Prelude.{◌≡◌, ◌≤◌, ◌↔◌, ◌⊎◌, List, Err, IfOk, IfErr, MatchResult, length, map};
+ghost use Rattle.std.specs.Prelude.{◌≡◌, ◌≤◌, ◌↔◌, ◌⊎◌, List, All, Err, IfOk, IfErr, MatchResult, length, map};
 ghost use Rattle.lrc_judge.specs.Races.{AreNamedRaces};
 ghost use Rattle.lrc_exec.specs.Nodes.{AreNodes};
 ghost use Rattle.lrc_protocol.specs.declared.event.Event.{Event as AnyEvent};
@@ -12,6 +12,7 @@ ghost use Rattle.lrc_world.specs.Range.{AreSteps};
 ghost use Rattle.lrc_world.specs.Report.{IsWornBy};
 ghost use Rattle.lrc_run.specs.Run.{AreWiresOf, IsLate, IsWovenReport, WearsOutSoon, turns_of_nodes};
 ghost use Rattle.lrc_threads.specs.Threads.{is_any_ready_after, traces_of_logs};
+ghost use Rattle.lrc_threads.specs.Worker.{AreShort};
 
 use crate::failure::{Remains, fault_of};
 use crate::fault::RunFault;
@@ -138,6 +139,7 @@ fn live<G: Gate + Sync, R: Threads + Wait + Sync>(
     requires range { AreNodes setting.now.nodes × AreSteps setting.now.options.steps }
     ensures logs { IfOk result (λ lived.
         AreLogs setting.now.program.now setting.now.nodes setting.now.options (map (λ log. log.items) lived.0.logs.items)) }
+    ensures short { IfOk result (λ lived. All AreShort (map (λ log. log.items) lived.0.logs.items)) }
     ensures traces { IfOk result (λ lived. lived.0.traces.items
         ≡ traces_of_logs setting.now.program.now setting.now.nodes setting.now.options (map (λ log. log.items) lived.0.logs.items)) }
     ensures ready { IfOk result (λ lived. lived.0.is_any_ready

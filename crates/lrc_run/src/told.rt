@@ -11,6 +11,7 @@ ghost use Rattle.lrc_world.specs.Ends.{ends_of};
 ghost use Rattle.lrc_world.specs.Promises.{IsConsistent};
 ghost use Rattle.lrc_run.specs.Run.{IsOfTelling, IsUntold, IsWovenReport, turns_of_nodes};
 ghost use Rattle.lrc_threads.specs.Threads.{is_any_ready_after, traces_of_logs};
+ghost use Rattle.lrc_threads.specs.Worker.{AreShort};
 
 use crate::fault::RunFault;
 use lrc_node::End;
@@ -45,6 +46,7 @@ pub(crate) fn told(
 ) -> Result<(Report, Vec<Event>), RunFault>
     requires few { setting.now.nodes ≤ 16 }
     requires logs { AreLogs setting.now.program.now setting.now.nodes setting.now.options (map (λ log. log.items) parts.logs.items) }
+    requires short { All AreShort (map (λ log. log.items) parts.logs.items) }
     requires traces { parts.traces.items
         ≡ traces_of_logs setting.now.program.now setting.now.nodes setting.now.options (map (λ log. log.items) parts.logs.items) }
     requires ready { parts.is_any_ready

@@ -1,10 +1,11 @@
 -- Turns of a node, and the log that they leave.
 use Rattle.std.proofs.Common.{◌≡◌, ◌∙◌, ℕ, List, [], ◌∷◌, ◌++◌, refl, sym, ap, subst, append-nil, append_assoc}
+use Rattle.std.proofs.lemmas.List.Elements.{All-nil, All-push}
 use Rattle.lrc_protocol.specs.Node.{Node}
 use Rattle.lrc_protocol.specs.Run.{Input, EntryRecord, Logged, logged, logs}
 use Rattle.lrc_node.proofs.Leading.{entry_of}
 use Rattle.lrc_weave.specs.Logs.{MayCome, GoesOnBy}
-use Rattle.lrc_threads.specs.Worker.{Turns, none, more, no_turn_yet}
+use Rattle.lrc_threads.specs.Worker.{AreShort, SendsShort, Turns, none, more, no_turn_yet}
 
 -- a node with its log goes on by these entries to another state of it
 abbrev LeadsTo : Logged → List EntryRecord → Logged → Type 0
@@ -29,7 +30,7 @@ one_more l k j (first ∷ others) entry input came leads may turn =
 -- turns lead on by the entries that they add
 leads_on : {l j : Logged} → Turns l j → (log : List EntryRecord) × (j.log ≡ l.log ++ log) × LeadsTo l log j
 leads_on {l = l} none = ([], sym (append-nil l.log), refl)
-leads_on {l = l} (more {k = k} {j = j} {entry = entry} input came before may turn) =
+leads_on {l = l} (more {k = k} {j = j} {entry = entry} input came before may turn short) =
     let so_far = leads_on before in (
       so_far.0 ++ entry ∷ [],
       (entry_of k input came entry j turn).log_is ∙ ap (λ log. log ++ entry ∷ []) so_far.1 ∙ append_assoc l.log so_far.0 (entry ∷ []),
@@ -44,3 +45,13 @@ goes_on_by l j (entry ∷ others) leads = (leads.0, leads.1, leads.2, leads.3, g
 pub log_goes_on : (start : Node) (j : Logged) → Turns (no_turn_yet start) j → GoesOnBy (no_turn_yet start) j.log
 log_goes_on start j turns =
     let led = leads_on turns in subst (GoesOnBy (no_turn_yet start)) (sym led.1) (goes_on_by (no_turn_yet start) j led.0 led.2)
+
+-- turns add no message that is too long
+pub short_after : {l j : Logged} → Turns l j → AreShort l.log → AreShort j.log
+short_after none before = before
+short_after (more {k = k} {j = j} {entry = entry} input came others may turn short) before =
+    subst AreShort (sym (entry_of k input came entry j turn).log_is) (All-push SendsShort k.log entry (short_after others before) short)
+
+-- the log of a node's turns from its first on has none
+pub log_short : (start : Node) (j : Logged) → Turns (no_turn_yet start) j → AreShort j.log
+log_short start j turns = short_after turns (All-nil SendsShort)

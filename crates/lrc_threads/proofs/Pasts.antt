@@ -1,9 +1,10 @@
 -- What the nodes of a run did, taken apart.
 use Rattle.std.proofs.Common.{◌≡◌, ◌∙◌, ℕ, suc, ◌+◌, ◌||◌, Bool, List, [], ◌∷◌, Option, None, Some, option_map, refl, sym, ap, subst, arith, length, map}
-use Rattle.std.specs.Prelude.{slice_get}
+use Rattle.std.specs.Prelude.{All, slice_get}
 use Rattle.std.specs.List.{enumerate_from, list_any}
 use Rattle.std.proofs.lemmas.List.{length-map}
 use Rattle.std.proofs.lemmas.Option.{slice_get-map}
+use Rattle.std.proofs.lemmas.List.Elements.{All-cons, All-nil}
 use Rattle.lrc_lang.specs.declared.program.Program.{Program}
 use Rattle.lrc_trace.specs.Trace.{TraceRecord}
 use Rattle.lrc_protocol.specs.Node.{OptionsRecord, fresh_node}
@@ -12,7 +13,7 @@ use Rattle.lrc_protocol.specs.Traced.{trace_of}
 use Rattle.lrc_weave.specs.Logs.{AreLogs}
 use Rattle.lrc_threads.specs.declared.life.Past.{Past}
 use Rattle.lrc_threads.specs.Threads.{ArePastsOf, is_any_ready_after, traces_of_logs}
-use Rattle.lrc_threads.specs.Worker.{IsLogOf, is_ready_after}
+use Rattle.lrc_threads.specs.Worker.{AreShort, IsLogOf, is_ready_after}
 
 -- what is the same at each place is the same of all
 same_at_each : {A B X : Type 0} (f : A → X) (g : ℕ → B → X) (part : A → B) (n : ℕ) (items : List A)
@@ -41,6 +42,11 @@ found_at part (Some a) b is = (a, refl, cc)
 pub same_count : {A B C : Type 0} (f : A → C) (g : B → C) (xs : List A) (ys : List B) → map f xs ≡ map g ys → length xs ≡ length ys
 same_count f g xs ys is = sym (length-map xs f) ∙ ap length is ∙ length-map ys g
 
+-- what holds of what is at each place holds of all
+all_at : {A : Type 0} (P : A → Type 0) (items : List A) → ((k : ℕ) (one : A) → slice_get items k ≡ Some one → P one) → All P items
+all_at P [] each = All-nil P
+all_at P (one ∷ items) each = All-cons P one items (each 0 one refl) (all_at P items (λ k other at. each (suc k) other at))
+
 -- the turns of a node that it did on its thread
 abbrev log_of_past : Past → List EntryRecord
 log_of_past past = past.log.items
@@ -57,6 +63,15 @@ module _ (program : Program) (nodes : ℕ) (options : OptionsRecord) (pasts : Li
         let found = found_at log_of_past (slice_get pasts n) log there in
         subst (IsLogOf (fresh_node program nodes options n)) found.2 (are.each n found.0 found.1).log_is;
   }
+
+  -- none of their messages is too long
+  pub short_of_nodes : All AreShort logs
+  short_of_nodes =
+      all_at AreShort logs (λ n log at.
+      let there : option_map log_of_past (slice_get pasts n) ≡ Some log =
+      sym (slice_get-map log_of_past pasts n) ∙ ap (λ ls. slice_get ls n) (sym is) ∙ at in
+      let found = found_at log_of_past (slice_get pasts n) log there in
+      subst AreShort found.2 (are.each n found.0 found.1).short)
 
   -- the traces are theirs
   pub traces_of_nodes : (traces : List TraceRecord) → traces ≡ map (λ past. past.trace) pasts → traces ≡ traces_of_logs program nodes options logs

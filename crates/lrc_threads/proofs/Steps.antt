@@ -10,8 +10,8 @@ use Rattle.lrc_threads.specs.Worker.{Step, goes_on, takes_message, drops, GoesTh
 module _ {S : Type 0} (puts : S → List Parcel → S → Type 0) (takes : S → Parcel → S → Type 0) where
   -- a step is a turn of the node, or none
   step_turn : {l : Logged} {s : S} {k : Logged} {t : S} {j : Logged} → Step puts takes s k t j → Turns l k → Turns l j
-  step_turn (goes_on turn sends) before = more run 0 before refl turn
-  step_turn (takes_message {parcel = p} {envelope = e} took said turn sends) before = more (taken e) p.stamp before tt turn
+  step_turn (goes_on turn sends) before = more run 0 before refl turn sends.3
+  step_turn (takes_message {parcel = p} {envelope = e} took said turn sends) before = more (taken e) p.stamp before tt turn sends.3
   step_turn (drops took refuses) before = before
 
   -- so are any number of steps
@@ -22,7 +22,7 @@ module _ {S : Type 0} (puts : S → List Parcel → S → Type 0) (takes : S →
   -- turns after turns
   turns_after : {l k j : Logged} → Turns l k → Turns k j → Turns l j
   turns_after before none = before
-  turns_after before (more input came others may turn) = more input came (turns_after before others) may turn
+  turns_after before (more input came others may turn short) = more input came (turns_after before others) may turn short
 
   -- steps after steps
   pub goes_after : {s m : S} {l k : Logged} {t : S} {j : Logged} → GoesThrough puts takes s l m k → GoesThrough puts takes m k t j → GoesThrough puts takes s l t j

@@ -12,7 +12,7 @@ use Rattle.lrc_node.specs.declared.fault.NodeFault.TheVariants.{Failed, NotReady
 use Rattle.lrc_node.proofs.Leading.{leads_turn, leads_still}
 use Rattle.lrc_threads.specs.declared.stop.Stop.{Stop}
 use Rattle.lrc_threads.specs.declared.stop.Stop.TheVariants.{Closed, Worn, NoMemory}
-use Rattle.lrc_threads.specs.Worker.{LeadsOn, TracesTo, IsLogOf, IsPastOf, is_ready_after, made_of}
+use Rattle.lrc_threads.specs.Worker.{AreShort, LeadsOn, TracesTo, IsLogOf, IsPastOf, is_ready_after, made_of}
 
 -- a node that kept the trace of its turns from its first on still does, and has not failed
 abbrev pub Traces : TracedLog → TracedLog → Type 0
@@ -74,14 +74,15 @@ pub traces_further : {A : Type 0} (old mid new : TracedLog) (r : Result A Stop) 
 traces_further old mid new r before traces = λ start l f. let led = before start l f in traces start led.0 led.1
 
 -- what a node leaves that made its turns from its first on
-pub is_past : (start : Node) (seen : TracedLog) (log : List EntryRecord) (trace : TraceRecord) (ready : Bool) → IsLogOf start seen.logged.log
+pub is_past : (start : Node) (seen : TracedLog) (log : List EntryRecord) (trace : TraceRecord) (ready : Bool) → IsLogOf start seen.logged.log → AreShort seen.logged.log
     → ((j : Logged) × LeadsFrom start j seen) → log ≡ seen.logged.log → trace ≡ seen.trace
     → ((l : Logged) → seen.logged ≡ sound l → ready ≡ is_ready l.node) → IsPastOf start log trace ready
-is_past start seen log trace ready its_log led at_log at_trace at_ready =
+is_past start seen log trace ready its_log its_short led at_log at_trace at_ready =
     let f : LeadsFrom start led.0 seen = led.1 in
     let same : log ≡ led.0.log = at_log ∙ ap (λ (n : LoggedNode). n.log) f.sound_so in
     record {
       log_is = subst (IsLogOf start) (sym at_log) its_log;
+      short = subst AreShort (sym at_log) its_short;
       trace_is = at_trace ∙ f.trace_is ∙ sym (ap (trace_of start) same);
       ready_is = at_ready led.0 f.sound_so ∙ ap is_ready (sym f.replayed) ∙ sym (ap (is_ready_after start) same);
     }

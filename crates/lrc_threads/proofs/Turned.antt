@@ -71,7 +71,7 @@ module _ {S : Type 0} (puts : S → List Parcel → S → Type 0) (takes : S →
   pub sent_run : (s t : S) (l : Logged) (new : LoggedNode) (r : Result (Unit {0}) Stop) (i : IsTurn l run 0 new) → SendsTo puts s i.entry t r
       → GoesTo puts takes s l t new r
   sent_run s t l new (Ok tt) i h = (i.after, i.now, steps stays (goes_on i.turn h))
-  sent_run s t l new (Err Closed) i h = (i.after, i.now, more run 0 none refl i.turn)
+  sent_run s t l new (Err Closed) i h = (i.after, i.now, more run 0 none refl i.turn h)
   sent_run s t l new (Err Worn) i h = overflows stays nothing i.turn h
   sent_run s t l new (Err NoMemory) i h = tt
 
@@ -80,7 +80,7 @@ module _ {S : Type 0} (puts : S → List Parcel → S → Type 0) (takes : S →
       → takes s parcel m → envelope_of parcel.bytes ≡ Ok envelope → (i : IsTurn l (taken envelope) parcel.stamp new)
       → SendsTo puts m i.entry t r → GoesTo puts takes s l t new r
   sent_take s m t l new (Ok tt) parcel envelope took said i h = (i.after, i.now, steps stays (takes_message took said i.turn h))
-  sent_take s m t l new (Err Closed) parcel envelope took said i h = (i.after, i.now, more (taken envelope) parcel.stamp none tt i.turn)
+  sent_take s m t l new (Err Closed) parcel envelope took said i h = (i.after, i.now, more (taken envelope) parcel.stamp none tt i.turn h)
   sent_take s m t l new (Err Worn) parcel envelope took said i h = overflows stays (message took said) i.turn h
   sent_take s m t l new (Err NoMemory) parcel envelope took said i h = tt
 

@@ -1,5 +1,5 @@
 -- What one node's thread does: its turns, what it puts and what it takes.
-use Rattle.std.specs.Prelude.{◌≡◌, ℕ, ◌<◌, Bool, true, false, Option, Some, None, Result, Ok, Err, is_err, List, [], ◌∷◌, ◌++◌, Any, length, map}
+use Rattle.std.specs.Prelude.{◌≡◌, ℕ, ◌<◌, ◌≤◌, Bool, true, false, Option, Some, None, Result, Ok, Err, is_err, List, [], ◌∷◌, ◌++◌, All, Any, length, map}
 use Rattle.lrc_wire.specs.declared.fault.WireFault.{WireFault}
 use Rattle.lrc_wire.specs.declared.limits.TheConstants.{MOST_BODY_BYTES}
 use Rattle.lrc_wire.specs.declared.version.Version.TheVariants.{Two}
@@ -52,14 +52,26 @@ IsTooLong envelope = MOST_BODY_BYTES < length (body Two runs_of envelope.message
 abbrev pub SendsTooLong : EntryRecord → Type 0
 SendsTooLong entry = Any IsTooLong entry.turn.out
 
--- the messages of a turn are put
-abbrev pub Sends : {S : Type 0} → (S → List Parcel → S → Type 0) → S → EntryRecord → S → Type 0
-Sends puts s entry t = (parcels : List Parcel) × AreParcels entry parcels × puts s parcels t
+-- a message has no more bytes than may be sent
+abbrev pub IsShort : EnvelopeRecord → Type 0
+IsShort envelope = length (body Two runs_of envelope.message) ≤ MOST_BODY_BYTES
 
--- that as an answer; where the answer is that the thread is worn, one of them is too long
+-- the same of each message of a turn
+abbrev pub SendsShort : EntryRecord → Type 0
+SendsShort entry = All IsShort entry.turn.out
+
+-- the same of each turn of a log
+abbrev pub AreShort : List EntryRecord → Type 0
+AreShort log = All SendsShort log
+
+-- the messages of a turn, none of which is too long, are put
+abbrev pub Sends : {S : Type 0} → (S → List Parcel → S → Type 0) → S → EntryRecord → S → Type 0
+Sends puts s entry t = (parcels : List Parcel) × AreParcels entry parcels × puts s parcels t × SendsShort entry
+
+-- that as an answer; where the answer is that the post is closed, none of them is too long, and where it is that the thread is worn, one is
 abbrev pub SendsTo : {S : Type 0} → (S → List Parcel → S → Type 0) → S → EntryRecord → S → Result (Unit {0}) Stop → Type 0
 SendsTo puts s entry t (Ok done) = Sends puts s entry t
-SendsTo puts s entry t (Err Closed) = Unit {0}
+SendsTo puts s entry t (Err Closed) = SendsShort entry
 SendsTo puts s entry t (Err Worn) = SendsTooLong entry
 SendsTo puts s entry t (Err NoMemory) = Unit {0}
 
@@ -95,11 +107,11 @@ pub data WearsOut {S : Type 0} (puts : S → List Parcel → S → Type 0) (take
       → GoesThrough puts takes s l m k → Gives takes m input came → logs k input came ≡ logged entry j → SendsTooLong entry
       → WearsOut puts takes s l
 
--- any number of turns of a node with its log
+-- any number of turns of a node with its log, none of whose messages is too long
 pub data Turns (l : Logged) : Logged → Type 0 where
   none : Turns l l
   more : {k j : Logged} {entry : EntryRecord} (input : Input) (came : ℕ)
-      → Turns l k → MayCome input came → logs k input came ≡ logged entry j → Turns l j
+      → Turns l k → MayCome input came → logs k input came ≡ logged entry j → SendsShort entry → Turns l j
 
 -- a node that has made no turn
 abbrev pub no_turn_yet : Node → Logged
@@ -134,9 +146,11 @@ TracesTo old new result = (start : Node) (l : Logged) → LeadsFrom start l old 
 abbrev pub is_ready_after : Node → List EntryRecord → Bool
 is_ready_after start log = is_ready (traced start (inputs_of log)).node
 
--- a node's log is that of its turns from its first on, the trace is theirs, and it says whether the node would go on after them
+-- A node's log is that of its turns from its first on, none of whose messages is too long; the trace is theirs, and it says whether
+-- the node would go on after them.
 pub record IsPastOf (start : Node) (log : List EntryRecord) (trace : TraceRecord) (ready : Bool) : Type 0 where
   pub log_is : IsLogOf start log
+  pub short : AreShort log
   pub trace_is : trace ≡ trace_of start log
   pub ready_is : ready ≡ is_ready_after start log
 

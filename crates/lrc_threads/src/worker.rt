@@ -1,12 +1,12 @@
 // One node's thread.
 
-ghost use Rattle.std.specs.Prelude.{List, ◌≡◌, ◌++◌, ◌∷◌, [], IfOk, OnOk, Ok, map, MatchOption, is_err, true, false, IfErr, IfSome, IfNone, ◌≢◌, Any};
+ghost use Rattle.std.specs.Prelude.{List, ◌≡◌, ◌++◌, ◌∷◌, [], IfOk, OnOk, Ok, map, MatchOption, is_err, true, false, IfErr, IfSome, IfNone, ◌≢◌, All, Any};
 ghost use Rattle.lrc_protocol.specs.Run as log;
 ghost use Rattle.lrc_protocol.specs.Run.{EntryRecord};
 ghost use Rattle.lrc_node.specs.Logged.{sound};
 ghost use Rattle.lrc_wire.specs.Reading.{envelope_of};
-ghost use Rattle.lrc_threads.specs.declared.stop.Stop.TheVariants.{NoMemory, Worn};
-ghost use Rattle.lrc_threads.specs.Worker.{GoesTo, IsIdle, IsRead, IsTooLong, LogsLast, SendsTo, TakesIn, TakesNext, TracesTo, made_of, shown, shown_sent, stop_of};
+ghost use Rattle.lrc_threads.specs.declared.stop.Stop.TheVariants.{Closed, NoMemory, Worn};
+ghost use Rattle.lrc_threads.specs.Worker.{GoesTo, IsIdle, IsRead, IsShort, IsTooLong, LogsLast, SendsTo, TakesIn, TakesNext, TracesTo, made_of, shown, shown_sent, stop_of};
 
 use crate::gate::Gate;
 use crate::mail::Mail;
@@ -27,8 +27,10 @@ const TURNS: u32 = 64;
 /// A node's turns, until there will be no message for it any more and it waits: it goes on while it is ready, and takes its messages,
 /// which it waits for where it is not ready. A node that is ready looks for messages after each release of a lock, and after each 64 turns; one
 /// that spins under a lock lets other threads go on meanwhile. What a turn sends is put before the next one. A message that cannot
-/// be read, or that the node does not expect, is taken and makes no turn. `Worn` comes only of a turn that is too large, or that has a
-/// message which is too long to be sent.
+/// be read, or that the node does not expect, is taken and makes no turn. It ends well only where the node waits and its mail, asked for
+/// the next message, says that there will be none; it answers `Closed` only where its mail says that the post is closed. What its mail
+/// means by either is up to the mail: a `Line`, whose post other threads use too, means nothing. `Worn` comes only of a turn that is too
+/// large, or that has a message which is too long to be sent.
 pub fn work<M: Mail, G: Gate, R: Wait>(
     rt: &R,
     alloc: Global,
@@ -39,6 +41,8 @@ pub fn work<M: Mail, G: Gate, R: Wait>(
 ) -> Result<(), Stop>
     ensures goes { (l : log.Logged) → node.old.logged ≡ sound l → GoesTo M.puts M.takes mail.old l mail.new node.new.logged result }
     ensures over { (l : log.Logged) → node.old.logged ≡ sound l → OnOk result (IsIdle node.new.logged) }
+    ensures ended { OnOk result (M.over mail.new) }
+    ensures closed { IfErr result (λ stop. stop ≡ Closed → M.shut mail.new) }
     ensures traced { TracesTo node.old node.new result }
 {
     let mut spin = Spin::new();
@@ -61,6 +65,7 @@ fn go_on<M: Mail, G: Gate>(
     spin: &mut Spin,
 ) -> Result<(), Stop>
     ensures goes { (l : log.Logged) → node.old.logged ≡ sound l → GoesTo M.puts M.takes mail.old l mail.new node.new.logged result }
+    ensures closed { IfErr result (λ stop. stop ≡ Closed → M.shut mail.new) }
     ensures traced { TracesTo node.old node.new result }
 {
     if spin.rest() {
@@ -80,6 +85,7 @@ fn run_on<M: Mail, G: Gate>(
     spin: &mut Spin,
 ) -> Result<(), Stop>
     ensures goes { (l : log.Logged) → node.old.logged ≡ sound l → GoesTo M.puts M.takes mail.old l mail.new node.new.logged result }
+    ensures closed { IfErr result (λ stop. stop ≡ Closed → M.shut mail.new) }
     ensures traced { TracesTo node.old node.new result }
 {
     for _turn in 0..TURNS {
@@ -109,6 +115,7 @@ fn run_once<M: Mail, G: Gate>(
     me: u8,
 ) -> Result<(), Stop>
     ensures goes { (l : log.Logged) → node.old.logged ≡ sound l → GoesTo M.puts M.takes mail.old l mail.new node.new.logged result }
+    ensures closed { IfErr result (λ stop. stop ≡ Closed → M.shut mail.new) }
     ensures traced { TracesTo node.old node.new result }
 {
     gate.pass(usize::from(me), turns_of(node));
@@ -131,6 +138,8 @@ fn receive<M: Mail, G: Gate>(
 ) -> Result<bool, Stop>
     ensures goes { (l : log.Logged) → node.old.logged ≡ sound l → GoesTo M.puts M.takes mail.old l mail.new node.new.logged result }
     ensures over { (l : log.Logged) → node.old.logged ≡ sound l → IfOk result (λ goes. goes ≡ false → IsIdle node.new.logged) }
+    ensures ended { IfOk result (λ goes. goes ≡ false → M.over mail.new) }
+    ensures closed { IfErr result (λ stop. stop ≡ Closed → M.shut mail.new) }
     ensures traced { TracesTo node.old node.new result }
 {
     let ready = node.ready();
@@ -146,6 +155,8 @@ fn receive<M: Mail, G: Gate>(
 // The next parcel: one that is there, or else one that is waited for.
 fn next_parcel<M: Mail>(mail: &mut M, ready: bool) -> Result<Option<Parcel>, Stop>
     ensures next { IfOk result (λ parcel. TakesNext M.takes mail.old parcel mail.new) }
+    ensures ended { ready ≡ false → IfOk result (λ parcel. IfNone parcel (M.over mail.new)) }
+    ensures closed { IfErr result (λ stop. stop ≡ Closed → M.shut mail.new) }
     ensures unworn { IfErr result (λ stop. stop ≢ Worn) }
 {
     let taken = if ready { mail.poll() } else { mail.take() };
@@ -163,6 +174,7 @@ fn take_in<M: Mail>(
     parcel: &Parcel,
 ) -> Result<(), Stop>
     ensures goes { (l : log.Logged) → node.old.logged ≡ sound l → TakesIn M.puts M.takes mail.old parcel.now l mail.new node.new.logged result }
+    ensures closed { IfErr result (λ stop. stop ≡ Closed → M.shut mail.new) }
     ensures traced { TracesTo node.old node.new result }
 {
     let Some(envelope) = read(alloc, &parcel.bytes)? else {
@@ -177,7 +189,8 @@ fn take_in<M: Mail>(
 
 // Puts the messages of the node's newest turn.
 fn send_last<M: Mail>(alloc: Global, mail: &mut M, node: &Logged<'_>) -> Result<(), Stop>
-    ensures { (entry : EntryRecord) → LogsLast node.now.logged entry → SendsTo M.puts mail.old entry mail.new result }
+    ensures sent { (entry : EntryRecord) → LogsLast node.now.logged entry → SendsTo M.puts mail.old entry mail.new result }
+    ensures closed { IfErr result (λ stop. stop ≡ Closed → M.shut mail.new) }
 {
     let Some(entry) = node.log().last() else {
         return Ok(());
@@ -192,7 +205,9 @@ fn send_last<M: Mail>(alloc: Global, mail: &mut M, node: &Logged<'_>) -> Result<
 // The parcels of messages that are sent in one turn.
 fn parcels_of(alloc: Global, out: &[Envelope], stamp: u64) -> Result<Vec<Parcel>, Stop>
     ensures shown { IfOk result (λ parcels. map shown parcels.items ≡ map (shown_sent stamp) out.now) }
+    ensures short { OnOk result (All IsShort out.now) }
     ensures worn { IfErr result (λ stop. stop ≡ Worn → Any IsTooLong out.now) }
+    ensures open { IfErr result (λ stop. stop ≢ Closed) }
 {
     let mut parcels = Vec::with_capacity(alloc, out.len())?;
     for envelope in out {
@@ -204,7 +219,9 @@ fn parcels_of(alloc: Global, out: &[Envelope], stamp: u64) -> Result<Vec<Parcel>
 // The parcel of a message.
 fn parcel_of(alloc: Global, envelope: &Envelope, stamp: u64) -> Result<Parcel, Stop>
     ensures shown { IfOk result (λ parcel. shown parcel ≡ shown_sent stamp envelope.now) }
+    ensures short { OnOk result (IsShort envelope.now) }
     ensures worn { IfErr result (λ stop. stop ≡ Worn → IsTooLong envelope.now) }
+    ensures open { IfErr result (λ stop. stop ≢ Closed) }
 {
     match encode(alloc, envelope) {
         Ok(bytes) => Ok(Parcel {

@@ -4,6 +4,8 @@
 #[cfg(test)]
 mod gates;
 #[cfg(test)]
+mod letters;
+#[cfg(test)]
 mod orders;
 #[cfg(test)]
 mod rows;

@@ -1,6 +1,6 @@
 use Rattle.std.proofs.Common.{arith, map, rules}
 use Rattle.lrc_threads.specs.Threads.{ArePastsOf}
-use Rattle.lrc_threads.proofs.Pasts.{logs_of_nodes, ready_of_nodes, same_count, traces_of_nodes}
+use Rattle.lrc_threads.proofs.Pasts.{logs_of_nodes, ready_of_nodes, same_count, short_of_nodes, traces_of_nodes}
 use Rattle.lrc_run.proofs.runs.live.Goals as goal
 
 pub fault_of-requires-clause-few : goal.fault_of-requires-clause-few
@@ -15,6 +15,14 @@ returns-in-None-clause-logs g c =
     let pasts = c.in_ok-lives.lives.pasts.items in
     let are : ArePastsOf setting.program.now setting.nodes setting.options pasts = search rules in
     logs_of_nodes setting.program.now setting.nodes setting.options pasts are (map (λ log. log.items) c.in_ok-parts.parts.logs.items)
+    c.in_ok-parts.ensures.logs
+
+pub returns-in-None-clause-short : goal.returns-in-None-clause-short
+returns-in-None-clause-short g c =
+    let setting = c.args.setting.now in
+    let pasts = c.in_ok-lives.lives.pasts.items in
+    let are : ArePastsOf setting.program.now setting.nodes setting.options pasts = search rules in
+    short_of_nodes setting.program.now setting.nodes setting.options pasts are (map (λ log. log.items) c.in_ok-parts.parts.logs.items)
     c.in_ok-parts.ensures.logs
 
 pub returns-in-None-clause-traces : goal.returns-in-None-clause-traces

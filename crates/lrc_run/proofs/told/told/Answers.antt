@@ -76,7 +76,8 @@ returns-clause-woven c =
     (ap (λ acts. acts.items) c.reported.ensures.acts) ends turns
     (subst (λ first. MatchOption first (IsRaceFree run.acts.items) (IsFirstRace run.acts.items)) (sym c.reported.ensures.first) found))
     turns woven
-    (over_told s.program.now s.nodes s.options logs run.events.items run.acts.items run.in_flight m parts.is_any_ready c.requires.ready none landed))
+    (over_told s.program.now s.nodes s.options logs run.events.items run.acts.items run.in_flight m parts.is_any_ready c.requires.ready none landed)
+    c.requires.short)
 
 pub returns-clause-matched : goal.returns-clause-matched
 returns-clause-matched c =

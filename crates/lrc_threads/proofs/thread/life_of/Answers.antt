@@ -1,7 +1,7 @@
 use Rattle.std.proofs.Common.{◌≡◌, Ok, Err, rules}
 use Rattle.lrc_protocol.specs.Node.{Node, fresh_node}
 use Rattle.lrc_threads.specs.declared.stop.Stop.TheVariants.{Closed}
-use Rattle.lrc_threads.specs.Worker.{IsLogOf, no_turn_yet}
+use Rattle.lrc_threads.specs.Worker.{AreShort, IsLogOf, no_turn_yet}
 use Rattle.lrc_threads.proofs.Threads.{anyway, whole_log, cut_log}
 use Rattle.lrc_threads.proofs.Traced.{is_past, leads_cut, leads_gone}
 use Rattle.lrc_threads.proofs.thread.life_of.Goals as goal
@@ -10,21 +10,21 @@ pub returns-in-Ok-work : goal.returns-in-Ok-work
 returns-in-Ok-work g c =
     let start : Node = fresh_node c.args.code.now c.args.member.nodes c.args.member.options c.args.member.me in
     let done : c.work.result ≡ Ok tt = search rules in
-    let its_log : IsLogOf start c.work.new.node.logged.log = whole_log _ _ _ _ start _ tt c.work.result done
+    let its_log : IsLogOf start c.work.new.node.logged.log × AreShort c.work.new.node.logged.log = whole_log _ _ _ _ start _ tt c.work.result done
     (c.work.ensures.goes (no_turn_yet start) c.in-Ok.ensures.fresh) in
     let led = leads_gone start c.work.new.node tt c.work.result done (c.work.ensures.traced start (no_turn_yet start) c.in-Ok.ensures.leads) in
     let past = c.ended.result.past in
     anyway _ c.ended.result.fault
-    (is_past start c.work.new.node past.log.items past.trace past.is_ready its_log led c.ended.ensures.log c.ended.ensures.trace c.ended.ensures.ready)
+    (is_past start c.work.new.node past.log.items past.trace past.is_ready its_log.0 its_log.1 led c.ended.ensures.log c.ended.ensures.trace c.ended.ensures.ready)
 
 pub returns-in-Err-Closed : goal.returns-in-Err-Closed
 returns-in-Err-Closed g c =
     let start : Node = fresh_node c.args.code.now c.args.member.nodes c.args.member.options c.args.member.me in
     let cut : c.work.result ≡ Err Closed = search rules in
-    let its_log : IsLogOf start c.work.new.node.logged.log = cut_log _ _ _ _ start _ c.work.result cut
+    let its_log : IsLogOf start c.work.new.node.logged.log × AreShort c.work.new.node.logged.log = cut_log _ _ _ _ start _ c.work.result cut
     (c.work.ensures.goes (no_turn_yet start) c.in-Ok.ensures.fresh) in
     let led = leads_cut start c.work.new.node c.work.result cut (c.work.ensures.traced start (no_turn_yet start) c.in-Ok.ensures.leads) in
     let ended = c.ended-in-Err-Closed in
     let past = ended.result.past in
     anyway _ ended.result.fault
-    (is_past start c.work.new.node past.log.items past.trace past.is_ready its_log led ended.ensures.log ended.ensures.trace ended.ensures.ready)
+    (is_past start c.work.new.node past.log.items past.trace past.is_ready its_log.0 its_log.1 led ended.ensures.log ended.ensures.trace ended.ensures.ready)

@@ -9,7 +9,8 @@ pub returns-then-branch-clause-goes : goal.returns-then-branch-clause-goes
 returns-then-branch-clause-goes g c = λ l is.
     let made : made_of c.run.result ≡ Ok true = search rules in
     let i = turned l log.run 0 c.args.node.now.logged c.run.new.self.logged c.run.result c.run.ensures.logs is made in
-    sent_run g.M.Mail.puts g.M.Mail.takes c.args.mail.now c.send_last.new.mail l c.run.new.self.logged c.send_last.result i (c.send_last.ensures i.entry i.last)
+    sent_run g.M.Mail.puts g.M.Mail.takes c.args.mail.now c.send_last.new.mail l c.run.new.self.logged c.send_last.result i
+    (c.send_last.ensures.sent i.entry i.last)
 
 pub returns-in_err-is_made-clause-goes : goal.returns-in_err-is_made-clause-goes
 returns-in_err-is_made-clause-goes g c = λ l is.

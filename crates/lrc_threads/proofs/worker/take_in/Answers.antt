@@ -20,7 +20,7 @@ returns-then-branch-clause-goes g c = λ l is s took.
     let i = turned l (log.taken c.in-Some.envelope) c.args.parcel.now.stamp c.args.node.now.logged c.take.new.self.logged c.take.result
     c.take.ensures.logs is made in
     sent_take g.M.Mail.puts g.M.Mail.takes s c.args.mail.now c.send_last.new.mail l c.take.new.self.logged c.send_last.result c.args.parcel.now
-    c.in-Some.envelope took said i (c.send_last.ensures i.entry i.last)
+    c.in-Some.envelope took said i (c.send_last.ensures.sent i.entry i.last)
 
 pub returns-in_err-is_made-clause-goes : goal.returns-in_err-is_made-clause-goes
 returns-in_err-is_made-clause-goes g c = λ l is s took.

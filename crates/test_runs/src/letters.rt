@@ -1,0 +1,110 @@
+// A node's thread over a mail that is a plain value.
+
+ghost use Rattle.std.specs.Prelude.{◌≡◌, ◌++◌, ◌∷◌, [], true, IfErr, IfNone, IfSome, OnOk};
+
+use crate::shell::options;
+use bytes::Bytes;
+use lrc_exec::code::Code;
+use lrc_lang::parse;
+use lrc_node::{Logged, Node};
+use lrc_post::{Parcel, PostFault};
+use lrc_run::{Gate, Mail, Stop, work};
+use std::alloc::Global;
+use std::collections::VecDeque;
+use std::sync::Wait;
+use std::test::Fail;
+
+/// A gate at which nobody waits.
+struct OpenGate;
+
+impl Gate for OpenGate {
+    fn pass(&self, _node: usize, _turn: u32) {}
+}
+
+/// All that will come for a node, in order, and what the node put, which is refused where the post is closed.
+#[derive(Drop)]
+struct Letters {
+    come: VecDeque<Parcel>,
+    put: Vec<Parcel>,
+    closed: bool,
+}
+
+impl Mail for Letters {
+    ghost puts = { λ before parcels after. after.put.items ≡ before.put.items ++ parcels };
+
+    ghost takes = { λ before parcel after. before.come.items ≡ parcel ∷ after.come.items };
+
+    ghost over = { λ mail. mail.come.items ≡ [] };
+
+    ghost shut = { λ mail. mail.closed ≡ true };
+
+    fn put_all(&mut self, mut parcels: Vec<Parcel>) -> Result<(), PostFault> {
+        if self.closed {
+            return Err(PostFault::Closed);
+        }
+        self.put.append(&mut parcels)?;
+        Ok(())
+    }
+
+    fn poll(&mut self) -> Result<Option<Parcel>, PostFault> {
+        Ok(next(&mut self.come))
+    }
+
+    fn take(&mut self) -> Result<Option<Parcel>, PostFault> {
+        Ok(next(&mut self.come))
+    }
+}
+
+// The parcel that comes next.
+fn next(come: &mut VecDeque<Parcel>) -> Option<Parcel>
+    ensures some { IfSome result (λ parcel. come.old.items ≡ parcel ∷ come.new.items) }
+    ensures none { IfNone result (come.new ≡ come.old) }
+    ensures over { IfNone result (come.new.items ≡ []) }
+{
+    if come.is_empty() {
+        return None;
+    }
+    come.pop_front()
+}
+
+// What comes of the thread of node 1 of two: where it ends well, all that would come was taken.
+fn worked<R: Wait>(rt: &R, alloc: Global, mail: &mut Letters, text: &[u8]) -> Result<(), Stop>
+    ensures over { OnOk result (mail.new.come.items ≡ []) }
+    ensures shut { IfErr result (λ stop. stop ≡ Stop.Closed → mail.new.closed ≡ true) }
+{
+    let Ok(program) = parse(alloc, text) else {
+        return Err(Stop::NoMemory);
+    };
+    let code = Code::new(alloc, &program)?;
+    let node = Node::new(alloc, &code, 1, 2, &options(0))?;
+    let mut logged = Logged::new(alloc, node);
+    work(rt, alloc, &OpenGate, mail, &mut logged, 1)
+}
+
+/// Node 1 asks node 0 for this lock, and waits for it.
+const ASKS: &[u8] = b"words 1; locks 1; acquire 0; release 0;";
+
+#[test]
+fn a_thread_ends_where_nothing_more_comes_or_the_post_is_closed(
+    rt: HostRuntime,
+) -> Result<(), Fail> {
+    for closed in [false, true] {
+        let mut letters = Letters {
+            come: VecDeque::new(rt.alloc()),
+            put: Vec::new(rt.alloc()),
+            closed,
+        };
+        letters.come.push_back(Parcel {
+            to: 1,
+            stamp: 1,
+            bytes: Bytes::new(),
+        })?;
+        let result = worked(&rt, rt.alloc(), &mut letters, ASKS);
+        let wanted = if closed { Err(Stop::Closed) } else { Ok(()) };
+        assert!(rt;
+            (result, letters.put.len(), letters.come.len())
+                == (wanted, usize::from(!closed), usize::from(closed))
+        );
+    }
+    Ok(())
+}
