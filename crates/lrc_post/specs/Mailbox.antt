@@ -19,6 +19,10 @@ pub record IsMailboxKept (owner : ℕ) (picker : Picker) (history : List Wire) (
   pub taken_so : IsTakenBy picker history
   pub queued : flight ≡ in_flight picker history
 
+-- nothing is in flight: each parcel that was put was given as often as the picker gives it
+abbrev pub IsAllGiven : MailboxRecord → Type 0
+IsAllGiven mailbox = in_flight mailbox.picker mailbox.history ≡ []
+
 -- the mailbox with more entries
 abbrev pub with_more : MailboxRecord → List Wire → MailboxRecord
 with_more before entries = record before { history = before.history ++ entries }

@@ -3,7 +3,7 @@
 ghost use Rattle.std.specs.Prelude.{◌≡◌, ◌≢◌, ◌%◌, [], ◌∷◌, true, false, length, IfOk, IfErr, IfSome, IsErrAnd, OnErr, OnOk, All, IsTrue, ◌↔◌};
 ghost use Rattle.lrc_envelope.specs.declared.picker.Picker.TheVariants.{Twice};
 ghost use Rattle.lrc_post.specs.declared.fault.PostFault.TheVariants.{Closed, NoMemory};
-ghost use Rattle.lrc_post.specs.Mailbox.{with_puts, IsCutShort, GivesParcel};
+ghost use Rattle.lrc_post.specs.Mailbox.{with_puts, IsAllGiven, IsCutShort, GivesParcel};
 ghost use Rattle.lrc_post.specs.Wires.{IsLegal, IsTakenBy, in_flight};
 
 use crate::fault::{PostFault, Unput};
@@ -144,6 +144,13 @@ impl Mailbox {
         self.history.as_slice()
     }
 
+    /// Whether nothing is in flight: each parcel that was put was given as often as the picker gives it.
+    pub fn is_empty(&self) -> bool
+        ensures { IsTrue result ↔ IsAllGiven self.now }
+    {
+        self.flight.is_empty()
+    }
+
     /// Gives the next parcel to a node, as `give` does where it is the owner. Any other node is given none.
     pub(crate) fn give_to(&mut self, me: u8) -> Result<Option<Parcel>, PostFault>
         ensures mine { IfOk result (λ parcel. IfSome parcel (λ p. p.to ≡ me)) }
@@ -177,9 +184,9 @@ impl Mailbox {
 
     /// Whether its owner would wait for a parcel: it is open and none is in flight.
     pub(crate) fn is_quiet(&self) -> bool
-        ensures { IsTrue result ↔ ((self.now.closed ≡ false) × (in_flight self.now.picker self.now.history ≡ [])) }
+        ensures { IsTrue result ↔ ((self.now.closed ≡ false) × IsAllGiven self.now) }
     {
-        !self.closed && self.flight.is_empty()
+        !self.closed && self.is_empty()
     }
 
     /// Whether the parcel that is given next was given before, as with `Twice` after the first of its two takes.

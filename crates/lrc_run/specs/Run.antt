@@ -1,8 +1,8 @@
 -- What a run of nodes on threads answers.
-use Rattle.std.specs.Prelude.{◌≡◌, ℕ, ◌<◌, ◌^◌, ◌⊎◌, false, Some, List, length, map}
+use Rattle.std.specs.Prelude.{◌≡◌, ℕ, ◌<◌, ◌^◌, ◌⊎◌, false, Some, List, All, Any, length, map}
 use Rattle.lrc_lang.specs.declared.program.Program.{Program}
 use Rattle.lrc_envelope.specs.declared.picker.Picker.{Picker}
-use Rattle.lrc_post.specs.Mailbox.{MailboxRecord}
+use Rattle.lrc_post.specs.Mailbox.{MailboxRecord, IsAllGiven}
 use Rattle.lrc_post.specs.Post.{AreOf, AreWires}
 use Rattle.lrc_protocol.specs.declared.event.Event.{Event}
 use Rattle.lrc_protocol.specs.Node.{OptionsRecord}
@@ -31,18 +31,21 @@ pub record IsWovenReport (program : Program) (nodes : ℕ) (options : OptionsRec
   pub short : (run : World) → run_of program nodes options events ≡ Some run → sends_long run ≡ false
 
 -- There is a mailbox for each node, with a legal history: exactly the puts that the senders' logs make to it, and the takes of its
--- owner's log, each once and in the order of each log. Each take is of the parcel that the picker gives of those in flight then.
+-- owner's log, each once and in the order of each log. Each take is of the parcel that the picker gives of those in flight then, and
+-- in the end nothing is in flight in any mailbox: each parcel was given once, or with `Twice` two times.
 pub record AreWiresOf (nodes : ℕ) (picker : Picker) (report : Report) (wires : List MailboxRecord) : Type 0 where
   pub count : length wires ≡ nodes
   pub legal : AreWires wires
   pub picked : AreOf picker wires
   pub matched : AreMatched (turns_of_nodes report) wires
+  pub taken : All IsAllGiven wires
 
 -- Logs and mailboxes that no report comes of: they tell of different messages, or after the events that make all turns of the logs a
--- node is ready or a message in flight.
+-- node is ready or a message in flight, or a mailbox has a parcel that is still to be given.
 abbrev pub IsUntold : Program → ℕ → OptionsRecord → List (List EntryRecord) → List MailboxRecord → Type 0
 IsUntold program nodes options logs wires = (AreMatched logs wires → ⊥)
     ⊎ ((events : List Event) × (flight : List Flying) × AreWoven logs events flight × (AreAll program nodes options events → ⊥))
+    ⊎ Any (λ (mailbox : MailboxRecord). IsAllGiven mailbox → ⊥) wires
 
 -- ---- faults
 

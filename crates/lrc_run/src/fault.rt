@@ -21,7 +21,7 @@ pub enum RunFault {
     #[error("message numbers used up")]
     Worn,
     /// The nodes' turns and what their mailboxes kept do not tell of the same messages, or a node could still have gone on, or a
-    /// message was still on its way.
+    /// message was still on its way, or still to be given once more.
     #[error("logs and wires differ")]
     Mismatch,
     /// Memory ran out, or there was none for a thread.

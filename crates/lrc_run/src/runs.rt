@@ -38,7 +38,7 @@ impl Gate for OpenGate {
 }
 
 /// A run in which each node lives on a thread of its own, and what the post between them kept. `picker` says which of its messages
-/// a node is given next; with `Twice` each is given two times.
+/// a node is given next. Where there is a report, each message was given: once, or with `Twice` two times.
 ///
 /// The report is the one that `lrc_world` has for the events that make the turns of all nodes, put in one order by their stamps. So
 /// the sequential-consistency theorem holds of it, whatever the threads did: where no two conflicting accesses are unordered by

@@ -1,10 +1,11 @@
 // The report of a run, as what its nodes left tells of it.
 
-ghost use Rattle.std.specs.Prelude.{◌≡◌, ◌≤◌, ◌<◌, [], All, Err, IfErr, IfOk, MatchOption, length, map};
+ghost use Rattle.std.specs.Prelude.{◌≡◌, ◌≤◌, ◌<◌, ◌↔◌, [], All, Any, Err, IfErr, IfOk, IsTrue, MatchOption, false, length, map};
 ghost use Rattle.lrc_trace.specs.Conflict.{IsFirstRace, IsRaceFree};
 ghost use Rattle.lrc_judge.specs.declared.TheConstants.{NODES};
 ghost use Rattle.lrc_judge.specs.Races.{AreNamedRaces};
 ghost use Rattle.lrc_race.specs.Races.{AreRacesOf, AreTracesOf};
+ghost use Rattle.lrc_post.specs.Mailbox.{IsAllGiven};
 ghost use Rattle.lrc_weave.specs.Logs.{AreLogs};
 ghost use Rattle.lrc_weave.specs.Matched.{AreMatched};
 ghost use Rattle.lrc_world.specs.Ends.{ends_of};
@@ -37,7 +38,8 @@ struct Findings {
 }
 
 /// The report of the nodes' turns and the events that make them. `Mismatch` only where what the post kept does not agree with them, or
-/// something was left to do. No event is played again: the acts are those of the turns, and the races those of the nodes' traces.
+/// something was left to do or to be given. No event is played again: the acts are those of the turns, and the races those of the nodes'
+/// traces.
 pub(crate) fn told(
     alloc: Global,
     setting: &Setting<'_>,
@@ -55,6 +57,7 @@ pub(crate) fn told(
     ensures woven { IfOk result (λ told.
         IsWovenReport setting.now.program.now setting.now.nodes setting.now.options told.1.items told.0) }
     ensures matched { IfOk result (λ told. AreMatched (turns_of_nodes told.0) wires.now) }
+    ensures taken { IfOk result (λ told. All IsAllGiven wires.now) }
     ensures races { IfOk result (λ told. AreNamedRaces told.0.acts.items told.0.races.items) }
     ensures theorem { IfOk result (λ told. IsConsistent setting.now.program.now setting.now.nodes told.0.acts.items) }
 
@@ -63,7 +66,7 @@ pub(crate) fn told(
     ensures telling { IfErr result IsOfTelling }
 {
     let run = weave_run(alloc, parts.logs.as_slice(), wires)?;
-    if parts.is_any_ready || run.in_flight > 0 {
+    if parts.is_any_ready || run.in_flight > 0 || !are_all_given(wires) {
         return Err(RunFault::Mismatch);
     }
     let found = findings_of(
@@ -73,6 +76,14 @@ pub(crate) fn told(
         parts.traces.as_slice(),
     )?;
     Ok(reported(parts, run, found))
+}
+
+// Whether nothing is in flight in any mailbox.
+fn are_all_given(wires: &[Mailbox]) -> bool
+    ensures all { IsTrue result ↔ All IsAllGiven wires.now }
+    ensures left { result ≡ false → Any (λ mailbox. IsAllGiven mailbox → ⊥) wires.now }
+{
+    wires.iter().all(|mailbox| mailbox.is_empty())
 }
 
 // How the nodes ended, and the races.

@@ -65,6 +65,21 @@ fn gives_by_the_picker(rt: HostRuntime) -> Result<(), Fail> {
 }
 
 #[test]
+fn is_empty_only_once_each_parcel_was_given_two_times(rt: HostRuntime) -> Result<(), Fail> {
+    let mut mailbox = Mailbox::new(rt.alloc(), 1, 2, Picker::Twice)?;
+    let fresh = mailbox.is_empty();
+    let refused = put_two(&rt, rt.alloc(), &mut mailbox)?;
+    assert!(rt; fresh && refused.is_none());
+    for _ in 0..4u64 {
+        let left = !mailbox.is_empty();
+        let stamp = next_stamp(&mut mailbox)?;
+        assert!(rt; left && stamp > 0);
+    }
+    assert!(rt; mailbox.is_empty());
+    Ok(())
+}
+
+#[test]
 fn refuses_and_gives_nothing_once_closed(rt: HostRuntime) -> Result<(), Fail> {
     let mut mailbox = Mailbox::new(rt.alloc(), 1, 2, Picker::Oldest)?;
     let first = put_two(&rt, rt.alloc(), &mut mailbox)?;

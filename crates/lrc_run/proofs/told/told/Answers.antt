@@ -6,10 +6,11 @@ use Rattle.lrc_world.specs.Promises.{IsConsistent}
 use Rattle.lrc_world.specs.Ends.{ends_of}
 use Rattle.lrc_threads.specs.Threads.{traces_of_logs}
 use Rattle.lrc_run.specs.Run.{turns_of_nodes}
-use Rattle.lrc_run.specs.Run.{IsWovenReport}
+use Rattle.lrc_run.specs.Run.{IsUntold, IsWovenReport}
 use Rattle.lrc_run.proofs.Telling.{acts_told, left_over, over_told, raceless_told, races_told, report_told, run_told, still_matched, theorem_told, traces_told}
 use Rattle.lrc_run.proofs.Telling.{weave_told, woven_told}
 use Rattle.lrc_run.proofs.told.told.Goals.{then-parts-via-then-parts, then-parts-via-else-parts+then-run-gt0}
+use Rattle.lrc_run.proofs.told.told.Goals.{then-parts-via-else-parts+else-run-gt0+then-not-are_all_given}
 use Rattle.lrc_run.proofs.told.told.Goals as goal
 
 pub findings_of-requires : goal.findings_of-requires
@@ -40,16 +41,18 @@ returns-then-parts-clause-mismatch c = λ answered.
     run.acts.items run.in_flight c.requires.logs c.in_ok-run.ensures.makes in
     let woven = weave_told (λ log. log.items) c.as_slice.result.now parts.logs.items (search rules) s.program.now s.nodes s.options run.events.items
     c.requires.logs c.in_ok-run.ensures.woven in
-    let left : (parts.is_any_ready ≡ true) ⊎ (1 ≤ run.in_flight) = elim c.then-parts.branch [
-      | then-parts-via-then-parts w ↦ inl (search rules)
-      | then-parts-via-else-parts+then-run-gt0 w ↦ inr (search rules)
-    ] in
-    inr (
+    let unfinished : (parts.is_any_ready ≡ true) ⊎ (1 ≤ run.in_flight) → IsUntold s.program.now s.nodes s.options logs c.args.wires.now = λ left.
+    inr (inl (
       run.events.items,
       woven.0,
       woven.1,
       left_over s.program.now s.nodes s.options logs run.events.items run.acts.items run.in_flight m parts.is_any_ready c.requires.ready left,
-    )
+    )) in
+    elim c.then-parts.branch [
+      | then-parts-via-then-parts w ↦ unfinished (inl (search rules))
+      | then-parts-via-else-parts+then-run-gt0 w ↦ unfinished (inr (search rules))
+      | then-parts-via-else-parts+else-run-gt0+then-not-are_all_given w ↦ inr (inr (w.are_all_given.ensures.left (search rules)))
+    ]
 
 pub returns-clause-woven : goal.returns-clause-woven
 returns-clause-woven c =
