@@ -84,8 +84,8 @@ abbrev pub own_of : ℕ → EntryRecord → List Bool
 own_of owner entry = own_takes entry.input ++ own_puts owner entry.turn.out
 
 -- What one node's mailbox kept is what the logs tell: each put is by a node of the run; what a node put is what its log
--- sends to the owner, in order; what was taken is what the owner's log takes, in order; and the owner's takes, and its puts to
--- itself, stand among each other as its turns made them.
+-- sends to the owner, in order; what was taken is what the owner's log takes, in order; and the owner's takes and its puts to
+-- itself stand among each other as its turns made them.
 pub record IsMatched (logs : List (List EntryRecord)) (owner : ℕ) (history : List Wire) : Type 0 where
   pub by_nodes : (place : ℕ) (from to stamp : ℕ) (bytes : List ℕ) → slice_get history place ≡ Some (Put from to stamp bytes)
       → from < length logs

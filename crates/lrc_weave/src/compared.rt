@@ -1,4 +1,4 @@
-// Whether logs and mailboxes tell of the same messages.
+// Whether logs and mailboxes tell of the same messages, in each node's order.
 
 ghost use Rattle.std.specs.Prelude.{◌≡◌, ◌==◌, ◌∷◌, ◌↔◌, [], IfOk, IsTrue, length, map};
 ghost use Rattle.std.specs.List.{list_all};
@@ -16,7 +16,7 @@ use lrc_post::{Mailbox, Wire};
 use std::alloc::{AllocError, Global};
 use std::marker::Model;
 
-/// Whether logs and mailboxes, one for each node, tell of the same messages.
+/// Whether logs and mailboxes, one for each node, tell of the same messages, in each node's order.
 pub(crate) fn are_matched(
     alloc: Global,
     logs: &[Vec<Entry>],
