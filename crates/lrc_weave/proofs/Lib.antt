@@ -11,6 +11,7 @@ pub mod Coded
 mod Spellings
 mod Firsts
 mod Comparing
+mod Owning
 mod Lining
 mod Looping
 mod Repeated

@@ -9,7 +9,7 @@ use Rattle.lrc_post.specs.Mailbox.{MailboxRecord}
 use Rattle.lrc_protocol.specs.Run.{Input, EntryRecord, Flying}
 use Rattle.lrc_weave.specs.Logs.{sent_to}
 use Rattle.lrc_weave.specs.Matched.{message_of, puts_by, takes_in, Takes, AreMatched}
-use Rattle.lrc_weave.specs.Compared.{is_by_node, AreByNodes, AreSent, line_at, puts_by_each, taken_in, IsLeft}
+use Rattle.lrc_weave.specs.Compared.{is_by_node, AreByNodes, AreOwn, AreSent, line_at, puts_by_each, taken_in, IsLeft}
 use Rattle.lrc_weave.proofs.Members.{in_map}
 use Rattle.lrc_weave.proofs.Places.{head_is, tail_is, nothing, read, some_same}
 use Rattle.lrc_weave.proofs.Lining.{puts_at, puts_count}
@@ -39,11 +39,12 @@ module _ (history : List Wire) (log : List EntryRecord) (k before : ℕ) (rest n
 unlike : (b : Bool) (P : Type 0) → IsTrue b ↔ P → b ≡ false → P → ⊥
 unlike b P same none p = let yes : b ≡ true = same.1 p in cc
 
--- a node's log tells of what the node put into each mailbox, and of what it took from its own
+-- a node's log tells of what the node put into each mailbox, and of what it took from its own, and in which order it did so there
 abbrev pub NodeSo : List MailboxRecord → ℕ → List EntryRecord → Type 0
 NodeSo wires node log =
     ((owner : ℕ) (mailbox : MailboxRecord) → slice_get wires owner ≡ Some mailbox → puts_by node mailbox.history ≡ map Some (sent_to owner log))
     × ((mailbox : MailboxRecord) → slice_get wires node ≡ Some mailbox → Takes [] log (takes_in mailbox.history))
+    × ((mailbox : MailboxRecord) → slice_get wires node ≡ Some mailbox → AreOwn node log mailbox.history)
 
 map_twice : {X Y Z : Type 0} (g : Y → Z) (f : X → Y) (xs : List X) → map g (map f xs) ≡ map (λ x. g (f x)) xs
 map_twice g f [] = refl
@@ -112,21 +113,25 @@ module _ (wires : List MailboxRecord) (node : ℕ) (log : List EntryRecord) (lin
   count = ap length are ∙ length-map wires (λ mailbox. puts_by node mailbox.history)
 
   module _ (mailbox : MailboxRecord) (history : List Wire) (at : slice_get wires node ≡ Some mailbox) (history_is : history ≡ mailbox.history) where
-    so_of : AreSent log lines × Takes [] log (takes_in history) → NodeSo wires node log
-    so_of both = (
+    so_of : AreSent log lines × Takes [] log (takes_in history) × AreOwn node log history → NodeSo wires node log
+    so_of all = (
       λ owner other there. sym (line_is owner other there)
-          ∙ both.0 owner (subst (λ n. owner < n) (sym count) (slice_get_within wires owner other there)),
+          ∙ all.0 owner (subst (λ n. owner < n) (sym count) (slice_get_within wires owner other there)),
       λ other there.
           subst (λ m. Takes [] log (takes_in m.history)) (some_same (slice_get wires node) mailbox other at there)
-          (subst (λ h. Takes [] log (takes_in h)) history_is both.1),
+          (subst (λ h. Takes [] log (takes_in h)) history_is all.1),
+      λ other there.
+          subst (λ m. AreOwn node log m.history) (some_same (slice_get wires node) mailbox other at there)
+          (subst (AreOwn node log) history_is all.2),
     )
 
-    of_so : NodeSo wires node log → AreSent log lines × Takes [] log (takes_in history)
+    of_so : NodeSo wires node log → AreSent log lines × Takes [] log (takes_in history) × AreOwn node log history
     of_so so = (
       λ owner within.
           let m = there wires owner (subst (λ n. owner < n) count within) in
           line_is owner m.0 m.1 ∙ so.0 owner m.0 m.1,
       subst (λ h. Takes [] log (takes_in h)) (sym history_is) (so.1 mailbox at),
+      subst (AreOwn node log) (sym history_is) (so.2 mailbox at),
     )
 
 -- ---- the mailboxes
@@ -137,6 +142,7 @@ matched_each : (logs : List (List EntryRecord)) (wires : List MailboxRecord) →
 matched_each logs wires all node log at = (
   λ owner mailbox there. (all.each owner mailbox there).puts node log at,
   λ mailbox there. (all.each node mailbox there).takes log at,
+  λ mailbox there. (all.each node mailbox there).own log at,
 )
 
 module _ {V : Type 0} (f : V → List EntryRecord) (logs : List V) (wires : List MailboxRecord) where
@@ -157,7 +163,7 @@ module _ {V : Type 0} (f : V → List EntryRecord) (logs : List V) (wires : List
       (log_there : k < length logs) (v_is : v ≡ slice_index_or logs k v) (log_is : log ≡ f v) (mailbox_there : k < length wires)
       (mailbox_is : mailbox ≡ slice_index_or wires k mailbox) (history_is : history ≡ mailbox.history)
       (are : lines ≡ map (λ mailbox. puts_by k mailbox.history) wires)
-      (same : IsTrue b ↔ (AreSent log lines × Takes [] log (takes_in history))) where
+      (same : IsTrue b ↔ (AreSent log lines × Takes [] log (takes_in history) × AreOwn k log history)) where
     log_at : slice_get (map f logs) k ≡ Some log
     log_at = in_map f logs v k (read logs k v log_there v_is) ∙ ap Some (sym log_is)
 
@@ -168,7 +174,7 @@ module _ {V : Type 0} (f : V → List EntryRecord) (logs : List V) (wires : List
     node_not none = (
       λ e. nothing e,
       λ all.
-          absurd (unlike b (AreSent log lines × Takes [] log (takes_in history)) same none
+          absurd (unlike b (AreSent log lines × Takes [] log (takes_in history) × AreOwn k log history) same none
           (of_so wires k log lines are mailbox history mailbox_at history_is (matched_each (map f logs) wires all k log log_at))),
     )
 
@@ -188,6 +194,7 @@ module _ {V : Type 0} (f : V → List EntryRecord) (logs : List V) (wires : List
                 (all_mailboxes (length logs) wires (sym is ∙ sure) owner mailbox at);
             puts = λ node log there. (each node log there).0 owner mailbox at;
             takes = λ log there. (each owner log there).1 mailbox at;
+            own = λ log there. (each owner log there).2 mailbox at;
           };
         },
         λ all. refl,

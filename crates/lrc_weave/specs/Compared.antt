@@ -1,13 +1,13 @@
 -- What the comparison of logs and mailboxes finds, step by step.
 use Rattle.std.specs.Prelude.{◌≡◌, ℕ, ◌+◌, ◌<◌, ◌==◌, Bool, true, false, Option, Some, None, List, [], ◌∷◌}
-use Rattle.std.specs.Prelude.{◌++◌, length, map, max, filter, filter_map, is_some, nat_lt, slice_get, slice_index_or, slice_set}
+use Rattle.std.specs.Prelude.{◌++◌, length, map, max, filter, filter_map, flat_map, is_some, nat_lt, slice_get, slice_index_or, slice_set}
 use Rattle.std.specs.List.{range_with_len}
 use Rattle.lrc_envelope.specs.Envelope.{EnvelopeRecord}
 use Rattle.lrc_post.specs.declared.parcel.Wire.{Wire}
 use Rattle.lrc_post.specs.declared.parcel.Wire.TheVariants.{Put, Took}
 use Rattle.lrc_protocol.specs.Run.{Input, run, taken, EntryRecord, Flying}
 use Rattle.lrc_weave.specs.Logs.{sent_to}
-use Rattle.lrc_weave.specs.Matched.{is_put_by, place_taken, message_at}
+use Rattle.lrc_weave.specs.Matched.{is_put_by, place_taken, message_at, own_in, own_of}
 
 -- a message as a turn with this stamp sends it
 abbrev pub sent_as : ℕ → EnvelopeRecord → Flying
@@ -81,3 +81,17 @@ Leaves before stamp (taken envelope) old new = (message : Option Flying) × (old
 abbrev pub IsLeft : ℕ → ℕ → Input → List (Option Flying) → List (Option Flying) → Bool → Type 0
 IsLeft before stamp input old new true = Leaves before stamp input old new
 IsLeft before stamp input old new false = (left : List (Option Flying)) → Leaves before stamp input old left → ⊥
+
+-- whether the owner's next entry of a history is a put, with what stands behind it; or there is none
+abbrev pub IsNextOwn : ℕ → List Wire → List Wire → Option Bool → Type 0
+IsNextOwn owner history rest None = own_in owner history ≡ []
+IsNextOwn owner history rest (Some put) = own_in owner history ≡ put ∷ own_in owner rest
+
+-- these are the next of some entries, and those are left; or the entries go on otherwise
+abbrev pub AreOwnNext : List Bool → List Bool → List Bool → Bool → Type 0
+AreOwnNext these old new true = old ≡ these ++ new
+AreOwnNext these old new false = (more : List Bool) → old ≡ these ++ more → ⊥
+
+-- the owner's entries of a history are what its turns make
+abbrev pub AreOwn : ℕ → List EntryRecord → List Wire → Type 0
+AreOwn owner log history = own_in owner history ≡ flat_map (own_of owner) log

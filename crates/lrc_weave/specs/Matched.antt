@@ -1,13 +1,13 @@
 -- Logs and mailboxes that tell of the same messages.
-use Rattle.std.specs.Prelude.{◌≡◌, ℕ, ◌<◌, ◌==◌, Bool, false, Option, Some, None, Result, Ok, Err, List}
-use Rattle.std.specs.Prelude.{[], ◌∷◌, ◌++◌, length, map, filter, filter_map, slice_get}
+use Rattle.std.specs.Prelude.{◌≡◌, ℕ, ◌<◌, ◌==◌, Bool, true, false, Option, Some, None, Result, Ok, Err, List}
+use Rattle.std.specs.Prelude.{[], ◌∷◌, ◌++◌, length, map, filter, filter_map, flat_map, slice_get}
 use Rattle.lrc_wire.specs.declared.fault.WireFault.{WireFault}
 use Rattle.lrc_envelope.specs.Envelope.{EnvelopeRecord}
 use Rattle.lrc_wire.specs.Reading.{envelope_of}
 use Rattle.lrc_post.specs.declared.parcel.Wire.{Wire}
 use Rattle.lrc_post.specs.declared.parcel.Wire.TheVariants.{Put, Took}
 use Rattle.lrc_post.specs.Mailbox.{MailboxRecord}
-use Rattle.lrc_protocol.specs.Run.{run, taken, EntryRecord, next_stamp, Flying}
+use Rattle.lrc_protocol.specs.Run.{Input, run, taken, EntryRecord, next_stamp, Flying}
 use Rattle.lrc_weave.specs.Logs.{sent_to}
 
 -- a message that was read, with its stamp
@@ -56,13 +56,42 @@ pub data Takes : List EntryRecord → List EntryRecord → List (Option Flying) 
       → entry.input ≡ taken flying.envelope → entry.stamp ≡ next_stamp before flying.stamp
       → Takes (before ++ entry ∷ []) log messages → Takes before (entry ∷ log) (Some flying ∷ messages)
 
+-- an entry of a history is a put
+abbrev pub is_put : Wire → Bool
+is_put (Put from to stamp bytes) = true
+is_put (Took me place) = false
+
+-- an entry of a history is its owner's: a take, or a put by the owner itself
+abbrev pub is_own : ℕ → Wire → Bool
+is_own owner (Put from to stamp bytes) = from == owner
+is_own owner (Took me place) = true
+
+-- of each of the owner's entries, in order, whether it is a put
+abbrev pub own_in : ℕ → List Wire → List Bool
+own_in owner history = map is_put (filter (is_own owner) history)
+
+-- for a message that is taken, a take; for a run, none
+abbrev pub own_takes : Input → List Bool
+own_takes run = []
+own_takes (taken envelope) = false ∷ []
+
+-- a put for each message to the owner
+abbrev pub own_puts : ℕ → List EnvelopeRecord → List Bool
+own_puts owner messages = map (λ envelope. true) (filter (λ envelope. envelope.to == owner) messages)
+
+-- the entries that a turn of the owner makes: first the take of its message, then a put for each message that it sends to the owner
+abbrev pub own_of : ℕ → EntryRecord → List Bool
+own_of owner entry = own_takes entry.input ++ own_puts owner entry.turn.out
+
 -- What one node's mailbox kept is what the logs tell: each put is by a node of the run; what a node put is what its log
--- sends to the owner, in order; and what was taken is what the owner's log takes, in order.
+-- sends to the owner, in order; what was taken is what the owner's log takes, in order; and the owner's takes and its puts to
+-- itself stand among each other as its turns made them.
 pub record IsMatched (logs : List (List EntryRecord)) (owner : ℕ) (history : List Wire) : Type 0 where
   pub by_nodes : (place : ℕ) (from to stamp : ℕ) (bytes : List ℕ) → slice_get history place ≡ Some (Put from to stamp bytes)
       → from < length logs
   pub puts : (node : ℕ) (log : List EntryRecord) → slice_get logs node ≡ Some log → puts_by node history ≡ map Some (sent_to owner log)
   pub takes : (log : List EntryRecord) → slice_get logs owner ≡ Some log → Takes [] log (takes_in history)
+  pub own : (log : List EntryRecord) → slice_get logs owner ≡ Some log → own_in owner history ≡ flat_map (own_of owner) log
 
 -- the same of each mailbox
 pub record AreMatched (logs : List (List EntryRecord)) (wires : List MailboxRecord) : Type 0 where

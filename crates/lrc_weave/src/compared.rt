@@ -1,13 +1,14 @@
-// Whether logs and mailboxes tell of the same messages.
+// Whether logs and mailboxes tell of the same messages, in each node's order.
 
 ghost use Rattle.std.specs.Prelude.{◌≡◌, ◌==◌, ◌∷◌, ◌↔◌, [], IfOk, IsTrue, length, map};
 ghost use Rattle.std.specs.List.{list_all};
 ghost use Rattle.lrc_node.specs.Logged.{seen_input};
 ghost use Rattle.lrc_protocol.specs.Run.{taken};
-ghost use Rattle.lrc_weave.specs.Compared.{AreAllNext, AreSent, IsLeft, is_by_node, sent_as, taken_in};
+ghost use Rattle.lrc_weave.specs.Compared.{AreAllNext, AreOwn, AreSent, IsLeft, is_by_node, sent_as, taken_in};
 ghost use Rattle.lrc_weave.specs.Matched.{AreMatched, Takes, message_of, takes_in};
 
 use crate::history::{is_by_node, is_taken_from, next_take, take_put};
+use crate::owner::are_own;
 use crate::putting::{all_puts, lines_of};
 use lrc_envelope::Envelope;
 use lrc_node::{Entry, Input};
@@ -15,7 +16,7 @@ use lrc_post::{Mailbox, Wire};
 use std::alloc::{AllocError, Global};
 use std::marker::Model;
 
-/// Whether logs and mailboxes, one for each node, tell of the same messages.
+/// Whether logs and mailboxes, one for each node, tell of the same messages, in each node's order.
 pub(crate) fn are_matched(
     alloc: Global,
     logs: &[Vec<Entry>],
@@ -33,6 +34,7 @@ pub(crate) fn are_matched(
         let mut lines = lines_of(alloc, puts.as_slice(), node)?;
         if !is_matched(
             &mut spare,
+            node,
             lines.as_mut_slice(),
             logs[node].as_slice(),
             wires[node].history(),
@@ -59,17 +61,23 @@ fn are_by_nodes(history: &[Wire], nodes: usize) -> bool
     history.iter().all(|wire| is_by_node(wire, nodes))
 }
 
-// Whether a node's log sends what the node put into each mailbox, line by line, and takes what the node took from its own.
+// Whether a node's log sends what the node put into each mailbox, line by line, and takes what the node took from its own, where
+// its takes and its own puts stand as its turns made them.
 fn is_matched(
     spare: &mut Vec<u8>,
+    node: usize,
     lines: &mut [&[&Wire]],
     log: &[Entry],
     history: &[Wire],
 ) -> Result<bool, AllocError>
     ensures { IfOk result (λ is. IsTrue is
-        ↔ (AreSent log.now (map (λ line. map (λ wire. message_of wire.now) line.now) lines.old) × Takes [] log.now (takes_in history.now))) }
+        ↔ (AreSent log.now (map (λ line. map (λ wire. message_of wire.now) line.now) lines.old) × Takes [] log.now (takes_in history.now)
+        × AreOwn node log.now history.now)) }
 {
     if !are_sent(spare, lines, log)? {
+        return Ok(false);
+    }
+    if !are_own(node, log, history) {
         return Ok(false);
     }
     are_takes(spare, log, history)

@@ -9,6 +9,7 @@ mod fault;
 mod history;
 pub mod laws;
 mod order;
+mod owner;
 mod putting;
 mod spelled;
 mod woven;

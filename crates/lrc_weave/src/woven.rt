@@ -38,7 +38,8 @@ pub struct WovenRun {
 
 /// The events that make all turns of the logs of a program's nodes, ordered by their stamps, and where those are the same by their
 /// nodes. A message's last take is delivered, and each one before it repeated. `Mismatch` exactly where the logs and the mailboxes,
-/// one for each node, tell of different messages; so it is where a log has a message that is too long to be written.
+/// one for each node, tell of different messages, or of another order of what a node did; so it is where a log has a message that is
+/// too long to be written.
 pub fn weave(
     alloc: Global,
     logs: &[Vec<Entry>],

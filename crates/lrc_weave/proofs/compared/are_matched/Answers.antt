@@ -1,7 +1,7 @@
 use Rattle.std.proofs.Common.{◌≡◌, ◌<◌, ◌↔◌, ◌∙◌, [], IsTrue, length, map, subst, sym, ap, rules}
 use Rattle.std.specs.Prelude.{slice_index_or}
 use Rattle.lrc_weave.specs.Matched.{Takes, message_of, puts_by, takes_in}
-use Rattle.lrc_weave.specs.Compared.{AreSent}
+use Rattle.lrc_weave.specs.Compared.{AreOwn, AreSent}
 use Rattle.lrc_weave.proofs.Looping.{each_long, node_more, node_not, nodes_end, not_by_nodes, own_lines}
 use Rattle.lrc_weave.proofs.compared.are_matched.Goals as goal
 
@@ -33,7 +33,8 @@ returns-then-not-branch c =
     (search rules) own
     (subst (λ ls. IsTrue c.in_ok-is_matched.field-0
     ↔ (AreSent c.as_slice-in-loop-node.result.now (map (λ line. map (λ wire. message_of wire.now) line.now) ls)
-    × Takes [] c.as_slice-in-loop-node.result.now (takes_in c.history.result.now))) c.as_mut_slice.ensures.value c.in_ok-is_matched.ensures)
+    × Takes [] c.as_slice-in-loop-node.result.now (takes_in c.history.result.now)
+    × AreOwn c.loop-node.node c.as_slice-in-loop-node.result.now c.history.result.now)) c.as_mut_slice.ensures.value c.in_ok-is_matched.ensures)
     (search rules)
 
 pub loop-node-preserved : goal.loop-node-preserved
@@ -51,7 +52,8 @@ loop-node-preserved c =
     (search rules) own
     (subst (λ ls. IsTrue c.in_ok-is_matched.field-0
     ↔ (AreSent c.as_slice-in-loop-node.result.now (map (λ line. map (λ wire. message_of wire.now) line.now) ls)
-    × Takes [] c.as_slice-in-loop-node.result.now (takes_in c.history.result.now))) c.as_mut_slice.ensures.value c.in_ok-is_matched.ensures)
+    × Takes [] c.as_slice-in-loop-node.result.now (takes_in c.history.result.now)
+    × AreOwn c.loop-node.node c.as_slice-in-loop-node.result.now c.history.result.now)) c.as_mut_slice.ensures.value c.in_ok-is_matched.ensures)
     (search rules) c.loop-node.invariant
 
 pub returns : goal.returns
