@@ -1,10 +1,10 @@
 -- What the program does with its words and the files that they name.
-use Rattle.std.specs.Prelude.{◌≡◌, ◌≢◌, ◌⊎◌, ℕ, Bool, true, false, List, Option, None, Some, Ok, Err, codes}
+use Rattle.std.specs.Prelude.{◌≡◌, ◌≢◌, ◌⊎◌, ℕ, Bool, true, false, List, Option, None, Some, Result, Ok, Err, codes, drop}
 use Rattle.std.specs.Io.KnownBytes.{Appends, Keeps}
 use Rattle.std.specs.declared.io.ErrorKind.{ErrorKind}
 use Rattle.std.specs.declared.io.ErrorKind.TheVariants.{OutOfMemory}
 use Rattle.clap.specs.Words.{Text}
-use Rattle.lrc_words.specs.CommandLine.{Chooses}
+use Rattle.lrc_words.specs.CommandLine.{Chooses, words_meant}
 use Rattle.lrc_words.specs.Files.{events_of, file_of, reads_acts}
 use Rattle.lrc_words.specs.declared.choice.Choice.{Choice}
 use Rattle.lrc_words.specs.declared.choice.ChooseFault.{ChooseFault}
@@ -83,3 +83,11 @@ pub data Plays (known : Known) (words : List Text) (out out' err err' : Option (
       → Plays known words out out' err err' status
   played : (choice : Choice) → Chooses words (Ok choice) → IsPlayed known choice out out' err err' status
       → Plays known words out out' err err' status
+
+-- What comes of a start, by the arguments of the program, the first of which is its name: what comes of the words behind it, or
+-- the arguments cannot be read, a line says why, and nothing is printed.
+abbrev pub Starts : Known → Result (List Text) ErrorKind
+    → Option (List ℕ) → Option (List ℕ) → Option (List ℕ) → Option (List ℕ) → ℕ → Type 0
+Starts known (Ok arguments) out out' err err' status = Plays known (words_meant (drop 1 arguments)) out out' err err' status
+Starts known (Err kind) out out' err err' status =
+    IsTold err err' (argument_line kind) × (status ≡ argument_status kind) × Keeps out out'

@@ -6,8 +6,9 @@ mod played;
 mod progress;
 mod refusal;
 mod sources;
+mod starting;
 
 pub use played::play;
-pub use progress::Watch;
-pub use refusal::refuse_arguments;
+pub use progress::{Late, LateLine, Watch};
 pub use sources::{Sources, System, read_up_to};
+pub use starting::start;

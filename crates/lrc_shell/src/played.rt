@@ -8,7 +8,7 @@ ghost use Rattle.lrc_words.specs.CommandLine.{words_meant};
 ghost use Rattle.lrc_words.specs.Files.{events_of, file_of, names_events, reads_acts};
 ghost use Rattle.lrc_shell.specs.Plays.{AreEventsRead, IsEventsCause, IsPlayed, IsTextCause, IsTextRead, Plays, most_read};
 
-use crate::progress::Watch;
+use crate::progress::{Late, Watch};
 use crate::refusal::{refuse, refuse_file};
 use crate::sources::Sources;
 use lrc_cli::answer::Printout;
@@ -18,7 +18,7 @@ use lrc_words::choice::Choice;
 use lrc_words::choose;
 use std::alloc::Global;
 use std::convert::AsStr;
-use std::io::{Eprint, Write};
+use std::io::Write;
 use std::sync::Wait;
 use std::thread::Threads;
 use std::time::Clock;
@@ -40,22 +40,23 @@ const EVENTS_READ: u64 = lrc_events::events::MOST_BYTES as u64 + 1;
 const _: () = prove!(EVENTS_READ > lrc_events::events::MOST_BYTES as u64);
 
 /// Does what the arguments of the program ask for, the first of which is its name, and gives the exit status. What it prints
-/// goes to `out`, and each fault to `err`. Where it is watched, a line on standard error says that a run takes long.
-pub fn play<R, S: AsStr, F: Sources, W: Write, E: Write>(
+/// goes to `out`, and each fault to `err`. Where a run takes long, `late` says so, once.
+pub fn play<R, S: AsStr, F: Sources, L, W: Write, E: Write>(
     rt: &R,
     arguments: &[S],
     sources: &F,
-    watched: bool,
+    late: Option<L>,
     out: &mut W,
     err: &mut E,
 ) -> u8
 where
-    R: Threads + Wait + Sync + Clock + Eprint + AllocGlobal,
+    R: Threads + Wait + Sync + Clock + AllocGlobal,
+    L: Late + Send + Drop,
     ensures { Plays (F.known sources.now) (words_meant (map S.text (drop 1 arguments.now)))
         (W.contents out.old) (W.contents out.new) (E.contents err.old) (E.contents err.new) result }
 {
     match choose(rt.alloc(), words_of(arguments)) {
-        Ok(choice) => play_choice(rt, &choice, sources, watched, out, err),
+        Ok(choice) => play_choice(rt, &choice, sources, late, out, err),
         Err(fault) => refuse(&fault, err),
     }
 }
@@ -71,107 +72,116 @@ fn words_of<S>(arguments: &[S]) -> &[S]
 }
 
 // Reads what a choice names and does it.
-fn play_choice<R, F: Sources, W: Write, E: Write>(
+fn play_choice<R, F: Sources, L, W: Write, E: Write>(
     rt: &R,
     choice: &Choice<'_>,
     sources: &F,
-    watched: bool,
+    late: Option<L>,
     out: &mut W,
     err: &mut E,
 ) -> u8
 where
-    R: Threads + Wait + Sync + Clock + Eprint + AllocGlobal,
+    R: Threads + Wait + Sync + Clock + AllocGlobal,
+    L: Late + Send + Drop,
     ensures { IsPlayed (F.known sources.now) choice.now
         (W.contents out.old) (W.contents out.new) (E.contents err.old) (E.contents err.new) result }
 {
     match read_text(rt.alloc(), sources, choice) {
-        Ok(text) => play_text(rt, choice, &text, sources, watched, out, err),
+        Ok(text) => play_text(rt, choice, &text, sources, late, out, err),
         Err(error) => refuse_file(&error, err),
     }
 }
 
 // Reads the events that a choice names, and does it with the text of its FILE.
-fn play_text<R, F: Sources, W: Write, E: Write>(
+fn play_text<R, F: Sources, L, W: Write, E: Write>(
     rt: &R,
     choice: &Choice<'_>,
     text: &[u8],
     sources: &F,
-    watched: bool,
+    late: Option<L>,
     out: &mut W,
     err: &mut E,
 ) -> u8
 where
-    R: Threads + Wait + Sync + Clock + Eprint + AllocGlobal,
+    R: Threads + Wait + Sync + Clock + AllocGlobal,
+    L: Late + Send + Drop,
     ensures { IsTextRead (F.known sources.now) (most_read (reads_acts choice.now)) (file_of choice.now) text.now → IsPlayed (F.known sources.now) choice.now
         (W.contents out.old) (W.contents out.new) (E.contents err.old) (E.contents err.new) result }
 {
     match read_events(rt.alloc(), sources, choice) {
-        Ok(events) => perform(rt, choice, text, events.as_deref(), watched, out, err),
+        Ok(events) => perform(rt, choice, text, events.as_deref(), late, out, err),
         Err(error) => refuse_file(&error, err),
     }
 }
 
 // Answers a choice, and writes the answer.
-fn perform<R, W: Write, E: Write>(
+fn perform<R, L, W: Write, E: Write>(
     rt: &R,
     choice: &Choice<'_>,
     text: &[u8],
     events: Option<&[u8]>,
-    watched: bool,
+    late: Option<L>,
     out: &mut W,
     err: &mut E,
 ) -> u8
 where
-    R: Threads + Wait + Sync + Clock + Eprint + AllocGlobal,
+    R: Threads + Wait + Sync + Clock + AllocGlobal,
+    L: Late + Send + Drop,
     requires { is_some events ≡ names_events choice.now }
     ensures { Performs choice.now text.now (option_map (λ e. e.now) events.entry)
         (W.contents out.old) (W.contents out.new) (E.contents err.old) (E.contents err.new) result }
 {
-    let answered = answer_of(rt, choice, text, events, watched);
+    let answered = answer_of(rt, choice, text, events, late);
     tell(rt.alloc(), answered, out, err)
 }
 
-// Answers a choice. Where that is watched and takes long, a line on standard error says that it goes on.
-fn answer_of<R>(
+// Answers a choice. Where that takes long, `late` says that it goes on.
+fn answer_of<R, L>(
     rt: &R,
     choice: &Choice<'_>,
     text: &[u8],
     events: Option<&[u8]>,
-    watched: bool,
+    late: Option<L>,
 ) -> Result<Printout, Fault>
 where
-    R: Threads + Wait + Sync + Clock + Eprint + AllocGlobal,
+    R: Threads + Wait + Sync + Clock + AllocGlobal,
+    L: Late + Send + Drop,
     requires { is_some events ≡ names_events choice.now }
     ensures { Answers choice.now text.now (option_map (λ e. e.now) events.entry) result }
 {
-    if watched {
-        answer_watched(rt, choice, text, events)
-    } else {
-        answer_any(rt, rt.alloc(), choice, text, events)
+    match late {
+        Some(late) => answer_watched(rt, choice, text, events, late),
+        None => answer_any(rt, rt.alloc(), choice, text, events),
     }
 }
 
-// Answers a choice. Where that takes long, a line on standard error says that it goes on, if a thread can be started for it.
-// Once there is an answer, no such line comes any more.
-fn answer_watched<R>(
+// Answers a choice. Where that takes long, `late` says that it goes on, if a thread can be started for it, and before the answer
+// is handed back.
+fn answer_watched<R, L>(
     rt: &R,
     choice: &Choice<'_>,
     text: &[u8],
     events: Option<&[u8]>,
+    late: L,
 ) -> Result<Printout, Fault>
 where
-    R: Threads + Wait + Sync + Clock + Eprint + AllocGlobal,
+    R: Threads + Wait + Sync + Clock + AllocGlobal,
+    L: Late + Send + Drop,
     requires { is_some events ≡ names_events choice.now }
     ensures { Answers choice.now text.now (option_map (λ e. e.now) events.entry) result }
 {
     let watch = Watch::new();
     let shared = &watch;
-    let watched = || shared.tell(rt);
+    let watched = || {
+        if shared.takes_long(rt) {
+            late.tell();
+        }
+    };
     let answering = || -> Result<Printout, Fault>
         requires { is_some events ≡ names_events choice.now }
         ensures { Answers choice.entry.now text.entry.now (option_map (λ e. e.now) events.entry) result }
     { answer_then_end(rt, shared, choice, text, events) };
-    let (_late, answered) = thread::join(rt, watched, answering);
+    let (_told, answered) = thread::join(rt, watched, answering);
     answered
 }
 

@@ -1,10 +1,29 @@
-// The line that says that a run still goes on.
+// What says that a run still goes on, and when.
 
 use std::io::Eprint;
 use std::sync::{Condvar, CondvarTimeouts, Mutex, Wait};
 use std::time::{Clock, Duration};
 
-/// How many seconds a run may take before a line says that it goes on.
+/// What says that a run still goes on. It is used up by that, so that this is said of no run twice.
+pub trait Late {
+    /// Says that the run goes on.
+    fn tell(self);
+}
+
+/// The line that says so on standard error.
+#[derive(Drop)]
+pub struct LateLine<'r, R> {
+    /// The handle of the system.
+    pub rt: &'r R,
+}
+
+impl<'r, R: Eprint> Late for LateLine<'r, R> {
+    fn tell(self) {
+        let _ = eprintln!(self.rt; "treadmarks: still running");
+    }
+}
+
+/// How many seconds a run may take before it is said that it goes on.
 const SECONDS: u64 = 2;
 
 /// Whether what is watched is over.
@@ -23,20 +42,16 @@ impl Watch {
         }
     }
 
-    /// Waits until it is over. Where that takes two seconds, it says so on standard error, waits no more, and answers `true`.
-    pub fn tell(&self, rt: &(impl Wait + Clock + Eprint)) -> bool {
+    /// Waits until it is over, but no more than two seconds, and answers whether it took so long.
+    pub fn takes_long(&self, rt: &(impl Wait + Clock)) -> bool {
         let over = self.over.lock(rt);
         let (_over, timeout) = self
             .told
             .wait_timeout_while(rt, over, Duration::from_secs(SECONDS), |over| !*over);
-        let late = timeout.timed_out();
-        if late {
-            let _ = eprintln!(rt; "treadmarks: still running");
-        }
-        late
+        timeout.timed_out()
     }
 
-    /// It is over. No line says from then on that it goes on.
+    /// It is over, and whoever waits for that goes on.
     pub fn end(&self, rt: &impl Wait) {
         *self.over.lock(rt) = true;
         self.told.notify_one();

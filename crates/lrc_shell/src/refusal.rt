@@ -24,7 +24,7 @@ const BAD_NUMBER: &[u8] = b"treadmarks: number out of range\n";
 const BAD_ARGUMENT: &[u8] = b"error: invalid UTF-8 was detected in one or more arguments\n";
 
 /// Says why there are no words: memory ran out, or one of them is not UTF-8. Gives the exit status.
-pub fn refuse_arguments<E: Write>(error: &io::Error, err: &mut E) -> u8
+pub(crate) fn refuse_arguments<E: Write>(error: &io::Error, err: &mut E) -> u8
     ensures told { IsTold (E.contents err.old) (E.contents err.new) (argument_line (error_kind error.now)) }
     ensures status { result ≡ argument_status (error_kind error.now) }
 {

@@ -2,7 +2,7 @@
 //! prints and then its exit status, `status N`; a line says whether that is what the program does.
 #![tactic(auto)]
 
-use lrc_shell::{System, play};
+use lrc_shell::{LateLine, System, play};
 use std::alloc::{AllocError, Global};
 use std::fs::Files;
 use std::io::{Eprint, Input, Write};
@@ -87,7 +87,8 @@ where
     R: Threads + Wait + Sync + Clock + Files + Input + Eprint + AllocGlobal,
 {
     let arguments = arguments_of(rt.alloc(), line)?;
-    Ok(play(rt, &arguments, &System { rt }, false, out, err))
+    let late: Option<LateLine<'_, R>> = None;
+    Ok(play(rt, &arguments, &System { rt }, late, out, err))
 }
 
 /// The program's name and the words of a command, with the files as they are called in their folder.

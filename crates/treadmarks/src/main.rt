@@ -1,7 +1,7 @@
 //! The program `treadmarks`: hands its arguments, the files of the system and both outputs to the library `lrc_shell`.
 #![tactic(auto)]
 
-use lrc_shell::{System, play, refuse_arguments};
+use lrc_shell::{LateLine, System, start};
 use std::io::IsTerminal;
 use std::process::ExitCode;
 use std::rt::Env;
@@ -9,17 +9,10 @@ use std::{env, io};
 
 fn main(rt: HostRuntime) -> ExitCode {
     // Neither output has a buffer: what is written to it is with the system.
-    let mut out = rt.stdout();
-    let mut err = rt.stderr();
-    let watched = err.is_terminal();
-    let status = match arguments(&rt) {
-        Ok(arguments) => {
-            let system = System { rt: &rt };
-            play(&rt, &arguments, &system, watched, &mut out, &mut err)
-        }
-        Err(error) => refuse_arguments(&error, &mut err),
-    };
-    ExitCode::from(status)
+    let (mut out, mut err) = (rt.stdout(), rt.stderr());
+    let late = err.is_terminal().then_some(LateLine { rt: &rt });
+    let files = System { rt: &rt };
+    ExitCode::from(start(&rt, arguments(&rt), &files, late, &mut out, &mut err))
 }
 
 /// The program's name, and the words that follow it.

@@ -1,0 +1,39 @@
+// From the start of the program to its exit status.
+
+ghost use Rattle.std.specs.Prelude.{map};
+ghost use Rattle.std.specs.IoError.{error_kind};
+ghost use Rattle.std.specs.String.{string_bytes};
+ghost use Rattle.std.specs.Result.{result_map_both};
+ghost use Rattle.lrc_shell.specs.Plays.{Starts};
+
+use crate::played::play;
+use crate::progress::Late;
+use crate::refusal::refuse_arguments;
+use crate::sources::Sources;
+use std::io;
+use std::io::Write;
+use std::sync::Wait;
+use std::thread::Threads;
+use std::time::Clock;
+
+/// Does what the arguments of the program ask for, as [`play`] does, and gives the exit status. Where they cannot be read, a line
+/// on `err` says why, and nothing goes to `out`.
+pub fn start<R, F: Sources, L, W: Write, E: Write>(
+    rt: &R,
+    arguments: io::Result<Vec<String>>,
+    sources: &F,
+    late: Option<L>,
+    out: &mut W,
+    err: &mut E,
+) -> u8
+where
+    R: Threads + Wait + Sync + Clock + AllocGlobal,
+    L: Late + Send + Drop,
+    ensures { Starts (F.known sources.now) (result_map_both (λ given. map string_bytes given.items) error_kind arguments)
+        (W.contents out.old) (W.contents out.new) (E.contents err.old) (E.contents err.new) result }
+{
+    match arguments {
+        Ok(arguments) => play(rt, &arguments, sources, late, out, err),
+        Err(error) => refuse_arguments(&error, err),
+    }
+}
