@@ -1,0 +1,4 @@
+pub mod Determined
+pub mod OfRounds
+pub mod OfWandering
+pub mod Epochs

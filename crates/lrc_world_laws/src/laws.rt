@@ -1,0 +1,47 @@
+// What holds of every run that the simulator makes. Each function is a theorem: its body is empty, and its clauses are the law.
+
+ghost use Rattle.std.specs.Prelude.{◌≡◌, ℕ, List, Some, Contains, slice_get};
+ghost use Rattle.lrc_lang.specs.declared.program.Program.{Program};
+ghost use Rattle.lrc_trace.specs.Conflict.{Accesses};
+ghost use Rattle.lrc_trace.specs.Interval.{interval_at};
+ghost use Rattle.lrc_trace.specs.Run.{departs_before};
+ghost use Rattle.lrc_trace.specs.declared.trace.Segment.{Segment};
+ghost use Rattle.lrc_envelope.specs.declared.picker.Picker.{Picker};
+ghost use Rattle.lrc_protocol.specs.declared.event.Event.{Event};
+ghost use Rattle.lrc_protocol.specs.Node.{OptionsRecord, fresh_node};
+ghost use Rattle.lrc_protocol.specs.Run.{Logged, World as Run, run_of};
+ghost use Rattle.lrc_protocol.specs.Traced.{trace_of};
+ghost use Rattle.lrc_world.specs.Random.{IsWandering};
+ghost use Rattle.lrc_world.specs.Rounds.{AreRounds};
+ghost use Rattle.lrc_world_laws.specs.Ended.{IsEnded};
+
+/// A program, a number of nodes, options and a picker determine the events of a run in rounds that goes on until nothing is left to do
+/// or there are 100,000,000 events. So `drive` and `drive_briefly` of `lrc_world` make the same events, each time.
+pub fn rounds_are_determined()
+    ensures { (program : Program) (nodes : ℕ) (options : OptionsRecord) (picker : Picker) (events others : List Event)
+        → AreRounds program nodes options picker events → IsEnded program nodes options events
+        → AreRounds program nodes options picker others → IsEnded program nodes options others → events ≡ others }
+{}
+
+/// A program, a number of nodes, options and a seed determine the events of a run in a random order that goes on until nothing is left
+/// to do or there are 100,000,000 events. So `wander` and `wander_briefly` of `lrc_world` make the same events, each time.
+pub fn wandering_is_determined()
+    ensures { (program : Program) (nodes : ℕ) (options : OptionsRecord) (seed : ℕ) (events others : List Event)
+        → IsWandering program nodes options seed events → IsEnded program nodes options events
+        → IsWandering program nodes options seed others → IsEnded program nodes options others → events ≡ others }
+{}
+
+/// The epoch of a segment of a node's trace is the number of departs that the node has made before each of its accesses in the
+/// segment's interval; and no two segments of a trace are of one interval.
+pub fn epoch_counts_departs_before_each_access()
+    ensures epoch { (program : Program) (nodes : ℕ) (options : OptionsRecord) (events : List Event) (run : Run) (n : ℕ) (l : Logged)
+        (segment : Segment) (position word : ℕ) → run_of program nodes options events ≡ Some run → slice_get run.nodes n ≡ Some l
+        → Contains (trace_of (fresh_node program nodes options n) l.log).segments segment
+        → Accesses run.acts position n word → segment.interval ≡ interval_at run.acts n position
+        → segment.epoch ≡ departs_before run.acts n position }
+    ensures one { (program : Program) (nodes : ℕ) (options : OptionsRecord) (events : List Event) (run : Run) (n : ℕ) (l : Logged)
+        (segment other : Segment) → run_of program nodes options events ≡ Some run → slice_get run.nodes n ≡ Some l
+        → Contains (trace_of (fresh_node program nodes options n) l.log).segments segment
+        → Contains (trace_of (fresh_node program nodes options n) l.log).segments other
+        → segment.interval ≡ other.interval → segment ≡ other }
+{}
