@@ -1,4 +1,5 @@
 pub mod Determined
+pub mod Worn
 pub mod OfRounds
 pub mod OfWandering
 pub mod Epochs
