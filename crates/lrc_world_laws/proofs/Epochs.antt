@@ -50,8 +50,7 @@ module _ (program : Program) (nodes : ℕ) (options : OptionsRecord) (events : L
   segments_here = (trace_of (fresh_node program nodes options n) l.log).segments
 
   pub one_here : (segment other : Segment) → Contains segments_here segment → Contains segments_here other
-      → segment.interval ≡ other.interval
-      → segment ≡ other
+      → segment.interval ≡ other.interval → segment ≡ other
   one_here =
       one_of_interval segments_here
       ((all_traced program nodes options run (record { events = events; runs = runs })).each n l there).segments

@@ -3,3 +3,4 @@ pub mod Worn
 pub mod OfRounds
 pub mod OfWandering
 pub mod Epochs
+pub mod Reports

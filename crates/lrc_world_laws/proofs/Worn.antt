@@ -12,8 +12,8 @@ use Rattle.lrc_protocol.specs.Node.{OptionsRecord}
 use Rattle.lrc_protocol.specs.Run.{World as Run, Flying, Logged, Logging, Input, EntryRecord, logged, refused, too_large, fresh_world, event_on, run_of}
 use Rattle.lrc_protocol.specs.Run.{after_input, input_to, delivers, logs, taken, with_mark}
 use Rattle.lrc_protocol.specs.Run as log
-use Rattle.lrc_protocol.proofs.Worlds.{IsEntry, Entries, logs-entries}
-use Rattle.lrc_world.specs.Led.{Schedule, Led, AreLed, WearsOut}
+use Rattle.lrc_protocol.proofs.Worlds.{Entries, logs-entries}
+use Rattle.lrc_world.specs.Led.{Schedule, AreLed, WearsOut}
 use Rattle.lrc_world.specs.Report.{IsOver, AreAll}
 use Rattle.lrc_world.specs.World.{entry_is_long, log_is_long, sends_long}
 use Rattle.lrc_world.proofs.Driven.{led_played}
