@@ -38,8 +38,8 @@ pub fn wandering_is_determined()
         → IsWandering program nodes options seed others → IsEnded program nodes options others → events ≡ others }
 {}
 
-/// A run that goes on so, and none of whose turns sends a message that is too long, does not wear out: so whether `drive` or `wander`
-/// answers `Worn` is determined too.
+/// A run in rounds or in a random order that has ended so, and none of whose turns sends a message that is too long, does not wear
+/// out. So what `drive` or `wander` once answers with a run it never answers with `Worn`.
 pub fn runs_that_end_never_wear_out()
     ensures rounds { (program : Program) (nodes : ℕ) (options : OptionsRecord) (picker : Picker) (events : List Event) (run : Run)
         → AreRounds program nodes options picker events → IsEnded program nodes options events
