@@ -66,11 +66,11 @@ module _ (schedule : Schedule) where
       more_passes start run schedule.first _ at events (from_start start run _ events led) pass
 
 -- the one goes on to the other
-record IsAhead (schedule : Schedule) (events : List Event) (run : Run) (at : schedule.Standing) (others : List Event) (last : Run)
+pub record IsAhead (schedule : Schedule) (events : List Event) (run : Run) (at : schedule.Standing) (others : List Event) (last : Run)
     (end : schedule.Standing) : Type 0 where
-  more : List Event
-  split : others ≡ events ++ more
-  goes : GoesOn schedule run at more last end
+  pub more : List Event
+  pub split : others ≡ events ++ more
+  pub goes : GoesOn schedule run at more last end
 
 module _ (schedule : Schedule) (is : IsDeterministic schedule) where
   -- it went on from where this event is due: it stayed there, or played just this event first
@@ -101,7 +101,7 @@ module _ (schedule : Schedule) (is : IsDeterministic schedule) where
 
   module _ (start last : Run) (end : schedule.Standing) (others : List Event) (other : Led schedule start others last end) where
     -- two runs that it leads from one world: one goes on to the other
-    ahead : (events : List Event) (run : Run) (at : schedule.Standing) → Led schedule start events run at
+    pub ahead : (events : List Event) (run : Run) (at : schedule.Standing) → Led schedule start events run at
         → IsAhead schedule events run at others last end ⊎ IsAhead schedule others last end events run at
     ahead [] run at begins = inl (record { more = others; split = refl; goes = from_start schedule start last end others other })
     ahead events run at (plays {events = before} {run = old} {at = from} {event = event} led due next) =
@@ -153,14 +153,14 @@ module _ (schedule : Schedule) (is : IsDeterministic schedule) where
 
 module _ (schedule : Schedule) (start : Run) (stops : Stops schedule start) where
   -- what holds wherever it stands
-  holds : (events : List Event) (run : Run) (at : schedule.Standing) → Led schedule start events run at → stops.Holds run at
+  pub holds : (events : List Event) (run : Run) (at : schedule.Standing) → Led schedule start events run at → stops.Holds run at
   holds [] run at begins = stops.first
   holds events run at (plays {events = before} {run = old} {at = from} {event = event} led due next) =
       stops.played old run from at event (holds before old from led) due next
   holds events run at (passes {at = from} led pass) = stops.passed run from at (holds events run from led) pass
 
   -- no event comes after nothing is left to do
-  none_after : (events : List Event) (run last : Run) (at end : schedule.Standing) → stops.Holds run at → IsOver run
+  pub none_after : (events : List Event) (run last : Run) (at end : schedule.Standing) → stops.Holds run at → IsOver run
       → GoesOn schedule run at events last end → events ≡ []
   none_after [] run last at end h over stays = refl
   none_after (event ∷ events) run last at end h over (next_plays {after = to} d n more) = absurd (stops.none_due run at to event h over d)

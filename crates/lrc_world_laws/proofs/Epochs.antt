@@ -19,10 +19,12 @@ use Rattle.lrc_world.proofs.Epochs.{of_access}
 
 module _ (segments : List Segment) (are : AreSegments segments) where
   -- a segment further on is of a later interval
-  later : (i j : ℕ) (a b : Segment) → i < j → j < length segments → get_or segments i a ≡ a → get_or segments j b ≡ b → a.interval < b.interval
+  later : (i j : ℕ) (a b : Segment) → i < j → j < length segments → get_or segments i a ≡ a → get_or segments j b ≡ b
+      → a.interval < b.interval
   later i j a b before within is_a is_b =
       let long : length (intervals_of segments) ≡ length segments = length-map segments (λ s. s.interval) in
-      let less : get_or (intervals_of segments) i 0 < get_or (intervals_of segments) j 0 = are.rising i j 0 before (omega (arith, within, long)) in
+      let less : get_or (intervals_of segments) i 0 < get_or (intervals_of segments) j 0 =
+      are.rising i j 0 before (omega (arith, within, long)) in
       let first : get_or (intervals_of segments) i 0 ≡ a.interval =
       get_or-map (λ s. s.interval) segments i a 0 (omega (arith, before, within)) ∙ ap (λ (s : Segment). s.interval) is_a in
       let second : get_or (intervals_of segments) j 0 ≡ b.interval =
@@ -47,8 +49,8 @@ module _ (program : Program) (nodes : ℕ) (options : OptionsRecord) (events : L
   abbrev segments_here : List Segment
   segments_here = (trace_of (fresh_node program nodes options n) l.log).segments
 
-  pub one_here : (segment other : Segment) → Contains segments_here segment → Contains segments_here other → segment.interval ≡ other.interval
-      → segment ≡ other
+  pub one_here : (segment other : Segment) → Contains segments_here segment → Contains segments_here other
+      → segment.interval ≡ other.interval → segment ≡ other
   one_here =
       one_of_interval segments_here
       ((all_traced program nodes options run (record { events = events; runs = runs })).each n l there).segments

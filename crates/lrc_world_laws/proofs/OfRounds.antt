@@ -14,14 +14,16 @@ use Rattle.lrc_protocol.specs.declared.event.Event.{Event}
 use Rattle.lrc_protocol.specs.declared.event.Event.TheVariants.{Deliver, Repeat}
 use Rattle.lrc_protocol.specs.Node.{OptionsRecord}
 use Rattle.lrc_protocol.specs.Turn.{is_ready}
-use Rattle.lrc_protocol.specs.Run.{World as Run, Flying, Logged, Logging, Input, logged, refused, too_large, fresh_world, event_on}
+use Rattle.lrc_protocol.specs.Run.{World as Run, Flying, Logged, Logging, Input, logged, refused, too_large, fresh_world, event_on, run_of}
 use Rattle.lrc_protocol.specs.Run.{after_input, input_to, delivers, logs, sent_by, taken, with_mark, marked}
 use Rattle.lrc_world.specs.Report.{IsOver}
 use Rattle.lrc_world.specs.Rounds.{Stage, at_node, delivering, IsDue, turn, delivery, Passes, asleep, all_went, all_delivered, ready_at}
-use Rattle.lrc_world.specs.Rounds.{delivery_of, is_delivered, newest_place, schedule_of_rounds, AreRounds}
+use Rattle.lrc_world.specs.Rounds.{delivery_of, is_delivered, newest_place, schedule_of_rounds, AreRounds, RoundsWearOut}
+use Rattle.lrc_world.specs.World.{sends_long}
 use Rattle.lrc_world.proofs.Lists.{none_of}
 use Rattle.lrc_world_laws.specs.Ended.{IsEnded}
 use Rattle.lrc_world_laws.proofs.Determined.{IsDeterministic, Stops, determined}
+use Rattle.lrc_world_laws.proofs.Worn.{never_worn}
 
 -- ---- no choice
 
@@ -146,6 +148,13 @@ module _ (picker : Picker) (nodes : ℕ) where
 
   stops : (start : Run) → Stops (schedule_of_rounds picker nodes) start
   stops start = record { Holds = Lies; first = tt; played = lies_after; passed = lies_behind; none_due = none_due }
+
+pub rounds_never_worn : (program : Program) (nodes : ℕ) (options : OptionsRecord) (picker : Picker) (events : List Event) (run : Run)
+    → AreRounds program nodes options picker events → IsEnded program nodes options events → run_of program nodes options events ≡ Some run
+    → sends_long run ≡ false → ¬ RoundsWearOut program nodes options picker
+rounds_never_worn program nodes options picker events run led ended runs short worn =
+    never_worn (schedule_of_rounds picker nodes) (deterministic picker nodes) program nodes options
+    (stops picker nodes (fresh_world program nodes options)) events led ended run runs short worn
 
 pub rounds_determined : (program : Program) (nodes : ℕ) (options : OptionsRecord) (picker : Picker) (events others : List Event)
     → AreRounds program nodes options picker events → IsEnded program nodes options events

@@ -7,12 +7,14 @@ use Rattle.lrc_lang.specs.declared.program.Program.{Program}
 use Rattle.lrc_protocol.specs.declared.event.Event.{Event}
 use Rattle.lrc_protocol.specs.declared.event.Event.TheVariants as events
 use Rattle.lrc_protocol.specs.Node.{OptionsRecord}
-use Rattle.lrc_protocol.specs.Run.{World as Run, fresh_world}
+use Rattle.lrc_protocol.specs.Run.{World as Run, fresh_world, run_of}
 use Rattle.lrc_world.specs.Report.{IsOver}
-use Rattle.lrc_world.specs.Random.{choices_of, drawn_event, drawn_number, picked, wandering, IsWandering}
+use Rattle.lrc_world.specs.Random.{choices_of, drawn_event, drawn_number, picked, wandering, IsWandering, WanderingWearsOut}
+use Rattle.lrc_world.specs.World.{sends_long}
 use Rattle.lrc_world.specs.Rounds.{ready_at}
 use Rattle.lrc_world_laws.specs.Ended.{IsEnded}
 use Rattle.lrc_world_laws.proofs.Determined.{IsDeterministic, Stops, determined}
+use Rattle.lrc_world_laws.proofs.Worn.{never_worn}
 use Rattle.lrc_world_laws.proofs.OfRounds.{idle}
 
 deterministic : (nodes seed : ℕ) → IsDeterministic (wandering nodes seed)
@@ -46,6 +48,13 @@ stops nodes seed start = record {
       ap (picked (drawn_number after)) (sym (none_left nodes run over)) ∙ due.1 in
       cc;
 }
+
+pub wandering_never_worn : (program : Program) (nodes : ℕ) (options : OptionsRecord) (seed : ℕ) (events : List Event) (run : Run)
+    → IsWandering program nodes options seed events → IsEnded program nodes options events → run_of program nodes options events ≡ Some run
+    → sends_long run ≡ false → ¬ WanderingWearsOut program nodes options seed
+wandering_never_worn program nodes options seed events run led ended runs short worn =
+    never_worn (wandering nodes seed) (deterministic nodes seed) program nodes options
+    (stops nodes seed (fresh_world program nodes options)) events led ended run runs short worn
 
 pub wandering_determined : (program : Program) (nodes : ℕ) (options : OptionsRecord) (seed : ℕ) (events others : List Event)
     → IsWandering program nodes options seed events → IsEnded program nodes options events

@@ -1,18 +1,25 @@
 // What holds of every run that the simulator makes. Each function is a theorem: its body is empty, and its clauses are the law.
 
-ghost use Rattle.std.specs.Prelude.{◌≡◌, ℕ, List, Some, Contains, slice_get};
+ghost use Rattle.std.specs.Prelude.{◌≡◌, ℕ, List, false, Some, Contains, slice_get};
 ghost use Rattle.lrc_lang.specs.declared.program.Program.{Program};
 ghost use Rattle.lrc_trace.specs.Conflict.{Accesses};
 ghost use Rattle.lrc_trace.specs.Interval.{interval_at};
 ghost use Rattle.lrc_trace.specs.Run.{departs_before};
+ghost use Rattle.lrc_trace.specs.declared.act.Act.{Act};
+ghost use Rattle.lrc_trace.specs.declared.race.Race.{Race};
 ghost use Rattle.lrc_trace.specs.declared.trace.Segment.{Segment};
+ghost use Rattle.lrc_judge.specs.Races.{AreNamedRaces};
 ghost use Rattle.lrc_envelope.specs.declared.picker.Picker.{Picker};
 ghost use Rattle.lrc_protocol.specs.declared.event.Event.{Event};
 ghost use Rattle.lrc_protocol.specs.Node.{OptionsRecord, fresh_node};
 ghost use Rattle.lrc_protocol.specs.Run.{Logged, World as Run, run_of};
 ghost use Rattle.lrc_protocol.specs.Traced.{trace_of};
-ghost use Rattle.lrc_world.specs.Random.{IsWandering};
-ghost use Rattle.lrc_world.specs.Rounds.{AreRounds};
+ghost use Rattle.lrc_world.specs.Random.{IsWandering, WanderingWearsOut};
+ghost use Rattle.lrc_world.specs.Report.{IsBriefOf, IsReportOf};
+ghost use Rattle.lrc_world.specs.Rounds.{AreRounds, RoundsWearOut};
+ghost use Rattle.lrc_world.specs.declared.report.Brief.{Brief};
+ghost use Rattle.lrc_world.specs.declared.report.Report.{Report};
+ghost use Rattle.lrc_world.specs.World.{sends_long};
 ghost use Rattle.lrc_world_laws.specs.Ended.{IsEnded};
 
 /// A program, a number of nodes, options and a picker determine the events of a run in rounds that goes on until nothing is left to do
@@ -29,6 +36,33 @@ pub fn wandering_is_determined()
     ensures { (program : Program) (nodes : ℕ) (options : OptionsRecord) (seed : ℕ) (events others : List Event)
         → IsWandering program nodes options seed events → IsEnded program nodes options events
         → IsWandering program nodes options seed others → IsEnded program nodes options others → events ≡ others }
+{}
+
+/// A run in rounds or in a random order that has ended so, and none of whose turns sends a message that is too long, does not wear
+/// out. So what `drive` or `wander` once answers with a run it never answers with `Worn`.
+pub fn runs_that_end_never_wear_out()
+    ensures rounds { (program : Program) (nodes : ℕ) (options : OptionsRecord) (picker : Picker) (events : List Event) (run : Run)
+        → AreRounds program nodes options picker events → IsEnded program nodes options events
+        → run_of program nodes options events ≡ Some run → sends_long run ≡ false → ¬ RoundsWearOut program nodes options picker }
+    ensures wandering { (program : Program) (nodes : ℕ) (options : OptionsRecord) (seed : ℕ) (events : List Event) (run : Run)
+        → IsWandering program nodes options seed events → IsEnded program nodes options events
+        → run_of program nodes options events ≡ Some run → sends_long run ≡ false → ¬ WanderingWearsOut program nodes options seed }
+{}
+
+/// A brief report of some events has the acts, the ends and the first race that a report of them has; and acts determine the list of
+/// their races. So `drive_briefly` and `wander_briefly` answer what `drive` and `wander` do, without the turns.
+pub fn brief_reports_say_the_same()
+    ensures acts { (program : Program) (nodes : ℕ) (options : OptionsRecord) (events : List Event) (report : Report) (brief : Brief)
+        → IsReportOf program nodes options events report → IsBriefOf program nodes options events brief
+        → brief.acts.items ≡ report.acts.items }
+    ensures ends { (program : Program) (nodes : ℕ) (options : OptionsRecord) (events : List Event) (report : Report) (brief : Brief)
+        → IsReportOf program nodes options events report → IsBriefOf program nodes options events brief
+        → brief.ends.items ≡ report.ends.items }
+    ensures first { (program : Program) (nodes : ℕ) (options : OptionsRecord) (events : List Event) (report : Report) (brief : Brief)
+        → IsReportOf program nodes options events report → IsBriefOf program nodes options events brief
+        → brief.first_race ≡ report.first_race }
+    ensures races { (acts : List Act) (races others : List Race) → AreNamedRaces acts races → AreNamedRaces acts others
+        → races ≡ others }
 {}
 
 /// The epoch of a segment of a node's trace is the number of departs that the node has made before each of its accesses in the
