@@ -89,7 +89,7 @@ AreShort program options events =
     (run : Run) → run_of program options.nodes.count (options_of options) events ≡ Some run → sends_long run ≡ false
 
 -- The events make the turns of nodes on threads, whose messages went through mailboxes, of which each take was of the parcel that the
--- order names.
+-- order names, and in which nothing was left.
 pub record AreThreaded (program : Program) (options : RunOptions) (order : Picker) (report : Report) (events : List Event) : Type 0 where
   pub woven : IsWovenReport program options.nodes.count (options_of options) events report
   pub wires : List MailboxRecord
