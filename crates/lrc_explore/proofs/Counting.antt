@@ -1,9 +1,9 @@
 -- How often nodes have arrived, by how many states were found; and states that orders lead to, by how they were found.
 use Rattle.std.proofs.Common.{◌≡◌, ℕ, zero, suc, ◌+◌, ◌<◌, ◌≤◌, List, [], ◌∷◌, ◌++◌, Bool, true, false, inl, inr}
 use Rattle.std.proofs.Common.{length, refl, sym, subst, ◌∙◌, ap, arith, replicate}
-use Rattle.std.specs.Prelude.{All, Option, Some, None, slice_index, slice_set, if◌then◌else◌}
+use Rattle.std.specs.Prelude.{All, Option, Some, None, slice_get, slice_index, slice_set, if◌then◌else◌}
 use Rattle.std.proofs.lemmas.Bool.{cases_lt, cases_eq}
-use Rattle.std.proofs.lemmas.List.{get_or-set_same, get_or-set_other, get_or_past, length-set}
+use Rattle.std.proofs.lemmas.List.{get_or-set_same, get_or-set_other, get_or_past, length-set, length_push}
 use Rattle.std.proofs.lemmas.Option.{some_pair_parts, option_and_then_some}
 use Rattle.lrc_lang.specs.declared.program.Program.{Program}
 use Rattle.lrc_trace.specs.declared.act.Act.{Act}
@@ -26,8 +26,12 @@ use Rattle.lrc_explore.specs.contracts.state.StatePartialEq.TheImpl.{eq-value as
 use Rattle.lrc_explore.specs.States.{plain_at, machine_begun, IsCopy}
 use Rattle.lrc_explore.specs.Search.{Stands, Steps, IsFound}
 use Rattle.lrc_explore.specs.Led.{beginning, onward, IsFirst, IsLedTo}
-use Rattle.lrc_explore.specs.Limit.{AreCounted, HasMoreStates, MeetsMore, Starts}
-use Rattle.lrc_explore.proofs.Searching.{copy_same, stands_first, stands_one, starts_grown}
+use Rattle.lrc_explore.specs.Breadth.{AreBelow, IsDeep, top, under}
+use Rattle.lrc_explore.specs.Limit.{AreCounted, HasMoreStates, IsNext, MeetsMore, Starts}
+use Rattle.lrc_explore.proofs.Breadth.{one_deeper}
+use Rattle.lrc_explore.proofs.Depths.{deep_at, meets_late}
+use Rattle.lrc_explore.proofs.Keeping.{item_at}
+use Rattle.lrc_explore.proofs.Searching.{copy_same, leads_from, stands_first, stands_one, starts_grown}
 use Rattle.lrc_explore.proofs.Stores.{added_all, listed, listed_apart}
 use Rattle.lrc_explore.proofs.Widening.{apart_at, at_copy, at_within, states_store}
 
@@ -158,30 +162,39 @@ counted_put old new place added state w full put at counted last =
 -- some order leads to each state that was found
 module _ (program : Program) (flat : Flat) (found : Found) (sound : IsFound flat found)
     (start : Stands flat found.states 0 (plain_start program flat.nodes)) where
-  reached_below : (bound k : ℕ) (state : State) → k < bound → IsAt found.states k state → IsReachable program flat.nodes (plain_at flat state)
+  -- by as many acts as it was found in steps from the first
+  abbrev IsReached : ℕ → State → Type 0
+  IsReached k state = (r : IsReachable program flat.nodes (plain_at flat state)) × IsDeep found.origins.items (length r.order) k
+
+  reached_below : (bound k : ℕ) (state : State) → k < bound → IsAt found.states k state → IsReached k state
   reached_below zero k state lt at = absurd (omega arith)
   reached_below (suc bound) k state lt at = elim (cases_eq k 0) [
     | inl first ↦
         let here : Stands flat found.states 0 (plain_at flat state) =
-        record { state = state; there = subst (λ n. IsAt found.states n state) first at; same = refl } in
-        record { order = []; acts = []; led = ap (λ m. Some ([], m)) (stands_one (plain_start program flat.nodes) (plain_at flat state) start here) }
+        record { state = state; there = subst (λ n. IsAt found.states n state) first at; same = refl } in (
+          record { order = []; acts = []; led = ap (λ m. Some ([], m)) (stands_one (plain_start program flat.nodes) (plain_at flat state) start here) },
+          top k first,
+        )
     | inr later ↦
         let from = sound.from k state (omega arith) at in
         let steps = from.steps in
         let node = from.origin.node in
         let earlier = from.earlier in
         let before = plain_at flat steps.before in
-        let r = reached_below bound from.origin.parent steps.before (omega arith) steps.parent in
-        record {
-          order = r.order ++ node ∷ [];
-          acts = r.acts ++ act_of node steps.deed ∷ [];
-          led = plain_from-joined r.order (node ∷ []) (plain_start program flat.nodes) before (plain_at flat state) r.acts
-              (act_of node steps.deed ∷ []) r.led
-              (one_more before (plain_at flat state) (plain_at flat state) node steps.deed [] [] steps.leads.stepped refl);
-        }
+        let (r, deep) = reached_below bound from.origin.parent steps.before (omega arith) steps.parent in (
+          record {
+            order = r.order ++ node ∷ [];
+            acts = r.acts ++ act_of node steps.deed ∷ [];
+            led = plain_from-joined r.order (node ∷ []) (plain_start program flat.nodes) before (plain_at flat state) r.acts
+                (act_of node steps.deed ∷ []) r.led
+                (one_more before (plain_at flat state) (plain_at flat state) node steps.deed [] [] steps.leads.stepped refl);
+          },
+          subst (λ d. IsDeep found.origins.items d k) (sym (length_push r.order node))
+              (under (length r.order) k from.origin (omega arith) from.noted deep),
+        )
   ]
 
-  pub reached_all : (k : ℕ) (state : State) → IsAt found.states k state → IsReachable program flat.nodes (plain_at flat state)
+  pub reached_all : (k : ℕ) (state : State) → IsAt found.states k state → IsReached k state
   reached_all k state at = reached_below (k + 1) k state (omega arith) at
 
 -- and so do its acts in the code
@@ -210,6 +223,26 @@ module _ (flat : Flat) (place : ℕ) (found : Found) (sound : IsFound flat found
   pub led_all : (k : ℕ) (state : State) → IsAt found.states k state → (acts : List Act) × IsLedTo flat place acts state
   led_all k state at = led_below (k + 1) k state (omega arith) at
 
+-- each state of the list of all of them is led to from one at a place where some were found from
+next_in : (flat : Flat) (found : Found) (sound : IsFound flat found) (index : ℕ) → AreBelow found.origins.items index → (list : List State)
+    → length list ≡ size found.states → ((k : ℕ) (state : State) → slice_get list k ≡ Some state → IsAt found.states k state)
+    → (k : ℕ) (state : State) → 0 < k → IsAt found.states k state → IsNext flat list index state
+next_in flat found sound index below list long each k state pos at =
+    let from = sound.from k state pos at in
+    let p = from.origin.parent in
+    let steps = from.steps in
+    let within = at_within steps.parent in
+    let (before, there) = item_at list p (omega (arith, within, long)) in
+    record {
+      place = p;
+      early = below k from.origin pos from.noted;
+      before = before;
+      there = there;
+      node = from.origin.node;
+      deed = steps.deed;
+      leads = leads_from flat steps.before before state from.origin.node steps.deed (at_copy steps.parent (each p before there)) steps.leads;
+    }
+
 -- a search that met more states than a bound
 pub has_more : (program : Program) (flat : Flat) (place most : ℕ) (first : States) → IsCodeOf flat.code.now place program.statements.items
     → flat.words ≡ program.words → flat.locks ≡ program.locks → machine_begun flat place ≡ plain_start program flat.nodes → Starts flat place first
@@ -217,7 +250,10 @@ pub has_more : (program : Program) (flat : Flat) (place most : ℕ) (first : Sta
     → HasMoreStates program flat.nodes most
 has_more program flat place most first code words locks begun start m =
     let starts = starts_grown m.widens start in
+    let starts_so = subst (Stands flat m.found.states 0) begun (stands_first starts) in
     let all = listed IsAt size Widens IsCopy states_store m.found.states m.sound.full in
+    let reached = λ (k : ℕ) (state : State) (there : slice_get all.list k ≡ Some state). reached_all program flat m.found m.sound starts_so k state (all.at k state there) in
+    let deep = deep_at flat m.found m.sound m.index m.within in
     record {
       flat = flat;
       place = place;
@@ -229,7 +265,14 @@ has_more program flat place most first code words locks begun start m =
       many = subst (λ n. most < n) (sym all.long) m.many;
       distinct = listed_apart IsAt size Widens IsCopy states_store state_eq.it m.found.states (apart_at m.found.states m.sound.distinct) all;
       valid = λ k state there. m.sound.valid k state (all.at k state there);
-      reached = λ k state there.
-          reached_all program flat m.found m.sound (subst (Stands flat m.found.states 0) begun (stands_first starts)) k state (all.at k state there);
+      reached = λ k state there. (reached k state there).0;
       led = λ k state there. led_all flat place m.found m.sound starts k state (all.at k state there);
+      index = m.index;
+      calm = λ k state lt there.
+          (m.expanded k (plain_at flat state) lt (record { state = state; there = all.at k state there; same = refl })).calm;
+      from = λ k state pos there. next_in flat m.found m.sound m.index m.below all.list all.long all.at k state pos (all.at k state there);
+      depth = deep.0;
+      never = meets_late flat m.found m.sound program starts_so m.index deep.0 deep.1 m.expanded;
+      near = λ k state there.
+          let r = reached k state there in (r.0, one_deeper m.sound.rising m.below deep.1 r.1);
     }

@@ -13,7 +13,9 @@ pub mod Deeds
 pub mod Same
 pub mod Pairs
 pub mod Standing
+pub mod Breadth
 pub mod Searching
+pub mod Depths
 pub mod Counting
 pub mod Exploring
 pub mod Faults

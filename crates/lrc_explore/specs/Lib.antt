@@ -4,6 +4,7 @@ pub mod States
 pub mod Led
 pub mod Kept
 pub mod Verdict
+pub mod Breadth
 pub mod Search
 pub mod Limit
 pub mod Notes

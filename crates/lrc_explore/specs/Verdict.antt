@@ -1,5 +1,5 @@
 -- What a search answers of a program.
-use Rattle.std.specs.Prelude.{◌≡◌, ℕ, ◌+◌, List, Some, None, length}
+use Rattle.std.specs.Prelude.{◌≡◌, ℕ, ◌+◌, ◌≤◌, List, Some, None, length}
 use Rattle.lrc_lang.specs.declared.program.Program.{Program}
 use Rattle.lrc_trace.specs.declared.act.Act.{Act}
 use Rattle.lrc_trace.specs.Conflict.{Races}
@@ -9,22 +9,33 @@ use Rattle.lrc_explore.specs.declared.search.Verdict.{Verdict}
 use Rattle.lrc_explore.specs.declared.search.Verdict.TheVariants.{RaceFree, Racy}
 use Rattle.lrc_explore.specs.Stuck.{GetsStuck}
 
--- an order that gives the plain machine a run whose last act races with the one before
+-- in no order a race ends before this position
+abbrev pub NeverRacesBefore : Program → (nodes position : ℕ) → Type 0
+NeverRacesBefore program nodes position =
+    (order : List ℕ) (run : List Act) (i j : ℕ) → plain program nodes order ≡ Some run → Races run i j → position ≤ j
+
+-- an order that gives the plain machine a run whose last act races with the one before, and in no order a race ends earlier
 pub record LeadsToRace (program : Program) (nodes : ℕ) (order : List ℕ) : Type 0 where
   pub run : List Act
   pub is : plain program nodes order ≡ Some run
   pub first : ℕ
   pub last : first + 2 ≡ length run
   pub races : Races run first (first + 1)
+  pub earliest : NeverRacesBefore program nodes (first + 1)
 
 -- no order leads to where the program is stuck
 abbrev pub NeverStuck : Program → ℕ → Type 0
 NeverStuck program nodes = (order : List ℕ) → ¬ GetsStuck program nodes order
 
--- no order races; and the order leads to where the program is stuck, or there is none that does
+-- no order of fewer acts than so many leads to where the program is stuck
+abbrev pub NeverStuckBefore : Program → (nodes many : ℕ) → Type 0
+NeverStuckBefore program nodes many = (order : List ℕ) → GetsStuck program nodes order → many ≤ length order
+
+-- no order races; and the order leads to where the program is stuck, and none of fewer acts, or there is none that does
 abbrev pub IsVerdict : Program → ℕ → Verdict → Type 0
 IsVerdict program nodes (RaceFree None) = HasNoRace program nodes × NeverStuck program nodes
-IsVerdict program nodes (RaceFree (Some order)) = HasNoRace program nodes × GetsStuck program nodes order.items
+IsVerdict program nodes (RaceFree (Some order)) =
+    HasNoRace program nodes × GetsStuck program nodes order.items × NeverStuckBefore program nodes (length order.items)
 IsVerdict program nodes (Racy order) = LeadsToRace program nodes order.items
 
 -- the answer is that no order races
