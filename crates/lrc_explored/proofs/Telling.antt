@@ -5,6 +5,7 @@ use Rattle.std.proofs.lemmas.Option.{same_Some}
 use Rattle.lrc_lang.specs.declared.program.Program.{Program}
 use Rattle.lrc_trace.specs.declared.act.Act.{Act}
 use Rattle.lrc_trace.specs.declared.race.Race.{Race}
+use Rattle.lrc_trace.specs.Conflict.{IsFirstRace}
 use Rattle.lrc_text.specs.Parts.{whole_text}
 use Rattle.lrc_text.specs.RaceText.{first_race_text, races_text}
 use Rattle.lrc_exec.specs.Plain.{plain}
@@ -14,7 +15,7 @@ use Rattle.lrc_explore.specs.declared.search.ExploreFault.TheVariants.{TooMany}
 use Rattle.lrc_explore.specs.Limit.{FitsIn, HasMoreStates}
 use Rattle.lrc_explore.specs.Outcome.{FitsNoted, HasMoreNoted}
 use Rattle.lrc_explore.specs.Stuck.{GetsStuck}
-use Rattle.lrc_explore.specs.Verdict.{LeadsToRace}
+use Rattle.lrc_explore.specs.Verdict.{LeadsToRace, NeverStuckBefore}
 use Rattle.lrc_explored.specs.declared.explored.Printout.{Printout}
 use Rattle.lrc_explored.specs.Explored.{Explores, MeetsFew, MeetsTooMany, tells_orders, tells_outcomes}
 use Rattle.lrc_explored.specs.LastRaces.{AreRacesAt}
@@ -55,13 +56,13 @@ module _ (program : Program) (nodes most : ℕ) (outcomes : Bool) (r : Result Pr
 -- ---- one order
 
 module _ (program : Program) (nodes : ℕ) (lines : List ℕ) (order : List ℕ) (acts : List Act) (led : plain program nodes order ≡ Some acts) where
-  pub of_stuck : HasNoRace program nodes → (gets : GetsStuck program nodes order) → (out : List ℕ)
+  pub of_stuck : HasNoRace program nodes → (gets : GetsStuck program nodes order) → NeverStuckBefore program nodes order → (out : List ℕ)
       → out ≡ codes "race free in every order\nsome order gets stuck:\n" ++ order_text program nodes lines acts ++ ends_text program nodes lines acts
       → TellsOrders program nodes lines out 4
-  of_stuck free gets out is =
+  of_stuck free gets fewest out is =
       let same : acts ≡ gets.acts = same_Some acts gets.acts (sym led ∙ plain_stuck program nodes order gets) in
       let whole = is ∙ ap (λ a. codes "race free in every order\nsome order gets stuck:\n" ++ order_text program nodes lines a ++ ends_text program nodes lines a) same in
-      subst (λ o. TellsOrders program nodes lines o 4) (sym whole) (stuck free gets)
+      subst (λ o. TellsOrders program nodes lines o 4) (sym whole) (stuck free gets fewest)
 
   pub of_race : LeadsToRace program nodes order → (last : ℕ) (races : List Race) → last ≡ length acts - 1 → AreRacesAt acts last races → (out : List ℕ)
       → out ≡ order_text program nodes lines acts ++ races_text races ++ first_race_text (Some last) → TellsOrders program nodes lines out 3
@@ -74,4 +75,6 @@ module _ (program : Program) (nodes : ℕ) (lines : List ℕ) (order : List ℕ)
       ∙ ap₂ (λ a n. order_text program nodes lines a ++ races_text races ++ first_race_text (Some n)) same place in
       let are' : AreRacesAt leads.run (leads.first + 1) races =
       subst (λ n. AreRacesAt leads.run n races) place (subst (λ a. AreRacesAt a last races) same are) in
-      subst (λ o. TellsOrders program nodes lines o 3) (sym whole) (racy leads are')
+      let is_first : IsFirstRace leads.run (leads.first + 1) =
+      record { with = leads.first; races = leads.races; least = λ i j race. leads.earliest order leads.run i j leads.is race } in
+      subst (λ o. TellsOrders program nodes lines o 3) (sym whole) (racy leads is_first are')

@@ -7,7 +7,7 @@ ghost use Rattle.lrc_exec.specs.Plain.{plain};
 ghost use Rattle.lrc_exec.specs.Nodes.{AreNodes};
 ghost use Rattle.lrc_explore.specs.Limit.{FitsIn, HasMoreStates};
 ghost use Rattle.lrc_explore.specs.Stuck.{GetsStuck};
-ghost use Rattle.lrc_explore.specs.Verdict.{FindsNoRace, IsVerdict, LeadsToRace, NeverStuck};
+ghost use Rattle.lrc_explore.specs.Verdict.{FindsNoRace, IsVerdict, LeadsToRace, NeverStuck, NeverStuckBefore};
 ghost use Rattle.lrc_plain_laws.specs.Racing.{HasNoRace};
 ghost use Rattle.lrc_explored.specs.Orders.{TellsOrders, ends_text, order_text};
 
@@ -91,6 +91,7 @@ fn stuck_told(
     requires nodes { AreNodes nodes }
     requires free { HasNoRace program.now nodes }
     requires stuck { GetsStuck program.now nodes order.now }
+    requires fewest { NeverStuckBefore program.now nodes order.now }
     ensures { IfOk result (λ printout. TellsOrders program.now nodes lines.now (whole_text printout.parts.items) printout.status) }
 {
     let acts = acts_of(alloc, program, nodes, order)?;
