@@ -3,7 +3,7 @@ use Rattle.std.proofs.Common.{◌≡◌, ℕ, zero, suc, ◌+◌, ◌<◌, ◌�
 use Rattle.std.proofs.Common.{length, refl, sym, subst, ◌∙◌, ap, arith, replicate}
 use Rattle.std.specs.Prelude.{All, Option, Some, None, slice_get, slice_index, slice_set, if◌then◌else◌}
 use Rattle.std.proofs.lemmas.Bool.{cases_lt, cases_eq}
-use Rattle.std.proofs.lemmas.List.{get_or-set_same, get_or-set_other, get_or_past, length-set, length_push}
+use Rattle.std.proofs.lemmas.List.{get_or-set_same, get_or-set_other, get_or_past, length-set}
 use Rattle.std.proofs.lemmas.Option.{some_pair_parts, option_and_then_some}
 use Rattle.lrc_lang.specs.declared.program.Program.{Program}
 use Rattle.lrc_trace.specs.declared.act.Act.{Act}
@@ -26,10 +26,10 @@ use Rattle.lrc_explore.specs.contracts.state.StatePartialEq.TheImpl.{eq-value as
 use Rattle.lrc_explore.specs.States.{plain_at, machine_begun, IsCopy}
 use Rattle.lrc_explore.specs.Search.{Stands, Steps, IsFound}
 use Rattle.lrc_explore.specs.Led.{beginning, onward, IsFirst, IsLedTo}
-use Rattle.lrc_explore.specs.Breadth.{AreBelow, IsDeep, top, under}
+use Rattle.lrc_explore.specs.Breadth.{AreBelow, IsPath, top, under}
 use Rattle.lrc_explore.specs.Limit.{AreCounted, HasMoreStates, IsNext, MeetsMore, Starts}
-use Rattle.lrc_explore.proofs.Breadth.{one_deeper}
-use Rattle.lrc_explore.proofs.Depths.{deep_at, meets_late}
+use Rattle.lrc_explore.proofs.Breadth.{from_lower, one_longer}
+use Rattle.lrc_explore.proofs.Depths.{path_at, never_before}
 use Rattle.lrc_explore.proofs.Keeping.{item_at}
 use Rattle.lrc_explore.proofs.Searching.{copy_same, leads_from, stands_first, stands_one, starts_grown}
 use Rattle.lrc_explore.proofs.Stores.{added_all, listed, listed_apart}
@@ -162,9 +162,9 @@ counted_put old new place added state w full put at counted last =
 -- some order leads to each state that was found
 module _ (program : Program) (flat : Flat) (found : Found) (sound : IsFound flat found)
     (start : Stands flat found.states 0 (plain_start program flat.nodes)) where
-  -- by as many acts as it was found in steps from the first
+  -- by the steps by which it was found
   abbrev IsReached : ℕ → State → Type 0
-  IsReached k state = (r : IsReachable program flat.nodes (plain_at flat state)) × IsDeep found.origins.items (length r.order) k
+  IsReached k state = (r : IsReachable program flat.nodes (plain_at flat state)) × IsPath found.origins.items r.order k
 
   reached_below : (bound k : ℕ) (state : State) → k < bound → IsAt found.states k state → IsReached k state
   reached_below zero k state lt at = absurd (omega arith)
@@ -181,7 +181,7 @@ module _ (program : Program) (flat : Flat) (found : Found) (sound : IsFound flat
         let node = from.origin.node in
         let earlier = from.earlier in
         let before = plain_at flat steps.before in
-        let (r, deep) = reached_below bound from.origin.parent steps.before (omega arith) steps.parent in (
+        let (r, path) = reached_below bound from.origin.parent steps.before (omega arith) steps.parent in (
           record {
             order = r.order ++ node ∷ [];
             acts = r.acts ++ act_of node steps.deed ∷ [];
@@ -189,8 +189,7 @@ module _ (program : Program) (flat : Flat) (found : Found) (sound : IsFound flat
                 (act_of node steps.deed ∷ []) r.led
                 (one_more before (plain_at flat state) (plain_at flat state) node steps.deed [] [] steps.leads.stepped refl);
           },
-          subst (λ d. IsDeep found.origins.items d k) (sym (length_push r.order node))
-              (under (length r.order) k from.origin (omega arith) from.noted deep),
+          under r.order k from.origin (omega arith) from.noted path,
         )
   ]
 
@@ -224,7 +223,7 @@ module _ (flat : Flat) (place : ℕ) (found : Found) (sound : IsFound flat found
   led_all k state at = led_below (k + 1) k state (omega arith) at
 
 -- each state of the list of all of them is led to from one at a place where some were found from
-next_in : (flat : Flat) (found : Found) (sound : IsFound flat found) (index : ℕ) → AreBelow found.origins.items index → (list : List State)
+next_in : (flat : Flat) (found : Found) (sound : IsFound flat found) (index : ℕ) → AreBelow found.origins.items index 0 → (list : List State)
     → length list ≡ size found.states → ((k : ℕ) (state : State) → slice_get list k ≡ Some state → IsAt found.states k state)
     → (k : ℕ) (state : State) → 0 < k → IsAt found.states k state → IsNext flat list index state
 next_in flat found sound index below list long each k state pos at =
@@ -235,7 +234,7 @@ next_in flat found sound index below list long each k state pos at =
     let (before, there) = item_at list p (omega (arith, within, long)) in
     record {
       place = p;
-      early = below k from.origin pos from.noted;
+      early = from_lower from.origin index (below k from.origin pos from.noted);
       before = before;
       there = there;
       node = from.origin.node;
@@ -253,7 +252,7 @@ has_more program flat place most first code words locks begun start m =
     let starts_so = subst (Stands flat m.found.states 0) begun (stands_first starts) in
     let all = listed IsAt size Widens IsCopy states_store m.found.states m.sound.full in
     let reached = λ (k : ℕ) (state : State) (there : slice_get all.list k ≡ Some state). reached_all program flat m.found m.sound starts_so k state (all.at k state there) in
-    let deep = deep_at flat m.found m.sound m.index m.within in
+    let path = path_at flat m.found m.sound m.index m.within in
     record {
       flat = flat;
       place = place;
@@ -271,8 +270,8 @@ has_more program flat place most first code words locks begun start m =
       calm = λ k state lt there.
           (m.expanded k (plain_at flat state) lt (record { state = state; there = all.at k state there; same = refl })).calm;
       from = λ k state pos there. next_in flat m.found m.sound m.index m.below all.list all.long all.at k state pos (all.at k state there);
-      depth = deep.0;
-      never = meets_late flat m.found m.sound program starts_so m.index deep.0 deep.1 m.expanded;
+      depth = length path.0;
+      never = never_before flat m.found m.sound program starts_so m.index path.0 path.1 m.expanded;
       near = λ k state there.
-          let r = reached k state there in (r.0, one_deeper m.sound.rising m.below deep.1 r.1);
+          let r = reached k state there in (r.0, one_longer m.found.origins.items m.sound.rising m.below path.1 r.1);
     }

@@ -8,6 +8,7 @@ pub mod Effects
 pub mod Reduced
 pub mod Reducing
 pub mod Meetings
+pub mod Endings
 pub mod Spots
 pub mod Deeds
 pub mod Same

@@ -3,8 +3,8 @@ pub mod Stuck
 pub mod States
 pub mod Led
 pub mod Kept
-pub mod Verdict
 pub mod Breadth
+pub mod Verdict
 pub mod Search
 pub mod Limit
 pub mod Notes

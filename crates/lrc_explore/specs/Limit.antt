@@ -77,7 +77,7 @@ pub record MeetsMore (flat : Flat) (first : States) (most : ℕ) : Type 0 where
   pub index : ℕ
   pub within : index < size found.states
   pub expanded : AreExpanded flat found index
-  pub below : AreBelow found.origins.items index
+  pub below : AreBelow found.origins.items index 0
 
 -- the first of the states is the beginning, where the text begins at a place
 pub record Starts (flat : Flat) (place : ℕ) (states : States) : Type 0 where

@@ -56,7 +56,7 @@ module _ (program : Program) (nodes most : ℕ) (outcomes : Bool) (r : Result Pr
 -- ---- one order
 
 module _ (program : Program) (nodes : ℕ) (lines : List ℕ) (order : List ℕ) (acts : List Act) (led : plain program nodes order ≡ Some acts) where
-  pub of_stuck : HasNoRace program nodes → (gets : GetsStuck program nodes order) → NeverStuckBefore program nodes (length order) → (out : List ℕ)
+  pub of_stuck : HasNoRace program nodes → (gets : GetsStuck program nodes order) → NeverStuckBefore program nodes order → (out : List ℕ)
       → out ≡ codes "race free in every order\nsome order gets stuck:\n" ++ order_text program nodes lines acts ++ ends_text program nodes lines acts
       → TellsOrders program nodes lines out 4
   of_stuck free gets fewest out is =

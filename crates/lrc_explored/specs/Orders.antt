@@ -1,5 +1,5 @@
 -- Whether an order of a program races or gets stuck, as it is printed.
-use Rattle.std.specs.Prelude.{◌≡◌, ◌+◌, ℕ, None, Some, List, ◌++◌, codes, length}
+use Rattle.std.specs.Prelude.{◌≡◌, ◌+◌, ℕ, None, Some, List, ◌++◌, codes}
 use Rattle.lrc_lang.specs.declared.program.Program.{Program}
 use Rattle.lrc_trace.specs.declared.act.Act.{Act}
 use Rattle.lrc_trace.specs.declared.race.Race.{Race}
@@ -27,11 +27,11 @@ pub data TellsOrders (program : Program) (nodes : ℕ) (lines : List ℕ) : (out
   -- no order races, and none gets stuck;
   free : HasNoRace program nodes → NeverStuck program nodes
       → TellsOrders program nodes lines (codes "race free in every order\nno order gets stuck\n") 0
-  -- or none races, and this one gets stuck, and none of fewer acts does;
-  stuck : {order : List ℕ} → HasNoRace program nodes → (gets : GetsStuck program nodes order) → NeverStuckBefore program nodes (length order)
+  -- or none races, and this one gets stuck, the least of those of the fewest acts that do;
+  stuck : {order : List ℕ} → HasNoRace program nodes → (gets : GetsStuck program nodes order) → NeverStuckBefore program nodes order
       → TellsOrders program nodes lines (codes "race free in every order\nsome order gets stuck:\n" ++ order_text program nodes lines gets.acts
       ++ ends_text program nodes lines gets.acts) 4
-  -- or the last act of this one races, which is its first race, with these races, and in no order a race ends earlier.
+  -- or the last act of this one is its first race, with these races.
   racy : {order : List ℕ} {races : List Race} → (leads : LeadsToRace program nodes order) → IsFirstRace leads.run (leads.first + 1)
       → AreRacesAt leads.run (leads.first + 1) races
       → TellsOrders program nodes lines

@@ -91,7 +91,7 @@ fn stuck_told(
     requires nodes { AreNodes nodes }
     requires free { HasNoRace program.now nodes }
     requires stuck { GetsStuck program.now nodes order.now }
-    requires fewest { NeverStuckBefore program.now nodes (length order.now) }
+    requires fewest { NeverStuckBefore program.now nodes order.now }
     ensures { IfOk result (λ printout. TellsOrders program.now nodes lines.now (whole_text printout.parts.items) printout.status) }
 {
     let acts = acts_of(alloc, program, nodes, order)?;

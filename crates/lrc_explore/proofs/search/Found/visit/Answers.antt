@@ -3,7 +3,7 @@ use Rattle.std.proofs.Common.{◌≡◌, ◌∙◌, refl, sym, true, false}
 use Rattle.std.proofs.lemmas.Result.{IfOk-from_err}
 use Rattle.lrc_explore.specs.States.{plain_at}
 use Rattle.lrc_explore.specs.Search.{Stands}
-use Rattle.lrc_explore.proofs.Breadth.{below_next}
+use Rattle.lrc_explore.proofs.Breadth.{below_place}
 use Rattle.lrc_explore.proofs.Searching.{more_same, stands_grown}
 use Rattle.lrc_explore.proofs.search.Found.visit.Goals as goal
 
@@ -19,16 +19,13 @@ returns-in-Some-clause-visit c =
     let state = c.in_ok-state.state in
     let there : Stands flat c.args.self.now.states c.args.place (plain_at flat state) =
     record { state = state; there = c.in_ok-state.ensures; same = refl } in
-    (plain_at flat state, there, c.in-Some.ensures.1)
+    (plain_at flat state, there, c.in-Some.ensures.1, c.in-Some.ensures.2)
 
 pub returns-in-Some-clause-more : goal.returns-in-Some-clause-more
 returns-in-Some-clause-more c = more_same c.args.self.now
 
 pub returns-in-Some-clause-below : goal.returns-in-Some-clause-below
-returns-in-Some-clause-below c = below_next c.args.self.now.origins.items c.args.place c.requires.below
-
-pub expand-requires-clause-below : goal.expand-requires-clause-below
-expand-requires-clause-below c = below_next c.args.self.now.origins.items c.args.place c.requires.below
+returns-in-Some-clause-below c = below_place c.args.self.now.origins.items c.args.place 0 c.requires.below
 
 pub expand-requires-clause-state : goal.expand-requires-clause-state
 expand-requires-clause-state c = c.requires.found.valid c.args.place c.in_ok-state.state c.in_ok-state.ensures
