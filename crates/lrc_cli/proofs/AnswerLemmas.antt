@@ -15,10 +15,10 @@ use Rattle.lrc_cli.specs.Runs.{Account, IsBriefRun, IsRunOfWay, account_with}
 use Rattle.lrc_cli.specs.Shown.{IsShowFault, IsShown, shown_status}
 use Rattle.lrc_text.specs.Parts.{whole_text}
 use Rattle.lrc_cli.specs.declared.answer.Printout.{Printout}
-use Rattle.lrc_words.specs.declared.choice.Choice.{Choice}
-use Rattle.lrc_words.specs.declared.choice.Choice.TheVariants.{Check, Plain, Show, Judge, Explore}
-use Rattle.lrc_words.specs.declared.choice.RunChoice.{RunChoice}
-use Rattle.lrc_words.specs.declared.choice.Shape.{Shape}
+use Rattle.lrc_args.specs.declared.choice.Choice.{Choice}
+use Rattle.lrc_args.specs.declared.choice.Choice.TheVariants.{Check, Plain, Show, Judge, Explore}
+use Rattle.lrc_args.specs.declared.choice.RunChoice.{RunChoice}
+use Rattle.lrc_args.specs.declared.choice.Shape.{Shape}
 use Rattle.lrc_cli.specs.declared.fault.Fault.{Fault}
 use Rattle.lrc_cli.specs.declared.fault.Fault.TheVariants.{NoMemory}
 

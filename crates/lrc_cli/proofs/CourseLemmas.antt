@@ -4,14 +4,14 @@ use Rattle.lrc_clock.specs.Keeping.{KeepsTime}
 use Rattle.lrc_judge.specs.FirstPairs.{AreFirstPairs}
 use Rattle.lrc_judge.specs.declared.lanes.Pair.{Pair}
 use Rattle.lrc_lang.specs.declared.program.Program.{Program}
-use Rattle.lrc_portrait.specs.Course.{CourseRecord}
+use Rattle.lrc_chart_build.specs.Course.{CourseRecord}
 use Rattle.lrc_protocol.specs.declared.event.Event.{Event}
 use Rattle.lrc_trace.specs.declared.act.Act.{Act}
-use Rattle.lrc_turns.specs.Turns.{Made, turns_told}
-use Rattle.lrc_words.specs.declared.choice.Charting.{Charting}
-use Rattle.lrc_words.specs.declared.choice.RunChoice.{RunChoice}
-use Rattle.lrc_words.specs.declared.choice.RunOptions.{RunOptions}
-use Rattle.lrc_words.specs.declared.choice.Shape.TheVariants.{Chart}
+use Rattle.lrc_turns_text.specs.Turns.{Made, turns_told}
+use Rattle.lrc_args.specs.declared.choice.Charting.{Charting}
+use Rattle.lrc_args.specs.declared.choice.RunChoice.{RunChoice}
+use Rattle.lrc_args.specs.declared.choice.RunOptions.{RunOptions}
+use Rattle.lrc_args.specs.declared.choice.Shape.TheVariants.{Chart}
 use Rattle.lrc_cli.specs.Charted.{IsChartFault, IsCourse}
 use Rattle.lrc_cli.specs.Lines.{AreLinesIn}
 use Rattle.lrc_cli.specs.Runs.{Account, turns_in}

@@ -7,9 +7,9 @@ use Rattle.lrc_trace.specs.declared.act.Act.{Act}
 use Rattle.lrc_envelope.specs.declared.picker.Picker.{Picker}
 use Rattle.lrc_protocol.specs.declared.event.Event.{Event}
 use Rattle.lrc_timed.proofs.OfRuns.{acts_of_nodes}
-use Rattle.lrc_words.specs.declared.choice.RunOptions.{RunOptions}
-use Rattle.lrc_words.specs.declared.choice.Way.{Way}
-use Rattle.lrc_words.specs.declared.choice.Way.TheVariants.{Rounds, Random}
+use Rattle.lrc_args.specs.declared.choice.RunOptions.{RunOptions}
+use Rattle.lrc_args.specs.declared.choice.Way.{Way}
+use Rattle.lrc_args.specs.declared.choice.Way.TheVariants.{Rounds, Random}
 use Rattle.lrc_judge.specs.Races.{AreNamedRaces}
 use Rattle.lrc_protocol.specs.Node.{OptionsRecord}
 use Rattle.lrc_protocol.specs.Run.{EntryRecord, World as Run, run_of}

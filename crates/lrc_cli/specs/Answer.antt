@@ -9,7 +9,7 @@ use Rattle.lrc_lang.specs.Tree.{program_of}
 use Rattle.lrc_lang.specs.declared.program.Program.{Program}
 use Rattle.lrc_trace.specs.declared.act.Act.{Act}
 use Rattle.lrc_text.specs.Parts.{whole_text}
-use Rattle.lrc_explored.specs.Explored.{Explores, MeetsFew, MeetsTooMany}
+use Rattle.lrc_explore_text.specs.Explored.{Explores, MeetsFew, MeetsTooMany}
 use Rattle.lrc_protocol.specs.declared.event.Event.{Event}
 use Rattle.lrc_verdict.specs.Judgement.{Judges}
 use Rattle.lrc_world.specs.Ends.{ends_of}
@@ -17,12 +17,12 @@ use Rattle.lrc_report.specs.ReportText.{report_text, status_of}
 use Rattle.lrc_cli.specs.Runs.{Account, IsRunFault, IsRunOfWay}
 use Rattle.lrc_cli.specs.Shown.{IsShowFault, IsShown, shown_status}
 use Rattle.lrc_cli.specs.declared.answer.Printout.{Printout}
-use Rattle.lrc_words.specs.declared.choice.Choice.{Choice}
-use Rattle.lrc_words.specs.declared.choice.Choice.TheVariants.{Check, Plain, Show, Judge, Explore}
-use Rattle.lrc_words.specs.declared.choice.Exploring.{Exploring}
-use Rattle.lrc_words.specs.declared.choice.Judging.{Judging}
-use Rattle.lrc_words.specs.declared.choice.RunChoice.{RunChoice}
-use Rattle.lrc_words.specs.declared.choice.Shape.{Shape}
+use Rattle.lrc_args.specs.declared.choice.Choice.{Choice}
+use Rattle.lrc_args.specs.declared.choice.Choice.TheVariants.{Check, Plain, Show, Judge, Explore}
+use Rattle.lrc_args.specs.declared.choice.Exploring.{Exploring}
+use Rattle.lrc_args.specs.declared.choice.Judging.{Judging}
+use Rattle.lrc_args.specs.declared.choice.RunChoice.{RunChoice}
+use Rattle.lrc_args.specs.declared.choice.Shape.{Shape}
 use Rattle.lrc_cli.specs.declared.fault.Fault.{Fault}
 use Rattle.lrc_cli.specs.declared.fault.Fault.TheVariants.{Text, Acts, TooManyStates, NoMemory}
 

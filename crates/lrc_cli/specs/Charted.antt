@@ -1,24 +1,24 @@
 -- A run as a picture.
 use Rattle.std.specs.Prelude.{◌≡◌, ◌<◌, ◌≤◌, ℕ, Bool, false, true, List, codes, length, map}
 use Rattle.lrc_clock.specs.Keeping.{KeepsTime}
-use Rattle.lrc_drawing.specs.Marks.{all_marks, is_space, named_once, attribute_value}
-use Rattle.lrc_drawing.specs.Root.{IsRootOf}
-use Rattle.lrc_drawing.specs.Shown.{picture_marks}
+use Rattle.lrc_chart_svg.specs.Marks.{all_marks, is_space, named_once, attribute_value}
+use Rattle.lrc_chart_svg.specs.Root.{IsRootOf}
+use Rattle.lrc_chart_svg.specs.Shown.{picture_marks}
 use Rattle.lrc_judge.specs.FirstPairs.{AreFirstPairs}
 use Rattle.lrc_lang.specs.declared.program.Program.{Program}
-use Rattle.lrc_picture.specs.declared.picture.Picture.{Picture}
-use Rattle.lrc_portrait.specs.Course.{CourseRecord}
-use Rattle.lrc_portrait.specs.Portrait.{IsPortrait, MOST_SHOWN, rows_shown}
-use Rattle.lrc_portrait.specs.declared.part.Part.{Part}
+use Rattle.lrc_chart_model.specs.declared.picture.Picture.{Picture}
+use Rattle.lrc_chart_build.specs.Course.{CourseRecord}
+use Rattle.lrc_chart_build.specs.Portrait.{IsPortrait, MOST_SHOWN, rows_shown}
+use Rattle.lrc_chart_build.specs.declared.part.Part.{Part}
 use Rattle.lrc_protocol.specs.declared.event.Event.{Event}
-use Rattle.lrc_sketch.specs.Sketch.{sketch_text}
+use Rattle.lrc_chart_text.specs.Sketch.{sketch_text}
 use Rattle.lrc_svg.specs.Texts.{document_text}
 use Rattle.lrc_svg.specs.declared.element.Document.{Document}
 use Rattle.lrc_title.specs.Title.{title_text}
-use Rattle.lrc_turns.specs.Turns.{turns_told}
-use Rattle.lrc_words.specs.declared.choice.Charting.{Charting}
-use Rattle.lrc_words.specs.declared.choice.RunChoice.{RunChoice}
-use Rattle.lrc_words.specs.declared.choice.RunOptions.{RunOptions}
+use Rattle.lrc_turns_text.specs.Turns.{turns_told}
+use Rattle.lrc_args.specs.declared.choice.Charting.{Charting}
+use Rattle.lrc_args.specs.declared.choice.RunChoice.{RunChoice}
+use Rattle.lrc_args.specs.declared.choice.RunOptions.{RunOptions}
 use Rattle.lrc_cli.specs.Lines.{AreLinesIn}
 use Rattle.lrc_cli.specs.Runs.{Account, turns_in}
 use Rattle.lrc_cli.specs.declared.fault.Fault.{Fault}

@@ -10,8 +10,8 @@ use Rattle.lrc_world.specs.declared.report.SimFault.{SimFault}
 use Rattle.lrc_world.specs.declared.report.SimFault.TheVariants.{Worn}
 use Rattle.lrc_run.specs.declared.fault.RunFault.{RunFault}
 use Rattle.lrc_run.specs.declared.fault.RunFault.TheVariants as threads
-use Rattle.lrc_portrait.specs.declared.portrait.PortraitFault.{PortraitFault}
-use Rattle.lrc_portrait.specs.declared.portrait.PortraitFault.TheVariants as portraits
+use Rattle.lrc_chart_build.specs.declared.portrait.PortraitFault.{PortraitFault}
+use Rattle.lrc_chart_build.specs.declared.portrait.PortraitFault.TheVariants as portraits
 use Rattle.lrc_events.specs.declared.events.EventsFault.{EventsFault}
 use Rattle.lrc_events.specs.declared.events.EventsFault.TheVariants.{BadEvent}
 use Rattle.lrc_events.specs.declared.events.EventsFault.TheVariants as events_faults

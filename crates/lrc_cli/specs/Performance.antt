@@ -4,7 +4,7 @@ use Rattle.std.specs.Io.KnownBytes.{Appends, Keeps}
 use Rattle.lrc_cli.specs.Answer.{IsFault, Prints}
 use Rattle.lrc_cli.specs.FaultLine.{fault_line}
 use Rattle.lrc_report.specs.Output.{AppendsFront}
-use Rattle.lrc_words.specs.declared.choice.Choice.{Choice}
+use Rattle.lrc_args.specs.declared.choice.Choice.{Choice}
 use Rattle.lrc_cli.specs.declared.fault.Fault.{Fault}
 
 -- The text is written, and the result is this status; or a write failed,

@@ -5,7 +5,7 @@ use Rattle.lrc_judge.specs.Races.{AreNamedRaces}
 use Rattle.lrc_trace.specs.Conflict.{IsFirstRace, IsRaceFree}
 use Rattle.lrc_trace.specs.declared.act.Act.{Act}
 use Rattle.lrc_trace.specs.declared.race.Race.{Race}
-use Rattle.lrc_parts.specs.declared.end.End.{End}
+use Rattle.lrc_trace.specs.declared.end.End.{End}
 use Rattle.lrc_envelope.specs.declared.picker.Picker.{Picker}
 use Rattle.lrc_post.specs.Mailbox.{MailboxRecord}
 use Rattle.lrc_protocol.specs.declared.event.Event.{Event}
@@ -22,9 +22,9 @@ use Rattle.lrc_world.specs.declared.turned.Turned.{Turned}
 use Rattle.lrc_run.specs.Run.{AreWiresOf, IsWovenReport, WearsOutSoon, turns_of_nodes}
 use Rattle.lrc_events.specs.EventsText.{ReadsEvents}
 use Rattle.lrc_events.specs.declared.events.EventsFault.TheVariants.{BadEvent}
-use Rattle.lrc_words.specs.declared.choice.RunOptions.{RunOptions}
-use Rattle.lrc_words.specs.declared.choice.Way.{Way}
-use Rattle.lrc_words.specs.declared.choice.Way.TheVariants as ways
+use Rattle.lrc_args.specs.declared.choice.RunOptions.{RunOptions}
+use Rattle.lrc_args.specs.declared.choice.Way.{Way}
+use Rattle.lrc_args.specs.declared.choice.Way.TheVariants as ways
 use Rattle.lrc_cli.specs.declared.fault.Fault.{Fault}
 use Rattle.lrc_cli.specs.declared.fault.Fault.TheVariants.{Events, Worn, Mismatch, NoMemory}
 

@@ -5,26 +5,26 @@ use Rattle.lrc_lang.specs.Lines.{HasLines}
 use Rattle.lrc_lang.specs.Tree.{program_of}
 use Rattle.lrc_lang.specs.declared.program.Program.{Program}
 use Rattle.lrc_events.specs.Writing.{events_text}
-use Rattle.lrc_show.specs.ActsText.{acts_text}
-use Rattle.lrc_show.specs.Json.{json_of_acts}
-use Rattle.lrc_show.specs.Rapid.{rapid_text}
+use Rattle.lrc_acts_text.specs.ActsText.{acts_text}
+use Rattle.lrc_acts_text.specs.Json.{json_of_acts}
+use Rattle.lrc_acts_text.specs.Rapid.{rapid_text}
 use Rattle.lrc_protocol.specs.declared.event.Event.{Event}
-use Rattle.lrc_parts.specs.declared.end.End.{End}
+use Rattle.lrc_trace.specs.declared.end.End.{End}
 use Rattle.lrc_trace.specs.declared.act.Act.{Act}
 use Rattle.lrc_explain.specs.Explain.{explain_text}
 use Rattle.lrc_judge.specs.FirstPairs.{AreFirstPairs}
 use Rattle.lrc_judge.specs.declared.lanes.Pair.{Pair}
 use Rattle.lrc_report.specs.ReportText.{run_status_of, run_text}
 use Rattle.lrc_stats.specs.StatsText.{stats_text}
-use Rattle.lrc_turns.specs.TurnsText.{messages_text}
-use Rattle.lrc_words.specs.declared.choice.Form.{Form}
-use Rattle.lrc_words.specs.declared.choice.Form.TheVariants.{Acts, Events, Json, Messages, Rapid}
-use Rattle.lrc_words.specs.declared.choice.RunChoice.{RunChoice}
-use Rattle.lrc_words.specs.declared.choice.RunOptions.{RunOptions}
-use Rattle.lrc_words.specs.declared.choice.Shape.{Shape}
-use Rattle.lrc_words.specs.declared.choice.Shape.TheVariants as shapes
-use Rattle.lrc_words.specs.declared.choice.Shape.TheVariants.{Chart, Explain, Stats, Trace}
-use Rattle.lrc_words.specs.declared.choice.Way.{Way}
+use Rattle.lrc_turns_text.specs.TurnsText.{messages_text}
+use Rattle.lrc_args.specs.declared.choice.Form.{Form}
+use Rattle.lrc_args.specs.declared.choice.Form.TheVariants.{Acts, Events, Json, Messages, Rapid}
+use Rattle.lrc_args.specs.declared.choice.RunChoice.{RunChoice}
+use Rattle.lrc_args.specs.declared.choice.RunOptions.{RunOptions}
+use Rattle.lrc_args.specs.declared.choice.Shape.{Shape}
+use Rattle.lrc_args.specs.declared.choice.Shape.TheVariants as shapes
+use Rattle.lrc_args.specs.declared.choice.Shape.TheVariants.{Chart, Explain, Stats, Trace}
+use Rattle.lrc_args.specs.declared.choice.Way.{Way}
 use Rattle.lrc_cli.specs.Charted.{IsCharted, IsTooLong}
 use Rattle.lrc_cli.specs.Lines.{AreLinesIn}
 use Rattle.lrc_cli.specs.Runs.{Account, is_led, turns_in}

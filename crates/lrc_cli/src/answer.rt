@@ -4,20 +4,20 @@ ghost use Rattle.std.specs.Prelude.{◌≡◌, IfErr, IfOk, None, false, is_some
 ghost use Rattle.lrc_cli.specs.Answer.{IsChecked, IsFault, IsPrintoutOfRounds, IsTextFault, Prints};
 ghost use Rattle.lrc_report.specs.ReportText.{report_text, status_of};
 ghost use Rattle.lrc_text.specs.Parts.{whole_text};
-ghost use Rattle.lrc_words.specs.Files.{names_events, starts_threads};
-ghost use Rattle.lrc_words.specs.declared.choice.Choice.TheVariants.{Plain};
+ghost use Rattle.lrc_args.specs.Files.{names_events, starts_threads};
+ghost use Rattle.lrc_args.specs.declared.choice.Choice.TheVariants.{Plain};
 
 use crate::explored::explored;
 use crate::fault::Fault;
 use crate::judged::judged;
 use crate::shown::show;
+use lrc_args::choice::{Choice, PlainRun};
 use lrc_exec::rounds::plain_rounds;
 use lrc_lang::parse;
 use lrc_lang::program::Program;
 use lrc_node::End;
 use lrc_report::report::{report_parts, status_after};
 use lrc_trace::act::Act;
-use lrc_words::choice::{Choice, PlainRun};
 use lrc_world::ends::ends;
 use std::alloc::{AllocError, Global};
 

@@ -3,15 +3,15 @@
 ghost use Rattle.std.specs.Prelude.{◌≡◌, IfErr, IfOk, None};
 ghost use Rattle.lrc_cli.specs.Answer.{IsExploration, IsFault, IsSearchFault, IsTextOf, Prints};
 ghost use Rattle.lrc_text.specs.Parts.{whole_text};
-ghost use Rattle.lrc_words.specs.declared.choice.Choice.TheVariants.{Explore};
+ghost use Rattle.lrc_args.specs.declared.choice.Choice.TheVariants.{Explore};
 
 use crate::answer::Printout;
 use crate::fault::Fault;
+use lrc_args::choice::Exploring;
 use lrc_explore::search::ExploreFault;
 use lrc_lang::lines::lines_of;
 use lrc_lang::parse;
 use lrc_lang::program::Program;
-use lrc_words::choice::Exploring;
 use std::alloc::Global;
 
 /// Answers the command `explore`, with the text of a program.
@@ -42,7 +42,14 @@ fn all_orders(
     let nodes = exploring.nodes.count;
     let most = exploring.most.count;
     let outcomes = exploring.outcomes;
-    match lrc_explored::explored::explored(alloc, program, &lines, nodes, most as usize, outcomes) {
+    match lrc_explore_text::explored::explored(
+        alloc,
+        program,
+        &lines,
+        nodes,
+        most as usize,
+        outcomes,
+    ) {
         Ok(told) => Ok(Printout {
             parts: told.parts,
             status: told.status,

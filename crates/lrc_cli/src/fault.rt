@@ -6,9 +6,9 @@ ghost use Rattle.lrc_cli.specs.FaultLine.{fault_line, fault_of_acts, fault_of_ev
 ghost use Rattle.lrc_cli.specs.declared.fault.Fault.TheVariants.{NoMemory};
 
 use lrc_acts::reading::ActsFault;
+use lrc_chart_build::PortraitFault;
 use lrc_events::events::EventsFault;
 use lrc_lang::fault::{FaultKind, ParseFault};
-use lrc_portrait::PortraitFault;
 use lrc_run::RunFault;
 use lrc_world::report::SimFault;
 use std::alloc::{AllocError, AllocFailed, Global};

@@ -7,8 +7,8 @@ ghost use Rattle.lrc_verdict.specs.Judgement.{Judges};
 
 use crate::answer::Printout;
 use crate::fault::Fault;
+use lrc_args::choice::Judging;
 use lrc_verdict::judge::judge;
-use lrc_words::choice::Judging;
 use std::alloc::Global;
 
 /// Answers the command `judge`, with a text of acts.

@@ -2,20 +2,20 @@
 
 ghost use Rattle.std.specs.Prelude.{◌≡◌, ◌⊎◌, ℕ, List, Option, false, is_some, option_map};
 ghost use Rattle.lrc_cli.specs.Answer.{Answers};
-ghost use Rattle.lrc_words.specs.Files.{names_events, starts_threads};
+ghost use Rattle.lrc_args.specs.Files.{names_events, starts_threads};
 ghost use Rattle.lrc_cli.specs.FaultLine.{fault_line};
 ghost use Rattle.lrc_cli.specs.Performance.{IsWritten, Performs};
 ghost use Rattle.lrc_text.specs.Parts.{whole_text};
-ghost use Rattle.lrc_words.specs.declared.choice.Choice.{Choice as AnyChoice};
-ghost use Rattle.lrc_words.specs.declared.choice.Choice.TheVariants.{Show};
+ghost use Rattle.lrc_args.specs.declared.choice.Choice.{Choice as AnyChoice};
+ghost use Rattle.lrc_args.specs.declared.choice.Choice.TheVariants.{Show};
 ghost use Rattle.lrc_cli.specs.declared.fault.Fault.TheVariants.{NoMemory};
 
 use crate::answer::{Printout, answer};
 use crate::fault::{Fault, NO_MEMORY_LINE, line_of};
 use crate::shown::show;
 use crate::threads::show_on_threads;
+use lrc_args::choice::{Choice, RunChoice, Shape, Way};
 use lrc_report::output::{Output, put, put_parts};
-use lrc_words::choice::{Choice, RunChoice, Shape, Way};
 use std::alloc::Global;
 use std::io::Write;
 use std::sync::Wait;

@@ -3,18 +3,18 @@
 ghost use Rattle.std.specs.Prelude.{◌≡◌, ℕ, IfErr, IfOk, List, Ok as Was, Option, false, is_some, option_map, true};
 ghost use Rattle.lrc_cli.specs.Runs.{AreShort, AreToEnd, IsBriefRun, IsLedFault, IsPlayedFault, IsReported, IsRunFault, IsRunOfWay, account_of, is_led, options_of};
 ghost use Rattle.lrc_events.specs.EventsText.{ReadsEvents};
-ghost use Rattle.lrc_words.specs.Files.{events_along, is_on_threads};
-ghost use Rattle.lrc_words.specs.declared.choice.Way.TheVariants.{Random as AtRandom, Rounds as InRounds};
+ghost use Rattle.lrc_args.specs.Files.{events_along, is_on_threads};
+ghost use Rattle.lrc_args.specs.declared.choice.Way.TheVariants.{Random as AtRandom, Rounds as InRounds};
 ghost use Rattle.lrc_world.specs.Random.{IsWandering, WanderingWearsOut};
 ghost use Rattle.lrc_world.specs.Rounds.{AreRounds, RoundsWearOut};
 
 use crate::fault::{Fault, fault_of_run};
+use lrc_args::choice::{RunChoice, RunOptions, Way};
 use lrc_envelope::Picker;
 use lrc_events::events::events_of;
 use lrc_lang::program::Program;
 use lrc_node::Options;
 use lrc_protocol::Event;
-use lrc_words::choice::{RunChoice, RunOptions, Way};
 use lrc_world::report::{Brief, Report};
 use lrc_world::simulate::{drive, drive_briefly, simulate, wander, wander_briefly};
 use std::alloc::Global;

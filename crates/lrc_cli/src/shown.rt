@@ -9,14 +9,15 @@ ghost use Rattle.lrc_protocol.specs.declared.event.Event.{Event as AnyEvent};
 ghost use Rattle.lrc_run.specs.Run.{turns_of_nodes};
 ghost use Rattle.lrc_stats.specs.StatsText.{stats_text};
 ghost use Rattle.lrc_text.specs.Parts.{whole_text};
-ghost use Rattle.lrc_words.specs.Files.{names_events, starts_threads};
-ghost use Rattle.lrc_words.specs.declared.choice.Choice.TheVariants.{Show};
+ghost use Rattle.lrc_args.specs.Files.{names_events, starts_threads};
+ghost use Rattle.lrc_args.specs.declared.choice.Choice.TheVariants.{Show};
 
 use crate::answer::{Printout, in_one};
 use crate::charted::charted;
 use crate::fault::Fault;
 use crate::runs::{Run, brief_of, is_led, run_of};
 use crate::trace::trace_parts;
+use lrc_args::choice::{RunChoice, RunOptions, Shape};
 use lrc_exec::code::Code;
 use lrc_explain::explain;
 use lrc_lang::lines::lines_of;
@@ -26,7 +27,6 @@ use lrc_node::End;
 use lrc_report::report::{run_parts, status_after_run};
 use lrc_stats::stats_part;
 use lrc_trace::act::Act;
-use lrc_words::choice::{RunChoice, RunOptions, Shape};
 use lrc_world::report::Brief;
 use std::alloc::{AllocError, Global};
 

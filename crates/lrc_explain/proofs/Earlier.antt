@@ -18,7 +18,7 @@ use Rattle.lrc_judge.specs.FirstPairs.{AreFirstPairs}
 use Rattle.lrc_judge.specs.Races.{word_of}
 use Rattle.lrc_judge.proofs.Ascending.{is_eq-nat}
 use Rattle.lrc_judge.proofs.Naming.{accesses_within}
-use Rattle.lrc_show.specs.Acts.{act_at}
+use Rattle.lrc_acts_text.specs.Acts.{act_at}
 use Rattle.lrc_explain.specs.Access.{left_in, stored}
 use Rattle.lrc_explain.specs.Before.{AreLefts}
 use Rattle.lrc_explain.specs.Groups.{IsWithin}

@@ -4,7 +4,7 @@ use Rattle.lrc_trace.specs.declared.act.Act.{Act}
 use Rattle.lrc_trace.specs.declared.act.Deed.{Deed}
 use Rattle.lrc_trace.specs.declared.act.Deed.TheVariants.{Read, Write}
 use Rattle.lrc_trace.specs.Interval.{interval_at}
-use Rattle.lrc_show.specs.Acts.{act_at}
+use Rattle.lrc_acts_text.specs.Acts.{act_at}
 
 -- what a word has once a deed is done that finds this value in it
 abbrev pub stored : (word value : ℕ) → Deed → ℕ

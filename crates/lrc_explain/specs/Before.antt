@@ -3,7 +3,7 @@ use Rattle.std.specs.Prelude.{◌≡◌, ℕ, ◌<◌, List, length, slice_index
 use Rattle.lrc_trace.specs.declared.act.Act.{Act}
 use Rattle.lrc_judge.specs.Firsts.{AreIntervals}
 use Rattle.lrc_judge.specs.Races.{word_of}
-use Rattle.lrc_show.specs.Acts.{act_at}
+use Rattle.lrc_acts_text.specs.Acts.{act_at}
 use Rattle.lrc_explain.specs.declared.before.Before.{Before}
 use Rattle.lrc_explain.specs.Access.{left_in}
 

@@ -8,7 +8,7 @@ use Rattle.lrc_trace.specs.declared.act.Deed.TheVariants.{Print}
 use Rattle.lrc_lines.specs.Walks.{act_lines}
 use Rattle.lrc_judge.specs.declared.lanes.Pair.{Pair}
 use Rattle.lrc_text.specs.RaceText.{first_race_text}
-use Rattle.lrc_show.specs.Each.{each}
+use Rattle.lrc_text.specs.Each.{each}
 use Rattle.lrc_stuck.specs.declared.stand.Stand.{Stand}
 use Rattle.lrc_stuck.specs.Circles.{deadlocks_text}
 use Rattle.lrc_stuck.specs.Stand.{stands_of}

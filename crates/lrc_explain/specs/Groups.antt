@@ -5,8 +5,8 @@ use Rattle.std.specs.Ordering.{eq_by_cmp}
 use Rattle.lrc_trace.specs.declared.act.Act.{Act}
 use Rattle.lrc_judge.specs.Races.{word_of}
 use Rattle.lrc_judge.specs.declared.lanes.Pair.{Pair}
-use Rattle.lrc_show.specs.Acts.{act_at}
-use Rattle.lrc_show.specs.Each.{each}
+use Rattle.lrc_acts_text.specs.Acts.{act_at}
+use Rattle.lrc_text.specs.Each.{each}
 use Rattle.lrc_explain.specs.declared.site.Site.{Site}
 use Rattle.lrc_explain.specs.Access.{access_text}
 use Rattle.lrc_explain.specs.Site.{site_cmp, site_of}

@@ -6,7 +6,7 @@ use Rattle.lrc_trace.specs.declared.act.Act.{Act}
 use Rattle.lrc_trace.specs.declared.act.Deed.{Deed}
 use Rattle.lrc_trace.specs.declared.act.Deed.TheVariants.{Write}
 use Rattle.lrc_judge.specs.declared.lanes.Pair.{Pair}
-use Rattle.lrc_show.specs.Acts.{act_at}
+use Rattle.lrc_acts_text.specs.Acts.{act_at}
 use Rattle.lrc_explain.specs.declared.site.Site.{Site}
 
 -- whether a deed writes

@@ -1,7 +1,7 @@
 // Where the two acts of a racing pair stand.
 
 ghost use Rattle.std.specs.Prelude.{◌≡◌, slice_index};
-ghost use Rattle.lrc_show.specs.Acts.{act_at};
+ghost use Rattle.lrc_acts_text.specs.Acts.{act_at};
 ghost use Rattle.lrc_explain.specs.Site.{deed_writes, site_of};
 
 use lrc_judge::first_pairs::Pair;

@@ -13,7 +13,7 @@ use Rattle.lrc_trace.proofs.Positions.{slice_get-seam, Does-one_node, Does-one_d
 use Rattle.lrc_exec.specs.Meaning.{Thread, Next, quiet, prints, reads, writes, acquires, releases, arrives, departs, traps, ends, next_of}
 use Rattle.lrc_exec.specs.Plain.{Plain, deed_done, nobody_holds, all_arrived, thread_in, plain_step, plain_start, plain_from, with_thread}
 use Rattle.lrc_exec.proofs.PlainLaws.{plain_from-begins, plain_from-length}
-use Rattle.lrc_plain_laws.proofs.Plainly.{one_more}
+use Rattle.lrc_consistency_laws.proofs.Plainly.{one_more}
 use Rattle.lrc_explore.specs.Meeting.{access_of, next_access_in, next_access, Meet, IsReachable}
 use Rattle.lrc_explore.specs.Verdict.{EndsInRace}
 use Rattle.lrc_explore.proofs.Reducing.{IsAccess, by_read, by_write}

@@ -15,7 +15,7 @@ use Rattle.lrc_exec.specs.declared.spot.Flat.{Flat}
 use Rattle.lrc_exec.specs.Plain.{Plain, plain_step, plain_from, plain_start}
 use Rattle.lrc_exec.specs.Spots.{spot_thread}
 use Rattle.lrc_exec.proofs.PlainLaws.{plain_from-begins}
-use Rattle.lrc_plain_laws.proofs.Plainly.{one_more, plain_from-joined}
+use Rattle.lrc_consistency_laws.proofs.Plainly.{one_more, plain_from-joined}
 use Rattle.lrc_explore.specs.declared.state.State.{State}
 use Rattle.lrc_explore.specs.declared.noted.Noted.{Noted}
 use Rattle.lrc_explore.specs.declared.noted.NotedStates.{NotedStates}

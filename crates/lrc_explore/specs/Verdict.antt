@@ -4,7 +4,7 @@ use Rattle.lrc_lang.specs.declared.program.Program.{Program}
 use Rattle.lrc_trace.specs.declared.act.Act.{Act}
 use Rattle.lrc_trace.specs.Conflict.{Races}
 use Rattle.lrc_exec.specs.Plain.{plain}
-use Rattle.lrc_plain_laws.specs.Racing.{HasNoRace}
+use Rattle.lrc_consistency_laws.specs.Racing.{HasNoRace}
 use Rattle.lrc_explore.specs.declared.search.Verdict.{Verdict}
 use Rattle.lrc_explore.specs.declared.search.Verdict.TheVariants.{RaceFree, Racy}
 use Rattle.lrc_explore.specs.Breadth.{IsUpTo}

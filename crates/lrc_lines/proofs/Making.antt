@@ -15,9 +15,9 @@ use Rattle.lrc_exec.specs.Ask.{answered, ask_of, done}
 use Rattle.lrc_exec.specs.Condition.{condition_holds}
 use Rattle.lrc_exec.specs.Plain.{start_of}
 use Rattle.lrc_trace.specs.Run.{Does}
-use Rattle.lrc_plain_laws.specs.Follows.{FollowsText, Goes, Makes, deeds_of, quietly, printing, reading, writing, acquiring, releasing}
-use Rattle.lrc_plain_laws.specs.Follows.{arriving, departing, trapping, ending}
-use Rattle.lrc_plain_laws.specs.Follows.{and_then}
+use Rattle.lrc_consistency_laws.specs.Follows.{FollowsText, Goes, Makes, deeds_of, quietly, printing, reading, writing, acquiring, releasing}
+use Rattle.lrc_consistency_laws.specs.Follows.{arriving, departing, trapping, ending}
+use Rattle.lrc_consistency_laws.specs.Follows.{and_then}
 use Rattle.lrc_lines.specs.Makes.{MakesNext, statement, barrier, end}
 use Rattle.lrc_lines.specs.Standing.{Agrees}
 use Rattle.lrc_lines.specs.Tasks.{Task, passed}

@@ -4,7 +4,7 @@ use Rattle.lrc_lang.specs.declared.program.Statement.TheVariants.{Barrier}
 use Rattle.lrc_trace.specs.declared.act.Deed.{Deed}
 use Rattle.lrc_trace.specs.declared.act.Deed.TheVariants.{Depart, End}
 use Rattle.lrc_exec.specs.Meaning.{Thread, next_of_statement}
-use Rattle.lrc_plain_laws.specs.Follows.{Goes}
+use Rattle.lrc_consistency_laws.specs.Follows.{Goes}
 use Rattle.lrc_lines.specs.Tasks.{Task}
 use Rattle.lrc_lines.specs.Walks.{Walk}
 

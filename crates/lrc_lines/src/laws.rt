@@ -7,7 +7,7 @@ ghost use Rattle.lrc_lang.specs.Tree.{program_of};
 ghost use Rattle.lrc_trace.specs.declared.act.Act.{Act};
 ghost use Rattle.lrc_trace.specs.declared.act.Deed.{Deed};
 ghost use Rattle.lrc_trace.specs.Run.{Does};
-ghost use Rattle.lrc_plain_laws.specs.Follows.{FollowsText};
+ghost use Rattle.lrc_consistency_laws.specs.Follows.{FollowsText};
 ghost use Rattle.lrc_lines.specs.Begins.{BeginOnLines};
 ghost use Rattle.lrc_lines.specs.Makes.{MakesNext};
 ghost use Rattle.lrc_lines.specs.Places.{StandsAmong, in_order};

@@ -49,6 +49,13 @@ first_held me nodes locks = record {
   locks = map (first_state me nodes) (range_with_len 0 locks);
 }
 
+-- the node has asked for the token, and it has not come
+abbrev pub is_awaited : LockState → Bool
+is_awaited Away = false
+is_awaited (Awaited successor) = true
+is_awaited (Free kept) = false
+is_awaited (Held successor) = false
+
 -- ---- what a call does to a lock
 
 -- it is refused, or the token doesn't leave, or it leaves with a pass

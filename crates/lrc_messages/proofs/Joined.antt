@@ -2,9 +2,9 @@
 use Rattle.std.proofs.Common.{◌≡◌, ◌∙◌, ◌+◌, ◌++◌, ℕ, List, ap, sym, append_assoc, take}
 use Rattle.std.specs.Prelude.{Some, slice_get}
 use Rattle.std.proofs.lemmas.Option.{get_or_from_slice_get, slice_get_within}
-use Rattle.lrc_show.specs.Each.{each}
-use Rattle.lrc_show.specs.Json.{entry_text, with_commas}
-use Rattle.lrc_show.proofs.Each.{each_more}
+use Rattle.lrc_text.specs.Each.{each}
+use Rattle.lrc_acts_text.specs.Json.{entry_text, with_commas}
+use Rattle.lrc_text.proofs.Each.{each_more}
 use Rattle.lrc_messages.specs.Lists.{before, separated}
 
 each_next : {X : Type 0} (of : ℕ → X → List ℕ) (items : List X) (i : ℕ) (x : X) (start now next : List ℕ) → slice_get items i ≡ Some x

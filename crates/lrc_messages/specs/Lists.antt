@@ -1,6 +1,6 @@
 -- Lists in words.
 use Rattle.std.specs.Prelude.{ℕ, ◌==◌, List, [], ◌∷◌, ◌++◌, codes, if◌then◌else◌}
-use Rattle.lrc_show.specs.Each.{each}
+use Rattle.lrc_text.specs.Each.{each}
 
 -- what stands before an item: a sign, but before the first nothing
 abbrev pub before : ℕ → List ℕ → List ℕ

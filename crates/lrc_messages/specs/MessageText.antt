@@ -10,7 +10,7 @@ use Rattle.lrc_envelope.specs.Records.{ChangesRequestRecord, ChangesReplyRecord,
 use Rattle.lrc_envelope.specs.declared.message.Message.{Message}
 use Rattle.lrc_envelope.specs.declared.message.Message.TheVariants.{LockRequest, LockForward, LockGrant, Arrive, Depart, Clean, Discard}
 use Rattle.lrc_envelope.specs.declared.message.Message.TheVariants.{ChangesRequest, ChangesReply, PageRequest, PageReply}
-use Rattle.lrc_show.specs.Json.{with_commas}
+use Rattle.lrc_acts_text.specs.Json.{with_commas}
 use Rattle.lrc_messages.specs.Lists.{separated, separated_or_dash}
 
 -- ---- parts of several kinds

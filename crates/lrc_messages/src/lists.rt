@@ -2,7 +2,7 @@
 
 ghost use Rattle.std.specs.Prelude.{◌≡◌, ◌++◌, OnErr, OnOk};
 ghost use Rattle.lrc_text.specs.Front.{BeginsWith};
-ghost use Rattle.lrc_show.specs.Json.{entry_text, with_commas};
+ghost use Rattle.lrc_acts_text.specs.Json.{entry_text, with_commas};
 ghost use Rattle.lrc_messages.specs.Lists.{before};
 
 use lrc_envelope::Indices;

@@ -2,15 +2,15 @@
 
 ghost use Rattle.std.specs.Prelude.{◌≡◌, ◌++◌, OnErr, OnOk, codes, decimal};
 ghost use Rattle.lrc_text.specs.Front.{BeginsWith};
-ghost use Rattle.lrc_show.specs.Json.{with_commas};
+ghost use Rattle.lrc_acts_text.specs.Json.{with_commas};
 ghost use Rattle.lrc_store.specs.Interval.{index_of};
 ghost use Rattle.lrc_messages.specs.Lists.{before, separated, separated_or_dash};
 ghost use Rattle.lrc_messages.specs.MessageText.{collect_text, interval_text, news_text, time_text};
 
 use crate::lists::{push_before, push_pages};
+use lrc_acts_text::push_entries;
 use lrc_envelope::News;
 use lrc_page::Pages;
-use lrc_show::push_entries;
 use lrc_store::{Interval, Intervals};
 use lrc_text::push_number;
 use lrc_time::Time;

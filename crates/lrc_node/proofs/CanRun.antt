@@ -8,7 +8,8 @@ use Rattle.lrc_exec.specs.Meaning.{Setting, Thread, Next, quiet, prints, reads, 
 use Rattle.lrc_exec.proofs.NextLaws.{IsFine, next_of-fine}
 use Rattle.lrc_protocol.specs.Node.{Course, going, trapped, ended, Wait, nothing, grant, departure, access, upkeep, discard, is_idle, Node}
 use Rattle.lrc_protocol.specs.Turn.{begins_of}
-use Rattle.lrc_order_laws.specs.Waiting.{next_in, acquiring}
+use Rattle.lrc_order_laws.specs.Waiting.{acquiring}
+use Rattle.lrc_protocol.specs.Node.{next_in}
 use Rattle.lrc_node_laws.specs.Reached.{IsReached}
 use Rattle.lrc_node_laws.proofs.Tokened.{acquired-in_place, released-in_place, held_here, away}
 use Rattle.lrc_node_laws.proofs.Always.{text_at, own_next, early_at}

@@ -13,14 +13,15 @@ use Rattle.lrc_protocol.specs.Follows.{awaits_discard}
 use Rattle.lrc_protocol.specs.Node.{Node, with_taken, needs_of}
 use Rattle.lrc_protocol.specs.Turn.{is_learnable, is_page, is_interval, are_arriving, learns, with_needs}
 use Rattle.lrc_protocol.specs.Follows.{is_expected}
-use Rattle.lrc_order_laws.specs.Waiting.{next_in, acquiring, is_departing, FixesNext}
+use Rattle.lrc_order_laws.specs.Waiting.{acquiring, is_departing, FixesNext}
+use Rattle.lrc_protocol.specs.Node.{next_in}
 use Rattle.lrc_node_laws.specs.Reached.{IsReached}
 use Rattle.lrc_node_laws.specs.Ranges.{CollectsAt}
 use Rattle.lrc_node_laws.specs.Waits.{IsQuiet}
 use Rattle.lrc_node_laws.proofs.Tokened.{awaited_here, come_to, is_shaped}
 use Rattle.lrc_node_laws.proofs.Always.{can_be_added, ranged_at, exact_at, quiet_at}
 use Rattle.lrc_memory.specs.Turns.{CanBeAdded}
-use Rattle.lrc_parts.specs.Text.{asked_in}
+use Rattle.lrc_control.specs.Text.{asked_in}
 use Rattle.lrc_lock.specs.Lock.{manager_of}
 use Rattle.lrc_node.specs.Taking.{CanDiscard, CanTake}
 use Rattle.std.specs.Prelude.{map}

@@ -12,7 +12,7 @@ use Rattle.lrc_exec.specs.Meaning.{Thread, Next, quiet, prints, reads, writes, a
 use Rattle.lrc_protocol.specs.Node.{Course, going, trapped, ended, deed_of, course_of, Letter, is_idle, Node, Effect, acts, acts_by, makes}
 use Rattle.lrc_protocol.specs.Turn.{begins_of, begins, may_begin, run_effect, charged, run_turn, turn_by, turn_or, turn_of, turn_with}
 use Rattle.lrc_protocol.specs.Turn.{Outcome, not_ready, worn}
-use Rattle.lrc_parts.specs.Text.{asked_in, cost_to_begin}
+use Rattle.lrc_control.specs.Text.{asked_in, cost_to_begin}
 use Rattle.lrc_node.specs.Effects.{value_asked, memory_asked, acted, deed_next, effect_asked, begun_node, turn_asked}
 use Rattle.lrc_node.specs.Effects.{CanBegin, RefusesRun, too_large, without_memory}
 use Rattle.lrc_node.specs.declared.fault.NodeFault.{NodeFault}

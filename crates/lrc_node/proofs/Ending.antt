@@ -7,7 +7,7 @@ use Rattle.std.proofs.lemmas.List.{append-nil}
 use Rattle.std.proofs.lemmas.List.Elements.{filter_map-append}
 use Rattle.lrc_trace.specs.declared.act.Act.{Act}
 use Rattle.lrc_protocol.specs.Run.{EntryRecord}
-use Rattle.lrc_parts.specs.declared.end.End.{End}
+use Rattle.lrc_trace.specs.declared.end.End.{End}
 use Rattle.lrc_node.specs.Logged.{end_by, ended_by, end_next}
 
 last_snoc : {A : Type 0} (o : Option A) (xs : List A) (x : A) → last_or o (xs ++ x ∷ []) ≡ Some x

@@ -6,8 +6,8 @@ use Rattle.lrc_envelope.specs.declared.message.Message.{Message}
 use Rattle.lrc_page.specs.declared.size.Size.{Size}
 use Rattle.lrc_mail.specs.declared.letter.Letter.{Letter as Posted}
 use Rattle.lrc_memory.specs.View.{NodeMemory, SameMemory}
-use Rattle.lrc_parts.specs.Clock.{SameClock}
-use Rattle.lrc_parts.specs.Barrier.{SameBarrier}
+use Rattle.lrc_control.specs.Clock.{SameClock}
+use Rattle.lrc_control.specs.Barrier.{SameBarrier}
 use Rattle.lrc_protocol.specs.Barriers.{Barrier}
 use Rattle.lrc_protocol.specs.Locks.{Locks}
 use Rattle.lrc_protocol.specs.Node.{Letter, Mail, Node}

@@ -11,9 +11,9 @@ use Rattle.lrc_exec.specs.declared.machine.Ask.{Ask}
 use Rattle.lrc_exec.specs.Ask.{ask_of}
 use Rattle.lrc_protocol.specs.Turn.{TurnRecord, Outcome, begins, begins_of, not_ready, run_turn, turn_by}
 use Rattle.lrc_protocol.specs.Run.{run}
-use Rattle.lrc_parts.specs.declared.end.End.{End}
-use Rattle.lrc_parts.specs.declared.end.End.TheVariants.{Unfinished}
-use Rattle.lrc_parts.specs.Text.{end_of}
+use Rattle.lrc_trace.specs.declared.end.End.{End}
+use Rattle.lrc_trace.specs.declared.end.End.TheVariants.{Unfinished}
+use Rattle.lrc_control.specs.Text.{end_of}
 use Rattle.lrc_node.specs.declared.fault.NodeFault.{NodeFault}
 use Rattle.lrc_node.specs.declared.fault.NodeFault.TheVariants.{NotReady}
 use Rattle.lrc_node.specs.Fault.{MayAnswer, is_final}

@@ -15,7 +15,7 @@ use Rattle.lrc_protocol.specs.Pages.{Copy, absent, is_readable, changes_of, Memo
 use Rattle.lrc_protocol.specs.Pages.{awaits_page, with_part}
 use Rattle.lrc_protocol.specs.Node.{Mail, Wait, nothing, grant, departure, access, upkeep, discard, needs_of, Node, with_memory}
 use Rattle.lrc_protocol.specs.Turn.{expects_changes_reply, with_needs}
-use Rattle.lrc_order_laws.specs.Waiting.{next_in}
+use Rattle.lrc_protocol.specs.Node.{next_in}
 use Rattle.lrc_node_laws.specs.Reached.{IsReached}
 use Rattle.lrc_node_laws.specs.Needs.{FitsNeed, FitsKept, page_next, ReachesFor}
 use Rattle.lrc_node_laws.specs.Waits.{IsQuiet}

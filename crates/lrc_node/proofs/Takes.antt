@@ -8,7 +8,7 @@ use Rattle.lrc_envelope.specs.declared.message.Message.{Message}
 use Rattle.lrc_envelope.specs.declared.message.Message.TheVariants.{LockRequest, LockForward, LockGrant, Arrive, Depart, Clean, Discard}
 use Rattle.lrc_envelope.specs.declared.message.Message.TheVariants.{ChangesRequest, ChangesReply, PageRequest, PageReply}
 use Rattle.lrc_barrier.specs.Barrier.{ManagerRecord, arrived, cleaned}
-use Rattle.lrc_parts.specs.declared.end.End.{End}
+use Rattle.lrc_trace.specs.declared.end.End.{End}
 use Rattle.lrc_protocol.specs.Node.{Node, Effect}
 use Rattle.lrc_protocol.specs.Follows.{awaits_discard}
 use Rattle.lrc_protocol.specs.Turn.{Outcome, done, unexpected, worn, empty_turn, take_turn, take_anew, taking, is_addressed}

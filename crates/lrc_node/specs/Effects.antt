@@ -22,7 +22,7 @@ use Rattle.lrc_node_laws.specs.Traced.{CanNoteAct}
 use Rattle.lrc_node.specs.declared.fault.NodeFault.{NodeFault}
 use Rattle.lrc_node.specs.declared.fault.NodeFault.TheVariants.{NotReady, Worn, NoMemory}
 use Rattle.lrc_node.specs.Keeping.{CanClean}
-use Rattle.lrc_parts.specs.Text.{asked_in, deed_in, gone_on, cost_to_begin}
+use Rattle.lrc_control.specs.Text.{asked_in, deed_in, gone_on, cost_to_begin}
 
 -- the value that is read where this is asked for, 0 where nothing is
 abbrev pub value_asked : Node → Option Ask → ℕ

@@ -12,8 +12,8 @@ use Rattle.lrc_protocol.specs.Run.{MOST_STAMP}
 use Rattle.lrc_protocol.specs.Follows.{inputs_of}
 use Rattle.lrc_protocol.specs.Traced.{traced, trace_of, with_act}
 use Rattle.lrc_protocol.specs.Turn.{TurnRecord, Outcome, done as made}
-use Rattle.lrc_parts.specs.declared.end.End.{End}
-use Rattle.lrc_parts.specs.declared.end.End.TheVariants.{Ended, Trapped, Unfinished}
+use Rattle.lrc_trace.specs.declared.end.End.{End}
+use Rattle.lrc_trace.specs.declared.end.End.TheVariants.{Ended, Trapped, Unfinished}
 use Rattle.lrc_node.specs.declared.fault.NodeFault.{NodeFault}
 use Rattle.lrc_node.specs.declared.fault.NodeFault.TheVariants.{Failed, NotReady, Unexpected, Worn, NoMemory}
 use Rattle.lrc_node.specs.declared.logged.Input.{Input as Given}

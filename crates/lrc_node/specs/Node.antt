@@ -5,8 +5,8 @@ use Rattle.lrc_exec.specs.Ask.{ask_of}
 use Rattle.lrc_trace.specs.Trace.{TraceRecord}
 use Rattle.lrc_protocol.specs.Node.{Node}
 use Rattle.lrc_protocol.specs.Turn.{Outcome, begins, not_ready, unexpected, worn}
-use Rattle.lrc_parts.specs.declared.end.End.{End}
-use Rattle.lrc_parts.specs.Text.{end_of}
+use Rattle.lrc_trace.specs.declared.end.End.{End}
+use Rattle.lrc_control.specs.Text.{end_of}
 use Rattle.lrc_node.specs.declared.fault.NodeFault.{NodeFault}
 use Rattle.lrc_node.specs.declared.fault.NodeFault.TheVariants.{NotReady, Unexpected, Worn, NoMemory}
 

@@ -4,7 +4,7 @@ use Rattle.lrc_page.specs.declared.TheConstants.{MOST_WORDS}
 use Rattle.lrc_page.specs.declared.size.Size.{Size}
 use Rattle.lrc_page.specs.Place.{pages_of}
 use Rattle.lrc_protocol.specs.Node.{Letter, Node, Effect}
-use Rattle.lrc_parts.specs.Barrier.{IsOfNodes}
+use Rattle.lrc_control.specs.Barrier.{IsOfNodes}
 use Rattle.lrc_node.specs.declared.turn.Effect.{Effect as Work}
 
 -- there are 1 to 16 nodes, of which this is one, and words and locks as a program has them; each part has an entry for each

@@ -7,7 +7,7 @@ use Rattle.lrc_envelope.specs.declared.message.Message.{Message}
 use Rattle.lrc_envelope.specs.declared.message.Message.TheVariants.{LockRequest, LockForward, LockGrant, Arrive, Depart, Clean, Discard}
 use Rattle.lrc_envelope.specs.declared.message.Message.TheVariants.{ChangesRequest, ChangesReply, PageRequest, PageReply}
 use Rattle.lrc_barrier.specs.Barrier.{IsArrival, is_accepted, is_clean}
-use Rattle.lrc_order_laws.specs.Tokens.{is_awaited}
+use Rattle.lrc_lock.specs.Held.{is_awaited}
 use Rattle.lrc_lock.specs.Held.{forwarded, lock_at, is_taken}
 use Rattle.lrc_lock.specs.Lock.{manager_of}
 use Rattle.lrc_memory.specs.Turns.{AreAwaited, CanBeAdded, NoneIsWritten}
@@ -17,10 +17,10 @@ use Rattle.lrc_protocol.specs.Node.{discard, needs_of, Node, Effect, collection_
 use Rattle.lrc_protocol.specs.Follows.{awaits_discard}
 use Rattle.lrc_protocol.specs.Turn.{learns, with_needs, page_reply_by, take_page, passes_on, forward_by, take_grant, arrive_by, take_departure}
 use Rattle.lrc_protocol.specs.Turn.{clean_by, discard_by, changes_reply_to, take_changes}
-use Rattle.lrc_parts.specs.Barrier.{arrive_step, clean_step}
+use Rattle.lrc_control.specs.Barrier.{arrive_step, clean_step}
 use Rattle.lrc_node.specs.Effects.{CanGoOn, with_parts}
 use Rattle.lrc_node.specs.Keeping.{CanCollect}
-use Rattle.lrc_parts.specs.Text.{asked_in}
+use Rattle.lrc_control.specs.Text.{asked_in}
 
 -- a node that waits for the word to discard has nothing written, and collects up to a time that covers its own intervals
 pub record CanDiscard (node : Node) : Type 0 where

@@ -33,7 +33,7 @@ mod pages;
 
 pub use fault::NodeFault;
 pub use logged::{Entry, Input, Logged};
-pub use lrc_parts::End;
+pub use lrc_trace::end::End;
 pub use node::Node;
 pub use options::Options;
 pub use turn::Turn;

@@ -5,7 +5,7 @@ ghost use Rattle.lrc_protocol.specs.Run as log;
 ghost use Rattle.lrc_protocol.specs.Turn.{is_ready};
 ghost use Rattle.lrc_node.specs.Fault.{MayAnswer, is_final};
 ghost use Rattle.lrc_node.specs.Logged.{Enters, LogsTo, MakesRoom, NotesFailing, NotesIn, end_next, ended_by, newest, seen_input, sound};
-ghost use Rattle.lrc_parts.specs.Text.{end_of};
+ghost use Rattle.lrc_control.specs.Text.{end_of};
 ghost use Rattle.lrc_node.specs.declared.fault.NodeFault.TheVariants.{Failed};
 
 use crate::fault::NodeFault;
@@ -13,8 +13,8 @@ use crate::node::Node;
 use crate::turn::Turn;
 use lrc_envelope::Envelope;
 use lrc_exec::machine::Ask;
-use lrc_parts::End;
 use lrc_trace::act::{Act, Deed};
+use lrc_trace::end::End;
 use lrc_trace::trace::Trace;
 use std::alloc::Global;
 use std::marker::Model;

@@ -7,7 +7,7 @@ ghost use Rattle.lrc_protocol.specs.Traced.{with_access_by, with_act};
 ghost use Rattle.lrc_protocol.specs.Turn.{begins, done, not_ready, run_turn, take_turn, unexpected};
 ghost use Rattle.lrc_node.specs.Effects.{turn_asked, CanBegin, CanNoteAsked, RefusesRun};
 ghost use Rattle.lrc_node.specs.Taken.{RefusesTake};
-ghost use Rattle.lrc_parts.specs.Text.{asked_in};
+ghost use Rattle.lrc_control.specs.Text.{asked_in};
 ghost use Rattle.lrc_node.specs.declared.fault.NodeFault.TheVariants.{NotReady, Unexpected};
 
 use crate::fault::NodeFault;

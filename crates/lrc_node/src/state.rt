@@ -5,11 +5,11 @@ ghost use Rattle.lrc_page.specs.Place.{pages_of};
 ghost use Rattle.lrc_protocol.specs.Node.{fresh_node};
 
 use crate::options::Options;
+use lrc_control::{Barrier, Clock, Text};
 use lrc_exec::code::Code;
 use lrc_mail::Mail;
 use lrc_memory::Memory;
 use lrc_page::pages_of;
-use lrc_parts::{Barrier, Clock, Text};
 use std::alloc::{AllocError, Global};
 use std::marker::Model;
 

@@ -25,7 +25,8 @@ use Rattle.lrc_protocol.specs.Rules.{run_acquire, run_ask, run_release, run_barr
 use Rattle.lrc_protocol.specs.Rules.{take_last_arrive, take_depart, take_collect, take_collect_at_once, take_reply, take_last_reply}
 use Rattle.lrc_protocol.specs.Rules.{take_kept_reply, take_last_kept_reply, take_clean, take_last_clean, take_discard, take_changes_request}
 use Rattle.lrc_protocol.specs.Rules.{take_page_request, IsSent, with_numbers, TurnRule, by_run, by_repeat, by_message}
-use Rattle.lrc_order_laws.specs.Waiting.{next_in, is_departing, FixesNext}
+use Rattle.lrc_order_laws.specs.Waiting.{is_departing, FixesNext}
+use Rattle.lrc_protocol.specs.Node.{next_in}
 use Rattle.lrc_order_laws.proofs.Counts.{lock_next, departure_next}
 use Rattle.lrc_order_laws.proofs.TextHolds.{TextIs}
 use Rattle.lrc_order_laws.proofs.Shift.{next-ready, deed_made, deed_back}

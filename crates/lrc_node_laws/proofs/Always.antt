@@ -25,7 +25,8 @@ use Rattle.lrc_node_laws.proofs.Reach.{first_view}
 use Rattle.lrc_node_laws.proofs.Tokened.{come_to, is_set}
 use Rattle.lrc_exec.specs.Meaning.{Setting, Thread, Next, quiet, prints, reads, writes, acquires, releases, arrives, departs, traps, ends}
 use Rattle.lrc_exec.specs.Plain.{setting_of}
-use Rattle.lrc_order_laws.specs.Waiting.{next_in, is_departing, is_access, acquiring, FixesNext}
+use Rattle.lrc_order_laws.specs.Waiting.{is_departing, is_access, acquiring, FixesNext}
+use Rattle.lrc_protocol.specs.Node.{next_in}
 use Rattle.lrc_order_laws.specs.Counts.{is_inside}
 use Rattle.std.specs.Prelude.{Option, Some, None, ◌==◌}
 use Rattle.lrc_order_laws.proofs.Waiting.{departs_arrived}

@@ -7,7 +7,7 @@ use Rattle.lrc_envelope.specs.declared.message.Message.{Message}
 use Rattle.lrc_protocol.specs.Pages.{Memory, Need}
 use Rattle.lrc_protocol.specs.Node.{Node}
 use Rattle.lrc_protocol.specs.Rules.{IsReadyFor, AccessesNext, access_read, access_write, page_at, Brings, brings_changes, brings_base_copy}
-use Rattle.lrc_order_laws.specs.Waiting.{next_in}
+use Rattle.lrc_protocol.specs.Node.{next_in}
 use Rattle.lrc_order_laws.proofs.TextHolds.{TextIs}
 use Rattle.lrc_order_laws.proofs.Shift.{next-ready}
 use Rattle.lrc_node_laws.specs.Needs.{page_next}

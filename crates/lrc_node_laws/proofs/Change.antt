@@ -19,7 +19,7 @@ use Rattle.lrc_protocol.specs.Pages.{awaits_changes, awaits_page, changes_came, 
 use Rattle.lrc_protocol.specs.Barriers.{with_keepers, kept_pages, after_collection, Collection, clean_memory}
 use Rattle.lrc_protocol.specs.Node.{Wait, nothing, grant, departure, access, upkeep, discard, needs_of, Course, Node}
 use Rattle.lrc_protocol.specs.Turn.{with_needs, is_page, is_interval, are_changes, is_learnable, expects_changes_reply}
-use Rattle.lrc_order_laws.specs.Waiting.{next_in}
+use Rattle.lrc_protocol.specs.Node.{next_in}
 use Rattle.lrc_node_laws.specs.Ranges.{InRange}
 use Rattle.lrc_node_laws.specs.Needs.{page_next}
 use Rattle.lrc_node_laws.proofs.Tests.{each_passes, in_range, same_numbers}

@@ -17,7 +17,7 @@ use Rattle.lrc_protocol.specs.Turn.{with_needs, expects_changes_reply}
 use Rattle.lrc_protocol.specs.Follows.{is_expected}
 use Rattle.lrc_protocol.proofs.Expecting.{fulfilled}
 use Rattle.lrc_envelope.specs.declared.message.Message.TheVariants.{PageReply}
-use Rattle.lrc_order_laws.specs.Waiting.{next_in}
+use Rattle.lrc_protocol.specs.Node.{next_in}
 use Rattle.lrc_node_laws.specs.Needs.{FitsBase, FitsNeed, page_next, ReachesFor}
 use Rattle.lrc_node_laws.specs.Comes.{GoesToPage, CanBeRepaired}
 use Rattle.lrc_node_laws.specs.Reached.{IsReached}

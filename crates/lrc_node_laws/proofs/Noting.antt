@@ -27,7 +27,7 @@ use Rattle.lrc_protocol.specs.Traced.{Traced, untraced, traced, traced_by, trace
 use Rattle.lrc_protocol.proofs.Ruled.{by_rule}
 use Rattle.lrc_protocol.proofs.Traces.{traced_node, traced_more}
 use Rattle.lrc_protocol.proofs.Turned.{Turned, Turns, turns}
-use Rattle.lrc_order_laws.specs.Waiting.{next_in}
+use Rattle.lrc_protocol.specs.Node.{next_in}
 use Rattle.lrc_order_laws.proofs.Shift.{Part, part_of, Moved, deed_in, deed_made, Learnable, Shift, Shifted, ShiftedIf, shifts, plain}
 use Rattle.lrc_order_laws.proofs.Shift.{misses, takes, asks, releasing, arriving, manages, forwarding, grants, departing, collecting}
 use Rattle.lrc_order_laws.proofs.Shift.{clean_at_once, discarding, accessing, still_misses, still_collects, cleaning, rests}

@@ -6,7 +6,7 @@ use Rattle.lrc_exec.specs.Meaning.{Next}
 use Rattle.lrc_protocol.specs.Pages.{Need, changes_came, page_came}
 use Rattle.lrc_protocol.specs.Node.{Wait, nothing, grant, departure, access, upkeep, discard, needs_of}
 use Rattle.lrc_protocol.specs.Turn.{with_needs}
-use Rattle.lrc_order_laws.specs.Waiting.{next_in}
+use Rattle.lrc_protocol.specs.Node.{next_in}
 use Rattle.lrc_node_laws.specs.Needs.{ReachesFor}
 use Rattle.lrc_node_laws.proofs.Needed.{changed_page, sent_page}
 use Rattle.lrc_node_laws.proofs.Change.{View, Change, receives, manages, moves, puts, closes, learns, resumes, begins}

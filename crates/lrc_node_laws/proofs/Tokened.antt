@@ -7,9 +7,11 @@ use Rattle.lrc_lock.specs.declared.state.LockState.{LockState}
 use Rattle.lrc_lock.specs.declared.state.LockState.TheVariants.{Away, Awaited, Free, Held}
 use Rattle.lrc_lock.specs.Held.{lock_at, is_free, is_held}
 use Rattle.lrc_protocol.specs.Node.{nothing, grant, Node}
-use Rattle.lrc_order_laws.specs.Waiting.{next_in, acquiring, FixesNext}
+use Rattle.lrc_order_laws.specs.Waiting.{acquiring, FixesNext}
+use Rattle.lrc_protocol.specs.Node.{next_in}
 use Rattle.lrc_order_laws.specs.Shape.{HasShape}
-use Rattle.lrc_order_laws.specs.Tokens.{is_awaited, AwaitsOne}
+use Rattle.lrc_order_laws.specs.Tokens.{AwaitsOne}
+use Rattle.lrc_lock.specs.Held.{is_awaited}
 use Rattle.lrc_order_laws.proofs.Calls.{acquired, let_go, granted_is_awaited}
 use Rattle.lrc_order_laws.proofs.Holding.{Stands, stands}
 use Rattle.lrc_order_laws.proofs.TextHolds.{acquired_below}

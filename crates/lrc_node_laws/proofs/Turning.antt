@@ -29,7 +29,7 @@ use Rattle.lrc_protocol.specs.Rules.{take_kept_reply, take_last_kept_reply, take
 use Rattle.lrc_protocol.specs.Rules.{take_page_request, IsSent, with_numbers, TurnRule, by_run, by_repeat, by_message}
 use Rattle.lrc_protocol.proofs.Ruled.{RuledIf, ruled}
 use Rattle.lrc_protocol.proofs.Allowed.{expected_by_rule}
-use Rattle.lrc_order_laws.specs.Waiting.{next_in}
+use Rattle.lrc_protocol.specs.Node.{next_in}
 use Rattle.lrc_order_laws.proofs.TextHolds.{TextIs}
 use Rattle.lrc_order_laws.proofs.Sends.{Came, by_itself, comes}
 use Rattle.lrc_order_laws.proofs.Shift.{next-ready}

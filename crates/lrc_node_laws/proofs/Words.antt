@@ -13,7 +13,7 @@ use Rattle.lrc_page.specs.declared.size.Size.{Size}
 use Rattle.lrc_page.specs.declared.size.Size.TheVariants.{Words64, Words256}
 use Rattle.lrc_page.specs.Place.{page_of, pages_of}
 use Rattle.lrc_protocol.specs.Node.{Course, going, trapped, ended}
-use Rattle.lrc_order_laws.specs.Waiting.{next_in}
+use Rattle.lrc_protocol.specs.Node.{next_in}
 use Rattle.lrc_order_laws.proofs.TextHolds.{TextIs}
 
 -- the word that comes next is below this number

@@ -6,7 +6,7 @@ use Rattle.lrc_page.specs.Page.{words_of}
 use Rattle.lrc_page.specs.Place.{page_of}
 use Rattle.lrc_protocol.specs.Pages.{copy_at, Need}
 use Rattle.lrc_protocol.specs.Node.{Node}
-use Rattle.lrc_order_laws.specs.Waiting.{next_in}
+use Rattle.lrc_protocol.specs.Node.{next_in}
 use Rattle.lrc_node_laws.specs.Needs.{FitsBase}
 
 -- the text accesses a word of the memory next, on this page

@@ -6,7 +6,7 @@ use Rattle.lrc_envelope.specs.Records.{ArriveRecord, DepartRecord}
 use Rattle.lrc_envelope.specs.declared.message.Message.{Message}
 use Rattle.lrc_envelope.specs.declared.message.Message.TheVariants.{Arrive, Depart}
 use Rattle.lrc_exec.specs.Meaning.{Thread, arrives}
-use Rattle.lrc_order_laws.specs.Waiting.{next_in}
+use Rattle.lrc_protocol.specs.Node.{next_in}
 use Rattle.lrc_store.proofs.Orders.{cases_Contains, none_Contains}
 use Rattle.lrc_barrier.specs.declared.arrival.Arrival.{Arrival}
 use Rattle.lrc_barrier.specs.declared.departure.Departure.{Departure}

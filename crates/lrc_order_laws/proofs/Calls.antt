@@ -6,8 +6,10 @@ use Rattle.lrc_lock.specs.declared.state.LockState.{LockState}
 use Rattle.lrc_lock.specs.declared.state.LockState.TheVariants.{Away, Awaited, Free, Held}
 use Rattle.lrc_lock.specs.Held.{HeldRecord, lock_at, is_free, is_held}
 use Rattle.lrc_protocol.specs.Node.{Course, Wait, nothing, grant}
-use Rattle.lrc_order_laws.specs.Waiting.{next_in, acquiring}
-use Rattle.lrc_order_laws.specs.Tokens.{is_awaited, HoldsTokens, AwaitsOne}
+use Rattle.lrc_order_laws.specs.Waiting.{acquiring}
+use Rattle.lrc_protocol.specs.Node.{next_in}
+use Rattle.lrc_order_laws.specs.Tokens.{HoldsTokens, AwaitsOne}
+use Rattle.lrc_lock.specs.Held.{is_awaited}
 use Rattle.lrc_order_laws.proofs.Counts.{lock_next}
 use Rattle.lrc_order_laws.proofs.Holding.{Stands, stands}
 use Rattle.lrc_order_laws.proofs.Tokens.{awaits_it}

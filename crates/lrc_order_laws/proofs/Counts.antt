@@ -13,7 +13,8 @@ use Rattle.lrc_protocol.specs.Locks.{Locks}
 use Rattle.lrc_protocol.specs.Node.{Course, going, trapped, ended, deed_of, Wait, nothing, grant, departure, access, upkeep, discard}
 use Rattle.lrc_protocol.specs.Turn.{TurnRecord}
 use Rattle.lrc_protocol.specs.Follows.{deeds_in}
-use Rattle.lrc_order_laws.specs.Waiting.{next_in, is_departing, is_access, acquiring, FixesNext}
+use Rattle.lrc_order_laws.specs.Waiting.{is_departing, is_access, acquiring, FixesNext}
+use Rattle.lrc_protocol.specs.Node.{next_in}
 use Rattle.lrc_order_laws.specs.Counts.{closes, count, awaits_acquire}
 use Rattle.lrc_order_laws.proofs.Shift.{Part, Acted, Rested, Moved, is_plain, deed_in, Learnable, Shift, plain, misses, takes, asks, releasing, arriving}
 use Rattle.lrc_order_laws.proofs.Shift.{manages, forwarding, grants, departing, collecting, clean_at_once, discarding, accessing, still_misses}

@@ -12,7 +12,7 @@ use Rattle.lrc_trace.specs.declared.act.Deed.TheVariants.{Depart}
 use Rattle.lrc_trace.specs.Run.{act_of, Does, is_arrive, is_depart, count_of, arrives_before, departs_before}
 use Rattle.lrc_trace.proofs.Positions.{Does-cases, Does-last, arrives_before-prefix, departs_before-prefix}
 use Rattle.lrc_trace.proofs.Intervals.{count_of-more, count_of-same}
-use Rattle.lrc_plain_laws.specs.Follows.{deeds_of}
+use Rattle.lrc_consistency_laws.specs.Follows.{deeds_of}
 use Rattle.lrc_protocol.specs.declared.event.Event.{Event}
 use Rattle.lrc_protocol.specs.Node.{Wait, nothing, grant, departure, access, upkeep, discard, OptionsRecord}
 use Rattle.lrc_protocol.specs.Run.{Input, EntryRecord, Logged, World, Flying, with_turn, run_of}

@@ -6,7 +6,7 @@ use Rattle.lrc_trace.specs.declared.act.Act.{Act}
 use Rattle.lrc_trace.specs.declared.act.Deed.{Deed}
 use Rattle.lrc_exec.specs.Meaning.{Thread, Next, acquires, releases, arrives, departs}
 use Rattle.lrc_exec.specs.Plain.{start_of}
-use Rattle.lrc_plain_laws.specs.Follows.{deeds_of}
+use Rattle.lrc_consistency_laws.specs.Follows.{deeds_of}
 use Rattle.lrc_protocol.specs.declared.event.Event.{Event}
 use Rattle.lrc_protocol.specs.Locks.{Locks}
 use Rattle.lrc_protocol.specs.Node.{Course, deed_of, Wait, nothing, grant, departure, access, upkeep, discard, OptionsRecord, fresh_node}
@@ -14,7 +14,8 @@ use Rattle.lrc_protocol.specs.Run.{Logged, World, run_of}
 use Rattle.lrc_protocol.specs.Follows.{Local}
 use Rattle.lrc_protocol.specs.Follows.{turns_of, deeds_in}
 use Rattle.lrc_protocol.proofs.Texts.{follows_at}
-use Rattle.lrc_order_laws.specs.Waiting.{next_in, FixesNext}
+use Rattle.lrc_order_laws.specs.Waiting.{FixesNext}
+use Rattle.lrc_protocol.specs.Node.{next_in}
 use Rattle.lrc_order_laws.specs.Counts.{is_arrive, is_depart, count, is_inside}
 use Rattle.lrc_order_laws.proofs.Shift.{Part, part_of, Moved, is_plain, Shift, plain, misses, takes, asks, releasing, arriving, manages, forwarding}
 use Rattle.lrc_order_laws.proofs.Shift.{grants, departing, collecting, clean_at_once, discarding, accessing, still_misses, still_collects, cleaning}

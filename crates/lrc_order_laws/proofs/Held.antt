@@ -16,7 +16,8 @@ use Rattle.lrc_protocol.specs.Node.{OptionsRecord, fresh_node}
 use Rattle.lrc_protocol.specs.Run.{Logged, World, run_of}
 use Rattle.lrc_protocol.specs.Follows.{Local}
 use Rattle.lrc_protocol.specs.Follows.{turns_of}
-use Rattle.lrc_order_laws.specs.Tokens.{is_awaited, HoldsTokens, AwaitsOne}
+use Rattle.lrc_order_laws.specs.Tokens.{HoldsTokens, AwaitsOne}
+use Rattle.lrc_lock.specs.Held.{is_awaited}
 use Rattle.lrc_order_laws.proofs.Shift.{part_of}
 use Rattle.lrc_order_laws.proofs.Inputs.{KeptByShifts, at_each}
 use Rattle.lrc_order_laws.proofs.Waiting.{NodeFits, node-fits, departs_arrived}

@@ -12,7 +12,7 @@ use Rattle.lrc_exec.specs.Meaning.{Thread, Next, quiet, prints, reads, writes, a
 use Rattle.lrc_exec.specs.Meaning.{ends, or_trap, value_in, holds, then_holds, next_of_statement, first_act, next_of}
 use Rattle.lrc_protocol.specs.Node.{Course, going, trapped, ended, course_of}
 use Rattle.lrc_protocol.specs.Follows.{thread_of}
-use Rattle.lrc_order_laws.specs.Waiting.{next_in}
+use Rattle.lrc_protocol.specs.Node.{next_in}
 use Rattle.lrc_order_laws.proofs.Shift.{Acted, course_in}
 
 -- the same locks

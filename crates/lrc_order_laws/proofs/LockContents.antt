@@ -23,7 +23,8 @@ use Rattle.lrc_protocol.specs.Locks.{Locks}
 use Rattle.lrc_protocol.specs.Barriers.{Barrier}
 use Rattle.lrc_protocol.specs.Node.{Letter, Wait}
 use Rattle.lrc_protocol.specs.Turn.{departure_of, discards_to}
-use Rattle.lrc_order_laws.specs.Waiting.{next_in, acquiring}
+use Rattle.lrc_order_laws.specs.Waiting.{acquiring}
+use Rattle.lrc_protocol.specs.Node.{next_in}
 use Rattle.lrc_order_laws.proofs.Shift.{AllFrom}
 use Rattle.lrc_order_laws.proofs.Pending.{Goes}
 use Rattle.lrc_order_laws.proofs.Sends.{is_other, AreOthers, Grants, Came, by_itself, comes, letter_in, Site, Sends, plain, misses, takes, asks}

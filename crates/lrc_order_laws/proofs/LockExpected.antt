@@ -25,7 +25,7 @@ use Rattle.lrc_protocol.specs.Follows.{turns_of}
 use Rattle.lrc_protocol.proofs.Worlds.{get_set_same}
 use Rattle.lrc_protocol.proofs.Expecting.{conditions}
 use Rattle.lrc_order_laws.specs.Shape.{HasShape}
-use Rattle.lrc_order_laws.specs.Tokens.{is_awaited}
+use Rattle.lrc_lock.specs.Held.{is_awaited}
 use Rattle.lrc_order_laws.proofs.Shift.{AllFrom}
 use Rattle.lrc_order_laws.proofs.Shape.{shape_at}
 use Rattle.lrc_order_laws.proofs.Calls.{let_go}

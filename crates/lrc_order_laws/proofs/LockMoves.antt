@@ -28,8 +28,10 @@ use Rattle.lrc_protocol.specs.Locks.{Locks}
 use Rattle.lrc_protocol.specs.Barriers.{Barrier}
 use Rattle.lrc_protocol.specs.Node.{Course, deed_of, Letter, Wait, nothing, grant, departure, access, discard}
 use Rattle.lrc_protocol.specs.Turn.{letter, departure_of, discards_to}
-use Rattle.lrc_order_laws.specs.Waiting.{next_in, acquiring, FixesNext}
-use Rattle.lrc_order_laws.specs.Tokens.{is_awaited, AwaitsOne, HoldsTokens, is_grant_of}
+use Rattle.lrc_order_laws.specs.Waiting.{acquiring, FixesNext}
+use Rattle.lrc_protocol.specs.Node.{next_in}
+use Rattle.lrc_order_laws.specs.Tokens.{AwaitsOne, HoldsTokens, is_grant_of}
+use Rattle.lrc_lock.specs.Held.{is_awaited}
 use Rattle.lrc_order_laws.proofs.Shift.{Acted, Rested, Moved, is_plain}
 use Rattle.lrc_order_laws.proofs.Counts.{deed_next, lock_next, departure_next, access_next}
 use Rattle.lrc_order_laws.proofs.Calls.{let_go}

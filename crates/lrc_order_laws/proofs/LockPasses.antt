@@ -19,8 +19,10 @@ use Rattle.lrc_protocol.specs.Times.{next_time}
 use Rattle.lrc_protocol.specs.Locks.{Locks}
 use Rattle.lrc_protocol.specs.Barriers.{Barrier}
 use Rattle.lrc_protocol.specs.Node.{Letter, Wait, nothing, grant as grant_of}
-use Rattle.lrc_order_laws.specs.Waiting.{next_in, acquiring}
-use Rattle.lrc_order_laws.specs.Tokens.{is_awaited, AwaitsOne, HoldsTokens}
+use Rattle.lrc_order_laws.specs.Waiting.{acquiring}
+use Rattle.lrc_protocol.specs.Node.{next_in}
+use Rattle.lrc_order_laws.specs.Tokens.{AwaitsOne, HoldsTokens}
+use Rattle.lrc_lock.specs.Held.{is_awaited}
 use Rattle.lrc_order_laws.proofs.Calls.{acquired, let_go}
 use Rattle.lrc_order_laws.proofs.Tokens.{awaits_it, taken_is}
 use Rattle.lrc_order_laws.proofs.Sends.{Grants, Came, by_itself, comes, Site, Sends, plain, misses, takes as takes_free, asks as asks_for, releasing}

@@ -15,7 +15,7 @@ use Rattle.lrc_protocol.specs.Locks.{Locks}
 use Rattle.lrc_protocol.specs.Barriers.{arrival_in, Barrier}
 use Rattle.lrc_protocol.specs.Node.{Letter, Wait, nothing, grant, departure, access, upkeep, discard}
 use Rattle.lrc_protocol.specs.Turn.{letter, departure_of, discards_to}
-use Rattle.lrc_order_laws.specs.Waiting.{next_in}
+use Rattle.lrc_protocol.specs.Node.{next_in}
 use Rattle.lrc_order_laws.specs.Barriers.{says_arrive, says_depart, time_in}
 use Rattle.lrc_order_laws.proofs.Sends.{Came, by_itself, comes, Site, is_other, AreOthers, Grants, Sends, plain, misses, takes, asks}
 use Rattle.lrc_order_laws.proofs.Sends.{releasing, arriving, manages, forwarding, grants, gathers, lets_depart, departing, collecting}

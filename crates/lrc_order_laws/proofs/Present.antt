@@ -15,7 +15,8 @@ use Rattle.lrc_clock.proofs.Prefixes.{time_before-prefix}
 use Rattle.lrc_exec.specs.Meaning.{Thread, Next, acquires, releases, arrives, departs}
 use Rattle.lrc_protocol.specs.Locks.{Locks}
 use Rattle.lrc_protocol.specs.Node.{Course, deed_of, Wait, nothing, grant, departure, access, upkeep, discard}
-use Rattle.lrc_order_laws.specs.Waiting.{next_in, FixesNext}
+use Rattle.lrc_order_laws.specs.Waiting.{FixesNext}
+use Rattle.lrc_protocol.specs.Node.{next_in}
 use Rattle.lrc_order_laws.specs.Present.{IsPresent}
 use Rattle.lrc_order_laws.proofs.Shift.{Part, Acted, Rested, Moved, Shift, plain, misses, takes, asks, releasing, arriving, manages, forwarding, grants}
 use Rattle.lrc_order_laws.proofs.Shift.{departing, collecting, clean_at_once, discarding, accessing, still_misses, still_collects, cleaning, rests}

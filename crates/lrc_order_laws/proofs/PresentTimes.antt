@@ -19,7 +19,8 @@ use Rattle.lrc_protocol.proofs.Worlds.{get_set_same, get_set_other, fresh_at}
 use Rattle.lrc_protocol.proofs.Turned.{Turned, Turns, turns}
 use Rattle.lrc_protocol.proofs.Times.{IsTimed, timed-kept}
 use Rattle.lrc_protocol.proofs.Induction.{KeptByTurns, by_turns}
-use Rattle.lrc_order_laws.specs.Waiting.{next_in, FixesNext}
+use Rattle.lrc_order_laws.specs.Waiting.{FixesNext}
+use Rattle.lrc_protocol.specs.Node.{next_in}
 use Rattle.lrc_order_laws.specs.Present.{IsPresent}
 use Rattle.lrc_order_laws.proofs.Shift.{part_of, Shifted, ShiftedIf, shifts, deed_made}
 use Rattle.lrc_order_laws.proofs.Waiting.{fits-kept, departs_arrived}

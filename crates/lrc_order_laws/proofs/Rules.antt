@@ -21,7 +21,8 @@ use Rattle.lrc_protocol.specs.Node.{Course, deed_of, Wait, nothing, grant, depar
 use Rattle.lrc_protocol.specs.Run.{World, run_of}
 use Rattle.lrc_protocol.proofs.Turned.{Turned, Turns, turns}
 use Rattle.lrc_protocol.proofs.Induction.{KeptByTurns, by_turns}
-use Rattle.lrc_order_laws.specs.Waiting.{next_in, FixesNext}
+use Rattle.lrc_order_laws.specs.Waiting.{FixesNext}
+use Rattle.lrc_protocol.specs.Node.{next_in}
 use Rattle.lrc_order_laws.specs.Present.{IsPresent}
 use Rattle.lrc_order_laws.specs.Rules.{FollowsRule}
 use Rattle.lrc_order_laws.proofs.Shift.{Part, part_of, Acted, Rested, Moved, is_plain, Shift, Shifted, ShiftedIf, shifts, deed_made}

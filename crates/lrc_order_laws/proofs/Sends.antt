@@ -35,7 +35,8 @@ use Rattle.lrc_protocol.specs.Rules.{take_last_kept_reply, take_clean, take_last
 use Rattle.lrc_protocol.specs.Rules.{IsSent, with_numbers, TurnRule, by_run, by_repeat, by_message}
 use Rattle.lrc_protocol.proofs.Ruled.{RuledIf, ruled}
 use Rattle.lrc_order_laws.specs.Shape.{HasShape}
-use Rattle.lrc_order_laws.specs.Waiting.{next_in, is_access, acquiring}
+use Rattle.lrc_order_laws.specs.Waiting.{is_access, acquiring}
+use Rattle.lrc_protocol.specs.Node.{next_in}
 use Rattle.lrc_order_laws.proofs.Shift.{Acted, Moved, is_plain, Part, Learnable, learnable, next-ready, access-plain, own-plain}
 use Rattle.lrc_order_laws.proofs.Shift.{deed_made, deed_back, AllFrom, FromIf, numbered-from}
 

@@ -28,7 +28,8 @@ use Rattle.lrc_protocol.specs.Rules.{take_collect_at_once, collection_at, upkeep
 use Rattle.lrc_protocol.specs.Rules.{take_last_kept_reply, take_clean, take_last_clean, take_discard, take_changes_request, take_page_request}
 use Rattle.lrc_protocol.specs.Rules.{IsSent, with_numbers, TurnRule, by_run, by_repeat, by_message}
 use Rattle.lrc_protocol.proofs.Ruled.{RuledIf, ruled}
-use Rattle.lrc_order_laws.specs.Waiting.{next_in, is_access, acquiring}
+use Rattle.lrc_order_laws.specs.Waiting.{is_access, acquiring}
+use Rattle.lrc_protocol.specs.Node.{next_in}
 
 -- ---- the text
 

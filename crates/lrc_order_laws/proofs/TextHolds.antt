@@ -11,8 +11,10 @@ use Rattle.lrc_lock.specs.Held.{HeldRecord, lock_at, is_held, with_lock, held_af
 use Rattle.lrc_protocol.specs.Times.{next_time}
 use Rattle.lrc_protocol.specs.Locks.{Locks}
 use Rattle.lrc_protocol.specs.Node.{Course, going, Wait, grant, departure, access, discard}
-use Rattle.lrc_order_laws.specs.Waiting.{next_in, acquiring, FixesNext}
-use Rattle.lrc_order_laws.specs.Tokens.{is_awaited, HoldsTokens, AwaitsOne}
+use Rattle.lrc_order_laws.specs.Waiting.{acquiring, FixesNext}
+use Rattle.lrc_protocol.specs.Node.{next_in}
+use Rattle.lrc_order_laws.specs.Tokens.{HoldsTokens, AwaitsOne}
+use Rattle.lrc_lock.specs.Held.{is_awaited}
 use Rattle.lrc_order_laws.proofs.Shift.{Part, Moved, is_plain, Shift, plain, misses, takes, asks, releasing, arriving, manages, forwarding, grants}
 use Rattle.lrc_order_laws.proofs.Shift.{departing, collecting, clean_at_once, discarding, accessing, still_misses, still_collects, cleaning, rests}
 use Rattle.lrc_order_laws.proofs.Counts.{lock_next, departure_next, access_next}

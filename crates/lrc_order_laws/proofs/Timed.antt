@@ -4,7 +4,7 @@ use Rattle.std.specs.Prelude.{Some, List}
 use Rattle.lrc_lang.specs.declared.program.Program.{Program}
 use Rattle.lrc_trace.specs.Synchronization.{IsWellSynchronized, WaitsAtBarriers}
 use Rattle.lrc_clock.specs.Keeping.{KeepsTime}
-use Rattle.lrc_plain_laws.proofs.Waiting.{waits_at_barriers}
+use Rattle.lrc_consistency_laws.proofs.Waiting.{waits_at_barriers}
 use Rattle.lrc_protocol.specs.declared.event.Event.{Event}
 use Rattle.lrc_protocol.specs.Node.{OptionsRecord}
 use Rattle.lrc_protocol.specs.Run.{World, run_of}

@@ -6,7 +6,8 @@ use Rattle.lrc_lock.specs.Held.{lock_at}
 use Rattle.lrc_protocol.specs.Node.{Letter, Node}
 use Rattle.lrc_protocol.specs.Turn.{TurnRecord, empty_turn}
 use Rattle.lrc_protocol.specs.Run.{Input}
-use Rattle.lrc_order_laws.specs.Waiting.{next_in, acquiring, FixesNext}
+use Rattle.lrc_order_laws.specs.Waiting.{acquiring, FixesNext}
+use Rattle.lrc_protocol.specs.Node.{next_in}
 use Rattle.lrc_order_laws.specs.Tokens.{HoldsTokens, AwaitsOne}
 use Rattle.lrc_order_laws.proofs.Shift.{deed_made}
 use Rattle.lrc_order_laws.proofs.Calls.{acquired}

@@ -13,8 +13,10 @@ use Rattle.lrc_lock.specs.Held.{taken, asked, released, released_at, forwarded, 
 use Rattle.lrc_protocol.specs.Times.{next_time}
 use Rattle.lrc_protocol.specs.Locks.{Locks}
 use Rattle.lrc_protocol.specs.Node.{Wait, nothing, grant, departure, access, upkeep, discard, awaits_grant}
-use Rattle.lrc_order_laws.specs.Waiting.{next_in, acquiring, FixesNext}
-use Rattle.lrc_order_laws.specs.Tokens.{is_awaited, AwaitsOne}
+use Rattle.lrc_order_laws.specs.Waiting.{acquiring, FixesNext}
+use Rattle.lrc_protocol.specs.Node.{next_in}
+use Rattle.lrc_order_laws.specs.Tokens.{AwaitsOne}
+use Rattle.lrc_lock.specs.Held.{is_awaited}
 use Rattle.lrc_order_laws.proofs.Shift.{Part, Shift, plain, misses, takes, asks, releasing, arriving, manages, forwarding, grants, departing}
 use Rattle.lrc_order_laws.proofs.Shift.{collecting, clean_at_once, discarding, accessing, still_misses, still_collects, cleaning, rests}
 

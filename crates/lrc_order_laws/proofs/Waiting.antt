@@ -11,7 +11,8 @@ use Rattle.lrc_exec.specs.Meaning.{ends, or_trap, value_in, holds, then_holds, n
 use Rattle.lrc_protocol.specs.Locks.{Locks}
 use Rattle.lrc_protocol.specs.Node.{Course, going, trapped, ended, course_of, Wait, grant, departure, access, upkeep, discard}
 use Rattle.lrc_protocol.specs.Follows.{Local}
-use Rattle.lrc_order_laws.specs.Waiting.{next_in, is_departing, is_access, acquiring, FixesNext}
+use Rattle.lrc_order_laws.specs.Waiting.{is_departing, is_access, acquiring, FixesNext}
+use Rattle.lrc_protocol.specs.Node.{next_in}
 use Rattle.lrc_order_laws.proofs.Shift.{Part, part_of, Acted, Rested, Moved, is_plain, Shift, plain, misses, takes, asks, releasing, arriving, manages}
 use Rattle.lrc_order_laws.proofs.Shift.{forwarding, grants, departing, collecting, clean_at_once, discarding, accessing, still_misses, still_collects}
 use Rattle.lrc_order_laws.proofs.Shift.{cleaning, rests, course_in}

@@ -1,21 +1,12 @@
 -- The tokens at one node: what the text holds, and what is awaited; and where the token of each lock is.
 use Rattle.std.specs.Prelude.{◌≡◌, ℕ, ◌==◌, Bool, true, false, List, length, filter}
 use Rattle.lrc_exec.specs.Meaning.{Thread, holds}
-use Rattle.lrc_lock.specs.declared.state.LockState.{LockState}
-use Rattle.lrc_lock.specs.declared.state.LockState.TheVariants.{Away, Awaited, Free, Held}
-use Rattle.lrc_lock.specs.Held.{HeldRecord, lock_at, is_held, has_token}
+use Rattle.lrc_lock.specs.Held.{HeldRecord, lock_at, is_awaited, is_held, has_token}
 use Rattle.lrc_envelope.specs.Envelope.{EnvelopeRecord}
 use Rattle.lrc_envelope.specs.declared.message.Message.{Message}
 use Rattle.lrc_envelope.specs.declared.message.Message.TheVariants.{LockGrant}
 use Rattle.lrc_protocol.specs.Node.{Course, going, Wait, awaits_grant}
 use Rattle.lrc_protocol.specs.Run.{Logged}
-
--- the node has asked for the token, and it has not come
-abbrev pub is_awaited : LockState → Bool
-is_awaited Away = false
-is_awaited (Awaited successor) = true
-is_awaited (Free kept) = false
-is_awaited (Held successor) = false
 
 -- a text that goes on holds just the locks whose tokens are held
 abbrev pub HoldsTokens : Course → HeldRecord → Type 0

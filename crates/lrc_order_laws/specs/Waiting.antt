@@ -1,13 +1,7 @@
 -- What a node waits for fixes what its text does next.
 use Rattle.std.specs.Prelude.{◌≡◌, ℕ, Bool, true, false, Option, Some, None}
-use Rattle.lrc_exec.specs.Meaning.{Next, reads, writes, acquires, departs, next_of}
-use Rattle.lrc_protocol.specs.Node.{Course, going, trapped, ended, Wait, nothing, grant, departure, access, upkeep, discard}
-
--- what a text does next, and none once it has stopped
-abbrev pub next_in : Course → Option Next
-next_in (going thread) = Some (next_of thread)
-next_in (trapped cause) = None
-next_in ended = None
+use Rattle.lrc_exec.specs.Meaning.{Next, reads, writes, acquires, departs}
+use Rattle.lrc_protocol.specs.Node.{Wait, nothing, grant, departure, access, upkeep, discard}
 
 -- whether that is a departure, and whether it is a read or a write
 abbrev pub is_departing : Option Next → Bool

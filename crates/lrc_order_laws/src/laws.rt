@@ -9,19 +9,21 @@ ghost use Rattle.lrc_protocol.specs.Run.{Logged, World, Flying, run_of};
 ghost use Rattle.lrc_exec.specs.Plain.{setting_of};
 ghost use Rattle.lrc_order_laws.specs.Shape.{HasShape};
 ghost use Rattle.lrc_time.specs.Time.{entry};
-ghost use Rattle.lrc_plain_laws.specs.Follows.{deeds_of};
+ghost use Rattle.lrc_consistency_laws.specs.Follows.{deeds_of};
 ghost use Rattle.lrc_order_laws.specs.Counts.{closes, is_arrive, is_depart, count, awaits_acquire, is_inside};
 ghost use Rattle.lrc_exec.specs.Meaning.{Thread, releases};
 ghost use Rattle.lrc_lock.specs.declared.state.LockState.TheVariants.{Away};
 ghost use Rattle.lrc_lock.specs.Held.{lock_at, is_free, is_held};
-ghost use Rattle.lrc_order_laws.specs.Tokens.{is_awaited, HoldsTokens, AwaitsOne};
+ghost use Rattle.lrc_order_laws.specs.Tokens.{HoldsTokens, AwaitsOne};
+ghost use Rattle.lrc_lock.specs.Held.{is_awaited};
 ghost use Rattle.lrc_order_laws.specs.Present.{IsPresent};
 ghost use Rattle.lrc_clock.specs.Times.{time_at, time_before};
 ghost use Rattle.lrc_order_laws.specs.Numbers.{numbers_between, Rises, Below};
 ghost use Rattle.lrc_trace.specs.declared.act.Deed.{Deed};
 ghost use Rattle.lrc_trace.specs.Run.{Does};
 ghost use Rattle.lrc_order_laws.specs.Rules.{FollowsRule};
-ghost use Rattle.lrc_order_laws.specs.Waiting.{next_in, acquiring, FixesNext};
+ghost use Rattle.lrc_order_laws.specs.Waiting.{acquiring, FixesNext};
+ghost use Rattle.lrc_protocol.specs.Node.{next_in};
 
 /// In every run each node keeps its setting and its options, and its time, its tokens and the askers that it notes have a
 /// place for each node or lock.

@@ -7,7 +7,7 @@ use Rattle.lrc_trace.specs.declared.act.Deed.{Deed}
 use Rattle.lrc_exec.specs.Meaning.{Thread, next_of}
 use Rattle.lrc_envelope.specs.Envelope.{EnvelopeRecord}
 use Rattle.lrc_envelope.specs.declared.message.Message.{Message}
-use Rattle.lrc_plain_laws.specs.Follows.{Goes}
+use Rattle.lrc_consistency_laws.specs.Follows.{Goes}
 use Rattle.lrc_protocol.specs.Node.{collection_of, Course, ended, fresh_node, going, Node, OptionsRecord, trapped, Wait}
 use Rattle.lrc_protocol.specs.Turn.{done, is_repeat, not_ready, Outcome, takes, TurnRecord, unexpected, worn}
 use Rattle.lrc_protocol.specs.Run.{EntryRecord, Flying, Input, outcome_of, World}

@@ -50,6 +50,12 @@ course_of value (departs after) = going after
 course_of value (traps cause) = trapped cause
 course_of value ends = ended
 
+-- what a text does next, and none once it has stopped
+abbrev pub next_in : Course → Option Next
+next_in (going thread) = Some (next_of thread)
+next_in (trapped cause) = None
+next_in ended = None
+
 -- how many of a node's steps it costs to begin this
 abbrev pub cost_of : Next → ℕ
 cost_of next = steps_of (deed_of 0 next)

@@ -7,7 +7,7 @@ ghost use Rattle.lrc_trace.specs.declared.act.Cause.{Cause};
 ghost use Rattle.lrc_exec.specs.Meaning.{Thread, ends, next_of};
 ghost use Rattle.lrc_exec.specs.Plain.{start_of};
 ghost use Rattle.lrc_envelope.specs.Envelope.{EnvelopeRecord};
-ghost use Rattle.lrc_plain_laws.specs.Follows.{deeds_of, FollowsText};
+ghost use Rattle.lrc_consistency_laws.specs.Follows.{deeds_of, FollowsText};
 ghost use Rattle.lrc_protocol.specs.declared.event.Event.{Event};
 ghost use Rattle.lrc_protocol.specs.declared.event.Event.TheVariants.{Run, Deliver, Repeat};
 ghost use Rattle.lrc_protocol.specs.Node.{going, trapped, ended, is_idle, Node, OptionsRecord};

@@ -9,7 +9,7 @@ use Rattle.std.proofs.lemmas.List.Concat.{flat_map-append}
 use Rattle.lrc_trace.specs.declared.act.Act.{Act}
 use Rattle.lrc_trace.specs.declared.act.Deed.{Deed}
 use Rattle.lrc_trace.specs.declared.act.Deed.TheVariants.{Print}
-use Rattle.lrc_parts.specs.declared.end.End.{End}
+use Rattle.lrc_trace.specs.declared.end.End.{End}
 use Rattle.lrc_text.specs.Parts.{texts_of, whole_text}
 use Rattle.lrc_report.specs.ReportText.{deed_line, line_of_act, node_text, nodes_text}
 

@@ -7,8 +7,8 @@ use Rattle.lrc_trace.specs.declared.act.Deed.TheVariants.{Print}
 use Rattle.lrc_trace.specs.declared.race.Race.{Race}
 use Rattle.lrc_text.specs.ActText.{cause_number}
 use Rattle.lrc_text.specs.RaceText.{first_race_text, races_text}
-use Rattle.lrc_parts.specs.declared.end.End.{End}
-use Rattle.lrc_parts.specs.declared.end.End.TheVariants.{Ended, Trapped, Unfinished}
+use Rattle.lrc_trace.specs.declared.end.End.{End}
+use Rattle.lrc_trace.specs.declared.end.End.TheVariants.{Ended, Trapped, Unfinished}
 
 -- a line on a node
 abbrev pub line_on : ℕ → List ℕ → List ℕ

@@ -5,9 +5,9 @@ ghost use Rattle.lrc_text.specs.Parts.{texts_of, whole_text};
 ghost use Rattle.lrc_trace.specs.declared.act.Deed.TheVariants.{Print};
 ghost use Rattle.lrc_report.specs.ReportText.{deed_line, end_words, line_on, report_text, run_status_of, run_text, status_of};
 
-use lrc_parts::End;
 use lrc_text::{first_race_part, push_number, races_part};
 use lrc_trace::act::{Act, Deed};
+use lrc_trace::end::End;
 use lrc_trace::race::Race;
 use std::alloc::{AllocError, Global};
 

@@ -4,11 +4,11 @@ use Rattle.std.specs.Io.KnownBytes.{Appends, Keeps}
 use Rattle.std.specs.declared.io.ErrorKind.{ErrorKind}
 use Rattle.std.specs.declared.io.ErrorKind.TheVariants.{OutOfMemory}
 use Rattle.clap.specs.Words.{Text}
-use Rattle.lrc_words.specs.CommandLine.{Chooses, words_meant}
-use Rattle.lrc_words.specs.Files.{events_of, file_of, reads_acts}
-use Rattle.lrc_words.specs.declared.choice.Choice.{Choice}
-use Rattle.lrc_words.specs.declared.choice.ChooseFault.{ChooseFault}
-use Rattle.lrc_words.specs.declared.choice.ChooseFault.TheVariants.{BadNumber, NoMemory, Usage}
+use Rattle.lrc_args.specs.CommandLine.{Chooses, words_meant}
+use Rattle.lrc_args.specs.Files.{events_of, file_of, reads_acts}
+use Rattle.lrc_args.specs.declared.choice.Choice.{Choice}
+use Rattle.lrc_args.specs.declared.choice.ChooseFault.{ChooseFault}
+use Rattle.lrc_args.specs.declared.choice.ChooseFault.TheVariants.{BadNumber, NoMemory, Usage}
 use Rattle.lrc_report.specs.Output.{AppendsFront}
 use Rattle.lrc_cli.specs.Performance.{Performs}
 use Rattle.lrc_shell.specs.Known.{IsCause, IsFront, Known}

@@ -4,18 +4,18 @@ ghost use Rattle.std.specs.Prelude.{◌≡◌, IfErr, IfOk, drop, is_some, map, 
 ghost use Rattle.std.specs.IoError.{error_kind};
 ghost use Rattle.lrc_cli.specs.Answer.{Answers};
 ghost use Rattle.lrc_cli.specs.Performance.{Performs};
-ghost use Rattle.lrc_words.specs.CommandLine.{words_meant};
-ghost use Rattle.lrc_words.specs.Files.{events_of, file_of, names_events, reads_acts};
+ghost use Rattle.lrc_args.specs.CommandLine.{words_meant};
+ghost use Rattle.lrc_args.specs.Files.{events_of, file_of, names_events, reads_acts};
 ghost use Rattle.lrc_shell.specs.Plays.{AreEventsRead, IsEventsCause, IsPlayed, IsTextCause, IsTextRead, Plays, most_read};
 
 use crate::progress::{Late, Watch};
 use crate::refusal::{refuse, refuse_file};
 use crate::sources::Sources;
+use lrc_args::choice::Choice;
+use lrc_args::choose;
 use lrc_cli::answer::Printout;
 use lrc_cli::fault::Fault;
 use lrc_cli::{answer_any, tell};
-use lrc_words::choice::Choice;
-use lrc_words::choose;
 use std::alloc::Global;
 use std::convert::AsStr;
 use std::io::Write;

@@ -4,8 +4,8 @@ ghost use Rattle.std.specs.Prelude.{◌≡◌};
 ghost use Rattle.std.specs.IoError.{error_kind};
 ghost use Rattle.lrc_shell.specs.Plays.{IsRefusal, IsTold, argument_line, argument_status, read_line};
 
+use lrc_args::choice::ChooseFault;
 use lrc_report::output::{Output, put};
-use lrc_words::choice::ChooseFault;
 use std::io;
 use std::io::{ErrorKind, Write};
 

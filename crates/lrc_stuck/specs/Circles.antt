@@ -1,7 +1,7 @@
 -- Circles of waiting. An unfinished node waits for one node at most.
 use Rattle.std.specs.Prelude.{ℕ, zero, suc, ◌==◌, List, [], ◌∷◌, ◌++◌, Option, Some, None, codes, decimal, if◌then◌else◌, length, nat_lt, option_map, slice_index_or}
 use Rattle.std.specs.List.{flat_map, range_with_len}
-use Rattle.lrc_show.specs.Each.{each}
+use Rattle.lrc_text.specs.Each.{each}
 use Rattle.lrc_stuck.specs.declared.holder.Holder.{Holder}
 use Rattle.lrc_stuck.specs.declared.stand.Coming.{Coming}
 use Rattle.lrc_stuck.specs.declared.stand.Coming.TheVariants.{Acquire, Barrier}

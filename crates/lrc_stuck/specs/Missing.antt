@@ -1,6 +1,6 @@
 -- Who has not come to a barrier.
 use Rattle.std.specs.Prelude.{ℕ, ◌==◌, ◌&&◌, not, Bool, List, [], ◌∷◌, Option, Some, None, if◌then◌else◌, nat_lt}
-use Rattle.lrc_show.specs.Each.{each}
+use Rattle.lrc_text.specs.Each.{each}
 use Rattle.lrc_stuck.specs.declared.missing.Missing.{Missing}
 use Rattle.lrc_stuck.specs.declared.stand.Stand.{Stand}
 

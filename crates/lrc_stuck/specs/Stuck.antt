@@ -1,7 +1,7 @@
 -- How nodes ended and why, in words.
 use Rattle.std.specs.Prelude.{ℕ, List, [], ◌++◌, codes, decimal}
 use Rattle.lrc_text.specs.ActText.{cause_number}
-use Rattle.lrc_show.specs.Each.{each}
+use Rattle.lrc_text.specs.Each.{each}
 use Rattle.lrc_stuck.specs.declared.stand.Fate.{Fate}
 use Rattle.lrc_stuck.specs.declared.stand.Fate.TheVariants.{Ended, Trapped, Unfinished}
 use Rattle.lrc_stuck.specs.declared.stand.Stand.{Stand}

@@ -4,3 +4,4 @@ pub mod Digits
 pub mod Front
 pub mod RaceText
 pub mod Lines
+pub mod Each

@@ -4,11 +4,11 @@ use Rattle.lrc_page.specs.declared.size.Size.{Size}
 use Rattle.lrc_page.specs.declared.size.Size.TheVariants.{Words64, Words256}
 use Rattle.lrc_envelope.specs.declared.picker.Picker.{Picker}
 use Rattle.lrc_envelope.specs.declared.picker.Picker.TheVariants.{Oldest, Newest, Twice}
-use Rattle.lrc_words.specs.declared.choice.Charting.{Charting}
-use Rattle.lrc_words.specs.declared.choice.RunChoice.{RunChoice}
-use Rattle.lrc_words.specs.declared.choice.RunOptions.{RunOptions}
-use Rattle.lrc_words.specs.declared.choice.Way.{Way}
-use Rattle.lrc_words.specs.declared.choice.Way.TheVariants.{Events, Rounds, Random, Threads}
+use Rattle.lrc_args.specs.declared.choice.Charting.{Charting}
+use Rattle.lrc_args.specs.declared.choice.RunChoice.{RunChoice}
+use Rattle.lrc_args.specs.declared.choice.RunOptions.{RunOptions}
+use Rattle.lrc_args.specs.declared.choice.Way.{Way}
+use Rattle.lrc_args.specs.declared.choice.Way.TheVariants.{Events, Rounds, Random, Threads}
 
 -- an option and its number, left out where the number is the one that it has without words
 abbrev pub option_text : List ℕ → ℕ → ℕ → List ℕ

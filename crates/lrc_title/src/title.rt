@@ -3,10 +3,10 @@
 ghost use Rattle.std.specs.Prelude.{◌≡◌, ◌++◌, IfOk, OnOk};
 ghost use Rattle.lrc_title.specs.Title.{charting_text, option_text, options_text, page_size_text, picker_text, some_option_text, title_text, way_text};
 
+use lrc_args::choice::{Charting, RunChoice, RunOptions, Way};
 use lrc_envelope::Picker;
 use lrc_page::Size;
 use lrc_text::push_number;
-use lrc_words::choice::{Charting, RunChoice, RunOptions, Way};
 use std::alloc::{AllocError, Global};
 
 const DEFAULT_NODES: u64 = 1;

@@ -3,6 +3,7 @@
 #![tactic(auto)]
 
 pub mod act;
+pub mod end;
 pub mod laws;
 pub mod race;
 pub mod touched;

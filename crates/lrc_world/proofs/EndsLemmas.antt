@@ -8,8 +8,8 @@ use Rattle.std.proofs.lemmas.List.{get_or-set_other, length-replicate, get_or-re
 use Rattle.std.proofs.lemmas.List.Elements.{filter-append}
 use Rattle.std.proofs.lemmas.List.FromFn.{length-range_with_len, get_or-range_with_len}
 use Rattle.lrc_trace.specs.declared.act.Act.{Act}
-use Rattle.lrc_parts.specs.declared.end.End.{End}
-use Rattle.lrc_parts.specs.declared.end.End.TheVariants.{Unfinished}
+use Rattle.lrc_trace.specs.declared.end.End.{End}
+use Rattle.lrc_trace.specs.declared.end.End.TheVariants.{Unfinished}
 use Rattle.lrc_node.specs.Logged.{end_after, end_by}
 use Rattle.lrc_world.specs.Ends.{end_by_acts, ends_of}
 

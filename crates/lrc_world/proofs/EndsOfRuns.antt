@@ -20,8 +20,8 @@ use Rattle.lrc_protocol.proofs.Induction.{by_turns}
 use Rattle.lrc_protocol.proofs.Turned.{Turned, Turns, turns}
 use Rattle.lrc_protocol.proofs.Worlds.{IsEntry, fresh_at, get_set_same, get_set_other, run-whole}
 use Rattle.lrc_order_laws.proofs.Shift.{Moved, Shifted, ShiftedIf, course_in, deed_back, deed_in, deed_made, shifts}
-use Rattle.lrc_parts.specs.declared.end.End.{End}
-use Rattle.lrc_parts.specs.Text.{end_of as end_of_text}
+use Rattle.lrc_trace.specs.declared.end.End.{End}
+use Rattle.lrc_control.specs.Text.{end_of as end_of_text}
 use Rattle.lrc_node.specs.Logged.{end_after}
 use Rattle.lrc_world.specs.Ends.{end_by_acts, ends_of}
 use Rattle.lrc_world.specs.Report.{end_of_logged}

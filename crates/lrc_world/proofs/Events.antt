@@ -7,7 +7,7 @@ use Rattle.lrc_lang.specs.declared.program.Program.{Program}
 use Rattle.lrc_protocol.specs.declared.event.Event.{Event}
 use Rattle.lrc_protocol.specs.Node.{OptionsRecord}
 use Rattle.lrc_protocol.specs.Run.{World as Run, fresh_world, event_on, step_of, run_of}
-use Rattle.lrc_plain_laws.proofs.Ahead.{take_ahead}
+use Rattle.lrc_consistency_laws.proofs.Ahead.{take_ahead}
 use Rattle.lrc_exec.specs.Nodes.{AreNodes}
 use Rattle.lrc_world.specs.Range.{AreSteps}
 use Rattle.lrc_world.specs.declared.world.World.{World}

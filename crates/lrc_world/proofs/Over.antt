@@ -4,7 +4,7 @@ use Rattle.std.specs.Prelude.{not, slice_get}
 use Rattle.std.specs.List.{list_any}
 use Rattle.lrc_protocol.specs.Turn.{is_ready}
 use Rattle.lrc_protocol.specs.Run.{Logged, World as Run}
-use Rattle.lrc_plain_laws.proofs.Ahead.{take_ahead}
+use Rattle.lrc_consistency_laws.proofs.Ahead.{take_ahead}
 use Rattle.lrc_world.specs.Report.{IsOver}
 use Rattle.lrc_world.specs.World.{Starts, Shows, seen_flying, seen_sent}
 use Rattle.lrc_world.specs.declared.world.World.{World}

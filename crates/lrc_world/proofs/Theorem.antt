@@ -11,7 +11,7 @@ use Rattle.lrc_order_laws.proofs.Reached.{IsReached}
 use Rattle.lrc_reading_laws.proofs.Whole.{reads}
 use Rattle.lrc_reading_laws.proofs.Lazy.Theorem.{is_plain, is_plain_to_race, is_race_free}
 use Rattle.lrc_protocol.specs.Run.{World as Run, run_of}
-use Rattle.lrc_parts.specs.declared.end.End.{End}
+use Rattle.lrc_trace.specs.declared.end.End.{End}
 use Rattle.lrc_world.specs.declared.report.Report.{Report}
 use Rattle.lrc_world.specs.Promises.{AreKept, IsConsistent}
 use Rattle.lrc_world.specs.Report.{IsReportOf, end_of_logged}

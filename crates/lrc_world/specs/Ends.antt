@@ -2,7 +2,7 @@
 use Rattle.std.specs.Prelude.{ℕ, ◌==◌, None, List, map, filter}
 use Rattle.std.specs.List.{last_or, range_with_len}
 use Rattle.lrc_trace.specs.declared.act.Act.{Act}
-use Rattle.lrc_parts.specs.declared.end.End.{End}
+use Rattle.lrc_trace.specs.declared.end.End.{End}
 use Rattle.lrc_node.specs.Logged.{end_by}
 
 -- how a node ended: as its last act says

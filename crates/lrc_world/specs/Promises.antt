@@ -6,9 +6,9 @@ use Rattle.lrc_trace.specs.Conflict.{IsRaceFree, IsFirstRace}
 use Rattle.lrc_trace.specs.Reading.{ReadsLazily}
 use Rattle.lrc_trace.specs.Synchronization.{IsWellSynchronized}
 use Rattle.lrc_exec.specs.Plain.{plain}
-use Rattle.lrc_plain_laws.specs.Follows.{nodes_of_acts}
-use Rattle.lrc_plain_laws.specs.Racing.{HasNoRace, PlainToRace}
-use Rattle.lrc_parts.specs.declared.end.End.{End}
+use Rattle.lrc_consistency_laws.specs.Follows.{nodes_of_acts}
+use Rattle.lrc_consistency_laws.specs.Racing.{HasNoRace, PlainToRace}
+use Rattle.lrc_trace.specs.declared.end.End.{End}
 use Rattle.lrc_protocol.specs.declared.event.Event.{Event}
 use Rattle.lrc_protocol.specs.Node.{OptionsRecord}
 use Rattle.lrc_protocol.specs.Run.{World as Run, run_of}

@@ -7,8 +7,8 @@ use Rattle.lrc_protocol.specs.declared.event.Event.{Event}
 use Rattle.lrc_protocol.specs.Node.{OptionsRecord}
 use Rattle.lrc_protocol.specs.Turn.{is_ready}
 use Rattle.lrc_protocol.specs.Run.{World as Run, event_on, fresh_world, played, run_of, Logged}
-use Rattle.lrc_parts.specs.declared.end.End.{End}
-use Rattle.lrc_parts.specs.Text.{end_of}
+use Rattle.lrc_trace.specs.declared.end.End.{End}
+use Rattle.lrc_control.specs.Text.{end_of}
 use Rattle.lrc_world.specs.declared.keep.Keep.{Keep}
 use Rattle.lrc_world.specs.declared.report.Brief.{Brief}
 use Rattle.lrc_world.specs.declared.report.Report.{Report}

@@ -2,7 +2,7 @@
 
 use crate::checks::holds;
 use crate::shell::explored;
-use lrc_words::choice::{Exploring, Most, Nodes};
+use lrc_args::choice::{Exploring, Most, Nodes};
 use std::alloc::Global;
 
 const OF_TWO_NODES: Exploring<'static> = Exploring {

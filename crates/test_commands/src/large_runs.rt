@@ -5,9 +5,9 @@ use crate::parts::{Part, put_parts};
 use crate::shell::{
     ALL_STEPS, ALONE, ON_ONE_NODE, collecting, in_rounds, on_threads, played, simulated, so_many,
 };
+use lrc_args::choice::{Nodes, RunOptions};
 use lrc_envelope::Picker;
 use lrc_page::Size;
-use lrc_words::choice::{Nodes, RunOptions};
 use std::alloc::{AllocError, Global};
 use std::sync::Wait;
 use std::thread::Threads;

@@ -3,7 +3,7 @@
 use crate::checks::holds;
 use crate::parts::{Part, put_parts};
 use crate::shell::{ALL_STEPS, driven};
-use lrc_words::choice::Steps;
+use lrc_args::choice::Steps;
 use std::alloc::Global;
 
 /// Whether the text prints this within so many steps, and ends with this status.

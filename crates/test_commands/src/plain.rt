@@ -2,7 +2,7 @@
 
 use crate::checks::{holds, largest_printed};
 use crate::shell::{ALL_STEPS, ALONE, in_rounds, so_many};
-use lrc_words::choice::Steps;
+use lrc_args::choice::Steps;
 use std::alloc::Global;
 
 /// How many nodes run a text, the text, and what is printed.

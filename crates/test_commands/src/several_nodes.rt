@@ -2,9 +2,9 @@
 
 use crate::checks::{holds, largest_printed};
 use crate::shell::{ON_ONE_NODE, collecting, on_threads, simulated, so_many};
+use lrc_args::choice::{Collect, Nodes, RunOptions};
 use lrc_envelope::Picker;
 use lrc_page::Size;
-use lrc_words::choice::{Collect, Nodes, RunOptions};
 use std::alloc::Global;
 use std::sync::Wait;
 use std::thread::Threads;

@@ -2,8 +2,8 @@
 
 use crate::checks::holds;
 use crate::shell::{ON_ONE_NODE, played, shown_of_played, shown_on_threads};
+use lrc_args::choice::{Charting, Form, Nodes, RunOptions, Shape};
 use lrc_envelope::Picker;
-use lrc_words::choice::{Charting, Form, Nodes, RunOptions, Shape};
 use std::alloc::Global;
 use std::sync::Wait;
 use std::thread::Threads;

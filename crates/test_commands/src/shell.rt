@@ -1,15 +1,15 @@
 // A command with its texts, and what comes of it.
 
 ghost use Rattle.std.specs.Prelude.{◌≡◌, false, is_some};
-ghost use Rattle.lrc_words.specs.Files.{names_events, starts_threads};
+ghost use Rattle.lrc_args.specs.Files.{names_events, starts_threads};
 
+use lrc_args::choice::{
+    Choice, Collect, Exploring, Nodes, PlainRun, RunChoice, RunOptions, Shape, Steps, Way,
+};
 use lrc_cli::fault::Fault;
 use lrc_cli::{execute, perform, tell};
 use lrc_envelope::Picker;
 use lrc_page::Size;
-use lrc_words::choice::{
-    Choice, Collect, Exploring, Nodes, PlainRun, RunChoice, RunOptions, Shape, Steps, Way,
-};
 use std::alloc::Global;
 use std::sync::Wait;
 use std::thread::Threads;

@@ -1,10 +1,10 @@
 // Words of the command line, and the choice that they make.
 
 use crate::checks::holds;
+use lrc_args::choice::{Choice, ChooseFault, Form, RunChoice, RunOptions, Shape, Way};
+use lrc_args::choose;
 use lrc_envelope::Picker;
 use lrc_page::Size;
-use lrc_words::choice::{Choice, ChooseFault, Form, RunChoice, RunOptions, Shape, Way};
-use lrc_words::choose;
 use std::alloc::Global;
 
 /// What is to be so of a choice.

@@ -2,9 +2,9 @@
 
 use crate::checks::holds;
 use crate::shell::ON_ONE_NODE;
+use lrc_args::choice::{Choice, Nodes, RunChoice, RunOptions, Shape, Way};
 use lrc_cli::{execute, perform};
 use lrc_envelope::Picker;
-use lrc_words::choice::{Choice, Nodes, RunChoice, RunOptions, Shape, Way};
 use std::alloc::Global;
 use std::io;
 use std::io::{ErrorKind, Write};

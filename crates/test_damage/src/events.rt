@@ -3,12 +3,12 @@
 
 use crate::checks::holds;
 use crate::random::Random;
+use lrc_acts_text::acts_part;
 use lrc_lang::parse;
 use lrc_lang::program::Program;
 use lrc_node::Options;
 use lrc_page::Size;
 use lrc_protocol::Event;
-use lrc_show::acts_part;
 use lrc_text::{first_race_part, races_part};
 use lrc_trace::act::Act;
 use lrc_trace::race::Race;

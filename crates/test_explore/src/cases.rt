@@ -1,6 +1,6 @@
 // Fixed programs, with all that is printed of each. The texts come from an implementation of another hand.
 
-use lrc_explored::explored::explored;
+use lrc_explore_text::explored::explored;
 use lrc_lang::lines::lines_of;
 use lrc_lang::parse;
 use std::alloc::{AllocError, Global};

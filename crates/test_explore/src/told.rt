@@ -1,6 +1,6 @@
 // What is printed of programs of which every order is looked at.
 
-use lrc_explored::explored::explored;
+use lrc_explore_text::explored::explored;
 use lrc_lang::lines::lines_of;
 use lrc_lang::parse;
 use std::alloc::{AllocError, Global};

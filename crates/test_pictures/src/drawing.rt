@@ -1,7 +1,7 @@
 // Where things stand in a drawing, and how they look. What is wanted is of a drawing made by another program.
 
-use lrc_drawing::document_of;
-use lrc_picture::{Arrow, Band, Kind, Lost, Picture, Race, Row};
+use lrc_chart_model::{Arrow, Band, Kind, Lost, Picture, Race, Row};
+use lrc_chart_svg::document_of;
 use lrc_svg::document_part;
 use std::alloc::{AllocError, Global};
 

@@ -1,8 +1,8 @@
 // The legend of a drawing: each of its signs looks as what it stands for, and no two kinds of rows look alike.
 
 use crate::drawing::{blank, bytes, row};
-use lrc_drawing::document_of;
-use lrc_picture::{Arrow, Kind, Lost, Picture, Race};
+use lrc_chart_model::{Arrow, Kind, Lost, Picture, Race};
+use lrc_chart_svg::document_of;
 use lrc_svg::{Attribute, Content, Document};
 use std::alloc::{AllocError, Global};
 

@@ -2,8 +2,8 @@
 // 7.3 pixels, of a column with the list's 300 letters 71 and 2197 and 51, and of the gap between two 87.
 
 use crate::drawing::{blank, bytes, row};
-use lrc_drawing::document_of;
-use lrc_picture::Kind;
+use lrc_chart_model::Kind;
+use lrc_chart_svg::document_of;
 use lrc_svg::document_part;
 use std::alloc::{AllocError, Global};
 

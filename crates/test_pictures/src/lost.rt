@@ -2,8 +2,8 @@
 // without words 71, and of the gap between two 87.
 
 use crate::drawing::{blank, bytes};
-use lrc_drawing::document_of;
-use lrc_picture::Lost;
+use lrc_chart_model::Lost;
+use lrc_chart_svg::document_of;
 use lrc_svg::document_part;
 use std::alloc::{AllocError, Global};
 

@@ -1,8 +1,8 @@
 // A picture as text. What is wanted was laid out by hand.
 
 use crate::drawing::{blank, bytes};
-use lrc_picture::{Arrow, Band, Kind, Lost, Picture, Race, Row};
-use lrc_sketch::sketch;
+use lrc_chart_model::{Arrow, Band, Kind, Lost, Picture, Race, Row};
+use lrc_chart_text::sketch;
 use std::alloc::{AllocError, Global};
 
 const WANTED: &[u8] = b"sample

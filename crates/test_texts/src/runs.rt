@@ -1,6 +1,6 @@
 // Runs, and their texts.
 
-use lrc_show::{acts_part, json_part, rapid_part};
+use lrc_acts_text::{acts_part, json_part, rapid_part};
 use lrc_time::Time;
 use lrc_trace::act::{Act, Deed};
 use std::alloc::{AllocError, Global};

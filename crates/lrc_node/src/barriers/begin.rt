@@ -5,7 +5,7 @@ ghost use Rattle.lrc_exec.specs.declared.machine.Ask.TheVariants.{Barrier};
 ghost use Rattle.lrc_protocol.specs.Times.{MOST_NUMBER};
 ghost use Rattle.lrc_protocol.specs.Turn.{asks_for_collection, own_news, arrive_at};
 ghost use Rattle.lrc_node.specs.State.{seen_effect, AreFor};
-ghost use Rattle.lrc_parts.specs.Text.{asked_in};
+ghost use Rattle.lrc_control.specs.Text.{asked_in};
 
 use crate::state::NodeState;
 use crate::turn::Effect;

@@ -9,10 +9,10 @@ ghost use Rattle.lrc_protocol.specs.Node.{nothing, acts, waiting};
 ghost use Rattle.lrc_protocol.specs.Turn.{are_arriving, departure_of, arrive_by, collects, learns, take_departure};
 ghost use Rattle.lrc_protocol.specs.Turn.{expects_departure};
 ghost use Rattle.lrc_protocol.specs.Barriers.{arrival_in};
-ghost use Rattle.lrc_parts.specs.Barrier.{AreDepartures, arrive_step};
+ghost use Rattle.lrc_control.specs.Barrier.{AreDepartures, arrive_step};
 ghost use Rattle.lrc_node.specs.Keeping.{CanCollect};
 ghost use Rattle.lrc_node.specs.State.{seen_effect, AreFor};
-ghost use Rattle.lrc_parts.specs.Text.{asked_in};
+ghost use Rattle.lrc_control.specs.Text.{asked_in};
 
 use crate::intervals::news::are_between;
 use crate::intervals::ranges::{are_of, covers};

@@ -11,9 +11,9 @@ ghost use Rattle.lrc_protocol.specs.Barriers.{Collection as CollectionRecord};
 ghost use Rattle.lrc_protocol.specs.Node.{collection_of, discard};
 ghost use Rattle.lrc_protocol.specs.Follows.{awaits_discard};
 ghost use Rattle.lrc_protocol.specs.Turn.{discards_to, clean_by, discard_by};
-ghost use Rattle.lrc_parts.specs.Barrier.{clean_step};
+ghost use Rattle.lrc_control.specs.Barrier.{clean_step};
 ghost use Rattle.lrc_node.specs.State.{seen_effect, AreFor};
-ghost use Rattle.lrc_parts.specs.Text.{asked_in};
+ghost use Rattle.lrc_control.specs.Text.{asked_in};
 
 use crate::state::NodeState;
 use crate::turn::Effect;

@@ -6,7 +6,7 @@ ghost use Rattle.lrc_lock.specs.Held.{is_free, is_held, lock_at};
 ghost use Rattle.lrc_lock.specs.declared.state.LockState.TheVariants.{Away};
 ghost use Rattle.lrc_protocol.specs.Turn.{acquire_at, release_at};
 ghost use Rattle.lrc_node.specs.State.{seen_effect, AreFor};
-ghost use Rattle.lrc_parts.specs.Text.{asked_in};
+ghost use Rattle.lrc_control.specs.Text.{asked_in};
 
 use crate::state::NodeState;
 use crate::turn::Effect;

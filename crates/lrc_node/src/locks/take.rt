@@ -2,13 +2,13 @@
 
 ghost use Rattle.std.specs.Prelude.{◌≡◌, ℕ, ◌<◌, IfOk, IsTrue, Some, length, ◌&&◌};
 ghost use Rattle.lrc_exec.specs.declared.machine.Ask.TheVariants.{Acquire};
-ghost use Rattle.lrc_order_laws.specs.Tokens.{is_awaited};
+ghost use Rattle.lrc_lock.specs.Held.{is_awaited};
 ghost use Rattle.lrc_lock.specs.Held.{forwarded, lock_at, is_taken};
 ghost use Rattle.lrc_lock.specs.Lock.{manager_of};
 ghost use Rattle.lrc_memory.specs.Turns.{CanBeAdded};
 ghost use Rattle.lrc_protocol.specs.Turn.{forward_by, take_grant, expects_request, expects_forward, expects_grant, passes_on};
 ghost use Rattle.lrc_node.specs.State.{seen_effect, AreFor};
-ghost use Rattle.lrc_parts.specs.Text.{asked_in};
+ghost use Rattle.lrc_control.specs.Text.{asked_in};
 
 use crate::state::NodeState;
 use crate::turn::Effect;

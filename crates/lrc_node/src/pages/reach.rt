@@ -7,7 +7,7 @@ ghost use Rattle.lrc_protocol.specs.Node.{nothing, acts, waiting, with_memory};
 ghost use Rattle.lrc_protocol.specs.Turn.{fetches, reaches, requests_of};
 ghost use Rattle.lrc_node.specs.Effects.{AccessesPage};
 ghost use Rattle.lrc_node.specs.State.{seen_effect, AreFor};
-ghost use Rattle.lrc_parts.specs.Text.{asked_in};
+ghost use Rattle.lrc_control.specs.Text.{asked_in};
 
 use crate::state::NodeState;
 use crate::turn::Effect;

@@ -7,7 +7,7 @@ ghost use Rattle.lrc_protocol.specs.Turn.{begins, done, is_ready, run_turn};
 ghost use Rattle.lrc_trace.specs.Trace.{TraceRecord};
 ghost use Rattle.lrc_node.specs.Effects.{after_quiet, begun_node, effect_asked, quiet_turn, turn_asked, CanBegin, RefusesRun};
 ghost use Rattle.lrc_node.specs.State.{seen_effect, AreFor};
-ghost use Rattle.lrc_parts.specs.Text.{asked_in, end_of};
+ghost use Rattle.lrc_control.specs.Text.{asked_in, end_of};
 ghost use Rattle.lrc_node.specs.declared.fault.NodeFault.TheVariants.{NoMemory, Worn};
 
 use crate::fault::NodeFault;
@@ -15,8 +15,8 @@ use crate::state::NodeState;
 use crate::turn::{Effect, Turn};
 use lrc_exec::machine::Ask;
 use lrc_page::page_of;
-use lrc_parts::End;
 use lrc_trace::act::{Act, Deed};
+use lrc_trace::end::End;
 
 impl NodeState<'_> {
     /// Whether the node would go on if it were named.

@@ -15,7 +15,7 @@ use Rattle.lrc_trace.proofs.Intervals.{closed_between}
 use Rattle.lrc_time.specs.Time.{entry}
 use Rattle.lrc_clock.specs.Times.{stamp_at}
 use Rattle.lrc_clock.specs.Cover.{ClosesAt}
-use Rattle.lrc_plain_laws.specs.Follows.{deeds_of}
+use Rattle.lrc_consistency_laws.specs.Follows.{deeds_of}
 use Rattle.lrc_store.specs.Interval.{IntervalRecord}
 use Rattle.lrc_store.specs.Store.{StoredRecord, NoticeRecord, interval_of}
 use Rattle.lrc_copies.specs.Stamps.{stamp_index}

@@ -6,10 +6,10 @@ use Rattle.lrc_lang.specs.declared.program.Program.{Program}
 use Rattle.lrc_trace.specs.Conflict.{IsRaceFree, IsFirstRace}
 use Rattle.lrc_trace.specs.Synchronization.{IsWellSynchronized}
 use Rattle.lrc_exec.specs.Plain.{plain}
-use Rattle.lrc_plain_laws.specs.Follows.{nodes_of_acts, FollowsText}
-use Rattle.lrc_plain_laws.specs.Racing.{HasNoRace, PlainToRace}
-use Rattle.lrc_plain_laws.proofs.UpToRace.{without_race}
-use Rattle.lrc_plain_laws.proofs.Racing.{plain_to_race, race_free}
+use Rattle.lrc_consistency_laws.specs.Follows.{nodes_of_acts, FollowsText}
+use Rattle.lrc_consistency_laws.specs.Racing.{HasNoRace, PlainToRace}
+use Rattle.lrc_consistency_laws.proofs.UpToRace.{without_race}
+use Rattle.lrc_consistency_laws.proofs.Racing.{plain_to_race, race_free}
 use Rattle.lrc_protocol.specs.Node.{OptionsRecord}
 use Rattle.lrc_protocol.specs.Run.{World}
 use Rattle.lrc_protocol.proofs.Texts.{text}

@@ -19,7 +19,8 @@ use Rattle.lrc_protocol.specs.Rules.{IsReadyFor, AccessesNext, access_read, acce
 use Rattle.lrc_protocol.specs.Rules.{brings_changes, brings_base_copy, RunRule, run_hit, run_repair, run_acquire, run_release, run_barrier}
 use Rattle.lrc_protocol.specs.Rules.{run_other, TakeRule, take_token, take_depart, take_last_reply, take_discard, IsSent, with_numbers}
 use Rattle.lrc_protocol.specs.Rules.{TurnRule, by_run, by_repeat, by_message}
-use Rattle.lrc_order_laws.specs.Waiting.{next_in, is_departing, FixesNext}
+use Rattle.lrc_order_laws.specs.Waiting.{is_departing, FixesNext}
+use Rattle.lrc_protocol.specs.Node.{next_in}
 use Rattle.lrc_order_laws.proofs.Shift.{deed_made, deed_back, next-ready}
 use Rattle.lrc_order_laws.proofs.Counts.{lock_next, departure_next}
 use Rattle.lrc_node_laws.specs.Needs.{FitsNeed, page_next, ReachesFor}

@@ -26,7 +26,7 @@ use Rattle.lrc_protocol.specs.Run.{Logged, World, fresh_world, with_turn}
 use Rattle.lrc_protocol.specs.Follows.{pending}
 use Rattle.lrc_protocol.specs.Follows.{turns_of}
 use Rattle.lrc_protocol.proofs.Worlds.{get_set_same, get_set_other, fresh_at}
-use Rattle.lrc_order_laws.specs.Tokens.{is_awaited}
+use Rattle.lrc_lock.specs.Held.{is_awaited}
 use Rattle.lrc_order_laws.proofs.Held.{Tokened, tokened_at}
 use Rattle.lrc_order_laws.proofs.TokenWorlds.{state_in, some_node}
 use Rattle.lrc_order_laws.proofs.Sends.{Came, by_itself, comes, letter_in, Sent, site_of}

@@ -12,7 +12,7 @@ use Rattle.lrc_lang.specs.declared.program.Program.{Program}
 use Rattle.lrc_trace.specs.declared.act.Deed.{Deed}
 use Rattle.lrc_page.specs.Page.{words_of}
 use Rattle.lrc_time.specs.Time.{entry}
-use Rattle.lrc_plain_laws.specs.Follows.{deeds_of}
+use Rattle.lrc_consistency_laws.specs.Follows.{deeds_of}
 use Rattle.lrc_copies.specs.Page.{IsUntouchedBy, IsMadeOf, IsClosedWith}
 use Rattle.lrc_copies.specs.Stamps.{stamp_index}
 use Rattle.lrc_store.specs.Store.{StoredRecord, notice_of}
@@ -23,7 +23,8 @@ use Rattle.lrc_protocol.specs.Run.{Input, EntryRecord, Logged, World, Flying, wi
 use Rattle.lrc_protocol.specs.Follows.{turns_of, deeds_in}
 use Rattle.lrc_protocol.proofs.Worlds.{IsEntry, get_set_same, get_set_other}
 use Rattle.lrc_order_laws.specs.Counts.{closes, count, awaits_acquire}
-use Rattle.lrc_order_laws.specs.Waiting.{next_in, FixesNext}
+use Rattle.lrc_order_laws.specs.Waiting.{FixesNext}
+use Rattle.lrc_protocol.specs.Node.{next_in}
 use Rattle.lrc_order_laws.proofs.Reached.{IsReached}
 use Rattle.lrc_order_laws.proofs.Shift.{part_of, Shifted, ShiftedIf, shifts, deed_made}
 use Rattle.lrc_reading_laws.specs.Written.{last_write, made_stamps, changes_on, word_on}

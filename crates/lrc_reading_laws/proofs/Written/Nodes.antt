@@ -14,7 +14,7 @@ use Rattle.lrc_time.specs.Time.{entry}
 use Rattle.lrc_time.proofs.Times.{entry-set_same}
 use Rattle.lrc_exec.specs.Meaning.{Setting}
 use Rattle.lrc_exec.specs.Plain.{setting_of, start_of}
-use Rattle.lrc_plain_laws.specs.Follows.{deeds_of}
+use Rattle.lrc_consistency_laws.specs.Follows.{deeds_of}
 use Rattle.lrc_copies.specs.Page.{IsMadeOf, IsUntouchedBy}
 use Rattle.lrc_copies.specs.Stamps.{stamp_index}
 use Rattle.lrc_protocol.specs.Pages.{Copy, valid, written, invalid, absent, copy_at}
@@ -24,7 +24,8 @@ use Rattle.lrc_protocol.specs.Follows.{inputs_of, turns_of, deeds_in}
 use Rattle.lrc_protocol.proofs.Worlds.{Follows}
 use Rattle.lrc_protocol.proofs.Texts.{follows_at}
 use Rattle.lrc_order_laws.specs.Counts.{closes, count, awaits_acquire}
-use Rattle.lrc_order_laws.specs.Waiting.{next_in, FixesNext}
+use Rattle.lrc_order_laws.specs.Waiting.{FixesNext}
+use Rattle.lrc_protocol.specs.Node.{next_in}
 use Rattle.lrc_order_laws.proofs.Reached.{IsReached}
 use Rattle.lrc_order_laws.proofs.Inputs.{at_each}
 use Rattle.lrc_order_laws.proofs.Waiting.{NodeFits, node-fits, departs_arrived}

@@ -7,7 +7,8 @@ use Rattle.lrc_exec.specs.Meaning.{Thread, Next, acquires, releases, arrives}
 use Rattle.lrc_protocol.specs.Times.{next_time}
 use Rattle.lrc_protocol.specs.Locks.{Locks}
 use Rattle.lrc_protocol.specs.Node.{Course, deed_of, Wait, nothing, grant, departure, access, upkeep, discard}
-use Rattle.lrc_order_laws.specs.Waiting.{next_in, acquiring}
+use Rattle.lrc_order_laws.specs.Waiting.{acquiring}
+use Rattle.lrc_protocol.specs.Node.{next_in}
 use Rattle.lrc_order_laws.specs.Counts.{awaits_acquire}
 use Rattle.lrc_order_laws.proofs.Shift.{Part, Acted, Rested, Moved, Shift, plain, misses, takes, asks, releasing, arriving, manages, forwarding, grants}
 use Rattle.lrc_order_laws.proofs.Shift.{departing, collecting, clean_at_once, discarding, accessing, still_misses, still_collects, cleaning, rests}

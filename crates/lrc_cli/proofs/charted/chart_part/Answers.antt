@@ -1,6 +1,6 @@
 use Rattle.std.proofs.Common.{◌≤◌, length, subst}
-use Rattle.lrc_portrait.specs.Portrait.{IsPortrait, MOST_SHOWN, rows_shown}
-use Rattle.lrc_portrait.specs.declared.part.Part.{Part}
+use Rattle.lrc_chart_build.specs.Portrait.{IsPortrait, MOST_SHOWN, rows_shown}
+use Rattle.lrc_chart_build.specs.declared.part.Part.{Part}
 use Rattle.lrc_cli.proofs.charted.chart_part.Goals as goal
 
 pub returns-clause-ok : goal.returns-clause-ok

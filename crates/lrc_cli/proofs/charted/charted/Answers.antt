@@ -3,9 +3,9 @@ use Rattle.lrc_clock.specs.Keeping.{KeepsTime}
 use Rattle.lrc_judge.specs.FirstPairs.{AreFirstPairs}
 use Rattle.lrc_judge.specs.declared.lanes.Pair.{Pair}
 use Rattle.lrc_trace.specs.declared.act.Act.{Act}
-use Rattle.lrc_portrait.specs.Course.{CourseRecord}
-use Rattle.lrc_turns.specs.Turns.{turns_told}
-use Rattle.lrc_words.specs.declared.choice.Shape.TheVariants.{Chart}
+use Rattle.lrc_chart_build.specs.Course.{CourseRecord}
+use Rattle.lrc_turns_text.specs.Turns.{turns_told}
+use Rattle.lrc_args.specs.declared.choice.Shape.TheVariants.{Chart}
 use Rattle.lrc_title.specs.Title.{title_text}
 use Rattle.lrc_cli.specs.Charted.{IsChart, IsCourse}
 use Rattle.lrc_cli.specs.Lines.{AreLinesIn}

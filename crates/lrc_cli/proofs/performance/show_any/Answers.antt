@@ -1,8 +1,8 @@
 use Rattle.std.proofs.Common.{◌≡◌, ◌∙◌, ℕ, false, List, Option, Some, None, is_some, ap, subst, option_map}
 use Rattle.std.specs.Borrow.{Bor}
-use Rattle.lrc_words.specs.Files.{events_along}
-use Rattle.lrc_words.specs.declared.choice.Way.{Way}
-use Rattle.lrc_words.specs.declared.choice.Choice.TheVariants.{Show}
+use Rattle.lrc_args.specs.Files.{events_along}
+use Rattle.lrc_args.specs.declared.choice.Way.{Way}
+use Rattle.lrc_args.specs.declared.choice.Choice.TheVariants.{Show}
 use Rattle.lrc_cli.specs.Answer.{Answers}
 use Rattle.lrc_cli.proofs.AnswerLemmas.{answers_of}
 use Rattle.lrc_cli.proofs.performance.show_any.Goals as goal

@@ -3,7 +3,7 @@ use Rattle.std.specs.Io.KnownBytes.{Keeps}
 use Rattle.lrc_cli.specs.Answer.{Answers, IsFault}
 use Rattle.lrc_cli.specs.FaultLine.{fault_line}
 use Rattle.lrc_cli.specs.Performance.{IsWritten, Performs, faults, prints}
-use Rattle.lrc_words.specs.declared.choice.Choice.{Choice}
+use Rattle.lrc_args.specs.declared.choice.Choice.{Choice}
 use Rattle.lrc_cli.specs.declared.fault.Fault.{Fault}
 use Rattle.lrc_cli.specs.declared.fault.Fault.TheVariants.{NoMemory}
 use Rattle.lrc_cli.proofs.AnswerLemmas.{memory_ran_out}

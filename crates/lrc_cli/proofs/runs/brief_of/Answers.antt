@@ -1,6 +1,6 @@
 use Rattle.std.proofs.Common.{ℕ, List, Option, IfErr, IfOk, subst, sym}
 use Rattle.std.proofs.lemmas.Result.{IfErr-weaker}
-use Rattle.lrc_words.specs.declared.choice.Way.{Way}
+use Rattle.lrc_args.specs.declared.choice.Way.{Way}
 use Rattle.lrc_cli.specs.Runs.{IsBriefRun, IsRunFault}
 use Rattle.lrc_cli.proofs.runs.brief_of.Goals as goal
 

@@ -1,9 +1,9 @@
 use Rattle.std.proofs.Common.{◌≡◌, Ok, None, true, inl, inr}
 use Rattle.std.proofs.lemmas.Bool.{false≢true}
-use Rattle.lrc_words.specs.declared.choice.Choice.TheVariants.{Show}
-use Rattle.lrc_words.specs.declared.choice.Shape.{Shape}
-use Rattle.lrc_words.specs.declared.choice.Shape.TheVariants.{Chart, Explain, Report, Stats, Trace}
-use Rattle.lrc_words.specs.declared.choice.Way.{Way}
+use Rattle.lrc_args.specs.declared.choice.Choice.TheVariants.{Show}
+use Rattle.lrc_args.specs.declared.choice.Shape.{Shape}
+use Rattle.lrc_args.specs.declared.choice.Shape.TheVariants.{Chart, Explain, Report, Stats, Trace}
+use Rattle.lrc_args.specs.declared.choice.Way.{Way}
 use Rattle.lrc_cli.specs.Runs.{account_with, is_led}
 use Rattle.lrc_cli.specs.Shown.{is_brief}
 use Rattle.lrc_cli.proofs.AnswerLemmas.{fault_up, memory_ran_out, told_of}

@@ -1,14 +1,14 @@
 use Rattle.std.proofs.Common.{◌∙◌, ◌<◌, All, IfOk, List, ap, subst, sym}
 use Rattle.std.proofs.lemmas.Result.{IfOk-weaker}
-use Rattle.lrc_parts.specs.declared.end.End.{End}
+use Rattle.lrc_trace.specs.declared.end.End.{End}
 use Rattle.lrc_protocol.specs.Run.{EntryRecord}
 use Rattle.lrc_protocol.specs.declared.event.Event.{Event}
 use Rattle.lrc_report.specs.ReportText.{run_text}
 use Rattle.lrc_text.specs.Parts.{whole_text}
 use Rattle.lrc_trace.specs.declared.act.Act.{Act}
 use Rattle.lrc_trace.specs.declared.race.Race.{Race}
-use Rattle.lrc_words.specs.declared.choice.Shape.{Shape}
-use Rattle.lrc_words.specs.declared.choice.Shape.TheVariants as shapes
+use Rattle.lrc_args.specs.declared.choice.Shape.{Shape}
+use Rattle.lrc_args.specs.declared.choice.Shape.TheVariants as shapes
 use Rattle.lrc_cli.specs.Runs.{account_with}
 use Rattle.lrc_cli.specs.Shown.{IsExplained, IsShown}
 use Rattle.lrc_cli.proofs.shown.told_parts.Goals as goal

@@ -1,5 +1,5 @@
 use Rattle.std.proofs.Common.{None, refl, sym, subst, inl, inr}
-use Rattle.lrc_words.specs.declared.choice.Way.{Way}
+use Rattle.lrc_args.specs.declared.choice.Way.{Way}
 use Rattle.lrc_cli.specs.Runs.{IsRunFault, IsRunOfWay, account_of}
 use Rattle.lrc_cli.proofs.AnswerLemmas.{fault_up, printed_of, text_fault, unshown_of}
 use Rattle.lrc_cli.proofs.threads.show_on_threads.Goals as goal

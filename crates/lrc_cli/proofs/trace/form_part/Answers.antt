@@ -2,12 +2,12 @@ use Rattle.std.proofs.Common.{◌≡◌, ◌∙◌, ◌<◌, ◌≤◌, ℕ, All
 use Rattle.lrc_clock.specs.Keeping.{KeepsTime}
 use Rattle.lrc_trace.specs.declared.act.Act.{Act}
 use Rattle.lrc_events.specs.Writing.{events_text}
-use Rattle.lrc_show.specs.ActsText.{acts_text}
-use Rattle.lrc_show.specs.Json.{json_of_acts}
-use Rattle.lrc_show.specs.Rapid.{rapid_text}
+use Rattle.lrc_acts_text.specs.ActsText.{acts_text}
+use Rattle.lrc_acts_text.specs.Json.{json_of_acts}
+use Rattle.lrc_acts_text.specs.Rapid.{rapid_text}
 use Rattle.lrc_protocol.specs.declared.event.Event.{Event}
-use Rattle.lrc_turns.specs.TurnsText.{messages_text}
-use Rattle.lrc_words.specs.declared.choice.Form.{Form}
+use Rattle.lrc_turns_text.specs.TurnsText.{messages_text}
+use Rattle.lrc_args.specs.declared.choice.Form.{Form}
 use Rattle.lrc_world.specs.Turned.{HaveLogs, turned_of}
 use Rattle.lrc_world.specs.declared.turned.Turned.{Turned}
 use Rattle.lrc_cli.specs.Runs.{account_of, options_of, turns_in}

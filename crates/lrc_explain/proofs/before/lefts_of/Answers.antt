@@ -6,7 +6,7 @@ use Rattle.std.specs.Ordering.{nat_cmp}
 use Rattle.lrc_trace.specs.declared.act.Act.{Act}
 use Rattle.lrc_trace.specs.declared.act.Deed.TheVariants.{Quiet}
 use Rattle.lrc_judge.specs.Races.{word_of}
-use Rattle.lrc_show.specs.Acts.{act_at}
+use Rattle.lrc_acts_text.specs.Acts.{act_at}
 use Rattle.lrc_explain.specs.Access.{left_in}
 use Rattle.lrc_explain.proofs.Earlier.{lefts-more, remembers-next, remembers-same}
 use Rattle.lrc_explain.proofs.before.lefts_of.Goals as goal

@@ -3,8 +3,8 @@ use Rattle.std.specs.Prelude.{if◌then◌else◌}
 use Rattle.std.specs.BTreeMap.{get, Updates}
 use Rattle.std.specs.List.{list_any}
 use Rattle.lrc_judge.specs.declared.lanes.Pair.{Pair}
-use Rattle.lrc_show.specs.Each.{each}
-use Rattle.lrc_show.proofs.Each.{each_more}
+use Rattle.lrc_text.specs.Each.{each}
+use Rattle.lrc_text.proofs.Each.{each_more}
 use Rattle.lrc_explain.specs.Groups.{group_at, group_if, is_of_site}
 use Rattle.lrc_explain.specs.Site.{site_cmp, site_of}
 use Rattle.lrc_explain.proofs.Counting.{group_is, left_more}

@@ -2,7 +2,7 @@ use Rattle.std.proofs.Common.{◌≡◌, None, take}
 use Rattle.std.specs.Prelude.{if◌then◌else◌}
 use Rattle.std.specs.List.{list_any}
 use Rattle.std.specs.BTreeMap.{get}
-use Rattle.lrc_show.specs.Each.{each}
+use Rattle.lrc_text.specs.Each.{each}
 use Rattle.lrc_explain.specs.declared.site.Site.{Site}
 use Rattle.lrc_explain.specs.Groups.{group_at, is_of_site}
 use Rattle.lrc_explain.specs.Site.{site_cmp}

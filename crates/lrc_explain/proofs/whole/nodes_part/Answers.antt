@@ -1,5 +1,5 @@
 use Rattle.std.proofs.Common.{◌∙◌, ◌++◌, ℕ, List, ap, sym, get_or, append_assoc}
-use Rattle.lrc_show.proofs.Each.{each_more}
+use Rattle.lrc_text.proofs.Each.{each_more}
 use Rattle.lrc_stuck.specs.declared.stand.Stand.{Stand}
 use Rattle.lrc_stuck.specs.Stuck.{end_text}
 use Rattle.lrc_stuck.proofs.Standing.{no_stand}

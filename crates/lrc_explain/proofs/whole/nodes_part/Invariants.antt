@@ -1,5 +1,5 @@
 use Rattle.std.proofs.Common.{◌≡◌, ◌++◌, take}
-use Rattle.lrc_show.specs.Each.{each}
+use Rattle.lrc_text.specs.Each.{each}
 use Rattle.lrc_stuck.specs.Stuck.{end_text}
 use Rattle.lrc_explain.specs.Explain.{prints_text}
 use Rattle.lrc_explain.proofs.whole.nodes_part.Given as goal

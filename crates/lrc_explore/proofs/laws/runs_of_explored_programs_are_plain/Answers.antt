@@ -1,5 +1,5 @@
-use Rattle.lrc_plain_laws.proofs.Racing.{race_free}
-use Rattle.lrc_plain_laws.proofs.UpToRace.{without_race}
+use Rattle.lrc_consistency_laws.proofs.Racing.{race_free}
+use Rattle.lrc_consistency_laws.proofs.UpToRace.{without_race}
 use Rattle.lrc_explore.proofs.Exploring.{has_no_race}
 use Rattle.lrc_explore.proofs.laws.runs_of_explored_programs_are_plain.Goals as goal
 

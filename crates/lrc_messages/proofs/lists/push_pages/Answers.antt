@@ -2,7 +2,7 @@ use Rattle.std.proofs.Common.{◌++◌, ◌<◌, ◌∙◌, ◌≡◌, ◌≤◌
 use Rattle.std.proofs.lemmas.List.{take_all}
 use Rattle.std.proofs.lemmas.Result.{IfOk-from_err}
 use Rattle.lrc_text.proofs.Fronts.{begins_still}
-use Rattle.lrc_show.specs.Json.{entry_text, with_commas}
+use Rattle.lrc_acts_text.specs.Json.{entry_text, with_commas}
 use Rattle.lrc_messages.proofs.Joined.{commas_next}
 use Rattle.lrc_text.proofs.Pushed.{err_is}
 use Rattle.lrc_messages.proofs.lists.push_pages.Goals as goal

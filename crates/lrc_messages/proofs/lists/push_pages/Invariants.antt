@@ -1,5 +1,5 @@
 use Rattle.std.proofs.Common.{◌≡◌, ◌++◌, take}
-use Rattle.lrc_show.specs.Json.{with_commas}
+use Rattle.lrc_acts_text.specs.Json.{with_commas}
 use Rattle.lrc_messages.proofs.lists.push_pages.Given as goal
 
 -- the items so far

@@ -2,7 +2,7 @@ use Rattle.std.proofs.Common.{◌≡◌, ◌++◌, ℕ, List}
 use Rattle.std.specs.Prelude.{codes}
 use Rattle.std.proofs.lemmas.Result.{IfOk-from_err}
 use Rattle.lrc_text.proofs.Fronts.{begins_still}
-use Rattle.lrc_show.specs.Json.{with_commas}
+use Rattle.lrc_acts_text.specs.Json.{with_commas}
 use Rattle.lrc_text.proofs.Pushed.{and_then, err_is, slice_err, slice_ok, unchanged}
 use Rattle.lrc_messages.proofs.news.push_bracketed.Goals as goal
 

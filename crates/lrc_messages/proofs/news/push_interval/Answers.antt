@@ -2,7 +2,7 @@ use Rattle.std.proofs.Common.{◌≡◌, ◌∙◌, ◌++◌, ℕ, List, ap, sub
 use Rattle.std.specs.Prelude.{OnOk, codes, decimal}
 use Rattle.std.proofs.lemmas.Result.{IfOk-from_err}
 use Rattle.lrc_text.proofs.Fronts.{begins_still}
-use Rattle.lrc_show.specs.Json.{with_commas}
+use Rattle.lrc_acts_text.specs.Json.{with_commas}
 use Rattle.lrc_store.specs.Interval.{IntervalRecord, index_of}
 use Rattle.lrc_messages.specs.Lists.{before}
 use Rattle.lrc_text.proofs.Pushed.{bracketed_ok, err_is, then_err}

@@ -1,7 +1,7 @@
 use Rattle.std.proofs.Common.{◌≡◌, ◌++◌, ℕ, List}
 use Rattle.std.specs.Prelude.{codes}
 use Rattle.std.proofs.lemmas.Result.{IfOk-from_err}
-use Rattle.lrc_show.specs.Json.{with_commas}
+use Rattle.lrc_acts_text.specs.Json.{with_commas}
 use Rattle.lrc_text.proofs.Pushed.{err_is, then_err, then_ok, unchanged}
 use Rattle.lrc_messages.proofs.news.push_time.Goals as goal
 

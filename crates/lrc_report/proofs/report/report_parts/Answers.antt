@@ -2,7 +2,7 @@ use Rattle.std.proofs.Common.{◌≡◌, ◌∙◌, ◌<◌, ℕ, [], ◌++◌, 
 use Rattle.std.specs.List.{flat_map}
 use Rattle.lrc_trace.specs.declared.act.Act.{Act}
 use Rattle.lrc_trace.specs.declared.act.Deed.TheVariants.{Quiet}
-use Rattle.lrc_parts.specs.declared.end.End.TheVariants.{Ended}
+use Rattle.lrc_trace.specs.declared.end.End.TheVariants.{Ended}
 use Rattle.lrc_text.specs.Parts.{texts_of}
 use Rattle.lrc_report.specs.ReportText.{end_words, line_of_act, line_on, node_text}
 use Rattle.lrc_report.proofs.TextLemmas.{lines_more, part_at, part_kept, part_set, print_here, print_nowhere, quiet_line, whole_is}

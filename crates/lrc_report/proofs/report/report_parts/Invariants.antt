@@ -1,6 +1,6 @@
 use Rattle.std.proofs.Common.{◌≡◌, ◌<◌, ◌≤◌, ℕ, [], length, take, get_or, vec_len}
 use Rattle.std.specs.List.{flat_map}
-use Rattle.lrc_parts.specs.declared.end.End.TheVariants.{Ended}
+use Rattle.lrc_trace.specs.declared.end.End.TheVariants.{Ended}
 use Rattle.lrc_text.specs.Parts.{texts_of}
 use Rattle.lrc_report.specs.ReportText.{line_of_act, node_text}
 use Rattle.lrc_report.proofs.report.report_parts.Given as goal

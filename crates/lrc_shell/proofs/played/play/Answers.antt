@@ -1,6 +1,6 @@
 use Rattle.std.proofs.Common.{List, Ok, Err, map, ap, subst}
 use Rattle.clap.specs.Words.{Text}
-use Rattle.lrc_words.specs.CommandLine.{Chooses, words_meant}
+use Rattle.lrc_args.specs.CommandLine.{Chooses, words_meant}
 use Rattle.lrc_shell.specs.Plays.{played, refused}
 use Rattle.lrc_shell.proofs.PlayLemmas.{same}
 use Rattle.lrc_shell.proofs.played.play.Goals as goal

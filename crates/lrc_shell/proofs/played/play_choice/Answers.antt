@@ -1,6 +1,6 @@
 use Rattle.std.proofs.Common.{inl, subst, sym}
 use Rattle.std.specs.IoError.{error_kind}
-use Rattle.lrc_words.specs.Files.{file_of, reads_acts}
+use Rattle.lrc_args.specs.Files.{file_of, reads_acts}
 use Rattle.lrc_shell.specs.Plays.{IsTextRead, most_read, unread}
 use Rattle.lrc_shell.proofs.PlayLemmas.{same}
 use Rattle.lrc_shell.proofs.played.play_choice.Goals as goal

@@ -1,6 +1,6 @@
 use Rattle.std.proofs.Common.{inr, option_map, subst, sym}
 use Rattle.std.specs.IoError.{error_kind}
-use Rattle.lrc_words.specs.Files.{events_of}
+use Rattle.lrc_args.specs.Files.{events_of}
 use Rattle.lrc_shell.specs.Plays.{AreEventsRead, performed, unread}
 use Rattle.lrc_shell.proofs.PlayLemmas.{same}
 use Rattle.lrc_shell.proofs.played.play_text.Goals as goal

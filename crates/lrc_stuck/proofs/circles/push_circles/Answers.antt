@@ -2,7 +2,7 @@ use Rattle.std.proofs.Common.{rules, ◌∙◌, ◌++◌, ℕ, List, ap, sym, ap
 use Rattle.std.specs.List.{flat_map, range_with_len}
 use Rattle.lrc_text.specs.Front.{BeginsWith}
 use Rattle.lrc_text.proofs.Fronts.{begins_still}
-use Rattle.lrc_show.proofs.Each.{range_more}
+use Rattle.lrc_text.proofs.Each.{range_more}
 use Rattle.lrc_stuck.specs.Circles.{circle_if, circle_of}
 use Rattle.lrc_stuck.proofs.circles.push_circles.Goals as goal
 

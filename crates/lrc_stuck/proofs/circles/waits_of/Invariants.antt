@@ -1,5 +1,5 @@
 use Rattle.std.proofs.Common.{◌≡◌, [], ◌∷◌, take}
-use Rattle.lrc_show.specs.Each.{each}
+use Rattle.lrc_text.specs.Each.{each}
 use Rattle.lrc_stuck.specs.Circles.{waits_by}
 use Rattle.lrc_stuck.proofs.circles.waits_of.Given as goal
 

@@ -1,5 +1,5 @@
 use Rattle.std.proofs.Common.{◌≡◌, ◌∙◌, ◌++◌, ℕ, List, true, false, ap, ap₂, sym, take, get_or, append-nil}
-use Rattle.lrc_show.proofs.Each.{each_more}
+use Rattle.lrc_text.proofs.Each.{each_more}
 use Rattle.lrc_stuck.specs.declared.missing.Missing.{Missing}
 use Rattle.lrc_stuck.specs.declared.stand.Stand.{Stand}
 use Rattle.lrc_stuck.specs.Missing.{has_not_come, missing_if, missing_nodes}

@@ -1,5 +1,5 @@
 use Rattle.std.proofs.Common.{◌≡◌, take}
-use Rattle.lrc_show.specs.Each.{each}
+use Rattle.lrc_text.specs.Each.{each}
 use Rattle.lrc_stuck.specs.Stuck.{stuck_line}
 use Rattle.lrc_stuck.proofs.stuck.stuck_lines.Given as goal
 

@@ -2,7 +2,7 @@ use Rattle.std.proofs.Common.{◌≡◌, ◌∙◌, ◌++◌, [], ◌∷◌, sym
 use Rattle.lrc_world.specs.Report.{end_of_logged}
 use Rattle.lrc_world.proofs.Lists.{map-both}
 use Rattle.lrc_world.proofs.NodeTurns.{stands_at}
-use Rattle.lrc_plain_laws.proofs.Ahead.{take_ahead}
+use Rattle.lrc_consistency_laws.proofs.Ahead.{take_ahead}
 use Rattle.lrc_world.proofs.world.ends_of.Goals as goal
 
 pub loop-node-preserved : goal.loop-node-preserved

@@ -1,7 +1,7 @@
 use Rattle.std.proofs.Common.{◌≡◌, Bool, Option, false, sym, ◌∙◌, ap, subst}
 use Rattle.std.specs.Bool.{then_some}
-use Rattle.lrc_parts.specs.declared.end.End.{End}
-use Rattle.lrc_parts.specs.declared.end.End.TheVariants.{Unfinished}
+use Rattle.lrc_trace.specs.declared.end.End.{End}
+use Rattle.lrc_trace.specs.declared.end.End.TheVariants.{Unfinished}
 use Rattle.lrc_protocol.specs.Node.{Node}
 use Rattle.lrc_protocol.specs.Turn.{run_turn, done}
 use Rattle.lrc_protocol.specs.Run.{run}

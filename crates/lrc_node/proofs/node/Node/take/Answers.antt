@@ -1,6 +1,6 @@
 use Rattle.std.proofs.Common.{◌≡◌, Bool, Option, false, sym, ◌∙◌, ap, subst}
 use Rattle.std.specs.Bool.{then_some}
-use Rattle.lrc_parts.specs.declared.end.End.{End}
+use Rattle.lrc_trace.specs.declared.end.End.{End}
 use Rattle.lrc_protocol.specs.Node.{Node}
 use Rattle.lrc_protocol.specs.Turn.{take_turn, done}
 use Rattle.lrc_protocol.specs.Run.{taken}

@@ -13,7 +13,7 @@ use Rattle.lrc_node.specs.declared.turn.Effect.{Effect as Work}
 use Rattle.lrc_node.specs.Effects.{CanAccess}
 use Rattle.lrc_node.specs.Seen.{node_of}
 use Rattle.lrc_node.specs.State.{seen_effect}
-use Rattle.lrc_parts.specs.Text.{asked_in}
+use Rattle.lrc_control.specs.Text.{asked_in}
 use Rattle.lrc_node.proofs.Kept.{kept_locks, kept_mail, none_for, one_for, made_for}
 use Rattle.lrc_node.proofs.state.NodeState.acquire.Goals as goal
 

@@ -10,7 +10,7 @@ use Rattle.lrc_protocol.specs.Node.{departure, Mail, Node, acts, own_index, wait
 use Rattle.lrc_protocol.specs.Turn.{arrival_of, letter, asks_for_collection}
 use Rattle.lrc_node.specs.Effects.{CanAccess}
 use Rattle.lrc_node.specs.Seen.{node_of}
-use Rattle.lrc_parts.specs.Text.{asked_in}
+use Rattle.lrc_control.specs.Text.{asked_in}
 use Rattle.lrc_node.proofs.Kept.{kept_barrier, kept_mail, one_for, made_for}
 use Rattle.lrc_node.proofs.state.NodeState.arrive.Goals as goal
 

@@ -8,7 +8,7 @@ use Rattle.lrc_lock.specs.declared.state.LockState.TheVariants.{Away}
 use Rattle.lrc_protocol.specs.Times.{MOST_NUMBER}
 use Rattle.lrc_protocol.specs.Node.{Effect, Node, own_index}
 use Rattle.lrc_protocol.specs.Turn.{acquire_at, after_close, arrive_at, closing, release_at}
-use Rattle.lrc_parts.specs.Text.{asked_in}
+use Rattle.lrc_control.specs.Text.{asked_in}
 use Rattle.lrc_node.specs.declared.fault.NodeFault.{NodeFault}
 use Rattle.lrc_node.specs.declared.fault.NodeFault.TheVariants.{NoMemory, Worn}
 use Rattle.lrc_node.specs.Effects.{CanBegin, effect_asked}

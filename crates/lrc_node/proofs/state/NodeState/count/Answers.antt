@@ -4,7 +4,7 @@ use Rattle.lrc_exec.specs.Ask.{ask_of}
 use Rattle.lrc_protocol.specs.Node.{Node}
 use Rattle.lrc_protocol.specs.Turn.{begins_of}
 use Rattle.lrc_node.specs.Seen.{node_of}
-use Rattle.lrc_parts.specs.Text.{TextRecord, cost_to_begin}
+use Rattle.lrc_control.specs.Text.{TextRecord, cost_to_begin}
 use Rattle.lrc_node.proofs.Effects.{begun_text}
 use Rattle.lrc_node.proofs.state.NodeState.count.Goals as goal
 

@@ -8,7 +8,7 @@ use Rattle.lrc_protocol.specs.Pages.{Need, need_of, keeper_at, is_met, is_readab
 use Rattle.lrc_protocol.specs.Turn.{fetches, requests_of, reaches}
 use Rattle.lrc_exec.specs.Meaning.{Setting}
 use Rattle.lrc_protocol.specs.Node.{nothing, Node, acts, waiting, with_memory}
-use Rattle.lrc_parts.specs.Text.{asked_in}
+use Rattle.lrc_control.specs.Text.{asked_in}
 use Rattle.lrc_node.specs.Effects.{AccessesPage}
 use Rattle.lrc_node.specs.Seen.{node_of}
 use Rattle.lrc_node.specs.State.{AreFor}

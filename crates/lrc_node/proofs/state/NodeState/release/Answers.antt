@@ -10,7 +10,7 @@ use Rattle.lrc_protocol.specs.Turn.{grants_of, release_at}
 use Rattle.lrc_node.specs.Effects.{CanAccess}
 use Rattle.lrc_node.specs.Seen.{node_of}
 use Rattle.lrc_node.specs.State.{AreFor}
-use Rattle.lrc_parts.specs.Text.{asked_in}
+use Rattle.lrc_control.specs.Text.{asked_in}
 use Rattle.lrc_node.proofs.Kept.{kept_locks, made_for}
 use Rattle.lrc_node.proofs.state.NodeState.release.Goals as goal
 

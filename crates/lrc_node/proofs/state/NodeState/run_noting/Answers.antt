@@ -7,7 +7,7 @@ use Rattle.lrc_protocol.specs.Run.{run}
 use Rattle.lrc_node_laws.proofs.Noting.{can_note_turn, traced_reached}
 use Rattle.lrc_node.specs.declared.fault.NodeFault.TheVariants.{NotReady}
 use Rattle.lrc_node.specs.Effects.{turn_asked, CanBegin, RefusesRun, unready}
-use Rattle.lrc_parts.specs.Text.{asked_in}
+use Rattle.lrc_control.specs.Text.{asked_in}
 use Rattle.lrc_node.proofs.CanRun.{can_run}
 use Rattle.lrc_node.proofs.Effects.{run_asked, run_none, begins_asked, begun_ready, can_begun}
 use Rattle.lrc_node.proofs.state.NodeState.run_noting.Goals as goal

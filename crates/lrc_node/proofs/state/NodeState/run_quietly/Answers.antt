@@ -1,7 +1,7 @@
 use Rattle.std.proofs.Common.{◌∙◌, ap}
 use Rattle.lrc_exec.specs.declared.machine.Ask.TheVariants.{Quiet}
 use Rattle.lrc_protocol.specs.Node.{Node}
-use Rattle.lrc_parts.specs.Text.{asked_in}
+use Rattle.lrc_control.specs.Text.{asked_in}
 use Rattle.lrc_node.proofs.Effects.{begins_asked}
 use Rattle.lrc_node.proofs.state.NodeState.run_quietly.Goals as goal
 

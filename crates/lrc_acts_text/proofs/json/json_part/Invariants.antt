@@ -1,0 +1,17 @@
+use Rattle.std.proofs.Common.{◌≡◌, take}
+use Rattle.std.specs.Prelude.{slice_index, slice_index_or, []}
+use Rattle.lrc_trace.specs.Interval.{closes, interval_at}
+use Rattle.lrc_text.specs.Each.{each}
+use Rattle.lrc_acts_text.specs.Json.{json_line}
+use Rattle.lrc_acts_text.proofs.Tallies.{Tallies}
+use Rattle.lrc_acts_text.proofs.json.json_part.Given as goal
+
+-- the lines of the acts so far, and the intervals that the nodes have reached
+abbrev pub invariant-loop-position : goal.invariant-loop-position
+invariant-loop-position l = record {
+  lines : l.text.items
+      ≡ each
+      (λ position act. json_line position act (slice_index l.lines position) (interval_at l.acts act.node position) (slice_index_or l.times position []))
+      (take l.position l.acts);
+  closed : Tallies closes l.acts l.position l.closes.counts;
+}

@@ -1,0 +1,158 @@
+// Acts as JSON.
+
+ghost use Rattle.std.specs.Prelude.{◌≡◌, ◌++◌, IfOk, OnErr, OnOk, length};
+ghost use Rattle.lrc_text.specs.Front.{BeginsWith};
+ghost use Rattle.lrc_trace.specs.Interval.{closes};
+ghost use Rattle.lrc_acts_text.specs.Json.{access_members, act_json, deed_json, deed_members, deed_name, entry_text};
+ghost use Rattle.lrc_acts_text.specs.Json.{json_line, json_of_acts, place_json, time_json, with_commas};
+
+use crate::tally::Tally;
+use lrc_text::push_number;
+use lrc_time::Time;
+use lrc_trace::act::{Act, Deed};
+use std::alloc::{AllocError, Global};
+
+/// An object for each act, in order, each on a line of its own: with the line of the program's text that the act is of, its
+/// interval, and its node's time just after it.
+pub fn json_part(
+    alloc: Global,
+    acts: &[Act],
+    lines: &[u32],
+    times: &[Time],
+) -> Result<Vec<u8>, AllocError>
+    requires lined { length lines.now ≡ length acts.now }
+    requires timed { length times.now ≡ length acts.now }
+    ensures { IfOk result (λ part. part.items ≡ json_of_acts acts.now lines.now times.now) }
+{
+    let mut text = Vec::new(alloc);
+    let mut closes = Tally::new();
+    for (position, act) in acts.iter().enumerate() {
+        let place = Place {
+            position: position as u64,
+            line: lines[position],
+            interval: 1 + closes.of(act.node),
+        };
+        push_json_line(&mut text, *act, place, &times[position])?;
+        closes.note(act.node, closes_interval(act.deed));
+    }
+    Ok(text)
+}
+
+// Where an act stands: in the run, in the text, and in its node's course.
+#[derive(Clone, Copy)]
+struct Place {
+    position: u64,
+    line: u32,
+    interval: u64,
+}
+
+fn closes_interval(deed: Deed) -> bool
+    ensures { result ≡ closes deed }
+{
+    matches!(deed, Deed::Acquire(_) | Deed::Release(_) | Deed::Arrive)
+}
+
+fn push_json_line(text: &mut Vec<u8>, act: Act, place: Place, time: &Time) -> Result<(), AllocError>
+    ensures { OnOk result (text.new.items ≡ text.old.items ++ json_line place.position act place.line place.interval time.now) }
+{
+    text.extend_from_slice(b"{")?;
+    push_act(text, act, place.position)?;
+    push_place(text, place)?;
+    push_time(text, time)?;
+    text.extend_from_slice(b"}\n")
+}
+
+fn push_act(text: &mut Vec<u8>, act: Act, position: u64) -> Result<(), AllocError>
+    ensures { OnOk result (text.new.items ≡ text.old.items ++ act_json position act) }
+{
+    push_number(text, b"\"act\":", position)?;
+    push_number(text, b",\"node\":", u64::from(act.node))?;
+    push_deed(text, act.deed)
+}
+
+fn push_place(text: &mut Vec<u8>, place: Place) -> Result<(), AllocError>
+    ensures { OnOk result (text.new.items ≡ text.old.items ++ place_json place.line place.interval) }
+{
+    push_number(text, b",\"line\":", u64::from(place.line))?;
+    push_number(text, b",\"interval\":", place.interval)
+}
+
+// Adds the name of a deed, and what it has.
+fn push_deed(text: &mut Vec<u8>, deed: Deed) -> Result<(), AllocError>
+    ensures { OnOk result (text.new.items ≡ text.old.items ++ deed_json deed) }
+{
+    text.extend_from_slice(b",\"deed\":\"")?;
+    text.extend_from_slice(name_of(deed))?;
+    text.extend_from_slice(b"\"")?;
+    push_members(text, deed)
+}
+
+fn name_of(deed: Deed) -> &'static [u8]
+    ensures { result.now ≡ deed_name deed }
+{
+    match deed {
+        Deed::Quiet => b"quiet",
+        Deed::Print(_) => b"print",
+        Deed::Read(_, _) => b"read",
+        Deed::Write(_, _) => b"write",
+        Deed::Acquire(_) => b"acquire",
+        Deed::Release(_) => b"release",
+        Deed::Arrive => b"arrive",
+        Deed::Depart => b"depart",
+        Deed::Trap(_) => b"trap",
+        Deed::End => b"end",
+    }
+}
+
+fn push_members(text: &mut Vec<u8>, deed: Deed) -> Result<(), AllocError>
+    ensures { OnOk result (text.new.items ≡ text.old.items ++ deed_members deed) }
+{
+    match deed {
+        Deed::Print(value) => push_number(text, b",\"value\":", value),
+        Deed::Read(word, value) | Deed::Write(word, value) => push_access(text, word, value),
+        Deed::Acquire(lock) | Deed::Release(lock) => push_number(
+            text,
+            b",\"lock\":",
+            u64::from(lock),
+        ),
+        Deed::Trap(cause) => push_number(text, b",\"cause\":", u64::from(cause as u8)),
+        _ => Ok(()),
+    }
+}
+
+fn push_access(text: &mut Vec<u8>, word: u32, value: u64) -> Result<(), AllocError>
+    ensures { OnOk result (text.new.items ≡ text.old.items ++ access_members word value) }
+{
+    push_number(text, b",\"word\":", u64::from(word))?;
+    push_number(text, b",\"value\":", value)
+}
+
+fn push_time(text: &mut Vec<u8>, time: &Time) -> Result<(), AllocError>
+    ensures { OnOk result (text.new.items ≡ text.old.items ++ time_json time.now) }
+{
+    text.extend_from_slice(b",\"time\":[")?;
+    push_entries(text, time)?;
+    text.extend_from_slice(b"]")
+}
+
+/// Adds the entries of a time, with commas between them.
+pub fn push_entries(text: &mut Vec<u8>, time: &Time) -> Result<(), AllocError>
+    ensures ok { OnOk result (text.new.items ≡ text.old.items ++ with_commas time.now) }
+    ensures err { OnErr result (BeginsWith text.new.items text.old.items) }
+{
+    for node in 0..time.nodes() {
+        push_entry(text, node, time.at(node))?;
+    }
+    Ok(())
+}
+
+fn push_entry(text: &mut Vec<u8>, place: u8, number: u32) -> Result<(), AllocError>
+    ensures ok { OnOk result (text.new.items ≡ text.old.items ++ entry_text place number) }
+    ensures err { OnErr result (BeginsWith text.new.items text.old.items) }
+{
+    if place == 0 {
+        push_number(text, b"", u64::from(number))
+    } else {
+        push_number(text, b",", u64::from(number))
+    }
+}

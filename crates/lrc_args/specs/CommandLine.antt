@@ -1,0 +1,204 @@
+-- The words of the command line, as clap reads them, and the choice that they make.
+use Rattle.std.specs.Prelude.{◌≡◌, ◌≢◌, ◌⊎◌, Bool, false, List, [], ◌∷◌, Option, None, Some, Result, Ok, Err, IsSomeAnd, codes, option_map}
+use Rattle.std.specs.Int.{IsOutOfRange}
+use Rattle.clap.specs.Words.{IsAmong, Row, Text, fault_of, first_of, kind_of, subcommand_of}
+use Rattle.clap.specs.declared.error.Error.{Error}
+use Rattle.clap.specs.declared.error.kind.ErrorKind.{ErrorKind}
+use Rattle.clap.specs.declared.error.kind.ErrorKind.TheVariants.{ArgumentConflict, InvalidValue, OutOfMemory}
+use Rattle.lrc_envelope.specs.declared.picker.Picker.{Picker}
+use Rattle.lrc_args.specs.declared.choice.Charting.{Charting}
+use Rattle.lrc_args.specs.declared.choice.Choice.{Choice}
+use Rattle.lrc_args.specs.declared.choice.Choice.TheVariants.{Check, Plain, Show, Judge, Explore}
+use Rattle.lrc_args.specs.declared.choice.ChooseFault.{ChooseFault}
+use Rattle.lrc_args.specs.declared.choice.ChooseFault.TheVariants.{Usage, BadNumber, NoMemory}
+use Rattle.lrc_args.specs.declared.choice.Exploring.{Exploring}
+use Rattle.lrc_args.specs.declared.choice.Form.{Form}
+use Rattle.lrc_args.specs.declared.choice.Judging.{Judging}
+use Rattle.lrc_args.specs.declared.choice.PlainRun.{PlainRun}
+use Rattle.lrc_args.specs.declared.choice.RunChoice.{RunChoice}
+use Rattle.lrc_args.specs.declared.choice.Shape.{Shape}
+use Rattle.lrc_args.specs.declared.choice.Shape.TheVariants.{Report, Trace, Explain, Stats, Chart}
+use Rattle.lrc_args.specs.declared.choice.Way.{Way}
+use Rattle.lrc_args.specs.declared.misfit.Misfit.{Misfit}
+use Rattle.lrc_args.specs.declared.misfit.Misfit.TheVariants.{Order, RunOrder, Page, Form as FormMisfit, Seed, Threads, Messages, Number}
+use Rattle.lrc_args.specs.Commands.{treadmarks}
+use Rattle.lrc_args.specs.Options.{AreOptions, AreRunOptions, HasBadCount, HasFormMisfitIn, HasOptionsMisfit, HasValue, HasWayMisfitIn, IsChartTaken}
+use Rattle.lrc_args.specs.Options.{IsExploreTaken, IsFlag, IsFormIn, IsJudgeTaken, IsPicker, IsPlainTaken, IsRunTaken, IsShowingTaken}
+use Rattle.lrc_args.specs.Options.{IsSimTaken, IsThreadsWayIn, IsTraceTaken, IsWayIn, most_in, nodes_in, some_number_in}
+
+-- no words at all stand for `sim -`
+abbrev pub words_meant : List Text → List Text
+words_meant [] = codes "sim" ∷ codes "-" ∷ []
+words_meant (word ∷ words) = word ∷ words
+
+-- ---- what clap makes sure of
+
+-- the command that asks more of a run of the nodes, with what clap makes sure of in its matches
+abbrev pub IsAskTaken : Text × List Row → Type 0
+IsAskTaken found = ((found.0 ≡ codes "trace") × IsTraceTaken found.1)
+    ⊎ ((found.0 ≡ codes "explain") × IsShowingTaken found.1)
+    ⊎ ((found.0 ≡ codes "stats") × IsShowingTaken found.1)
+    ⊎ ((found.0 ≡ codes "chart") × IsChartTaken found.1)
+
+-- the command that shows something of a run of the nodes
+abbrev pub IsShowTaken : Text × List Row → Type 0
+IsShowTaken found = ((found.0 ≡ codes "sim") × IsSimTaken found.1)
+    ⊎ ((found.0 ≡ codes "run") × IsRunTaken found.1)
+    ⊎ IsAskTaken found
+
+-- the command that the words name, with what clap makes sure of in its matches
+abbrev pub IsCommandTaken : Option (Text × List Row) → Type 0
+IsCommandTaken None = ⊥
+IsCommandTaken (Some found) = ((found.0 ≡ codes "check") × HasValue (codes "FILE") found.1)
+    ⊎ ((found.0 ≡ codes "plain") × IsPlainTaken found.1)
+    ⊎ ((found.0 ≡ codes "judge") × IsJudgeTaken found.1)
+    ⊎ ((found.0 ≡ codes "explore") × IsExploreTaken found.1)
+    ⊎ IsShowTaken found
+
+-- ---- the choice that the matches make
+
+-- a run on the plain machine is chosen by these matches
+abbrev pub IsPlainRun : List Row → PlainRun → Type 0
+IsPlainRun rows run = AreOptions run.file.now run.nodes.count run.steps.count rows
+
+-- a run of the nodes, on threads or not
+pub record IsRun (threads : Bool) (rows : List Row) (run : RunChoice) : Type 0 where
+  pub options : AreRunOptions run.options rows
+  pub way : IsWayIn threads rows run.way
+
+-- the same, where a flag says whether it is on threads
+pub record IsShowingRun (rows : List Row) (run : RunChoice) : Type 0 where
+  pub threads : Bool
+  pub asked : IsFlag (codes "threads") threads rows
+  pub run_is : IsRun threads rows run
+
+-- a run of the command `run`
+pub record IsThreadsRun (rows : List Row) (run : RunChoice) : Type 0 where
+  pub options : AreRunOptions run.options rows
+  pub way : IsThreadsWayIn rows run.way
+
+-- which part of a run is charted, and how
+pub record IsCharting (rows : List Row) (charting : Charting) : Type 0 where
+  pub text : IsFlag (codes "text") charting.text rows
+  pub from : some_number_in (codes "from") rows ≡ charting.from
+  pub to : some_number_in (codes "to") rows ≡ charting.to
+
+-- what is to be judged
+pub record IsJudging (rows : List Row) (judging : Judging) : Type 0 where
+  pub file : first_of (codes "FILE") rows ≡ Some judging.file.now
+  pub nodes : some_number_in (codes "nodes") rows ≡ option_map (λ nodes. nodes.count) judging.nodes
+  pub pairs : IsFlag (codes "pairs") judging.pairs rows
+
+-- what is to be explored
+pub record IsExploring (rows : List Row) (exploring : Exploring) : Type 0 where
+  pub file : first_of (codes "FILE") rows ≡ Some exploring.file.now
+  pub nodes : nodes_in rows ≡ exploring.nodes.count
+  pub most : most_in rows ≡ exploring.most.count
+  pub outcomes : IsFlag (codes "outcomes") exploring.outcomes rows
+
+-- what is shown of a run is chosen by the command that clap found, with its matches
+abbrev pub IsShowChoice : Text × List Row → RunChoice → Shape → Type 0
+IsShowChoice found run Report = ((found.0 ≡ codes "sim") × IsRun false found.1 run) ⊎ ((found.0 ≡ codes "run") × IsThreadsRun found.1 run)
+IsShowChoice found run (Trace form) = (found.0 ≡ codes "trace") × IsFormIn found.1 form × IsShowingRun found.1 run
+IsShowChoice found run Explain = (found.0 ≡ codes "explain") × IsShowingRun found.1 run
+IsShowChoice found run Stats = (found.0 ≡ codes "stats") × IsShowingRun found.1 run
+IsShowChoice found run (Chart charting) = (found.0 ≡ codes "chart") × IsCharting found.1 charting × IsShowingRun found.1 run
+
+-- the choice is the command that clap found, with its matches
+abbrev pub IsChoice : Text × List Row → Choice → Type 0
+IsChoice found (Check text) = (found.0 ≡ codes "check") × (first_of (codes "FILE") found.1 ≡ Some text.now)
+IsChoice found (Plain run) = (found.0 ≡ codes "plain") × IsPlainRun found.1 run
+IsChoice found (Show run shape) = IsShowChoice found run shape
+IsChoice found (Judge judging) = (found.0 ≡ codes "judge") × IsJudging found.1 judging
+IsChoice found (Explore exploring) = (found.0 ≡ codes "explore") × IsExploring found.1 exploring
+
+-- ---- what does not fit
+
+abbrev pub HasPlainMisfit : List Row → Misfit → Type 0
+HasPlainMisfit rows misfit = (misfit ≡ Number) × HasBadCount rows
+
+-- of a run of the nodes, on threads or not: words are looked at before numbers
+pub record HasMisfitOfRun (threads : Bool) (rows : List Row) (misfit : Misfit) : Type 0 where
+  pub why : HasWayMisfitIn threads rows misfit ⊎ ((way : Way) × IsWayIn threads rows way × HasOptionsMisfit rows misfit)
+
+-- the same, where a flag says whether it is on threads
+pub record HasShowingMisfit (rows : List Row) (misfit : Misfit) : Type 0 where
+  pub threads : Bool
+  pub asked : IsFlag (codes "threads") threads rows
+  pub why : HasMisfitOfRun threads rows misfit
+
+pub record HasTraceMisfit (rows : List Row) (misfit : Misfit) : Type 0 where
+  pub why : HasFormMisfitIn rows misfit ⊎ ((form : Form) × IsFormIn rows form × HasShowingMisfit rows misfit)
+
+-- of the command `run`
+pub record HasThreadsMisfit (rows : List Row) (misfit : Misfit) : Type 0 where
+  pub why : ((misfit ≡ RunOrder) × ((picker : Picker) → ¬ IsPicker (first_of (codes "order") rows) picker))
+      ⊎ ((picker : Picker) × IsPicker (first_of (codes "order") rows) picker × HasOptionsMisfit rows misfit)
+
+abbrev pub HasJudgeMisfit : List Row → Misfit → Type 0
+HasJudgeMisfit rows misfit = (misfit ≡ Number) × IsSomeAnd (some_number_in (codes "nodes") rows) (IsOutOfRange 1 16)
+
+abbrev pub HasExploreMisfit : List Row → Misfit → Type 0
+HasExploreMisfit rows misfit = (misfit ≡ Number) × (IsOutOfRange 1 16 (nodes_in rows) ⊎ IsOutOfRange 1 100000000 (most_in rows))
+
+-- what does not fit in what clap found of a command that shows something of a run
+abbrev pub HasShowMisfit : Text × List Row → Misfit → Type 0
+HasShowMisfit found misfit = ((found.0 ≡ codes "sim") × HasMisfitOfRun false found.1 misfit)
+    ⊎ ((found.0 ≡ codes "run") × HasThreadsMisfit found.1 misfit)
+    ⊎ ((found.0 ≡ codes "trace") × HasTraceMisfit found.1 misfit)
+    ⊎ ((found.0 ≡ codes "explain") × HasShowingMisfit found.1 misfit)
+    ⊎ ((found.0 ≡ codes "stats") × HasShowingMisfit found.1 misfit)
+    ⊎ ((found.0 ≡ codes "chart") × HasShowingMisfit found.1 misfit)
+
+-- what does not fit in what clap found
+abbrev pub HasMisfit : Text × List Row → Misfit → Type 0
+HasMisfit found misfit = ((found.0 ≡ codes "plain") × HasPlainMisfit found.1 misfit)
+    ⊎ ((found.0 ≡ codes "judge") × HasJudgeMisfit found.1 misfit)
+    ⊎ ((found.0 ≡ codes "explore") × HasExploreMisfit found.1 misfit)
+    ⊎ HasShowMisfit found misfit
+
+-- ---- faults
+
+-- the kind of the usage text on what does not fit: a word that an option does not take, or options that do not stand together
+abbrev pub IsUsageKind : Misfit → ErrorKind → Type 0
+IsUsageKind Order kind = kind ≡ InvalidValue
+IsUsageKind RunOrder kind = kind ≡ InvalidValue
+IsUsageKind Page kind = kind ≡ InvalidValue
+IsUsageKind FormMisfit kind = kind ≡ InvalidValue
+IsUsageKind Seed kind = kind ≡ ArgumentConflict
+IsUsageKind Threads kind = kind ≡ ArgumentConflict
+IsUsageKind Messages kind = kind ≡ ArgumentConflict
+IsUsageKind Number kind = ⊥
+
+-- the fault of what does not fit
+abbrev pub IsMisfitFault : Misfit → ChooseFault → Type 0
+IsMisfitFault misfit (Usage error) = IsUsageKind misfit (kind_of error)
+IsMisfitFault misfit BadNumber = misfit ≡ Number
+IsMisfitFault misfit NoMemory = misfit ≢ Number
+
+-- The fault that clap's error stands for: want of memory, or one of the words.
+abbrev pub choose_fault : ErrorKind → Error → ChooseFault
+choose_fault OutOfMemory error = NoMemory
+choose_fault _ error = Usage error
+
+abbrev pub fault_from : Error → ChooseFault
+fault_from error = choose_fault (kind_of error) error
+
+-- Why clap finds no choice: a fault of the words, or want of memory.
+abbrev pub IsFoundFault : List Text → ChooseFault → Type 0
+IsFoundFault words (Usage error) = IsAmong (kind_of error) (fault_of treadmarks words)
+IsFoundFault words BadNumber = ⊥
+IsFoundFault words NoMemory = Unit {0}
+
+-- clap finds no fault in the words, and this does not fit in what it found
+abbrev pub AreMisfits : List Text → Misfit → Type 0
+AreMisfits words misfit = (fault_of treadmarks words ≡ []) × IsSomeAnd (subcommand_of treadmarks words) (λ found. HasMisfit found misfit)
+
+-- What the words come to: where clap finds no fault in them, the choice that it read, or words that do not fit, or a number
+-- that is out of range; where it finds one, that fault. Memory may run out at any words.
+abbrev pub Chooses : List Text → Result Choice ChooseFault → Type 0
+Chooses words (Ok choice) = (fault_of treadmarks words ≡ []) × IsSomeAnd (subcommand_of treadmarks words) (λ found. IsChoice found choice)
+Chooses words (Err BadNumber) = AreMisfits words Number
+Chooses words (Err (Usage error)) = IsAmong (kind_of error) (fault_of treadmarks words)
+    ⊎ ((misfit : Misfit) × AreMisfits words misfit × IsUsageKind misfit (kind_of error))
+Chooses words (Err NoMemory) = Unit {0}

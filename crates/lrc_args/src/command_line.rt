@@ -1,0 +1,176 @@
+// The words of the command line, read by clap.
+
+ghost use Rattle.std.specs.Prelude.{◌≡◌, [], IfErr, IfOk, IsSomeAnd, Ok, OnOk, Err, codes, map, option_map};
+ghost use Rattle.std.specs.Int.{IsOutOfRange};
+ghost use Rattle.clap.specs.Words.{fault_of, found_of, rows_of, subcommand_of, subcommand_rows_of};
+ghost use Rattle.lrc_args.specs.Commands.{treadmarks};
+ghost use Rattle.lrc_args.specs.CommandLine.{Chooses, HasExploreMisfit, HasJudgeMisfit, HasMisfit, HasPlainMisfit, HasShowMisfit};
+ghost use Rattle.lrc_args.specs.CommandLine.{IsAskTaken, IsChoice, IsFoundFault, IsShowTaken};
+ghost use Rattle.lrc_args.specs.CommandLine.{IsCommandTaken, fault_from, words_meant};
+ghost use Rattle.lrc_args.specs.Options.{IsExploreTaken, IsJudgeTaken, IsPlainTaken};
+ghost use Rattle.lrc_args.specs.declared.choice.ChooseFault.TheVariants.{NoMemory};
+ghost use Rattle.lrc_args.specs.declared.misfit.Misfit.TheVariants.{Number};
+
+use crate::choice::{Choice, ChooseFault, Exploring, Judging, Nodes, PlainRun, Shape};
+use crate::commands::command_line;
+use crate::misfit::{Misfit, fault_of_misfit};
+use crate::reading::{
+    is_named, most_of, nodes_of, so_many_nodes, some_number_of, steps_of, text_of,
+};
+use crate::runs::{chart_choice, run_choice, showing_choice, threads_run, trace_choice};
+use clap::ArgMatches;
+use clap::error::ErrorKind;
+use std::alloc::{AllocError, Global};
+use std::convert::AsStr;
+
+// What the program does where it gets no words.
+static NO_WORDS: [&str; 2] = ["sim", "-"];
+
+/// Reads the words that follow the program's name. No words at all ask for `sim -`.
+pub fn choose<'w, S: AsStr>(alloc: Global, words: &'w [S]) -> Result<Choice<'w>, ChooseFault>
+    ensures { Chooses (words_meant (map S.text words.entry.now)) result }
+{
+    if words.is_empty() {
+        choice_in(alloc, NO_WORDS.as_slice())
+    } else {
+        choice_in(alloc, words)
+    }
+}
+
+fn choice_in<'w, S: AsStr>(alloc: Global, words: &'w [S]) -> Result<Choice<'w>, ChooseFault>
+    ensures { Chooses (map S.text words.entry.now) result }
+{
+    let matches = matches_of(alloc, words)?;
+    choice_from(&matches).map_err(|misfit| fault_of_misfit(alloc, misfit))
+}
+
+fn matches_of<'w, S: AsStr>(alloc: Global, words: &'w [S]) -> Result<ArgMatches<'w>, ChooseFault>
+    ensures free { OnOk result (fault_of treadmarks (map S.text words.entry.now) ≡ []) }
+    ensures rows { IfOk result (λ matches.
+        subcommand_rows_of matches ≡ subcommand_of treadmarks (map S.text words.entry.now)) }
+    ensures err { IfErr result (λ fault. IsFoundFault (map S.text words.entry.now) fault) }
+{
+    let command = command_line(alloc)?;
+    Ok(command.try_get_matches_from(words)?)
+}
+
+fn choice_from<'w>(matches: &ArgMatches<'w>) -> Result<Choice<'w>, Misfit>
+    requires { IsCommandTaken (subcommand_rows_of matches.now) }
+    ensures ok { IfOk result (λ choice. IsSomeAnd (subcommand_rows_of matches.now) (λ found. IsChoice found choice)) }
+    ensures err { IfErr result (λ misfit. IsSomeAnd (subcommand_rows_of matches.now) (λ found. HasMisfit found misfit)) }
+{
+    if let Some(options) = matches.subcommand_matches("check") {
+        return Ok(Choice::Check(text_of(options, "FILE")));
+    }
+    if let Some(options) = matches.subcommand_matches("plain") {
+        return plain_choice(options);
+    }
+    if let Some(options) = matches.subcommand_matches("judge") {
+        return judge_choice(options);
+    }
+    if let Some(options) = matches.subcommand_matches("explore") {
+        return explore_choice(options);
+    }
+    shown_from(matches)
+}
+
+// What a command asks for that shows something of a run.
+fn shown_from<'w>(matches: &ArgMatches<'w>) -> Result<Choice<'w>, Misfit>
+    requires { IsSomeAnd (subcommand_rows_of matches.now) IsShowTaken }
+    ensures ok { IfOk result (λ choice. IsSomeAnd (subcommand_rows_of matches.now) (λ found. IsChoice found choice)) }
+    ensures err { IfErr result (λ misfit. IsSomeAnd (subcommand_rows_of matches.now) (λ found. HasShowMisfit found misfit)) }
+{
+    if let Some(options) = matches.subcommand_matches("sim") {
+        return Ok(Choice::Show(run_choice(options, false)?, Shape::Report));
+    }
+    if let Some(options) = matches.subcommand_matches("run") {
+        return Ok(Choice::Show(threads_run(options)?, Shape::Report));
+    }
+    asked_from(matches)
+}
+
+// What a command asks for that asks more of a run.
+fn asked_from<'w>(matches: &ArgMatches<'w>) -> Result<Choice<'w>, Misfit>
+    requires { IsSomeAnd (subcommand_rows_of matches.now) IsAskTaken }
+    ensures ok { IfOk result (λ choice. IsSomeAnd (subcommand_rows_of matches.now) (λ found. IsChoice found choice)) }
+    ensures err { IfErr result (λ misfit. IsSomeAnd (subcommand_rows_of matches.now) (λ found. HasShowMisfit found misfit)) }
+{
+    if let Some(options) = matches.subcommand_matches("trace") {
+        return trace_choice(options);
+    }
+    if let Some(options) = matches.subcommand_matches("chart") {
+        return chart_choice(options);
+    }
+    if let Some(options) = matches.subcommand_matches("explain") {
+        return showing_choice(options, Shape::Explain);
+    }
+    let options = matches.subcommand_matches("stats").unwrap();
+    showing_choice(options, Shape::Stats)
+}
+
+fn plain_choice<'w>(options: &ArgMatches<'w>) -> Result<Choice<'w>, Misfit>
+    requires { IsPlainTaken (rows_of (found_of options.now)) }
+    ensures ok { IfOk result (IsChoice (codes "plain", rows_of (found_of options.now))) }
+    ensures err { IfErr result (HasPlainMisfit (rows_of (found_of options.now))) }
+{
+    Ok(Choice::Plain(PlainRun {
+        file: text_of(options, "FILE"),
+        nodes: nodes_of(options)?,
+        steps: steps_of(options)?,
+    }))
+}
+
+fn judge_choice<'w>(options: &ArgMatches<'w>) -> Result<Choice<'w>, Misfit>
+    requires { IsJudgeTaken (rows_of (found_of options.now)) }
+    ensures ok { IfOk result (IsChoice (codes "judge", rows_of (found_of options.now))) }
+    ensures err { IfErr result (HasJudgeMisfit (rows_of (found_of options.now))) }
+{
+    let nodes = some_nodes(some_number_of(options, "nodes"))?;
+    Ok(Choice::Judge(Judging {
+        file: text_of(options, "FILE"),
+        nodes,
+        pairs: is_named(options, "pairs"),
+    }))
+}
+
+fn some_nodes(count: Option<u64>) -> Result<Option<Nodes>, Misfit>
+    ensures ok { IfOk result (λ nodes. count ≡ option_map (λ nodes. nodes.count) nodes) }
+    ensures err { IfErr result (λ misfit. (misfit ≡ Number) × IsSomeAnd count (IsOutOfRange 1 16)) }
+{
+    match count {
+        Some(count) => Ok(Some(so_many_nodes(count)?)),
+        None => Ok(None),
+    }
+}
+
+fn explore_choice<'w>(options: &ArgMatches<'w>) -> Result<Choice<'w>, Misfit>
+    requires { IsExploreTaken (rows_of (found_of options.now)) }
+    ensures ok { IfOk result (IsChoice (codes "explore", rows_of (found_of options.now))) }
+    ensures err { IfErr result (HasExploreMisfit (rows_of (found_of options.now))) }
+{
+    Ok(Choice::Explore(Exploring {
+        file: text_of(options, "FILE"),
+        nodes: nodes_of(options)?,
+        most: most_of(options)?,
+        outcomes: is_named(options, "outcomes"),
+    }))
+}
+
+impl From<AllocError> for ChooseFault {
+    ghost from_gives = { λ _ fault. fault ≡ NoMemory };
+
+    fn from(_error: AllocError) -> ChooseFault {
+        ChooseFault::NoMemory
+    }
+}
+
+impl From<clap::Error> for ChooseFault {
+    ghost from_gives = { λ error fault. fault ≡ fault_from error };
+
+    fn from(error: clap::Error) -> ChooseFault {
+        match error.kind() {
+            ErrorKind::OutOfMemory => ChooseFault::NoMemory,
+            _ => ChooseFault::Usage(error),
+        }
+    }
+}

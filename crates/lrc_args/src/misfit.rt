@@ -1,0 +1,100 @@
+// Why words in which clap finds no fault are no choice.
+
+ghost use Rattle.std.specs.Prelude.{◌≡◌, ◌≢◌, IfOk};
+ghost use Rattle.clap.specs.Words.{kind_of};
+ghost use Rattle.lrc_args.specs.CommandLine.{IsMisfitFault, IsUsageKind};
+ghost use Rattle.lrc_args.specs.declared.misfit.Misfit.TheVariants.{Number};
+
+use crate::choice::ChooseFault;
+use crate::commands::command_line;
+use clap::error::ErrorKind;
+use std::alloc::{AllocError, Global};
+
+const BAD_ORDER: &str =
+    "invalid value for '--order <ORDER>': it is oldest, newest, twice or random";
+
+const BAD_RUN_ORDER: &str = "invalid value for '--order <ORDER>': it is oldest, newest or twice";
+
+const BAD_PAGE: &str = "invalid value for '--page <WORDS>': it is 64 or 256";
+
+const BAD_FORM: &str = "invalid value for '--as <FORM>': it is acts, events, json or rapid";
+
+const IDLE_SEED: &str = "the argument '--seed <X>' cannot be used without '--order random'";
+
+const BAD_THREADS: &str =
+    "the argument '--threads' cannot be used with '--events <PATH>' or '--order random'";
+
+const BAD_MESSAGES: &str =
+    "the argument '--messages' cannot be used with a form other than '--as acts'";
+
+/// Why the options that clap read are no choice.
+#[derive(Clone, Copy)]
+pub(crate) enum Misfit {
+    /// `--order` has no word that it takes.
+    Order,
+    /// The `--order` of `run` has no word that it takes.
+    RunOrder,
+    /// `--page` has no word that it takes.
+    Page,
+    /// `--as` has no word that it takes.
+    Form,
+    /// There is a seed, and the order is not random.
+    Seed,
+    /// Threads are asked for, and so are given events or a random order.
+    Threads,
+    /// Messages are asked for, and so is another form than that of acts.
+    Messages,
+    /// A number is not in its option's range.
+    Number,
+}
+
+/// The fault of what does not fit.
+pub(crate) fn fault_of_misfit(alloc: Global, misfit: Misfit) -> ChooseFault
+    ensures { IsMisfitFault misfit result }
+{
+    match misfit {
+        Misfit::Number => ChooseFault::BadNumber,
+        _ => usage_fault(alloc, misfit),
+    }
+}
+
+fn usage_fault(alloc: Global, misfit: Misfit) -> ChooseFault
+    requires { misfit ≢ Number }
+    ensures { IsMisfitFault misfit result }
+{
+    match usage_error(alloc, misfit) {
+        Ok(error) => ChooseFault::Usage(error),
+        Err(_error) => ChooseFault::NoMemory,
+    }
+}
+
+fn usage_error(alloc: Global, misfit: Misfit) -> Result<clap::Error, AllocError>
+    requires { misfit ≢ Number }
+    ensures { IfOk result (λ error. IsUsageKind misfit (kind_of error)) }
+{
+    let mut command = command_line(alloc)?;
+    command.error(usage_kind(misfit), message_of(misfit))
+}
+
+fn usage_kind(misfit: Misfit) -> ErrorKind
+    requires { misfit ≢ Number }
+    ensures { IsUsageKind misfit result }
+{
+    match misfit {
+        Misfit::Seed | Misfit::Threads | Misfit::Messages => ErrorKind::ArgumentConflict,
+        _ => ErrorKind::InvalidValue,
+    }
+}
+
+fn message_of(misfit: Misfit) -> &'static str {
+    match misfit {
+        Misfit::Order => BAD_ORDER,
+        Misfit::RunOrder => BAD_RUN_ORDER,
+        Misfit::Page => BAD_PAGE,
+        Misfit::Form => BAD_FORM,
+        Misfit::Seed => IDLE_SEED,
+        Misfit::Threads => BAD_THREADS,
+        Misfit::Messages => BAD_MESSAGES,
+        Misfit::Number => "number out of range",
+    }
+}

@@ -1,0 +1,126 @@
+// The options of a command, one by one, as clap read them.
+
+ghost use Rattle.std.specs.Prelude.{◌≡◌, IfErr, IfOk, Some, codes, option_map};
+ghost use Rattle.std.specs.Int.{IsOutOfRange};
+ghost use Rattle.clap.specs.Words.{first_of, found_of, rows_of};
+ghost use Rattle.lrc_args.specs.Options.{HasBadPage, HasValue, IsBareNumber, IsFlag, IsFlagOption, IsNumberOption, IsPageSize};
+ghost use Rattle.lrc_args.specs.Options.{collect_in, most_in, nodes_in, option_number, some_number_in, steps_in};
+ghost use Rattle.lrc_args.specs.declared.misfit.Misfit.TheVariants as unfit;
+ghost use Rattle.lrc_page.specs.declared.size.Size.{Size};
+
+use crate::choice::{Collect, Most, Nodes, Steps};
+use crate::misfit::Misfit;
+use clap::ArgMatches;
+use lrc_page::Size;
+
+/// The value of an option or argument.
+pub(crate) fn text_of<'w>(options: &ArgMatches<'w>, name: &str) -> &'w str
+    requires { HasValue name.now (rows_of (found_of options.now)) }
+    ensures { first_of name.now (rows_of (found_of options.now)) ≡ Some result.now }
+{
+    options.get_str(name).unwrap()
+}
+
+/// Whether the words name a flag.
+pub(crate) fn is_named(options: &ArgMatches<'_>, name: &str) -> bool
+    requires { IsFlagOption name.now (rows_of (found_of options.now)) }
+    ensures { IsFlag name.now result (rows_of (found_of options.now)) }
+{
+    options.get_flag(name)
+}
+
+/// The number of an option that has one.
+pub(crate) fn number_of(options: &ArgMatches<'_>, name: &str) -> u64
+    requires { IsNumberOption name.now (rows_of (found_of options.now)) }
+    ensures { result ≡ option_number name.now (rows_of (found_of options.now)) }
+{
+    options.get_one::<u64>(name).unwrap()
+}
+
+/// The number of an option that need not be there.
+pub(crate) fn some_number_of(options: &ArgMatches<'_>, name: &str) -> Option<u64>
+    requires { IsBareNumber name.now (rows_of (found_of options.now)) }
+    ensures { result ≡ some_number_in name.now (rows_of (found_of options.now)) }
+{
+    options.get_one::<u64>(name)
+}
+
+pub(crate) fn nodes_of(options: &ArgMatches<'_>) -> Result<Nodes, Misfit>
+    requires { IsNumberOption (codes "nodes") (rows_of (found_of options.now)) }
+    ensures ok { IfOk result (λ nodes. nodes_in (rows_of (found_of options.now)) ≡ nodes.count) }
+    ensures err { IfErr result (λ misfit. (misfit ≡ unfit.Number)
+        × IsOutOfRange 1 16 (nodes_in (rows_of (found_of options.now)))) }
+{
+    so_many_nodes(number_of(options, "nodes"))
+}
+
+/// So many nodes.
+pub(crate) fn so_many_nodes(count: u64) -> Result<Nodes, Misfit>
+    ensures ok { IfOk result (λ nodes. count ≡ nodes.count) }
+    ensures err { IfErr result (λ misfit. (misfit ≡ unfit.Number) × IsOutOfRange 1 16 count) }
+{
+    match u32::try_from(count) {
+        Ok(count) if 1 <= count && count <= 16 => Ok(Nodes { count }),
+        _ => Err(Misfit::Number),
+    }
+}
+
+pub(crate) fn steps_of(options: &ArgMatches<'_>) -> Result<Steps, Misfit>
+    requires { IsNumberOption (codes "steps") (rows_of (found_of options.now)) }
+    ensures ok { IfOk result (λ steps. steps_in (rows_of (found_of options.now)) ≡ steps.count) }
+    ensures err { IfErr result (λ misfit. (misfit ≡ unfit.Number)
+        × IsOutOfRange 1 1000000 (steps_in (rows_of (found_of options.now)))) }
+{
+    let count = number_of(options, "steps");
+    match u32::try_from(count) {
+        Ok(count) if 1 <= count && count <= 1_000_000 => Ok(Steps { count }),
+        _ => Err(Misfit::Number),
+    }
+}
+
+pub(crate) fn collect_of(options: &ArgMatches<'_>) -> Result<Collect, Misfit>
+    requires { IsNumberOption (codes "collect") (rows_of (found_of options.now)) }
+    ensures ok { IfOk result (λ collect. collect_in (rows_of (found_of options.now)) ≡ collect.count) }
+    ensures err { IfErr result (λ misfit. (misfit ≡ unfit.Number)
+        × IsOutOfRange 0 1000000 (collect_in (rows_of (found_of options.now)))) }
+{
+    let count = number_of(options, "collect");
+    match u32::try_from(count) {
+        Ok(count) if count <= 1_000_000 => Ok(Collect { count }),
+        _ => Err(Misfit::Number),
+    }
+}
+
+pub(crate) fn most_of(options: &ArgMatches<'_>) -> Result<Most, Misfit>
+    requires { IsNumberOption (codes "most") (rows_of (found_of options.now)) }
+    ensures ok { IfOk result (λ most. most_in (rows_of (found_of options.now)) ≡ most.count) }
+    ensures err { IfErr result (λ misfit. (misfit ≡ unfit.Number)
+        × IsOutOfRange 1 100000000 (most_in (rows_of (found_of options.now)))) }
+{
+    let count = number_of(options, "most");
+    match u32::try_from(count) {
+        Ok(count) if 1 <= count && count <= 100_000_000 => Ok(Most { count }),
+        _ => Err(Misfit::Number),
+    }
+}
+
+pub(crate) fn size_of(options: &ArgMatches<'_>) -> Result<Size, Misfit>
+    requires { HasValue (codes "page") (rows_of (found_of options.now)) }
+    ensures ok { IfOk result (IsPageSize (first_of (codes "page") (rows_of (found_of options.now)))) }
+    ensures err { IfErr result (λ misfit. (misfit ≡ unfit.Page) × HasBadPage (rows_of (found_of options.now))) }
+{
+    size_named(text_of(options, "page"))
+}
+
+fn size_named(word: &str) -> Result<Size, Misfit>
+    ensures ok { IfOk result (IsPageSize (Some word.now)) }
+    ensures err { IfErr result (λ misfit. (misfit ≡ unfit.Page) × ((size : Size) → ¬ IsPageSize (Some word.now) size)) }
+{
+    if word == "64" {
+        Ok(Size::Words64)
+    } else if word == "256" {
+        Ok(Size::Words256)
+    } else {
+        Err(Misfit::Page)
+    }
+}

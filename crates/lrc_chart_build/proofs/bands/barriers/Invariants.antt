@@ -1,0 +1,7 @@
+use Rattle.std.proofs.Common.{◌≡◌, map, take}
+use Rattle.lrc_chart_build.specs.Bands.{barrier_at}
+use Rattle.lrc_chart_build.proofs.bands.barriers.Given as goal
+
+-- the barriers of the rows so far
+abbrev pub invariant-loop-place : goal.invariant-loop-place
+invariant-loop-place l = l.numbers.items ≡ map (λ row. barrier_at l.acts row.act) (take l.place-index l.places)

@@ -1,0 +1,106 @@
+// A run as a picture.
+
+ghost use Rattle.std.specs.Prelude.{◌≡◌, ◌<◌, ◌≤◌, ◌∷◌, ◌++◌, [], IfErr, IfOk, OnOk, length, map};
+ghost use Rattle.lrc_chart_build.specs.declared.portrait.PortraitFault.TheVariants.{NoMemory, TooLong};
+ghost use Rattle.lrc_chart_build.specs.Portrait.{IsPortrait, MOST_SHOWN, column_name, column_names, rows_shown};
+
+use crate::arrows::{arrows_of, lost_of};
+use crate::bands::bands_of;
+use crate::course::Course;
+use crate::part::{Part, rows_in};
+use crate::races::races_of;
+use crate::rows::rows_of;
+use lrc_chart_model::Picture;
+use lrc_chart_rows::Row as Place;
+use lrc_text::push_number;
+use std::alloc::{AllocError, Global};
+use thiserror::Error;
+
+/// How many turns a picture shows at most.
+pub const MOST_ROWS: usize = 2000;
+
+/// Why there is no picture.
+#[derive(Clone, Copy, Debug, PartialEq, Eq, Error)]
+pub enum PortraitFault {
+    /// There are more turns than a picture shows.
+    #[error("too long for a chart")]
+    TooLong,
+    /// Memory ran out.
+    #[error("out of memory")]
+    NoMemory,
+}
+
+impl From<AllocError> for PortraitFault {
+    ghost from_gives = { λ _ e. e ≡ NoMemory };
+
+    fn from(_: AllocError) -> Self {
+        PortraitFault::NoMemory
+    }
+}
+
+fn column_name(alloc: Global, node: u8) -> Result<Vec<u8>, AllocError>
+    ensures { IfOk result (λ name. name.items ≡ column_name node) }
+{
+    let mut name = Vec::new(alloc);
+    push_number(&mut name, b"node ", u64::from(node))?;
+    Ok(name)
+}
+
+fn push_column(alloc: Global, columns: &mut Vec<Vec<u8>>, node: u8) -> Result<(), AllocError>
+    ensures { OnOk result (map (λ name. name.items) columns.new.items
+        ≡ map (λ name. name.items) columns.old.items ++ column_name node ∷ []) }
+{
+    columns.push(column_name(alloc, node)?)?;
+    Ok(())
+}
+
+fn columns_of(alloc: Global, nodes: u8) -> Result<Vec<Vec<u8>>, AllocError>
+    ensures { IfOk result (λ columns. map (λ name. name.items) columns.items ≡ column_names nodes) }
+{
+    let mut columns = Vec::new(alloc);
+    for node in 0..nodes {
+        push_column(alloc, &mut columns, node)?;
+    }
+    Ok(columns)
+}
+
+fn picture_of(
+    alloc: Global,
+    title: &[u8],
+    nodes: u8,
+    course: &Course<'_>,
+    places: &[Place],
+) -> Result<Picture, AllocError>
+    ensures { IfOk result (IsPortrait title.now nodes course.now places.now) }
+{
+    Ok(Picture {
+        title: Vec::from_slice(alloc, title)?,
+        columns: columns_of(alloc, nodes)?,
+        rows: rows_of(alloc, course, places)?,
+        arrows: arrows_of(alloc, course.turns, places)?,
+        lost: lost_of(alloc, course.turns, places)?,
+        bands: bands_of(alloc, course.acts, places)?,
+        races: races_of(alloc, course.acts, course.lines, course.pairs, places)?,
+    })
+}
+
+/// The picture of a part of a run of so many nodes, under this title. A message is shown where both its ends are among the rows, or
+/// where it is sent at one of them and no turn of the run takes it.
+pub fn portrait_of(
+    alloc: Global,
+    title: &[u8],
+    nodes: u8,
+    course: &Course<'_>,
+    part: Part,
+) -> Result<Picture, PortraitFault>
+    ensures ok { IfOk result (IsPortrait title.now nodes course.now (rows_shown course.now part)) }
+    ensures short { IfOk result (λ _. length (rows_shown course.now part) ≤ MOST_SHOWN) }
+    ensures err { IfErr result (λ fault. fault ≡ TooLong → MOST_SHOWN < length (rows_shown course.now part)) }
+{
+    let rows = lrc_chart_rows::rows_of(alloc, course.turns)?;
+    let places = rows_in(part, rows.as_slice());
+    if places.len() > MOST_ROWS {
+        return Err(PortraitFault::TooLong);
+    }
+    Ok(picture_of(alloc, title, nodes, course, places)?)
+}

@@ -1,0 +1,120 @@
+// Times of acts in words.
+
+ghost use Rattle.std.specs.Prelude.{◌≡◌, ◌++◌, IfOk, OnOk, option_map, slice_get};
+ghost use Rattle.lrc_clock.specs.Times.{acts_at};
+ghost use Rattle.lrc_chart_build.specs.Words.{changes_since, entries_text, hint_text, hint_words, last_act, new_time_text, same_time};
+
+use crate::course::Course;
+use crate::words::line_at;
+use lrc_acts_text::push_entries;
+use lrc_text::push_number;
+use lrc_time::Time;
+use lrc_trace::act::Act;
+use std::alloc::{AllocError, Global};
+
+// The time at a position.
+fn time_at(times: &[Time], position: usize) -> Option<&Time>
+    ensures { option_map (λ time. time.now) result ≡ slice_get times.now position }
+{
+    times.get(position)
+}
+
+fn acts_at(acts: &[Act], node: u8, position: usize) -> bool
+    ensures { result ≡ acts_at acts.now node position }
+{
+    match acts.get(position) {
+        Some(act) => act.node == node,
+        None => false,
+    }
+}
+
+// The position of a node's last act before a position.
+fn last_act(acts: &[Act], node: u8, position: usize) -> Option<usize>
+    ensures { result ≡ last_act acts.now node position }
+{
+    let mut last = None;
+    for at in 0..position {
+        if acts_at(acts, node, at) {
+            last = Some(at);
+        }
+    }
+    last
+}
+
+fn is_same(a: Option<&Time>, b: Option<&Time>) -> bool
+    ensures { result ≡ same_time (option_map (λ time. time.now) a.entry) (option_map (λ time. time.now) b.entry) }
+{
+    match (a, b) {
+        (Some(a), Some(b)) => a == b,
+        _ => false,
+    }
+}
+
+// Whether the time at a position is another one than at the position before.
+fn changes_since(times: &[Time], position: usize, before: Option<usize>) -> bool
+    ensures { result ≡ changes_since times.now position before }
+{
+    match before {
+        Some(before) => !is_same(time_at(times, before), time_at(times, position)),
+        None => true,
+    }
+}
+
+fn push_entries_if(text: &mut Vec<u8>, time: Option<&Time>) -> Result<(), AllocError>
+    ensures { OnOk result (text.new.items ≡ text.old.items ++ entries_text (option_map (λ time. time.now) time.entry)) }
+{
+    match time {
+        Some(time) => push_entries(text, time),
+        None => Ok(()),
+    }
+}
+
+/// The time that a node has just after its act at a position, at its first act and where it changes.
+pub(crate) fn new_time_text(
+    alloc: Global,
+    course: &Course<'_>,
+    node: u8,
+    act: Option<usize>,
+) -> Result<Vec<u8>, AllocError>
+    ensures { IfOk result (λ text. text.items ≡ new_time_text course.now node act) }
+{
+    let mut text = Vec::new(alloc);
+    if let Some(position) = act {
+        let before = last_act(course.acts, node, position);
+        if changes_since(course.times, position, before) {
+            push_entries_if(&mut text, time_at(course.times, position))?;
+        }
+    }
+    Ok(text)
+}
+
+fn push_hint(
+    text: &mut Vec<u8>,
+    position: usize,
+    line: u32,
+    time: Option<&Time>,
+) -> Result<(), AllocError>
+    ensures { OnOk result (text.new.items
+        ≡ text.old.items ++ hint_words position line (option_map (λ time. time.now) time.entry)) }
+{
+    push_number(text, b"act ", position as u64)?;
+    push_number(text, b", line ", u64::from(line))?;
+    text.extend_from_slice(b", time ")?;
+    push_entries_if(text, time)
+}
+
+/// An act's position, its line, and its node's time just after it.
+pub(crate) fn hint_text(
+    alloc: Global,
+    course: &Course<'_>,
+    act: Option<usize>,
+) -> Result<Vec<u8>, AllocError>
+    ensures { IfOk result (λ text. text.items ≡ hint_text course.now act) }
+{
+    let mut text = Vec::new(alloc);
+    if let Some(position) = act {
+        let line = line_at(course.lines, position);
+        push_hint(&mut text, position, line, time_at(course.times, position))?;
+    }
+    Ok(text)
+}

@@ -1,0 +1,188 @@
+// A node's clock, the tokens that it has or awaits, and the locks that it manages.
+
+ghost use Rattle.std.specs.Prelude.{◌≡◌, ℕ, ◌+◌, ◌<◌, ◌≤◌, List, IfSome, IsTrue, Ok, length};
+ghost use Rattle.lrc_time.specs.Time.{entry};
+ghost use Rattle.lrc_lock.specs.Held.{asked, forwarded, granted, held_after, is_free, is_held, lock_at, pass_of, released, taken, is_taken};
+ghost use Rattle.lrc_lock.specs.Held.{is_awaited};
+ghost use Rattle.lrc_lock.specs.Lock.{IsPass, manager_of};
+ghost use Rattle.lrc_lock.specs.Managed.{managed_after, requested, request_answer};
+ghost use Rattle.lrc_lock.specs.declared.state.LockState.TheVariants.{Away};
+ghost use Rattle.lrc_protocol.specs.Times.{next_time, MOST_NUMBER};
+ghost use Rattle.lrc_protocol.specs.Locks.{fresh_locks, ticked, with_held, with_managed, with_joined_time};
+ghost use Rattle.lrc_control.specs.Clock.{IsClock, SameClock};
+
+use lrc_lock::{Held, Managed, Pass};
+use lrc_time::Time;
+use std::marker::Model;
+
+/// A node's time, which counts closed intervals; what it knows of each lock's token; and who asked last for the locks
+/// that it manages.
+#[derive(Drop)]
+pub struct Clock {
+    me: u8,
+    time: Time,
+    held: Held,
+    managed: Managed,
+}
+
+impl Model for Clock {
+    ghost use Rattle.lrc_protocol.specs.Locks.{Locks};
+    ghost use Rattle.lrc_control.specs.Clock.{IsClock};
+
+    ghost Value = { Locks };
+
+    ghost view = { λ c. record { time = c.time; held = c.held; managed = c.managed } };
+
+    ghost invariant = { λ c. IsClock c.me (record { time = c.time; held = c.held; managed = c.managed }) };
+}
+
+impl Clock {
+    /// The clock of node `me` of 1 to 16 nodes at the start, with at most 64 locks.
+    pub fn new(me: u8, nodes: u8, locks: u8) -> Clock
+        requires here { me < nodes }
+        requires few { nodes ≤ 16 }
+        requires room { locks ≤ 64 }
+        ensures { result ≡ fresh_locks me nodes locks }
+    {
+        Clock {
+            me,
+            time: Time::new(nodes),
+            held: Held::new(me, nodes, locks),
+            managed: Managed::new(me, nodes, locks),
+        }
+    }
+
+    /// The node's time.
+    pub fn time(&self) -> &Time
+        ensures time { result.now ≡ self.now.time }
+        ensures is { IsClock self.now.held.me self.now }
+    {
+        &self.time
+    }
+
+    /// The index of the node's newest closed interval, 0 where it has closed none.
+    pub fn index(&self) -> u32
+        ensures { result ≡ entry self.now.time self.now.held.me }
+    {
+        self.time.at(self.me)
+    }
+
+    /// The stamp that the open interval has or would have: the node's time, its own entry one greater.
+    pub fn next(&self) -> Time
+        requires { entry self.now.time self.now.held.me < MOST_NUMBER }
+        ensures stamp { result ≡ next_time self.now.held.me self.now.time }
+        ensures own { entry result self.now.held.me ≡ entry self.now.time self.now.held.me + 1 }
+        ensures counted { length result ≡ length self.now.time }
+    {
+        let mut time = self.time.copy();
+        let next = time.at(self.me) + 1;
+        time.raise(self.me, next);
+        time
+    }
+
+    /// The open interval is closed.
+    pub fn tick(&mut self)
+        requires { entry self.old.time self.old.held.me < MOST_NUMBER }
+        ensures clock { self.new ≡ ticked self.old.held.me self.old }
+        ensures same { SameClock self.old self.new }
+    {
+        self.time = self.next();
+    }
+
+    /// The node learns what this time knows.
+    pub fn learn(&mut self, time: &Time)
+        requires { length time.now ≡ length self.old.time }
+        ensures clock { self.new ≡ with_joined_time time.now self.old }
+        ensures same { SameClock self.old self.new }
+    {
+        self.time.join(time);
+    }
+
+    /// Takes the lock if its token is here and the lock is free, and answers whether it did.
+    pub fn try_local(&mut self, lock: u8) -> bool
+        requires { lock < length self.old.held.locks }
+        ensures answer { result ≡ is_free (lock_at self.old.held lock) }
+        ensures clock { self.new ≡ with_held (taken self.old.held lock) self.old }
+        ensures same { SameClock self.old self.new }
+    {
+        self.held.try_local(lock)
+    }
+
+    /// Notes that the token was asked for. It is neither here nor awaited.
+    pub fn ask(&mut self, lock: u8)
+        requires lock { lock < length self.old.held.locks }
+        requires away { lock_at self.old.held lock ≡ Away }
+        ensures clock { self.new ≡ with_held (asked self.old.held lock) self.old }
+        ensures same { SameClock self.old self.new }
+    {
+        self.held.ask(lock);
+    }
+
+    /// The node, which holds the lock, releases it at its present time. The pass is to the successor, if there is one.
+    pub fn release(&mut self, lock: u8) -> Option<Pass>
+        requires lock { lock < length self.old.held.locks }
+        requires held { IsTrue (is_held (lock_at self.old.held lock)) }
+        ensures answer { result ≡ pass_of (released self.old.held lock self.old.time) }
+        ensures clock { self.new ≡ with_held (held_after self.old.held lock (released self.old.held lock self.old.time)) self.old }
+        ensures same { SameClock self.old self.new }
+        ensures pass { IfSome result (IsPass self.old.held.me (length self.old.time)) }
+    {
+        let now = self.time.copy();
+        self.held.release(lock, now)
+    }
+
+    /// Whether another node's request would be taken now, if it were forwarded to this one.
+    pub fn accepts(&self, lock: u8, asker: u8) -> bool
+        requires { lock < length self.now.held.locks }
+        ensures { (time : List ℕ) → result ≡ is_taken (forwarded self.now.held lock asker time) }
+    {
+        self.held.accepts(lock, asker)
+    }
+
+    /// Another node's request, with its time, is forwarded to this one, which takes it. The pass is there if the token
+    /// leaves at once.
+    pub fn forward(&mut self, lock: u8, asker: u8, time: Time) -> Option<Pass>
+        requires lock { lock < length self.old.held.locks }
+        requires asker { asker < length self.old.time }
+        requires counted { length time ≡ length self.old.time }
+        requires taken { IsTrue (is_taken (forwarded self.old.held lock asker time)) }
+        ensures answer { result ≡ pass_of (forwarded self.old.held lock asker time) }
+        ensures clock { self.new ≡ with_held (held_after self.old.held lock (forwarded self.old.held lock asker time)) self.old }
+        ensures same { SameClock self.old self.new }
+        ensures pass { IfSome result (IsPass self.old.held.me (length self.old.time)) }
+    {
+        let Ok(pass) = self.held.forward(lock, asker, time) else {
+            unreachable!()
+        };
+        pass
+    }
+
+    /// The token comes, which was awaited, and the node holds the lock.
+    pub fn granted(&mut self, lock: u8)
+        requires lock { lock < length self.old.held.locks }
+        requires awaited { IsTrue (is_awaited (lock_at self.old.held lock)) }
+        ensures clock { self.new ≡ with_held (held_after self.old.held lock (granted self.old.held lock)) self.old }
+        ensures same { SameClock self.old self.new }
+    {
+        let Ok(()) = self.held.granted(lock) else {
+            unreachable!()
+        };
+    }
+
+    /// The node to which a request for a lock that this node manages goes on; from now on the asker is the one that asked
+    /// last.
+    pub fn request(&mut self, lock: u8, asker: u8) -> u8
+        requires lock { lock < length self.old.held.locks }
+        requires asker { asker < length self.old.time }
+        requires managed { manager_of self.old.managed.nodes lock ≡ self.old.managed.me }
+        ensures answer { request_answer (requested self.old.managed lock asker) ≡ Ok result }
+        ensures clock { self.new ≡ with_managed (managed_after self.old.managed (requested self.old.managed lock asker)) self.old }
+        ensures same { SameClock self.old self.new }
+        ensures to { result < length self.old.time }
+    {
+        let Ok(to) = self.managed.request(lock, asker) else {
+            unreachable!()
+        };
+        to
+    }
+}

@@ -1,9 +1,0 @@
-use Rattle.std.proofs.Common.{◌≡◌, ◌++◌, take}
-use Rattle.std.specs.List.{flat_map}
-use Rattle.lrc_drawing.specs.Marks.{all_marks}
-use Rattle.lrc_drawing.specs.Shown.{arrow_marks}
-use Rattle.lrc_drawing.proofs.arrows.push_arrows.Given as goal
-
-abbrev pub invariant-loop-arrow : goal.invariant-loop-arrow
-invariant-loop-arrow l =
-    all_marks l.contents.items ≡ all_marks l.initial.contents.items ++ flat_map (arrow_marks l.layout) (take l.arrow-index l.arrows)

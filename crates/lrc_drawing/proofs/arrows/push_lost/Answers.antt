@@ -1,7 +1,0 @@
-use Rattle.std.proofs.Common.{◌∙◌, ap}
-use Rattle.lrc_drawing.specs.Marks.{begins_with_digit}
-use Rattle.lrc_drawing.proofs.Ways.{leaving_starts}
-use Rattle.lrc_drawing.proofs.arrows.push_lost.Goals as goal
-
-pub push_path-requires : goal.push_path-requires
-push_path-requires c = ap begins_with_digit c.between-way.ensures.leaves ∙ leaving_starts c.args.lost.now.sender c.args.lost.now.receiver

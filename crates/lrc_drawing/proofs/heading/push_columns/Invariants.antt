@@ -1,9 +1,0 @@
-use Rattle.std.proofs.Common.{◌≡◌, ◌++◌, take}
-use Rattle.lrc_show.specs.Each.{each}
-use Rattle.lrc_drawing.specs.Marks.{all_marks}
-use Rattle.lrc_drawing.specs.Shown.{column_marks}
-use Rattle.lrc_drawing.proofs.heading.push_columns.Given as goal
-
-abbrev pub invariant-loop-column : goal.invariant-loop-column
-invariant-loop-column l =
-    all_marks l.contents.items ≡ all_marks l.initial.contents.items ++ each (column_marks l.layout l.foot) (take l.column l.names)

@@ -1,9 +1,0 @@
-use Rattle.std.proofs.Common.{◌≡◌, ◌++◌, take}
-use Rattle.std.specs.List.{flat_map}
-use Rattle.lrc_drawing.specs.Marks.{all_marks}
-use Rattle.lrc_drawing.specs.Shown.{band_marks}
-use Rattle.lrc_drawing.proofs.races.push_bands.Given as goal
-
-abbrev pub invariant-loop-band : goal.invariant-loop-band
-invariant-loop-band l =
-    all_marks l.contents.items ≡ all_marks l.initial.contents.items ++ flat_map (band_marks l.width) (take l.band-index l.bands)

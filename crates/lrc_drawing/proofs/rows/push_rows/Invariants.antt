@@ -1,9 +1,0 @@
-use Rattle.std.proofs.Common.{◌≡◌, ◌++◌, take}
-use Rattle.lrc_show.specs.Each.{each}
-use Rattle.lrc_drawing.specs.Marks.{all_marks}
-use Rattle.lrc_drawing.specs.Shown.{row_marks_at}
-use Rattle.lrc_drawing.proofs.rows.push_rows.Given as goal
-
-abbrev pub invariant-loop-position : goal.invariant-loop-position
-invariant-loop-position l =
-    all_marks l.contents.items ≡ all_marks l.initial.contents.items ++ each (row_marks_at l.layout) (take l.position l.rows)

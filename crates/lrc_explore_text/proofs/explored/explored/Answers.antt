@@ -1,0 +1,20 @@
+use Rattle.lrc_explore_text.proofs.Telling.{fits_in, fits_noted, of_orders, of_outcomes}
+use Rattle.lrc_explore_text.proofs.explored.explored.Goals as goal
+
+pub returns-then-outcomes-clause-ok : goal.returns-then-outcomes-clause-ok
+returns-then-outcomes-clause-ok c =
+    of_outcomes c.args.program.now c.args.nodes c.args.lines.now c.args.outcomes c.outcomes_told.result c.if-outcomes.true
+    c.outcomes_told.ensures.text c.outcomes_told.ensures.status
+
+pub returns-else-outcomes-clause-ok : goal.returns-else-outcomes-clause-ok
+returns-else-outcomes-clause-ok c =
+    of_orders c.args.program.now c.args.nodes c.args.lines.now c.args.outcomes c.orders_told.result c.if-outcomes.false
+    c.orders_told.ensures.ok
+
+pub returns-then-outcomes-clause-fits : goal.returns-then-outcomes-clause-fits
+returns-then-outcomes-clause-fits c =
+    fits_noted c.args.program.now c.args.nodes c.args.most c.args.outcomes c.outcomes_told.result c.if-outcomes.true c.outcomes_told.ensures.fits
+
+pub returns-else-outcomes-clause-fits : goal.returns-else-outcomes-clause-fits
+returns-else-outcomes-clause-fits c =
+    fits_in c.args.program.now c.args.nodes c.args.most c.args.outcomes c.orders_told.result c.if-outcomes.false c.orders_told.ensures.fits

@@ -1,0 +1,45 @@
+// What is printed of every order of a program.
+
+ghost use Rattle.std.specs.Prelude.{◌≡◌, ◌≢◌, IfErr, IfOk};
+ghost use Rattle.lrc_text.specs.Parts.{whole_text};
+ghost use Rattle.lrc_exec.specs.Nodes.{AreNodes};
+ghost use Rattle.lrc_explore_text.specs.Explored.{Explores, MeetsFew, MeetsTooMany};
+
+use crate::orders::orders_told;
+use crate::outcomes::outcomes_told;
+use lrc_explore::search::ExploreFault;
+use lrc_lang::program::Program;
+use std::alloc::Global;
+
+/// What is printed, and the status with which the program ends after it.
+#[derive(Drop)]
+pub struct Printout {
+    /// The parts of the text.
+    pub parts: Vec<Vec<u8>>,
+    /// 0, or 3 after a race, or 4 where some order gets stuck.
+    pub status: u8,
+}
+
+/// What is printed of every order in which so many nodes can run a program whose statements, and the text's end behind them, have
+/// these lines: whether one races, and else whether one gets stuck; or in place of that every outcome, where outcomes are asked
+/// for. There are 1 to 16 nodes. Gives up where there are more states to tell apart than `most`.
+pub fn explored(
+    alloc: Global,
+    program: &Program,
+    lines: &[u32],
+    nodes: u32,
+    most: usize,
+    outcomes: bool,
+) -> Result<Printout, ExploreFault>
+    requires { AreNodes nodes }
+    ensures ok { IfOk result (λ printout. Explores program.now nodes lines.now outcomes (whole_text printout.parts.items) printout.status) }
+    ensures fits { IfOk result (λ printout. MeetsFew program.now nodes most outcomes printout.status) }
+    ensures nodes { IfErr result (λ fault. fault ≢ ExploreFault.BadNodes) }
+    ensures too_many { IfErr result (λ fault. fault ≡ ExploreFault.TooMany → MeetsTooMany program.now nodes most outcomes) }
+{
+    if outcomes {
+        outcomes_told(alloc, program, nodes, most)
+    } else {
+        orders_told(alloc, program, lines, nodes, most)
+    }
+}

@@ -1,0 +1,27 @@
+// What a search of every order says of the distributed memory. Each function is a theorem: its body is empty, and its clause is the
+// law.
+
+ghost use Rattle.std.specs.Prelude.{◌≡◌, ℕ, List, None, Some, []};
+ghost use Rattle.lrc_lang.specs.declared.program.Program.{Program};
+ghost use Rattle.lrc_trace.specs.Conflict.{IsRaceFree};
+ghost use Rattle.lrc_judge.specs.Races.{AreNamedRaces};
+ghost use Rattle.lrc_exec.specs.Plain.{plain};
+ghost use Rattle.lrc_consistency_laws.specs.Follows.{nodes_of_acts};
+ghost use Rattle.lrc_protocol.specs.declared.event.Event.{Event};
+ghost use Rattle.lrc_protocol.specs.Node.{OptionsRecord};
+ghost use Rattle.lrc_world.specs.Report.{IsReportOf};
+ghost use Rattle.lrc_world.specs.declared.report.Report.{Report};
+ghost use Rattle.lrc_explore.specs.Verdict.{FindsNoRace, IsVerdict};
+ghost use Rattle.lrc_explore.specs.declared.search.Verdict.{Verdict};
+
+/// Where every order was looked at and none races, no report of the distributed memory has a race, and its acts are those of the
+/// plain machine: whatever its options and events are, so also in rounds, at random and on threads, whose reports are each of some
+/// events.
+pub fn reports_of_explored_programs_are_plain()
+    ensures plain { (program : Program) (nodes : ℕ) (verdict : Verdict) (options : OptionsRecord) (events : List Event) (report : Report)
+        → IsVerdict program nodes verdict → FindsNoRace verdict → IsReportOf program nodes options events report
+        → IsRaceFree report.acts.items × (plain program nodes (nodes_of_acts report.acts.items) ≡ Some report.acts.items) }
+    ensures unraced { (program : Program) (nodes : ℕ) (verdict : Verdict) (options : OptionsRecord) (events : List Event) (report : Report)
+        → IsVerdict program nodes verdict → FindsNoRace verdict → IsReportOf program nodes options events report
+        → AreNamedRaces report.acts.items report.races.items → (report.first_race ≡ None) × (report.races.items ≡ []) }
+{}

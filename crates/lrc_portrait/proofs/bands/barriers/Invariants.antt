@@ -1,7 +1,0 @@
-use Rattle.std.proofs.Common.{◌≡◌, map, take}
-use Rattle.lrc_portrait.specs.Bands.{barrier_at}
-use Rattle.lrc_portrait.proofs.bands.barriers.Given as goal
-
--- the barriers of the rows so far
-abbrev pub invariant-loop-place : goal.invariant-loop-place
-invariant-loop-place l = l.numbers.items ≡ map (λ row. barrier_at l.acts row.act) (take l.place-index l.places)

@@ -1,7 +1,0 @@
-use Rattle.std.proofs.Common.{◌≡◌, take}
-use Rattle.lrc_portrait.specs.Bands.{last_or}
-use Rattle.lrc_portrait.proofs.bands.last_or.Given as goal
-
--- the last of the numbers so far
-abbrev pub invariant-loop-number : goal.invariant-loop-number
-invariant-loop-number l = l.last ≡ last_or l.other (take l.number-index l.numbers)

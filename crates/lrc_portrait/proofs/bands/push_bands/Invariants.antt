@@ -1,9 +1,0 @@
-use Rattle.std.proofs.Common.{◌≡◌, ◌++◌, map, take}
-use Rattle.lrc_show.specs.Each.{each}
-use Rattle.lrc_portrait.specs.Bands.{band_if}
-use Rattle.lrc_portrait.specs.Seen.{seen_band}
-use Rattle.lrc_portrait.proofs.bands.push_bands.Given as goal
-
--- the bands of the numbers so far
-abbrev pub invariant-loop-place : goal.invariant-loop-place
-invariant-loop-place l = map seen_band l.bands.items ≡ map seen_band l.initial.bands.items ++ each (band_if l.numbers) (take l.place l.numbers)

@@ -1,6 +1,0 @@
-pub mod Each
-pub mod Tallies
-pub mod StepLines
-pub mod Pieces
-pub mod Steps
-pub mod RapidOrders

@@ -1,7 +1,0 @@
-use Rattle.std.proofs.Common.{◌≡◌, ◌++◌, take}
-use Rattle.lrc_show.specs.Json.{with_commas}
-use Rattle.lrc_show.proofs.json.push_entries.Given as goal
-
--- the entries so far
-abbrev pub invariant-loop-node : goal.invariant-loop-node
-invariant-loop-node l = l.text.items ≡ l.initial.text.items ++ with_commas (take l.node l.time)

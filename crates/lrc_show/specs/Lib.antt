@@ -1,7 +1,0 @@
-pub mod Acts
-pub mod Each
-pub mod ActsText
-pub mod Json
-pub mod Tally
-pub mod Rapid
-pub mod RapidOrder

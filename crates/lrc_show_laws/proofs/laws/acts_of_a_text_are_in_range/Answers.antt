@@ -1,5 +1,0 @@
-use Rattle.lrc_show_laws.proofs.Printing.{text_ranged}
-use Rattle.lrc_show_laws.proofs.laws.acts_of_a_text_are_in_range.Goals as goal
-
-pub returns : goal.returns
-returns c = text_ranged

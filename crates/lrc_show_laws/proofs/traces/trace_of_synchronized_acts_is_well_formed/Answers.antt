@@ -1,5 +1,0 @@
-use Rattle.lrc_show_laws.proofs.WellFormed.{well_formed}
-use Rattle.lrc_show_laws.proofs.traces.trace_of_synchronized_acts_is_well_formed.Goals as goal
-
-pub returns : goal.returns
-returns c = well_formed

@@ -1,6 +1,0 @@
-use Rattle.std.proofs.Common.{rules, refl}
-use Rattle.lrc_turns.proofs.Noting.{tells_none}
-use Rattle.lrc_turns.proofs.told.Told.new.Goals as goal
-
-pub returns-clause-tells : goal.returns-clause-tells
-returns-clause-tells c = tells_none _ refl refl (search rules)
