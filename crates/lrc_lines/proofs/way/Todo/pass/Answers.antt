@@ -4,7 +4,7 @@ use Rattle.std.proofs.lemmas.Result.{on_err_weaker}
 use Rattle.lrc_lines.specs.Tasks.{beyond}
 use Rattle.lrc_lines.proofs.Following.{on_ok}
 use Rattle.lrc_lines.proofs.Passing.{passed_loop, passed_then, passed_over, rest_of, beyond_straight, beyond_while_false}
-use Rattle.lrc_lines.proofs.way.Way.pass.Goals as goal
+use Rattle.lrc_lines.proofs.way.Todo.pass.Goals as goal
 
 pub returns-in_ok-push-in-While-clause-ok : goal.returns-in_ok-push-in-While-clause-ok
 returns-in_ok-push-in-While-clause-ok c =

@@ -2,7 +2,7 @@
 use Rattle.std.proofs.Common.{refl}
 use Rattle.std.proofs.lemmas.List.{take_rest}
 use Rattle.lrc_lines.proofs.Passing.{todo_of_opened}
-use Rattle.lrc_lines.proofs.way.Way.open.Goals as goal
+use Rattle.lrc_lines.proofs.way.Todo.open.Goals as goal
 
 pub returns-in_ok-push-clause-ok : goal.returns-in_ok-push-clause-ok
 returns-in_ok-push-clause-ok c =
