@@ -1,5 +1,6 @@
 // The weave of one node's turns, with its own mailbox.
 
+use crate::checks::passes;
 use lrc_envelope::{Clean, Envelope, Message, Picker};
 use lrc_node::{Entry, Input, Turn};
 use lrc_post::{Mailbox, Parcel};
@@ -52,35 +53,82 @@ fn put(alloc: Global, mailbox: &mut Mailbox, number: u32) -> Option<()> {
     mailbox.put_all(0, vec![in alloc; parcel].ok()?).ok()
 }
 
-// The mailbox of node 0, which puts its second message before or after it takes its first one.
-fn mailbox(alloc: Global, is_early: bool) -> Option<Mailbox> {
-    let mut mailbox = Mailbox::new(alloc, 0, 1, Picker::Oldest).ok()?;
-    put(alloc, &mut mailbox, 1)?;
-    if !is_early {
-        mailbox.give().ok()?;
-    }
-    put(alloc, &mut mailbox, 2)?;
+// Puts both messages of node 0 and takes them, the second one put before or after the first one is taken. Whether nothing is refused.
+fn fill(alloc: Global, mailbox: &mut Mailbox, is_early: bool) -> bool {
     if is_early {
-        mailbox.give().ok()?;
+        put(alloc, mailbox, 1).is_some()
+            && put(alloc, mailbox, 2).is_some()
+            && mailbox.give().is_ok()
+            && mailbox.give().is_ok()
+    } else {
+        put(alloc, mailbox, 1).is_some()
+            && mailbox.give().is_ok()
+            && put(alloc, mailbox, 2).is_some()
+            && mailbox.give().is_ok()
     }
-    mailbox.give().ok()?;
-    Some(mailbox)
 }
 
-// Why the log and that mailbox are not woven, if they are not.
-fn refusal(alloc: Global, is_early: bool) -> Option<Option<WeaveFault>> {
-    let logs = vec![in alloc; log(alloc).ok()?].ok()?;
-    let wires = vec![in alloc; mailbox(alloc, is_early)?].ok()?;
-    if logs.len() != 1 || wires.len() != 1 {
-        return None;
+// The mailbox of node 0, filled so.
+fn mailbox(alloc: Global, is_early: bool) -> Option<Mailbox> {
+    let mut mailbox = Mailbox::new(alloc, 0, 1, Picker::Oldest).ok()?;
+    if fill(alloc, &mut mailbox, is_early) {
+        Some(mailbox)
+    } else {
+        None
     }
-    Some(weave(alloc, logs.as_slice(), wires.as_slice()).err())
+}
+
+// Whether the log and that mailbox are woven, or differ, as is wanted.
+fn is_woven(alloc: Global, logs: &[Vec<Entry>], wires: &[Mailbox], wanted: bool) -> bool {
+    if logs.len() != 1 || wires.len() != 1 {
+        return false;
+    }
+    match weave(alloc, logs, wires) {
+        Ok(_) => wanted,
+        Err(fault) => !wanted && fault == WeaveFault::Mismatch,
+    }
+}
+
+fn log_is_woven(alloc: Global, wires: &[Mailbox], wanted: bool) -> bool {
+    match logs(alloc) {
+        Ok(logs) => is_woven(alloc, &logs, wires, wanted),
+        Err(_) => false,
+    }
+}
+
+// The log of node 0 alone.
+fn logs(alloc: Global) -> Result<Vec<Vec<Entry>>, AllocError> {
+    Ok(vec![in alloc; log(alloc)?]?)
+}
+
+// The mailbox of node 0 alone.
+fn wires(alloc: Global, is_early: bool) -> Option<Vec<Mailbox>> {
+    let mailbox = mailbox(alloc, is_early)?;
+    vec![in alloc; mailbox].ok()
+}
+
+fn is_met(alloc: Global, is_early: bool) -> bool {
+    match wires(alloc, is_early) {
+        Some(wires) => log_is_woven(alloc, &wires, !is_early),
+        None => false,
+    }
+}
+
+const ROWS: &[(&str, bool)] = &[
+    ("the second message put after the first is taken", false),
+    ("the second message put before the first is taken", true),
+];
+
+fn first_wrong(alloc: Global) -> Option<&'static str> {
+    for (name, is_early) in ROWS {
+        if !is_met(alloc, *is_early) {
+            return Some(name);
+        }
+    }
+    None
 }
 
 #[test]
 fn a_node_sends_itself_a_message_after_the_take_that_makes_it(rt: HostRuntime) {
-    let late = refusal(rt.alloc(), false);
-    assert!(rt; late == Some(None));
-    let early = refusal(rt.alloc(), true);
-    assert!(rt; early == Some(Some(WeaveFault::Mismatch)));
+    passes(&rt, first_wrong(rt.alloc()));
 }
