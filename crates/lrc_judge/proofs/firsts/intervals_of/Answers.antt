@@ -1,6 +1,7 @@
 -- One position further.
-use Rattle.std.proofs.Common.{◌≡◌, ℕ, ◌+◌, ◌<◌, inl, inr, length, get_or, sym, ◌∙◌, ap, arith, length-set}
+use Rattle.std.proofs.Common.{◌≡◌, ℕ, ◌+◌, ◌<◌, inl, inr, length, get_or, refl, sym, ◌∙◌, ap, arith, length-set}
 use Rattle.std.specs.Prelude.{true, false, slice_index}
+use Rattle.std.proofs.lemmas.List.{get_or-replicate}
 use Rattle.std.proofs.lemmas.Result.{IfOk-from_err}
 use Rattle.lrc_trace.specs.declared.act.Act.{Act}
 use Rattle.lrc_trace.specs.declared.act.Deed.TheVariants.{Quiet}
@@ -62,3 +63,10 @@ bounds-reached-node-in-Acquire c =
 
 pub returns-in_err-push : goal.returns-in_err-push
 returns-in_err-push c = IfOk-from_err c.from_residual.result _ c.from_residual.ensures.0
+
+pub loop-position-init : goal.loop-position-init
+loop-position-init c = record {
+  so_far = record { long = ap length c.new-intervals.ensures.items; each = λ k node d before. absurd (omega (arith, before)) };
+  full = refl;
+  reached = λ q within. get_or-replicate 16 q 1 0 within;
+}
