@@ -82,7 +82,7 @@ pub(crate) fn bytes(alloc: Global, words: &[u8]) -> Result<Vec<u8>, AllocError> 
 }
 
 // A row that has words and a hint alone.
-pub(crate) fn row(
+fn row(
     alloc: Global,
     column: u8,
     kind: Kind,
@@ -101,8 +101,20 @@ pub(crate) fn row(
     })
 }
 
+pub(crate) fn push_row(
+    alloc: Global,
+    rows: &mut Vec<Row>,
+    column: u8,
+    kind: Kind,
+    words: &[u8],
+    hint: &[u8],
+) -> Result<(), AllocError> {
+    rows.push(row(alloc, column, kind, words, hint)?)?;
+    Ok(())
+}
+
 fn push_act(alloc: Global, rows: &mut Vec<Row>) -> Result<(), AllocError> {
-    rows.push(row(alloc, 1, Kind::Act, b"acquire 0", b"act 0")?)?;
+    push_row(alloc, rows, 1, Kind::Act, b"acquire 0", b"act 0")?;
     match rows.last_mut() {
         Some(act) => put_interval(act),
         None => Ok(()),
@@ -117,14 +129,13 @@ fn put_interval(act: &mut Row) -> Result<(), AllocError> {
 }
 
 fn push_rows(alloc: Global, rows: &mut Vec<Row>) -> Result<(), AllocError> {
-    rows.push(row(alloc, 1, Kind::Wait, b"waits", b"turn 0")?)?;
-    rows.push(row(alloc, 0, Kind::Message, b"takes", b"turn 1")?)?;
+    push_row(alloc, rows, 1, Kind::Wait, b"waits", b"turn 0")?;
+    push_row(alloc, rows, 0, Kind::Message, b"takes", b"turn 1")?;
     push_act(alloc, rows)?;
-    rows.push(row(alloc, 0, Kind::Barrier, b"arrive", b"act 1")?)?;
-    Ok(())
+    push_row(alloc, rows, 0, Kind::Barrier, b"arrive", b"act 1")
 }
 
-fn push_arrows(alloc: Global, arrows: &mut Vec<Arrow>) -> Result<(), AllocError> {
+fn push_request(alloc: Global, arrows: &mut Vec<Arrow>) -> Result<(), AllocError> {
     arrows.push(Arrow {
         from: 0,
         sender: 1,
@@ -134,6 +145,10 @@ fn push_arrows(alloc: Global, arrows: &mut Vec<Arrow>) -> Result<(), AllocError>
         label: bytes(alloc, b"lock-request")?,
         hint: bytes(alloc, b"lock 0")?,
     })?;
+    Ok(())
+}
+
+fn push_grant(alloc: Global, arrows: &mut Vec<Arrow>) -> Result<(), AllocError> {
     arrows.push(Arrow {
         from: 1,
         sender: 0,
@@ -189,7 +204,8 @@ fn fill(alloc: Global, picture: &mut Picture) -> Result<(), AllocError> {
     picture.title.extend_from_slice(b"sample")?;
     push_columns(alloc, &mut picture.columns)?;
     push_rows(alloc, &mut picture.rows)?;
-    push_arrows(alloc, &mut picture.arrows)?;
+    push_request(alloc, &mut picture.arrows)?;
+    push_grant(alloc, &mut picture.arrows)?;
     push_lost(alloc, &mut picture.lost)?;
     push_band(alloc, &mut picture.bands)?;
     push_race(alloc, &mut picture.races)

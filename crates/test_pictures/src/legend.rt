@@ -1,19 +1,25 @@
 // The legend of a drawing: each of its signs looks as what it stands for, and no two kinds of rows look alike.
 
 use crate::checks::passes;
-use crate::drawing::{blank, bytes, row};
+use crate::drawing::{blank, bytes, push_row};
 use lrc_chart_model::{Arrow, Kind, Lost, Picture, Race};
 use lrc_chart_svg::document_of;
 use lrc_svg::{Attribute, Content, Document};
 use std::alloc::{AllocError, Global};
 
+const KINDS: &[Kind] = &[
+    Kind::Act,
+    Kind::Wait,
+    Kind::Message,
+    Kind::Trap,
+    Kind::Barrier,
+];
+
 // The kinds of rows in the order of the legend, and the messages and races in that of its lines.
 fn push_rows(alloc: Global, picture: &mut Picture) -> Result<(), AllocError> {
-    picture.rows.push(row(alloc, 0, Kind::Act, b"", b"")?)?;
-    picture.rows.push(row(alloc, 0, Kind::Wait, b"", b"")?)?;
-    picture.rows.push(row(alloc, 0, Kind::Message, b"", b"")?)?;
-    picture.rows.push(row(alloc, 0, Kind::Trap, b"", b"")?)?;
-    picture.rows.push(row(alloc, 0, Kind::Barrier, b"", b"")?)?;
+    for kind in KINDS {
+        push_row(alloc, &mut picture.rows, 0, *kind, b"", b"")?;
+    }
     Ok(())
 }
 

@@ -1,7 +1,7 @@
 // A row with a long list of pages: its column, and the picture, are as wide as that. What is wanted was calculated by hand: of a letter
 // 7.3 pixels, of a column with the list's 300 letters 71 and 2197 and 51, and of the gap between two 87.
 
-use crate::drawing::{blank, is_drawn, push_columns, row};
+use crate::drawing::{blank, is_drawn, push_columns, push_row};
 use lrc_chart_model::{Kind, Row};
 use std::alloc::{AllocError, Global};
 
@@ -22,7 +22,7 @@ fn put_pages(pages: &mut Vec<u8>) -> Result<(), AllocError> {
 }
 
 fn push_long(alloc: Global, rows: &mut Vec<Row>) -> Result<(), AllocError> {
-    rows.push(row(alloc, 0, Kind::Message, b"takes", b"turn 0")?)?;
+    push_row(alloc, rows, 0, Kind::Message, b"takes", b"turn 0")?;
     match rows.last_mut() {
         Some(long) => put_pages(&mut long.invalid),
         None => Ok(()),

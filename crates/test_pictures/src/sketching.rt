@@ -44,15 +44,33 @@ fn row(
     })
 }
 
+fn push_row(
+    alloc: Global,
+    rows: &mut Vec<Row>,
+    column: u8,
+    kind: Kind,
+    words: &[u8],
+    place: &[u8],
+) -> Result<(), AllocError> {
+    rows.push(row(alloc, column, kind, words, place)?)?;
+    Ok(())
+}
+
 fn push_rows(alloc: Global, rows: &mut Vec<Row>) -> Result<(), AllocError> {
-    rows.push(row(alloc, 1, Kind::Wait, b"waits", b"line 3")?)?;
-    rows.push(row(alloc, 0, Kind::Message, b"", b"")?)?;
-    rows.push(row(alloc, 1, Kind::Act, b"acquire 0", b"line 3, interval 1")?)?;
+    push_row(alloc, rows, 1, Kind::Wait, b"waits", b"line 3")?;
+    push_row(alloc, rows, 0, Kind::Message, b"", b"")?;
+    push_row(
+        alloc,
+        rows,
+        1,
+        Kind::Act,
+        b"acquire 0",
+        b"line 3, interval 1",
+    )?;
     if let Some(act) = rows.last_mut() {
         put_interval(act)?;
     }
-    rows.push(row(alloc, 0, Kind::Trap, b"trap 4", b"line 5, interval 1")?)?;
-    Ok(())
+    push_row(alloc, rows, 0, Kind::Trap, b"trap 4", b"line 5, interval 1")
 }
 
 fn put_interval(act: &mut Row) -> Result<(), AllocError> {
@@ -62,7 +80,7 @@ fn put_interval(act: &mut Row) -> Result<(), AllocError> {
     Ok(())
 }
 
-fn push_arrows(alloc: Global, arrows: &mut Vec<Arrow>) -> Result<(), AllocError> {
+fn push_request(alloc: Global, arrows: &mut Vec<Arrow>) -> Result<(), AllocError> {
     arrows.push(Arrow {
         from: 0,
         sender: 1,
@@ -72,6 +90,10 @@ fn push_arrows(alloc: Global, arrows: &mut Vec<Arrow>) -> Result<(), AllocError>
         label: bytes(alloc, b"lock-request")?,
         hint: Vec::new(alloc),
     })?;
+    Ok(())
+}
+
+fn push_grant(alloc: Global, arrows: &mut Vec<Arrow>) -> Result<(), AllocError> {
     arrows.push(Arrow {
         from: 1,
         sender: 0,
@@ -84,20 +106,28 @@ fn push_arrows(alloc: Global, arrows: &mut Vec<Arrow>) -> Result<(), AllocError>
     Ok(())
 }
 
-fn push_others(alloc: Global, picture: &mut Picture) -> Result<(), AllocError> {
-    picture.lost.push(Lost {
+fn push_lost(alloc: Global, lost: &mut Vec<Lost>) -> Result<(), AllocError> {
+    lost.push(Lost {
         from: 3,
         sender: 0,
         receiver: 1,
         label: bytes(alloc, b"arrive")?,
         hint: Vec::new(alloc),
     })?;
-    picture.bands.push(Band {
+    Ok(())
+}
+
+fn push_band(alloc: Global, bands: &mut Vec<Band>) -> Result<(), AllocError> {
+    bands.push(Band {
         from: 2,
         to: 3,
         label: bytes(alloc, b"barrier 1")?,
     })?;
-    picture.races.push(Race {
+    Ok(())
+}
+
+fn push_race(alloc: Global, races: &mut Vec<Race>) -> Result<(), AllocError> {
+    races.push(Race {
         from: 2,
         first: 1,
         to: 3,
@@ -112,8 +142,11 @@ fn fill(alloc: Global, picture: &mut Picture) -> Result<(), AllocError> {
     picture.title.extend_from_slice(b"sample")?;
     push_columns(alloc, &mut picture.columns)?;
     push_rows(alloc, &mut picture.rows)?;
-    push_arrows(alloc, &mut picture.arrows)?;
-    push_others(alloc, picture)
+    push_request(alloc, &mut picture.arrows)?;
+    push_grant(alloc, &mut picture.arrows)?;
+    push_lost(alloc, &mut picture.lost)?;
+    push_band(alloc, &mut picture.bands)?;
+    push_race(alloc, &mut picture.races)
 }
 
 fn is_laid_out(alloc: Global, picture: &Picture, text: &[u8]) -> bool {

@@ -1,6 +1,7 @@
 // The weave of one node's turns, with its own mailbox.
 
 use crate::checks::passes;
+use bytes::Bytes;
 use lrc_envelope::{Clean, Envelope, Message, Picker};
 use lrc_node::{Entry, Input, Turn};
 use lrc_post::{Mailbox, Parcel};
@@ -18,53 +19,93 @@ fn message(number: u32) -> Envelope {
     }
 }
 
-// A turn of node 0 that takes a message.
-fn taken(alloc: Global, number: u32) -> Result<Input, AllocError> {
-    Ok(Input::Taken(Box::new(alloc, message(number))?))
+// A turn of node 0 that takes this message, or goes on by itself.
+fn input(alloc: Global, taken: Option<u32>) -> Result<Input, AllocError> {
+    match taken {
+        Some(number) => Ok(Input::Taken(Box::new(alloc, message(number))?)),
+        None => Ok(Input::Run),
+    }
 }
 
-// A turn with this input and stamp, which sends these messages.
-fn turn(input: Input, stamp: u64, out: Vec<Envelope>) -> Entry {
+// A turn with this input and stamp, which sends nothing.
+fn turn(input: Input, stamp: u64, alloc: Global) -> Entry {
     Entry {
         input,
         stamp,
-        turn: Turn { act: None, out },
+        turn: Turn {
+            act: None,
+            out: Vec::new(alloc),
+        },
+    }
+}
+
+// Adds the message that a turn sends, if it sends one.
+fn put_sent(out: &mut Vec<Envelope>, sent: Option<u32>) -> Result<(), AllocError> {
+    if let Some(number) = sent {
+        out.push(message(number))?;
+    }
+    Ok(())
+}
+
+fn push_turn(
+    alloc: Global,
+    log: &mut Vec<Entry>,
+    stamp: u64,
+    taken: Option<u32>,
+    sent: Option<u32>,
+) -> Result<(), AllocError> {
+    log.push(turn(input(alloc, taken)?, stamp, alloc))?;
+    match log.last_mut() {
+        Some(entry) => put_sent(&mut entry.turn.out, sent),
+        None => Ok(()),
     }
 }
 
 // Node 0 sends itself a message, and then by the turn that takes it another one.
-fn log(alloc: Global) -> Result<Vec<Entry>, AllocError> {
-    let first = turn(Input::Run, 1, vec![in alloc; message(1)]?);
-    let second = turn(taken(alloc, 1)?, 2, vec![in alloc; message(2)]?);
-    let third = turn(taken(alloc, 2)?, 3, Vec::new(alloc));
-    Ok(vec![in alloc; first, second, third]?)
+fn put_turns(alloc: Global, log: &mut Vec<Entry>) -> Result<(), AllocError> {
+    push_turn(alloc, log, 1, None, Some(1))?;
+    push_turn(alloc, log, 2, Some(1), Some(2))?;
+    push_turn(alloc, log, 3, Some(2), None)
 }
 
-// Node 0 puts its first or its second message, which its turn with that stamp sent.
-fn put(alloc: Global, mailbox: &mut Mailbox, number: u32) -> Option<()> {
-    if mailbox.owner() != 0 {
-        return None;
-    }
+fn log(alloc: Global) -> Result<Vec<Entry>, AllocError> {
+    let mut log = Vec::new(alloc);
+    put_turns(alloc, &mut log)?;
+    Ok(log)
+}
+
+// Puts the bytes of a message of node 0, which its turn with that stamp sent.
+fn is_put(alloc: Global, mailbox: &mut Mailbox, stamp: u64, bytes: Bytes) -> bool {
     let parcel = Parcel {
-        to: 0,
-        stamp: u64::from(number),
-        bytes: encode(alloc, &message(number)).ok()?,
+        to: mailbox.owner(),
+        stamp,
+        bytes,
     };
-    mailbox.put_all(0, vec![in alloc; parcel].ok()?).ok()
+    match vec![in alloc; parcel] {
+        Ok(parcels) => mailbox.put_all(0, parcels).is_ok(),
+        Err(_) => false,
+    }
+}
+
+// Puts the first or the second message of node 0.
+fn put(alloc: Global, mailbox: &mut Mailbox, number: u32) -> bool {
+    match encode(alloc, &message(number)) {
+        Ok(bytes) => is_put(alloc, mailbox, u64::from(number), bytes),
+        Err(_) => false,
+    }
+}
+
+// Takes the next message.
+fn take(mailbox: &mut Mailbox) -> bool {
+    mailbox.give().is_ok()
 }
 
 // Puts both messages of node 0 and takes them, the second one put before or after the first one is taken. Whether nothing is refused.
 fn fill(alloc: Global, mailbox: &mut Mailbox, is_early: bool) -> bool {
     if is_early {
-        put(alloc, mailbox, 1).is_some()
-            && put(alloc, mailbox, 2).is_some()
-            && mailbox.give().is_ok()
-            && mailbox.give().is_ok()
+        put(alloc, mailbox, 1) && put(alloc, mailbox, 2) && take(mailbox) && take(mailbox)
     } else {
-        put(alloc, mailbox, 1).is_some()
-            && mailbox.give().is_ok()
-            && put(alloc, mailbox, 2).is_some()
-            && mailbox.give().is_ok()
+        put(alloc, mailbox, 1) && take(mailbox) && put(alloc, mailbox, 2) && take(mailbox)
     }
 }
 

@@ -27,23 +27,19 @@ struct Hold {
     turns: u64,
 }
 
-/// What holds nodes: these holds, or each turn of each node until all others have come to the same turn.
-#[derive(Clone, Copy)]
-enum Holds {
-    These(&'static [Hold]),
-    All,
-}
-
 /// For each node, how many turns it has come to; and how many turns were made before the others had come.
 #[derive(Drop)]
 struct Holding {
     come: [AtomicU64; 4],
     late: AtomicU64,
-    holds: Holds,
+    /// Whether each turn of each node is held until all others have come to the same turn.
+    together: bool,
+    /// What else is held.
+    holds: &'static [Hold],
 }
 
 impl Holding {
-    fn new(holds: Holds) -> Holding {
+    fn new(together: bool, holds: &'static [Hold]) -> Holding {
         Holding {
             come: [
                 AtomicU64::new(0),
@@ -52,6 +48,7 @@ impl Holding {
                 AtomicU64::new(0),
             ],
             late: AtomicU64::new(0),
+            together,
             holds,
         }
     }
@@ -75,6 +72,22 @@ impl Holding {
         self.late.fetch_add(1, Ordering::SeqCst);
     }
 
+    /// Waits until all nodes have come to this turn.
+    fn wait_for_all(&self, turn: u32) {
+        for other in 0..4usize {
+            self.wait(other, u64::from(turn) + 1);
+        }
+    }
+
+    /// Waits for what this turn of a node is held by.
+    fn wait_at(&self, holds: &[Hold], node: usize, turn: u32) {
+        for hold in holds {
+            if hold.node == node && hold.turn == turn {
+                self.wait(hold.other, hold.turns);
+            }
+        }
+    }
+
     /// How many turns each node has come to.
     fn counts(&self) -> [u64; 4] {
         [
@@ -91,20 +104,10 @@ impl Gate for Holding {
         if let Some(come) = self.come.get(node) {
             come.fetch_add(1, Ordering::SeqCst);
         }
-        match self.holds {
-            Holds::All => {
-                for other in 0..4usize {
-                    self.wait(other, u64::from(turn) + 1);
-                }
-            }
-            Holds::These(holds) => {
-                for hold in holds {
-                    if hold.node == node && hold.turn == turn {
-                        self.wait(hold.other, hold.turns);
-                    }
-                }
-            }
+        if self.together {
+            self.wait_for_all(turn);
         }
+        self.wait_at(self.holds, node, turn);
     }
 }
 
@@ -114,7 +117,8 @@ struct Row {
     nodes: u32,
     text: &'static [u8],
     order: Picker,
-    holds: Holds,
+    together: bool,
+    holds: &'static [Hold],
     /// How many turns each node comes to, where it is known.
     turns: Option<[u64; 4]>,
     /// What nodes 1 and 2 print last; 9 where they print nothing.
@@ -196,7 +200,7 @@ fn is_run<R: Threads + Wait + Sync>(
 }
 
 fn is_met<R: Threads + Wait + Sync>(rt: &R, alloc: Global, row: &Row) -> bool {
-    let gate = Holding::new(row.holds);
+    let gate = Holding::new(row.together, row.holds);
     let is = match parse(alloc, row.text) {
         Ok(program) => is_run(rt, alloc, &program, row, &gate),
         Err(_) => false,
@@ -223,7 +227,8 @@ const TOGETHER: &[Row] = &[
         nodes: 4,
         text: b"words 1; locks 0; while x < 100 { x = x + 1; }",
         order: Picker::Oldest,
-        holds: Holds::All,
+        together: true,
+        holds: &[],
         turns: Some([202; 4]),
         prints: [9, 9],
         takes: 1,
@@ -234,7 +239,8 @@ const TOGETHER: &[Row] = &[
         text: b"words 1; locks 0; barrier;",
         order: Picker::Oldest,
         // Turn 3 of node 0 is paired with turn 1 of node 1.
-        holds: Holds::These(&[
+        together: false,
+        holds: &[
             Hold {
                 node: 0,
                 turn: 3,
@@ -247,7 +253,7 @@ const TOGETHER: &[Row] = &[
                 other: 0,
                 turns: 4,
             },
-        ]),
+        ],
         turns: Some([5, 3, 0, 0]),
         prints: [9, 9],
         takes: 1,
@@ -271,7 +277,8 @@ if me == 3 { acquire 2; release 2; }
 if me % 3 > 0 { acquire 0; x = [0]; [0] = x * 10 + me; print x; release 0; }
 ",
     order: Picker::Oldest,
-    holds: Holds::These(&[
+    together: false,
+    holds: &[
         Hold {
             node: 2,
             turn: 1,
@@ -290,7 +297,7 @@ if me % 3 > 0 { acquire 0; x = [0]; [0] = x * 10 + me; print x; release 0; }
             other: 3,
             turns: 4,
         },
-    ]),
+    ],
     turns: None,
     prints: [0, 1],
     takes: 1,
