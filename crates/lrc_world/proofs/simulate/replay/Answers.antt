@@ -1,8 +1,26 @@
-use Rattle.std.proofs.lemmas.Result.{IfOk-weaker}
+use Rattle.std.proofs.Common.{◌≡◌, ◌↔◌, true, subst}
+use Rattle.lrc_world.specs.Promises.{AreKept}
+use Rattle.lrc_world.specs.Report.{AreAll, IsReportOf}
+use Rattle.lrc_world.proofs.Runs.{over_of, ran, report_of}
 use Rattle.lrc_world.proofs.simulate.replay.Goals as goal
 
-pub returns-clause-report : goal.returns-clause-report
-returns-clause-report c =
-    IfOk-weaker c.play_all.result _ _
-    (λ done is. (is.0, is.1, record { acts = is.2.acts; ends = is.2.ends; logs = is.2.logs; first = is.2.first }))
-    c.play_all.ensures.report
+pub returns-in-Ok-clause-report : goal.returns-in-Ok-clause-report
+returns-in-Ok-clause-report c =
+    let is = ran c.run_checked.result c.in-Ok.run' _ c.in-Ok.is c.run_checked.ensures.run in
+    subst (λ events. IsReportOf c.args.program.now c.args.nodes c.args.options.now events c.in-Ok.run'.report) is.events
+    (report_of _ c.args.program.now c.args.nodes c.args.options.now c.in-Ok.run' is)
+
+pub returns-in-Ok-clause-races : goal.returns-in-Ok-clause-races
+returns-in-Ok-clause-races c = (ran c.run_checked.result c.in-Ok.run' _ c.in-Ok.is c.run_checked.ensures.run).races
+
+pub returns-in-Ok-clause-kept : goal.returns-in-Ok-clause-kept
+returns-in-Ok-clause-kept c =
+    let is = ran c.run_checked.result c.in-Ok.run' _ c.in-Ok.is c.run_checked.ensures.run in
+    subst (λ events. AreKept c.args.program.now c.args.nodes c.args.options.now events c.in-Ok.run'.report.acts.items c.in-Ok.run'.report.ends.items)
+    is.events is.kept
+
+pub returns-in-Ok-clause-over : goal.returns-in-Ok-clause-over
+returns-in-Ok-clause-over c =
+    let is = ran c.run_checked.result c.in-Ok.run' _ c.in-Ok.is c.run_checked.ensures.run in
+    subst (λ events. (c.in-Ok.run'.is_over ≡ true) ↔ AreAll c.args.program.now c.args.nodes c.args.options.now events) is.events
+    (over_of _ c.args.program.now c.args.nodes c.args.options.now _ c.in-Ok.run' is)

@@ -1,7 +1,7 @@
 use Rattle.std.proofs.Common.{◌≡◌, Some, take}
 use Rattle.lrc_protocol.specs.Run.{World as Run, run_of}
 use Rattle.lrc_world.specs.World.{Shows, starts_of}
-use Rattle.lrc_world.proofs.simulate.play_all.Given as goal
+use Rattle.lrc_world.proofs.run.by_events.Given as goal
 
 -- the world shows the run of the events so far
 abbrev pub invariant-loop-event : goal.invariant-loop-event
