@@ -1,0 +1,5 @@
+pub mod Positions
+pub mod HappensBefore
+pub mod Cycles
+pub mod Prefix
+pub mod Told

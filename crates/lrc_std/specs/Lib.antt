@@ -1,0 +1,5 @@
+pub mod Trace
+pub mod Cycles
+pub mod Order
+pub mod Races
+pub mod Formed

@@ -1,0 +1,71 @@
+-- What is told of one event more.
+use Rattle.std.proofs.Common.{◌≡◌, ◌≢◌, ℕ, ◌+◌, ◌-◌, ◌<◌, ◌≤◌, ◌⊎◌, List, [], ◌++◌, length, get_or, inl, inr, refl, sym, subst, ◌∙◌, ap, arith, length-append}
+use Rattle.std.specs.Prelude.{AllPairs, Contains}
+use Rattle.std.proofs.lemmas.Bool.{cases_eq, cases_lt}
+use Rattle.std.proofs.lemmas.List.{get_or_append_left, get_or-append_right, get_or_default}
+use Rattle.std.proofs.lemmas.List.Elements.{Contains-append_left, Contains-append_right, Contains-append_cases}
+use Rattle.lrc_std.specs.declared.event.Event.{Event}
+use Rattle.lrc_std.specs.declared.event.Pair.{Pair}
+use Rattle.lrc_std.specs.Races.{IsTold, ComesFirst, AreTold, AreToldAt}
+use Rattle.lrc_std.proofs.Positions.{At-within}
+use Rattle.lrc_stream.specs.Detecting.{AreToldBefore}
+
+contained_at : (pairs : List Pair) (k : ℕ) (d : Pair) → k < length pairs → Contains pairs (get_or pairs k d)
+contained_at pairs k d lt = (k, lt, get_or_default pairs k (get_or pairs k d) d lt)
+
+-- two lists in order are in order as one, where each of the first comes before each of the second
+pairs-append : (R : Pair → Pair → Type 0) (xs ys : List Pair) → AllPairs R xs → AllPairs R ys
+    → ((p q : Pair) → Contains xs p → Contains ys q → R p q) → AllPairs R (xs ++ ys)
+pairs-append R xs ys f g h i j d lt within =
+    let long = length-append xs ys in
+    elim (cases_lt j (length xs)) [
+      | inl left ↦
+          let i_left : i < length xs = omega arith in
+          rw (get_or_append_left xs ys d i i_left, get_or_append_left xs ys d j left) (f i j d lt left)
+      | inr right ↦
+          let j_in : j - length xs < length ys = omega arith in
+          elim (cases_lt i (length xs)) [
+            | inl i_left ↦
+                rw (get_or_append_left xs ys d i i_left, get_or-append_right xs ys (length xs) j d refl right)
+                (h (get_or xs i d) (get_or ys (j - length xs) d) (contained_at xs i d i_left) (contained_at ys (j - length xs) d j_in))
+            | inr i_right ↦
+                let less : i - length xs < j - length xs = omega arith in
+                rw (get_or-append_right xs ys (length xs) i d refl i_right, get_or-append_right xs ys (length xs) j d refl right)
+                (g (i - length xs) (j - length xs) d less j_in)
+          ]
+    ]
+
+pub told-none : (events : List Event) → AreToldBefore events 0 []
+told-none events = record {
+  in_order = λ i j d lt within. absurd (omega arith);
+  exact = λ p. (λ (k, lt, is). absurd (omega arith), λ (told, lt). absurd (omega arith));
+}
+
+pub told-more : (events : List Event) (n : ℕ) (xs ys : List Pair) → AreToldBefore events n xs → AreToldAt events n ys → AreToldBefore events (n + 1) (xs ++ ys)
+told-more events n xs ys before at = record {
+  in_order = pairs-append ComesFirst xs ys before.in_order at.in_order (λ p q in_xs in_ys.
+      let (told, lt) = (before.exact p).0 in_xs in
+      let (told', is) = (at.exact q).0 in_ys in
+      inl (omega arith));
+  exact = λ p. (
+    λ h.
+        elim (Contains-append_cases xs ys p h) [
+          | inl left ↦ let (told, lt) = (before.exact p).0 left in (told, omega arith)
+          | inr right ↦ let (told, is) = (at.exact p).0 right in (told, omega arith)
+        ],
+    λ (told, lt).
+        elim (cases_eq p.later.position n) [
+          | inl here ↦ Contains-append_right xs ys p ((at.exact p).1 (told, here))
+          | inr other ↦ Contains-append_left xs ys p ((before.exact p).1 (told, omega arith))
+        ],
+  );
+}
+
+pub told-all : (events : List Event) (n : ℕ) (pairs : List Pair) → length events ≤ n → AreToldBefore events n pairs → AreTold events pairs
+told-all events n pairs le before = record {
+  in_order = before.in_order;
+  exact = λ p. (
+    λ h. ((before.exact p).0 h).0,
+    λ told. let within = At-within told.second in (before.exact p).1 (told, omega arith),
+  );
+}

@@ -1,0 +1,193 @@
+-- What threads, locks and barriers keep, one event further.
+use Rattle.std.proofs.Common.{◌≡◌, ◌≢◌, ℕ, ◌+◌, ◌<◌, ◌⊎◌, List, [], get_or, max, inl, inr, refl, sym, subst, ◌∙◌, ap, arith}
+use Rattle.std.specs.Prelude.{Option, Some, None, slice_get, true, false, ◌==◌, cond}
+use Rattle.std.proofs.lemmas.Bool.{cases_eq}
+use Rattle.lrc_std.specs.declared.event.Event.{Event}
+use Rattle.lrc_std.specs.declared.event.Operation.{Operation}
+use Rattle.lrc_std.specs.declared.event.Operation.TheVariants.{Read, Write, Acquire, Release, Post, Wait, Fork, Join, Arrive, Depart, Idle}
+use Rattle.lrc_std.specs.Trace.{At, given}
+use Rattle.lrc_std.specs.Cycles.{Cycles, cycles_before, after_operation, arrived, departed, opened}
+use Rattle.lrc_std.specs.Order.{program, fork, base, HappensBefore}
+use Rattle.lrc_std.proofs.Positions.{At-one}
+use Rattle.lrc_std.proofs.Cycles.{cycles_before-next}
+use Rattle.lrc_stream.specs.declared.clocks.Clocks.{Clocks}
+use Rattle.lrc_stream.specs.declared.barriers.Barrier.{Barrier}
+use Rattle.lrc_stream.specs.Barriers.{SameBarrier, IsArrived, IsDeparted, current_of, cycle_of, row_of}
+use Rattle.lrc_stream.specs.Clocks.{row, IsGained}
+use Rattle.lrc_stream.specs.Knowing.{Gathers, Before, OfThread, GivesLock, ArrivesIn, AreThreads, AreLocks, IsBarrier, IsReached}
+use Rattle.lrc_stream.proofs.Gathering.{Gathers-equal, next-same, next-joined, next-only}
+
+-- what gives no lock
+pub given-none : (o : Operation) → ((l : ℕ) → o ≡ Release l → ⊥) → ((l : ℕ) → o ≡ Post l → ⊥) → (l : ℕ) → given o ≡ Some l → ⊥
+given-none (Release m) f g l e = f m refl
+given-none (Post m) f g l e = g m refl
+given-none (Read v) f g l e = cc
+given-none (Write v) f g l e = cc
+given-none (Acquire v) f g l e = cc
+given-none (Wait v) f g l e = cc
+given-none (Fork v) f g l e = cc
+given-none (Join v) f g l e = cc
+given-none (Arrive v) f g l e = cc
+given-none (Depart v) f g l e = cc
+given-none Idle f g l e = cc
+
+module _ (events : List Event) (n : ℕ) (b : Event) (here : At events n b) where
+  -- ---- threads
+
+  thread_before : (k : ℕ) → k < n → OfThread events b.thread k → HappensBefore events k n
+  thread_before k lt (a, at, inl same) = base (program lt at here same)
+  thread_before k lt (a, at, inr forks) = base (fork lt at here forks)
+
+  own_next : (x : List ℕ) → Gathers events (λ k. k ≡ n) x → Gathers events (Before (n + 1) (OfThread events b.thread)) x
+  own_next x g = next-only events n (OfThread events b.thread) x (b, here, inl refl) thread_before g
+
+  -- the event is of no other thread, and forks no other than it says
+  not_other : (u : ℕ) → (u ≡ b.thread → ⊥) → (b.operation ≡ Fork u → ⊥) → OfThread events u n → ⊥
+  not_other u apart unforked (a, at, inl same) = apart (sym same ∙ ap (λ (x : Event). x.thread) (At-one at here))
+  not_other u apart unforked (a, at, inr forks) = unforked (sym (ap (λ (x : Event). x.operation) (At-one at here)) ∙ forks)
+
+  module _ (threads : Clocks) (reached : IsReached events n b.thread threads) where
+    pub threads_kept : ((u : ℕ) → b.operation ≡ Fork u → ⊥) → AreThreads events (n + 1) threads
+    threads_kept unforked u =
+        elim (cases_eq u b.thread) [
+          | inl same ↦ subst (λ t. Gathers events (Before (n + 1) (OfThread events t)) (row threads t)) (sym same) (own_next (row threads b.thread) reached.own)
+          | inr apart ↦ next-same events n (OfThread events u) (row threads u) (not_other u apart (unforked u)) (reached.others u apart)
+        ]
+
+    pub threads_forked : (w : ℕ) → b.operation ≡ Fork w → (after : Clocks) → IsGained threads after w (row threads b.thread)
+        → AreThreads events (n + 1) after
+    threads_forked w is after gained u =
+        elim (cases_eq u w) [
+          | inl at ↦
+              subst (λ t. Gathers events (Before (n + 1) (OfThread events t)) (row after t)) (sym at) (elim (cases_eq w b.thread) [
+                | inl itself ↦
+                    subst (λ t. Gathers events (Before (n + 1) (OfThread events t)) (row after w)) (sym itself)
+                    (own_next (row after w) (Gathers-equal events (λ k. k ≡ n) (row threads b.thread) (row after w)
+                    (λ p.
+                    let e = gained.here p in
+                    let f : get_or (row threads w) p 0 ≡ get_or (row threads b.thread) p 0 = ap (λ t. get_or (row threads t) p 0) itself in
+                    omega arith) reached.own))
+                | inr apart ↦
+                    next-joined events n (OfThread events w) (row threads w) (row threads b.thread) (row after w)
+                    (b, here, inr is) (reached.others w apart) reached.own gained.here
+              ])
+          | inr other ↦
+              subst (λ x. Gathers events (Before (n + 1) (OfThread events u)) x) (sym (gained.others u other)) (elim (cases_eq u b.thread) [
+                | inl same ↦ subst (λ t. Gathers events (Before (n + 1) (OfThread events t)) (row threads t)) (sym same) (own_next (row threads b.thread) reached.own)
+                | inr apart ↦ next-same events n (OfThread events u) (row threads u)
+                    (not_other u apart (λ forks. let same : u ≡ w = cc in other same)) (reached.others u apart)
+              ])
+        ]
+
+  -- ---- locks
+
+  not_given : (l : ℕ) → (given b.operation ≡ Some l → ⊥) → GivesLock events l n → ⊥
+  not_given l none (a, at, gives) = none (sym (ap (λ (x : Event). given x.operation) (At-one at here)) ∙ gives)
+
+  pub locks_kept : (locks : Clocks) → ((l : ℕ) → given b.operation ≡ Some l → ⊥) → AreLocks events n locks → AreLocks events (n + 1) locks
+  locks_kept locks none old l = next-same events n (GivesLock events l) (row locks l) (not_given l (none l)) (old l)
+
+  pub locks_given : (l : ℕ) → given b.operation ≡ Some l → (locks after : Clocks) (known : List ℕ) → Gathers events (λ k. k ≡ n) known
+      → IsGained locks after l known → AreLocks events n locks → AreLocks events (n + 1) after
+  locks_given l is locks after known g gained old m =
+      elim (cases_eq m l) [
+        | inl same ↦ subst (λ x. Gathers events (Before (n + 1) (GivesLock events x)) (row after x)) (sym same)
+            (next-joined events n (GivesLock events l) (row locks l) known (row after l) (b, here, is) (old l) g gained.here)
+        | inr other ↦ subst (λ x. Gathers events (Before (n + 1) (GivesLock events m)) x) (sym (gained.others m other))
+            (next-same events n (GivesLock events m) (row locks m) (not_given m (λ e. let same : m ≡ l = cc in other same)) (old m))
+      ]
+
+  -- ---- barriers
+
+  not_arrived : (x c : ℕ) → (b.operation ≡ Arrive x → ⊥) → ArrivesIn events x c n → ⊥
+  not_arrived x c none (a, at, arrives, is) = none (sym (ap (λ (y : Event). y.operation) (At-one at here)) ∙ arrives)
+
+  rows_kept : (x : ℕ) → (b.operation ≡ Arrive x → ⊥) → (old new : Option Barrier) → ((c : ℕ) → row_of new c ≡ row_of old c) → IsBarrier events n x old → (c : ℕ)
+      → Gathers events (Before (n + 1) (ArrivesIn events x c)) (row_of new c)
+  rows_kept x none old new same is c =
+      subst (λ r. Gathers events (Before (n + 1) (ArrivesIn events x c)) r) (sym (same c))
+      (next-same events n (ArrivesIn events x c) (row_of old c) (not_arrived x c none) (is.rows c))
+
+  -- the barrier's cycles are as they were
+  untouched : (x : ℕ) (o : Operation) (cycles : Cycles) → (o ≡ Arrive x → ⊥) → (o ≡ Depart x → ⊥) → after_operation x b.thread o cycles ≡ cycles
+  untouched x (Arrive y) cycles f g =
+      elim (cases_eq y x) [
+        | inl same ↦ absurd (f (ap Arrive same))
+        | inr other ↦ grind (arith, other)
+      ]
+  untouched x (Depart y) cycles f g =
+      elim (cases_eq y x) [
+        | inl same ↦ absurd (g (ap Depart same))
+        | inr other ↦ grind (arith, other)
+      ]
+  untouched x (Read v) cycles f g = refl
+  untouched x (Write v) cycles f g = refl
+  untouched x (Acquire v) cycles f g = refl
+  untouched x (Release v) cycles f g = refl
+  untouched x (Post v) cycles f g = refl
+  untouched x (Wait v) cycles f g = refl
+  untouched x (Fork v) cycles f g = refl
+  untouched x (Join v) cycles f g = refl
+  untouched x Idle cycles f g = refl
+
+  pub barrier_kept : (x : ℕ) → (b.operation ≡ Arrive x → ⊥) → (b.operation ≡ Depart x → ⊥) → (old new : Option Barrier) → SameBarrier new old
+      → IsBarrier events n x old → IsBarrier events (n + 1) x new
+  barrier_kept x f g old new same is =
+      let next : cycles_before events x (n + 1) ≡ cycles_before events x n =
+      cycles_before-next events x n b here ∙ untouched x b.operation (cycles_before events x n) f g in
+      record {
+        current = same.current ∙ is.current ∙ ap (λ (c : Cycles). c.current) (sym next);
+        of = λ t. same.of t ∙ is.of t ∙ ap (λ (c : Cycles). c.of t) (sym next);
+        rows = rows_kept x f old new same.rows is;
+      }
+
+  after_arrive : (x : ℕ) (cycles : Cycles) → after_operation x b.thread (Arrive x) cycles ≡ arrived b.thread cycles
+  after_arrive x cycles = grind arith
+
+  after_depart : (x : ℕ) (cycles : Cycles) → after_operation x b.thread (Depart x) cycles ≡ departed b.thread cycles
+  after_depart x cycles = grind arith
+
+  arrived_of : (t : ℕ) (cycles : Cycles) → (arrived t cycles).of t ≡ Some cycles.current
+  arrived_of t cycles = grind arith
+
+  arrived_other : (t u : ℕ) (cycles : Cycles) → u ≢ t → (arrived t cycles).of u ≡ cycles.of u
+  arrived_other t u cycles other = grind (arith, other)
+
+  pub barrier_arrived : (x : ℕ) → b.operation ≡ Arrive x → (old new : Option Barrier) (known : List ℕ) → Gathers events (λ k. k ≡ n) known
+      → IsArrived old new b.thread known → IsBarrier events n x old → IsBarrier events (n + 1) x new
+  barrier_arrived x op old new known g a is =
+      let before = cycles_before events x n in
+      let next : cycles_before events x (n + 1) ≡ arrived b.thread before =
+      cycles_before-next events x n b here ∙ ap (λ o. after_operation x b.thread o before) op ∙ after_arrive x before in
+      record {
+        current = a.current ∙ is.current ∙ ap (λ (c : Cycles). c.current) (sym next);
+        of = λ t.
+            elim (cases_eq t b.thread) [
+              | inl same ↦ ap (λ u. cycle_of new u) same ∙ a.here ∙ ap Some is.current ∙ sym (arrived_of b.thread before)
+                  ∙ ap (λ (c : Cycles). c.of b.thread) (sym next) ∙ ap (λ u. (cycles_before events x (n + 1)).of u) (sym same)
+              | inr other ↦ a.others t other ∙ is.of t ∙ sym (arrived_other b.thread t before other) ∙ ap (λ (c : Cycles). c.of t) (sym next)
+            ];
+        rows = λ c.
+            elim (cases_eq c (current_of old)) [
+              | inl same ↦
+                  subst (λ d. Gathers events (Before (n + 1) (ArrivesIn events x d)) (row_of new d)) (sym same)
+                  (next-joined events n (ArrivesIn events x (current_of old)) (row_of old (current_of old)) known (row_of new (current_of old))
+                  (b, here, op, sym is.current) (is.rows (current_of old)) g a.joined)
+              | inr other ↦
+                  subst (λ r. Gathers events (Before (n + 1) (ArrivesIn events x c)) r) (sym (a.rows c other))
+                  (next-same events n (ArrivesIn events x c) (row_of old c) (λ (d, at, arrives, in_cycle). other (sym in_cycle ∙ sym is.current)) (is.rows c))
+            ];
+      }
+
+  pub barrier_departed : (x : ℕ) → b.operation ≡ Depart x → (old new : Option Barrier) → IsDeparted old new b.thread → IsBarrier events n x old
+      → IsBarrier events (n + 1) x new
+  barrier_departed x op old new d is =
+      let before = cycles_before events x n in
+      let next : cycles_before events x (n + 1) ≡ departed b.thread before =
+      cycles_before-next events x n b here ∙ ap (λ o. after_operation x b.thread o before) op ∙ after_depart x before in
+      record {
+        current = d.current ∙ ap (λ o. opened o (current_of old)) (is.of b.thread) ∙ ap (λ m. opened (before.of b.thread) m) is.current
+            ∙ ap (λ (c : Cycles). c.current) (sym next);
+        of = λ t. d.of t ∙ is.of t ∙ ap (λ (c : Cycles). c.of t) (sym next);
+        rows = rows_kept x (λ arrives. let never : ⊥ = cc in never) old new d.rows is;
+      }

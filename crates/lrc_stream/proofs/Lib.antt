@@ -1,0 +1,7 @@
+pub mod Pushing
+pub mod Gathering
+pub mod Handing
+pub mod Giving
+pub mod Noting
+pub mod Telling
+pub mod Collecting

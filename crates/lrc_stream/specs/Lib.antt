@@ -1,0 +1,6 @@
+pub mod Vectors
+pub mod Clocks
+pub mod Barriers
+pub mod Variables
+pub mod Knowing
+pub mod Detecting

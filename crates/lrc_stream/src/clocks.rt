@@ -1,0 +1,74 @@
+// Vectors of threads, of locks, or of the cycles of a barrier.
+ghost use Rattle.std.specs.Prelude.{◌≡◌, ℕ, ◌<◌, [], OnOk, vec_len};
+ghost use Rattle.lrc_stream.specs.Clocks.{row, IsGained, IsMarked};
+
+use crate::vectors::{join, put};
+use std::alloc::{AllocError, Global};
+
+/// A row of numbers for each index: for each thread, one more than the last of its positions that is known there, or 0
+/// where none is. What is not kept is 0.
+#[derive(Drop)]
+pub struct Clocks {
+    rows: Vec<Vec<u64>>,
+}
+
+impl Clocks {
+    /// Nothing is known.
+    pub fn new(alloc: Global) -> Clocks
+        ensures { result.rows.items ≡ [] }
+    {
+        Clocks {
+            rows: Vec::new(alloc),
+        }
+    }
+
+    /// What is known at this index.
+    pub fn row(&self, index: usize) -> &[u64]
+        ensures { result.now ≡ row self.now index }
+    {
+        match self.rows.get(index) {
+            Some(row) => row.as_slice(),
+            None => &[],
+        }
+    }
+
+    // Makes a row for this index, where there is none.
+    fn reach(&mut self, index: usize) -> Result<(), AllocError>
+        ensures { OnOk result ((index < vec_len self.new.rows) × ((other : ℕ) → row self.new other ≡ row self.old other)) }
+    {
+        let alloc = *self.rows.allocator();
+        while self.rows.len() <= index {
+            self.rows.push(Vec::new(alloc))?;
+        }
+        Ok(())
+    }
+
+    /// Adds to what is known at this index.
+    pub fn gain(&mut self, index: usize, known: &[u64]) -> Result<(), AllocError>
+        ensures { OnOk result (IsGained self.old self.new index known.now) }
+    {
+        self.reach(index)?;
+        join(&mut self.rows[index], known)?;
+        Ok(())
+    }
+
+    /// Adds what is known at one index to what is known at another.
+    pub fn hand(&mut self, from: usize, to: usize) -> Result<(), AllocError>
+        ensures { OnOk result (IsGained self.old self.new to (row self.old from)) }
+    {
+        let alloc = *self.rows.allocator();
+        let known = Vec::from_slice(alloc, self.row(from))?;
+        self.gain(to, known.as_slice())?;
+        Ok(())
+    }
+
+    /// Sets what a thread knows of itself.
+    pub fn mark(&mut self, thread: u32, value: u64) -> Result<(), AllocError>
+        ensures { OnOk result (IsMarked self.old self.new thread value) }
+    {
+        let index = thread as usize;
+        self.reach(index)?;
+        put(&mut self.rows[index], thread, value)?;
+        Ok(())
+    }
+}
