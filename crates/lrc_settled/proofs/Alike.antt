@@ -2,9 +2,8 @@
 use Rattle.std.proofs.Common.{◌≡◌, ℕ, zero, suc, List, [], ◌∷◌, ◌++◌, Bool, true, false, refl, sym, ap, ◌∙◌}
 use Rattle.std.specs.Prelude.{cond, filter, nat_eq}
 use Rattle.std.proofs.lemmas.Bool.{and_parts, eqb-true}
-use Rattle.std.proofs.lemmas.List.Elements.{filter-append}
 use Rattle.lrc_trace.specs.declared.act.Act.{Act}
-use Rattle.lrc_explore.specs.Notes.{is_noted_deed, is_note_of, notes_from, notes_of}
+use Rattle.lrc_explore.specs.Notes.{is_noted_deed, is_note_of, notes_from}
 
 pub record Alike (xs ys : List Act) : Type 0 where
   pub same : (node : ℕ) → filter (is_note_of node) xs ≡ filter (is_note_of node) ys

@@ -7,13 +7,13 @@ use Rattle.lrc_trace.specs.declared.act.Deed.{Deed}
 use Rattle.lrc_trace.specs.Run.{act_of}
 use Rattle.lrc_exec.specs.Meaning.{Thread, next_of}
 use Rattle.lrc_exec.specs.Plain.{Plain, thread_in, plain_step}
-use Rattle.lrc_consistency_laws.specs.Follows.{Goes, deeds_of}
+use Rattle.lrc_consistency_laws.specs.Follows.{deeds_of}
 use Rattle.lrc_consistency_laws.proofs.Runs.{deeds_of-own, deeds_of-other}
-use Rattle.lrc_settled.specs.Free.{is_free, is_free_in, is_contended, Turns, TurnsIn, TurnsAt}
-use Rattle.lrc_settled.specs.Settling.{IsSettledAt, IsSettled, IsNextToSettle, Settles, settled, settling}
+use Rattle.lrc_settled.specs.Free.{is_free, is_free_in, Turns, TurnsIn}
+use Rattle.lrc_settled.specs.Settling.{IsSettledAt, IsSettled, Settles, settled, settling}
 use Rattle.lrc_settled.specs.Threads.{ThreadSettles, stopped, waits, turns, goes, AreAscending, SettlesByThreads}
-use Rattle.lrc_settled.proofs.Parts.{Stepped, stepped}
-use Rattle.lrc_settled.proofs.Diamond.{memory_still, true_is_false}
+use Rattle.lrc_settled.proofs.Parts.{stepped}
+use Rattle.lrc_settled.proofs.Diamond.{memory_still}
 use Rattle.lrc_settled.proofs.Finishing.{free_steady}
 use Rattle.lrc_settled.proofs.Settle.{settling_free}
 

@@ -1,6 +1,6 @@
 -- The commuting lemma: an act that touches no word and asks for nothing that another node's act takes away can be made before or after
 -- that act, and both ways lead to one state.
-use Rattle.std.proofs.Common.{◌≡◌, ℕ, ◌+◌, ◌<◌, ◌≤◌, Bool, true, false, List, Option, Some, None, inl, inr, length, refl, sym, ap, ◌∙◌, subst, arith}
+use Rattle.std.proofs.Common.{◌≡◌, ℕ, ◌+◌, ◌<◌, Bool, true, false, List, Option, Some, None, inl, inr, length, refl, sym, ap, ◌∙◌, subst, arith}
 use Rattle.std.specs.Prelude.{is_none, nat_le, slice_index, slice_index_or, slice_set}
 use Rattle.std.specs.List.{list_all}
 use Rattle.std.proofs.lemmas.Bool.{cases_eq, leb-true, le-leb}
@@ -9,7 +9,7 @@ use Rattle.std.proofs.lemmas.List.Sums.{AllPass-from_list_all, list_all-from_All
 use Rattle.lrc_trace.specs.declared.act.Deed.{Deed}
 use Rattle.lrc_trace.specs.declared.act.Deed.TheVariants.{Quiet, Print, Read, Write, Acquire, Release, Arrive, Depart, Trap, End}
 use Rattle.lrc_exec.specs.Meaning.{Thread}
-use Rattle.lrc_exec.specs.Plain.{Plain, nobody_holds, all_arrived, thread_in, plain_step}
+use Rattle.lrc_exec.specs.Plain.{Plain, plain_step}
 use Rattle.lrc_consistency_laws.proofs.Runs.{CanDo}
 use Rattle.lrc_explore.proofs.Effects.{after_of, memory_after, holders_after, arrivals_after, holders_other, arrivals_other, arrivals_rise, length-arrivals}
 use Rattle.lrc_settled.specs.Free.{is_contended}

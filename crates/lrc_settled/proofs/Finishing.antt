@@ -8,15 +8,15 @@ use Rattle.lrc_trace.specs.declared.act.Act.{Act}
 use Rattle.lrc_trace.specs.declared.act.Deed.{Deed}
 use Rattle.lrc_trace.specs.declared.act.Deed.TheVariants.{Quiet, Print, Release, Arrive, Trap, End}
 use Rattle.lrc_exec.specs.Meaning.{Thread, Next, quiet, prints, reads, writes, acquires, releases, arrives, departs, traps, ends, next_of, first_act}
-use Rattle.lrc_exec.specs.Plain.{Plain, thread_in, plain_step, plain_from}
+use Rattle.lrc_exec.specs.Plain.{Plain, thread_in, plain_from}
 use Rattle.lrc_exec.proofs.NextLaws.{IsFine, next_of-fine}
 use Rattle.lrc_consistency_laws.specs.Follows.{Goes, quietly, printing, reading, writing, acquiring, releasing, arriving, departing, trapping, ending}
 use Rattle.lrc_consistency_laws.proofs.Runs.{CanDo}
 use Rattle.lrc_consistency_laws.proofs.Plainly.{stepwise}
 use Rattle.lrc_explore.proofs.Effects.{after_of}
 use Rattle.lrc_explore.specs.Stuck.{IsAtRest}
-use Rattle.lrc_settled.specs.Free.{is_free, is_contended, after_quiet, after_quiets, Turns, TurnsIn, TurnsAt}
-use Rattle.lrc_settled.proofs.Parts.{Stepped, stepped, can_step}
+use Rattle.lrc_settled.specs.Free.{is_free, is_contended, after_quiet, after_quiets, Turns, TurnsIn}
+use Rattle.lrc_settled.proofs.Parts.{stepped, can_step}
 use Rattle.lrc_settled.proofs.Turning.{no_some, turns_still, at_rest_none_turns}
 
 -- what a node's free acts come to

@@ -1,12 +1,12 @@
 -- In front: a run from where a node can make an act that commutes can begin with this act, and go on with the rest.
-use Rattle.std.proofs.Common.{◌≡◌, ℕ, suc, ◌+◌, ◌<◌, ◌≤◌, List, [], ◌∷◌, ◌++◌, ◌⊎◌, inl, inr, Bool, true, false, length, refl, sym, ap, ◌∙◌, subst, arith}
+use Rattle.std.proofs.Common.{◌≡◌, ℕ, ◌+◌, ◌<◌, List, [], ◌∷◌, ◌⊎◌, inl, inr, Bool, true, false, length, refl, sym, ap, ◌∙◌, subst, arith}
 use Rattle.std.specs.Prelude.{Option, Some, None}
 use Rattle.std.proofs.lemmas.Bool.{cases_eq}
 use Rattle.std.proofs.lemmas.Option.{some_pair_parts}
 use Rattle.lrc_trace.specs.declared.act.Act.{Act}
 use Rattle.lrc_trace.specs.declared.act.Deed.{Deed}
 use Rattle.lrc_trace.specs.Run.{act_of}
-use Rattle.lrc_exec.specs.Meaning.{Thread, Next, next_of}
+use Rattle.lrc_exec.specs.Meaning.{Thread, Next}
 use Rattle.lrc_exec.specs.Plain.{Plain, thread_in, plain_step, plain_from}
 use Rattle.lrc_consistency_laws.specs.Follows.{Goes, quietly, printing, reading, writing, acquiring, releasing, arriving, departing, trapping, ending}
 use Rattle.lrc_consistency_laws.proofs.Plainly.{stepwise, one_more}
@@ -15,7 +15,7 @@ use Rattle.lrc_explore.specs.Stuck.{IsAtRest}
 use Rattle.lrc_settled.specs.Free.{is_contended}
 use Rattle.lrc_settled.proofs.Parts.{Stepped, stepped}
 use Rattle.lrc_settled.proofs.Held.{Held, held_after}
-use Rattle.lrc_settled.proofs.Diamond.{Diamond, diamond, true_is_false}
+use Rattle.lrc_settled.proofs.Diamond.{diamond, true_is_false}
 use Rattle.lrc_settled.proofs.Alike.{Alike, alike_here, alike_on, alike_behind, alike_swap, alike_is}
 
 -- a node acts in the order

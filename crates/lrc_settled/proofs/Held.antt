@@ -1,6 +1,6 @@
 -- What every step keeps: the locks that threads hold are theirs on the machine, and there are as many locks and nodes.
-use Rattle.std.proofs.Common.{◌≡◌, ℕ, ◌<◌, Bool, true, false, List, Option, Some, None, inl, inr, length, refl, sym, ap, ◌∙◌, subst, arith}
-use Rattle.std.specs.Prelude.{is_none, slice_index, slice_index_or, slice_set, replicate, map}
+use Rattle.std.proofs.Common.{◌≡◌, ℕ, ◌<◌, Bool, true, false, List, Option, Some, None, inl, inr, length, sym, ap, ◌∙◌, subst, arith}
+use Rattle.std.specs.Prelude.{is_none, slice_index_or, slice_set, replicate}
 use Rattle.std.specs.List.{range_with_len}
 use Rattle.std.proofs.lemmas.Bool.{cases_eq, cases_lt}
 use Rattle.std.proofs.lemmas.List.{get_or-set_same, get_or-set_other, get_or_past, length-set, length-replicate, get_or-replicate, length-map}
@@ -8,15 +8,15 @@ use Rattle.std.proofs.lemmas.List.FromFn.{length-range_with_len}
 use Rattle.std.proofs.lemmas.Option.{same_Some}
 use Rattle.lrc_lang.specs.declared.program.Program.{Program}
 use Rattle.lrc_trace.specs.declared.act.Deed.{Deed}
-use Rattle.lrc_trace.specs.declared.act.Deed.TheVariants.{Acquire, Release, Arrive}
+use Rattle.lrc_trace.specs.declared.act.Deed.TheVariants.{Release}
 use Rattle.lrc_exec.specs.Meaning.{Setting, Thread, Next, holds, next_of}
-use Rattle.lrc_exec.specs.Plain.{Plain, thread_in, plain_step, plain_start, start_of}
-use Rattle.lrc_exec.proofs.NextLaws.{Leads, IsFine, next_of-fine}
+use Rattle.lrc_exec.specs.Plain.{Plain, thread_in, plain_start, start_of}
+use Rattle.lrc_exec.proofs.NextLaws.{IsFine, next_of-fine}
 use Rattle.lrc_exec.proofs.PlainParts.{thread_within}
 use Rattle.lrc_consistency_laws.specs.Follows.{Goes, quietly, printing, reading, writing, acquiring, releasing, arriving, departing, trapping, ending}
 use Rattle.lrc_consistency_laws.proofs.Runs.{CanDo, thread_at_start}
-use Rattle.lrc_explore.proofs.Effects.{after_of, holders_after, arrivals_after, length-holders, length-arrivals}
-use Rattle.lrc_settled.proofs.Parts.{Stepped, stepped}
+use Rattle.lrc_explore.proofs.Effects.{holders_after, length-holders, length-arrivals}
+use Rattle.lrc_settled.proofs.Parts.{Stepped}
 
 pub record Held (machine : Plain) : Type 0 where
   pub locks : (node : ℕ) (thread : Thread) → thread_in machine node ≡ Some thread → thread.setting.locks ≡ length machine.holders

@@ -1,6 +1,6 @@
 -- From a run of the plain machine to a way of settled states.
-use Rattle.std.proofs.Common.{◌≡◌, ℕ, zero, suc, ◌+◌, ◌<◌, ◌≤◌, List, [], ◌∷◌, ◌++◌, ◌⊎◌, inl, inr, Bool, true, false, length, refl, sym, ap, ◌∙◌, subst, arith, append_assoc}
-use Rattle.std.specs.Prelude.{Option, Some, None}
+use Rattle.std.proofs.Common.{◌≡◌, ℕ, zero, suc, ◌+◌, ◌≤◌, List, [], ◌∷◌, ◌++◌, inl, inr, Bool, true, false, length, refl, sym, ap, ◌∙◌, subst, arith, append_assoc}
+use Rattle.std.specs.Prelude.{Option, Some}
 use Rattle.std.proofs.lemmas.List.{append-nil}
 use Rattle.std.proofs.lemmas.Option.{some_pair_parts}
 use Rattle.lrc_lang.specs.declared.program.Program.{Program}
@@ -9,22 +9,20 @@ use Rattle.lrc_trace.specs.declared.act.Deed.{Deed}
 use Rattle.lrc_trace.specs.declared.act.Deed.TheVariants.{Depart}
 use Rattle.lrc_trace.specs.Run.{act_of}
 use Rattle.lrc_exec.specs.Meaning.{Thread, Next, next_of}
-use Rattle.lrc_exec.specs.Plain.{Plain, thread_in, plain_step, plain_from, plain_start}
+use Rattle.lrc_exec.specs.Plain.{Plain, plain_step, plain_from, plain_start}
 use Rattle.lrc_consistency_laws.specs.Follows.{Goes, quietly, printing, reading, writing, acquiring, releasing, arriving, departing, trapping, ending}
 use Rattle.lrc_consistency_laws.proofs.Plainly.{stepwise}
-use Rattle.lrc_explore.specs.Meeting.{Meet}
 use Rattle.lrc_explore.specs.Stuck.{IsAtRest}
-use Rattle.lrc_settled.specs.Free.{is_free, is_free_in, is_contended, TurnsIn, TurnsAt}
+use Rattle.lrc_settled.specs.Free.{is_free, is_free_in, is_contended, TurnsAt}
 use Rattle.lrc_settled.specs.Settling.{IsSettled, Settles, settled, settling}
 use Rattle.lrc_settled.specs.Steps.{Leads, alone, together, IsSettledState, beginning, onward}
 use Rattle.lrc_settled.proofs.Parts.{Stepped, stepped}
 use Rattle.lrc_settled.proofs.Held.{Held, held_after, held_at_start}
 use Rattle.lrc_settled.proofs.Diamond.{true_is_false}
-use Rattle.lrc_settled.proofs.Alike.{Alike, alike_join}
 use Rattle.lrc_settled.proofs.Front.{Follows, follows_here, follows_on, follows_behind, follows_is}
 use Rattle.lrc_settled.proofs.Turning.{turns_still, at_rest_none_turns, dropped}
-use Rattle.lrc_settled.proofs.Finishing.{AllFinish, free_steady}
-use Rattle.lrc_settled.proofs.Settle.{SettlesTo, settle, settling_free, Along, along}
+use Rattle.lrc_settled.proofs.Finishing.{AllFinish}
+use Rattle.lrc_settled.proofs.Settle.{settle, settling_free, along}
 use Rattle.lrc_settled.proofs.Aligned as barriers
 use Rattle.lrc_settled.proofs.Aligned.{Aligned, aligned_after, aligned_at_start, AtBarrier, at_barrier, all_wait, aligned_past, Together}
 

@@ -1,15 +1,14 @@
 -- A thread that comes round turns for ever; and settling leads to one state.
-use Rattle.std.proofs.Common.{◌≡◌, ℕ, zero, suc, ◌+◌, ◌-◌, ◌<◌, ◌≤◌, List, [], ◌∷◌, inl, inr, Bool, true, false, refl, sym, ap, ◌∙◌, subst, arith, zero-add, suc-add}
+use Rattle.std.proofs.Common.{◌≡◌, ℕ, zero, suc, ◌+◌, ◌-◌, ◌<◌, ◌≤◌, List, ◌∷◌, inl, inr, refl, sym, ap, ◌∙◌, subst, arith, zero-add, suc-add}
 use Rattle.std.specs.Prelude.{Option, Some, None, IsSome, option_and_then}
 use Rattle.std.proofs.lemmas.Bool.{cases_eq, cases_lt}
 use Rattle.std.proofs.lemmas.Option.{same_Some, some_pair_parts, option_and_then_some}
 use Rattle.lrc_trace.specs.declared.act.Act.{Act}
-use Rattle.lrc_trace.specs.declared.act.Deed.{Deed}
 use Rattle.lrc_trace.specs.Run.{act_of}
 use Rattle.lrc_exec.specs.Meaning.{Thread, next_of}
 use Rattle.lrc_exec.specs.Plain.{Plain, plain_step}
 use Rattle.lrc_settled.specs.Free.{after_quiet, after_quiets, Turns}
-use Rattle.lrc_settled.specs.Settling.{IsSettled, IsNextToSettle, Settles, settled, settling}
+use Rattle.lrc_settled.specs.Settling.{IsNextToSettle, Settles, settled, settling}
 use Rattle.lrc_settled.proofs.Turning.{no_some}
 
 -- so many quiet acts and prints, and then more

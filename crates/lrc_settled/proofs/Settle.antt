@@ -1,5 +1,5 @@
 -- Where each node's free acts come to an end, the state settles; and a run from it goes on from where it is settled.
-use Rattle.std.proofs.Common.{◌≡◌, ℕ, zero, suc, ◌+◌, ◌<◌, ◌≤◌, List, [], ◌∷◌, ◌++◌, inl, inr, Bool, true, false, length, refl, sym, ap, ◌∙◌, subst, arith}
+use Rattle.std.proofs.Common.{◌≡◌, ℕ, zero, suc, ◌+◌, ◌<◌, ◌≤◌, List, [], ◌∷◌, ◌++◌, inl, inr, true, false, length, refl, sym, ap, ◌∙◌, subst, arith}
 use Rattle.std.specs.Prelude.{Option, Some, None}
 use Rattle.std.proofs.lemmas.Bool.{cases_eq, cases_lt}
 use Rattle.std.proofs.lemmas.List.{get_or_past, get_or-set_same, get_or-set_other, length-set}
@@ -10,7 +10,7 @@ use Rattle.lrc_exec.specs.Meaning.{Thread, next_of}
 use Rattle.lrc_exec.specs.Plain.{Plain, thread_in, plain_step, plain_from}
 use Rattle.lrc_explore.proofs.Effects.{after_of}
 use Rattle.lrc_settled.specs.Free.{is_free, is_free_in, is_contended, TurnsIn}
-use Rattle.lrc_settled.specs.Settling.{IsSettledAt, IsSettled, IsNextToSettle, Settles, settled, settling}
+use Rattle.lrc_settled.specs.Settling.{IsSettledAt, IsNextToSettle, Settles, settled, settling}
 use Rattle.lrc_settled.proofs.Parts.{Stepped, stepped, can_step}
 use Rattle.lrc_settled.proofs.Held.{Held, held_after}
 use Rattle.lrc_settled.proofs.Front.{Follows, follows_here, follows_on, follows_behind, in_front, ending_follows, ending_length}

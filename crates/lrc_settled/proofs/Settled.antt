@@ -1,25 +1,24 @@
 -- The laws: what some order leads to is what settled states have.
-use Rattle.std.proofs.Common.{◌≡◌, ℕ, zero, suc, ◌+◌, ◌<◌, List, [], ◌∷◌, ◌++◌, length, refl, sym, ap, ◌∙◌, subst, map}
-use Rattle.std.specs.Prelude.{Option, Some, None, ◌↔◌}
+use Rattle.std.proofs.Common.{◌≡◌, ℕ, List, [], ◌∷◌, ◌++◌, length, refl, sym, ap, ◌∙◌, subst}
+use Rattle.std.specs.Prelude.{Some, ◌↔◌}
 use Rattle.std.specs.List.{range_with_len}
 use Rattle.std.proofs.lemmas.List.{map-append}
 use Rattle.lrc_lang.specs.declared.program.Program.{Program}
 use Rattle.lrc_trace.specs.declared.act.Act.{Act}
-use Rattle.lrc_trace.specs.Run.{act_of}
-use Rattle.lrc_exec.specs.Plain.{Plain, plain_step, plain_from, plain_start}
+use Rattle.lrc_exec.specs.Plain.{Plain, plain_from, plain_start}
 use Rattle.lrc_exec.proofs.PlainLaws.{plain_from-nodes}
 use Rattle.lrc_consistency_laws.specs.Follows.{nodes_of_acts}
 use Rattle.lrc_consistency_laws.specs.Racing.{HasNoRace}
 use Rattle.lrc_consistency_laws.proofs.Plainly.{one_more, plain_from-joined}
-use Rattle.lrc_explore.specs.Meeting.{Meet, IsReachable, NeverMeets}
-use Rattle.lrc_explore.specs.Notes.{notes_of}
-use Rattle.lrc_explore.specs.Outcome.{IsOutcome, EndsWith}
-use Rattle.lrc_explore.specs.Stuck.{IsAtRest, GetsStuck, IsStuck}
-use Rattle.lrc_explore.proofs.Meetings.{never_meets, no_race}
+use Rattle.lrc_explore.specs.Meeting.{Meet, NeverMeets}
+use Rattle.lrc_explore.specs.Outcome.{IsOutcome}
+use Rattle.lrc_explore.specs.Stuck.{IsAtRest, GetsStuck}
+use Rattle.lrc_explore.proofs.Meetings.{never_meets, no_race, racing}
+use Rattle.lrc_explore.specs.Verdict.{EndsInRace}
 use Rattle.lrc_settled.specs.Settling.{IsSettled, Settles, settled, settling}
 use Rattle.lrc_settled.specs.Steps.{Leads, alone, together, IsSettledState, beginning, onward, NeverMeetsSettled, GetsStuckSettled, IsSettledOutcome}
 use Rattle.lrc_settled.proofs.Alike.{Alike, notes_alike}
-use Rattle.lrc_settled.proofs.Finishing.{AllFinish, finishes_by_rest, all_may_finish}
+use Rattle.lrc_settled.proofs.Finishing.{finishes_by_rest, all_may_finish}
 use Rattle.lrc_settled.proofs.Onward.{is_settled, from_start, settled_state}
 
 -- ---- from settled states to orders
@@ -115,3 +114,10 @@ outcomes program nodes notes = (
       record { acts = r.new_acts; machine = o.machine; led = r.state; still = o.still; are = notes_alike r.alike nodes 0 ∙ o.are },
   λ s. record { order = nodes_of_acts s.acts; acts = s.acts; machine = s.machine; led = state_run s.led; still = s.still; are = s.are },
 )
+
+-- the acts that lead to a meeting, and then the two accesses, end in a race
+pub ends_in_race : (program : Program) (nodes : ℕ) (acts : List Act) (machine : Plain) (p q : ℕ) → IsSettledState program nodes acts machine
+    → Meet machine p q → EndsInRace program nodes (nodes_of_acts acts ++ p ∷ q ∷ [])
+ends_in_race program nodes acts machine p q state meet =
+    let r = racing program nodes machine (record { order = nodes_of_acts acts; acts = acts; led = state_run state }) p q meet in
+    record { run = r.run; is = r.is; first = length acts; last = r.long; races = r.races }

@@ -1,6 +1,6 @@
 // What settled states have of a program. Each function is a theorem: its body is empty, and its clause is the law.
 
-ghost use Rattle.std.specs.Prelude.{◌≡◌, ◌≢◌, ℕ, ◌<◌, ◌↔◌, List, [], Some};
+ghost use Rattle.std.specs.Prelude.{◌≡◌, ◌≢◌, ℕ, ◌<◌, ◌↔◌, List, [], ◌∷◌, ◌++◌, Some};
 ghost use Rattle.lrc_lang.specs.declared.program.Program.{Program};
 ghost use Rattle.lrc_trace.specs.declared.act.Act.{Act};
 ghost use Rattle.lrc_trace.specs.declared.act.Deed.{Deed};
@@ -9,8 +9,10 @@ ghost use Rattle.lrc_exec.specs.Plain.{Plain, thread_in, plain_step, plain_from,
 ghost use Rattle.lrc_consistency_laws.specs.Follows.{deeds_of, nodes_of_acts};
 ghost use Rattle.lrc_consistency_laws.specs.Racing.{HasNoRace};
 ghost use Rattle.lrc_explore.specs.Outcome.{IsOutcome};
-ghost use Rattle.lrc_explore.specs.Stuck.{GetsStuck};
-ghost use Rattle.lrc_settled.specs.Free.{after_quiets, Turns};
+ghost use Rattle.lrc_explore.specs.Meeting.{Meet};
+ghost use Rattle.lrc_explore.specs.Stuck.{IsAtRest, GetsStuck};
+ghost use Rattle.lrc_explore.specs.Verdict.{EndsInRace};
+ghost use Rattle.lrc_settled.specs.Free.{after_quiets, Turns, TurnsAt};
 ghost use Rattle.lrc_settled.specs.Settling.{IsSettled, Settles};
 ghost use Rattle.lrc_settled.specs.Steps.{IsSettledState, NeverMeetsSettled, GetsStuckSettled, IsSettledOutcome, IsSettledCertificate};
 ghost use Rattle.lrc_settled.specs.Threads.{SettlesByThreads};
@@ -66,4 +68,17 @@ pub fn after_a_step_of_one_node_the_others_are_settled()
     ensures { (machine mid final : Plain) (node : ℕ) (deed : Deed) (acts : List Act) → IsSettled machine
         → plain_step machine node ≡ Some (deed, mid) → Settles mid acts final → (other : ℕ) → other ≢ node
         → (thread_in final other ≡ thread_in machine other) × (deeds_of other acts ≡ []) }
+{}
+
+/// Where two nodes meet at a settled state, the acts that lead there and then both accesses are a run whose last two acts race.
+pub fn a_meeting_of_a_settled_state_ends_in_a_race()
+    ensures { (program : Program) (nodes : ℕ) (acts : List Act) (machine : Plain) (p q : ℕ) → IsSettledState program nodes acts machine
+        → Meet machine p q → EndsInRace program nodes (nodes_of_acts acts ++ p ∷ q ∷ []) }
+{}
+
+/// From a state at which a node turns for ever no order leads to where no node can make an act: so it leads to no outcome, and to none
+/// at which the program is stuck.
+pub fn where_a_node_turns_for_ever_no_order_ends()
+    ensures { (machine final : Plain) (order : List ℕ) (acts : List Act) (node : ℕ) → plain_from machine order ≡ Some (acts, final)
+        → TurnsAt machine node → ¬ IsAtRest final }
 {}
