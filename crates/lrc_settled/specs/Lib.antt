@@ -1,0 +1,4 @@
+pub mod Free
+pub mod Settling
+pub mod Steps
+pub mod Threads
