@@ -629,12 +629,20 @@ fn is_request_of(alloc: Global, count: u32, len: Option<usize>) -> bool {
     }
 }
 
+#[test]
+fn the_longest_body_is_read_and_written(rt: HostRuntime) {
+    holds(&rt, "arrival", is_met(rt.alloc(), &Case::KeptLong(LONGEST)));
+}
+
+#[test]
+fn an_arrival_over_the_limit_is_not_written(rt: HostRuntime) {
+    holds(&rt, "arrival", is_arrival_too_long(rt.alloc()));
+}
+
 /// 2 bytes for the page, 4 for the count, and 4 for each index: 16,777,214 in all, and 4 more, which are too many.
 #[test]
-fn the_longest_bodies(rt: HostRuntime) {
+fn a_body_over_the_limit_is_not_written(rt: HostRuntime) {
     let alloc = rt.alloc();
-    holds(&rt, "kept", is_met(alloc, &Case::KeptLong(LONGEST)));
-    holds(&rt, "arrival", is_arrival_too_long(alloc));
     let longest = is_request_of(alloc, 4_194_302, Some(12 + 16_777_214));
     holds(&rt, "request", longest);
     holds(&rt, "long request", is_request_of(alloc, 4_194_303, None));
