@@ -1,5 +1,5 @@
 -- Happens before goes forward, and is transitive.
-use Rattle.std.proofs.Common.{◌≡◌, ℕ, ◌<◌, ◌≤◌, ◌⊎◌, List, inl, inr, refl, sym, subst, arith}
+use Rattle.std.proofs.Common.{ℕ, ◌<◌, List, inl, inr, refl, sym, subst, arith}
 use Rattle.lrc_std.specs.declared.event.Event.{Event}
 use Rattle.lrc_std.specs.Order.{Precedes, program, lock, fork, join, fork_join, barrier, HappensBefore, base, further, Reaches}
 

@@ -1,13 +1,11 @@
 -- Every race is told, or one with a later access of the same thread.
-use Rattle.std.proofs.Common.{◌≡◌, ◌≢◌, ℕ, zero, suc, ◌+◌, ◌-◌, ◌<◌, ◌≤◌, ◌⊎◌, List, [], ◌∷◌, length, get_or, inl, inr, refl, sym, subst, ◌∙◌, ap, arith}
+use Rattle.std.proofs.Common.{◌≡◌, ℕ, zero, suc, ◌-◌, ◌≤◌, ◌⊎◌, List, [], ◌∷◌, length, inl, inr, refl, sym, subst, ◌∙◌, ap, arith}
 use Rattle.std.specs.Prelude.{Contains}
 use Rattle.std.proofs.lemmas.Bool.{cases_eq, cases_lt}
 use Rattle.lrc_std.specs.declared.event.Event.{Event}
 use Rattle.lrc_std.specs.declared.event.Pair.{Pair}
-use Rattle.lrc_std.specs.declared.event.Placed.{Placed}
 use Rattle.lrc_std.specs.Trace.{At}
 use Rattle.lrc_std.specs.Races.{Races, IsTold, AreTold}
-use Rattle.lrc_std.proofs.Positions.{At-one}
 
 -- where something is in a longer list
 Contains-later : (p q : Pair) (pairs : List Pair) → Contains pairs p → Contains (q ∷ pairs) p

@@ -1,10 +1,10 @@
 -- What an event gets is what comes right before it.
-use Rattle.std.proofs.Common.{◌≡◌, ◌≢◌, ℕ, ◌+◌, ◌<◌, ◌⊎◌, List, [], get_or, max, inl, inr, refl, sym, subst, ◌∙◌, ap, arith}
+use Rattle.std.proofs.Common.{◌≡◌, ℕ, ◌+◌, ◌⊎◌, List, inl, inr, refl, sym, subst, ◌∙◌, ap}
 use Rattle.std.specs.Prelude.{Option, Some, None, slice_get}
 use Rattle.lrc_std.specs.declared.event.Event.{Event}
 use Rattle.lrc_std.specs.declared.event.Operation.{Operation}
 use Rattle.lrc_std.specs.declared.event.Operation.TheVariants.{Read, Write, Acquire, Release, Post, Wait, Fork, Join, Arrive, Depart, Idle}
-use Rattle.lrc_std.specs.Trace.{At, given, got}
+use Rattle.lrc_std.specs.Trace.{At, got}
 use Rattle.lrc_std.specs.Cycles.{cycles_before}
 use Rattle.lrc_std.specs.Order.{Precedes, program, lock, fork, join, fork_join, barrier}
 use Rattle.lrc_std.proofs.Positions.{At-one}

@@ -1,5 +1,5 @@
 -- What is kept of variables, what changes there, and what is told by it.
-use Rattle.std.specs.Prelude.{◌≡◌, ◌≢◌, ℕ, zero, suc, ◌==◌, nat_lt, Bool, if◌then◌else◌, List, [], ◌∷◌, ◌++◌, Option, Some, None, Vec, option_to_list, slice_get, slice_index}
+use Rattle.std.specs.Prelude.{◌≡◌, ◌≢◌, ℕ, zero, suc, ◌==◌, nat_lt, Bool, if◌then◌else◌, List, [], ◌++◌, Option, Some, None, Vec, option_to_list, slice_get, slice_index}
 use Rattle.std.specs.declared.alloc.Global.{Global}
 use Rattle.lrc_std.specs.declared.event.Pair.{Pair}
 use Rattle.lrc_std.specs.declared.event.Placed.{Placed}

@@ -1,8 +1,7 @@
 -- What barriers keep, one event further.
-use Rattle.std.proofs.Common.{◌≡◌, ◌≢◌, ◌+◌, ◌<◌, ◌∙◌, refl, sym, subst, ap, arith, inl, inr}
+use Rattle.std.proofs.Common.{◌≡◌, ◌+◌, refl, sym, subst, arith, inl, inr}
 use Rattle.std.specs.Prelude.{Option, slice_get}
 use Rattle.std.proofs.lemmas.Bool.{cases_eq}
-use Rattle.lrc_std.specs.declared.event.Operation.TheVariants.{Arrive, Depart}
 use Rattle.lrc_std.proofs.Cycles.{cycles_before-few}
 use Rattle.lrc_stream.specs.declared.barriers.Barrier.{Barrier}
 use Rattle.lrc_stream.specs.Barriers.{SameBarrier}

@@ -1,5 +1,5 @@
 -- A read or a write tells its pairs; another event tells none.
-use Rattle.std.proofs.Common.{◌≡◌, ◌++◌, [], length, refl, sym, subst, ap, ◌∙◌}
+use Rattle.std.proofs.Common.{◌≡◌, ◌++◌, length, refl, sym, subst, ap, ◌∙◌}
 use Rattle.std.specs.Prelude.{true, false}
 use Rattle.lrc_std.specs.Races.{AreToldAt}
 use Rattle.lrc_stream.specs.Variables.{lasts_of, told_below}

@@ -1,5 +1,5 @@
 -- The barriers are as they were.
-use Rattle.std.proofs.Common.{◌≡◌, ℕ, ◌+◌, ◌-◌, vec_len}
+use Rattle.std.proofs.Common.{ℕ, ◌+◌, ◌-◌, vec_len}
 use Rattle.std.specs.Prelude.{slice_get}
 use Rattle.lrc_stream.specs.Barriers.{SameBarrier}
 use Rattle.lrc_stream.proofs.barriers.Barriers.reach.Given as goal

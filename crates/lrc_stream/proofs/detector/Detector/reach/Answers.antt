@@ -1,5 +1,5 @@
 -- What the event gets is received, and its own position is marked.
-use Rattle.std.proofs.Common.{◌≡◌, ◌+◌, subst, ap}
+use Rattle.std.proofs.Common.{◌+◌, subst}
 use Rattle.lrc_stream.specs.Clocks.{IsMarked}
 use Rattle.lrc_stream.proofs.Handing.{received}
 use Rattle.lrc_stream.proofs.detector.Detector.reach.Goals as goal

@@ -1,9 +1,8 @@
 -- Each part goes one event further.
-use Rattle.std.proofs.Common.{◌≡◌, ◌+◌, ◌<◌, ◌^◌, ◌∙◌, [], refl, sym, subst, ap, arith}
-use Rattle.lrc_std.specs.declared.event.Event.{Event}
+use Rattle.std.proofs.Common.{◌≡◌, ◌+◌, ◌<◌, ◌^◌, ◌∙◌, sym, subst, ap}
 use Rattle.lrc_std.specs.Trace.{At}
 use Rattle.lrc_std.specs.Races.{AreToldAt}
-use Rattle.lrc_stream.specs.Knowing.{Gathers, AreLocks, AreBarriers, AreVariables, IsReached}
+use Rattle.lrc_stream.specs.Knowing.{Gathers, AreLocks, AreBarriers, AreVariables}
 use Rattle.lrc_stream.proofs.detector.Detector.take.Goals as goal
 
 pub returns : goal.returns
