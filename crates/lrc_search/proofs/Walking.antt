@@ -1,5 +1,5 @@
 -- A thread that goes on by quiet acts and prints, and one that it was before.
-use Rattle.std.proofs.Common.{◌≡◌, ℕ, zero, suc, ◌+◌, ◌-◌, ◌<◌, ◌≤◌, List, true, false, length, refl, sym, ap, ◌∙◌, subst, arith, add-zero}
+use Rattle.std.proofs.Common.{◌≡◌, ℕ, ◌+◌, ◌-◌, ◌<◌, ◌≤◌, true, false, length, refl, sym, ap, ◌∙◌, subst, arith}
 use Rattle.std.specs.Prelude.{Option, Some, None, IsSome, option_and_then}
 use Rattle.std.proofs.lemmas.Bool.{true≢false}
 use Rattle.lrc_exec.specs.declared.spot.Flat.{Flat}

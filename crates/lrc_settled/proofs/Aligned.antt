@@ -179,17 +179,23 @@ aligned_past machine count long b = record {
   ];
 }
 
--- the next node departs
-record DepartStep (machine : Plain) (count place long : ℕ) : Type 0 where
-  after : Plain
-  step : plain_step machine place ≡ Some (Depart, after)
-  barrier : AtBarrier after count (place + 1) long
+-- a thread past the barrier
+abbrev pub departed : Option Thread → Option Thread
+departed None = None
+departed (Some thread) = Some (record thread { arrived = false })
 
-waiter : (o : Option Thread) → waits_in o ≡ true → (thread : Thread) × (o ≡ Some thread) × (thread.arrived ≡ true)
+-- the next node departs
+pub record DepartStep (machine : Plain) (count place long : ℕ) : Type 0 where
+  pub after : Plain
+  pub step : plain_step machine place ≡ Some (Depart, after)
+  pub is : after ≡ after_of machine place Depart (departed (thread_in machine place))
+  pub barrier : AtBarrier after count (place + 1) long
+
+pub waiter : (o : Option Thread) → waits_in o ≡ true → (thread : Thread) × (o ≡ Some thread) × (thread.arrived ≡ true)
 waiter None e = true_is_false true refl (sym e)
 waiter (Some thread) e = (thread, refl, e)
 
-depart_step : (machine : Plain) (count place long : ℕ) → AtBarrier machine count place long → place < long → DepartStep machine count place long
+pub depart_step : (machine : Plain) (count place long : ℕ) → AtBarrier machine count place long → place < long → DepartStep machine count place long
 depart_step machine count place long b lt =
     let w = waiter (thread_in machine place) (b.waits place (omega arith) lt) in
     let t : Thread = w.0 in
@@ -208,6 +214,7 @@ depart_step machine count place long b lt =
     record {
       after = after;
       step = step;
+      is = ap (λ o. after_of machine place Depart (departed o)) (sym w.1);
       barrier = record {
         held = held_after machine b.held place Depart after s;
         size = length-set machine.threads place (Some gone) ∙ b.size;

@@ -12,3 +12,5 @@ pub mod Settled
 pub mod Rounds
 pub mod Certified
 pub mod ByThreads
+pub mod FromThreads
+pub mod GoingOn

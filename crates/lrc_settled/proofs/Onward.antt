@@ -31,13 +31,13 @@ pub record Fine (machine : Plain) : Type 0 where
   pub held : Held machine
   pub aligned : Aligned machine
 
-fine_after : (machine : Plain) → Fine machine → (node : ℕ) (deed : Deed) (after : Plain) → Stepped machine node deed after → (deed ≡ Depart → ⊥) → Fine after
+pub fine_after : (machine : Plain) → Fine machine → (node : ℕ) (deed : Deed) (after : Plain) → Stepped machine node deed after → (deed ≡ Depart → ⊥) → Fine after
 fine_after machine fine node deed after s never_so = record {
   held = held_after machine fine.held node deed after s;
   aligned = aligned_after machine fine.held fine.aligned node deed after s never_so;
 }
 
-not_depart : {next : Next} {deed : Deed} {new : Option Thread} → Goes next deed new → is_free next ≡ true → deed ≡ Depart → ⊥
+pub not_depart : {next : Next} {deed : Deed} {new : Option Thread} → Goes next deed new → is_free next ≡ true → deed ≡ Depart → ⊥
 not_depart quietly f e = cc
 not_depart printing f e = cc
 not_depart reading f e = cc
@@ -62,14 +62,14 @@ is_depart departing e f = refl
 is_depart trapping e f = true_is_false true refl f
 is_depart ending e f = true_is_false true refl f
 
-contended_no_depart : (deed : Deed) → is_contended deed ≡ true → deed ≡ Depart → ⊥
+pub contended_no_depart : (deed : Deed) → is_contended deed ≡ true → deed ≡ Depart → ⊥
 contended_no_depart deed e is = true_is_false true refl (sym (subst (λ d. is_contended d ≡ true) is e))
 
 pub is_settled : {machine there : Plain} {made : List Act} → Settles machine made there → IsSettled there
 is_settled (settled machine is) = is
 is_settled (settling machine after there node deed made next step more) = is_settled more
 
-fine_settled : {machine there : Plain} {made : List Act} → Settles machine made there → Fine machine → Fine there
+pub fine_settled : {machine there : Plain} {made : List Act} → Settles machine made there → Fine machine → Fine there
 fine_settled (settled machine is) fine = fine
 fine_settled (settling machine after there node deed made next step more) fine =
     let s = stepped machine node deed after step in

@@ -2,3 +2,4 @@ pub mod Free
 pub mod Settling
 pub mod Steps
 pub mod Threads
+pub mod Rows

@@ -1,11 +1,13 @@
 -- Settling as each thread does it by itself.
-use Rattle.std.specs.Prelude.{◌≡◌, ℕ, ◌≤◌, true, false, List, [], ◌∷◌, Option, Some, None}
+use Rattle.std.specs.Prelude.{◌≡◌, ℕ, ◌≤◌, ◌⊎◌, true, false, List, [], ◌∷◌, Option, Some, None, slice_index_or}
 use Rattle.lrc_trace.specs.declared.act.Act.{Act}
 use Rattle.lrc_trace.specs.declared.act.Deed.{Deed}
+use Rattle.lrc_trace.specs.declared.act.Deed.TheVariants.{Release}
 use Rattle.lrc_exec.specs.Meaning.{Thread, next_of}
 use Rattle.lrc_exec.specs.Plain.{Plain, thread_in}
 use Rattle.lrc_consistency_laws.specs.Follows.{Goes, deeds_of}
 use Rattle.lrc_settled.specs.Free.{is_free, Turns}
+use Rattle.lrc_settled.specs.Settling.{Settles}
 
 -- a thread makes these free deeds and comes to that one, whose next act is not free, or which turns for ever; or it has stopped
 pub data ThreadSettles : Option Thread → List Deed → Option Thread → Type 0 where
@@ -25,3 +27,21 @@ pub record SettlesByThreads (machine : Plain) (acts : List Act) (final : Plain) 
   pub threads : (node : ℕ) → ThreadSettles (thread_in machine node) (deeds_of node acts) (thread_in final node)
   pub ascending : AreAscending 0 acts
   pub memory : final.memory ≡ machine.memory
+
+-- one of the acts gives the lock back
+abbrev pub IsGivenBack : ℕ → List Act → Type 0
+IsGivenBack lock [] = ⊥
+IsGivenBack lock (act ∷ acts) = (act.deed ≡ Release lock) ⊎ IsGivenBack lock acts
+
+-- a lock that is given back is free, and any other one is held as before
+pub record LocksSettle (machine : Plain) (acts : List Act) (final : Plain) : Type 0 where
+  pub freed : (lock : ℕ) → IsGivenBack lock acts → slice_index_or final.holders lock None ≡ None
+  pub kept : (lock : ℕ) → ¬ IsGivenBack lock acts → slice_index_or final.holders lock None ≡ slice_index_or machine.holders lock None
+
+-- the state settles, each thread by these deeds and to that thread
+pub record SettlesTogether (machine : Plain) (deeds : ℕ → List Deed) (there : ℕ → Option Thread) : Type 0 where
+  pub acts : List Act
+  pub final : Plain
+  pub settles : Settles machine acts final
+  pub made : (node : ℕ) → deeds_of node acts ≡ deeds node
+  pub comes : (node : ℕ) → thread_in final node ≡ there node

@@ -1,6 +1,6 @@
 // What settled states have of a program. Each function is a theorem: its body is empty, and its clause is the law.
 
-ghost use Rattle.std.specs.Prelude.{◌≡◌, ◌≢◌, ℕ, ◌<◌, ◌↔◌, List, [], ◌∷◌, ◌++◌, Some};
+ghost use Rattle.std.specs.Prelude.{◌≡◌, ◌≢◌, ℕ, ◌<◌, ◌↔◌, List, [], ◌∷◌, ◌++◌, Option, Some};
 ghost use Rattle.lrc_lang.specs.declared.program.Program.{Program};
 ghost use Rattle.lrc_trace.specs.declared.act.Act.{Act};
 ghost use Rattle.lrc_trace.specs.declared.act.Deed.{Deed};
@@ -13,9 +13,10 @@ ghost use Rattle.lrc_explore.specs.Meeting.{Meet};
 ghost use Rattle.lrc_explore.specs.Stuck.{IsAtRest, GetsStuck};
 ghost use Rattle.lrc_explore.specs.Verdict.{EndsInRace};
 ghost use Rattle.lrc_settled.specs.Free.{after_quiets, Turns, TurnsAt};
+ghost use Rattle.lrc_settled.specs.Rows.{AreAlike, GoesOnAlike};
 ghost use Rattle.lrc_settled.specs.Settling.{IsSettled, Settles};
 ghost use Rattle.lrc_settled.specs.Steps.{IsSettledState, NeverMeetsSettled, GetsStuckSettled, IsSettledOutcome, IsSettledCertificate};
-ghost use Rattle.lrc_settled.specs.Threads.{SettlesByThreads};
+ghost use Rattle.lrc_settled.specs.Threads.{ThreadSettles, SettlesByThreads, SettlesTogether, LocksSettle};
 
 /// A program has no race exactly where at no settled state two nodes are about to access one word, and one of them to write it.
 pub fn a_race_is_a_meeting_of_a_settled_state()
@@ -81,4 +82,22 @@ pub fn a_meeting_of_a_settled_state_ends_in_a_race()
 pub fn where_a_node_turns_for_ever_no_order_ends()
     ensures { (machine final : Plain) (order : List ℕ) (acts : List Act) (node : ℕ) → plain_from machine order ≡ Some (acts, final)
         → TurnsAt machine node → ¬ IsAtRest final }
+{}
+
+/// Where each thread settles by itself, by some deeds and to some thread, the state settles so.
+pub fn where_the_threads_settle_the_state_does()
+    ensures { (machine : Plain) (deeds : ℕ → List Deed) (there : ℕ → Option Thread)
+        → ((node : ℕ) → ThreadSettles (thread_in machine node) (deeds node) (there node)) → SettlesTogether machine deeds there }
+{}
+
+/// A lock that settling gives back is free then, and any other one is held as before.
+pub fn settling_gives_locks_back()
+    ensures { (machine final : Plain) (acts : List Act) → Settles machine acts final → LocksSettle machine acts final }
+{}
+
+/// How often nodes have arrived does not matter: two settled states with the same words, holders of locks and threads go on alike. So
+/// a loop of barriers has finitely many.
+pub fn settled_states_go_on_alike_whatever_the_episode()
+    ensures { (program : Program) (nodes : ℕ) (acts others : List Act) (machine other : Plain) → IsSettledState program nodes acts machine
+        → IsSettledState program nodes others other → AreAlike machine other → GoesOnAlike machine other }
 {}

@@ -1,9 +1,7 @@
 -- The walker goes on from where it is, and comes round where it is what it was.
-use Rattle.std.proofs.Common.{◌≡◌, ◌∙◌, ◌<◌, ◌+◌, true, false, sym, ap, subst, arith}
+use Rattle.std.proofs.Common.{◌≡◌, ◌∙◌, ◌<◌, ◌+◌, sym, ap, subst, arith}
 use Rattle.std.specs.Prelude.{IsSome}
 use Rattle.lrc_exec.specs.declared.spot.Spot.{Spot}
-use Rattle.lrc_exec.specs.Ask.{ask_of}
-use Rattle.lrc_exec.specs.Meaning.{next_of}
 use Rattle.lrc_exec.specs.Spots.{thread_at}
 use Rattle.lrc_explore.proofs.Same.{spot_same}
 use Rattle.lrc_settled.specs.Free.{after_quiets}
