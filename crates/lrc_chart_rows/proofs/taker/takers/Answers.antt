@@ -1,5 +1,5 @@
-use Rattle.lrc_chart_rows.proofs.Arrowing.{takers_more}
-use Rattle.lrc_chart_rows.proofs.arrow.takers.Goals as goal
+use Rattle.lrc_chart_rows.proofs.Taking.{takers_more}
+use Rattle.lrc_chart_rows.proofs.taker.takers.Goals as goal
 
 pub loop-position-preserved : goal.loop-position-preserved
 loop-position-preserved c =
