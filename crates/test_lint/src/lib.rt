@@ -5,3 +5,5 @@
 mod checks;
 #[cfg(test)]
 mod labels;
+#[cfg(test)]
+mod words;
