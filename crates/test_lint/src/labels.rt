@@ -81,11 +81,18 @@ fn both_sides_of_the_limits(rt: HostRuntime) {
 }
 
 const FORMS: &[u8] =
-    b"words 4; locks 2;\n#:\n#: word\n#:word 0\n#: word 0 a b\n#: word x a\n#: Word 0 a\n#: word -1 a\n#: words 0 a\n#: words 0 1 2 a\n#: word 0 print\n#: word 0 me\n#: word 0 3x\n#: word 0 a-b\n#: word 0 a[0]\n#: lock 0 locks\n#: word 0 a #\n# : word 0 a\n##: word 0 a\n # word 0 a\n";
+    b"words 4; locks 2;\n#:\n#: word\n#:word 0\n#: word 0 a b\n#: word x a\n#: Word 0 a\n#: word -1 a\n#: words 0 a\n";
+
+const MORE_FORMS: &[u8] =
+    b"#: words 0 1 2 a\n#: word 0 print\n#: word 0 me\n#: word 0 3x\n#: word 0 a-b\n#: word 0 a[0]\n#: lock 0 locks\n#: word 0 a #\n";
+
+const NO_LABELS: &[u8] = b"# : word 0 a\n##: word 0 a\n # word 0 a\n";
 
 #[test]
 fn other_forms(rt: HostRuntime) {
-    holds(&rt, all_of_another_form(rt.alloc(), FORMS, 16));
+    holds(&rt, all_of_another_form(rt.alloc(), FORMS, 8));
+    holds(&rt, all_of_another_form(rt.alloc(), MORE_FORMS, 8));
+    holds(&rt, all_of_another_form(rt.alloc(), NO_LABELS, 0));
 }
 
 fn all_of_another_form(alloc: Global, text: &[u8], count: usize) -> bool {
