@@ -3,7 +3,7 @@
 use lrc_envelope::{Clean, Envelope, Message, Picker};
 use lrc_node::{Entry, Input, Turn};
 use lrc_post::{Mailbox, Parcel};
-use lrc_weave::{WeaveFault, weave};
+use lrc_weave::{WeaveFault, weave, weave_run};
 use lrc_wire::encode;
 use std::alloc::{AllocError, Global};
 
@@ -67,20 +67,25 @@ fn mailbox(alloc: Global, is_early: bool) -> Option<Mailbox> {
     Some(mailbox)
 }
 
-// Why the log and that mailbox are not woven, if they are not.
-fn refusal(alloc: Global, is_early: bool) -> Option<Option<WeaveFault>> {
+// Why the log and that mailbox are not woven, if they are not; and why they are not as a thread leaves them.
+fn refusals(alloc: Global, is_early: bool) -> Option<[Option<WeaveFault>; 2]> {
     let logs = vec![in alloc; log(alloc).ok()?].ok()?;
     let wires = vec![in alloc; mailbox(alloc, is_early)?].ok()?;
     if logs.len() != 1 || wires.len() != 1 {
         return None;
     }
-    Some(weave(alloc, logs.as_slice(), wires.as_slice()).err())
+    Some([
+        weave(alloc, logs.as_slice(), wires.as_slice()).err(),
+        weave_run(alloc, logs.as_slice(), wires.as_slice()).err(),
+    ])
 }
 
+// Both messages may be put before either is taken, as each sender's puts and the takes are those of the log. But no thread does so
+// that makes its turns one after another.
 #[test]
 fn a_node_sends_itself_a_message_after_the_take_that_makes_it(rt: HostRuntime) {
-    let late = refusal(rt.alloc(), false);
-    assert!(rt; late == Some(None));
-    let early = refusal(rt.alloc(), true);
-    assert!(rt; early == Some(Some(WeaveFault::Mismatch)));
+    let late = refusals(rt.alloc(), false);
+    assert!(rt; late == Some([None, None]));
+    let early = refusals(rt.alloc(), true);
+    assert!(rt; early == Some([None, Some(WeaveFault::Mismatch)]));
 }
