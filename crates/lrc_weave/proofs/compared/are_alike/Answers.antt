@@ -1,9 +1,9 @@
 use Rattle.std.proofs.Common.{◌≡◌, ◌<◌, ◌↔◌, ◌∙◌, [], IsTrue, length, map, subst, sym, ap, rules}
 use Rattle.std.specs.Prelude.{slice_index_or}
 use Rattle.lrc_weave.specs.Matched.{Takes, message_of, puts_by, takes_in}
-use Rattle.lrc_weave.specs.Compared.{AreOwn, AreSent}
+use Rattle.lrc_weave.specs.Compared.{AreSent}
 use Rattle.lrc_weave.proofs.Looping.{each_long, node_more, node_not, nodes_end, not_by_nodes, own_lines}
-use Rattle.lrc_weave.proofs.compared.are_matched.Goals as goal
+use Rattle.lrc_weave.proofs.compared.are_alike.Goals as goal
 
 pub returns-then-not-are_all_by_nodes : goal.returns-then-not-are_all_by_nodes
 returns-then-not-are_all_by_nodes c =
@@ -29,12 +29,11 @@ returns-then-not-branch c =
     (c.in_ok-lines.ensures
     ∙ ap (map (λ own. slice_index_or (map (λ line. map (λ wire. wire.now) line.items) own.items) c.loop-node.node [])) read) in
     node_not (λ log. log.items) c.args.logs.now c.args.wires.now c.loop-node.node c.index-logs-node.result c.as_slice-in-loop-node.result.now
-    c.index-wires-node.result c.history.result.now lines c.in_ok-is_matched.field-0 here (search rules) (search rules) (search rules) (search rules)
+    c.index-wires-node.result c.history.result.now lines c.in_ok-is_alike.field-0 here (search rules) (search rules) (search rules) (search rules)
     (search rules) own
-    (subst (λ ls. IsTrue c.in_ok-is_matched.field-0
+    (subst (λ ls. IsTrue c.in_ok-is_alike.field-0
     ↔ (AreSent c.as_slice-in-loop-node.result.now (map (λ line. map (λ wire. message_of wire.now) line.now) ls)
-    × Takes [] c.as_slice-in-loop-node.result.now (takes_in c.history.result.now)
-    × AreOwn c.loop-node.node c.as_slice-in-loop-node.result.now c.history.result.now)) c.as_mut_slice.ensures.value c.in_ok-is_matched.ensures)
+    × Takes [] c.as_slice-in-loop-node.result.now (takes_in c.history.result.now))) c.as_mut_slice.ensures.value c.in_ok-is_alike.ensures)
     (search rules)
 
 pub loop-node-preserved : goal.loop-node-preserved
@@ -48,12 +47,11 @@ loop-node-preserved c =
     (c.in_ok-lines.ensures
     ∙ ap (map (λ own. slice_index_or (map (λ line. map (λ wire. wire.now) line.items) own.items) c.loop-node.node [])) read) in
     node_more (λ log. log.items) c.args.logs.now c.args.wires.now c.loop-node.node c.index-logs-node.result c.as_slice-in-loop-node.result.now
-    c.index-wires-node.result c.history.result.now lines c.in_ok-is_matched.field-0 here (search rules) (search rules) (search rules) (search rules)
+    c.index-wires-node.result c.history.result.now lines c.in_ok-is_alike.field-0 here (search rules) (search rules) (search rules) (search rules)
     (search rules) own
-    (subst (λ ls. IsTrue c.in_ok-is_matched.field-0
+    (subst (λ ls. IsTrue c.in_ok-is_alike.field-0
     ↔ (AreSent c.as_slice-in-loop-node.result.now (map (λ line. map (λ wire. message_of wire.now) line.now) ls)
-    × Takes [] c.as_slice-in-loop-node.result.now (takes_in c.history.result.now)
-    × AreOwn c.loop-node.node c.as_slice-in-loop-node.result.now c.history.result.now)) c.as_mut_slice.ensures.value c.in_ok-is_matched.ensures)
+    × Takes [] c.as_slice-in-loop-node.result.now (takes_in c.history.result.now))) c.as_mut_slice.ensures.value c.in_ok-is_alike.ensures)
     (search rules) c.loop-node.invariant
 
 pub returns : goal.returns
