@@ -1,5 +1,6 @@
 -- No two labels name one thing.
-use Rattle.std.proofs.Common.{◌≡◌, ◌<◌, ◌+◌, ◌⊎◌, ℕ, suc, zero, Bool, true, false, cond, arith, sym, refl, subst, List, [], ◌∷◌, ◌++◌, length, get_or, ⊎_elim, append-nil, length-append, Result, Ok, Err, Option, Some, None}
+use Rattle.std.proofs.Common.{◌≡◌, ◌<◌, ◌+◌, ◌⊎◌, ℕ, suc, zero, Bool, true, false, cond, arith, sym, refl, subst}
+use Rattle.std.proofs.Common.{List, [], ◌∷◌, ◌++◌, length, get_or, ⊎_elim, append-nil, length-append, Result, Ok, Err, Option, Some, None}
 use Rattle.std.specs.Prelude.{AllPairs, fold, ◌||◌}
 use Rattle.std.proofs.Math.Seq.{get_or-append_seam}
 use Rattle.std.proofs.lemmas.List.{get_or_append_left}

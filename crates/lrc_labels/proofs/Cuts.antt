@@ -1,5 +1,6 @@
 -- What a text is cut into.
-use Rattle.std.proofs.Common.{◌≡◌, ◌∙◌, ◌<◌, ◌≤◌, ◌+◌, ◌-◌, ℕ, suc, Bool, true, false, cond, not, ap, arith, sym, refl, List, [], ◌∷◌, length, take, drop, Some, None, subst}
+use Rattle.std.proofs.Common.{◌≡◌, ◌∙◌, ◌<◌, ◌≤◌, ◌+◌, ◌-◌, ℕ, suc, Bool, true, false, cond, not}
+use Rattle.std.proofs.Common.{ap, arith, sym, refl, List, [], ◌∷◌, length, take, drop, Some, None, subst}
 use Rattle.std.specs.List.{prefix_len, position}
 use Rattle.std.proofs.lemmas.List.{take_rest, length-drop}
 use Rattle.std.specs.Prelude.{nat_lt}
@@ -20,14 +21,18 @@ cut_whole is_divider (byte ∷ rest) h = first (cut_whole is_divider rest) (is_d
     first more true k = absurd (omega arith)
     first more false k = ap (in_front byte) (more (omega arith))
 
+abbrev CutsFirst : (ℕ → Bool) → List ℕ → Type 0
+CutsFirst is_divider text =
+    before is_divider text < length text
+    → cut is_divider text ≡ take (before is_divider text) text ∷ cut is_divider (drop (before is_divider text + 1) text)
+
 -- the first piece stands in front of the first divider
 pub cut_first : (is_divider : ℕ → Bool) (text : List ℕ) → before is_divider text < length text
     → cut is_divider text ≡ take (before is_divider text) text ∷ cut is_divider (drop (before is_divider text + 1) text)
 cut_first is_divider [] h = absurd (omega arith)
 cut_first is_divider (byte ∷ rest) h = first (cut_first is_divider rest) (is_divider byte) h
   where
-    first : (before is_divider rest < length rest
-        → cut is_divider rest ≡ take (before is_divider rest) rest ∷ cut is_divider (drop (before is_divider rest + 1) rest)) → (b : Bool) → cond (not b) (1 + before is_divider rest) 0 < suc (length rest)
+    first : CutsFirst is_divider rest → (b : Bool) → cond (not b) (1 + before is_divider rest) 0 < suc (length rest)
         → cond b ([] ∷ cut is_divider rest) (in_front byte (cut is_divider rest))
         ≡ take (cond (not b) (1 + before is_divider rest) 0) (byte ∷ rest) ∷ cut is_divider (drop (cond (not b) (1 + before is_divider rest) 0 + 1) (byte ∷ rest))
     first more true k = refl

@@ -20,3 +20,4 @@ pub mod Epochs
 pub mod Unskipped
 pub mod Walked
 pub mod Runs
+pub mod Ranges

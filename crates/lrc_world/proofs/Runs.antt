@@ -1,7 +1,6 @@
 -- A run, from what its functions say of it.
 use Rattle.std.proofs.Common.{◌≡◌, ◌∙◌, ◌↔◌, ◌≤◌, ℕ, List, IfOk, Result, Ok, Some, true, subst, ap, arith, map}
 use Rattle.lrc_lang.specs.declared.program.Program.{Program}
-use Rattle.lrc_trace.specs.declared.race.Race.{Race}
 use Rattle.lrc_race.specs.Races.{AreRacesOf}
 use Rattle.lrc_judge.specs.Races.{AreNamedRaces}
 use Rattle.lrc_protocol.specs.declared.event.Event.{Event}

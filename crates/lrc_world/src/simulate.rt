@@ -53,32 +53,8 @@ pub fn simulate(
     }
 }
 
-/// The report that [`simulate`] has for these events, and whether nothing is left to do after them: no node is ready, and no
-/// message is in flight.
-pub fn replay(
-    alloc: Global,
-    program: &Program,
-    nodes: u32,
-    options: &Options,
-    events: &[Event],
-) -> Result<(Report, bool), SimFault>
-    ensures report { IfOk result (λ done. IsReportOf program.now nodes options.now events.now done.0) }
-    ensures races { IfOk result (λ done. AreNamedRaces done.0.acts.items done.0.races.items) }
-    ensures kept { IfOk result (λ done. AreKept program.now nodes options.now events.now done.0.acts.items done.0.ends.items) }
-
-    ensures over { IfOk result (λ done. (done.1 ≡ true) ↔ AreAll program.now nodes options.now events.now) }
-    ensures worn { result ≡ Err SimFault.Worn → IsWornBy program.now nodes options.now events.now }
-    ensures bad_nodes { (result ≡ Err SimFault.BadNodes) ↔ (¬ AreNodes nodes) }
-    ensures bad_steps { (result ≡ Err SimFault.BadSteps) ↔ (AreNodes nodes × ¬ AreSteps options.now.steps) }
-{
-    let order = Order::Events(events);
-    match run_checked(alloc, program, nodes, options, order, Keep::All) {
-        Ok(run) => Ok((run.report, run.is_over)),
-        Err(fault) => Err(fault),
-    }
-}
-
-/// The same without the turns of the nodes, which are not kept while the events are played.
+/// The run of these events without the turns of the nodes, which are not kept while they are played, and whether nothing is left to do
+/// after them: no node is ready, and no message is in flight.
 pub fn replay_briefly(
     alloc: Global,
     program: &Program,

@@ -5,7 +5,7 @@ use bytes::Bytes;
 use lrc_envelope::{Clean, Envelope, Message, Picker};
 use lrc_node::{Entry, Input, Turn};
 use lrc_post::{Mailbox, Parcel};
-use lrc_weave::{WeaveFault, weave};
+use lrc_weave::{WeaveFault, weave, weave_run};
 use lrc_wire::encode;
 use std::alloc::{AllocError, Global};
 
@@ -119,14 +119,15 @@ fn mailbox(alloc: Global, is_early: bool) -> Option<Mailbox> {
     }
 }
 
-// Whether the log and that mailbox are woven, or differ, as is wanted.
+// Whether the log and that mailbox are woven; and whether they are so as a thread leaves them, or differ, as is wanted.
 fn is_woven(alloc: Global, logs: &[Vec<Entry>], wires: &[Mailbox], wanted: bool) -> bool {
     if logs.len() != 1 || wires.len() != 1 {
         return false;
     }
-    match weave(alloc, logs, wires) {
-        Ok(_) => wanted,
-        Err(fault) => !wanted && fault == WeaveFault::Mismatch,
+    let is_woven = weave(alloc, logs, wires).is_ok();
+    match weave_run(alloc, logs, wires) {
+        Ok(_) => is_woven && wanted,
+        Err(fault) => is_woven && !wanted && fault == WeaveFault::Mismatch,
     }
 }
 
@@ -169,6 +170,8 @@ fn first_wrong(alloc: Global) -> Option<&'static str> {
     None
 }
 
+// Both messages may be put before either is taken, as each sender's puts and the takes are those of the log. But no thread does so
+// that makes its turns one after another.
 #[test]
 fn a_node_sends_itself_a_message_after_the_take_that_makes_it(rt: HostRuntime) {
     passes(&rt, first_wrong(rt.alloc()));

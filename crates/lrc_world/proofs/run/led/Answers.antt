@@ -1,4 +1,4 @@
-use Rattle.std.proofs.Common.{◌≡◌, ◌∙◌, ◌<◌, ℕ, [], length, Err, ap, subst, sym, arith}
+use Rattle.std.proofs.Common.{◌≡◌, ℕ, [], length, Err, ap, subst, sym, arith}
 use Rattle.std.proofs.lemmas.Result.{IfOk-from_err}
 use Rattle.lrc_lang.specs.declared.program.Program.{Program}
 use Rattle.lrc_protocol.specs.Node.{OptionsRecord}
@@ -13,7 +13,7 @@ use Rattle.lrc_world.specs.Driven.{DriverStandsAt, IsDrivenBy, schedule_of}
 use Rattle.lrc_world.specs.Led.{Schedule, WearsOut}
 use Rattle.lrc_world.specs.Report.{IsWornFault}
 use Rattle.lrc_world.specs.Runs.{AreLedToEnd}
-use Rattle.lrc_world.specs.World.{Starts, Shows, starts_of}
+use Rattle.lrc_world.specs.World.{Shows, starts_of}
 use Rattle.lrc_world.proofs.Events.{fault_up}
 use Rattle.lrc_world.proofs.Driven.{at_start, led_played}
 use Rattle.lrc_world.proofs.Races.{kept_raceless, kept_traces}

@@ -1,4 +1,4 @@
-use Rattle.std.proofs.Common.{◌≡◌, ◌∙◌, ℕ, IfErr, IfOk, ap, sym, subst, Result}
+use Rattle.std.proofs.Common.{◌≡◌, ℕ, IfErr, IfOk, sym, subst, Result}
 use Rattle.lrc_lang.specs.declared.program.Program.{Program}
 use Rattle.lrc_protocol.specs.Node.{OptionsRecord}
 use Rattle.lrc_world.specs.declared.keep.Keep.{Keep}

@@ -1,4 +1,4 @@
-use Rattle.std.proofs.Common.{◌≡◌, ◌∙◌, ◌⊎◌, ◌↔◌, inl, inr, ℕ, IfErr, IsErrAnd, Result, Ok, Err, ap, sym, subst}
+use Rattle.std.proofs.Common.{◌≡◌, ◌∙◌, ◌⊎◌, ◌↔◌, inl, inr, ℕ, IsErrAnd, Result, Ok, Err, ap, sym}
 use Rattle.std.proofs.lemmas.Result.{IfOk-from_err}
 use Rattle.lrc_exec.specs.Nodes.{AreNodes}
 use Rattle.lrc_setting.specs.Ranges.{AreSteps}
@@ -11,6 +11,7 @@ use Rattle.lrc_world.specs.declared.report.TurnFault.TheVariants as turns
 use Rattle.lrc_world.specs.Report.{IsWornFault, of_turns}
 use Rattle.lrc_world.specs.Runs.{IsRunIn, WearsOutIn}
 use Rattle.lrc_world.specs.Setting.{options_of}
+use Rattle.lrc_world.proofs.Ranges.{nodes_in_range, of_numbers, steps_in_range}
 use Rattle.lrc_world.proofs.simulate.run_checked.Goals as goal
 
 -- a fault that is handed on
@@ -45,27 +46,17 @@ module _ {X : Type 0} (r : Result X SimFault) (nodes steps : ℕ) (fault : SimFa
   )
   out_steps (inr out) = (λ e. (out.1, out.2), λ bad. is_err r fault is ∙ ap Err out.0)
 
--- the numbers of a setting are in range
+-- a fault of the turns is not one of the numbers
 module _ (setting : Setting) (nodes : ℕ) (options : OptionsRecord) (counted : setting.nodes.count ≡ nodes) (told : options_of setting ≡ options) where
-  nodes_in_range : AreNodes nodes
-  nodes_in_range = subst AreNodes counted (setting.nodes.some, setting.nodes.few)
-
-  steps_in_range : AreSteps options.steps
-  steps_in_range = subst AreSteps (ap (λ (o : OptionsRecord). o.steps) told) (setting.steps.some, setting.steps.few)
-
-  -- a thing of the setting is one of the numbers
-  of_numbers : (P : ℕ → OptionsRecord → Type 0) → P setting.nodes.count (options_of setting) → P nodes options
-  of_numbers P holds = subst (P nodes) told (subst (λ n. P n (options_of setting)) counted holds)
-
   turned : {X : Type 0} (r : Result X SimFault) (fault : TurnFault) → IsErrAnd r (λ f. f ≡ of_turns fault)
       → ((r ≡ Err BadNodes) ↔ (¬ AreNodes nodes)) × ((r ≡ Err BadSteps) ↔ (AreNodes nodes × ¬ AreSteps options.steps))
   turned r turns.Worn is = (
-    (λ e. let other : Worn ≡ BadNodes = handed_on r Worn BadNodes is e in cc, λ bad. absurd (bad nodes_in_range)),
-    (λ e. let other : Worn ≡ BadSteps = handed_on r Worn BadSteps is e in cc, λ bad. absurd (bad.1 steps_in_range)),
+    (λ e. let other : Worn ≡ BadNodes = handed_on r Worn BadNodes is e in cc, λ bad. absurd (bad (nodes_in_range setting nodes options counted told))),
+    (λ e. let other : Worn ≡ BadSteps = handed_on r Worn BadSteps is e in cc, λ bad. absurd (bad.1 (steps_in_range setting nodes options counted told))),
   )
   turned r turns.NoMemory is = (
-    (λ e. let other : NoMemory ≡ BadNodes = handed_on r NoMemory BadNodes is e in cc, λ bad. absurd (bad nodes_in_range)),
-    (λ e. let other : NoMemory ≡ BadSteps = handed_on r NoMemory BadSteps is e in cc, λ bad. absurd (bad.1 steps_in_range)),
+    (λ e. let other : NoMemory ≡ BadNodes = handed_on r NoMemory BadNodes is e in cc, λ bad. absurd (bad (nodes_in_range setting nodes options counted told))),
+    (λ e. let other : NoMemory ≡ BadSteps = handed_on r NoMemory BadSteps is e in cc, λ bad. absurd (bad.1 (steps_in_range setting nodes options counted told))),
   )
 
 -- it wore out where it says so
