@@ -1,0 +1,5 @@
+pub mod Readings
+pub mod Onward
+pub mod Plainly
+pub mod FirstRace
+pub mod Racing
