@@ -3,3 +3,5 @@ pub mod Onward
 pub mod Plainly
 pub mod FirstRace
 pub mod Racing
+pub mod Resting
+pub mod Outcomes

@@ -93,7 +93,7 @@ module _ (run : List Act) (node w : ℕ) where
       (v, same_reading (with_read u) (with_read v) (length run) w (same_written u v w) (same_written v u w) (same_but_value v u) v found.1)
 
   module _ (program : Program) (nodes u v : ℕ) (follows : FollowsText program nodes (with_read u)) where
-    other_follows : FollowsText program nodes (with_read v)
+    pub other_follows : FollowsText program nodes (with_read v)
     other_follows = record {
       in_range = all_in_range nodes (with_read v) (λ k n d does. elim (Does-cases does) [
         | inl (lt, before) ↦ in_range follows k n d (Does-longer (act_of node (Read w u) ∷ []) before)
@@ -115,7 +115,7 @@ module _ (run : List Act) (node w : ℕ) where
     }
 
 -- a read waits for nothing
-free_read : (nodes : ℕ) (run : List Act) (node w v : ℕ) → MayGoOn nodes run (act_of node (Read w v))
+pub free_read : (nodes : ℕ) (run : List Act) (node w v : ℕ) → MayGoOn nodes run (act_of node (Read w v))
 free_read nodes run node w v = record {
   acquires = λ l is other. let never : ⊥ = cc in absurd never;
   releases = λ l is. let never : ⊥ = cc in absurd never;

@@ -1,7 +1,6 @@
 -- Lazy runs without a race are those of the plain machine, and end where it does.
-use Rattle.std.proofs.Common.{◌≡◌, ℕ, ◌++◌, ◌∷◌, [], ◌⊎◌, List, inl, inr, refl, sym, ◌∙◌, ap}
+use Rattle.std.proofs.Common.{◌≡◌, ℕ, ◌++◌, ◌∷◌, [], ◌⊎◌, List, inl, inr, refl, ◌∙◌, ap}
 use Rattle.std.specs.Prelude.{Option, Some, None, option_map}
-use Rattle.std.proofs.lemmas.List.{map-append}
 use Rattle.std.proofs.lemmas.Option.{same_Some}
 use Rattle.lrc_lang.specs.declared.program.Program.{Program}
 use Rattle.lrc_trace.specs.declared.act.Act.{Act}
@@ -9,16 +8,15 @@ use Rattle.lrc_trace.specs.declared.act.Deed.{Deed}
 use Rattle.lrc_trace.specs.Run.{act_of}
 use Rattle.lrc_trace.proofs.Prefixes.{MayGoOn-last}
 use Rattle.lrc_exec.specs.Plain.{Plain, plain_step, plain_start, plain_from, plain}
-use Rattle.lrc_exec.proofs.PlainLaws.{then_from, plain_from-append, plain-nodes}
+use Rattle.lrc_exec.proofs.PlainLaws.{then_from, plain_from-append}
 use Rattle.lrc_consistency_laws.specs.Follows.{nodes_of_acts}
 use Rattle.lrc_consistency_laws.specs.Racing.{HasNoRace}
 use Rattle.lrc_consistency_laws.proofs.InOrder.{lazily_without_race}
 use Rattle.lrc_consistency_laws.proofs.Plainly.{facts, one_more, plain_from-joined}
 use Rattle.lrc_consistency_laws.proofs.Racing.{race_free}
 use Rattle.lrc_consistency_laws.proofs.UpToRace.{without_race}
-use Rattle.lrc_explore.specs.Outcome.{IsOutcome}
 use Rattle.lrc_explore.specs.Stuck.{IsAtRest}
-use Rattle.lrc_lazy.specs.Lazy.{IsLazyRun, IsOver, IsLazyOutcome}
+use Rattle.lrc_lazy.specs.Lazy.{IsLazyRun, IsOver}
 use Rattle.lrc_lazy.proofs.Onward.{goes_on}
 
 -- a run is over exactly where it does not go on lazily
@@ -36,7 +34,7 @@ some_or_none None = inl refl
 some_or_none (Some x) = inr (x, refl)
 
 -- the machine after the acts that it makes
-machine_of : {A B : Type 0} → (o : Option (A × B)) (a : A) → option_map (λ (r : A × B). r.0) o ≡ Some a → (b : B) × (o ≡ Some (a, b))
+pub machine_of : {A B : Type 0} → (o : Option (A × B)) (a : A) → option_map (λ (r : A × B). r.0) o ≡ Some a → (b : B) × (o ≡ Some (a, b))
 machine_of None a e = cc
 machine_of (Some (a', b)) a e = (b, ap (λ x. Some (x, b)) (same_Some a' a e))
 
@@ -51,7 +49,7 @@ module _ (program : Program) (nodes : ℕ) (machine : Plain) (order : List ℕ) 
       (one_more machine after after node deed [] [] first refl))
 
   -- where a node cannot step, no order goes on with it
-  no_more : (node : ℕ) → plain_step machine node ≡ None → plain program nodes (order ++ node ∷ []) ≡ None
+  pub no_more : (node : ℕ) → plain_step machine node ≡ None → plain program nodes (order ++ node ∷ []) ≡ None
   no_more node none =
       ap (option_map (λ (r : List Act × Plain). r.0))
       (plain_from-append (plain_start program nodes) order (node ∷ []) ∙ ap (λ run. then_from run (node ∷ [])) led ∙ stands)
@@ -60,7 +58,7 @@ module _ (program : Program) (nodes : ℕ) (machine : Plain) (order : List ℕ) 
       stands = rw none
 
   -- where no node can act after the run, none can step
-  rests : IsOver program nodes acts → IsAtRest machine
+  pub rests : IsOver program nodes acts → IsAtRest machine
   rests over node = elim (some_or_none (plain_step machine node)) [
     | inl none ↦ none
     | inr (step, is) ↦
@@ -82,33 +80,3 @@ module _ (program : Program) (nodes : ℕ) (none : HasNoRace program nodes) wher
   from_plain order acts made =
       let f = facts program nodes order acts made in
       record { follows = f.follows; synchronized = f.synchronized; lazily = lazily_without_race acts (none order acts made) f.in_order }
-
-  pub to_outcome : (notes : List Act) → IsLazyOutcome program nodes notes → IsOutcome program nodes notes
-  to_outcome notes o =
-      let (machine, led) = machine_of (plain_from (plain_start program nodes) (nodes_of_acts o.acts)) o.acts (to_plain o.acts o.run) in
-      record {
-        order = nodes_of_acts o.acts;
-        acts = o.acts;
-        machine = machine;
-        led = led;
-        still = rests program nodes machine (nodes_of_acts o.acts) o.acts led o.over;
-        are = o.are;
-      }
-
-  pub from_outcome : (notes : List Act) → IsOutcome program nodes notes → IsLazyOutcome program nodes notes
-  from_outcome notes o =
-      let made : plain program nodes o.order ≡ Some o.acts = ap (option_map (λ (r : List Act × Plain). r.0)) o.led in
-      let run = from_plain o.order o.acts made in
-      record {
-        acts = o.acts;
-        run = run;
-        over = stops_over program nodes o.acts run (λ act longer.
-            let plainly = to_plain (o.acts ++ act ∷ []) longer in
-            let nodes_are : nodes_of_acts (o.acts ++ act ∷ []) ≡ o.order ++ act.node ∷ [] =
-            map-append (λ (a : Act). a.node) o.acts (act ∷ []) ∙ ap (λ ns. ns ++ act.node ∷ []) (plain-nodes program nodes o.order o.acts made) in
-            let stops = no_more program nodes o.machine o.order o.acts o.led act.node (o.still act.node) in
-            let never : ◌≡◌ {A = Option (List Act)} None (Some (o.acts ++ act ∷ [])) =
-            sym stops ∙ ap (plain program nodes) (sym nodes_are) ∙ plainly in
-            cc);
-        are = o.are;
-      }
