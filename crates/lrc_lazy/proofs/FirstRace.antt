@@ -137,14 +137,15 @@ module _ (run : List Act) (i j p q : ℕ) (d e : Deed) (first : Does run i p d) 
     ]
   ]
 
-module _ (run : List Act) where
-  within_run : (j n word : ℕ) → Accesses run j n word → j < length run
-  within_run j n word (inl (v, a)) = Does-within a
-  within_run j n word (inr (v, a)) = Does-within a
+-- an access stands in the run
+pub access_within : {run : List Act} {j q word : ℕ} → Accesses run j q word → j < length run
+access_within (inl (v, does)) = Does-within does
+access_within (inr (v, does)) = Does-within does
 
+module _ (run : List Act) where
   race_or_not : (i j : ℕ) → i < j → Races run i j ⊎ (Races run i j → ⊥)
   race_or_not i j lt = elim (cases_lt j (length run)) [
-    | inr past ↦ inr (λ r. let within = within_run j r.conflict.1 r.conflict.2 r.conflict.3.second in absurd (omega arith))
+    | inr past ↦ inr (λ r. let within = access_within r.conflict.3.second in absurd (omega arith))
     | inl within ↦
         let a = act_at run i (omega arith) in
         let b = act_at run j within in

@@ -1,14 +1,13 @@
 -- Some lazy run has a race exactly where some order gives the plain machine one.
-use Rattle.std.proofs.Common.{◌≡◌, ℕ, suc, ◌+◌, ◌<◌, List, [], ◌∷◌, ◌++◌, length, take, drop, inl, inr, refl, sym, subst, ◌∙◌, ap, arith}
+use Rattle.std.proofs.Common.{◌≡◌, ℕ, suc, ◌+◌, ◌<◌, List, [], ◌∷◌, ◌++◌, length, take, drop, refl, sym, subst, ◌∙◌, ap, arith}
 use Rattle.std.specs.Prelude.{Some}
 use Rattle.std.proofs.lemmas.List.{take-append-drop, length-take, map-append}
 use Rattle.lrc_lang.specs.declared.program.Program.{Program}
 use Rattle.lrc_trace.specs.declared.act.Act.{Act}
 use Rattle.lrc_trace.specs.declared.act.Deed.{Deed}
 use Rattle.lrc_trace.specs.Run.{act_of}
-use Rattle.lrc_trace.specs.Conflict.{Accesses, Races, IsFirstRace}
+use Rattle.lrc_trace.specs.Conflict.{Races, IsFirstRace}
 use Rattle.lrc_trace.specs.Outline.{without_value, outline, SameButValues}
-use Rattle.lrc_trace.proofs.Positions.{Does-within}
 use Rattle.lrc_trace.proofs.Intervals.{act_at}
 use Rattle.lrc_trace.proofs.Outlines.{same_races}
 use Rattle.lrc_trace.proofs.Prefixes.{Races-longer, Races-shorter, MayGoOn-last}
@@ -22,13 +21,8 @@ use Rattle.lrc_consistency_laws.proofs.InOrder.{lazily_without_race}
 use Rattle.lrc_consistency_laws.proofs.Plainly.{facts}
 use Rattle.lrc_consistency_laws.proofs.Racing.{plain_to_race, race_free}
 use Rattle.lrc_lazy.specs.Lazy.{IsLazyRun, HasNoLazyRace, RacesInSomeOrder, RacesInSomeLazyRun}
-use Rattle.lrc_lazy.proofs.FirstRace.{first_race}
+use Rattle.lrc_lazy.proofs.FirstRace.{access_within, first_race}
 use Rattle.lrc_lazy.proofs.Onward.{goes_on}
-
--- an access stands in the run
-access_within : {run : List Act} {j q word : ℕ} → Accesses run j q word → j < length run
-access_within (inl (v, does)) = Does-within does
-access_within (inr (v, does)) = Does-within does
 
 -- deeds of one kind differ in a value at most
 kind_same : {d e : Deed} → SameKind d e → without_value d ≡ without_value e
