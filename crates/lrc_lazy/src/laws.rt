@@ -1,0 +1,45 @@
+// Lazy runs and the plain machine. Each function is a theorem: its body is empty, and its clause is the law.
+
+ghost use Rattle.std.specs.Prelude.{◌≡◌, ℕ, ◌↔◌, ◌++◌, ◌∷◌, [], List, Some};
+ghost use Rattle.lrc_lang.specs.declared.program.Program.{Program};
+ghost use Rattle.lrc_trace.specs.declared.act.Act.{Act};
+ghost use Rattle.lrc_exec.specs.Plain.{Plain, plain_start, plain_from, plain};
+ghost use Rattle.lrc_consistency_laws.specs.Follows.{nodes_of_acts};
+ghost use Rattle.lrc_consistency_laws.specs.Racing.{HasNoRace};
+ghost use Rattle.lrc_explore.specs.Outcome.{IsOutcome};
+ghost use Rattle.lrc_explore.specs.Stuck.{IsAtRest};
+ghost use Rattle.lrc_lazy.specs.Lazy.{IsLazyRun, IsOver, IsLazyOutcome, HasNoLazyRace, RacesInSomeOrder, RacesInSomeLazyRun};
+
+/// After a lazy run no node can act exactly where no act more makes a lazy run: a node that is about to read always has a value that it
+/// may read.
+pub fn a_run_is_over_where_no_lazy_run_goes_on()
+    ensures { (program : Program) (nodes : ℕ) (acts : List Act) → IsLazyRun program nodes acts
+        → (IsOver program nodes acts ↔ ((act : Act) → ¬ IsLazyRun program nodes (acts ++ act ∷ []))) }
+{}
+
+/// After a run of the plain machine no node can act exactly where the machine is at rest: so a lazy outcome is of runs that are over in
+/// the same sense as those of an outcome, with races too.
+pub fn a_run_is_over_where_the_plain_machine_is_at_rest()
+    ensures { (program : Program) (nodes : ℕ) (order : List ℕ) (acts : List Act) (machine : Plain)
+        → plain_from (plain_start program nodes) order ≡ Some (acts, machine)
+        → (IsOver program nodes acts ↔ IsAtRest machine) }
+{}
+
+/// A program has a race in some lazy run exactly where it has one in some order; and it has none in any lazy run exactly where it has
+/// none in any order.
+pub fn lazy_runs_race_where_orders_do()
+    ensures some { (program : Program) (nodes : ℕ) → (RacesInSomeLazyRun program nodes ↔ RacesInSomeOrder program nodes) }
+    ensures none { (program : Program) (nodes : ℕ) → (HasNoLazyRace program nodes ↔ HasNoRace program nodes) }
+{}
+
+/// Where no order has a race, the lazy runs are exactly the runs of the plain machine.
+pub fn without_a_race_lazy_runs_are_plain()
+    ensures { (program : Program) (nodes : ℕ) → HasNoRace program nodes → (acts : List Act)
+        → (IsLazyRun program nodes acts ↔ (plain program nodes (nodes_of_acts acts) ≡ Some acts)) }
+{}
+
+/// So the lazy outcomes are exactly the outcomes of the orders.
+pub fn without_a_race_lazy_outcomes_are_plain()
+    ensures { (program : Program) (nodes : ℕ) → HasNoRace program nodes → (notes : List Act)
+        → (IsLazyOutcome program nodes notes ↔ IsOutcome program nodes notes) }
+{}
