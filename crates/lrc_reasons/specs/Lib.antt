@@ -1,0 +1,4 @@
+pub mod Chains
+pub mod Numbers
+pub mod Starts
+pub mod Onward
