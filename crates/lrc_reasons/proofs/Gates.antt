@@ -12,7 +12,8 @@ use Rattle.lrc_trace.specs.Order.{Precedes, program, lock, barrier}
 use Rattle.lrc_trace.proofs.Positions.{Does-node, Does-deed, Does-one_node, Does-one_deed}
 use Rattle.lrc_reasons.specs.declared.starts.Start.{Start}
 use Rattle.lrc_reasons.specs.Starts.{IsBest, better}
-use Rattle.lrc_reasons.specs.Onward.{EachBest, IsActOf, IsAcquireOf, IsDepartOf}
+use Rattle.lrc_reasons.specs.Known.{IsActOf}
+use Rattle.lrc_reasons.specs.Onward.{EachBest, IsAcquireOf, IsDepartOf}
 use Rattle.lrc_reasons.proofs.Paths.{path-bound, path-some}
 use Rattle.lrc_reasons.proofs.Best.{Best-none, Best-same, Best-joined}
 

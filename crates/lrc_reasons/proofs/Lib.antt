@@ -1,4 +1,4 @@
 pub mod Paths
 pub mod Best
 pub mod Gates
-pub mod Known
+pub mod Existing

@@ -1,4 +1,5 @@
 pub mod Chains
 pub mod Numbers
 pub mod Starts
+pub mod Known
 pub mod Onward

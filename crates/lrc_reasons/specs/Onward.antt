@@ -1,22 +1,18 @@
 -- The best starts of chains, by what comes right before them.
 use Rattle.std.specs.Prelude.{◌≡◌, ℕ, ◌<◌, ◌≤◌, List, Option, None, length, slice_index_or}
 use Rattle.lrc_trace.specs.declared.act.Act.{Act}
-use Rattle.lrc_trace.specs.declared.act.Deed.{Deed}
 use Rattle.lrc_trace.specs.declared.act.Deed.TheVariants.{Acquire, Depart}
 use Rattle.lrc_trace.specs.Run.{Does, IsDone, departs_before}
 use Rattle.lrc_reasons.specs.declared.starts.Start.{Start}
 use Rattle.lrc_reasons.specs.declared.onward.Onward.{Onward}
+use Rattle.lrc_reasons.specs.Known.{IsActOf}
 use Rattle.lrc_reasons.specs.Starts.{IsBest}
 
 -- each place of the table has the best start of the positions that belong to it
 abbrev pub EachBest : List Act → ℕ → (ℕ → ℕ → Type 0) → List (Option Start) → Type 0
 EachBest run to these table = (x : ℕ) → x < length table → IsBest run to (these x) (slice_index_or table x None)
 
--- the node acts there,
-abbrev pub IsActOf : List Act → ℕ → ℕ → Type 0
-IsActOf run node k = (d : Deed) × Does run k node d
-
--- some node acquires the lock,
+-- some node acquires the lock there,
 abbrev pub IsAcquireOf : List Act → ℕ → ℕ → Type 0
 IsAcquireOf run l k = IsDone run k (Acquire l)
 

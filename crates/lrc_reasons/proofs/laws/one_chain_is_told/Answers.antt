@@ -1,4 +1,4 @@
-use Rattle.lrc_reasons.proofs.Known.{before-told}
+use Rattle.lrc_reasons.proofs.Existing.{before-told}
 use Rattle.lrc_reasons.proofs.Paths.{told-alone, told-before}
 use Rattle.lrc_reasons.proofs.laws.one_chain_is_told.Goals as goal
 

@@ -5,7 +5,8 @@ use Rattle.lrc_trace.specs.declared.act.Deed.TheVariants.{Quiet, Release}
 use Rattle.lrc_trace.specs.Run.{Does}
 use Rattle.lrc_trace.proofs.Positions.{Does-read, Does-node, Does-deed}
 use Rattle.lrc_reasons.specs.Starts.{IsBest}
-use Rattle.lrc_reasons.specs.Onward.{IsActOf, IsAcquireOf, IsDepartOf}
+use Rattle.lrc_reasons.specs.Known.{IsActOf}
+use Rattle.lrc_reasons.specs.Onward.{IsAcquireOf, IsDepartOf}
 use Rattle.lrc_reasons.proofs.Gates.{from_others, from_release, from_arrive, arrives-bound, read-best}
 use Rattle.lrc_reasons.proofs.onward.Onward.best_from.Goals as goal
 use Rattle.lrc_reasons.proofs.onward.Onward.best_from.Goals.{After-index-own}

@@ -2,7 +2,8 @@
 use Rattle.std.proofs.Common.{◌≡◌, refl}
 use Rattle.std.specs.Prelude.{Option, Some, None}
 use Rattle.lrc_reasons.specs.declared.starts.Start.{Start}
-use Rattle.lrc_reasons.specs.Onward.{IsActOf, IsAcquireOf, IsDepartOf}
+use Rattle.lrc_reasons.specs.Known.{IsActOf}
+use Rattle.lrc_reasons.specs.Onward.{IsAcquireOf, IsDepartOf}
 use Rattle.lrc_reasons.proofs.Gates.{each-none}
 use Rattle.lrc_reasons.proofs.onward.Onward.new.Goals as goal
 

@@ -4,7 +4,8 @@ use Rattle.lrc_trace.specs.declared.act.Act.{Act}
 use Rattle.lrc_trace.specs.declared.act.Deed.TheVariants.{Quiet, Acquire}
 use Rattle.lrc_trace.specs.Run.{Does}
 use Rattle.lrc_trace.proofs.Positions.{Does-read, Does-node, Does-deed}
-use Rattle.lrc_reasons.specs.Onward.{EachBest, IsActOf}
+use Rattle.lrc_reasons.specs.Known.{IsActOf}
+use Rattle.lrc_reasons.specs.Onward.{EachBest}
 use Rattle.std.specs.Prelude.{slice_set}
 use Rattle.lrc_reasons.proofs.Gates.{departs-bound, nodes-next, acquires-next, departs-next, acquires-same, departs-same}
 use Rattle.lrc_reasons.proofs.onward.Onward.note.Goals as goal
