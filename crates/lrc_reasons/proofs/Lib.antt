@@ -2,3 +2,4 @@ pub mod Paths
 pub mod Best
 pub mod Gates
 pub mod Existing
+pub mod Unordered

@@ -1,6 +1,11 @@
 // Laws of the definitions of reasons. Each function is a theorem: its body is empty, and its clause is the law.
-ghost use Rattle.std.specs.Prelude.{◌≡◌, ℕ, ◌↔◌, List};
+ghost use Rattle.std.specs.Prelude.{◌≡◌, ℕ, ◌<◌, ◌↔◌, List};
 ghost use Rattle.lrc_trace.specs.declared.act.Act.{Act};
+ghost use Rattle.lrc_trace.specs.declared.act.Deed.{Deed};
+ghost use Rattle.lrc_trace.specs.Run.{Does};
+ghost use Rattle.lrc_trace.specs.Conflict.{Races};
+ghost use Rattle.lrc_trace.specs.Interval.{interval_at};
+ghost use Rattle.lrc_trace.specs.Synchronization.{Holds, IsWellSynchronized};
 ghost use Rattle.lrc_trace.specs.Order.{HappensBefore};
 ghost use Rattle.lrc_reasons.specs.Chains.{IsChain, IsTold};
 
@@ -13,4 +18,19 @@ pub fn a_chain_is_there_where_one_happens_before_the_other()
 pub fn one_chain_is_told()
     ensures there { (run : List Act) (i j : ℕ) → ((chain : List ℕ) × IsTold run i j chain) ↔ HappensBefore run i j }
     ensures alone { (run : List Act) (i j : ℕ) (chain other : List ℕ) → IsTold run i j chain → IsTold run i j other → chain ≡ other }
+{}
+
+/// In a well-synchronized run acts at which one lock is held are ordered, so two acts that race hold no lock in common.
+pub fn races_hold_no_lock_in_common()
+    ensures ordered { (nodes : ℕ) (run : List Act) → IsWellSynchronized nodes run → (i j p q l : ℕ) (a b : Deed) → i < j
+        → Does run i p a → Does run j q b → Holds run i p l → Holds run j q l → HappensBefore run i j }
+    ensures races { (nodes : ℕ) (run : List Act) → IsWellSynchronized nodes run → (i j p q l : ℕ) (a b : Deed) → Races run i j
+        → Does run i p a → Does run j q b → Holds run i p l → ¬ Holds run j q l }
+{}
+
+/// The interval of the earlier of two acts that race is past every interval of its node that the later one knows: of any
+/// list of acts.
+pub fn races_are_past_what_is_known()
+    ensures { (run : List Act) (i j k p : ℕ) (a d : Deed) → Races run i j → Does run i p a → Does run k p d → HappensBefore run k j
+        → interval_at run p k < interval_at run p i }
 {}
