@@ -3,3 +3,4 @@ pub mod Best
 pub mod Gates
 pub mod Existing
 pub mod Unordered
+pub mod Holding

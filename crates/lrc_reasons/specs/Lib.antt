@@ -3,3 +3,4 @@ pub mod Numbers
 pub mod Starts
 pub mod Known
 pub mod Onward
+pub mod Held

@@ -4,6 +4,7 @@
 #![tactic(auto)]
 
 pub mod chains;
+pub mod held;
 pub mod known;
 pub mod laws;
 mod numbers;
