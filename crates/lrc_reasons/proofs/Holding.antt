@@ -1,6 +1,6 @@
 -- The locks that a node holds, one act further.
-use Rattle.std.proofs.Common.{◌≡◌, ℕ, ◌+◌, ◌<◌, ◌⊎◌, List, length, get_or, set, inl, inr, refl, sym, subst, ◌∙◌, ap, arith, length-set, replicate}
-use Rattle.std.specs.Prelude.{Bool, true, false, IsTrue}
+use Rattle.std.proofs.Common.{◌≡◌, ℕ, ◌+◌, ◌<◌, List, length, get_or, set, inl, inr, refl, sym, ◌∙◌, ap, arith, length-set, replicate}
+use Rattle.std.specs.Prelude.{Bool, true, false}
 use Rattle.std.proofs.lemmas.Bool.{cases_eq}
 use Rattle.std.proofs.lemmas.List.{get_or-set_same, get_or-set_other, length-replicate, get_or-replicate}
 use Rattle.lrc_trace.specs.declared.act.Act.{Act}

@@ -4,3 +4,4 @@ pub mod Gates
 pub mod Existing
 pub mod Unordered
 pub mod Holding
+pub mod Barriers

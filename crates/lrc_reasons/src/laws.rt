@@ -2,10 +2,10 @@
 ghost use Rattle.std.specs.Prelude.{◌≡◌, ℕ, ◌<◌, ◌↔◌, List};
 ghost use Rattle.lrc_trace.specs.declared.act.Act.{Act};
 ghost use Rattle.lrc_trace.specs.declared.act.Deed.{Deed};
-ghost use Rattle.lrc_trace.specs.Run.{Does};
+ghost use Rattle.lrc_trace.specs.Run.{Does, departs_before};
 ghost use Rattle.lrc_trace.specs.Conflict.{Races};
 ghost use Rattle.lrc_trace.specs.Interval.{interval_at};
-ghost use Rattle.lrc_trace.specs.Synchronization.{Holds, IsWellSynchronized};
+ghost use Rattle.lrc_trace.specs.Synchronization.{Holds, IsWellSynchronized, WaitsAtBarriers};
 ghost use Rattle.lrc_trace.specs.Order.{HappensBefore};
 ghost use Rattle.lrc_reasons.specs.Chains.{IsChain, IsTold};
 
@@ -33,4 +33,12 @@ pub fn races_hold_no_lock_in_common()
 pub fn races_are_past_what_is_known()
     ensures { (run : List Act) (i j k p : ℕ) (a d : Deed) → Races run i j → Does run i p a → Does run k p d → HappensBefore run k j
         → interval_at run p k < interval_at run p i }
+{}
+
+/// In a well-synchronized run whose nodes wait at their barriers two acts that race are behind the same barrier: their nodes
+/// have departed equally often before them.
+pub fn races_are_behind_the_same_barrier()
+    ensures { (nodes : ℕ) (run : List Act) → IsWellSynchronized nodes run → WaitsAtBarriers run → (i j p q : ℕ) (a b : Deed)
+        → Races run i j → Does run i p a → Does run j q b → p < nodes → q < nodes
+        → departs_before run p i ≡ departs_before run q j }
 {}

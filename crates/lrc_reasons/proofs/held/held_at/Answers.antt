@@ -1,4 +1,4 @@
-use Rattle.std.proofs.Common.{◌≡◌, arith, get_or, sym, ◌∙◌, ap}
+use Rattle.std.proofs.Common.{arith, get_or, sym, ◌∙◌, ap}
 use Rattle.lrc_reasons.proofs.Holding.{held-none, held-same, held-acquire, held-release}
 use Rattle.lrc_trace.specs.declared.act.Act.{Act}
 use Rattle.lrc_trace.specs.declared.act.Deed.TheVariants.{Quiet, Acquire, Release}
