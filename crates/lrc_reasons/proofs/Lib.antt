@@ -1,0 +1,7 @@
+pub mod Paths
+pub mod Best
+pub mod Gates
+pub mod Existing
+pub mod Unordered
+pub mod Holding
+pub mod Barriers

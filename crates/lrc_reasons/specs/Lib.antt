@@ -1,0 +1,6 @@
+pub mod Chains
+pub mod Numbers
+pub mod Starts
+pub mod Known
+pub mod Onward
+pub mod Held

@@ -1,0 +1,44 @@
+// Laws of the definitions of reasons. Each function is a theorem: its body is empty, and its clause is the law.
+ghost use Rattle.std.specs.Prelude.{◌≡◌, ℕ, ◌<◌, ◌↔◌, List};
+ghost use Rattle.lrc_trace.specs.declared.act.Act.{Act};
+ghost use Rattle.lrc_trace.specs.declared.act.Deed.{Deed};
+ghost use Rattle.lrc_trace.specs.Run.{Does, departs_before};
+ghost use Rattle.lrc_trace.specs.Conflict.{Races};
+ghost use Rattle.lrc_trace.specs.Interval.{interval_at};
+ghost use Rattle.lrc_trace.specs.Synchronization.{Holds, IsWellSynchronized, WaitsAtBarriers};
+ghost use Rattle.lrc_trace.specs.Order.{HappensBefore};
+ghost use Rattle.lrc_reasons.specs.Chains.{IsChain, IsTold};
+
+/// There is a chain from one position to another exactly where the one happens before the other.
+pub fn a_chain_is_there_where_one_happens_before_the_other()
+    ensures { (run : List Act) (i j : ℕ) → ((chain : List ℕ) × IsChain run i j chain) ↔ HappensBefore run i j }
+{}
+
+/// A chain that is told is told there exactly where the one position happens before the other, and there is one alone.
+pub fn one_chain_is_told()
+    ensures there { (run : List Act) (i j : ℕ) → ((chain : List ℕ) × IsTold run i j chain) ↔ HappensBefore run i j }
+    ensures alone { (run : List Act) (i j : ℕ) (chain other : List ℕ) → IsTold run i j chain → IsTold run i j other → chain ≡ other }
+{}
+
+/// In a well-synchronized run acts at which one lock is held are ordered, so two acts that race hold no lock in common.
+pub fn races_hold_no_lock_in_common()
+    ensures ordered { (nodes : ℕ) (run : List Act) → IsWellSynchronized nodes run → (i j p q l : ℕ) (a b : Deed) → i < j
+        → Does run i p a → Does run j q b → Holds run i p l → Holds run j q l → HappensBefore run i j }
+    ensures races { (nodes : ℕ) (run : List Act) → IsWellSynchronized nodes run → (i j p q l : ℕ) (a b : Deed) → Races run i j
+        → Does run i p a → Does run j q b → Holds run i p l → ¬ Holds run j q l }
+{}
+
+/// The interval of the earlier of two acts that race is past every interval of its node that the later one knows: of any
+/// list of acts.
+pub fn races_are_past_what_is_known()
+    ensures { (run : List Act) (i j k p : ℕ) (a d : Deed) → Races run i j → Does run i p a → Does run k p d → HappensBefore run k j
+        → interval_at run p k < interval_at run p i }
+{}
+
+/// In a well-synchronized run whose nodes wait at their barriers two acts that race are behind the same barrier: their nodes
+/// have departed equally often before them.
+pub fn races_are_behind_the_same_barrier()
+    ensures { (nodes : ℕ) (run : List Act) → IsWellSynchronized nodes run → WaitsAtBarriers run → (i j p q : ℕ) (a b : Deed)
+        → Races run i j → Does run i p a → Does run j q b → p < nodes → q < nodes
+        → departs_before run p i ≡ departs_before run q j }
+{}

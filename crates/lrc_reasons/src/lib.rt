@@ -1,0 +1,15 @@
+//! Reasons: why an act of a run is as it is, and how two acts are ordered.
+//!
+//! All of it is said of the acts alone, for any list of acts, whoever made it.
+#![tactic(auto)]
+
+pub mod chains;
+pub mod held;
+pub mod known;
+pub mod laws;
+mod numbers;
+mod onward;
+mod starts;
+
+/// How many nodes, and how many locks, an act can name.
+const NAMES: usize = 256;
