@@ -4,23 +4,8 @@ ghost use Rattle.std.specs.Prelude.{◌≤◌};
 
 use lrc_envelope::Picker;
 use lrc_page::Size;
+pub use lrc_setting::setting::{Nodes, Steps};
 use thiserror::Error;
-
-/// How many nodes a run has, 1 to 16.
-#[derive(Clone, Copy)]
-pub struct Nodes {
-    pub count: u32,
-    pub ghost some: { 1 ≤ count },
-    pub ghost few: { count ≤ 16 },
-}
-
-/// How many statements each node may begin, 1 to 1,000,000.
-#[derive(Clone, Copy)]
-pub struct Steps {
-    pub count: u32,
-    pub ghost some: { 1 ≤ count },
-    pub ghost few: { count ≤ 1000000 },
-}
 
 /// From how many stored intervals on a node asks for a collection, 0 to 1,000,000; 0: never.
 #[derive(Clone, Copy)]

@@ -59,9 +59,12 @@ pub(crate) fn so_many_nodes(count: u64) -> Result<Nodes, Misfit>
     ensures ok { IfOk result (λ nodes. count ≡ nodes.count) }
     ensures err { IfErr result (λ misfit. (misfit ≡ unfit.Number) × IsOutOfRange 1 16 count) }
 {
-    match u32::try_from(count) {
-        Ok(count) if 1 <= count && count <= 16 => Ok(Nodes { count }),
-        _ => Err(Misfit::Number),
+    let Ok(count) = u32::try_from(count) else {
+        return Err(Misfit::Number);
+    };
+    match Nodes::new(count) {
+        Some(nodes) => Ok(nodes),
+        None => Err(Misfit::Number),
     }
 }
 
@@ -71,10 +74,12 @@ pub(crate) fn steps_of(options: &ArgMatches<'_>) -> Result<Steps, Misfit>
     ensures err { IfErr result (λ misfit. (misfit ≡ unfit.Number)
         × IsOutOfRange 1 1000000 (steps_in (rows_of (found_of options.now)))) }
 {
-    let count = number_of(options, "steps");
-    match u32::try_from(count) {
-        Ok(count) if 1 <= count && count <= 1_000_000 => Ok(Steps { count }),
-        _ => Err(Misfit::Number),
+    let Ok(count) = u32::try_from(number_of(options, "steps")) else {
+        return Err(Misfit::Number);
+    };
+    match Steps::new(count) {
+        Some(steps) => Ok(steps),
+        None => Err(Misfit::Number),
     }
 }
 

@@ -9,7 +9,7 @@ use Rattle.lrc_wire.specs.declared.kind.Kind.{Kind}
 use Rattle.lrc_wire.specs.declared.kind.Kind.TheVariants as kinds
 use Rattle.lrc_messages.specs.MessageText.{kind_name, message_text}
 use Rattle.lrc_turns_text.specs.Turns.{Made}
-use Rattle.lrc_chart_rows.specs.Arrows.{takers}
+use Rattle.lrc_chart_rows.specs.Takers.{takers}
 use Rattle.lrc_chart_rows.specs.declared.row.Row.{Row}
 use Rattle.lrc_chart_build.specs.Seen.{SeenArrow, SeenLost}
 

@@ -17,7 +17,7 @@ use Rattle.lrc_envelope.specs.declared.message.Message.{Message}
 use Rattle.lrc_envelope.specs.declared.message.Message.TheVariants as messages
 use Rattle.lrc_protocol.specs.Run.{EntryRecord, Input, run, taken}
 use Rattle.lrc_turns_text.specs.Turns.{Made}
-use Rattle.lrc_chart_rows.specs.Arrows.{takes_it}
+use Rattle.lrc_chart_rows.specs.Takers.{takes_it}
 use Rattle.lrc_chart_model.specs.declared.picture.Kind.{Kind}
 use Rattle.lrc_chart_model.specs.declared.picture.Kind.TheVariants as kinds
 use Rattle.lrc_chart_build.specs.Course.{CourseRecord}

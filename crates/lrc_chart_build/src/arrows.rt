@@ -2,7 +2,7 @@
 
 ghost use Rattle.std.specs.Prelude.{◌≡◌, ◌++◌, IfOk, OnOk, map, slice_get};
 ghost use Rattle.std.specs.List.{flat_map};
-ghost use Rattle.lrc_chart_rows.specs.Arrows.{takers};
+ghost use Rattle.lrc_chart_rows.specs.Takers.{takers};
 ghost use Rattle.lrc_chart_build.specs.Arrows.{arrow_if, arrow_to, is_later, lost_if, lost_one, place_of_turn, shown_message_arrows};
 ghost use Rattle.lrc_chart_build.specs.Arrows.{sent_in_turn, shown_arrows, shown_lost};
 ghost use Rattle.lrc_chart_build.specs.Seen.{seen_arrow, seen_lost};

@@ -1,4 +1,4 @@
 pub mod Counting
 pub mod Numbering
 pub mod Rowing
-pub mod Arrowing
+pub mod Taking

@@ -1,3 +1,3 @@
 pub mod Counts
 pub mod Rows
-pub mod Arrows
+pub mod Takers

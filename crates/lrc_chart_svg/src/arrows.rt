@@ -28,7 +28,7 @@ const CROSS: &[u8] = b"m-5 -5 l10 10 m-10 0 l10 -10";
 
 /// A way between two columns, by the sides that face each other.
 #[derive(Clone, Copy)]
-pub(crate) struct Way {
+pub(crate) struct Span {
     /// The sides.
     pub start: u128,
     pub end: u128,
@@ -44,13 +44,13 @@ pub(crate) struct Way {
     beyond_anchor: Anchor,
 }
 
-impl Way {
+impl Span {
     ghost use Rattle.std.specs.Prelude.{◌+◌, ◌-◌};
     ghost use Rattle.lrc_chart_svg.specs.Ways.{beside, beside_anchor, beyond, beyond_anchor, end_side, head, start_side, tail};
     ghost use Rattle.lrc_chart_svg.specs.Widths.{left, right};
     ghost use Rattle.lrc_chart_svg.specs.declared.style.Anchor.TheVariants.{Start, End};
 
-    pub(crate) fn between(layout: Layout, from: u8, to: u8) -> Way
+    pub(crate) fn between(layout: Layout, from: u8, to: u8) -> Span
         ensures start { result.start ≡ start_side layout from to }
         ensures end { result.end ≡ end_side layout from to }
         ensures tail { result.from ≡ tail layout from to }
@@ -63,15 +63,15 @@ impl Way {
         ensures comes { result.comes.now ≡ coming from to }
     {
         if from < to {
-            Way::to_right(layout, from, to)
+            Span::to_right(layout, from, to)
         } else if to < from {
-            Way::to_left(layout, from, to)
+            Span::to_left(layout, from, to)
         } else {
-            Way::to_itself(layout, from)
+            Span::to_itself(layout, from)
         }
     }
 
-    fn to_right(layout: Layout, from: u8, to: u8) -> Way
+    fn to_right(layout: Layout, from: u8, to: u8) -> Span
         ensures start { result.start ≡ right layout from }
         ensures end { result.end ≡ left layout to }
         ensures tail { result.from ≡ right layout from + 8 }
@@ -85,7 +85,7 @@ impl Way {
     {
         let start = layout.column(usize::from(from)).right;
         let end = layout.column(usize::from(to)).left;
-        Way {
+        Span {
             start,
             end,
             from: start + 8,
@@ -99,7 +99,7 @@ impl Way {
         }
     }
 
-    fn to_left(layout: Layout, from: u8, to: u8) -> Way
+    fn to_left(layout: Layout, from: u8, to: u8) -> Span
         ensures start { result.start ≡ left layout from }
         ensures end { result.end ≡ right layout to }
         ensures tail { result.from ≡ left layout from - 8 }
@@ -113,16 +113,16 @@ impl Way {
     {
         let start = layout.column(usize::from(from)).left;
         let end = layout.column(usize::from(to)).right;
-        Way {
+        Span {
             start,
             end,
             from: start - 8,
             leaves: LEAVES_TO_LEFT,
-            ..Way::from_right(end)
+            ..Span::from_right(end)
         }
     }
 
-    fn to_itself(layout: Layout, column: u8) -> Way
+    fn to_itself(layout: Layout, column: u8) -> Span
         ensures start { result.start ≡ right layout column }
         ensures end { result.end ≡ right layout column }
         ensures tail { result.from ≡ right layout column + 8 }
@@ -135,16 +135,16 @@ impl Way {
         ensures comes { result.comes.now ≡ codes "h-8 l8 -4 v8 l-8 -4" }
     {
         let side = layout.column(usize::from(column)).right;
-        Way {
+        Span {
             from: side + 8,
             to: side + 8,
             comes: COMES_FROM_ITSELF,
-            ..Way::from_right(side)
+            ..Span::from_right(side)
         }
     }
 
     // A way to a column's right side that stays beside it.
-    fn from_right(side: u128) -> Way
+    fn from_right(side: u128) -> Span
         requires least { 100 ≤ side }
         requires most { side < 2 ^ 104 }
         ensures start { result.start ≡ side }
@@ -158,7 +158,7 @@ impl Way {
         ensures leaves { result.leaves.now ≡ codes "h-8" }
         ensures comes { result.comes.now ≡ codes "h-12 l9 -4 v8 l-9 -4" }
     {
-        Way {
+        Span {
             start: side,
             end: side,
             from: side + 12,
@@ -200,7 +200,7 @@ fn push_arrow(
 ) -> Result<(), AllocError>
     ensures { OnOk result (all_marks contents.new.items ≡ all_marks contents.old.items ++ arrow_marks layout arrow.now) }
 {
-    let way = Way::between(layout, arrow.sender, arrow.receiver);
+    let way = Span::between(layout, arrow.sender, arrow.receiver);
     let from = way.tail(height(arrow.from));
     let to = way.head(height(arrow.to));
     let mut inside = Vec::new(alloc);
@@ -228,7 +228,7 @@ fn push_lost(
 ) -> Result<(), AllocError>
     ensures { OnOk result (all_marks contents.new.items ≡ all_marks contents.old.items ++ lost_marks layout rows place lost.now) }
 {
-    let way = Way::between(layout, lost.sender, lost.receiver);
+    let way = Span::between(layout, lost.sender, lost.receiver);
     let from = way.tail(height(lost.from));
     let to = way.head(height_below(rows as u128, place));
     let mut inside = Vec::new(alloc);
@@ -248,7 +248,7 @@ fn push_arrow_label(
 ) -> Result<(), AllocError>
     ensures { OnOk result (all_marks contents.new.items ≡ all_marks contents.old.items ++ arrow_label layout arrow.now) }
 {
-    let way = Way::between(layout, arrow.sender, arrow.receiver);
+    let way = Span::between(layout, arrow.sender, arrow.receiver);
     let at = Point {
         x: way.words,
         y: height(arrow.to) + 13,
@@ -268,7 +268,7 @@ fn push_lost_label(
 ) -> Result<(), AllocError>
     ensures { OnOk result (all_marks contents.new.items ≡ all_marks contents.old.items ++ lost_label layout rows place lost.now) }
 {
-    let way = Way::between(layout, lost.sender, lost.receiver);
+    let way = Span::between(layout, lost.sender, lost.receiver);
     let at = Point {
         x: way.beyond,
         y: height_below(rows as u128, place) + 4,

@@ -6,7 +6,7 @@ ghost use Rattle.lrc_text.specs.Each.{each};
 ghost use Rattle.lrc_chart_svg.specs.Marks.{all_marks};
 ghost use Rattle.lrc_chart_svg.specs.Shown.{band_marks, knotted, race_marks};
 
-use crate::arrows::Way;
+use crate::arrows::Span;
 use crate::layout::{Layout, height, height_below};
 use crate::paint::{
     Area, Point, push_box, push_group, push_hint, push_label, push_line, push_path,
@@ -46,7 +46,7 @@ fn push_race(
     requires { used < 2 ^ 66 }
     ensures { OnOk result (all_marks contents.new.items ≡ all_marks contents.old.items ++ race_marks layout used place race.now) }
 {
-    let way = Way::between(layout, race.first, race.second);
+    let way = Span::between(layout, race.first, race.second);
     let from = Point {
         x: way.start,
         y: height(race.from),

@@ -4,6 +4,7 @@ pub mod NextPast
 pub mod Rows
 pub mod Breaking
 pub mod Tally
+mod Deeds
 pub mod Keeping
 pub mod Naming
 mod Leading

@@ -11,26 +11,26 @@ use Rattle.lrc_trace.specs.Order.{HappensBefore}
 use Rattle.lrc_trace.proofs.Positions.{slice_get-front, slice_get-seam}
 use Rattle.lrc_trace.proofs.HappensBefore.{forward, within}
 use Rattle.lrc_trace.proofs.Intervals.{act_at}
-use Rattle.lrc_judge.specs.declared.reach.Row.{Row}
+use Rattle.lrc_judge.specs.declared.reach.Reached.{Reached}
 use Rattle.lrc_judge.specs.declared.order.Order.{Order}
 use Rattle.lrc_judge.specs.Past.{Gathers}
 use Rattle.lrc_judge.proofs.Gathering.{Gathers-one}
 use Rattle.lrc_judge.specs.Order.{is_reached, is_before, IsOrderOf}
 
 -- the row is that of position k
-pub record IsRow (run : List Act) (k : ℕ) (row : Row) : Type 0 where
+pub record IsRow (run : List Act) (k : ℕ) (row : Reached) : Type 0 where
   pub node : (p : ℕ) (d : Deed) → Does run k p d → row.node ≡ p
   pub reach : Gathers run (λ m. m ≡ k) row.reach
 
 -- the rows are those of the first n positions
-pub record AreRows (run : List Act) (n : ℕ) (rows : List Row) : Type 0 where
+pub record AreRows (run : List Act) (n : ℕ) (rows : List Reached) : Type 0 where
   pub long : length rows ≡ n
-  pub each : (k : ℕ) (row : Row) → slice_get rows k ≡ Some row → IsRow run k row
+  pub each : (k : ℕ) (row : Reached) → slice_get rows k ≡ Some row → IsRow run k row
 
 pub AreRows-none : (run : List Act) → AreRows run 0 []
 AreRows-none run = record { long = refl; each = λ k row e. let never : ⊥ = cc in absurd never }
 
-pub AreRows-push : (run : List Act) (n : ℕ) (rows : List Row) (row : Row) → AreRows run n rows → IsRow run n row → AreRows run (n + 1) (rows ++ row ∷ [])
+pub AreRows-push : (run : List Act) (n : ℕ) (rows : List Reached) (row : Reached) → AreRows run n rows → IsRow run n row → AreRows run (n + 1) (rows ++ row ∷ [])
 AreRows-push run n rows row old new = record {
   long = length_push rows row ∙ ap (λ m. m + 1) old.long;
   each = λ k x e.
@@ -55,7 +55,7 @@ read_at (x ∷ xs) (suc i) h = read_at xs i (omega arith)
 read_at [] i h = absurd (omega arith)
 
 module _ (run : List Act) (order : Order) (all : AreRows run (length run) order.rows.items) where
-  forth : (i j : ℕ) (a b : Option Row) → slice_get order.rows.items i ≡ a → slice_get order.rows.items j ≡ b → i < j
+  forth : (i j : ℕ) (a b : Option Reached) → slice_get order.rows.items i ≡ a → slice_get order.rows.items j ≡ b → i < j
       → is_reached i a b ≡ true → HappensBefore run i j
   forth i j (Some a) (Some b) ea eb lt reached =
       let long = all.long in

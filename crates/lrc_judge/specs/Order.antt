@@ -2,11 +2,11 @@
 use Rattle.std.specs.Prelude.{ℕ, ◌↔◌, ◌&&◌, nat_lt, Bool, false, IsTrue, List, Option, Some, slice_get, slice_index}
 use Rattle.lrc_trace.specs.declared.act.Act.{Act}
 use Rattle.lrc_trace.specs.Order.{HappensBefore}
-use Rattle.lrc_judge.specs.declared.reach.Row.{Row}
+use Rattle.lrc_judge.specs.declared.reach.Reached.{Reached}
 use Rattle.lrc_judge.specs.declared.order.Order.{Order}
 
 -- whether position i is among those that the later row is reached by, where the earlier row is that of i
-abbrev pub is_reached : ℕ → Option Row → Option Row → Bool
+abbrev pub is_reached : ℕ → Option Reached → Option Reached → Bool
 is_reached i (Some earlier) (Some later) = nat_lt i (slice_index later.reach.latest earlier.node)
 is_reached i _ _ = false
 

@@ -4,7 +4,7 @@ ghost use Rattle.lrc_judge.specs.Order.{is_before, IsOrderOf};
 
 use crate::NODES;
 use crate::past::Past;
-use crate::reach::Row;
+use crate::reach::Reached;
 use lrc_trace::act::Act;
 use std::alloc::{AllocError, Global};
 
@@ -12,7 +12,7 @@ use std::alloc::{AllocError, Global};
 /// Fidge 1988 and Mattern 1989).
 #[derive(Drop)]
 pub struct Order {
-    rows: Vec<Row>,
+    rows: Vec<Reached>,
 }
 
 impl Order {
@@ -39,7 +39,7 @@ pub fn happens_before(alloc: Global, acts: &[Act]) -> Result<Order, AllocError>
     for (position, act) in acts.iter().enumerate() {
         let reach = past.reach_of(acts, position);
         past.note(acts, position, reach)?;
-        rows.push(Row {
+        rows.push(Reached {
             node: act.node,
             reach,
         })?;

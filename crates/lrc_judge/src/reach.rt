@@ -34,7 +34,7 @@ impl Reach {
 
 /// What an act is reached by, and its node.
 #[derive(Clone, Copy)]
-pub struct Row {
+pub struct Reached {
     pub node: u8,
     pub reach: Reach,
     ghost in_range: { node < NODES },

@@ -167,15 +167,18 @@ impl Body {
         match mem::replace(&mut self.place, Place::AtStatement) {
             Place::AtStatement => Ok(()),
             Place::AfterThen(condition, first) => self.done_if(condition, first),
-            _ => Err(FaultKind::Unexpected),
+            place => {
+                self.go_to(place);
+                Err(FaultKind::Unexpected)
+            }
         }
     }
 
-    /// The statements that have come, where no block is open.
-    pub fn into_statements(self) -> Vec<Statement>
-        ensures { block_of result.items ≡ (body_seen self).before }
+    /// The statements that have come, where no block is open. They are here no more.
+    pub fn take_statements(&mut self) -> Vec<Statement>
+        ensures { block_of result.items ≡ (body_seen self.old).before }
     {
-        self.before
+        mem::replace(&mut self.before, Vec::new(self.alloc))
     }
 
     // The last symbol has led here.

@@ -49,15 +49,24 @@ pub fn parse(alloc: Global, text: &[u8]) -> Result<Program, ParseFault>
 }
 
 // Parses a text that is not too long.
-#[tactic(auto, using(crate::proofs::Sizes::text_names, crate::proofs::Sizes::text_depth, crate::proofs::Sizes::text_operators))]
 fn read(alloc: Global, text: &[u8]) -> Result<Program, ParseFault>
     requires { length text.now ≤ 65536 }
     ensures program { IfOk result (λ p. IsText text.now (program_of p)) }
     ensures fault { IfErr result (λ e. IsOutOfMemory e ⊎ HasFirstFault text.now e.line e.kind) }
 {
     let mut state = ParserState::start(alloc);
-    read_into(&mut state, alloc, text)?;
-    Ok(state.into_program())
+    read_from(&mut state, alloc, text)
+}
+
+// Parses a text that is not too long, from the state of a text of which nothing has come.
+fn read_from(state: &mut ParserState, alloc: Global, text: &[u8]) -> Result<Program, ParseFault>
+    requires start { state_seen state.old ≡ start }
+    requires short { length text.now ≤ 65536 }
+    ensures program { IfOk result (λ p. IsText text.now (program_of p)) }
+    ensures fault { IfErr result (λ e. IsOutOfMemory e ⊎ HasFirstFault text.now e.line e.kind) }
+{
+    read_into(state, alloc, text)?;
+    Ok(state.take_program())
 }
 
 // Takes all that stands in a text that is not too long.

@@ -89,17 +89,17 @@ impl ParserState {
         Ok(())
     }
 
-    /// The program, once the text has ended.
-    pub fn into_program(self) -> Program
-        requires names { names_in (program_in (state_seen self)).statements ≤ 32 }
-        requires depth { depth_of (program_in (state_seen self)).statements ≤ 32 }
-        requires operators { most_operators (program_in (state_seen self)).statements ≤ 256 }
-        ensures { program_of result ≡ program_in (state_seen self) }
+    /// The program, once the text has ended. Its statements are here no more.
+    pub fn take_program(&mut self) -> Program
+        requires names { names_in (program_in (state_seen self.old)).statements ≤ 32 }
+        requires depth { depth_of (program_in (state_seen self.old)).statements ≤ 32 }
+        requires operators { most_operators (program_in (state_seen self.old)).statements ≤ 256 }
+        ensures { program_of result ≡ program_in (state_seen self.old) }
     {
         Program {
             words: self.words,
             locks: self.locks,
-            statements: self.body.into_statements(),
+            statements: self.body.take_statements(),
         }
     }
 }

@@ -6,7 +6,7 @@ ghost use Rattle.lrc_exec.specs.Meaning.{next_of};
 ghost use Rattle.lrc_lines.specs.Seen.{walk_of};
 ghost use Rattle.lrc_lines.specs.Walks.{walk_at_start, goes_on, onward, led, line_at};
 
-use crate::way::Way;
+use crate::way::Todo;
 use lrc_exec::code::Code;
 use lrc_exec::machine::{Ask, Machine};
 use lrc_trace::act::Deed;
@@ -16,7 +16,7 @@ use std::alloc::{AllocError, Global};
 #[derive(Drop)]
 pub struct Walk<'c> {
     machine: Machine<'c>,
-    way: Way<'c>,
+    way: Todo<'c>,
 }
 
 // Whether a thread goes on that asks for this.
@@ -37,7 +37,7 @@ impl<'c> Walk<'c> {
     ) -> Result<Walk<'c>, AllocError>
         ensures { IfOk result (λ walk. walk_of walk ≡ walk_at_start code.now nodes lines.now me) }
     {
-        let way = Way::start(alloc, &code.program().statements, lines)?;
+        let way = Todo::start(alloc, &code.program().statements, lines)?;
         Ok(Walk {
             machine: Machine::new(code, me, nodes),
             way,

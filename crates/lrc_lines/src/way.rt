@@ -18,7 +18,7 @@ struct Stretch<'c> {
 
 // What is left of each block that a thread is in, the innermost last. A block of which nothing is left is not among them.
 #[derive(Drop)]
-pub(crate) struct Way<'c> {
+pub(crate) struct Todo<'c> {
     stretches: Vec<Stretch<'c>>,
 }
 
@@ -57,16 +57,16 @@ fn behind_all<'l>(statements: &[Statement], lines: &'l [u32]) -> &'l [u32]
     left
 }
 
-impl<'c> Way<'c> {
+impl<'c> Todo<'c> {
     // The way of a thread that begins these statements.
     pub(crate) fn start(
         alloc: Global,
         statements: &'c [Statement],
         lines: &'c [u32],
-    ) -> Result<Way<'c>, AllocError>
+    ) -> Result<Todo<'c>, AllocError>
         ensures { IfOk result (λ way. todo_of way.stretches.items ≡ tasks statements.now lines.now) }
     {
-        let mut way = Way {
+        let mut way = Todo {
             stretches: Vec::new(alloc),
         };
         way.open(statements, lines)?;

@@ -15,3 +15,4 @@ pub mod Leading
 pub mod Ending
 pub mod Newest
 pub mod Kept
+pub mod Whole

@@ -1,6 +1,6 @@
 -- What comes of a message that is taken.
-use Rattle.std.proofs.Common.{◌≡◌, Bool, true, false, ◌⊎◌, ⊎_elim, Some, None, sym, ap, ◌∙◌, subst, ℕ, refl}
-use Rattle.std.specs.Prelude.{if◌then◌else◌, Result, Ok, Err, IfErr, ◌==◌, ◌&&◌, Option, option_map, option_and_then}
+use Rattle.std.proofs.Common.{◌≡◌, Bool, true, false, ◌⊎◌, ⊎_elim, Some, None, List, sym, ap, ◌∙◌, subst, ℕ, refl}
+use Rattle.std.specs.Prelude.{if◌then◌else◌, Result, Ok, Err, IfErr, ◌==◌, ◌&&◌, Option, is_some, option_map, option_and_then}
 use Rattle.std.specs.Bool.{then_some}
 use Rattle.std.proofs.lemmas.Bool.{and_parts, and_from}
 use Rattle.lrc_envelope.specs.Envelope.{EnvelopeRecord}
@@ -9,9 +9,12 @@ use Rattle.lrc_envelope.specs.declared.message.Message.TheVariants.{LockRequest,
 use Rattle.lrc_envelope.specs.declared.message.Message.TheVariants.{ChangesRequest, ChangesReply, PageRequest, PageReply}
 use Rattle.lrc_barrier.specs.Barrier.{ManagerRecord, arrived, cleaned}
 use Rattle.lrc_trace.specs.declared.end.End.{End}
-use Rattle.lrc_protocol.specs.Node.{Node, Effect}
+use Rattle.lrc_exec.specs.Ask.{ask_of}
+use Rattle.lrc_exec.specs.Meaning.{Next}
+use Rattle.lrc_protocol.specs.Node.{Node, Effect, numbered}
 use Rattle.lrc_protocol.specs.Follows.{awaits_discard}
 use Rattle.lrc_protocol.specs.Turn.{Outcome, done, unexpected, worn, empty_turn, take_turn, take_anew, taking, is_addressed}
+use Rattle.lrc_protocol.specs.Turn.{begins, charged, run_effect, run_turn, turn_by, turn_of, turn_with}
 use Rattle.lrc_protocol.specs.Follows.{is_expected}
 use Rattle.lrc_protocol.specs.Turn.{is_repeat, expects_request, expects_forward, expects_grant, are_arriving, arrive_by, expects_departure, clean_by}
 use Rattle.lrc_protocol.specs.Turn.{expects_changes_request, expects_changes_reply, expects_page_request, expects_page_reply, takes, turn_or}
@@ -24,7 +27,7 @@ use Rattle.lrc_node.specs.declared.fault.NodeFault.TheVariants.{Worn, NoMemory}
 use Rattle.lrc_node.specs.Fault.{MayAnswer, is_final}
 use Rattle.lrc_node.specs.Taken.{RefusesTake, unawaited, too_large, without_memory}
 use Rattle.lrc_node.proofs.Outcomes.{none_of}
-use Rattle.lrc_node.specs.Node.{AnswersTurn, seen_node, unawaited as answers_unawaited, too_large as answers_too_large, without_memory as answers_without_memory}
+use Rattle.lrc_node.specs.Node.{AnswersTurn, is_turn, seen_node, unawaited as answers_unawaited, too_large as answers_too_large, without_memory as answers_without_memory}
 
 -- a node that is to take a message does not answer that it is not ready
 pub may_take : {outcome : Outcome} {node after : Node} {fault : NodeFault} (envelope : EnvelopeRecord) → RefusesTake outcome node fault after
@@ -88,6 +91,38 @@ pub unawaited_so : (node : Node) (envelope : EnvelopeRecord) → is_expected nod
 unawaited_so node envelope e =
     ap (turn_or unexpected)
     (none_of (takes (taking node envelope) envelope.from envelope.message) (still_expected node envelope envelope.from envelope.message ∙ e))
+
+-- whether a message is a turn
+is_turn_with : (effect : Effect) (sent : Option (List EnvelopeRecord × List ℕ)) → is_turn (turn_with effect sent) ≡ true
+is_turn_with effect None = refl
+is_turn_with effect (Some sent) = refl
+
+pub is_turn_of : (effect : Effect) → is_turn (turn_of effect) ≡ true
+is_turn_of effect = is_turn_with effect (numbered effect.node.setting.me effect.node.options.first effect.node.mail.sent effect.letters)
+
+is_turn_if : (o : Option Effect) → is_turn (turn_or unexpected o) ≡ is_some o
+is_turn_if None = refl
+is_turn_if (Some effect) = is_turn_of effect
+
+pub is_turn_anew : (node : Node) (envelope : EnvelopeRecord) → is_turn (take_anew node envelope) ≡ is_expected node envelope.from envelope.message
+is_turn_anew node envelope =
+    is_turn_if (takes (taking node envelope) envelope.from envelope.message) ∙ still_expected node envelope envelope.from envelope.message
+
+-- and whether a node that goes on by itself makes one
+is_turn_by : (node : Node) (o : Option Next) → is_turn (turn_by node o) ≡ is_some o
+is_turn_by node None = refl
+is_turn_by node (Some next) = is_turn_else (run_effect (charged node next) next)
+  where
+    is_turn_else : (o : Option Effect) → is_turn (turn_or worn o) ≡ true
+    is_turn_else None = refl
+    is_turn_else (Some effect) = is_turn_of effect
+
+pub is_turn_run : (node : Node) → is_turn (run_turn node) ≡ is_some (option_map ask_of (begins node))
+is_turn_run node = is_turn_by node (begins node) ∙ sym (still_some (begins node))
+  where
+    still_some : (o : Option Next) → is_some (option_map ask_of o) ≡ is_some o
+    still_some None = refl
+    still_some (Some next) = refl
 
 -- why an expected message is not taken
 pub refuses_anew : (outcome : Outcome) (node after : Node) (fault : NodeFault) → ((fault ≡ Worn) × (outcome ≡ worn)) ⊎ (fault ≡ NoMemory)

@@ -10,3 +10,4 @@ pub mod Ranges
 pub mod Taken
 pub mod Logged
 pub mod Requests
+pub mod Whole

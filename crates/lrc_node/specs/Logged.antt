@@ -1,5 +1,5 @@
 -- A node with its log, as contracts see it.
-use Rattle.std.specs.Prelude.{◌≡◌, ℕ, true, false, nat_le, ◌⊎◌, Option, Some, None, is_some, IfErr, List, [], ◌∷◌, ◌++◌, filter_map, Result, Ok, Err}
+use Rattle.std.specs.Prelude.{◌≡◌, ℕ, Bool, true, false, Option, Some, None, is_some, List, [], ◌∷◌, ◌++◌, filter_map, Result, Ok, Err}
 use Rattle.std.specs.List.{last_or}
 use Rattle.std.specs.Option.{option_to_list}
 use Rattle.lrc_trace.specs.declared.act.Act.{Act}
@@ -7,11 +7,11 @@ use Rattle.lrc_trace.specs.declared.act.Deed.{Deed}
 use Rattle.lrc_trace.specs.declared.act.Deed.TheVariants as deeds
 use Rattle.lrc_trace.specs.Trace.{TraceRecord}
 use Rattle.lrc_protocol.specs.Node.{Node}
-use Rattle.lrc_protocol.specs.Run.{Input, run, taken, EntryRecord, Logged, Logging, logged, refused, too_large, logs, next_stamp, outcome_of}
-use Rattle.lrc_protocol.specs.Run.{MOST_STAMP}
+use Rattle.lrc_protocol.specs.Run.{Input, run, taken, EntryRecord, Logged, Logging, logged, refused, too_large, logs}
 use Rattle.lrc_protocol.specs.Follows.{inputs_of}
 use Rattle.lrc_protocol.specs.Traced.{traced, trace_of, with_act}
-use Rattle.lrc_protocol.specs.Turn.{TurnRecord, Outcome, done as made}
+use Rattle.lrc_protocol.specs.Turn.{TurnRecord}
+use Rattle.lrc_node.specs.Node.{TracedNode}
 use Rattle.lrc_trace.specs.declared.end.End.{End}
 use Rattle.lrc_trace.specs.declared.end.End.TheVariants.{Ended, Trapped, Unfinished}
 use Rattle.lrc_node.specs.declared.fault.NodeFault.{NodeFault}
@@ -60,8 +60,6 @@ abbrev pub NotesIn : TracedLog → TracedLog → Result (Unit {0}) NodeFault →
 NotesIn old new (Ok done) =
     (node : Node) (entry : EntryRecord) → new.logged.node ≡ Some node → new.logged.log ≡ old.logged.log ++ entry ∷ []
     → new.trace ≡ with_act node entry.turn.act old.trace
-NotesIn old new (Err Worn) = Unit {0}
-NotesIn old new (Err NoMemory) = Unit {0}
 NotesIn old new (Err fault) = new.trace ≡ old.trace
 
 -- the log leads the node on from how it started, and the trace is what it keeps of that
@@ -69,17 +67,6 @@ pub record LeadsFrom (start : Node) (l : Logged) (seen : TracedLog) : Type 0 whe
   pub sound_so : seen.logged ≡ sound l
   pub replayed : (traced start (inputs_of l.log)).node ≡ l.node
   pub trace_is : seen.trace ≡ trace_of start l.log
-
--- The trace of a node that answers a fault to an input, of which this would have come: as it was. But where the node made the turn, and
--- its stamp was too large, or the log had no memory for it, the access of that turn is noted too.
-abbrev pub NotesFault : TraceRecord → Outcome → NodeFault → TraceRecord → Type 0
-NotesFault old (made turn after) Worn new = new ≡ with_act after turn.act old
-NotesFault old (made turn after) NoMemory new = (new ≡ old) ⊎ (new ≡ with_act after turn.act old)
-NotesFault old outcome fault new = new ≡ old
-
-abbrev pub NotesFailing : TracedLog → Input → TracedLog → Result (Unit {0}) NodeFault → Type 0
-NotesFailing old input new result = (node : Node) → old.logged.node ≡ Some node
-    → IfErr result (λ fault. NotesFault old.trace (outcome_of node input) fault new.trace)
 
 -- ---- how a node ended, by its log
 
@@ -105,18 +92,33 @@ end_next before (Some act) = end_after act.deed
 
 -- ---- the steps of a call
 
+-- a node fails: its trace stays, and how it ended
+abbrev pub failed_now : TracedNode → TracedNode
+failed_now node = record { node = None; trace = node.trace; end = node.end }
+
 -- room is made in the log; or the node has failed, or fails
-abbrev pub MakesRoom : LoggedNode → LoggedNode → Result (Unit {0}) NodeFault → Type 0
+abbrev pub MakesRoom : TracedNode → TracedNode → Result (Unit {0}) NodeFault → Type 0
 MakesRoom old new (Ok done) = (is_some old.node ≡ true) × (new ≡ old)
 MakesRoom old new (Err Failed) = (old.node ≡ None) × (new ≡ old)
-MakesRoom old new (Err NoMemory) = (is_some old.node ≡ true) × (new ≡ record { node = None; log = old.log })
+MakesRoom old new (Err NoMemory) = (is_some old.node ≡ true) × (new ≡ failed_now old)
 MakesRoom old new (Err fault) = ⊥
 
--- a turn is entered with its stamp, or the stamp would be too large or no memory is left, and the node fails
-abbrev pub Enters : LoggedNode → Input → ℕ → TurnRecord → LoggedNode → Result (Unit {0}) NodeFault → Type 0
-Enters old input came turn new (Ok done) =
-    (nat_le (next_stamp old.log came) MOST_STAMP ≡ true)
-    × (new ≡ record { node = old.node; log = old.log ++ record { input = input; stamp = next_stamp old.log came; turn = turn } ∷ [] })
-Enters old input came turn new (Err Worn) = (nat_le (next_stamp old.log came) MOST_STAMP ≡ false) × (new ≡ record { node = None; log = old.log })
-Enters old input came turn new (Err NoMemory) = (nat_le (next_stamp old.log came) MOST_STAMP ≡ true) × (new ≡ record { node = None; log = old.log })
-Enters old input came turn new (Err fault) = ⊥
+-- a message is in a box, or the node fails
+abbrev pub MakesBox : {A : Type 0} → TracedNode → TracedNode → Result A NodeFault → Type 0
+MakesBox old new (Ok boxed) = new ≡ old
+MakesBox old new (Err NoMemory) = new ≡ failed_now old
+MakesBox old new (Err fault) = ⊥
+
+-- a node that has no stamp left fails, where what came is a turn; and else it refuses it
+abbrev pub WearsOut : TracedNode → Bool → NodeFault → TracedNode → Result (Unit {0}) NodeFault → Type 0
+WearsOut old true refusal new result = (result ≡ Err Worn) × (new ≡ failed_now old)
+WearsOut old false refusal new result = (result ≡ Err refusal) × (new ≡ old)
+
+-- a log with a turn more
+abbrev pub entered_in : List EntryRecord → Input → ℕ → TurnRecord → List EntryRecord
+entered_in log input stamp turn = log ++ record { input = input; stamp = stamp; turn = turn } ∷ []
+
+-- a turn is added with its stamp, and a refusal handed on
+abbrev pub Settles : List EntryRecord → Input → ℕ → Result TurnRecord NodeFault → List EntryRecord → Result (Unit {0}) NodeFault → Type 0
+Settles log input stamp (Ok turn) new result = (result ≡ Ok tt) × (new ≡ entered_in log input stamp turn)
+Settles log input stamp (Err fault) new result = (result ≡ Err fault) × (new ≡ log)

@@ -5,6 +5,7 @@ ghost use Rattle.lrc_lang.specs.declared.program.Program.{Program};
 ghost use Rattle.lrc_protocol.specs.Node.{Node as NodeRecord, OptionsRecord, fresh_node};
 ghost use Rattle.lrc_protocol.specs.Run.{Input, EntryRecord, Logged as LogRecord, logged, logs};
 ghost use Rattle.lrc_node.specs.Logged.{LeadsFrom, LogsTo, NotesIn, TracedLog};
+ghost use Rattle.lrc_node.specs.Whole.{IsWholeLog};
 ghost use Rattle.lrc_node.specs.declared.fault.NodeFault.TheVariants.{NotReady, Unexpected};
 
 /// A node with its log that made its turns from a fresh one on has the trace that those turns make, and each further turn that
@@ -23,4 +24,15 @@ pub fn logs_lead_on()
         → LogsTo old.logged input came new.logged (Err NotReady) → NotesIn old new (Err NotReady) → LeadsFrom start l new }
     ensures unexpected { (start : NodeRecord) (l : LogRecord) (old new : TracedLog) (input : Input) (came : ℕ) → LeadsFrom start l old
         → LogsTo old.logged input came new.logged (Err Unexpected) → NotesIn old new (Err Unexpected) → LeadsFrom start l new }
+{}
+
+/// The log of a fresh node that has made no turn is whole. Each call of `run` and `take` of a node with its log keeps it so, by its
+/// clause `whole`, whatever it answers: so the turns of a log that is handed over are the node's local turns of the inputs that it
+/// stores.
+pub fn fresh_logs_are_whole()
+    ensures { (program : Program) (nodes : ℕ) (options : OptionsRecord) (me : ℕ)
+        → IsWholeLog program nodes options me (record {
+          logged = record { node = Some (fresh_node program nodes options me); log = [] };
+          trace = record { node = me; size = options.size; segments = [] };
+        }) }
 {}

@@ -1,10 +1,14 @@
 // A node with its log.
 
-ghost use Rattle.std.specs.Prelude.{◌≡◌, Err, IfErr, IfOk, IfSome, MatchResult, None, Ok, [], false, true};
+ghost use Rattle.std.specs.Prelude.{◌≡◌, ◌<◌, ◌≤◌, ◌+◌, ℕ, Err, IfErr, IfNone, IfOk, IfSome, MatchResult, None, OnErr, OnOk, [], false, max, true, vec_capacity, vec_len};
+ghost use Rattle.lrc_lang.specs.declared.program.Program.{Program};
+ghost use Rattle.lrc_protocol.specs.Node.{OptionsRecord};
 ghost use Rattle.lrc_protocol.specs.Run as log;
+ghost use Rattle.lrc_protocol.specs.Run.{MOST_STAMP};
 ghost use Rattle.lrc_protocol.specs.Turn.{is_ready};
 ghost use Rattle.lrc_node.specs.Fault.{MayAnswer, is_final};
-ghost use Rattle.lrc_node.specs.Logged.{Enters, LogsTo, MakesRoom, NotesFailing, NotesIn, end_next, ended_by, newest, seen_input, sound};
+ghost use Rattle.lrc_node.specs.Logged.{LogsTo, MakesBox, MakesRoom, NotesIn, Settles, WearsOut, end_next, ended_by, entered_in, newest, seen_input, sound};
+ghost use Rattle.lrc_node.specs.Whole.{IsWholeLog};
 ghost use Rattle.lrc_control.specs.Text.{end_of};
 ghost use Rattle.lrc_node.specs.declared.fault.NodeFault.TheVariants.{Failed};
 
@@ -87,83 +91,61 @@ impl<'c> Logged<'c> {
     }
 
     /// The node goes on by itself. `Failed` and `NotReady` change nothing; after `Worn` and `NoMemory` the node has
-    /// failed. There is no memory for the log before it is looked whether the node is ready.
+    /// failed. There is no memory for the log before it is looked whether the node is ready, and the stamp is too large before the
+    /// turn is made. A refused call adds nothing to the log, and nothing to the trace.
     pub fn run(&mut self) -> Result<(), NodeFault>
         ensures logs { LogsTo self.old.logged log.run 0 self.new.logged result }
         ensures notes { NotesIn self.old self.new result }
         ensures failed { self.old.logged.node ≡ None → (result ≡ Err Failed) × (self.new ≡ self.old) }
         ensures fails { IfErr result (λ fault. is_final fault ≡ true → self.new.logged ≡ record { node = None; log = self.old.logged.log }) }
         ensures fault { IfErr result (MayAnswer log.run) }
-        ensures notes_failing { NotesFailing self.old log.run self.new result }
+        ensures kept { OnErr result (self.new.logged.log ≡ self.old.logged.log) }
+        ensures whole { (program : Program) (nodes : ℕ) (options : OptionsRecord) (me : ℕ)
+            → IsWholeLog program nodes options me self.old → IsWholeLog program nodes options me self.new }
     {
-        self.make_room()?;
+        make_room(&mut self.node, &mut self.log)?;
         let wish = self.node.wish();
+        let Some(stamp) = stamp_after(self.stamp, 0) else {
+            return wear_out(&mut self.node, wish.is_some(), NodeFault::NotReady);
+        };
         if let Some(Ask::Quiet) = wish {
             let turn = self.node.run_quietly();
-            return self.enter(Input::Run, 0, turn);
+            enter(&mut self.log, &mut self.stamp, Input::Run, stamp, turn);
+            return Ok(());
         }
         let outcome = self.node.run_wish(wish);
-        self.settle(Input::Run, 0, outcome)
+        settle(&mut self.log, &mut self.stamp, Input::Run, stamp, outcome)
     }
 
     /// The node takes a message, which came with the stamp of the turn that sent it. `Failed` and `Unexpected` change
-    /// nothing; after `Worn` and `NoMemory` the node has failed.
+    /// nothing; after `Worn` and `NoMemory` the node has failed. There is no memory for the log before it is looked whether the
+    /// message is expected, and the stamp is too large before the turn is made. A refused call adds nothing to the log, and nothing to
+    /// the trace.
     pub fn take(&mut self, envelope: Envelope, stamp: u64) -> Result<(), NodeFault>
         ensures logs { LogsTo self.old.logged (log.taken envelope) stamp self.new.logged result }
         ensures notes { NotesIn self.old self.new result }
         ensures failed { self.old.logged.node ≡ None → (result ≡ Err Failed) × (self.new ≡ self.old) }
         ensures fails { IfErr result (λ fault. is_final fault ≡ true → self.new.logged ≡ record { node = None; log = self.old.logged.log }) }
         ensures fault { IfErr result (MayAnswer (log.taken envelope)) }
-        ensures notes_failing { NotesFailing self.old (log.taken envelope) self.new result }
+        ensures kept { OnErr result (self.new.logged.log ≡ self.old.logged.log) }
+        ensures whole { (program : Program) (nodes : ℕ) (options : OptionsRecord) (me : ℕ)
+            → IsWholeLog program nodes options me self.old → IsWholeLog program nodes options me self.new }
     {
-        let boxed = self.make_room_for(envelope)?;
-        let outcome = self.node.take(&boxed);
-        self.settle(Input::Taken(boxed), stamp, outcome)
-    }
-
-    /// Makes room in the log for one turn more. Without memory the node fails.
-    fn make_room(&mut self) -> Result<(), NodeFault>
-        ensures room { MakesRoom self.old.logged self.new.logged result }
-        ensures trace { self.new.trace ≡ self.old.trace }
-    {
-        if self.node.has_failed() {
-            return Err(NodeFault::Failed);
-        }
-        if self.log.reserve(1).is_err() {
-            self.node.fail();
-            return Err(NodeFault::NoMemory);
-        }
-        Ok(())
-    }
-
-    // Makes room in the log for one turn more, and for the message that is taken in it. Without memory the node fails.
-    fn make_room_for(&mut self, envelope: Envelope) -> Result<Box<Envelope>, NodeFault>
-        ensures boxed { IfOk result (λ boxed. boxed.value ≡ envelope) }
-        ensures room { MatchResult result
-            (λ boxed. MakesRoom self.old.logged self.new.logged (Ok tt))
-            (λ fault. MakesRoom self.old.logged self.new.logged (Err fault)) }
-        ensures trace { self.new.trace ≡ self.old.trace }
-    {
-        self.make_room()?;
-        let Some(boxed) = self.boxed(envelope) else {
-            self.node.fail();
-            return Err(NodeFault::NoMemory);
+        make_room(&mut self.node, &mut self.log)?;
+        let alloc = *self.log.allocator();
+        let boxed = make_box(&mut self.node, &mut self.spare, alloc, envelope)?;
+        let Some(own) = stamp_after(self.stamp, stamp) else {
+            let awaited = self.node.awaits(&boxed);
+            return wear_out(&mut self.node, awaited, NodeFault::Unexpected);
         };
-        Ok(boxed)
-    }
-
-    // The message in a box, that of a message that was forgotten where there is one. None without memory.
-    fn boxed(&mut self, envelope: Envelope) -> Option<Box<Envelope>>
-        ensures boxed { IfSome result (λ boxed. boxed.value ≡ envelope) }
-        ensures same { self.new ≡ self.old }
-    {
-        match self.spare.take() {
-            Some(mut spare) => {
-                *spare = envelope;
-                Some(spare)
-            }
-            None => Box::new(*self.log.allocator(), envelope).ok(),
-        }
+        let outcome = self.node.take(&boxed);
+        settle(
+            &mut self.log,
+            &mut self.stamp,
+            Input::Taken(boxed),
+            own,
+            outcome,
+        )
     }
 
     // Keeps what memory a forgotten turn holds, for later ones: the list of what it sent, and the box of its message. Most
@@ -179,43 +161,6 @@ impl<'c> Logged<'c> {
         if let Input::Taken(boxed) = input {
             self.spare = Some(boxed);
         }
-    }
-
-    /// Adds a turn that was made; a refusal adds nothing.
-    #[inline(always)]
-    fn settle(
-        &mut self,
-        input: Input,
-        came: u64,
-        outcome: Result<Turn, NodeFault>,
-    ) -> Result<(), NodeFault>
-        ensures settled { MatchResult outcome
-            (λ turn. Enters self.old.logged (seen_input input) came turn self.new.logged result)
-            (λ fault. (result ≡ Err fault) × (self.new.logged ≡ self.old.logged)) }
-        ensures trace { self.new.trace ≡ self.old.trace }
-    {
-        match outcome {
-            Ok(turn) => self.enter(input, came, turn),
-            Err(fault) => Err(fault),
-        }
-    }
-
-    /// Adds a turn with its stamp. Where the stamp would be too large the node fails.
-    #[inline(always)]
-    fn enter(&mut self, input: Input, came: u64, turn: Turn) -> Result<(), NodeFault>
-        ensures enters { Enters self.old.logged (seen_input input) came turn self.new.logged result }
-        ensures trace { self.new.trace ≡ self.old.trace }
-    {
-        let Some(stamp) = self.stamp.max(came).checked_add(1) else {
-            self.node.fail();
-            return Err(NodeFault::Worn);
-        };
-        if self.log.push(Entry { input, stamp, turn }).is_err() {
-            self.node.fail();
-            return Err(NodeFault::NoMemory);
-        }
-        self.stamp = stamp;
-        Ok(())
     }
 
     /// Whether the node would go on if it were named. A failed one would not.
@@ -279,6 +224,110 @@ impl<'c> Logged<'c> {
         } = self;
         (log, node.into_trace())
     }
+}
+
+// Makes room in a node's log for one turn more. Without memory the node fails.
+fn make_room(node: &mut Node<'_>, log: &mut Vec<Entry>) -> Result<(), NodeFault>
+    ensures made { MakesRoom node.old node.new result }
+    ensures room { OnOk result (vec_len log.new < vec_capacity log.new) }
+    ensures same { log.new.items ≡ log.old.items }
+{
+    if node.has_failed() {
+        return Err(NodeFault::Failed);
+    }
+    if log.reserve(1).is_err() {
+        node.fail();
+        return Err(NodeFault::NoMemory);
+    }
+    Ok(())
+}
+
+// The message in a box, that of a message that was forgotten where there is one. Without memory the node fails.
+fn make_box(
+    node: &mut Node<'_>,
+    spare: &mut Option<Box<Envelope>>,
+    alloc: Global,
+    envelope: Envelope,
+) -> Result<Box<Envelope>, NodeFault>
+    ensures boxed { IfOk result (λ boxed. boxed.value ≡ envelope) }
+    ensures made { MakesBox node.old node.new result }
+{
+    let Some(boxed) = boxed(spare, alloc, envelope) else {
+        node.fail();
+        return Err(NodeFault::NoMemory);
+    };
+    Ok(boxed)
+}
+
+// The same; none without memory.
+fn boxed(
+    spare: &mut Option<Box<Envelope>>,
+    alloc: Global,
+    envelope: Envelope,
+) -> Option<Box<Envelope>>
+    ensures { IfSome result (λ boxed. boxed.value ≡ envelope) }
+{
+    match spare.take() {
+        Some(mut spare) => {
+            *spare = envelope;
+            Some(spare)
+        }
+        None => Box::new(alloc, envelope).ok(),
+    }
+}
+
+// The stamp of a turn, if there is one: one more than the greater of the node's last one and of the one that came.
+#[inline(always)]
+fn stamp_after(last: u64, came: u64) -> Option<u64>
+    ensures stamp { IfSome result (λ stamp. stamp ≡ max last came + 1) }
+    ensures few { IfSome result (λ stamp. stamp ≤ MOST_STAMP) }
+    ensures worn { IfNone result (MOST_STAMP < max last came + 1) }
+{
+    last.max(came).checked_add(1)
+}
+
+// What a node answers that has no stamp left: that it waits for something else, as before, or it fails.
+fn wear_out(node: &mut Node<'_>, awaited: bool, refusal: NodeFault) -> Result<(), NodeFault>
+    ensures { WearsOut node.old awaited refusal node.new result }
+{
+    if !awaited {
+        return Err(refusal);
+    }
+    node.fail();
+    Err(NodeFault::Worn)
+}
+
+// Adds a turn that was made, with its stamp; a refusal adds nothing.
+#[inline(always)]
+fn settle(
+    log: &mut Vec<Entry>,
+    last: &mut u64,
+    input: Input,
+    stamp: u64,
+    outcome: Result<Turn, NodeFault>,
+) -> Result<(), NodeFault>
+    requires { vec_len log.old < vec_capacity log.old }
+    ensures settled { Settles log.old.items (seen_input input) stamp outcome log.new.items result }
+    ensures last { MatchResult outcome (λ turn. last.new ≡ stamp) (λ fault. last.new ≡ last.old) }
+{
+    match outcome {
+        Ok(turn) => {
+            enter(log, last, input, stamp, turn);
+            Ok(())
+        }
+        Err(fault) => Err(fault),
+    }
+}
+
+// Adds a turn with its stamp.
+#[inline(always)]
+fn enter(log: &mut Vec<Entry>, last: &mut u64, input: Input, stamp: u64, turn: Turn)
+    requires { vec_len log.old < vec_capacity log.old }
+    ensures log { log.new.items ≡ entered_in log.old.items (seen_input input) stamp turn }
+    ensures last { last.new ≡ stamp }
+{
+    log.push_reserved(Entry { input, stamp, turn });
+    *last = stamp;
 }
 
 // How a node ended with this log.

@@ -6,7 +6,7 @@ ghost use Rattle.lrc_protocol.specs.Traced.{with_act};
 ghost use Rattle.lrc_protocol.specs.Turn.{done, is_ready, not_ready, run_turn, take_turn, unexpected};
 ghost use Rattle.lrc_protocol.specs.Run.{run, taken};
 ghost use Rattle.lrc_node.specs.Fault.{MayAnswer};
-ghost use Rattle.lrc_node.specs.Node.{AnswersTurn, sound_node, wish_of};
+ghost use Rattle.lrc_node.specs.Node.{AnswersTurn, is_turn, sound_node, wish_of};
 ghost use Rattle.lrc_node.specs.declared.fault.NodeFault.TheVariants.{Failed, NoMemory, NotReady, Unexpected};
 ghost use Rattle.lrc_control.specs.Text.{end_of};
 ghost use Rattle.lrc_trace.specs.declared.end.End.TheVariants.{Unfinished};
@@ -167,6 +167,13 @@ impl<'c> Node<'c> {
                 Err(fault)
             }
         }
+    }
+
+    /// Whether the node would take a message, as far as its numbers go. Nothing is asked of a node that has failed.
+    pub(crate) fn awaits(&self, envelope: &Envelope) -> bool
+        ensures { (node : NodeRecord) → self.now.node ≡ Some node → result ≡ is_turn (take_turn node envelope.now) }
+    {
+        self.failed.is_none() && self.state.awaits(envelope)
     }
 
     /// Whether the node has failed.

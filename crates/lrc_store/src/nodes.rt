@@ -7,7 +7,7 @@ ghost use Rattle.lrc_store.specs.Chains.{last_at};
 ghost use Rattle.lrc_store.specs.declared.chains.TheConstants.{MOST_ENTRIES};
 
 use crate::chains::Chains;
-use crate::row::Row;
+use crate::row::NodePlaces;
 use std::alloc::{AllocError, Global};
 use std::marker::Model;
 
@@ -17,7 +17,7 @@ use std::marker::Model;
 pub(crate) struct Nodes {
     chains: Chains,
     starts: Vec<u32>,
-    rows: Vec<Row>,
+    rows: Vec<NodePlaces>,
 }
 
 impl Model for Nodes {
@@ -146,19 +146,19 @@ impl Nodes {
 }
 
 // A row for each node, without places.
-fn empty_rows(alloc: Global, nodes: usize) -> Result<Vec<Row>, AllocError>
+fn empty_rows(alloc: Global, nodes: usize) -> Result<Vec<NodePlaces>, AllocError>
     ensures count { IfOk result (λ rows. length rows.items ≡ nodes) }
     ensures none { IfOk result (λ rows. All (λ row. row.places ≡ []) rows.items) }
 {
     let mut rows = Vec::new(alloc);
     for _ in 0..nodes {
-        rows.push(Row::new(alloc))?;
+        rows.push(NodePlaces::new(alloc))?;
     }
     Ok(rows)
 }
 
 // Takes all places out of the rows.
-fn clear_rows(rows: &mut [Row])
+fn clear_rows(rows: &mut [NodePlaces])
     ensures count { length rows.new ≡ length rows.old }
     ensures none { All (λ row. row.places ≡ []) rows.new }
     ensures room { (at : ℕ) (d : RowRecord) → at < length rows.old

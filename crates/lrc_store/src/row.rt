@@ -7,11 +7,11 @@ use std::marker::Model;
 
 /// The places of one node's intervals, oldest first.
 #[derive(Drop)]
-pub(crate) struct Row {
+pub(crate) struct NodePlaces {
     places: Vec<u32>,
 }
 
-impl Model for Row {
+impl Model for NodePlaces {
     ghost use Rattle.std.specs.Prelude.{vec_capacity};
     ghost use Rattle.lrc_store.specs.Rows.{RowRecord};
 
@@ -20,12 +20,12 @@ impl Model for Row {
     ghost view = { λ r. record { places = r.places.items; room = vec_capacity r.places } };
 }
 
-impl Row {
+impl NodePlaces {
     /// No places.
     pub(crate) fn new(alloc: Global) -> Self
         ensures { result.places ≡ [] }
     {
-        Row {
+        NodePlaces {
             places: Vec::new(alloc),
         }
     }

@@ -17,12 +17,13 @@ use Rattle.lrc_page.specs.Pages.{IsRising}
 use Rattle.lrc_page.proofs.PageLists.{rising_same, length-zero_page}
 use Rattle.lrc_table.specs.PageCopy.{PageCopy, IsWhole, fresh, is_valid, is_written, is_readable, is_pending, closed, opened, with_value}
 use Rattle.lrc_table.specs.PageCopy.{after_write, written_in, patched, repaired, without_twin, settled, absent_if_invalid, dropped}
+use Rattle.lrc_table.specs.PageCopy.{invalidated, installed, with_base, without_base}
 use Rattle.lrc_table.specs.declared.slot.State.{State}
 use Rattle.lrc_table.specs.declared.slot.State.TheVariants.{Valid, Written, Invalid, Absent}
 use Rattle.lrc_page.specs.declared.changes.Change.{Change}
-use Rattle.lrc_page.specs.Page.{zero_page}
+use Rattle.lrc_page.specs.Page.{words_of, zero_page}
 use Rattle.lrc_page.proofs.ChangeLists.{length-applied, length-fold-applied}
-use Rattle.std.specs.Prelude.{is_some}
+use Rattle.std.specs.Prelude.{◌&&◌, is_some, Option, Some, None}
 use Rattle.lrc_table.proofs.Copies.{is_written-says}
 use Rattle.lrc_table.specs.Table.{Table, IsSound, copy_at, with_copy, with_each, written_pages}
 
@@ -180,6 +181,34 @@ whole-patched size copy changes whole = record {
   none = whole.none;
 }
 
+pub whole-with_base : (size : Size) (copy : PageCopy) → IsWhole size copy → IsWhole size (with_base copy)
+whole-with_base size copy whole = record {
+  values = whole.values;
+  twin = whole.twin;
+  base = λ x is. ap length (sym (same_Some copy.values x is)) ∙ whole.values;
+  kept = whole.kept;
+  none = whole.none;
+}
+
+pub whole-without_base : (size : Size) (copy : PageCopy) → IsWhole size copy → IsWhole size (without_base copy)
+whole-without_base size copy whole = record {
+  values = whole.values;
+  twin = whole.twin;
+  base = λ x is. absurd (cc);
+  kept = whole.kept;
+  none = whole.none;
+}
+
+pub whole-installed : (size : Size) (copy : PageCopy) (values : List ℕ) → length values ≡ words_of size → copy.state ≡ Absent
+    → IsWhole size copy → IsWhole size (installed copy values)
+whole-installed size copy values long absent whole = record {
+  values = long;
+  twin = whole.twin;
+  base = whole.base;
+  kept = λ is. absurd (cc);
+  none = λ is. whole.none (ap is_readable absent);
+}
+
 pub whole-repaired : (size : Size) (copy : PageCopy) (lists : List (List Change)) → IsWhole size copy
     → IsWhole size (repaired copy lists)
 whole-repaired size copy lists whole = record {
@@ -211,6 +240,31 @@ valid_unwritten Valid is = refl
 valid_unwritten Written is = absurd (cc)
 valid_unwritten Invalid is = refl
 valid_unwritten Absent is = refl
+
+twin_gone : (valid : Bool) (twin : Option (List ℕ)) → valid ≡ true → (valid && is_some twin) ≡ false → twin ≡ None
+twin_gone valid None is apart = refl
+twin_gone valid (Some twin) is apart = absurd (true_false (rw is at apart))
+
+pub whole-invalidated : (size : Size) (copy : PageCopy) → is_pending copy ≡ false → IsWhole size copy → IsWhole size (invalidated copy)
+whole-invalidated size copy unsettled whole =
+    ⊎_elim
+    (λ (is : is_valid copy.state ≡ true).
+    rw is (record {
+      values = whole.values;
+      twin = whole.twin;
+      base = whole.base;
+      kept = λ now. absurd (cc);
+      none = λ now. twin_gone (is_valid copy.state) copy.twin is unsettled;
+    }))
+    (λ (not_so : is_valid copy.state ≡ false). rw not_so whole)
+    (cases_Bool (is_valid copy.state))
+
+pub written-invalidated : (copy : PageCopy) → is_written (invalidated copy).state ≡ is_written copy.state
+written-invalidated copy =
+    ⊎_elim
+    (λ (is : is_valid copy.state ≡ true). rw is (sym (valid_unwritten copy.state is)))
+    (λ (not_so : is_valid copy.state ≡ false). rw not_so refl)
+    (cases_Bool (is_valid copy.state))
 
 pub whole-settled : (size : Size) (copy : PageCopy) → IsWhole size copy → IsWhole size (settled copy)
 whole-settled size copy whole =
@@ -330,11 +384,15 @@ whole-read table written page old sound within is =
     let P : PageCopy → Type 0 = λ copy. IsWhole table.size copy in
     subst P (sym is) (sound.whole page old within)
 
+-- and it is the page's copy
+pub read_is : (table : Table) (place page : ℕ) (old : PageCopy) → place < length table.copies → place ≡ page
+    → old ≡ get_or table.copies place old → old ≡ copy_at table page
+read_is table place page old within at is = is ∙ get_or_default table.copies place old none within ∙ ap (copy_at table) at
+
 -- and it is in the state that the table says
 pub invalid_read : (table : Table) (place page : ℕ) (old : PageCopy) → place < length table.copies → place ≡ page
     → old ≡ get_or table.copies place old → (copy_at table page).state ≡ Invalid → old.state ≡ Invalid
-invalid_read table place page old within at is state =
-    ap (λ (c : PageCopy). c.state) (is ∙ get_or_default table.copies place old none within ∙ ap (copy_at table) at) ∙ state
+invalid_read table place page old within at is state = ap (λ (c : PageCopy). c.state) (read_is table place page old within at is) ∙ state
 
 -- a copy changed in its place, by a change that keeps it whole and as much written
 pub sound-changed : (table : Table) (written : List ℕ) (page : ℕ) (old new : PageCopy) → IsSound table written
@@ -363,6 +421,21 @@ sound-settled table written page old new sound within is cases =
     cases)
     (⊎_elim
     (λ (done : new ≡ settled old). ap (λ (c : PageCopy). is_written c.state) done ∙ written-settled old)
+    (λ (same : new ≡ old). ap (λ (c : PageCopy). is_written c.state) same)
+    cases)
+
+pub sound-with_base : (table : Table) (written : List ℕ) (page : ℕ) (old new : PageCopy) → IsSound table written
+    → page < length table.copies → old ≡ get_or table.copies page old → (new ≡ with_base old) ⊎ (new ≡ old)
+    → IsSound (with_copy table page new) written
+sound-with_base table written page old new sound within is cases =
+    sound-changed table written page old new sound within is
+    (λ whole.
+    ⊎_elim
+    (λ (done : new ≡ with_base old). rw done (whole-with_base table.size old whole))
+    (λ (same : new ≡ old). rw same whole)
+    cases)
+    (⊎_elim
+    (λ (done : new ≡ with_base old). ap (λ (c : PageCopy). is_written c.state) done)
     (λ (same : new ≡ old). ap (λ (c : PageCopy). is_written c.state) same)
     cases)
 

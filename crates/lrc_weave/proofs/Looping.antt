@@ -1,15 +1,15 @@
 -- The loops of the comparison, over what the code reads.
 use Rattle.std.proofs.Common.{◌≡◌, ℕ, ◌+◌, ◌<◌, ◌↔◌, Bool, true, false, IsTrue, List, [], ◌∷◌, length, map, refl, sym, ap, subst, ◌∙◌, arith, zero, suc}
 use Rattle.std.specs.List.{list_all}
-use Rattle.std.specs.Prelude.{Option, Some, slice_get, slice_index_or}
+use Rattle.std.specs.Prelude.{Option, Some, Result, Ok, Err, IfOk, slice_get, slice_index_or}
 use Rattle.std.proofs.lemmas.List.{length-map}
 use Rattle.std.proofs.lemmas.Option.{get_or_from_slice_get, slice_get_within}
 use Rattle.lrc_post.specs.declared.parcel.Wire.{Wire}
 use Rattle.lrc_post.specs.Mailbox.{MailboxRecord}
 use Rattle.lrc_protocol.specs.Run.{Input, EntryRecord, Flying}
 use Rattle.lrc_weave.specs.Logs.{sent_to}
-use Rattle.lrc_weave.specs.Matched.{message_of, puts_by, takes_in, Takes, AreMatched}
-use Rattle.lrc_weave.specs.Compared.{is_by_node, AreByNodes, AreOwn, AreSent, line_at, puts_by_each, taken_in, IsLeft}
+use Rattle.lrc_weave.specs.Matched.{message_of, puts_by, takes_in, Takes, AreAlike, AreMatched}
+use Rattle.lrc_weave.specs.Compared.{is_by_node, AreByNodes, AreOwn, AreAllOwn, AreSent, line_at, puts_by_each, taken_in, IsLeft}
 use Rattle.lrc_weave.proofs.Members.{in_map}
 use Rattle.lrc_weave.proofs.Places.{head_is, tail_is, nothing, read, some_same}
 use Rattle.lrc_weave.proofs.Lining.{puts_at, puts_count}
@@ -39,12 +39,11 @@ module _ (history : List Wire) (log : List EntryRecord) (k before : ℕ) (rest n
 unlike : (b : Bool) (P : Type 0) → IsTrue b ↔ P → b ≡ false → P → ⊥
 unlike b P same none p = let yes : b ≡ true = same.1 p in cc
 
--- a node's log tells of what the node put into each mailbox, and of what it took from its own, and in which order it did so there
+-- a node's log tells of what the node put into each mailbox, and of what it took from its own
 abbrev pub NodeSo : List MailboxRecord → ℕ → List EntryRecord → Type 0
 NodeSo wires node log =
     ((owner : ℕ) (mailbox : MailboxRecord) → slice_get wires owner ≡ Some mailbox → puts_by node mailbox.history ≡ map Some (sent_to owner log))
     × ((mailbox : MailboxRecord) → slice_get wires node ≡ Some mailbox → Takes [] log (takes_in mailbox.history))
-    × ((mailbox : MailboxRecord) → slice_get wires node ≡ Some mailbox → AreOwn node log mailbox.history)
 
 map_twice : {X Y Z : Type 0} (g : Y → Z) (f : X → Y) (xs : List X) → map g (map f xs) ≡ map (λ x. g (f x)) xs
 map_twice g f [] = refl
@@ -113,41 +112,36 @@ module _ (wires : List MailboxRecord) (node : ℕ) (log : List EntryRecord) (lin
   count = ap length are ∙ length-map wires (λ mailbox. puts_by node mailbox.history)
 
   module _ (mailbox : MailboxRecord) (history : List Wire) (at : slice_get wires node ≡ Some mailbox) (history_is : history ≡ mailbox.history) where
-    so_of : AreSent log lines × Takes [] log (takes_in history) × AreOwn node log history → NodeSo wires node log
+    so_of : AreSent log lines × Takes [] log (takes_in history) → NodeSo wires node log
     so_of all = (
       λ owner other there. sym (line_is owner other there)
           ∙ all.0 owner (subst (λ n. owner < n) (sym count) (slice_get_within wires owner other there)),
       λ other there.
           subst (λ m. Takes [] log (takes_in m.history)) (some_same (slice_get wires node) mailbox other at there)
           (subst (λ h. Takes [] log (takes_in h)) history_is all.1),
-      λ other there.
-          subst (λ m. AreOwn node log m.history) (some_same (slice_get wires node) mailbox other at there)
-          (subst (AreOwn node log) history_is all.2),
     )
 
-    of_so : NodeSo wires node log → AreSent log lines × Takes [] log (takes_in history) × AreOwn node log history
+    of_so : NodeSo wires node log → AreSent log lines × Takes [] log (takes_in history)
     of_so so = (
       λ owner within.
           let m = there wires owner (subst (λ n. owner < n) count within) in
           line_is owner m.0 m.1 ∙ so.0 owner m.0 m.1,
       subst (λ h. Takes [] log (takes_in h)) (sym history_is) (so.1 mailbox at),
-      subst (AreOwn node log) (sym history_is) (so.2 mailbox at),
     )
 
 -- ---- the mailboxes
 
 -- what the mailboxes keep is by the logs
-matched_each : (logs : List (List EntryRecord)) (wires : List MailboxRecord) → AreMatched logs wires → (node : ℕ) (log : List EntryRecord)
+alike_each : (logs : List (List EntryRecord)) (wires : List MailboxRecord) → AreAlike logs wires → (node : ℕ) (log : List EntryRecord)
     → slice_get logs node ≡ Some log → NodeSo wires node log
-matched_each logs wires all node log at = (
+alike_each logs wires all node log at = (
   λ owner mailbox there. (all.each owner mailbox there).puts node log at,
   λ mailbox there. (all.each node mailbox there).takes log at,
-  λ mailbox there. (all.each node mailbox there).own log at,
 )
 
 module _ {V : Type 0} (f : V → List EntryRecord) (logs : List V) (wires : List MailboxRecord) where
   pub not_by_nodes : (b : Bool) → b ≡ list_all (λ mailbox. list_all (is_by_node (length logs)) mailbox.history) wires → b ≡ false
-      → IsTrue false ↔ AreMatched (map f logs) wires
+      → IsTrue false ↔ AreAlike (map f logs) wires
   not_by_nodes b is none = (
     λ e. nothing e,
     λ all.
@@ -163,19 +157,19 @@ module _ {V : Type 0} (f : V → List EntryRecord) (logs : List V) (wires : List
       (log_there : k < length logs) (v_is : v ≡ slice_index_or logs k v) (log_is : log ≡ f v) (mailbox_there : k < length wires)
       (mailbox_is : mailbox ≡ slice_index_or wires k mailbox) (history_is : history ≡ mailbox.history)
       (are : lines ≡ map (λ mailbox. puts_by k mailbox.history) wires)
-      (same : IsTrue b ↔ (AreSent log lines × Takes [] log (takes_in history) × AreOwn k log history)) where
+      (same : IsTrue b ↔ (AreSent log lines × Takes [] log (takes_in history))) where
     log_at : slice_get (map f logs) k ≡ Some log
     log_at = in_map f logs v k (read logs k v log_there v_is) ∙ ap Some (sym log_is)
 
     mailbox_at : slice_get wires k ≡ Some mailbox
     mailbox_at = read wires k mailbox mailbox_there mailbox_is
 
-    pub node_not : b ≡ false → IsTrue false ↔ AreMatched (map f logs) wires
+    pub node_not : b ≡ false → IsTrue false ↔ AreAlike (map f logs) wires
     node_not none = (
       λ e. nothing e,
       λ all.
-          absurd (unlike b (AreSent log lines × Takes [] log (takes_in history) × AreOwn k log history) same none
-          (of_so wires k log lines are mailbox history mailbox_at history_is (matched_each (map f logs) wires all k log log_at))),
+          absurd (unlike b (AreSent log lines × Takes [] log (takes_in history)) same none
+          (of_so wires k log lines are mailbox history mailbox_at history_is (alike_each (map f logs) wires all k log log_at))),
     )
 
     pub node_more : b ≡ true → UpTo (NodeSo wires) (map f logs) k → UpTo (NodeSo wires) (map f logs) (k + 1)
@@ -184,7 +178,7 @@ module _ {V : Type 0} (f : V → List EntryRecord) (logs : List V) (wires : List
         (so_of wires k log lines are mailbox history mailbox_at history_is (same.0 is_so))
 
   pub nodes_end : (b : Bool) → b ≡ list_all (λ mailbox. list_all (is_by_node (length logs)) mailbox.history) wires → b ≡ true → (k : ℕ) → k ≡ length logs
-      → UpTo (NodeSo wires) (map f logs) k → IsTrue true ↔ AreMatched (map f logs) wires
+      → UpTo (NodeSo wires) (map f logs) k → IsTrue true ↔ AreAlike (map f logs) wires
   nodes_end b is sure k e before =
       let each = up_to_all (NodeSo wires) (map f logs) k (e ∙ sym (length-map logs f)) before in (
         λ y. record {
@@ -194,8 +188,63 @@ module _ {V : Type 0} (f : V → List EntryRecord) (logs : List V) (wires : List
                 (all_mailboxes (length logs) wires (sym is ∙ sure) owner mailbox at);
             puts = λ node log there. (each node log there).0 owner mailbox at;
             takes = λ log there. (each owner log there).1 mailbox at;
-            own = λ log there. (each owner log there).2 mailbox at;
           };
         },
         λ all. refl,
       )
+
+-- ---- what each node did to its own mailbox
+
+-- in the mailbox of a node its takes and its puts stand as its log has them
+abbrev pub OwnSo : List MailboxRecord → ℕ → List EntryRecord → Type 0
+OwnSo wires node log = (mailbox : MailboxRecord) → slice_get wires node ≡ Some mailbox → AreOwn node log mailbox.history
+
+module _ {V : Type 0} (f : V → List EntryRecord) (logs : List V) (wires : List MailboxRecord) where
+  module _ (k : ℕ) (v : V) (log : List EntryRecord) (mailbox : MailboxRecord) (history : List Wire) (b : Bool)
+      (log_there : k < length logs) (v_is : v ≡ slice_index_or logs k v) (log_is : log ≡ f v) (mailbox_there : k < length wires)
+      (mailbox_is : mailbox ≡ slice_index_or wires k mailbox) (history_is : history ≡ mailbox.history) (same : IsTrue b ↔ AreOwn k log history) where
+    own_log_at : slice_get (map f logs) k ≡ Some log
+    own_log_at = in_map f logs v k (read logs k v log_there v_is) ∙ ap Some (sym log_is)
+
+    own_mailbox_at : slice_get wires k ≡ Some mailbox
+    own_mailbox_at = read wires k mailbox mailbox_there mailbox_is
+
+    pub own_not : b ≡ false → IsTrue false ↔ AreAllOwn (map f logs) wires
+    own_not none = (
+      λ e. nothing e,
+      λ all. absurd (unlike b (AreOwn k log history) same none (subst (AreOwn k log) (sym history_is) (all k log mailbox own_log_at own_mailbox_at))),
+    )
+
+    pub own_more : b ≡ true → UpTo (OwnSo wires) (map f logs) k → UpTo (OwnSo wires) (map f logs) (k + 1)
+    own_more is_so before =
+        up_to_more (OwnSo wires) (map f logs) k log before own_log_at (λ other at.
+        subst (λ m. AreOwn k log m.history) (some_same (slice_get wires k) mailbox other own_mailbox_at at)
+        (subst (AreOwn k log) history_is (same.0 is_so)))
+
+  pub own_end : (k : ℕ) → k ≡ length logs → UpTo (OwnSo wires) (map f logs) k → IsTrue true ↔ AreAllOwn (map f logs) wires
+  own_end k e before =
+      let each = up_to_all (OwnSo wires) (map f logs) k (e ∙ sym (length-map logs f)) before in
+      (λ y. λ owner log mailbox at there. each owner log at mailbox there, λ all. refl)
+
+-- logs and mailboxes match where they tell of the same messages and each node did so to its own
+pub matched_of : (logs : List (List EntryRecord)) (wires : List MailboxRecord) → AreAlike logs wires → AreAllOwn logs wires → AreMatched logs wires
+matched_of logs wires alike own = record {
+  each = λ owner mailbox at. record { alike = alike.each owner mailbox at; own = λ log there. own owner log mailbox there at };
+}
+
+pub alike_of : (logs : List (List EntryRecord)) (wires : List MailboxRecord) → AreMatched logs wires → AreAlike logs wires
+alike_of logs wires matched = record { each = λ owner mailbox at. (matched.each owner mailbox at).alike }
+
+pub own_where : (logs : List (List EntryRecord)) (wires : List MailboxRecord) → AreMatched logs wires → AreAllOwn logs wires
+own_where logs wires matched = λ owner log mailbox there at. (matched.each owner mailbox at).own log there
+
+-- what is alike matches where each node did so to its own mailbox
+pub matched_if : {A E : Type 0} (logs : List (List EntryRecord)) (wires : List MailboxRecord) (r : Result A E) → AreAllOwn logs wires
+    → IfOk r (λ run. AreAlike logs wires) → IfOk r (λ run. AreMatched logs wires)
+matched_if logs wires (Ok run) own alike = matched_of logs wires alike own
+matched_if logs wires (Err fault) own alike = tt
+
+-- and nothing matches where one of them did not
+pub unmatched_by : (logs : List (List EntryRecord)) (wires : List MailboxRecord) (b : Bool) → IsTrue b ↔ AreAllOwn logs wires → b ≡ false
+    → AreMatched logs wires → ⊥
+unmatched_by logs wires b same none matched = unlike b (AreAllOwn logs wires) same none (own_where logs wires matched)

@@ -1,4 +1,4 @@
--- Of logs and mailboxes that match, each message that a log takes is one that a log sends.
+-- Of logs and mailboxes that tell of the same messages, each message that a log takes is one that a log sends.
 use Rattle.std.proofs.Common.{◌≡◌, ℕ, zero, suc, ◌<◌, List, [], ◌∷◌, ◌++◌, length, map, filter, take, refl, sym, ap, ◌∙◌, arith, append-nil, append_assoc}
 use Rattle.std.specs.Prelude.{Option, Some, None, ◌==◌, slice_get, filter_map}
 use Rattle.std.proofs.lemmas.Bool.{eq-eqb, eqb-true}
@@ -10,7 +10,7 @@ use Rattle.lrc_post.specs.Mailbox.{MailboxRecord}
 use Rattle.lrc_protocol.specs.Run.{Input, run, taken, EntryRecord, next_stamp, Flying, sent_by}
 use Rattle.lrc_weave.specs.Logs.{all_sent, sent_to}
 use Rattle.lrc_weave.specs.Matched.{message_of, is_put_by, puts_by, place_taken, message_if, message_at, Takes}
-use Rattle.lrc_weave.specs.Matched.{takes_none, takes_not, takes_one, IsMatched, AreMatched}
+use Rattle.lrc_weave.specs.Matched.{takes_none, takes_not, takes_one, IsAlike, AreAlike}
 use Rattle.lrc_weave.specs.Sent.{IsSent, AreTakesSent}
 use Rattle.lrc_protocol.specs.Follows.{log_of}
 use Rattle.lrc_weave.proofs.Places.{within_outer}
@@ -57,22 +57,22 @@ of_some xs x place at =
     (place, from.1 ∙ ap Some same)
 
 -- what an entry takes was sent by a turn of some log
-paired : (logs : List (List EntryRecord)) (wires : List MailboxRecord) → AreMatched logs wires → length wires ≡ length logs
+paired : (logs : List (List EntryRecord)) (wires : List MailboxRecord) → AreAlike logs wires → length wires ≡ length logs
     → (n k : ℕ) (entry : EntryRecord) (envelope : EnvelopeRecord) → slice_get (log_of logs n) k ≡ Some entry → entry.input ≡ taken envelope
     → (flying : Flying) × (flying.envelope ≡ envelope) × IsSent logs n (take k (log_of logs n)) entry flying
 paired logs wires are same_count n k entry envelope at is =
     let within : n < length logs = within_outer logs n k entry at in
     let mailbox : (m : MailboxRecord) × (slice_get wires n ≡ Some m) = there_is wires n (omega (arith, within, same_count)) in
-    let matched : IsMatched logs n mailbox.0.history = are.each n mailbox.0 mailbox.1 in
-    let found = takes_at (matched.takes (log_of logs n) (slice_get-get_or logs n [] within)) k entry envelope at is in
+    let alike : IsAlike logs n mailbox.0.history = are.each n mailbox.0 mailbox.1 in
+    let found = takes_at (alike.takes (log_of logs n) (slice_get-get_or logs n [] within)) k entry envelope at is in
     let flying = found.0 in
     let from_place = of_map (message_at mailbox.0.history) (filter_map place_taken mailbox.0.history) (Some flying) found.1.0 found.1.1 in
     let put = put_at mailbox.0.history flying from_place.0 (slice_get mailbox.0.history from_place.0) refl from_place.2 in
     let sender = put.0 in
-    let sender_in : sender < length logs = matched.by_nodes from_place.0 sender put.1 put.2 put.3 put.4 in
+    let sender_in : sender < length logs = alike.by_nodes from_place.0 sender put.1 put.2 put.3 put.4 in
     let in_log : IsIn flying (sent_to n (log_of logs sender)) =
     of_some (sent_to n (log_of logs sender)) flying put.5.0
-    (ap (λ xs. slice_get xs put.5.0) (sym (matched.puts sender (log_of logs sender) (slice_get-get_or logs sender [] sender_in))) ∙ put.5.1) in
+    (ap (λ xs. slice_get xs put.5.0) (sym (alike.puts sender (log_of logs sender) (slice_get-get_or logs sender [] sender_in))) ∙ put.5.1) in
     let for_n = of_filter (λ (f : Flying). f.envelope.to == n) (all_sent (log_of logs sender)) flying in_log.0 in_log.1 in
     let turn = of_flat sent_by (log_of logs sender) flying for_n.0.0 for_n.0.1 in (
       flying,
@@ -94,5 +94,5 @@ paired logs wires are same_count n k entry envelope at is =
     there_is (x ∷ xs) (suc i) lt = there_is xs i (omega (arith, lt))
 
 -- so what all take was sent
-pub sent_where_matched : (logs : List (List EntryRecord)) (wires : List MailboxRecord) → AreMatched logs wires → length wires ≡ length logs → AreTakesSent logs
-sent_where_matched logs wires matched count = record { each = paired logs wires matched count }
+pub sent_where_alike : (logs : List (List EntryRecord)) (wires : List MailboxRecord) → AreAlike logs wires → length wires ≡ length logs → AreTakesSent logs
+sent_where_alike logs wires alike count = record { each = paired logs wires alike count }

@@ -5,6 +5,7 @@ use Rattle.std.specs.List.{range_with_len}
 use Rattle.lrc_envelope.specs.Envelope.{EnvelopeRecord}
 use Rattle.lrc_post.specs.declared.parcel.Wire.{Wire}
 use Rattle.lrc_post.specs.declared.parcel.Wire.TheVariants.{Put, Took}
+use Rattle.lrc_post.specs.Mailbox.{MailboxRecord}
 use Rattle.lrc_protocol.specs.Run.{Input, run, taken, EntryRecord, Flying}
 use Rattle.lrc_weave.specs.Logs.{sent_to}
 use Rattle.lrc_weave.specs.Matched.{is_put_by, place_taken, message_at, own_in, own_of}
@@ -95,3 +96,9 @@ AreOwnNext these old new false = (more : List Bool) → old ≡ these ++ more �
 -- the owner's entries of a history are what its turns make
 abbrev pub AreOwn : ℕ → List EntryRecord → List Wire → Type 0
 AreOwn owner log history = own_in owner history ≡ flat_map (own_of owner) log
+
+-- so it is in each mailbox
+abbrev pub AreAllOwn : List (List EntryRecord) → List MailboxRecord → Type 0
+AreAllOwn logs wires =
+    (owner : ℕ) (log : List EntryRecord) (mailbox : MailboxRecord) → slice_get logs owner ≡ Some log → slice_get wires owner ≡ Some mailbox
+    → AreOwn owner log mailbox.history

@@ -84,13 +84,21 @@ abbrev pub own_of : ℕ → EntryRecord → List Bool
 own_of owner entry = own_takes entry.input ++ own_puts owner entry.turn.out
 
 -- What one node's mailbox kept is what the logs tell: each put is by a node of the run; what a node put is what its log
--- sends to the owner, in order; what was taken is what the owner's log takes, in order; and the owner's takes and its puts to
--- itself stand among each other as its turns made them.
-pub record IsMatched (logs : List (List EntryRecord)) (owner : ℕ) (history : List Wire) : Type 0 where
+-- sends to the owner, in order; and what was taken is what the owner's log takes, in order.
+pub record IsAlike (logs : List (List EntryRecord)) (owner : ℕ) (history : List Wire) : Type 0 where
   pub by_nodes : (place : ℕ) (from to stamp : ℕ) (bytes : List ℕ) → slice_get history place ≡ Some (Put from to stamp bytes)
       → from < length logs
   pub puts : (node : ℕ) (log : List EntryRecord) → slice_get logs node ≡ Some log → puts_by node history ≡ map Some (sent_to owner log)
   pub takes : (log : List EntryRecord) → slice_get logs owner ≡ Some log → Takes [] log (takes_in history)
+
+-- the same of each mailbox
+pub record AreAlike (logs : List (List EntryRecord)) (wires : List MailboxRecord) : Type 0 where
+  pub each : (owner : ℕ) (mailbox : MailboxRecord) → slice_get wires owner ≡ Some mailbox → IsAlike logs owner mailbox.history
+
+-- And the owner's takes and its puts to itself stand among each other as its turns made them. A thread that makes its turns one
+-- after another leaves such a mailbox.
+pub record IsMatched (logs : List (List EntryRecord)) (owner : ℕ) (history : List Wire) : Type 0 where
+  pub alike : IsAlike logs owner history
   pub own : (log : List EntryRecord) → slice_get logs owner ≡ Some log → own_in owner history ≡ flat_map (own_of owner) log
 
 -- the same of each mailbox

@@ -4,11 +4,10 @@ ghost use Rattle.std.specs.Prelude.{◌≡◌, ◌==◌, ◌∷◌, ◌↔◌, [
 ghost use Rattle.std.specs.List.{list_all};
 ghost use Rattle.lrc_node.specs.Logged.{seen_input};
 ghost use Rattle.lrc_protocol.specs.Run.{taken};
-ghost use Rattle.lrc_weave.specs.Compared.{AreAllNext, AreOwn, AreSent, IsLeft, is_by_node, sent_as, taken_in};
-ghost use Rattle.lrc_weave.specs.Matched.{AreMatched, Takes, message_of, takes_in};
+ghost use Rattle.lrc_weave.specs.Compared.{AreAllNext, AreSent, IsLeft, is_by_node, sent_as, taken_in};
+ghost use Rattle.lrc_weave.specs.Matched.{AreAlike, Takes, message_of, takes_in};
 
 use crate::history::{is_by_node, is_taken_from, next_take, take_put};
-use crate::owner::are_own;
 use crate::putting::{all_puts, lines_of};
 use lrc_envelope::Envelope;
 use lrc_node::{Entry, Input};
@@ -17,13 +16,13 @@ use std::alloc::{AllocError, Global};
 use std::marker::Model;
 
 /// Whether logs and mailboxes, one for each node, tell of the same messages, in each node's order.
-pub(crate) fn are_matched(
+pub(crate) fn are_alike(
     alloc: Global,
     logs: &[Vec<Entry>],
     wires: &[Mailbox],
 ) -> Result<bool, AllocError>
     requires each { length wires.now ≡ length logs.now }
-    ensures { IfOk result (λ are. IsTrue are ↔ AreMatched (map (λ log. log.items) logs.now) wires.now) }
+    ensures { IfOk result (λ are. IsTrue are ↔ AreAlike (map (λ log. log.items) logs.now) wires.now) }
 {
     if !are_all_by_nodes(wires, logs.len()) {
         return Ok(false);
@@ -32,9 +31,8 @@ pub(crate) fn are_matched(
     let mut spare = Vec::new(alloc);
     for node in 0..logs.len() {
         let mut lines = lines_of(alloc, puts.as_slice(), node)?;
-        if !is_matched(
+        if !is_alike(
             &mut spare,
-            node,
             lines.as_mut_slice(),
             logs[node].as_slice(),
             wires[node].history(),
@@ -61,23 +59,17 @@ fn are_by_nodes(history: &[Wire], nodes: usize) -> bool
     history.iter().all(|wire| is_by_node(wire, nodes))
 }
 
-// Whether a node's log sends what the node put into each mailbox, line by line, and takes what the node took from its own, where
-// its takes and its own puts stand as its turns made them.
-fn is_matched(
+// Whether a node's log sends what the node put into each mailbox, line by line, and takes what the node took from its own.
+fn is_alike(
     spare: &mut Vec<u8>,
-    node: usize,
     lines: &mut [&[&Wire]],
     log: &[Entry],
     history: &[Wire],
 ) -> Result<bool, AllocError>
     ensures { IfOk result (λ is. IsTrue is
-        ↔ (AreSent log.now (map (λ line. map (λ wire. message_of wire.now) line.now) lines.old) × Takes [] log.now (takes_in history.now)
-        × AreOwn node log.now history.now)) }
+        ↔ (AreSent log.now (map (λ line. map (λ wire. message_of wire.now) line.now) lines.old) × Takes [] log.now (takes_in history.now))) }
 {
     if !are_sent(spare, lines, log)? {
-        return Ok(false);
-    }
-    if !are_own(node, log, history) {
         return Ok(false);
     }
     are_takes(spare, log, history)

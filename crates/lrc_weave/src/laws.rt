@@ -7,7 +7,7 @@ ghost use Rattle.lrc_protocol.specs.Node.{OptionsRecord};
 ghost use Rattle.lrc_protocol.specs.Run.{EntryRecord, World, Flying, run_of};
 ghost use Rattle.lrc_post.specs.Mailbox.{MailboxRecord};
 ghost use Rattle.lrc_weave.specs.Logs.{AreLogs};
-ghost use Rattle.lrc_weave.specs.Matched.{AreMatched};
+ghost use Rattle.lrc_weave.specs.Matched.{AreAlike};
 ghost use Rattle.lrc_weave.specs.Woven.{AreWoven};
 
 /// Of logs of a program's nodes, events that make all turns of the logs make a run with just these logs.
@@ -21,6 +21,6 @@ pub fn woven_events_make_the_run_of_the_logs()
 /// in its place. So they make a run with just these logs.
 pub fn logs_that_match_their_mailboxes_can_be_woven()
     ensures { (program : Program) (nodes : ℕ) (options : OptionsRecord) (logs : List (List EntryRecord)) (wires : List MailboxRecord)
-        → AreLogs program nodes options logs → AreMatched logs wires → length wires ≡ length logs
+        → AreLogs program nodes options logs → AreAlike logs wires → length wires ≡ length logs
         → (events : List Event) × (flight : List Flying) × AreWoven logs events flight }
 {}

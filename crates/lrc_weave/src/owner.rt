@@ -1,17 +1,30 @@
 // What a node does to its own mailbox, turn by turn.
 
-ghost use Rattle.std.specs.Prelude.{◌≡◌, ◌++◌, ◌∷◌, ◌↔◌, [], IsTrue, position};
+ghost use Rattle.std.specs.Prelude.{◌≡◌, ◌++◌, ◌∷◌, ◌↔◌, [], IsTrue, length, map, position};
 ghost use Rattle.lrc_node.specs.Logged.{seen_input};
-ghost use Rattle.lrc_weave.specs.Compared.{AreOwn, AreOwnNext, IsNextOwn};
+ghost use Rattle.lrc_weave.specs.Compared.{AreAllOwn, AreOwn, AreOwnNext, IsNextOwn};
 ghost use Rattle.lrc_weave.specs.Matched.{is_own, is_put, own_in, own_puts, own_takes};
 
 use lrc_envelope::Envelope;
 use lrc_node::{Entry, Input};
-use lrc_post::Wire;
+use lrc_post::{Mailbox, Wire};
 
-/// Whether the takes of a mailbox's history and the owner's puts stand there as the owner's turns made them: of each turn first the
-/// take of its message, then the puts of what it sends to the owner.
-pub(crate) fn are_own(owner: usize, log: &[Entry], history: &[Wire]) -> bool
+/// Whether in each mailbox, of which there is one for each node, the owner's takes and its puts stand as its turns made them.
+pub(crate) fn are_all_own(logs: &[Vec<Entry>], wires: &[Mailbox]) -> bool
+    requires each { length wires.now ≡ length logs.now }
+    ensures { IsTrue result ↔ AreAllOwn (map (λ log. log.items) logs.now) wires.now }
+{
+    for node in 0..logs.len() {
+        if !are_own(node, logs[node].as_slice(), wires[node].history()) {
+            return false;
+        }
+    }
+    true
+}
+
+// Whether the takes of a mailbox's history and the owner's puts stand there as the owner's turns made them: of each turn first the
+// take of its message, then the puts of what it sends to the owner.
+fn are_own(owner: usize, log: &[Entry], history: &[Wire]) -> bool
     ensures { IsTrue result ↔ AreOwn owner log.now history.now }
 {
     let mut rest = history;

@@ -9,16 +9,17 @@ ghost use Rattle.lrc_weave.specs.declared.fault.WeaveFault.TheVariants.{Mismatch
 ghost use Rattle.lrc_weave.specs.Events.{message_name, NotesTurn};
 ghost use Rattle.lrc_weave.specs.Further.{AreWovenWith, AreWovenWithout};
 ghost use Rattle.lrc_weave.specs.Logs.{AreLogs};
-ghost use Rattle.lrc_weave.specs.Matched.{AreMatched};
+ghost use Rattle.lrc_weave.specs.Matched.{AreAlike, AreMatched};
 ghost use Rattle.lrc_weave.specs.Sent.{AreTakesSent};
 ghost use Rattle.lrc_weave.specs.Whole.{MakesRun};
 ghost use Rattle.lrc_weave.specs.Woven.{AreWoven};
 
 use crate::again::all_again;
-use crate::compared::are_matched;
+use crate::compared::are_alike;
 use crate::events::{MessageName, event_of, turn};
 use crate::fault::WeaveFault;
 use crate::order::{first_stamps, next_turn, stamp_at};
+use crate::owner::are_all_own;
 use lrc_node::{Entry, Input};
 use lrc_post::Mailbox;
 use lrc_protocol::Event;
@@ -37,9 +38,9 @@ pub struct WovenRun {
 }
 
 /// The events that make all turns of the logs of a program's nodes, ordered by their stamps, and where those are the same by their
-/// nodes. A message's last take is delivered, and each one before it repeated. `Mismatch` exactly where the logs and the mailboxes,
-/// one for each node, tell of different messages, or of another order of what a node did; so it is where a log has a message that is
-/// too long to be written.
+/// nodes. A message's last take is delivered, and each one before it repeated. `Mismatch` exactly where, for some mailbox, of which there
+/// is one for each node, a sender's puts are not those of its log, or the takes are not those of the owner's log, with their stamps, in
+/// their order; so it is where a log has a message that is too long to be written.
 pub fn weave(
     alloc: Global,
     logs: &[Vec<Entry>],
@@ -47,19 +48,20 @@ pub fn weave(
 ) -> Result<Vec<Event>, WeaveFault>
     requires few { length logs.now ≤ 16 }
     requires each { length wires.now ≡ length logs.now }
-    ensures matched { IfOk result (λ events. AreMatched (map (λ log. log.items) logs.now) wires.now) }
+    ensures alike { IfOk result (λ events. AreAlike (map (λ log. log.items) logs.now) wires.now) }
     ensures woven { IfOk result (λ events. (program : Program) (nodes : ℕ) (options : OptionsRecord)
         → AreLogs program nodes options (map (λ log. log.items) logs.now)
         → (flight : List Flying) × AreWoven (map (λ log. log.items) logs.now) events.items flight) }
-    ensures mismatch { result ≡ Err Mismatch → AreMatched (map (λ log. log.items) logs.now) wires.now → ⊥ }
+    ensures mismatch { result ≡ Err Mismatch → AreAlike (map (λ log. log.items) logs.now) wires.now → ⊥ }
 {
-    match weave_run(alloc, logs, wires) {
+    match woven_run(alloc, logs, wires) {
         Ok(run) => Ok(run.events),
         Err(fault) => Err(fault),
     }
 }
 
-/// The run of the events that [`weave`] has for these logs, as the logs tell of it: nothing is played.
+/// The run of the events that [`weave`] has for these logs, as the logs tell of it: nothing is played. `Mismatch` exactly where `weave`
+/// answers it, and where a node's takes and its puts to itself do not stand in its mailbox as its turns made them.
 pub fn weave_run(
     alloc: Global,
     logs: &[Vec<Entry>],
@@ -76,7 +78,26 @@ pub fn weave_run(
         → MakesRun program nodes options (map (λ log. log.items) logs.now) run.events.items run.acts.items run.in_flight) }
     ensures mismatch { result ≡ Err Mismatch → AreMatched (map (λ log. log.items) logs.now) wires.now → ⊥ }
 {
-    if !are_matched(alloc, logs, wires)? {
+    if !are_all_own(logs, wires) {
+        return Err(WeaveFault::Mismatch);
+    }
+    woven_run(alloc, logs, wires)
+}
+
+// The same, however a node's takes stand among its puts to itself.
+fn woven_run(alloc: Global, logs: &[Vec<Entry>], wires: &[Mailbox]) -> Result<WovenRun, WeaveFault>
+    requires few { length logs.now ≤ 16 }
+    requires each { length wires.now ≡ length logs.now }
+    ensures alike { IfOk result (λ run. AreAlike (map (λ log. log.items) logs.now) wires.now) }
+    ensures woven { IfOk result (λ run. (program : Program) (nodes : ℕ) (options : OptionsRecord)
+        → AreLogs program nodes options (map (λ log. log.items) logs.now)
+        → (flight : List Flying) × AreWoven (map (λ log. log.items) logs.now) run.events.items flight) }
+    ensures makes { IfOk result (λ run. (program : Program) (nodes : ℕ) (options : OptionsRecord)
+        → AreLogs program nodes options (map (λ log. log.items) logs.now)
+        → MakesRun program nodes options (map (λ log. log.items) logs.now) run.events.items run.acts.items run.in_flight) }
+    ensures mismatch { result ≡ Err Mismatch → AreAlike (map (λ log. log.items) logs.now) wires.now → ⊥ }
+{
+    if !are_alike(alloc, logs, wires)? {
         return Err(WeaveFault::Mismatch);
     }
     match run_of_logs(alloc, logs) {

@@ -1,6 +1,6 @@
 -- What is said of a run in brief.
-use Rattle.std.proofs.Common.{◌≡◌, ◌∙◌, ℕ, List, Result, Ok, sym, ap, subst}
-use Rattle.std.specs.Prelude.{IfOk, MatchOption}
+use Rattle.std.proofs.Common.{◌≡◌, ◌∙◌, ℕ, List, sym, ap, subst}
+use Rattle.std.specs.Prelude.{MatchOption, Some}
 use Rattle.lrc_lang.specs.declared.program.Program.{Program}
 use Rattle.lrc_trace.specs.Conflict.{IsFirstRace, IsRaceFree}
 use Rattle.lrc_judge.specs.Races.{AreNamedRaces}
@@ -10,15 +10,13 @@ use Rattle.lrc_world.specs.declared.keep.Keep.{Keep}
 use Rattle.lrc_world.specs.declared.report.Brief.{Brief}
 use Rattle.lrc_world.specs.declared.report.Report.{Report}
 use Rattle.lrc_world.specs.Promises.{AreKept}
-use Rattle.lrc_world.specs.Report.{IsBriefOf, IsKeptReportOf}
-
--- what holds of what is answered
-pub ok_of : {X E : Type 0} (P : X → Type 0) (r : Result X E) (x : X) → r ≡ Ok x → IfOk r P → P x
-ok_of P r x e h = subst (λ r. IfOk r P) e h
+use Rattle.lrc_protocol.specs.Run.{World as Run, run_of}
+use Rattle.lrc_world.specs.Report.{IsBriefOf, IsKeptReport}
 
 module _ (program : Program) (nodes : ℕ) (options : OptionsRecord) (events : List Event) (report : Report) (brief : Brief)
     (acts : brief.acts ≡ report.acts) (ends : brief.ends ≡ report.ends) where
-  pub brief_report : (keep : Keep) → brief.first_race ≡ report.first_race → IsKeptReportOf keep program nodes options events report
+  pub brief_report : (keep : Keep) → brief.first_race ≡ report.first_race
+      → (run : Run) × (run_of program nodes options events ≡ Some run) × IsKeptReport keep report run
       → IsBriefOf program nodes options events brief
   brief_report keep first is = (
     is.0,

@@ -12,7 +12,7 @@ use Rattle.lrc_trace.proofs.Positions.{slice_get-front}
 use Rattle.lrc_protocol.specs.declared.event.Event.{Event}
 use Rattle.lrc_protocol.specs.declared.event.Event.TheVariants as events
 use Rattle.lrc_protocol.specs.Run.{World as Run}
-use Rattle.lrc_world.specs.declared.report.SimFault.{SimFault}
+use Rattle.lrc_world.specs.declared.report.TurnFault.{TurnFault}
 use Rattle.lrc_world.specs.declared.report.TheConstants.{MOST_EVENTS}
 use Rattle.lrc_world.specs.declared.rounds.Driver.{Driver}
 use Rattle.lrc_world.specs.declared.world.World.{World}
@@ -78,7 +78,7 @@ idle_where nodes number world none = λ starts run shows count.
 
 -- ---- an event more
 
-pub wanders_on : (nodes seed state after number : ℕ) (event : Event) (old new : Driver) (result : Result (Unit {0}) SimFault) → after ≡ next_state state
+pub wanders_on : (nodes seed state after number : ℕ) (event : Event) (old new : Driver) (result : Result (Unit {0}) TurnFault) → after ≡ next_state state
     → number ≡ drawn_number after
     → ((starts : Starts) (run : Run) → Shows starts old.world run → Some event ≡ drawn_event nodes number run)
     → PlaysOne old new event result ⊎ IsFull old new result → DrivesTo (wandering nodes seed) state after old new result

@@ -11,8 +11,8 @@ use Rattle.lrc_protocol.specs.declared.event.Event.{Event}
 use Rattle.lrc_protocol.specs.declared.event.Event.TheVariants as events
 use Rattle.lrc_protocol.specs.Turn.{is_ready}
 use Rattle.lrc_protocol.specs.Run.{Logged, World as Run, step_of, played}
-use Rattle.lrc_world.specs.declared.report.SimFault.{SimFault}
-use Rattle.lrc_world.specs.declared.report.SimFault.TheVariants.{BadNodes, BadSteps, Worn, NoMemory}
+use Rattle.lrc_world.specs.declared.report.TurnFault.{TurnFault}
+use Rattle.lrc_world.specs.declared.report.TurnFault.TheVariants.{Worn, NoMemory}
 use Rattle.lrc_world.specs.declared.report.TheConstants.{MOST_EVENTS}
 use Rattle.lrc_world.specs.declared.rounds.Driver.{Driver}
 use Rattle.lrc_world.specs.declared.world.World.{World}
@@ -36,23 +36,19 @@ module _ (s : Schedule) where
     more = omega (arith, g.more, h.more);
   }
 
-  pub goes-after : (from mid to : s.Standing) (a b c : Driver) (result : Result (Unit {0}) SimFault) → IsDrivenOn s from mid a b → DrivesTo s mid to b c result
+  pub goes-after : (from mid to : s.Standing) (a b c : Driver) (result : Result (Unit {0}) TurnFault) → IsDrivenOn s from mid a b → DrivesTo s mid to b c result
       → DrivesTo s from to a c result
   goes-after from mid to a b c (Ok u) g h = goes-twice from mid to a b c g h
   goes-after from mid to a b c (Err Worn) g h = λ starts start d. h starts start (g.drives starts start d)
   goes-after from mid to a b c (Err NoMemory) g h = tt
-  goes-after from mid to a b c (Err BadNodes) g h = λ starts start d. h starts start (g.drives starts start d)
-  goes-after from mid to a b c (Err BadSteps) g h = λ starts start d. h starts start (g.drives starts start d)
 
   -- it may end elsewhere where it comes to a fault
-  other_end : (from to end : s.Standing) (a b : Driver) (fault : SimFault) → DrivesTo s from to a b (Err fault) → DrivesTo s from end a b (Err fault)
+  other_end : (from to end : s.Standing) (a b : Driver) (fault : TurnFault) → DrivesTo s from to a b (Err fault) → DrivesTo s from end a b (Err fault)
   other_end from to end a b Worn h = h
   other_end from to end a b NoMemory h = h
-  other_end from to end a b BadNodes h = h
-  other_end from to end a b BadSteps h = h
 
   -- a fault that is handed on is one met before
-  pub fails-after : (from mid to end : s.Standing) (a b c : Driver) (fault : SimFault) (result : Result (Unit {0}) SimFault)
+  pub fails-after : (from mid to end : s.Standing) (a b c : Driver) (fault : TurnFault) (result : Result (Unit {0}) TurnFault)
       → IsErrAnd result (λ f. f ≡ fault) → IsDrivenOn s from mid a b → DrivesTo s mid to b c (Err fault) → DrivesTo s from end a c result
   fails-after from mid to end a b c fault (Ok u) is g h = absurd is
   fails-after from mid to end a b c fault (Err f) is g h =
@@ -69,15 +65,6 @@ module _ (s : Schedule) where
     shows = subst (λ w. Shows starts w start) (sym is) shows;
     here = inl refl;
   }
-
-  -- what is driven is not out of range
-  pub in_range : (from to : s.Standing) (old new : Driver) (starts : Starts) (start : Run) (fault : SimFault) → DriverStandsAt s starts start from old
-      → DrivesTo s from to old new (Err fault)
-      → (fault ≡ BadNodes → ⊥) × (fault ≡ BadSteps → ⊥)
-  in_range from to old new starts start BadNodes d g = absurd (g starts start d)
-  in_range from to old new starts start BadSteps d g = absurd (g starts start d)
-  in_range from to old new starts start Worn d g = (λ e. cc, λ e. cc)
-  in_range from to old new starts start NoMemory d g = (λ e. cc, λ e. cc)
 
   -- events that are led so are played
   pub led_played : (start : Run) (events : List Event) (run : Run) (at : s.Standing) → Led s start events run at → played start events ≡ Some run
@@ -159,7 +146,7 @@ module _ (s : Schedule) where
       more = let long = ap length p.events ∙ length_push old.events.items event in omega (arith, long);
     }
 
-    plays_by : (result : Result (Unit {0}) SimFault) → PlaysOne old new event result → DrivesTo s from to old new result
+    plays_by : (result : Result (Unit {0}) TurnFault) → PlaysOne old new event result → DrivesTo s from to old new result
     plays_by (Ok u) p = plays_ok u p
     plays_by (Err Worn) p = λ starts start d. record {
       before = old.events.items;
@@ -173,8 +160,6 @@ module _ (s : Schedule) where
       wears = p.plays starts d.run d.shows;
     }
     plays_by (Err NoMemory) p = tt
-    plays_by (Err BadNodes) p = λ starts start d. p.plays starts d.run d.shows
-    plays_by (Err BadSteps) p = λ starts start d. p.plays starts d.run d.shows
 
     stays_full : MOST_EVENTS ≤ length old.events.items → IsDrivenOn s from to old old
     stays_full full = record {
@@ -183,7 +168,7 @@ module _ (s : Schedule) where
       more = omega arith;
     }
 
-    pub goes_by : (result : Result (Unit {0}) SimFault) → PlaysOne old new event result ⊎ IsFull old new result → DrivesTo s from to old new result
+    pub goes_by : (result : Result (Unit {0}) TurnFault) → PlaysOne old new event result ⊎ IsFull old new result → DrivesTo s from to old new result
     goes_by result either =
         ⊎_elim
         (plays_by result)
@@ -197,7 +182,7 @@ pub still-after : (a b c : Driver) → length a.events.items ≤ length b.events
 still-after a b c g s = record { none = omega (arith, s.none, g); room = s.room }
 
 -- where an event was played there is one more, or no room
-pub moved : (old new : Driver) (event : Event) (result : Result (Unit {0}) SimFault) → PlaysOne old new event result ⊎ IsFull old new result
+pub moved : (old new : Driver) (event : Event) (result : Result (Unit {0}) TurnFault) → PlaysOne old new event result ⊎ IsFull old new result
     → OnOk result (IsStill old new → ⊥)
 moved old new event (Ok u) either = λ s.
     ⊎_elim
@@ -247,12 +232,12 @@ module _ (picker : Picker) (nodes : ℕ) where
   pub next_round : (d : Driver) → IsDrivenOn (schedule_of_rounds picker nodes) (delivering zero) (at_node zero) d d
   next_round d = passes_on (schedule_of_rounds picker nodes) (delivering zero) (at_node zero) d (λ starts run shows. all_delivered)
 
-  pub closes_round : (from : _) (a b : Driver) (result : Result (Unit {0}) SimFault) → DrivesTo (schedule_of_rounds picker nodes) from (delivering zero) a b result
+  pub closes_round : (from : _) (a b : Driver) (result : Result (Unit {0}) TurnFault) → DrivesTo (schedule_of_rounds picker nodes) from (delivering zero) a b result
       → DrivesTo (schedule_of_rounds picker nodes) from (at_node zero) a b result
   closes_round from a b (Ok u) g = goes-twice (schedule_of_rounds picker nodes) from (delivering zero) (at_node zero) a b b g (next_round b)
   closes_round from a b (Err fault) g = other_end (schedule_of_rounds picker nodes) from (delivering zero) (at_node zero) a b fault g
 
-pub over_or_not : (s : Schedule) (from mid to : s.Standing) (a b c : Driver) (nodes : ℕ) (result : Result (Unit {0}) SimFault) → IsDrivenOn s from mid a b
+pub over_or_not : (s : Schedule) (from mid to : s.Standing) (a b c : Driver) (nodes : ℕ) (result : Result (Unit {0}) TurnFault) → IsDrivenOn s from mid a b
     → DrivesTo s mid to b c result
     → (IsStill a b → (b.world ≡ a.world) × NoneReady nodes a.world) → OnOk result (IsStill b c → (c.world ≡ b.world) × (b.world.flight.items ≡ []))
     → OnOk result (IsStill a c → NoneReady nodes c.world × (c.world.flight.items ≡ []))
@@ -289,13 +274,13 @@ idle_after nodes world still = λ starts run shows count.
     is_over nodes run count (λ n below. still.0 n below starts run shows)
     (none_long run.flight (omega (arith, same_length seen_flying seen_sent world.flight.items run.flight shows.flight, ap length still.1)))
 
-pub idle_if : (nodes : ℕ) (new : Driver) (result : Result (Unit {0}) SimFault)
+pub idle_if : (nodes : ℕ) (new : Driver) (result : Result (Unit {0}) TurnFault)
     → OnOk result (length new.events.items < MOST_EVENTS → NoneReady nodes new.world × (new.world.flight.items ≡ []))
     → OnOk result (length new.events.items < MOST_EVENTS → IsRunOver nodes new.world)
 idle_if nodes new (Ok u) over = λ few. idle_after nodes new.world (over few)
 idle_if nodes new (Err fault) over = tt
 
-module _ (picker : Picker) (nodes : ℕ) (old new : Driver) (event : Event) (result : Result (Unit {0}) SimFault)
+module _ (picker : Picker) (nodes : ℕ) (old new : Driver) (event : Event) (result : Result (Unit {0}) TurnFault)
     (either : PlaysOne old new event result ⊎ IsFull old new result) where
   -- one node more had its turn
   pub runs_one : (node : ℕ) → node < nodes → events.Run node ≡ event → ((starts : Starts) (run : Run) → Shows starts old.world run → ready_at run node ≡ true)

@@ -1,6 +1,6 @@
 -- One event more.
-use Rattle.std.proofs.Common.{◌≡◌, ◌∙◌, ℕ, ◌+◌, List, [], ◌∷◌, ◌++◌, Option, Some, Result, Ok, Err, IfErr, IsErrAnd, refl}
-use Rattle.std.proofs.Common.{◌↔◌, ◌⊎◌, inl, inr, Bool, true, sym, ap, subst, take, drop, zero, suc, arith, length, ◌≤◌, ◌<◌}
+use Rattle.std.proofs.Common.{◌≡◌, ◌∙◌, ℕ, ◌+◌, List, [], ◌∷◌, ◌++◌, Some, Result, Ok, Err, IfErr, IsErrAnd, refl}
+use Rattle.std.proofs.Common.{◌↔◌, Bool, true, sym, ap, subst, take, drop, zero, suc, arith, length, ◌≤◌, ◌<◌}
 use Rattle.std.specs.Prelude.{slice_get, slice_index_or}
 use Rattle.std.proofs.lemmas.List.Sums.{fold-append}
 use Rattle.lrc_lang.specs.declared.program.Program.{Program}
@@ -8,14 +8,12 @@ use Rattle.lrc_protocol.specs.declared.event.Event.{Event}
 use Rattle.lrc_protocol.specs.Node.{OptionsRecord}
 use Rattle.lrc_protocol.specs.Run.{World as Run, fresh_world, event_on, step_of, run_of}
 use Rattle.lrc_consistency_laws.proofs.Ahead.{take_ahead}
-use Rattle.lrc_exec.specs.Nodes.{AreNodes}
-use Rattle.lrc_world.specs.Range.{AreSteps}
 use Rattle.lrc_world.specs.declared.world.World.{World}
-use Rattle.lrc_world.specs.declared.report.SimFault.{SimFault}
-use Rattle.lrc_world.specs.declared.report.SimFault.TheVariants.{BadNodes, BadSteps, NoMemory, Worn}
+use Rattle.lrc_world.specs.declared.report.TurnFault.{TurnFault}
+use Rattle.lrc_world.specs.declared.report.TurnFault.TheVariants.{NoMemory, Worn}
 use Rattle.lrc_world.specs.declared.keep.Keep.{Keep}
 use Rattle.lrc_world.specs.World.{Starts, Shows, PlaysTo, starts_of}
-use Rattle.lrc_world.specs.Report.{AreAll, IsOver, IsWornBy}
+use Rattle.lrc_world.specs.Report.{AreAll, IsOver, IsWornBy, IsWornFault}
 
 -- the run of the events so far, which the world shows
 abbrev pub Runs : Keep → Program → ℕ → OptionsRecord → List Event → World → Type 0
@@ -32,7 +30,7 @@ module _ (program : Program) (nodes : ℕ) (options : OptionsRecord) (events : L
       ∙ fold-append step_of (Some (fresh_world program nodes options)) (take k events) (event ∷ [])
       ∙ ap (λ w. step_of w event) so_far
 
-  pub goes_on : (keep : Keep) (old new : World) (result : Result (Unit {0}) SimFault) (u : Unit {0})
+  pub goes_on : (keep : Keep) (old new : World) (result : Result (Unit {0}) TurnFault) (u : Unit {0})
       → Runs keep program nodes options (take k events) old
       → ((starts : Starts) (run : Run) → Shows starts old run → PlaysTo starts new (event_on run event) result) → result ≡ Ok u
       → Runs keep program nodes options (take (k + 1) events) new
@@ -47,7 +45,7 @@ split_at (y ∷ xs) zero x at = let same : y ≡ x = cc in ap (λ z. z ∷ xs) s
 split_at (y ∷ xs) (suc k) x at = ap (λ more. y ∷ more) (split_at xs k x at)
 
 pub wears_out : (program : Program) (nodes : ℕ) (options : OptionsRecord) (events : List Event) (k : ℕ) (event : Event) → slice_get events k ≡ Some event
-    → (keep : Keep) (old new : World) (result : Result (Unit {0}) SimFault) → Runs keep program nodes options (take k events) old
+    → (keep : Keep) (old new : World) (result : Result (Unit {0}) TurnFault) → Runs keep program nodes options (take k events) old
     → ((starts : Starts) (run : Run) → Shows starts old run → PlaysTo starts new (event_on run event) result) → result ≡ Err Worn
     → IsWornBy program nodes options events
 wears_out program nodes options events k event at keep old new result runs plays worn = record {
@@ -61,56 +59,16 @@ wears_out program nodes options events k event at keep old new result runs plays
       subst (PlaysTo (starts_of program nodes options keep) new (event_on runs.0 event)) worn (plays (starts_of program nodes options keep) runs.0 runs.2);
 }
 
--- what is played is not out of range
-pub plays_in_range : (starts : Starts) (new : World) (outcome : Option Run) (fault : SimFault) → PlaysTo starts new outcome (Err fault)
-    → (fault ≡ BadNodes → ⊥) × (fault ≡ BadSteps → ⊥)
-plays_in_range starts new outcome BadNodes plays = absurd plays
-plays_in_range starts new outcome BadSteps plays = absurd plays
-plays_in_range starts new outcome Worn plays = (λ e. cc, λ e. cc)
-plays_in_range starts new outcome NoMemory plays = (λ e. cc, λ e. cc)
+-- why the events are not played, where one of them is not
+pub faults_at : (program : Program) (nodes : ℕ) (options : OptionsRecord) (events : List Event) (k : ℕ) (event : Event) → slice_get events k ≡ Some event
+    → (keep : Keep) (old new : World) (fault : TurnFault) → Runs keep program nodes options (take k events) old
+    → ((starts : Starts) (run : Run) → Shows starts old run → PlaysTo starts new (event_on run event) (Err fault))
+    → IsWornFault (IsWornBy program nodes options events) fault
+faults_at program nodes options events k event at keep old new Worn runs plays =
+    wears_out program nodes options events k event at keep old new (Err Worn) runs plays refl
+faults_at program nodes options events k event at keep old new NoMemory runs plays = tt
 
--- a fault that is handed on
-pub handed_on : {X : Type 0} (r : Result X SimFault) (fault other : SimFault) → IsErrAnd r (λ f. f ≡ fault) → r ≡ Err other → fault ≡ other
-handed_on (Ok x) fault other is e = absurd is
-handed_on (Err f) fault other is e = let same : f ≡ other = cc in sym is ∙ same
-
--- a fault of memory is no other one
-pub memory_only : {X : Type 0} (r : Result X SimFault) → IsErrAnd r (λ f. f ≡ NoMemory)
-    → (r ≡ Err BadNodes → ⊥) × (r ≡ Err BadSteps → ⊥) × (r ≡ Err Worn → ⊥)
-memory_only r is = (
-  λ e. let other : NoMemory ≡ BadNodes = handed_on r NoMemory BadNodes is e in cc,
-  λ e. let other : NoMemory ≡ BadSteps = handed_on r NoMemory BadSteps is e in cc,
-  λ e. let other : NoMemory ≡ Worn = handed_on r NoMemory Worn is e in cc,
-)
-
-is_err : {X : Type 0} (r : Result X SimFault) (fault : SimFault) → IsErrAnd r (λ f. f ≡ fault) → r ≡ Err fault
-is_err (Ok x) fault is = absurd is
-is_err (Err f) fault is = ap Err is
-
--- the fault of a number that is out of range
-abbrev pub IsOut : ℕ → ℕ → SimFault → Type 0
-IsOut nodes steps fault = ((fault ≡ BadNodes) × ¬ AreNodes nodes) ⊎ ((fault ≡ BadSteps) × AreNodes nodes × ¬ AreSteps steps)
-
-module _ {X : Type 0} (r : Result X SimFault) (nodes steps : ℕ) (fault : SimFault) (is : IsErrAnd r (λ f. f ≡ fault)) where
-  pub out_unworn : IsOut nodes steps fault → r ≡ Err Worn → ⊥
-  out_unworn (inl out) e = let other : BadNodes ≡ Worn = sym out.0 ∙ handed_on r fault Worn is e in cc
-  out_unworn (inr out) e = let other : BadSteps ≡ Worn = sym out.0 ∙ handed_on r fault Worn is e in cc
-
-  pub out_nodes : IsOut nodes steps fault → (r ≡ Err BadNodes) ↔ (¬ AreNodes nodes)
-  out_nodes (inl out) = (λ e. out.1, λ bad. is_err r fault is ∙ ap Err out.0)
-  out_nodes (inr out) = (
-    λ e. let other : BadSteps ≡ BadNodes = sym out.0 ∙ handed_on r fault BadNodes is e in cc,
-    λ bad. absurd (bad out.1),
-  )
-
-  pub out_steps : IsOut nodes steps fault → (r ≡ Err BadSteps) ↔ (AreNodes nodes × ¬ AreSteps steps)
-  out_steps (inl out) = (
-    λ e. let other : BadNodes ≡ BadSteps = sym out.0 ∙ handed_on r fault BadSteps is e in cc,
-    λ bad. absurd (out.1 bad.0),
-  )
-  out_steps (inr out) = (λ e. (out.1, out.2), λ bad. is_err r fault is ∙ ap Err out.0)
-
-pub fault_up : {X : Type 0} (r : Result X SimFault) (fault : SimFault) (P : SimFault → Type 0) → IsErrAnd r (λ f. f ≡ fault) → P fault → IfErr r P
+pub fault_up : {X : Type 0} (r : Result X TurnFault) (fault : TurnFault) (P : TurnFault → Type 0) → IsErrAnd r (λ f. f ≡ fault) → P fault → IfErr r P
 fault_up (Ok x) fault P is holds = tt
 fault_up (Err f) fault P is holds = subst P (sym is) holds
 

@@ -19,3 +19,5 @@ pub mod Moments
 pub mod Epochs
 pub mod Unskipped
 pub mod Walked
+pub mod Runs
+pub mod Ranges

@@ -20,8 +20,8 @@ use Rattle.lrc_world.proofs.Kept.{all_logged, kept_after, kept_set, replayed_aft
 use Rattle.lrc_world.proofs.NodeTurns.{not_none}
 use Rattle.std.proofs.lemmas.Option.{get_or_from_slice_get, same_Some, slice_get_within}
 use Rattle.lrc_world.specs.declared.world.World.{World}
-use Rattle.lrc_world.specs.declared.report.SimFault.{SimFault}
-use Rattle.lrc_world.specs.declared.report.SimFault.TheVariants.{BadNodes, BadSteps, Worn, NoMemory}
+use Rattle.lrc_world.specs.declared.report.TurnFault.{TurnFault}
+use Rattle.lrc_world.specs.declared.report.TurnFault.TheVariants.{Worn, NoMemory}
 use Rattle.lrc_world.specs.World.{Starts, cut, kept_node, trimmed, after_turn, Shows, PlaysTo, AddsTurn, AddsTo, NodeLogsLast, IsTurn, TurnsBy, TurnsTo, IsTaken}
 use Rattle.lrc_world.specs.World.{ReceivesTo, turn_made, Seen, seen_flying, seen_sent, shown_new, entry_is_long, log_is_long, sends_long}
 use Rattle.lrc_world.proofs.Lists.{map-map, map-both, map-get, none_of, none-set, some-set, none-end, set-set, some-end, same_length}
@@ -74,13 +74,11 @@ module _ (starts : Starts) (old mid new : World) (run : Run) (flight : List Sent
   long : entry_is_long entry ≡ true → sends_long (with_turn run flight n entry after) ≡ true
   long holds = some-set log_is_long run.nodes n l after there (ap (list_any entry_is_long) entered.log_is ∙ some-end entry_is_long l.log entry holds)
 
-  pub comes : (result : Result (Unit {0}) SimFault) → ((e : EntryRecord) → NodeLogsLast mid n e → AddsTo mid new n e result)
+  pub comes : (result : Result (Unit {0}) TurnFault) → ((e : EntryRecord) → NodeLogsLast mid n e → AddsTo mid new n e result)
       → PlaysTo starts new (with_input run flight n input came) result
   comes (Ok u) follows = (with_turn run flight n entry after, outcome_is, adds (follows entry last))
   comes (Err Worn) follows = inr (with_turn run flight n entry after, outcome_is, long (follows entry last))
   comes (Err NoMemory) follows = tt
-  comes (Err BadNodes) follows = follows entry last
-  comes (Err BadSteps) follows = follows entry last
 
 -- ---- where no message is delivered
 
@@ -120,7 +118,7 @@ whole starts old mid run n input came outcome shows turns =
 
 -- a node that is named goes on
 pub goes : (starts : Starts) (old mid new : World) (run : Run) (n : ℕ) (input : Input) (came : ℕ) (outcome : Result (Unit {0}) NodeFault)
-    (result : Result (Unit {0}) SimFault) → Shows starts old run → TurnsTo old.nodes.items mid.nodes.items n input came outcome
+    (result : Result (Unit {0}) TurnFault) → Shows starts old run → TurnsTo old.nodes.items mid.nodes.items n input came outcome
     → turn_made outcome ≡ Ok true → mid.flight ≡ old.flight → mid.acts ≡ old.acts → mid.keep ≡ old.keep → ((e : EntryRecord) → NodeLogsLast mid n e → AddsTo mid new n e result)
     → PlaysTo starts new (with_input run run.flight n input came) result
 goes starts old mid new run n input came outcome result shows turns made flight acts kept follows =
@@ -159,7 +157,7 @@ module _ (starts : Starts) (old mid : World) (run : Run) (n : ℕ) (input : Inpu
   rests_by (Some l) at (Err Failed) t e = cc
 
   fails_by : (o : Option Logged) → slice_get run.nodes n ≡ o → (outcome : Result (Unit {0}) NodeFault)
-      → TurnsBy old.nodes.items mid.nodes.items n input came o outcome → (fault : SimFault) → turn_made outcome ≡ Err fault
+      → TurnsBy old.nodes.items mid.nodes.items n input came o outcome → (fault : TurnFault) → turn_made outcome ≡ Err fault
       → PlaysTo starts mid After (Err fault)
   fails_by None at (Ok u) t fault e = cc
   fails_by None at (Err NotReady) t fault e = cc
@@ -182,8 +180,8 @@ module _ (starts : Starts) (old mid : World) (run : Run) (n : ℕ) (input : Inpu
       let r = rests_by (slice_get run.nodes n) refl outcome (whole starts old mid run n input came outcome shows turns) made in
       (run, r.0, r.1)
 
-  pub fails : (outcome : Result (Unit {0}) NodeFault) → TurnsTo old.nodes.items mid.nodes.items n input came outcome → (fault : SimFault)
-      → turn_made outcome ≡ Err fault → (result : Result (Unit {0}) SimFault) → IsErrAnd result (λ f. f ≡ fault) → PlaysTo starts mid After result
+  pub fails : (outcome : Result (Unit {0}) NodeFault) → TurnsTo old.nodes.items mid.nodes.items n input came outcome → (fault : TurnFault)
+      → turn_made outcome ≡ Err fault → (result : Result (Unit {0}) TurnFault) → IsErrAnd result (λ f. f ≡ fault) → PlaysTo starts mid After result
   fails outcome turns fault made (Ok u) is = absurd is
   fails outcome turns fault made (Err f) is =
       subst (λ x. PlaysTo starts mid After (Err x)) (sym is)
@@ -209,7 +207,7 @@ sent_at items flight place f e within is = go (slice_get items place) refl (slic
         (sent, at, ap seen_flying same ∙ same_Some (seen_flying g) (seen_sent sent) x)
 
 -- what is received, by whether its node made a turn
-abbrev pub received : ℕ → Result Bool SimFault → Result (Option ℕ) SimFault
+abbrev pub received : ℕ → Result Bool TurnFault → Result (Option ℕ) TurnFault
 received to (Ok true) = Ok (Some to)
 received to (Ok false) = Ok None
 received to (Err fault) = Err fault
@@ -260,7 +258,7 @@ module _ (starts : Starts) (old mid : World) (run : Run) (place : ℕ) (sent : S
   receives (Some l) at (Err Failed) t = absurd t
 
 -- a message that was taken is out of flight, or marked, and its node's turn is added
-pub delivered : (starts : Starts) (old taking mid new : World) (run : Run) (place to : ℕ) (others : List Sent) (result : Result (Unit {0}) SimFault)
+pub delivered : (starts : Starts) (old taking mid new : World) (run : Run) (place to : ℕ) (others : List Sent) (result : Result (Unit {0}) TurnFault)
     → Shows starts old run → (t : IsTaken old taking run place to) → mid.nodes ≡ taking.nodes → mid.acts ≡ taking.acts → mid.keep ≡ taking.keep
     → map seen_flying mid.flight.items ≡ map seen_sent others
     → ((e : EntryRecord) → NodeLogsLast mid to e → AddsTo mid new to e result) → PlaysTo starts new (delivers run others (slice_get run.flight place)) result

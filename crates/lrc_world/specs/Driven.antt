@@ -2,12 +2,12 @@
 use Rattle.std.specs.Prelude.{◌≡◌, ◌⊎◌, ◌<◌, ◌≤◌, ℕ, false, [], ◌∷◌, ◌++◌, Result, Ok, Err, OnOk, length}
 use Rattle.lrc_protocol.specs.declared.event.Event.{Event}
 use Rattle.lrc_protocol.specs.Run.{World as Run, event_on}
-use Rattle.lrc_world.specs.declared.report.SimFault.{SimFault}
-use Rattle.lrc_world.specs.declared.report.SimFault.TheVariants.{Worn, NoMemory}
+use Rattle.lrc_world.specs.declared.report.TurnFault.{TurnFault}
+use Rattle.lrc_world.specs.declared.report.TurnFault.TheVariants.{Worn, NoMemory}
 use Rattle.lrc_world.specs.declared.report.TheConstants.{MOST_EVENTS}
 use Rattle.lrc_world.specs.declared.rounds.Driver.{Driver}
-use Rattle.lrc_world.specs.declared.rounds.Order.{Order}
-use Rattle.lrc_world.specs.declared.rounds.Order.TheVariants.{Rounds, Random}
+use Rattle.lrc_world.specs.declared.rounds.Lead.{Lead}
+use Rattle.lrc_world.specs.declared.rounds.Lead.TheVariants.{Rounds, Random}
 use Rattle.lrc_world.specs.declared.world.World.{World}
 use Rattle.lrc_world.specs.Led.{Schedule, Led, WearsOut}
 use Rattle.lrc_world.specs.Random.{wandering}
@@ -43,19 +43,18 @@ pub record IsDrivenOn (schedule : Schedule) (from to : schedule.Standing) (old n
   pub more : length old.events.items ≤ length new.events.items
 
 -- the same, or a number or a message was too large, or no memory is left
-abbrev pub DrivesTo : (schedule : Schedule) → schedule.Standing → schedule.Standing → Driver → Driver → Result (Unit {0}) SimFault → Type 0
+abbrev pub DrivesTo : (schedule : Schedule) → schedule.Standing → schedule.Standing → Driver → Driver → Result (Unit {0}) TurnFault → Type 0
 DrivesTo schedule from to old new (Ok done) = IsDrivenOn schedule from to old new
 DrivesTo schedule from to old new (Err Worn) = (starts : Starts) (start : Run) → DriverStandsAt schedule starts start from old → WearsOut schedule start
 DrivesTo schedule from to old new (Err NoMemory) = Unit {0}
-DrivesTo schedule from to old new (Err _) = (starts : Starts) (start : Run) → ¬ DriverStandsAt schedule starts start from old
 
 -- what leads a run of so many nodes in this order
-abbrev pub schedule_of : ℕ → Order → Schedule
+abbrev pub schedule_of : ℕ → Lead → Schedule
 schedule_of nodes (Rounds picker) = schedule_of_rounds picker nodes
 schedule_of nodes (Random seed) = wandering nodes seed
 
 -- from the beginning on it is driven to somewhere
-abbrev pub IsDrivenBy : Schedule → Driver → Driver → Result (Unit {0}) SimFault → Type 0
+abbrev pub IsDrivenBy : Schedule → Driver → Driver → Result (Unit {0}) TurnFault → Type 0
 IsDrivenBy schedule old new result = (to : schedule.Standing) × DrivesTo schedule schedule.first to old new result
 
 -- no event was added, though there was room for one
@@ -64,13 +63,13 @@ pub record IsStill (old new : Driver) : Type 0 where
   pub room : length new.events.items < MOST_EVENTS
 
 -- one event was added, and it was played, if there was room for it
-pub record PlaysOne (old new : Driver) (event : Event) (result : Result (Unit {0}) SimFault) : Type 0 where
+pub record PlaysOne (old new : Driver) (event : Event) (result : Result (Unit {0}) TurnFault) : Type 0 where
   pub room : length old.events.items < MOST_EVENTS
   pub events : OnOk result (new.events.items ≡ old.events.items ++ event ∷ [])
   pub plays : (starts : Starts) (run : Run) → Shows starts old.world run → PlaysTo starts new.world (event_on run event) result
 
 -- there was no room for it, and nothing changed
-pub record IsFull (old new : Driver) (result : Result (Unit {0}) SimFault) : Type 0 where
+pub record IsFull (old new : Driver) (result : Result (Unit {0}) TurnFault) : Type 0 where
   pub full : MOST_EVENTS ≤ length old.events.items
   pub same : new ≡ old
   pub ok : result ≡ Ok tt

@@ -1,6 +1,8 @@
 pub mod Range
+pub mod Setting
 pub mod Ends
 pub mod Report
+pub mod Runs
 pub mod World
 pub mod Led
 pub mod Rounds

@@ -12,6 +12,10 @@ use Rattle.lrc_control.specs.Text.{end_of}
 use Rattle.lrc_world.specs.declared.keep.Keep.{Keep}
 use Rattle.lrc_world.specs.declared.report.Brief.{Brief}
 use Rattle.lrc_world.specs.declared.report.Report.{Report}
+use Rattle.lrc_world.specs.declared.report.SimFault.{SimFault}
+use Rattle.lrc_world.specs.declared.report.SimFault.TheVariants as faults
+use Rattle.lrc_world.specs.declared.report.TurnFault.{TurnFault}
+use Rattle.lrc_world.specs.declared.report.TurnFault.TheVariants.{NoMemory, Worn}
 use Rattle.lrc_world.specs.World.{kept_log, sends_long}
 
 -- how a node ended
@@ -57,16 +61,22 @@ IsWornBy program nodes options events = IsWornFrom (fresh_world program nodes op
 abbrev pub WearsOutEarly : Program → ℕ → OptionsRecord → Type 0
 WearsOutEarly program nodes options = (events : List Event) × (length events ≤ 100000000) × IsWornBy program nodes options events
 
+-- the fault of a call that tests its ranges first
+abbrev pub of_turns : TurnFault → SimFault
+of_turns Worn = faults.Worn
+of_turns NoMemory = faults.NoMemory
+
+-- why there is no run: it wears out so, or memory ran out
+abbrev pub IsWornFault : (WearsOut : Type 0) → TurnFault → Type 0
+IsWornFault WearsOut Worn = WearsOut
+IsWornFault WearsOut NoMemory = Unit {0}
+
 -- the report is that of the program's run of these events
 abbrev pub IsReportOf : Program → ℕ → OptionsRecord → List Event → Report → Type 0
 IsReportOf program nodes options events report = (run : Run) × (run_of program nodes options events ≡ Some run) × IsReport report run
 
 abbrev pub IsBriefOf : Program → ℕ → OptionsRecord → List Event → Brief → Type 0
 IsBriefOf program nodes options events brief = (run : Run) × (run_of program nodes options events ≡ Some run) × IsBrief brief run
-
-abbrev pub IsKeptReportOf : Keep → Program → ℕ → OptionsRecord → List Event → Report → Type 0
-IsKeptReportOf keep program nodes options events report =
-    (run : Run) × (run_of program nodes options events ≡ Some run) × IsKeptReport keep report run
 
 -- no node is ready, and no message is in flight
 pub record IsOver (run : Run) : Type 0 where

@@ -22,8 +22,8 @@ use Rattle.lrc_node.specs.Logged.{TracedLog, newest, sound}
 use Rattle.lrc_world.specs.declared.flying.Flying.{Flying}
 use Rattle.lrc_world.specs.declared.keep.Keep.{Keep}
 use Rattle.lrc_world.specs.declared.keep.Keep.TheVariants.{All, Newest}
-use Rattle.lrc_world.specs.declared.report.SimFault.{SimFault}
-use Rattle.lrc_world.specs.declared.report.SimFault.TheVariants.{Worn, NoMemory}
+use Rattle.lrc_world.specs.declared.report.TurnFault.{TurnFault}
+use Rattle.lrc_world.specs.declared.report.TurnFault.TheVariants.{Worn, NoMemory}
 use Rattle.lrc_world.specs.declared.world.World.{World}
 
 -- ---- messages in flight
@@ -58,10 +58,9 @@ abbrev pub sends_long : Run → Bool
 sends_long run = list_any log_is_long run.nodes
 
 -- why messages are not sent: one of them is too long, or no memory is left
-abbrev pub IsSendFault : List EnvelopeRecord → SimFault → Type 0
+abbrev pub IsSendFault : List EnvelopeRecord → TurnFault → Type 0
 IsSendFault out Worn = list_any is_long out ≡ true
 IsSendFault out NoMemory = Unit {0}
-IsSendFault out _ = ⊥
 
 -- ---- worlds
 
@@ -102,11 +101,10 @@ pub record Shows (starts : Starts) (world : World) (run : Run) : Type 0 where
 
 -- What was played comes to this, if it comes to a run: the world shows it; or a number or a message was too large; or no memory
 -- is left.
-abbrev pub PlaysTo : Starts → World → Option Run → Result (Unit {0}) SimFault → Type 0
+abbrev pub PlaysTo : Starts → World → Option Run → Result (Unit {0}) TurnFault → Type 0
 PlaysTo starts new outcome (Ok done) = (run : Run) × (outcome ≡ Some run) × Shows starts new run
 PlaysTo starts new outcome (Err Worn) = (outcome ≡ None) ⊎ ((run : Run) × (outcome ≡ Some run) × (sends_long run ≡ true))
 PlaysTo starts new outcome (Err NoMemory) = Unit {0}
-PlaysTo starts new outcome (Err _) = ⊥
 
 -- the newest entry in a node's log is this
 abbrev pub NodeLogsLast : World → ℕ → EntryRecord → Type 0
@@ -121,14 +119,14 @@ pub record AddsTurn (old new : World) (n : ℕ) (entry : EntryRecord) : Type 0 w
   pub acts : new.acts.items ≡ old.acts.items ++ option_to_list entry.turn.act
   pub short : entry_is_long entry ≡ false
 
-abbrev pub AddsTo : World → World → ℕ → EntryRecord → Result (Unit {0}) SimFault → Type 0
+abbrev pub AddsTo : World → World → ℕ → EntryRecord → Result (Unit {0}) TurnFault → Type 0
 AddsTo old new n entry (Ok done) = AddsTurn old new n entry
 AddsTo old new n entry (Err fault) = IsSendFault entry.turn.out fault
 
 -- ---- turns
 
 -- whether a node made a turn, by what it answered
-abbrev pub turn_made : Result (Unit {0}) NodeFault → Result Bool SimFault
+abbrev pub turn_made : Result (Unit {0}) NodeFault → Result Bool TurnFault
 turn_made (Ok done) = Ok true
 turn_made (Err NotReady) = Ok false
 turn_made (Err Unexpected) = Ok false
@@ -186,9 +184,8 @@ pub record IsTaken (old new : World) (run : Run) (place to : ℕ) : Type 0 where
 
 -- What comes of the message at a place: nothing, where it is not there or not expected; a turn of its receiver; or a number too
 -- large; or no memory is left.
-abbrev pub ReceivesTo : Starts → World → World → Run → ℕ → Result (Option ℕ) SimFault → Type 0
+abbrev pub ReceivesTo : Starts → World → World → Run → ℕ → Result (Option ℕ) TurnFault → Type 0
 ReceivesTo starts old new run place (Ok None) = Shows starts new run × ((flight : List Sent) → delivers run flight (slice_get run.flight place) ≡ Some run)
 ReceivesTo starts old new run place (Ok (Some to)) = IsTaken old new run place to
 ReceivesTo starts old new run place (Err Worn) = (flight : List Sent) → delivers run flight (slice_get run.flight place) ≡ None
 ReceivesTo starts old new run place (Err NoMemory) = Unit {0}
-ReceivesTo starts old new run place (Err _) = ⊥

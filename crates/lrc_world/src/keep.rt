@@ -2,7 +2,7 @@
 
 /// What each node keeps of its log.
 #[derive(Clone, Copy)]
-pub(crate) enum Keep {
+pub enum Keep {
     /// All turns.
     All,
     /// The newest turn.

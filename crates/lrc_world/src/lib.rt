@@ -5,12 +5,14 @@
 pub mod ends;
 pub mod first;
 mod flying;
-mod keep;
+pub mod keep;
 pub mod laws;
 mod random;
 pub mod range;
 pub mod report;
 mod rounds;
+pub mod run;
+pub mod setting;
 pub mod simulate;
 pub mod turned;
 mod world;

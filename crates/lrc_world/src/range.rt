@@ -1,11 +1,11 @@
-// The range of what a run is asked for.
+// How many nodes a run has, where all that it is asked for is in range.
 
 ghost use Rattle.std.specs.Prelude.{◌≡◌, ◌⊎◌, MatchResult};
 ghost use Rattle.lrc_exec.specs.Nodes.{AreNodes};
-ghost use Rattle.lrc_world.specs.Range.{AreSteps};
+ghost use Rattle.lrc_setting.specs.Ranges.{AreSteps};
 
-use crate::report::{MOST_STEPS, SimFault};
-use lrc_envelope::MOST_NODES;
+use crate::report::SimFault;
+use crate::setting::setting_of;
 use lrc_node::Options;
 
 /// How many nodes there are, where all is in range.
@@ -15,11 +15,8 @@ pub fn node_count(nodes: u32, options: &Options) -> Result<u8, SimFault>
         (λ fault. ((fault ≡ SimFault.BadNodes) × ¬ AreNodes nodes)
         ⊎ ((fault ≡ SimFault.BadSteps) × AreNodes nodes × ¬ AreSteps options.now.steps)) }
 {
-    if nodes < 1 || nodes > u32::from(MOST_NODES) {
-        return Err(SimFault::BadNodes);
+    match setting_of(nodes, options) {
+        Ok(setting) => Ok(setting.nodes.number()),
+        Err(fault) => Err(fault),
     }
-    if options.steps < 1 || options.steps > MOST_STEPS {
-        return Err(SimFault::BadSteps);
-    }
-    Ok(nodes as u8)
 }

@@ -1,7 +1,9 @@
 // What a run answers.
 
 ghost use Rattle.std.specs.Prelude.{◌≡◌};
-ghost use Rattle.lrc_world.specs.declared.report.SimFault.TheVariants.{NoMemory};
+ghost use Rattle.lrc_world.specs.Report.{of_turns};
+ghost use Rattle.lrc_world.specs.declared.report.SimFault.TheVariants as faults;
+ghost use Rattle.lrc_world.specs.declared.report.TurnFault.TheVariants.{NoMemory};
 
 use lrc_node::{End, Entry};
 use lrc_trace::act::Act;
@@ -83,7 +85,7 @@ pub enum SimFault {
 }
 
 impl From<AllocError> for SimFault {
-    ghost from_gives = { λ _ e. e ≡ NoMemory };
+    ghost from_gives = { λ _ e. e ≡ faults.NoMemory };
 
     fn from(_: AllocError) -> Self {
         SimFault::NoMemory
@@ -91,9 +93,47 @@ impl From<AllocError> for SimFault {
 }
 
 impl<T: Drop> From<AllocFailed<T>> for SimFault {
-    ghost from_gives = { λ _ e. e ≡ NoMemory };
+    ghost from_gives = { λ _ e. e ≡ faults.NoMemory };
 
     fn from(_: AllocFailed<T>) -> Self {
         SimFault::NoMemory
+    }
+}
+
+impl From<TurnFault> for SimFault {
+    ghost from_gives = { λ fault e. e ≡ of_turns fault };
+
+    fn from(fault: TurnFault) -> Self {
+        match fault {
+            TurnFault::Worn => SimFault::Worn,
+            TurnFault::NoMemory => SimFault::NoMemory,
+        }
+    }
+}
+
+/// Why turns are not made.
+#[derive(Clone, Copy, Debug, PartialEq, Eq, Error)]
+pub enum TurnFault {
+    /// A message number, an interval's index, a stamp or the length of a message would pass its limit.
+    #[error("message numbers used up")]
+    Worn,
+    /// Memory ran out.
+    #[error("out of memory")]
+    NoMemory,
+}
+
+impl From<AllocError> for TurnFault {
+    ghost from_gives = { λ _ e. e ≡ NoMemory };
+
+    fn from(_: AllocError) -> Self {
+        TurnFault::NoMemory
+    }
+}
+
+impl<T: Drop> From<AllocFailed<T>> for TurnFault {
+    ghost from_gives = { λ _ e. e ≡ NoMemory };
+
+    fn from(_: AllocFailed<T>) -> Self {
+        TurnFault::NoMemory
     }
 }

@@ -1,27 +1,21 @@
 // A run in rounds, or in a random order.
 
-ghost use Rattle.std.specs.Prelude.{◌≡◌, ◌⊎◌, ℕ, ◌+◌, ◌<◌, ◌≤◌, [], All, IfOk, OnOk, length, map};
-ghost use Rattle.lrc_race.specs.Races.{AreRacesOf, AreTracesOf};
-ghost use Rattle.lrc_judge.specs.declared.TheConstants.{NODES};
-ghost use Rattle.lrc_protocol.specs.Run.{World as Run};
-ghost use Rattle.lrc_world.specs.Report.{IsKeptReport};
-ghost use Rattle.lrc_trace.specs.Conflict.{IsRaceFree};
+ghost use Rattle.std.specs.Prelude.{◌≡◌, ◌⊎◌, ℕ, ◌+◌, ◌<◌, ◌≤◌, [], OnOk, length};
 ghost use Rattle.lrc_world.specs.Driven.{DrivesTo, IsAsleep, IsDrivenBy, IsFull, IsRunOver, IsStill, NoneReady, PlaysOne, schedule_of};
 ghost use Rattle.lrc_world.specs.Random.{wandering};
 ghost use Rattle.lrc_world.specs.Rounds.{at_node, delivering, schedule_of_rounds};
 ghost use Rattle.lrc_envelope.specs.declared.picker.Picker.{Picker as AnyPicker};
-ghost use Rattle.lrc_world.specs.World.{Starts, Shows};
 
 use crate::random::Random;
-use crate::report::{MOST_EVENTS, Report, SimFault};
+use crate::report::{MOST_EVENTS, TurnFault};
 use crate::world::World;
 use lrc_envelope::Picker;
 use lrc_protocol::Event;
-use std::alloc::{AllocError, Global};
+use std::alloc::Global;
 
-/// In which order a run goes on.
+/// What leads a run whose events are not given.
 #[derive(Clone, Copy)]
-pub(crate) enum Order {
+pub(crate) enum Lead {
     /// In rounds, in which the messages are delivered that the picker says.
     Rounds(Picker),
     /// At random, from this seed.
@@ -31,8 +25,8 @@ pub(crate) enum Order {
 /// All nodes with the messages in flight, and the events so far.
 #[derive(Drop)]
 pub(crate) struct Driver<'c> {
-    world: World<'c>,
-    events: Vec<Event>,
+    pub(crate) world: World<'c>,
+    pub(crate) events: Vec<Event>,
 }
 
 impl<'c> Driver<'c> {
@@ -48,33 +42,19 @@ impl<'c> Driver<'c> {
     }
 
     /// Goes on in this order, until nothing is left to do or there are as many events as there may be.
-    pub(crate) fn lead(&mut self, nodes: u8, order: Order) -> Result<(), SimFault>
+    pub(crate) fn lead(&mut self, nodes: u8, lead: Lead) -> Result<(), TurnFault>
         requires { self.old.events.items ≡ [] }
-        ensures goes { IsDrivenBy (schedule_of nodes order) self.old self.new result }
+        ensures goes { IsDrivenBy (schedule_of nodes lead) self.old self.new result }
         ensures over { OnOk result (length self.new.events.items < MOST_EVENTS → IsRunOver nodes self.new.world) }
     {
-        match order {
-            Order::Rounds(picker) => self.drive(nodes, picker),
-            Order::Random(seed) => self.wander(nodes, seed),
+        match lead {
+            Lead::Rounds(picker) => self.drive(nodes, picker),
+            Lead::Random(seed) => self.wander(nodes, seed),
         }
     }
 
-    /// The events, and what is reported of the run.
-    pub(crate) fn report(self) -> Result<(Vec<Event>, Report), AllocError>
-        requires acts { All (λ act. act.node < NODES) self.world.acts.items }
-        requires traces { (nodes : ℕ) × AreTracesOf nodes (map (λ node. node.trace) self.world.nodes.items) }
-        requires raceless { AreRacesOf (map (λ node. node.trace) self.world.nodes.items) [] → IsRaceFree self.world.acts.items }
-        ensures events { IfOk result (λ done. done.0 ≡ self.entry.events) }
-        ensures report { IfOk result (λ done. (starts : Starts) (run : Run) → Shows starts self.entry.world run → IsKeptReport starts.keep done.1 run) }
-        ensures races { IfOk result (λ done. AreRacesOf (map (λ node. node.trace) self.entry.world.nodes.items) done.1.races.items) }
-    {
-        let Driver { world, events } = self;
-        let report = world.report()?;
-        Ok((events, report))
-    }
-
     // Goes on round by round, until one has no event or there are as many events as there may be.
-    fn drive(&mut self, nodes: u8, picker: Picker) -> Result<(), SimFault>
+    fn drive(&mut self, nodes: u8, picker: Picker) -> Result<(), TurnFault>
         requires { length self.old.events.items ≤ MOST_EVENTS }
         ensures goes { DrivesTo (schedule_of_rounds picker nodes) (at_node 0) (at_node 0) self.old self.new result }
         ensures over { OnOk result (length self.new.events.items < MOST_EVENTS
@@ -91,7 +71,7 @@ impl<'c> Driver<'c> {
 
     // Goes on event by event, each of them the one that the next random number says, until nothing is left to do or there are as
     // many events as there may be.
-    fn wander(&mut self, nodes: u8, seed: u64) -> Result<(), SimFault>
+    fn wander(&mut self, nodes: u8, seed: u64) -> Result<(), TurnFault>
         requires { self.old.events.items ≡ [] }
         ensures goes { IsDrivenBy (wandering nodes seed) self.old self.new result }
         ensures over { OnOk result (length self.new.events.items < MOST_EVENTS → IsRunOver nodes self.new.world) }
@@ -107,7 +87,7 @@ impl<'c> Driver<'c> {
     }
 
     // Each ready node goes on, and then as many messages are delivered as are in flight.
-    fn round(&mut self, nodes: u8, picker: Picker) -> Result<(), SimFault>
+    fn round(&mut self, nodes: u8, picker: Picker) -> Result<(), TurnFault>
         ensures goes { DrivesTo (schedule_of_rounds picker nodes) (at_node 0) (at_node 0) self.old self.new result }
         ensures over { OnOk result (IsStill self.old self.new → NoneReady nodes self.new.world × (self.new.world.flight.items ≡ [])) }
     {
@@ -116,7 +96,7 @@ impl<'c> Driver<'c> {
     }
 
     // Each ready node goes on once, from node 0 up, as far as there is room for events.
-    fn run_each(&mut self, nodes: u8) -> Result<(), SimFault>
+    fn run_each(&mut self, nodes: u8) -> Result<(), TurnFault>
         ensures goes { (picker : AnyPicker) → DrivesTo (schedule_of_rounds picker nodes) (at_node 0) (at_node nodes) self.old self.new result }
         ensures still { OnOk result (IsStill self.old self.new → (self.new.world ≡ self.old.world) × NoneReady nodes self.old.world) }
     {
@@ -127,7 +107,7 @@ impl<'c> Driver<'c> {
     }
 
     // The node goes on, if it is ready and there is room for an event.
-    fn run_if_ready(&mut self, node: u8) -> Result<(), SimFault>
+    fn run_if_ready(&mut self, node: u8) -> Result<(), TurnFault>
         ensures goes { (picker : AnyPicker) (nodes : ℕ) → node < nodes
             → DrivesTo (schedule_of_rounds picker nodes) (at_node node) (at_node (node + 1)) self.old self.new result }
         ensures still { OnOk result (IsStill self.old self.new → (self.new.world ≡ self.old.world) × IsAsleep node self.old.world) }
@@ -140,7 +120,7 @@ impl<'c> Driver<'c> {
 
     // As many messages are delivered as are in flight, each of them the one that the picker says, as far as there is room for
     // events.
-    fn deliver_each(&mut self, picker: Picker) -> Result<(), SimFault>
+    fn deliver_each(&mut self, picker: Picker) -> Result<(), TurnFault>
         ensures goes { (nodes : ℕ) → DrivesTo (schedule_of_rounds picker nodes) (at_node nodes) (delivering 0) self.old self.new result }
         ensures still { OnOk result (IsStill self.old self.new → (self.new.world ≡ self.old.world) × (self.old.world.flight.items ≡ [])) }
     {
@@ -153,7 +133,7 @@ impl<'c> Driver<'c> {
     }
 
     // Plays an event, if there is room for it.
-    fn play(&mut self, event: Event) -> Result<(), SimFault>
+    fn play(&mut self, event: Event) -> Result<(), TurnFault>
         ensures { PlaysOne self.old self.new event result ⊎ IsFull self.old self.new result }
     {
         if self.events.len() >= MOST_EVENTS {

@@ -1,25 +1,21 @@
-// Runs of a program, by a list of events, in rounds or in a random order.
+// Runs of a program by numbers that may be out of range: by a list of events, in rounds or in a random order.
 
 ghost use Rattle.std.specs.Prelude.{◌≡◌, ◌<◌, ◌≤◌, ◌↔◌, length, IfOk, Err, true};
 ghost use Rattle.lrc_judge.specs.Races.{AreNamedRaces};
 ghost use Rattle.lrc_exec.specs.Nodes.{AreNodes};
-ghost use Rattle.lrc_protocol.specs.Run.{fresh_world};
-ghost use Rattle.lrc_world.specs.Driven.{schedule_of};
-ghost use Rattle.lrc_world.specs.Led.{AreLed, WearsOut};
+ghost use Rattle.lrc_setting.specs.Ranges.{AreSteps};
 ghost use Rattle.lrc_world.specs.Random.{IsWandering, WanderingWearsOut};
-ghost use Rattle.lrc_world.specs.Range.{AreSteps};
 ghost use Rattle.lrc_world.specs.Promises.{AreKept};
-ghost use Rattle.lrc_world.specs.Report.{AreAll, IsBriefOf, IsKeptReportOf, IsReportOf, IsWornBy, WearsOutEarly};
+ghost use Rattle.lrc_world.specs.Report.{AreAll, IsBriefOf, IsReportOf, IsWornBy, WearsOutEarly};
 ghost use Rattle.lrc_world.specs.Rounds.{AreRounds, RoundsWearOut};
+ghost use Rattle.lrc_world.specs.Runs.{IsRunIn, WearsOutIn};
 ghost use Rattle.lrc_world.specs.Turned.{AreAllTurned};
 
 use crate::keep::Keep;
-use crate::range::node_count;
 use crate::report::{Brief, Report, SimFault, brief_of};
-use crate::rounds::{Driver, Order};
-use crate::world::World;
+use crate::run::{Order, Run, run_in};
+use crate::setting::setting_of;
 use lrc_envelope::Picker;
-use lrc_exec::code::Code;
 use lrc_lang::program::Program;
 use lrc_node::Options;
 use lrc_protocol::Event;
@@ -50,34 +46,15 @@ pub fn simulate(
     ensures bad_nodes { (result ≡ Err SimFault.BadNodes) ↔ (¬ AreNodes nodes) }
     ensures bad_steps { (result ≡ Err SimFault.BadSteps) ↔ (AreNodes nodes × ¬ AreSteps options.now.steps) }
 {
-    match replay(alloc, program, nodes, options, events) {
-        Ok((report, _is_over)) => Ok(report),
+    let order = Order::Events(events);
+    match run_checked(alloc, program, nodes, options, order, Keep::All) {
+        Ok(run) => Ok(run.report),
         Err(fault) => Err(fault),
     }
 }
 
-/// The report that [`simulate`] has for these events, and whether nothing is left to do after them: no node is ready, and no
-/// message is in flight.
-pub fn replay(
-    alloc: Global,
-    program: &Program,
-    nodes: u32,
-    options: &Options,
-    events: &[Event],
-) -> Result<(Report, bool), SimFault>
-    ensures report { IfOk result (λ done. IsReportOf program.now nodes options.now events.now done.0) }
-    ensures races { IfOk result (λ done. AreNamedRaces done.0.acts.items done.0.races.items) }
-    ensures kept { IfOk result (λ done. AreKept program.now nodes options.now events.now done.0.acts.items done.0.ends.items) }
-
-    ensures over { IfOk result (λ done. (done.1 ≡ true) ↔ AreAll program.now nodes options.now events.now) }
-    ensures worn { result ≡ Err SimFault.Worn → IsWornBy program.now nodes options.now events.now }
-    ensures bad_nodes { (result ≡ Err SimFault.BadNodes) ↔ (¬ AreNodes nodes) }
-    ensures bad_steps { (result ≡ Err SimFault.BadSteps) ↔ (AreNodes nodes × ¬ AreSteps options.now.steps) }
-{
-    play_all(alloc, program, nodes, options, events, Keep::All)
-}
-
-/// The same without the turns of the nodes, which are not kept while the events are played.
+/// The run of these events without the turns of the nodes, which are not kept while they are played, and whether nothing is left to do
+/// after them: no node is ready, and no message is in flight.
 pub fn replay_briefly(
     alloc: Global,
     program: &Program,
@@ -94,8 +71,9 @@ pub fn replay_briefly(
     ensures bad_nodes { (result ≡ Err SimFault.BadNodes) ↔ (¬ AreNodes nodes) }
     ensures bad_steps { (result ≡ Err SimFault.BadSteps) ↔ (AreNodes nodes × ¬ AreSteps options.now.steps) }
 {
-    match play_all(alloc, program, nodes, options, events, Keep::Newest) {
-        Ok((report, is_over)) => Ok((brief_of(report), is_over)),
+    let order = Order::Events(events);
+    match run_checked(alloc, program, nodes, options, order, Keep::Newest) {
+        Ok(run) => Ok((brief_of(run.report), run.is_over)),
         Err(fault) => Err(fault),
     }
 }
@@ -126,7 +104,10 @@ pub fn drive(
     ensures bad_steps { (result ≡ Err SimFault.BadSteps) ↔ (AreNodes nodes × ¬ AreSteps options.now.steps) }
 {
     let order = Order::Rounds(picker);
-    lead(alloc, program, nodes, options, order, Keep::All)
+    match run_checked(alloc, program, nodes, options, order, Keep::All) {
+        Ok(run) => Ok((run.events, run.report)),
+        Err(fault) => Err(fault),
+    }
 }
 
 /// The run that [`drive`] makes, with the same events, acts, ends and races, but without the turns of the nodes, which are not kept
@@ -153,8 +134,8 @@ pub fn drive_briefly(
     ensures bad_steps { (result ≡ Err SimFault.BadSteps) ↔ (AreNodes nodes × ¬ AreSteps options.now.steps) }
 {
     let order = Order::Rounds(picker);
-    match lead(alloc, program, nodes, options, order, Keep::Newest) {
-        Ok((events, report)) => Ok((events, brief_of(report))),
+    match run_checked(alloc, program, nodes, options, order, Keep::Newest) {
+        Ok(run) => Ok((run.events, brief_of(run.report))),
         Err(fault) => Err(fault),
     }
 }
@@ -185,7 +166,10 @@ pub fn wander(
     ensures bad_steps { (result ≡ Err SimFault.BadSteps) ↔ (AreNodes nodes × ¬ AreSteps options.now.steps) }
 {
     let order = Order::Random(seed);
-    lead(alloc, program, nodes, options, order, Keep::All)
+    match run_checked(alloc, program, nodes, options, order, Keep::All) {
+        Ok(run) => Ok((run.events, run.report)),
+        Err(fault) => Err(fault),
+    }
 }
 
 /// The run that [`wander`] makes, with the same events, acts, ends and races, but without the turns of the nodes, which are not kept
@@ -212,64 +196,27 @@ pub fn wander_briefly(
     ensures bad_steps { (result ≡ Err SimFault.BadSteps) ↔ (AreNodes nodes × ¬ AreSteps options.now.steps) }
 {
     let order = Order::Random(seed);
-    match lead(alloc, program, nodes, options, order, Keep::Newest) {
-        Ok((events, report)) => Ok((events, brief_of(report))),
+    match run_checked(alloc, program, nodes, options, order, Keep::Newest) {
+        Ok(run) => Ok((run.events, brief_of(run.report))),
         Err(fault) => Err(fault),
     }
 }
 
-// The run of events, with what is kept of the logs, and whether nothing is left to do after them.
-fn play_all(
+/// The run that [`run_in`] makes, by numbers that may be out of range. It is the one call that tests them.
+pub fn run_checked(
     alloc: Global,
     program: &Program,
     nodes: u32,
     options: &Options,
-    events: &[Event],
+    order: Order<'_>,
     keep: Keep,
-) -> Result<(Report, bool), SimFault>
-    ensures report { IfOk result (λ done. IsKeptReportOf keep program.now nodes options.now events.now done.0) }
-    ensures races { IfOk result (λ done. AreNamedRaces done.0.acts.items done.0.races.items) }
-    ensures kept { IfOk result (λ done. AreKept program.now nodes options.now events.now done.0.acts.items done.0.ends.items) }
-
-    ensures over { IfOk result (λ done. (done.1 ≡ true) ↔ AreAll program.now nodes options.now events.now) }
-    ensures worn { result ≡ Err SimFault.Worn → IsWornBy program.now nodes options.now events.now }
+) -> Result<Run, SimFault>
+    ensures run { IfOk result (IsRunIn order.entry program.now nodes options.now keep) }
+    ensures worn { result ≡ Err SimFault.Worn → WearsOutIn order.entry program.now nodes options.now }
     ensures bad_nodes { (result ≡ Err SimFault.BadNodes) ↔ (¬ AreNodes nodes) }
     ensures bad_steps { (result ≡ Err SimFault.BadSteps) ↔ (AreNodes nodes × ¬ AreSteps options.now.steps) }
 {
-    let count = node_count(nodes, options)?;
-    let code = Code::new(alloc, program)?;
-    let mut world = World::new(alloc, &code, count, options, keep)?;
-    for event in events {
-        world.play(*event)?;
-    }
-    let is_over = world.is_over();
-    Ok((world.report()?, is_over))
-}
-
-// The run that goes on in an order, its events, with what is kept of the logs, and what all its promises follow from.
-fn lead(
-    alloc: Global,
-    program: &Program,
-    nodes: u32,
-    options: &Options,
-    order: Order,
-    keep: Keep,
-) -> Result<(Vec<Event>, Report), SimFault>
-    ensures report { IfOk result (λ done. IsKeptReportOf keep program.now nodes options.now done.0.items done.1) }
-    ensures kept { IfOk result (λ done. AreKept program.now nodes options.now done.0.items done.1.acts.items done.1.ends.items) }
-    ensures led { IfOk result (λ done. AreLed (schedule_of nodes order) program.now nodes options.now done.0.items) }
-    ensures races { IfOk result (λ done. AreNamedRaces done.1.acts.items done.1.races.items) }
-    ensures nodes { IfOk result (λ done. AreNodes nodes) }
-    ensures few { IfOk result (λ done. length done.0.items ≤ 100000000) }
-    ensures over { IfOk result (λ done. length done.0.items < 100000000 → AreAll program.now nodes options.now done.0.items) }
-    ensures worn { result ≡ Err SimFault.Worn → WearsOut (schedule_of nodes order) (fresh_world program.now nodes options.now) }
-    ensures bad_nodes { (result ≡ Err SimFault.BadNodes) ↔ (¬ AreNodes nodes) }
-    ensures bad_steps { (result ≡ Err SimFault.BadSteps) ↔ (AreNodes nodes × ¬ AreSteps options.now.steps) }
-{
-    let count = node_count(nodes, options)?;
-    let code = Code::new(alloc, program)?;
-    let world = World::new(alloc, &code, count, options, keep)?;
-    let mut driver = Driver::new(alloc, world);
-    driver.lead(count, order)?;
-    Ok(driver.report()?)
+    let setting = setting_of(nodes, options)?;
+    let run = run_in(alloc, program, &setting, order, keep)?;
+    Ok(run)
 }

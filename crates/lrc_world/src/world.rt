@@ -22,7 +22,7 @@ ghost use Rattle.lrc_trace.specs.Conflict.{IsRaceFree};
 use crate::first::first_of;
 use crate::flying::Flying;
 use crate::keep::Keep;
-use crate::report::{Report, SimFault};
+use crate::report::{Report, TurnFault};
 use lrc_envelope::{Envelope, Picker};
 use lrc_exec::code::Code;
 use lrc_node::{End, Entry, Logged, Node, NodeFault, Options};
@@ -74,7 +74,7 @@ impl<'c> World<'c> {
     }
 
     /// Plays an event, which is skipped where it names no ready node and no message that its receiver takes.
-    pub(crate) fn play(&mut self, event: Event) -> Result<(), SimFault>
+    pub(crate) fn play(&mut self, event: Event) -> Result<(), TurnFault>
         ensures { (starts : Starts) (run : Run) → Shows starts self.old run → PlaysTo starts self.new (event_on run event) result }
     {
         match event {
@@ -160,7 +160,7 @@ impl<'c> World<'c> {
     }
 
     // The node goes on, if it is there and ready.
-    fn go_on(&mut self, node: usize) -> Result<(), SimFault>
+    fn go_on(&mut self, node: usize) -> Result<(), TurnFault>
         ensures { (starts : Starts) (run : Run) → Shows starts self.old run → PlaysTo starts self.new (event_on run (events.Run node)) result }
     {
         let outcome = run_at(&mut self.nodes, node);
@@ -172,7 +172,7 @@ impl<'c> World<'c> {
     }
 
     // The message at the place is delivered, if it is there and its receiver takes it.
-    fn deliver(&mut self, place: usize) -> Result<(), SimFault>
+    fn deliver(&mut self, place: usize) -> Result<(), TurnFault>
         ensures { (starts : Starts) (run : Run) → Shows starts self.old run → PlaysTo starts self.new (event_on run (events.Deliver place)) result }
     {
         match self.receive(place)? {
@@ -185,7 +185,7 @@ impl<'c> World<'c> {
     }
 
     // The same, but the message stays in flight.
-    fn repeat(&mut self, place: usize) -> Result<(), SimFault>
+    fn repeat(&mut self, place: usize) -> Result<(), TurnFault>
         ensures { (starts : Starts) (run : Run) → Shows starts self.old run → PlaysTo starts self.new (event_on run (events.Repeat place)) result }
     {
         match self.receive(place)? {
@@ -198,7 +198,7 @@ impl<'c> World<'c> {
     }
 
     // The receiver of the message at the place takes it, if both are there and the receiver expects it. Which node that was.
-    fn receive(&mut self, place: usize) -> Result<Option<usize>, SimFault>
+    fn receive(&mut self, place: usize) -> Result<Option<usize>, TurnFault>
         ensures { (starts : Starts) (run : Run) → Shows starts self.old run → ReceivesTo starts self.old self.new run place result }
     {
         let Some(flying) = self.flight.get(place) else {
@@ -245,7 +245,7 @@ impl<'c> World<'c> {
     }
 
     // Adds what the node's newest turn did: its act, and its messages in flight. Of the node's log is left what is to be kept.
-    fn follow(&mut self, node: usize) -> Result<(), SimFault>
+    fn follow(&mut self, node: usize) -> Result<(), TurnFault>
         ensures { (entry : EntryRecord) → NodeLogsLast self.old node entry → AddsTo self.old self.new node entry result }
     {
         let Some(logged) = self.nodes.get(node) else {
@@ -308,7 +308,7 @@ fn send(
     out: &[Envelope],
     stamp: u64,
     flight: &mut VecDeque<Flying>,
-) -> Result<(), SimFault>
+) -> Result<(), TurnFault>
     ensures flight { OnOk result (map seen_flying flight.new.items ≡ map seen_flying flight.old.items ++ map (shown_new stamp) out.now) }
     ensures short { OnOk result (list_any is_long out.now ≡ false) }
     ensures err { IfErr result (IsSendFault out.now) }
@@ -326,7 +326,7 @@ fn send_each(
     out: &[Envelope],
     stamp: u64,
     flight: &mut VecDeque<Flying>,
-) -> Result<(), SimFault>
+) -> Result<(), TurnFault>
     ensures flight { OnOk result (map seen_flying flight.new.items ≡ map seen_flying flight.old.items ++ map (shown_new stamp) out.now) }
     ensures short { OnOk result (list_any is_long out.now ≡ false) }
     ensures err { IfErr result (IsSendFault out.now) }
@@ -343,7 +343,7 @@ fn send_each(
 }
 
 // The bytes of a message, in place of spare ones where there are any.
-fn bytes_of(spare: &mut Vec<Vec<u8>>, envelope: &Envelope) -> Result<Vec<u8>, SimFault>
+fn bytes_of(spare: &mut Vec<Vec<u8>>, envelope: &Envelope) -> Result<Vec<u8>, TurnFault>
     ensures written { IfOk result (λ bytes. envelope_of bytes.items ≡ Ok envelope.now) }
     ensures short { OnOk result (is_long envelope.now ≡ false) }
     ensures err { IfErr result (IsSendFault (envelope.now ∷ [])) }
@@ -354,33 +354,33 @@ fn bytes_of(spare: &mut Vec<Vec<u8>>, envelope: &Envelope) -> Result<Vec<u8>, Si
     };
     match spell_over(spent, envelope) {
         Ok(bytes) => Ok(bytes),
-        Err(EncodeFault::TooLong) => Err(SimFault::Worn),
-        Err(EncodeFault::NoMemory) => Err(SimFault::NoMemory),
+        Err(EncodeFault::TooLong) => Err(TurnFault::Worn),
+        Err(EncodeFault::NoMemory) => Err(TurnFault::NoMemory),
     }
 }
 
 // The message that bytes spell.
-fn envelope_in(alloc: Global, bytes: &[u8]) -> Result<Envelope, SimFault>
+fn envelope_in(alloc: Global, bytes: &[u8]) -> Result<Envelope, TurnFault>
     requires { IsOk (envelope_of bytes.now) }
     ensures read { IfOk result (λ envelope. envelope_of bytes.now ≡ Ok envelope) }
-    ensures err { IfErr result (λ fault. fault ≡ SimFault.NoMemory) }
+    ensures err { IfErr result (λ fault. fault ≡ TurnFault.NoMemory) }
 {
     match decode(alloc, bytes) {
         Ok(envelope) => Ok(envelope),
-        Err(WireFault::NoMemory) => Err(SimFault::NoMemory),
+        Err(WireFault::NoMemory) => Err(TurnFault::NoMemory),
         Err(_) => unreachable!(),
     }
 }
 
 // Whether a node made a turn; a node that has none left has no memory, or has used up its numbers.
-fn is_made(outcome: Result<(), NodeFault>) -> Result<bool, SimFault>
+fn is_made(outcome: Result<(), NodeFault>) -> Result<bool, TurnFault>
     ensures { result ≡ turn_made outcome }
 {
     match outcome {
         Ok(()) => Ok(true),
         Err(NodeFault::NotReady | NodeFault::Unexpected) => Ok(false),
-        Err(NodeFault::Worn) => Err(SimFault::Worn),
-        Err(NodeFault::Failed | NodeFault::NoMemory) => Err(SimFault::NoMemory),
+        Err(NodeFault::Worn) => Err(TurnFault::Worn),
+        Err(NodeFault::Failed | NodeFault::NoMemory) => Err(TurnFault::NoMemory),
     }
 }
 

@@ -1,7 +1,7 @@
-//! Tests alone: texts of acts, what is read of them, and what a judge prints of them.
+//! Tests alone: texts of acts, and what is read of them. What a judge prints of them is played by `test_examples`.
 #![tactic(auto)]
 
 #[cfg(test)]
-mod reading;
+mod checks;
 #[cfg(test)]
-mod verdict;
+mod reading;

@@ -1,19 +1,10 @@
-// What a test ends in, and lines that are counted.
+// What a test over a table ends in.
 
 use std::process::Abort;
 
-/// Fails where the answer is no. It is no too where memory was refused.
-pub fn holds(rt: &impl Abort, answer: bool) {
-    assert!(rt; answer);
-}
-
-/// How many lines of a text print the largest number.
-pub fn largest_printed(out: &[u8]) -> usize {
-    let mut lines: usize = 0;
-    for line in out.split(|byte| *byte == b'\n') {
-        if line.ends_with(b" prints 18446744073709551615") {
-            lines = lines.saturating_add(1);
-        }
+/// Fails where a row was found wrong, with the row's name.
+pub fn passes(rt: &impl Abort, wrong: Option<&str>) {
+    if let Some(name) = wrong {
+        panic!(rt; "{name}");
     }
-    lines
 }

@@ -1,4 +1,5 @@
-//! Tests alone: worked programs and texts, from the words of the command line to what is printed.
+//! Tests alone: the choice that words make, writers that refuse, faults, and what no file of `test_examples` can show: texts too
+//! large for a file, and runs on threads that are played again.
 #![tactic(auto)]
 
 #[cfg(test)]
@@ -6,29 +7,15 @@ mod arguments;
 #[cfg(test)]
 mod checks;
 #[cfg(test)]
-mod events;
-#[cfg(test)]
-mod explored;
-#[cfg(test)]
 mod faults;
 #[cfg(test)]
-mod given_events;
-#[cfg(test)]
-mod large_runs;
-#[cfg(test)]
-mod one_node;
-#[cfg(test)]
-mod parts;
-#[cfg(test)]
-mod plain;
+mod large;
 #[cfg(test)]
 mod progress;
 #[cfg(test)]
-mod several_nodes;
-#[cfg(test)]
-mod shapes;
-#[cfg(test)]
 mod shell;
+#[cfg(test)]
+mod threads;
 #[cfg(test)]
 mod words;
 #[cfg(test)]

@@ -1,478 +1,440 @@
-// Words of the command line, and the choice that they make.
+// Lines of words, and the choice that they make.
 
-use crate::checks::holds;
-use lrc_args::choice::{Choice, ChooseFault, Form, RunChoice, RunOptions, Shape, Way};
+use crate::checks::passes;
+use lrc_args::choice::{
+    Charting, Choice, ChooseFault, Exploring, Form, Judging, PlainRun, RunOptions, Shape, Way,
+};
 use lrc_args::choose;
 use lrc_envelope::Picker;
 use lrc_page::Size;
-use std::alloc::Global;
+use std::alloc::{AllocError, Global};
 
-/// What is to be so of a choice.
+/// A run, in plain numbers.
 #[derive(Clone, Copy)]
-enum Fact<'a> {
-    /// It is a check of this file.
-    Check(&'a str),
-    /// It is a run on the plain machine, of this file, with so many nodes and steps.
-    Plain(&'a str, u32, u32),
-    /// It names this file of a text, and this one of events, or none.
-    Files(&'a str, Option<&'a str>),
-    /// It judges the acts of so many nodes, by pairs or not.
-    Judge(Option<u32>, bool),
-    /// It explores with so many nodes and states, by outcomes or not.
-    Explore(u32, u32, bool),
-    /// This is shown of its run.
-    Shape(Shape),
-    /// It is a chart for a terminal or not, of this part of a run.
-    Chart(bool, Option<u64>, Option<u64>),
-    /// Its run goes on so.
-    Way(Way<'a>),
-    /// Its run has so many nodes, collects from so many intervals on, and has pages of this size.
-    Options(u32, u32, Size),
-    /// Its run gives each node so many steps.
-    Steps(u32),
+struct Run {
+    file: &'static str,
+    nodes: u32,
+    steps: u32,
+    collect: u32,
+    size: Size,
+    way: Way<'static>,
+    shape: Shape,
 }
 
-fn is_check(choice: &Choice<'_>, file: &str) -> bool {
-    match choice {
-        Choice::Check(named) => *named == file,
-        _ => false,
-    }
-}
-
-fn is_plain(choice: &Choice<'_>, file: &str, nodes: u32, steps: u32) -> bool {
-    match choice {
-        Choice::Plain(run) => {
-            run.file == file && run.nodes.count == nodes && run.steps.count == steps
-        }
-        _ => false,
-    }
-}
-
-fn is_judging(choice: &Choice<'_>, nodes: Option<u32>, pairs: bool) -> bool {
-    match choice {
-        Choice::Judge(judging) => {
-            judging.nodes.map(|nodes| nodes.count) == nodes && judging.pairs == pairs
-        }
-        _ => false,
-    }
-}
-
-fn is_exploring(choice: &Choice<'_>, nodes: u32, most: u32, outcomes: bool) -> bool {
-    match choice {
-        Choice::Explore(exploring) => {
-            exploring.nodes.count == nodes
-                && exploring.most.count == most
-                && exploring.outcomes == outcomes
-        }
-        _ => false,
-    }
-}
-
-/// Whether both are the same shape, and not one of a chart.
-fn is_shape(shown: Shape, shape: Shape) -> bool {
-    matches!(
-        (shown, shape),
-        (Shape::Report, Shape::Report)
-            | (Shape::Explain, Shape::Explain)
-            | (Shape::Stats, Shape::Stats)
-            | (Shape::Trace(Form::Rapid), Shape::Trace(Form::Rapid))
-            | (Shape::Trace(Form::Messages), Shape::Trace(Form::Messages))
-    )
-}
-
-fn is_chart(shown: Shape, text: bool, from: Option<u64>, to: Option<u64>) -> bool {
-    match shown {
-        Shape::Chart(charting) => {
-            charting.text == text && charting.from == from && charting.to == to
-        }
-        _ => false,
-    }
-}
-
-/// Whether both are the same way, and not one by events.
-fn is_way(taken: Way<'_>, way: Way<'_>) -> bool {
-    match (taken, way) {
-        (Way::Rounds(taken), Way::Rounds(order)) => taken == order,
-        (Way::Threads(taken), Way::Threads(order)) => taken == order,
-        (Way::Random(taken), Way::Random(seed)) => taken == seed,
-        _ => false,
-    }
-}
-
-fn are_options(options: &RunOptions<'_>, nodes: u32, collect: u32, size: Size) -> bool {
-    options.nodes.count == nodes && options.collect.count == collect && options.size == size
-}
-
-/// Whether a fact about a run is so of this one.
-fn is_so_of_run(run: &RunChoice<'_>, shown: Shape, fact: Fact<'_>) -> bool {
-    match fact {
-        Fact::Shape(shape) => is_shape(shown, shape),
-        Fact::Chart(text, from, to) => is_chart(shown, text, from, to),
-        Fact::Way(way) => is_way(run.way, way),
-        Fact::Options(nodes, collect, size) => are_options(&run.options, nodes, collect, size),
-        Fact::Steps(steps) => run.options.steps.count == steps,
-        _ => false,
-    }
-}
-
-fn is_so_of_any_run(choice: &Choice<'_>, fact: Fact<'_>) -> bool {
-    match choice {
-        Choice::Show(run, shown) => is_so_of_run(run, *shown, fact),
-        _ => false,
-    }
-}
-
-fn is_so(choice: &Choice<'_>, fact: Fact<'_>) -> bool {
-    match fact {
-        Fact::Check(file) => is_check(choice, file),
-        Fact::Plain(file, nodes, steps) => is_plain(choice, file, nodes, steps),
-        Fact::Files(file, events) => choice.file() == file && choice.events() == events,
-        Fact::Judge(nodes, pairs) => is_judging(choice, nodes, pairs),
-        Fact::Explore(nodes, most, outcomes) => is_exploring(choice, nodes, most, outcomes),
-        _ => is_so_of_any_run(choice, fact),
-    }
-}
-
-fn are_so(choice: &Choice<'_>, facts: &[Fact<'_>]) -> bool {
-    for fact in facts {
-        if !is_so(choice, *fact) {
-            return false;
-        }
-    }
-    true
-}
-
-/// Words, and what is to be so of the choice that they make.
-type Row<'a> = (&'a [&'a str], &'a [Fact<'a>]);
-
-fn is_read(alloc: Global, words: &[&str], facts: &[Fact<'_>]) -> bool {
-    match choose(alloc, words) {
-        Ok(choice) => are_so(&choice, facts),
-        Err(_) => false,
-    }
-}
-
-fn are_read(alloc: Global, rows: &[Row<'_>]) -> bool {
-    for (words, facts) in rows {
-        if !is_read(alloc, words, facts) {
-            return false;
-        }
-    }
-    true
-}
-
-const WORDS: &[Row] = &[
-    (
-        &["plain", "counter.tm", "--nodes", "16", "--steps", "+20"],
-        &[Fact::Plain("counter.tm", 16, 20)],
-    ),
-    (&["plain", "-"], &[Fact::Plain("-", 1, 1_000_000)]),
-    (
-        &["sim", "a.tm", "--events", "-"],
-        &[Fact::Files("a.tm", Some("-"))],
-    ),
-    (&[], &[Fact::Files("-", None)]),
-    (&["check", "a.tm"], &[Fact::Check("a.tm")]),
-];
-
-#[test]
-fn words_are_read(rt: HostRuntime) {
-    holds(&rt, are_read(rt.alloc(), WORDS));
-}
-
-const REPORT: Fact = Fact::Shape(Shape::Report);
-
-const OPTIONS: &[Row] = &[
-    (
-        &[
-            "sim",
-            "-",
-            "--nodes",
-            "3",
-            "--order",
-            "newest",
-            "--page=256",
-            "--collect",
-            "1000000",
-        ],
-        &[
-            REPORT,
-            Fact::Options(3, 1_000_000, Size::Words256),
-            Fact::Way(Way::Rounds(Picker::Newest)),
-        ],
-    ),
-    (
-        &["sim", "--order=twice", "--page", "64", "-", "--nodes=3"],
-        &[
-            REPORT,
-            Fact::Options(3, 0, Size::Words64),
-            Fact::Way(Way::Rounds(Picker::Twice)),
-        ],
-    ),
-    (
-        &["sim", "-", "--nodes", "3", "--order", "oldest"],
-        &[
-            REPORT,
-            Fact::Options(3, 0, Size::Words64),
-            Fact::Way(Way::Rounds(Picker::Oldest)),
-        ],
-    ),
-    (
-        &[
-            "run",
-            "-",
-            "--nodes",
-            "3",
-            "--order=twice",
-            "--page",
-            "256",
-            "--collect",
-            "7",
-        ],
-        &[
-            REPORT,
-            Fact::Options(3, 7, Size::Words256),
-            Fact::Way(Way::Threads(Picker::Twice)),
-        ],
-    ),
-];
-
-#[test]
-fn options_of_a_run_are_read(rt: HostRuntime) {
-    holds(&rt, are_read(rt.alloc(), OPTIONS));
-}
-
-const RANDOM_AND_TRACES: &[Row] = &[
-    (
-        &["sim", "a.tm", "--seed=7", "--order=random"],
-        &[REPORT, Fact::Way(Way::Random(7))],
-    ),
-    (
-        &["sim", "a.tm", "--order", "random"],
-        &[REPORT, Fact::Way(Way::Random(0))],
-    ),
-    (
-        &["sim", "a.tm", "--order=random", "--events=e"],
-        &[Fact::Files("a.tm", Some("e"))],
-    ),
-    (
-        &["trace", "a.tm", "--as=rapid", "--threads", "--order=newest"],
-        &[
-            Fact::Shape(Shape::Trace(Form::Rapid)),
-            Fact::Way(Way::Threads(Picker::Newest)),
-        ],
-    ),
-];
-
-#[test]
-fn random_orders_and_traces_are_read(rt: HostRuntime) {
-    holds(&rt, are_read(rt.alloc(), RANDOM_AND_TRACES));
-}
-
-const JUDGED: &[Row] = &[
-    (&["judge", "a.acts"], &[Fact::Judge(None, false)]),
-    (
-        &["judge", "a.acts", "--nodes", "3", "--pairs"],
-        &[Fact::Judge(Some(3), true)],
-    ),
-];
-
-#[test]
-fn what_is_to_be_judged_is_read(rt: HostRuntime) {
-    holds(&rt, are_read(rt.alloc(), JUDGED));
-}
-
-const ASKED: &[Row] = &[
-    (
-        &["trace", "a.tm", "--messages"],
-        &[Fact::Shape(Shape::Trace(Form::Messages))],
-    ),
-    (
-        &["explain", "a.tm", "--order", "random", "--seed", "9"],
-        &[Fact::Shape(Shape::Explain), Fact::Way(Way::Random(9))],
-    ),
-    (
-        &["stats", "a.tm", "--threads", "--order=twice"],
-        &[
-            Fact::Shape(Shape::Stats),
-            Fact::Way(Way::Threads(Picker::Twice)),
-        ],
-    ),
-    (&["explore", "a.tm"], &[Fact::Explore(1, 1_000_000, false)]),
-    (
-        &["explore", "a.tm", "--nodes=3", "--most=7", "--outcomes"],
-        &[Fact::Explore(3, 7, true)],
-    ),
-];
-
-#[test]
-fn what_is_asked_of_a_run_or_a_program_is_read(rt: HostRuntime) {
-    holds(&rt, are_read(rt.alloc(), ASKED));
-}
-
-const CHARTS: &[Row] = &[
-    (&["chart", "a.tm"], &[Fact::Chart(false, None, None)]),
-    (
-        &["chart", "a.tm", "--text", "--from", "0", "--to=5"],
-        &[Fact::Chart(true, Some(0), Some(5))],
-    ),
-    (
-        &["chart", "--from=18446744073709551615", "a.tm"],
-        &[Fact::Chart(false, Some(u64::MAX), None)],
-    ),
-    (
-        &["chart", "a.tm", "--to", "+18446744073709551615"],
-        &[Fact::Chart(false, None, Some(u64::MAX))],
-    ),
-    (
-        &["chart", "a.tm", "--text", "--to=2", "--from=3"],
-        &[Fact::Chart(true, Some(3), Some(2))],
-    ),
-];
-
-#[test]
-fn charts_are_read(rt: HostRuntime) {
-    holds(&rt, are_read(rt.alloc(), CHARTS));
-}
-
-const RUNS_OF_CHARTS: &[Row] = &[
-    (
-        &[
-            "chart",
-            "a.tm",
-            "--nodes=3",
-            "--steps=5",
-            "--collect=7",
-            "--order=random",
-            "--seed=9",
-            "--page=256",
-        ],
-        &[
-            Fact::Chart(false, None, None),
-            Fact::Options(3, 7, Size::Words256),
-            Fact::Steps(5),
-            Fact::Way(Way::Random(9)),
-        ],
-    ),
-    (
-        &["chart", "a.tm", "--threads", "--order=twice", "--text"],
-        &[
-            Fact::Chart(true, None, None),
-            Fact::Way(Way::Threads(Picker::Twice)),
-        ],
-    ),
-    (
-        &["chart", "a.tm", "--events", "e", "--to=3"],
-        &[
-            Fact::Files("a.tm", Some("e")),
-            Fact::Chart(false, None, Some(3)),
-        ],
-    ),
-];
-
-#[test]
-fn runs_of_charts_are_read(rt: HostRuntime) {
-    holds(&rt, are_read(rt.alloc(), RUNS_OF_CHARTS));
-}
-
-const OUT_OF_RANGE: &[[&str; 4]] = &[
-    ["plain", "a.tm", "--nodes", "17"],
-    ["plain", "a.tm", "--nodes", "0"],
-    ["plain", "a.tm", "--steps", "0"],
-    ["plain", "a.tm", "--steps", "1000001"],
-    ["sim", "a.tm", "--steps", "1000001"],
-    ["sim", "a.tm", "--collect", "1000001"],
-    ["sim", "a.tm", "--nodes", "18446744073709551615"],
-    ["run", "a.tm", "--nodes", "17"],
-    ["trace", "a.tm", "--nodes", "17"],
-    ["judge", "a.acts", "--nodes", "0"],
-    ["explain", "a.tm", "--steps", "0"],
-    ["stats", "a.tm", "--collect", "1000001"],
-    ["chart", "a.tm", "--nodes", "17"],
-    ["chart", "a.tm", "--steps", "0"],
-    ["chart", "a.tm", "--collect", "1000001"],
-    ["explore", "a.tm", "--most", "0"],
-    ["explore", "a.tm", "--most", "100000001"],
-];
-
-const MISUSED: &[[&str; 4]] = &[
-    ["plain", "a.tm", "--nodes", "18446744073709551616"],
-    ["plain", "a.tm", "--nodes", "x"],
-    ["plain", "a.tm", "--events", "e"],
-    ["plain", "a.tm", "b.tm", "c.tm"],
-    ["sim", "a.tm", "--steps=1", "--steps=2"],
-    ["plan", "a.tm", "--nodes", "1"],
-    ["sim", "a.tm", "--order", "Oldest"],
-    ["sim", "a.tm", "--order", ""],
-    ["sim", "a.tm", "--page", "064"],
-    ["run", "a.tm", "--events", "e"],
-    ["sim", "--nodes=17", "--page=128", "a.tm"],
-    ["sim", "a.tm", "--seed", "1"],
-    ["sim", "a.tm", "--events=e", "--seed=1"],
-    ["run", "a.tm", "--order", "random"],
-    ["trace", "a.tm", "--threads", "--order=random"],
-    ["trace", "a.tm", "--threads", "--events=e"],
-    ["trace", "a.tm", "--as", "xml"],
-    ["judge", "a.acts", "--steps", "1"],
-    ["trace", "a.tm", "--messages", "--as=json"],
-    ["explain", "a.tm", "--as", "json"],
-    ["stats", "a.tm", "--threads", "--seed=1"],
-    ["chart", "a.tm", "--order", "Newest"],
-    ["chart", "a.tm", "--page", "128"],
-    ["chart", "a.tm", "--threads", "--events=e"],
-    ["chart", "a.tm", "--threads", "--order=random"],
-    ["chart", "a.tm", "--order=newest", "--seed=1"],
-    ["chart", "a.tm", "--text", "--text"],
-    ["chart", "a.tm", "--text=yes", "--to=1"],
-    ["chart", "a.tm", "--from", "x"],
-    ["chart", "a.tm", "--text", "--from"],
-    ["chart", "a.tm", "--to", "18446744073709551616"],
-    ["chart", "a.tm", "--text", "--to"],
-    ["chart", "a.tm", "--as", "json"],
-    ["stats", "a.tm", "--from", "1"],
-    ["explore", "a.tm", "--steps", "5"],
-];
-
-/// Why words are refused.
+/// What is to come of a line of words.
 #[derive(Clone, Copy)]
-enum Refusal {
+enum Wanted {
+    Check(&'static str),
+    /// With so many nodes and steps.
+    Plain(&'static str, u32, u32),
+    Run(Run),
+    /// Of so many nodes, where it is given, by pairs or not.
+    Judge(&'static str, Option<u32>, bool),
+    /// With so many nodes and states, by outcomes or not.
+    Explore(&'static str, u32, u32, bool),
     BadNumber,
     Usage,
 }
 
-fn is_refusal(fault: &ChooseFault, refusal: Refusal) -> bool {
+fn are_options(made: &RunOptions<'_>, wanted: &Run) -> bool {
+    made.file == wanted.file
+        && made.nodes.count == wanted.nodes
+        && made.steps.count == wanted.steps
+        && made.collect.count == wanted.collect
+        && made.size == wanted.size
+}
+
+fn is_same_way(made: Way<'_>, wanted: Way<'_>) -> bool {
+    match (made, wanted) {
+        (Way::Events(made), Way::Events(wanted)) => made == wanted,
+        (Way::Rounds(made), Way::Rounds(wanted)) => made == wanted,
+        (Way::Threads(made), Way::Threads(wanted)) => made == wanted,
+        (Way::Random(made), Way::Random(wanted)) => made == wanted,
+        _ => false,
+    }
+}
+
+fn is_same_form(made: Form, wanted: Form) -> bool {
+    matches!(
+        (made, wanted),
+        (Form::Acts, Form::Acts)
+            | (Form::Messages, Form::Messages)
+            | (Form::Events, Form::Events)
+            | (Form::Json, Form::Json)
+            | (Form::Rapid, Form::Rapid)
+    )
+}
+
+fn is_same_charting(made: Charting, wanted: Charting) -> bool {
+    made.text == wanted.text && made.from == wanted.from && made.to == wanted.to
+}
+
+fn is_same_shape(made: Shape, wanted: Shape) -> bool {
+    match (made, wanted) {
+        (Shape::Report, Shape::Report)
+        | (Shape::Explain, Shape::Explain)
+        | (Shape::Stats, Shape::Stats) => true,
+        (Shape::Trace(made), Shape::Trace(wanted)) => is_same_form(made, wanted),
+        (Shape::Chart(made), Shape::Chart(wanted)) => is_same_charting(made, wanted),
+        _ => false,
+    }
+}
+
+fn is_plain(made: &PlainRun<'_>, file: &str, nodes: u32, steps: u32) -> bool {
+    made.file == file && made.nodes.count == nodes && made.steps.count == steps
+}
+
+fn is_judging(made: &Judging<'_>, file: &str, nodes: Option<u32>, pairs: bool) -> bool {
+    made.file == file && made.nodes.map(|nodes| nodes.count) == nodes && made.pairs == pairs
+}
+
+fn is_exploring(made: &Exploring<'_>, nodes: u32, most: u32, outcomes: bool) -> bool {
+    made.nodes.count == nodes && made.most.count == most && made.outcomes == outcomes
+}
+
+fn is_wanted(made: &Choice<'_>, wanted: &Wanted) -> bool {
+    match (made, wanted) {
+        (Choice::Check(made), Wanted::Check(file)) => made == file,
+        (Choice::Plain(made), Wanted::Plain(file, nodes, steps)) => {
+            is_plain(made, file, *nodes, *steps)
+        }
+        (Choice::Show(made, shape), Wanted::Run(run)) => {
+            are_options(&made.options, run)
+                && is_same_way(made.way, run.way)
+                && is_same_shape(*shape, run.shape)
+        }
+        (Choice::Judge(made), Wanted::Judge(file, nodes, pairs)) => {
+            is_judging(made, file, *nodes, *pairs)
+        }
+        (Choice::Explore(made), Wanted::Explore(file, nodes, most, outcomes)) => {
+            made.file == *file && is_exploring(made, *nodes, *most, *outcomes)
+        }
+        _ => false,
+    }
+}
+
+fn is_wanted_fault(fault: &ChooseFault, wanted: &Wanted) -> bool {
     match fault {
-        ChooseFault::BadNumber => matches!(refusal, Refusal::BadNumber),
-        ChooseFault::Usage(_) => matches!(refusal, Refusal::Usage),
+        ChooseFault::BadNumber => matches!(wanted, Wanted::BadNumber),
+        ChooseFault::Usage(_) => matches!(wanted, Wanted::Usage),
         ChooseFault::NoMemory => false,
     }
 }
 
-fn is_refused(alloc: Global, words: &[&str], refusal: Refusal) -> bool {
+/// Whether the words make what is wanted.
+fn make(alloc: Global, words: &[&str], wanted: &Wanted) -> bool {
     match choose(alloc, words) {
-        Ok(_) => false,
-        Err(fault) => is_refusal(&fault, refusal),
+        Ok(made) => is_wanted(&made, wanted),
+        Err(fault) => is_wanted_fault(&fault, wanted),
     }
 }
 
-fn are_refused(alloc: Global, rows: &[[&str; 4]], refusal: Refusal) -> bool {
-    for words in rows {
-        if !is_refused(alloc, words, refusal) {
-            return false;
+/// Puts the words between the single spaces of a line. An empty line has none.
+fn put_words<'l>(words: &mut Vec<&'l str>, line: &'l str) -> Result<(), AllocError> {
+    if !line.is_empty() {
+        for word in line.split(' ') {
+            words.push(word)?;
         }
     }
-    true
+    Ok(())
 }
 
-#[test]
-fn numbers_out_of_range_are_refused(rt: HostRuntime) {
-    holds(
-        &rt,
-        are_refused(rt.alloc(), OUT_OF_RANGE, Refusal::BadNumber),
-    );
+fn is_as_wanted(alloc: Global, line: &str, wanted: &Wanted) -> bool {
+    let mut words = Vec::new(alloc);
+    put_words(&mut words, line).is_ok() && make(alloc, &words, wanted)
 }
 
+/// A line of words, and what is to come of it.
+type Row = (&'static str, Wanted);
+
+fn first_wrong(alloc: Global, rows: &[Row]) -> Option<&'static str> {
+    for (line, wanted) in rows {
+        if !is_as_wanted(alloc, line, wanted) {
+            return Some(line);
+        }
+    }
+    None
+}
+
+const OLDEST: Way<'static> = Way::Rounds(Picker::Oldest);
+
+/// A run of this file, as it is without options.
+const A_RUN: Run = Run {
+    file: "a.tm",
+    nodes: 1,
+    steps: 1_000_000,
+    collect: 0,
+    size: Size::Words64,
+    way: OLDEST,
+    shape: Shape::Report,
+};
+
+const OF_THREE: Run = Run {
+    file: "-",
+    nodes: 3,
+    ..A_RUN
+};
+
+const WHOLE_CHART: Charting = Charting {
+    text: false,
+    from: None,
+    to: None,
+};
+
+const CHOICES: &[Row] = &[
+    (
+        "plain counter.tm --nodes 16 --steps +20",
+        Wanted::Plain("counter.tm", 16, 20),
+    ),
+    ("plain -", Wanted::Plain("-", 1, 1_000_000)),
+    (
+        "sim a.tm --events -",
+        Wanted::Run(Run {
+            way: Way::Events("-"),
+            ..A_RUN
+        }),
+    ),
+    ("", Wanted::Run(Run { file: "-", ..A_RUN })),
+    ("check a.tm", Wanted::Check("a.tm")),
+    // The options of a run.
+    (
+        "sim - --nodes 3 --order newest --page=256 --collect 1000000",
+        Wanted::Run(Run {
+            collect: 1_000_000,
+            size: Size::Words256,
+            way: Way::Rounds(Picker::Newest),
+            ..OF_THREE
+        }),
+    ),
+    (
+        "sim --order=twice --page 64 - --nodes=3",
+        Wanted::Run(Run {
+            way: Way::Rounds(Picker::Twice),
+            ..OF_THREE
+        }),
+    ),
+    ("sim - --nodes 3 --order oldest", Wanted::Run(OF_THREE)),
+    (
+        "run - --nodes 3 --order=twice --page 256 --collect 7",
+        Wanted::Run(Run {
+            collect: 7,
+            size: Size::Words256,
+            way: Way::Threads(Picker::Twice),
+            ..OF_THREE
+        }),
+    ),
+    // Random orders and traces.
+    (
+        "sim a.tm --seed=7 --order=random",
+        Wanted::Run(Run {
+            way: Way::Random(7),
+            ..A_RUN
+        }),
+    ),
+    (
+        "sim a.tm --order random",
+        Wanted::Run(Run {
+            way: Way::Random(0),
+            ..A_RUN
+        }),
+    ),
+    (
+        "sim a.tm --order=random --events=e",
+        Wanted::Run(Run {
+            way: Way::Events("e"),
+            ..A_RUN
+        }),
+    ),
+    (
+        "trace a.tm --as=rapid --threads --order=newest",
+        Wanted::Run(Run {
+            way: Way::Threads(Picker::Newest),
+            shape: Shape::Trace(Form::Rapid),
+            ..A_RUN
+        }),
+    ),
+    // What is judged.
+    ("judge a.acts", Wanted::Judge("a.acts", None, false)),
+    (
+        "judge a.acts --nodes 3 --pairs",
+        Wanted::Judge("a.acts", Some(3), true),
+    ),
+    // What is asked of a run or a program.
+    (
+        "trace a.tm --messages",
+        Wanted::Run(Run {
+            shape: Shape::Trace(Form::Messages),
+            ..A_RUN
+        }),
+    ),
+    (
+        "explain a.tm --order random --seed 9",
+        Wanted::Run(Run {
+            way: Way::Random(9),
+            shape: Shape::Explain,
+            ..A_RUN
+        }),
+    ),
+    (
+        "stats a.tm --threads --order=twice",
+        Wanted::Run(Run {
+            way: Way::Threads(Picker::Twice),
+            shape: Shape::Stats,
+            ..A_RUN
+        }),
+    ),
+    ("explore a.tm", Wanted::Explore("a.tm", 1, 1_000_000, false)),
+    (
+        "explore a.tm --nodes=3 --most=7 --outcomes",
+        Wanted::Explore("a.tm", 3, 7, true),
+    ),
+    // Charts.
+    (
+        "chart a.tm",
+        Wanted::Run(Run {
+            shape: Shape::Chart(WHOLE_CHART),
+            ..A_RUN
+        }),
+    ),
+    (
+        "chart a.tm --text --from 0 --to=5",
+        Wanted::Run(Run {
+            shape: Shape::Chart(Charting {
+                text: true,
+                from: Some(0),
+                to: Some(5),
+            }),
+            ..A_RUN
+        }),
+    ),
+    (
+        "chart --from=18446744073709551615 a.tm",
+        Wanted::Run(Run {
+            shape: Shape::Chart(Charting {
+                from: Some(u64::MAX),
+                ..WHOLE_CHART
+            }),
+            ..A_RUN
+        }),
+    ),
+    (
+        "chart a.tm --to +18446744073709551615",
+        Wanted::Run(Run {
+            shape: Shape::Chart(Charting {
+                to: Some(u64::MAX),
+                ..WHOLE_CHART
+            }),
+            ..A_RUN
+        }),
+    ),
+    (
+        "chart a.tm --text --to=2 --from=3",
+        Wanted::Run(Run {
+            shape: Shape::Chart(Charting {
+                text: true,
+                from: Some(3),
+                to: Some(2),
+            }),
+            ..A_RUN
+        }),
+    ),
+    (
+        "chart a.tm --nodes=3 --steps=5 --collect=7 --order=random --seed=9 --page=256",
+        Wanted::Run(Run {
+            nodes: 3,
+            steps: 5,
+            collect: 7,
+            size: Size::Words256,
+            way: Way::Random(9),
+            shape: Shape::Chart(WHOLE_CHART),
+            ..A_RUN
+        }),
+    ),
+    (
+        "chart a.tm --threads --order=twice --text",
+        Wanted::Run(Run {
+            way: Way::Threads(Picker::Twice),
+            shape: Shape::Chart(Charting {
+                text: true,
+                ..WHOLE_CHART
+            }),
+            ..A_RUN
+        }),
+    ),
+    (
+        "chart a.tm --events e --to=3",
+        Wanted::Run(Run {
+            way: Way::Events("e"),
+            shape: Shape::Chart(Charting {
+                to: Some(3),
+                ..WHOLE_CHART
+            }),
+            ..A_RUN
+        }),
+    ),
+];
+
 #[test]
-fn other_words_are_a_fault_of_usage(rt: HostRuntime) {
-    holds(&rt, are_refused(rt.alloc(), MISUSED, Refusal::Usage));
+fn words_make_their_choice(rt: HostRuntime) {
+    passes(&rt, first_wrong(rt.alloc(), CHOICES));
+}
+
+const REFUSED: &[Row] = &[
+    ("plain a.tm --nodes 17", Wanted::BadNumber),
+    ("plain a.tm --nodes 0", Wanted::BadNumber),
+    ("plain a.tm --steps 0", Wanted::BadNumber),
+    ("plain a.tm --steps 1000001", Wanted::BadNumber),
+    ("sim a.tm --steps 1000001", Wanted::BadNumber),
+    ("sim a.tm --collect 1000001", Wanted::BadNumber),
+    ("sim a.tm --nodes 18446744073709551615", Wanted::BadNumber),
+    ("run a.tm --nodes 17", Wanted::BadNumber),
+    ("trace a.tm --nodes 17", Wanted::BadNumber),
+    ("judge a.acts --nodes 0", Wanted::BadNumber),
+    ("explain a.tm --steps 0", Wanted::BadNumber),
+    ("stats a.tm --collect 1000001", Wanted::BadNumber),
+    ("chart a.tm --nodes 17", Wanted::BadNumber),
+    ("chart a.tm --steps 0", Wanted::BadNumber),
+    ("chart a.tm --collect 1000001", Wanted::BadNumber),
+    ("explore a.tm --most 0", Wanted::BadNumber),
+    ("explore a.tm --most 100000001", Wanted::BadNumber),
+    ("plain a.tm --nodes 18446744073709551616", Wanted::Usage),
+    ("plain a.tm --nodes x", Wanted::Usage),
+    ("plain a.tm --events e", Wanted::Usage),
+    ("plain a.tm b.tm c.tm", Wanted::Usage),
+    ("sim a.tm --steps=1 --steps=2", Wanted::Usage),
+    ("plan a.tm --nodes 1", Wanted::Usage),
+    ("sim a.tm --order Oldest", Wanted::Usage),
+    ("sim a.tm --order ", Wanted::Usage),
+    ("sim a.tm --page 064", Wanted::Usage),
+    ("run a.tm --events e", Wanted::Usage),
+    ("sim --nodes=17 --page=128 a.tm", Wanted::Usage),
+    ("sim a.tm --seed 1", Wanted::Usage),
+    ("sim a.tm --events=e --seed=1", Wanted::Usage),
+    ("run a.tm --order random", Wanted::Usage),
+    ("trace a.tm --threads --order=random", Wanted::Usage),
+    ("trace a.tm --threads --events=e", Wanted::Usage),
+    ("trace a.tm --as xml", Wanted::Usage),
+    ("judge a.acts --steps 1", Wanted::Usage),
+    ("trace a.tm --messages --as=json", Wanted::Usage),
+    ("explain a.tm --as json", Wanted::Usage),
+    ("stats a.tm --threads --seed=1", Wanted::Usage),
+    ("chart a.tm --order Newest", Wanted::Usage),
+    ("chart a.tm --page 128", Wanted::Usage),
+    ("chart a.tm --threads --events=e", Wanted::Usage),
+    ("chart a.tm --threads --order=random", Wanted::Usage),
+    ("chart a.tm --order=newest --seed=1", Wanted::Usage),
+    ("chart a.tm --text --text", Wanted::Usage),
+    ("chart a.tm --text=yes --to=1", Wanted::Usage),
+    ("chart a.tm --from x", Wanted::Usage),
+    ("chart a.tm --text --from", Wanted::Usage),
+    ("chart a.tm --to 18446744073709551616", Wanted::Usage),
+    ("chart a.tm --text --to", Wanted::Usage),
+    ("chart a.tm --as json", Wanted::Usage),
+    ("stats a.tm --from 1", Wanted::Usage),
+    ("explore a.tm --steps 5", Wanted::Usage),
+];
+
+#[test]
+fn words_are_refused(rt: HostRuntime) {
+    passes(&rt, first_wrong(rt.alloc(), REFUSED));
 }

@@ -1,6 +1,5 @@
 // A writer that refuses one of its writes.
 
-use crate::checks::holds;
 use crate::shell::ON_ONE_NODE;
 use lrc_args::choice::{Choice, Nodes, RunChoice, RunOptions, Shape, Way};
 use lrc_cli::{execute, perform};
@@ -8,6 +7,7 @@ use lrc_envelope::Picker;
 use std::alloc::Global;
 use std::io;
 use std::io::{ErrorKind, Write};
+use std::process::Abort;
 use std::sync::Wait;
 use std::thread::Threads;
 
@@ -20,7 +20,7 @@ const NO_PROGRAM: &[u8] = b"words";
 
 const COMPLAINED: u64 = 37;
 
-// Takes one byte at a write, and refuses the write of this number, counted from 1.
+// Takes one byte at a write, and refuses the write of this number, counted from 1; none where it is 0.
 #[derive(Drop)]
 struct Refusing {
     refused: u64,
@@ -34,6 +34,18 @@ impl Refusing {
             refused,
             taken: 0,
             writes: 0,
+        }
+    }
+
+    /// Whether all bytes came to it, so many, and the status is that of a whole text; or all before the refused write, no write after it, and
+    /// the status is 1.
+    fn is_met(&self, bytes: u64, given: u8, whole: u8) -> bool {
+        if self.refused == 0 {
+            given == whole && self.taken == bytes && self.writes == bytes
+        } else {
+            given == 1
+                && self.taken.saturating_add(1) == self.refused
+                && self.writes == self.refused
         }
     }
 }
@@ -64,61 +76,55 @@ const PRINTING: Choice<'static> = Choice::Show(
     Shape::Report,
 );
 
-/// Whether a run whose writer refuses this write ends with this status, where so many bytes and writes came to the writer, and no
-/// byte to standard error.
-fn ends<R: Threads + Wait + Sync + AllocGlobal>(
-    rt: &R,
-    refused: u64,
-    status: u8,
-    taken: u64,
-    writes: u64,
-) -> bool {
+/// Whether nothing more is printed after this write was refused, and nothing is written to standard error.
+fn is_printed<R: Threads + Wait + Sync + AllocGlobal>(rt: &R, refused: u64) -> bool {
     let alloc = rt.alloc();
     let mut out = Refusing::at(refused);
     let mut err = Vec::new(alloc);
     let given = execute(rt, alloc, &PRINTING, PROGRAM, None, &mut out, &mut err);
-    given == status && out.taken == taken && out.writes == writes && err.is_empty()
+    err.is_empty() && out.is_met(PRINTED, given, 0)
 }
 
-/// Whether nothing more is printed after each refused write of so many.
-fn each_ends<R: Threads + Wait + Sync + AllocGlobal>(rt: &R, count: u64) -> bool {
-    for taken in 0..count {
-        let refused = taken.saturating_add(1);
-        if !ends(rt, refused, 1, taken, refused) {
-            return false;
-        }
-    }
-    true
-}
-
-#[test]
-fn after_a_refused_write_nothing_more_is_printed(rt: HostRuntime) {
-    holds(&rt, each_ends(&rt, PRINTED));
-    holds(&rt, ends(&rt, 0, 0, PRINTED, PRINTED));
-}
-
-/// Whether the same is so of a text that is no program, where standard error refuses.
-fn is_complained(alloc: Global, refused: u64, taken: u64, writes: u64) -> bool {
+/// The same of a text that is no program, where standard error refuses.
+fn is_complained(alloc: Global, refused: u64) -> bool {
     let mut out = Vec::new(alloc);
     let mut err = Refusing::at(refused);
     let check = Choice::Check("-");
     let given = perform(alloc, &check, NO_PROGRAM, None, &mut out, &mut err);
-    given == 1 && err.taken == taken && err.writes == writes && out.is_empty()
+    out.is_empty() && err.is_met(COMPLAINED, given, 1)
 }
 
-/// Whether nothing more is complained after each refused write of so many.
-fn each_is_complained(alloc: Global, count: u64) -> bool {
-    for taken in 0..count {
-        let refused = taken.saturating_add(1);
-        if !is_complained(alloc, refused, taken, refused) {
-            return false;
+fn wrongly_printed<R: Threads + Wait + Sync + AllocGlobal>(rt: &R) -> Option<u64> {
+    for refused in 0..PRINTED + 1 {
+        if !is_printed(rt, refused) {
+            return Some(refused);
         }
     }
-    true
+    None
+}
+
+fn wrongly_complained(alloc: Global) -> Option<u64> {
+    for refused in 0..COMPLAINED + 1 {
+        if !is_complained(alloc, refused) {
+            return Some(refused);
+        }
+    }
+    None
+}
+
+/// Fails with the number of the refused write that something was wrong after.
+fn passes(rt: &impl Abort, wrong: Option<u64>) {
+    if let Some(refused) = wrong {
+        panic!(rt; "write {refused}");
+    }
+}
+
+#[test]
+fn after_a_refused_write_nothing_more_is_printed(rt: HostRuntime) {
+    passes(&rt, wrongly_printed(&rt));
 }
 
 #[test]
 fn after_a_refused_write_nothing_more_is_complained(rt: HostRuntime) {
-    holds(&rt, each_is_complained(rt.alloc(), COMPLAINED));
-    holds(&rt, is_complained(rt.alloc(), 0, COMPLAINED, COMPLAINED));
+    passes(&rt, wrongly_complained(rt.alloc()));
 }

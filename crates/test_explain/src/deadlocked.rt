@@ -1,9 +1,11 @@
 // Runs whose nodes wait for one another.
 
-use crate::shell::{ALL_STEPS, Case, is_explained};
+use crate::checks::passes;
+use crate::shell::{ALL_STEPS, Case, Question, first_wrong};
 
 // Nodes 0 and 3 wait for each other, and so do nodes 1 and 2.
-const TWO_CIRCLES: Case<'static> = Case {
+const TWO_CIRCLES: Case = Case {
+    name: "two circles",
     text: b"words 1;
 locks 4;
 acquire me;
@@ -40,7 +42,8 @@ deadlock: node 1 waits for node 2 waits for node 1
 };
 
 // Each node waits for the one before it.
-const THREE_BACK: Case<'static> = Case {
+const THREE_BACK: Case = Case {
+    name: "three back",
     text: b"words 1;
 locks 3;
 acquire me;
@@ -71,7 +74,8 @@ deadlock: node 0 waits for node 2 waits for node 1 waits for node 0
 };
 
 // Node 0 waits for a circle, and is not of it.
-const TAIL: Case<'static> = Case {
+const TAIL: Case = Case {
+    name: "tail",
     text: b"words 1;
 locks 3;
 if me > 0 { acquire me; }
@@ -113,7 +117,8 @@ deadlock: node 1 waits for node 2 waits for node 1
 
 // Node 0 waits at a barrier for nodes 1 and 2, and each of these for the lock of node 0: of those that have not come it waits for the
 // lowest.
-const LOWEST_MISSING: Case<'static> = Case {
+const LOWEST_MISSING: Case = Case {
+    name: "lowest missing",
     text: b"words 1;
 locks 1;
 if me == 0 {
@@ -161,7 +166,8 @@ if me == 0 {
 ";
 
 // A step is left for the acquire at which each node waits.
-const LAST_STEP: Case<'static> = Case {
+const LAST_STEP: Case = Case {
+    name: "last step",
     text: CROSSED,
     nodes: 2,
     steps: 3,
@@ -180,7 +186,8 @@ deadlock: node 0 waits for node 1 waits for node 0
 };
 
 // No step is left for it, so nobody waits.
-const NO_STEP: Case<'static> = Case {
+const NO_STEP: Case = Case {
+    name: "no step",
     steps: 2,
     told: b"node 0 unfinished
   next, line 5: steps used up
@@ -190,7 +197,7 @@ node 1 unfinished
     ..LAST_STEP
 };
 
-const DEADLOCKED: [Case<'static>; 6] = [
+const DEADLOCKED: &[Case] = &[
     TWO_CIRCLES,
     THREE_BACK,
     TAIL,
@@ -201,7 +208,8 @@ const DEADLOCKED: [Case<'static>; 6] = [
 
 #[test]
 fn circles_of_waiting_are_told(rt: HostRuntime) {
-    for case in DEADLOCKED {
-        assert!(rt; is_explained(rt.alloc(), case) == Ok(true));
-    }
+    passes(
+        &rt,
+        first_wrong(rt.alloc(), DEADLOCKED, Question::Explained),
+    );
 }

@@ -1,9 +1,11 @@
 // Runs with races, and the groups of their lines.
 
-use crate::shell::{ALL_STEPS, Case, is_explained};
+use crate::checks::passes;
+use crate::shell::{ALL_STEPS, Case, Question, first_wrong};
 
 // Node 1 gets the lock before node 0 writes word 1.
-const LATE_GRANT: Case<'static> = Case {
+const LATE_GRANT: Case = Case {
+    name: "late grant",
     text: b"words 2;
 locks 1;
 if me == 0 {
@@ -49,7 +51,8 @@ first race at act 8
 };
 
 // Groups stand by their least pair, and not by their lines.
-const BY_LEAST_PAIR: Case<'static> = Case {
+const BY_LEAST_PAIR: Case = Case {
+    name: "by least pair",
     text: b"words 3;
 locks 0;
 [2] = me;
@@ -79,7 +82,8 @@ first race at act 4
 };
 
 // One line reads and writes: there is a group for each two kinds.
-const BY_KINDS: Case<'static> = Case {
+const BY_KINDS: Case = Case {
+    name: "by kinds",
     text: b"words 1;
 locks 1;
 acquire me * 0 + 0; release 0;
@@ -118,7 +122,8 @@ first race at act 6
 };
 
 // Three named races of two lines, each by its first pair.
-const THREE_OF_A_GROUP: Case<'static> = Case {
+const THREE_OF_A_GROUP: Case = Case {
+    name: "three of a group",
     text: b"words 1;
 locks 0;
 [0] = me;
@@ -147,7 +152,8 @@ first race at act 1
 };
 
 // Node 0 writes twice and node 1 reads and writes, all in one interval each: it is one race.
-const ONE_NAMED: Case<'static> = Case {
+const ONE_NAMED: Case = Case {
+    name: "one named",
     text: b"words 1;
 locks 0;
 if me == 0 {
@@ -178,7 +184,7 @@ first race at act 3
 ",
 };
 
-const RACING: [Case<'static>; 5] = [
+const RACING: &[Case] = &[
     LATE_GRANT,
     BY_LEAST_PAIR,
     BY_KINDS,
@@ -188,7 +194,5 @@ const RACING: [Case<'static>; 5] = [
 
 #[test]
 fn races_stand_in_groups_by_their_lines(rt: HostRuntime) {
-    for case in RACING {
-        assert!(rt; is_explained(rt.alloc(), case) == Ok(true));
-    }
+    passes(&rt, first_wrong(rt.alloc(), RACING, Question::Explained));
 }

@@ -5,68 +5,133 @@ use lrc_exec::code::Code;
 use lrc_explain::explain;
 use lrc_lang::lines::lines_of;
 use lrc_lang::parse;
+use lrc_lang::program::Program;
 use lrc_stuck::stuck_part;
 use lrc_trace::act::Act;
-use std::alloc::{AllocError, Global};
+use std::alloc::Global;
 
 /// As many steps as a node may be given.
 pub const ALL_STEPS: u32 = 1_000_000;
 
 /// What the nodes of a program did, each with so many steps, and what should be told of it.
-#[derive(Clone, Copy)]
-pub struct Case<'c> {
+pub struct Case {
+    pub name: &'static str,
     /// The text of the program.
-    pub text: &'c [u8],
+    pub text: &'static [u8],
     pub nodes: u8,
     pub steps: u32,
     /// The acts, one on each line.
-    pub acts: &'c [u8],
+    pub acts: &'static [u8],
     /// The first act that races with an earlier one.
     pub first_race: Option<usize>,
-    pub told: &'c [u8],
+    pub told: &'static [u8],
 }
 
-fn read_acts(alloc: Global, text: &[u8]) -> Result<Vec<Act>, AllocError> {
-    let lined = acts_of(alloc, text, None).map_err(|_fault| AllocError)?;
-    Ok(lined.acts)
-}
-
-// Whether these parts, one behind the other, are this text.
-fn are_parts_of(alloc: Global, parts: &[Vec<u8>], text: &[u8]) -> Result<bool, AllocError> {
-    let mut whole = Vec::new(alloc);
+/// Whether these parts, one behind the other, are this text.
+fn are_parts_of(parts: &[Vec<u8>], text: &[u8]) -> bool {
+    let mut rest = text;
     for part in parts {
-        whole.extend_from_slice(part)?;
+        match rest.strip_prefix(part.as_slice()) {
+            Some(behind) => rest = behind,
+            None => return false,
+        }
     }
-    Ok(whole.as_slice() == text)
+    rest.is_empty()
 }
 
-/// Whether just what should be told of a case is told.
-pub fn is_explained(alloc: Global, case: Case<'_>) -> Result<bool, AllocError> {
-    let program = parse(alloc, case.text).map_err(|_fault| AllocError)?;
-    let lines = lines_of(alloc, case.text)?;
-    let code = Code::new(alloc, &program)?;
-    let acts = read_acts(alloc, case.acts)?;
+fn is_explained_of(
+    alloc: Global,
+    code: &Code<'_>,
+    lines: &[u32],
+    acts: &[Act],
+    case: &Case,
+) -> bool {
     if !acts.iter().all(|act| act.node < 16) {
-        return Ok(false);
+        return false;
     }
-    let parts = explain(
+    match explain(
         alloc,
-        &code,
-        &lines,
+        code,
+        lines,
         case.nodes,
         case.steps,
-        &acts,
+        acts,
         case.first_race,
-    )?;
-    are_parts_of(alloc, &parts, case.told)
+    ) {
+        Ok(parts) => are_parts_of(&parts, case.told),
+        Err(_) => false,
+    }
 }
 
-/// Whether just what should be told is told of those nodes of a case that are unfinished, where no number of steps is given.
-pub fn is_told_of_unfinished(alloc: Global, case: Case<'_>) -> Result<bool, AllocError> {
-    let program = parse(alloc, case.text).map_err(|_fault| AllocError)?;
-    let lines = lines_of(alloc, case.text)?;
-    let code = Code::new(alloc, &program)?;
-    let acts = read_acts(alloc, case.acts)?;
-    let part = stuck_part(alloc, &code, &lines, case.nodes, None, &acts)?;
-    Ok(part.as_slice() == case.told)
+fn is_told_of(alloc: Global, code: &Code<'_>, lines: &[u32], acts: &[Act], case: &Case) -> bool {
+    match stuck_part(alloc, code, lines, case.nodes, None, acts) {
+        Ok(part) => part.as_slice() == case.told,
+        Err(_) => false,
+    }
+}
+
+/// What is asked of a case: whether just what should be told of the whole run is told, or just what should be told of those nodes that
+/// are unfinished, where no number of steps is given.
+#[derive(Clone, Copy)]
+pub enum Question {
+    Explained,
+    Unfinished,
+}
+
+fn is_so(
+    alloc: Global,
+    code: &Code<'_>,
+    lines: &[u32],
+    acts: &[Act],
+    case: &Case,
+    question: Question,
+) -> bool {
+    match question {
+        Question::Explained => is_explained_of(alloc, code, lines, acts, case),
+        Question::Unfinished => is_told_of(alloc, code, lines, acts, case),
+    }
+}
+
+fn is_so_of_acts(
+    alloc: Global,
+    code: &Code<'_>,
+    lines: &[u32],
+    case: &Case,
+    question: Question,
+) -> bool {
+    match acts_of(alloc, case.acts, None) {
+        Ok(lined) => is_so(alloc, code, lines, &lined.acts, case, question),
+        Err(_) => false,
+    }
+}
+
+fn is_so_of_lines(alloc: Global, code: &Code<'_>, case: &Case, question: Question) -> bool {
+    match lines_of(alloc, case.text) {
+        Ok(lines) => is_so_of_acts(alloc, code, &lines, case, question),
+        Err(_) => false,
+    }
+}
+
+fn is_so_of_program(alloc: Global, program: &Program, case: &Case, question: Question) -> bool {
+    match Code::new(alloc, program) {
+        Ok(code) => is_so_of_lines(alloc, &code, case, question),
+        Err(_) => false,
+    }
+}
+
+fn is_met(alloc: Global, case: &Case, question: Question) -> bool {
+    match parse(alloc, case.text) {
+        Ok(program) => is_so_of_program(alloc, &program, case, question),
+        Err(_) => false,
+    }
+}
+
+/// The name of the first case of which what is asked is not so.
+pub fn first_wrong(alloc: Global, cases: &[Case], question: Question) -> Option<&'static str> {
+    for case in cases {
+        if !is_met(alloc, case, question) {
+            return Some(case.name);
+        }
+    }
+    None
 }

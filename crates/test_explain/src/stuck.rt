@@ -1,9 +1,11 @@
 // Acts after which nobody can go on, with any number of steps.
 
-use crate::shell::{ALL_STEPS, Case, is_told_of_unfinished};
+use crate::checks::passes;
+use crate::shell::{ALL_STEPS, Case, Question, first_wrong};
 
 // A node that trapped has the lock, and nothing is told of it.
-const HOLDER_TRAPPED: Case<'static> = Case {
+const HOLDER_TRAPPED: Case = Case {
+    name: "holder trapped",
     text: b"words 1;
 locks 1;
 acquire 0;
@@ -22,7 +24,8 @@ release 0;
 };
 
 // A node holds a lock over a barrier, to which another one comes only with the lock.
-const LOCK_AND_BARRIER: Case<'static> = Case {
+const LOCK_AND_BARRIER: Case = Case {
+    name: "lock and barrier",
     text: b"words 1;
 locks 1;
 if me == 0 {
@@ -52,7 +55,8 @@ deadlock: node 0 waits for node 1 waits for node 0
 };
 
 // A node waits at a barrier for one that ended, and that is no circle.
-const OTHER_ENDED: Case<'static> = Case {
+const OTHER_ENDED: Case = Case {
+    name: "other ended",
     text: b"words 1;
 locks 1;
 acquire 0;
@@ -82,11 +86,9 @@ if x == 2 { barrier; }
 ",
 };
 
-const STUCK: [Case<'static>; 3] = [HOLDER_TRAPPED, LOCK_AND_BARRIER, OTHER_ENDED];
+const STUCK: &[Case] = &[HOLDER_TRAPPED, LOCK_AND_BARRIER, OTHER_ENDED];
 
 #[test]
 fn only_the_unfinished_nodes_are_told_of(rt: HostRuntime) {
-    for case in STUCK {
-        assert!(rt; is_told_of_unfinished(rt.alloc(), case) == Ok(true));
-    }
+    passes(&rt, first_wrong(rt.alloc(), STUCK, Question::Unfinished));
 }

@@ -1,9 +1,11 @@
 // Runs with nodes that trapped.
 
-use crate::shell::{ALL_STEPS, Case, is_explained};
+use crate::checks::passes;
+use crate::shell::{ALL_STEPS, Case, Question, first_wrong};
 
 // Each cause has its number and its words.
-const EACH_CAUSE: Case<'static> = Case {
+const EACH_CAUSE: Case = Case {
+    name: "each cause",
     text: b"words 1;
 locks 1;
 if me == 0 { x = 1 / 0; }
@@ -51,7 +53,8 @@ node 4 trapped 5
 };
 
 // The line is that of the statement's first word.
-const FIRST_WORD: Case<'static> = Case {
+const FIRST_WORD: Case = Case {
+    name: "first word",
     text: b"words 1; locks 1;
 print 1;
 acquire
@@ -70,7 +73,8 @@ node 0 trapped 3
 };
 
 // Those that have not come to a barrier ended, trapped, or wait for a lock.
-const MISSED: Case<'static> = Case {
+const MISSED: Case = Case {
+    name: "missed",
     text: b"words 1;
 locks 1;
 if me == 0 { acquire 0; barrier; }
@@ -104,11 +108,9 @@ node 3 ended
 ",
 };
 
-const TRAPPED: [Case<'static>; 3] = [EACH_CAUSE, FIRST_WORD, MISSED];
+const TRAPPED: &[Case] = &[EACH_CAUSE, FIRST_WORD, MISSED];
 
 #[test]
 fn traps_have_their_lines_and_causes(rt: HostRuntime) {
-    for case in TRAPPED {
-        assert!(rt; is_explained(rt.alloc(), case) == Ok(true));
-    }
+    passes(&rt, first_wrong(rt.alloc(), TRAPPED, Question::Explained));
 }

@@ -1,9 +1,11 @@
 // Runs that stopped before their nodes came to the end.
 
-use crate::shell::{ALL_STEPS, Case, is_explained};
+use crate::checks::passes;
+use crate::shell::{ALL_STEPS, Case, Question, first_wrong};
 
 // A read, a write, a release, an assignment, an acquire and a statement that traps come next.
-const EACH_KIND: Case<'static> = Case {
+const EACH_KIND: Case = Case {
+    name: "each kind",
     text: b"words 2;
 locks 2;
 if me == 0 { x = [1]; }
@@ -55,7 +57,8 @@ node 5 unfinished
 };
 
 // The line is that of the acquire by which the lock is held, and not that of an earlier one.
-const NEWEST_ACQUIRE: Case<'static> = Case {
+const NEWEST_ACQUIRE: Case = Case {
+    name: "newest acquire",
     text: b"words 1;
 locks 1;
 if me == 0 {
@@ -84,7 +87,8 @@ node 1 unfinished
 };
 
 // The lock was released.
-const RELEASED: Case<'static> = Case {
+const RELEASED: Case = Case {
+    name: "released",
     text: b"words 1;
 locks 1;
 if me == 0 {
@@ -109,7 +113,8 @@ node 1 unfinished
 };
 
 // Nodes 0 and 2 have come to the barrier, and node 1 is about to.
-const NOT_ARRIVED: Case<'static> = Case {
+const NOT_ARRIVED: Case = Case {
+    name: "not arrived",
     text: b"words 1;
 locks 0;
 print me;
@@ -137,7 +142,8 @@ node 2 unfinished
 };
 
 // Node 0 has come to its second barrier with its last step, and node 1 never comes there.
-const SECOND_BARRIER: Case<'static> = Case {
+const SECOND_BARRIER: Case = Case {
+    name: "second barrier",
     text: b"words 1;
 locks 0;
 barrier;
@@ -170,7 +176,8 @@ print 1;
 ";
 
 // A depart takes no step, so one is left.
-const STEP_LEFT: Case<'static> = Case {
+const STEP_LEFT: Case = Case {
+    name: "step left",
     text: PASSED,
     nodes: 1,
     steps: 2,
@@ -183,7 +190,8 @@ const STEP_LEFT: Case<'static> = Case {
 ",
 };
 
-const STEPS_USED_UP: Case<'static> = Case {
+const STEPS_USED_UP: Case = Case {
+    name: "steps used up",
     steps: 1,
     told: b"node 0 unfinished
   next, line 4: steps used up
@@ -191,7 +199,7 @@ const STEPS_USED_UP: Case<'static> = Case {
     ..STEP_LEFT
 };
 
-const UNFINISHED: [Case<'static>; 7] = [
+const UNFINISHED: &[Case] = &[
     EACH_KIND,
     NEWEST_ACQUIRE,
     RELEASED,
@@ -203,7 +211,8 @@ const UNFINISHED: [Case<'static>; 7] = [
 
 #[test]
 fn what_comes_next_is_told(rt: HostRuntime) {
-    for case in UNFINISHED {
-        assert!(rt; is_explained(rt.alloc(), case) == Ok(true));
-    }
+    passes(
+        &rt,
+        first_wrong(rt.alloc(), UNFINISHED, Question::Explained),
+    );
 }

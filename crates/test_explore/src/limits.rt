@@ -1,9 +1,11 @@
 // How many states a search may meet, and that it gives up past so many and no earlier.
 
+use crate::checks::passes;
 use lrc_explore::outcomes::outcomes;
 use lrc_explore::search::{ExploreFault, explore};
 use lrc_lang::parse;
-use std::alloc::{AllocError, Global};
+use lrc_lang::program::Program;
+use std::alloc::Global;
 
 /// One node that makes no access: the start, and a state after each act.
 const STEPS: &[u8] = b"words 1; locks 0; x = 1; y = 2;";
@@ -11,54 +13,115 @@ const STEPS: &[u8] = b"words 1; locks 0; x = 1; y = 2;";
 /// Three assignments: five states of each node.
 const COUNTS: &[u8] = b"words 1; locks 0; x = 1; y = 2; z = 3;";
 
-/// Whether both searches give up of more states than `most`.
-fn give_up(
-    alloc: Global,
-    text: &[u8],
+/// A program for so many nodes, how many states a search may meet, and why both searches give up, if they do.
+struct Row {
+    name: &'static str,
+    text: &'static [u8],
     nodes: u32,
     most: usize,
-) -> Result<(bool, bool), AllocError> {
-    let program = parse(alloc, text).map_err(|_fault| AllocError)?;
-    let of_verdict = explore(alloc, &program, nodes, most);
-    let of_outcomes = outcomes(alloc, &program, nodes, most);
-    let first = matches!(of_verdict, Err(ExploreFault::TooMany));
-    let second = matches!(of_outcomes, Err(ExploreFault::TooMany));
-    Ok((first, second))
+    fault: Option<ExploreFault>,
 }
 
-/// Whether both searches refuse the number of nodes.
-fn refuse(alloc: Global, nodes: u32, most: usize) -> Result<bool, AllocError> {
-    let program = parse(alloc, STEPS).map_err(|_fault| AllocError)?;
-    let of_verdict = explore(alloc, &program, nodes, most);
-    let of_outcomes = outcomes(alloc, &program, nodes, most);
-    let first = matches!(of_verdict, Err(ExploreFault::BadNodes));
-    let second = matches!(of_outcomes, Err(ExploreFault::BadNodes));
-    Ok(first && second)
+fn verdict_is(alloc: Global, program: &Program, row: &Row) -> bool {
+    match explore(alloc, program, row.nodes, row.most) {
+        Ok(_) => row.fault.is_none(),
+        Err(fault) => row.fault == Some(fault),
+    }
 }
+
+fn outcomes_are(alloc: Global, program: &Program, row: &Row) -> bool {
+    match outcomes(alloc, program, row.nodes, row.most) {
+        Ok(_) => row.fault.is_none(),
+        Err(fault) => row.fault == Some(fault),
+    }
+}
+
+fn is_met(alloc: Global, row: &Row) -> bool {
+    match parse(alloc, row.text) {
+        Ok(program) => verdict_is(alloc, &program, row) && outcomes_are(alloc, &program, row),
+        Err(_) => false,
+    }
+}
+
+fn first_wrong(alloc: Global, rows: &[Row]) -> Option<&'static str> {
+    for row in rows {
+        if !is_met(alloc, row) {
+            return Some(row.name);
+        }
+    }
+    None
+}
+
+const TOO_MANY: Row = Row {
+    name: "one node that meets more than three states",
+    text: STEPS,
+    nodes: 1,
+    most: 3,
+    fault: Some(ExploreFault::TooMany),
+};
+
+const NO_NODE: Row = Row {
+    name: "no node",
+    nodes: 0,
+    most: 0,
+    fault: Some(ExploreFault::BadNodes),
+    ..TOO_MANY
+};
+
+const ROWS: &[Row] = &[
+    // The start, the state after each of two assignments, and the one after the end.
+    TOO_MANY,
+    Row {
+        name: "one node that meets four states",
+        most: 4,
+        fault: None,
+        ..TOO_MANY
+    },
+    // Two nodes that meet nowhere: four times four.
+    Row {
+        name: "two nodes that meet more than fifteen states",
+        nodes: 2,
+        most: 15,
+        ..TOO_MANY
+    },
+    Row {
+        name: "two nodes that meet sixteen states",
+        nodes: 2,
+        most: 16,
+        fault: None,
+        ..TOO_MANY
+    },
+    // Five states of each of four nodes: 625.
+    Row {
+        name: "four nodes that meet more than 624 states",
+        text: COUNTS,
+        nodes: 4,
+        most: 624,
+        ..TOO_MANY
+    },
+    Row {
+        name: "four nodes that meet 625 states",
+        text: COUNTS,
+        nodes: 4,
+        most: 625,
+        fault: None,
+        ..TOO_MANY
+    },
+    // The number of nodes is refused first.
+    NO_NODE,
+    Row {
+        name: "seventeen nodes",
+        nodes: 17,
+        ..NO_NODE
+    },
+    Row {
+        name: "the most nodes of 32 bits",
+        nodes: u32::MAX,
+        ..NO_NODE
+    },
+];
 
 #[test]
 fn a_search_gives_up_past_the_most_alone(rt: HostRuntime) {
-    let alloc = rt.alloc();
-    // The start, the state after each of two assignments, and the one after the end.
-    assert!(rt; give_up(alloc, STEPS, 1, 3) == Ok((true, true)));
-    assert!(rt; give_up(alloc, STEPS, 1, 4) == Ok((false, false)));
-    // Two nodes that meet nowhere: four times four.
-    assert!(rt; give_up(alloc, STEPS, 2, 15) == Ok((true, true)));
-    assert!(rt; give_up(alloc, STEPS, 2, 16) == Ok((false, false)));
-}
-
-#[test]
-fn a_large_search_ends(rt: HostRuntime) {
-    let alloc = rt.alloc();
-    // Five states of each of four nodes: 625.
-    assert!(rt; give_up(alloc, COUNTS, 4, 624) == Ok((true, true)));
-    assert!(rt; give_up(alloc, COUNTS, 4, 625) == Ok((false, false)));
-}
-
-#[test]
-fn the_number_of_nodes_is_refused_first(rt: HostRuntime) {
-    let alloc = rt.alloc();
-    for nodes in [0, 17, 4_294_967_295u32] {
-        assert!(rt; refuse(alloc, nodes, 0) == Ok(true));
-    }
+    passes(&rt, first_wrong(rt.alloc(), ROWS));
 }

@@ -1,8 +1,9 @@
 // Programs, and what is found of each: the orders are the least of the shortest.
 
+use crate::checks::passes;
 use lrc_explore::search::{ExploreFault, Verdict, explore};
 use lrc_lang::parse;
-use std::alloc::{AllocError, Global};
+use std::alloc::Global;
 
 // What should be found.
 #[derive(Clone, Copy)]
@@ -25,16 +26,24 @@ fn agrees(found: &Result<Verdict, ExploreFault>, wanted: Wanted<'_>) -> bool {
     }
 }
 
-fn is_found(
-    alloc: Global,
-    text: &[u8],
-    nodes: u32,
-    most: usize,
-    wanted: Wanted<'_>,
-) -> Result<bool, AllocError> {
-    let program = parse(alloc, text).map_err(|_fault| AllocError)?;
-    let found = explore(alloc, &program, nodes, most);
-    Ok(agrees(&found, wanted))
+/// A program for so many nodes, how many states the search may meet, and what should be found.
+type Row = (&'static str, &'static [u8], u32, usize, Wanted<'static>);
+
+fn is_found(alloc: Global, row: &Row) -> bool {
+    let (_name, text, nodes, most, wanted) = row;
+    match parse(alloc, text) {
+        Ok(program) => agrees(&explore(alloc, &program, *nodes, *most), *wanted),
+        Err(_) => false,
+    }
+}
+
+fn first_wrong(alloc: Global, rows: &[Row]) -> Option<&'static str> {
+    for row in rows {
+        if !is_found(alloc, row) {
+            return Some(row.0);
+        }
+    }
+    None
 }
 
 const COUNTER: &[u8] = b"words 1; locks 1; acquire 0; x = [0]; [0] = x + 1; release 0;";
@@ -57,37 +66,45 @@ const CROSSED: &[u8] = b"words 2; locks 2;
 const SOMETIMES: &[u8] = b"words 1; locks 1;
     acquire 0; x = [0]; [0] = 1 + me; release 0; if x == 2 { barrier; }";
 
-#[test]
-fn no_order_of_these_races(rt: HostRuntime) {
-    let alloc = rt.alloc();
-    assert!(rt; is_found(alloc, COUNTER, 2, 100, Wanted::Free) == Ok(true));
-    assert!(rt; is_found(alloc, SPIN, 2, 1000, Wanted::Free) == Ok(true));
-}
+const NO_NODES: Wanted = Wanted::Fault(ExploreFault::BadNodes);
+
+const ROWS: &[Row] = &[
+    ("no order of a counter races", COUNTER, 2, 100, Wanted::Free),
+    ("no order of a spin races", SPIN, 2, 1000, Wanted::Free),
+    ("flags", FLAGS, 2, 1000, Wanted::Racy(&[0, 0, 1])),
+    (
+        "a late grant",
+        LATE,
+        2,
+        1000,
+        Wanted::Racy(&[0, 0, 0, 0, 1, 1, 1, 0, 1]),
+    ),
+    (
+        "crossed locks",
+        CROSSED,
+        2,
+        1000,
+        Wanted::Stuck(&[0, 0, 1, 1]),
+    ),
+    (
+        "a barrier sometimes",
+        SOMETIMES,
+        2,
+        1000,
+        Wanted::Stuck(&[1, 1, 1, 1, 0, 0, 0, 0, 0, 0, 1, 1]),
+    ),
+    ("no node", COUNTER, 0, 1000, NO_NODES),
+    ("seventeen nodes", COUNTER, 17, 1000, NO_NODES),
+    (
+        "more than one state",
+        COUNTER,
+        2,
+        1,
+        Wanted::Fault(ExploreFault::TooMany),
+    ),
+];
 
 #[test]
-fn the_least_of_the_shortest_orders_that_race(rt: HostRuntime) {
-    let alloc = rt.alloc();
-    let flags = [0, 0, 1];
-    let late = [0, 0, 0, 0, 1, 1, 1, 0, 1];
-    assert!(rt; is_found(alloc, FLAGS, 2, 1000, Wanted::Racy(&flags)) == Ok(true));
-    assert!(rt; is_found(alloc, LATE, 2, 1000, Wanted::Racy(&late)) == Ok(true));
-}
-
-#[test]
-fn the_least_of_the_shortest_orders_that_get_stuck(rt: HostRuntime) {
-    let alloc = rt.alloc();
-    let crossed = [0, 0, 1, 1];
-    let sometimes = [1, 1, 1, 1, 0, 0, 0, 0, 0, 0, 1, 1];
-    assert!(rt; is_found(alloc, CROSSED, 2, 1000, Wanted::Stuck(&crossed)) == Ok(true));
-    assert!(rt; is_found(alloc, SOMETIMES, 2, 1000, Wanted::Stuck(&sometimes)) == Ok(true));
-}
-
-#[test]
-fn what_is_out_of_range_has_a_fault(rt: HostRuntime) {
-    let alloc = rt.alloc();
-    let none = Wanted::Fault(ExploreFault::BadNodes);
-    let more = Wanted::Fault(ExploreFault::TooMany);
-    assert!(rt; is_found(alloc, COUNTER, 0, 1000, none) == Ok(true));
-    assert!(rt; is_found(alloc, COUNTER, 17, 1000, none) == Ok(true));
-    assert!(rt; is_found(alloc, COUNTER, 2, 1, more) == Ok(true));
+fn the_least_of_the_shortest_orders_are_found(rt: HostRuntime) {
+    passes(&rt, first_wrong(rt.alloc(), ROWS));
 }

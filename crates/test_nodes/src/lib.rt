@@ -10,11 +10,15 @@ mod nodes;
 #[cfg(test)]
 mod plays;
 #[cfg(test)]
+mod random;
+#[cfg(test)]
 mod refusals;
 #[cfg(test)]
 mod rounds;
 #[cfg(test)]
 mod simulations;
+#[cfg(test)]
+mod stamps;
 #[cfg(test)]
 mod told;
 #[cfg(test)]

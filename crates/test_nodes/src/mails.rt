@@ -184,11 +184,6 @@ const ANY_ORDER: &[Step] = &[
     Step::Taken(1, &[(0, false), (7, false)]),
 ];
 
-#[test]
-fn takes_numbers_in_any_order(rt: HostRuntime) {
-    holds(&rt, meets(rt.alloc(), ANY_ORDER));
-}
-
 const WITH_GAPS: &[Step] = &[
     Step::TakeHalf(1),
     Step::Count(2_000),
@@ -196,26 +191,25 @@ const WITH_GAPS: &[Step] = &[
     Step::Count(4_000),
 ];
 
-#[test]
-fn takes_thousands_of_numbers_with_gaps(rt: HostRuntime) {
-    holds(&rt, meets(rt.alloc(), WITH_GAPS));
-}
-
 const NUMBERED: &[Step] = &[
     Step::Number(7, Ok([7, 7, 8])),
     Step::Number(7, Ok([9, 8, 10])),
 ];
 
-#[test]
-fn numbers_letters_for_each_node_by_itself(rt: HostRuntime) {
-    holds(&rt, meets(rt.alloc(), NUMBERED));
-}
-
 const WORN: &[Step] = &[Step::Number(4_294_967_295, Err(MailFault::Worn))];
 
+const ROWS: &[(&str, &[Step])] = &[
+    ("takes numbers in any order", ANY_ORDER),
+    ("takes thousands of numbers with gaps", WITH_GAPS),
+    ("numbers letters for each node by itself", NUMBERED),
+    ("wears where a number is too large", WORN),
+];
+
 #[test]
-fn wears_where_a_number_is_too_large(rt: HostRuntime) {
-    holds(&rt, meets(rt.alloc(), WORN));
+fn mails_are_as_worked(rt: HostRuntime) {
+    for (name, steps) in ROWS {
+        holds(&rt, name, meets(rt.alloc(), steps));
+    }
 }
 
 /// A key of page 3.
@@ -277,7 +271,7 @@ fn asks(alloc: Global) -> bool {
 
 #[test]
 fn asks_the_keeper_and_each_maker(rt: HostRuntime) {
-    holds(&rt, asks(rt.alloc()));
+    holds(&rt, "an absent page", asks(rt.alloc()));
 }
 
 fn are_needs_met(needs: &[Need]) -> bool {
@@ -326,5 +320,5 @@ fn is_over(alloc: Global) -> Result<bool, AllocError> {
 
 #[test]
 fn waits_until_all_has_come(rt: HostRuntime) {
-    holds(&rt, is_over(rt.alloc()) == Ok(true));
+    holds(&rt, "an absent page", is_over(rt.alloc()) == Ok(true));
 }

@@ -60,12 +60,6 @@ fn is_granted(alloc: Global) -> bool {
         && at_hand.as_slice() == &GRANT[..]
 }
 
-#[test]
-fn a_grant_has_the_time_of_the_release(rt: HostRuntime) {
-    holds(&rt, is_granted(rt.alloc()));
-    holds(&rt, plays_alone(rt.alloc(), GRANTED));
-}
-
 const ONE_WORD: &Play = &Play {
     text: b"words 1; locks 0; [0] = 1;",
     node: 0,
@@ -79,11 +73,6 @@ const ONE_WORD: &Play = &Play {
         Step::Stands(false, End::Ended),
     ],
 };
-
-#[test]
-fn a_node_at_its_end_is_not_ready(rt: HostRuntime) {
-    holds(&rt, plays_alone(rt.alloc(), ONE_WORD));
-}
 
 // The node's first message has the largest number there is. It answers with a second one, to itself too.
 const ONE_BARRIER: &Play = &Play {
@@ -99,11 +88,6 @@ const ONE_BARRIER: &Play = &Play {
         Step::Stands(false, End::Unfinished),
     ],
 };
-
-#[test]
-fn a_node_fails_where_numbers_are_used_up(rt: HostRuntime) {
-    holds(&rt, plays_alone(rt.alloc(), ONE_BARRIER));
-}
 
 // Node 0 lets two nodes depart from the first barrier, at time 1,1: its interval 1 wrote nothing. Then it asks for what
 // node 1's interval 1 changed in page 0.
@@ -134,7 +118,21 @@ const ENDED: &Play = &Play {
     ],
 };
 
+const ROWS: &[(&str, &Play)] = &[
+    ("a repeat of a grant is taken once", GRANTED),
+    ("a node at its end is not ready", ONE_WORD),
+    ("a node fails where numbers are used up", ONE_BARRIER),
+    ("a node that fails at its end has ended", ENDED),
+];
+
 #[test]
-fn a_node_that_fails_at_its_end_has_ended(rt: HostRuntime) {
-    holds(&rt, plays_alone(rt.alloc(), ENDED));
+fn nodes_are_as_worked(rt: HostRuntime) {
+    holds(
+        &rt,
+        "a grant has the time of the release",
+        is_granted(rt.alloc()),
+    );
+    for (name, play) in ROWS {
+        holds(&rt, name, plays_alone(rt.alloc(), play));
+    }
 }

@@ -110,5 +110,5 @@ fn refuses_each(alloc: Global) -> bool {
 
 #[test]
 fn false_messages_change_nothing(rt: HostRuntime) {
-    holds(&rt, refuses_each(rt.alloc()));
+    holds(&rt, "a fresh node", refuses_each(rt.alloc()));
 }

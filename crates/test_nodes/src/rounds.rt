@@ -28,9 +28,16 @@ fn options(steps: u32, collect: u32, first: u32) -> Options {
     }
 }
 
-/// How many nodes run; the steps, the collections and the first number of the options; which message is delivered first; and how
+/// A name and a text; how many nodes run it; the steps, the collections and the first number of the options; which message is delivered first; and how
 /// many are delivered for the last time, and how many stay in flight once, or the fault.
-type Row = (u32, [u32; 3], Picker, Result<(u32, u32), SimFault>);
+type Row<'a> = (
+    &'a str,
+    &'a [u8],
+    u32,
+    [u32; 3],
+    Picker,
+    Result<(u32, u32), SimFault>,
+);
 
 /// How many messages these events deliver for the last time, and how many stay in flight once.
 fn delivered(events: &[Event]) -> (u32, u32) {
@@ -52,7 +59,7 @@ fn delivered_in(done: (Vec<Event>, Report)) -> (u32, u32) {
 }
 
 fn delivers(alloc: Global, program: &Program, row: &Row) -> bool {
-    let (nodes, [steps, collect, first], picker, wanted) = *row;
+    let (_name, _text, nodes, [steps, collect, first], picker, wanted) = *row;
     let options = options(steps, collect, first);
     match drive(alloc, program, nodes, &options, picker) {
         Ok(done) => wanted == Ok(delivered_in(done)),
@@ -60,48 +67,98 @@ fn delivers(alloc: Global, program: &Program, row: &Row) -> bool {
     }
 }
 
-fn delivers_each(alloc: Global, program: &Program, rows: &[Row]) -> bool {
-    for row in rows {
-        if !delivers(alloc, program, row) {
-            return false;
-        }
-    }
-    true
-}
-
-/// Whether the text does each of the rows.
-fn delivers_all(alloc: Global, text: &[u8], rows: &[Row]) -> bool {
-    match parse(alloc, text) {
-        Ok(program) => delivers_each(alloc, &program, rows),
+/// Whether a row's text does what is wanted.
+fn is_row_met(alloc: Global, row: &Row) -> bool {
+    match parse(alloc, row.1) {
+        Ok(program) => delivers(alloc, &program, row),
         Err(_) => false,
     }
 }
 
-const DELIVERED: &[Row] = &[
-    (3, [1_000_000, 0, 0], Picker::Oldest, Ok((10, 0))),
-    (3, [1_000_000, 0, 0], Picker::Newest, Ok((10, 0))),
-    (3, [1_000_000, 0, 0], Picker::Twice, Ok((10, 10))),
-    (3, [1_000_000, 1, 0], Picker::Oldest, Ok((16, 0))),
-    (3, [1_000_000, 1, 0], Picker::Newest, Ok((16, 0))),
-    (3, [1_000_000, 1, 0], Picker::Twice, Ok((16, 16))),
-];
-
-#[test]
-fn every_message_is_delivered(rt: HostRuntime) {
-    holds(&rt, delivers_all(rt.alloc(), WRITTEN_BY_ONE, DELIVERED));
-}
-
-const REFUSED: &[Row] = &[
-    (0, [1, 0, 0], Picker::Oldest, Err(SimFault::BadNodes)),
-    (17, [0, 0, 0], Picker::Oldest, Err(SimFault::BadNodes)),
-    (16, [0, 0, 0], Picker::Oldest, Err(SimFault::BadSteps)),
+const ROWS: &[Row] = &[
     (
+        "the oldest message is delivered first",
+        WRITTEN_BY_ONE,
+        3,
+        [1_000_000, 0, 0],
+        Picker::Oldest,
+        Ok((10, 0)),
+    ),
+    (
+        "the newest message is delivered first",
+        WRITTEN_BY_ONE,
+        3,
+        [1_000_000, 0, 0],
+        Picker::Newest,
+        Ok((10, 0)),
+    ),
+    (
+        "each message is delivered twice",
+        WRITTEN_BY_ONE,
+        3,
+        [1_000_000, 0, 0],
+        Picker::Twice,
+        Ok((10, 10)),
+    ),
+    (
+        "the oldest first, with a collection",
+        WRITTEN_BY_ONE,
+        3,
+        [1_000_000, 1, 0],
+        Picker::Oldest,
+        Ok((16, 0)),
+    ),
+    (
+        "the newest first, with a collection",
+        WRITTEN_BY_ONE,
+        3,
+        [1_000_000, 1, 0],
+        Picker::Newest,
+        Ok((16, 0)),
+    ),
+    (
+        "each twice, with a collection",
+        WRITTEN_BY_ONE,
+        3,
+        [1_000_000, 1, 0],
+        Picker::Twice,
+        Ok((16, 16)),
+    ),
+    (
+        "no nodes",
+        TOLD_AT_A_BARRIER,
+        0,
+        [1, 0, 0],
+        Picker::Oldest,
+        Err(SimFault::BadNodes),
+    ),
+    (
+        "17 nodes and no steps",
+        TOLD_AT_A_BARRIER,
+        17,
+        [0, 0, 0],
+        Picker::Oldest,
+        Err(SimFault::BadNodes),
+    ),
+    (
+        "no steps",
+        TOLD_AT_A_BARRIER,
+        16,
+        [0, 0, 0],
+        Picker::Oldest,
+        Err(SimFault::BadSteps),
+    ),
+    (
+        "too many steps",
+        TOLD_AT_A_BARRIER,
         1,
         [1_000_001, 0, 0],
         Picker::Oldest,
         Err(SimFault::BadSteps),
     ),
     (
+        "numbers used up",
+        TOLD_AT_A_BARRIER,
         2,
         [1_000_000, 0, 4_294_967_295],
         Picker::Oldest,
@@ -110,49 +167,44 @@ const REFUSED: &[Row] = &[
 ];
 
 #[test]
-fn each_refusal_has_its_cause(rt: HostRuntime) {
-    holds(&rt, delivers_all(rt.alloc(), TOLD_AT_A_BARRIER, REFUSED));
+fn every_message_is_delivered_and_each_refusal_has_its_cause(rt: HostRuntime) {
+    for row in ROWS {
+        holds(&rt, row.0, is_row_met(rt.alloc(), row));
+    }
 }
 
-/// How many nodes have how many steps each, and the fault of their run of no events, if it has one.
-type Range = (u32, u32, Option<SimFault>);
+/// A name, how many nodes have how many steps each, and the fault of their run of no events, if it has one.
+type Range<'a> = (&'a str, u32, u32, Option<SimFault>);
 
 fn is_fault(alloc: Global, program: &Program, range: &Range) -> bool {
-    let (nodes, steps, wanted) = *range;
+    let (_name, nodes, steps, wanted) = *range;
     match simulate(alloc, program, nodes, &options(steps, 0, 0), &[]) {
         Ok(_report) => wanted.is_none(),
         Err(fault) => wanted == Some(fault),
     }
 }
 
-fn are_faults(alloc: Global, program: &Program, ranges: &[Range]) -> bool {
-    for range in ranges {
-        if !is_fault(alloc, program, range) {
-            return false;
-        }
-    }
-    true
-}
-
-fn have_faults(alloc: Global, ranges: &[Range]) -> bool {
+fn has_fault(alloc: Global, range: &Range) -> bool {
     match parse(alloc, TOLD_AT_A_BARRIER) {
-        Ok(program) => are_faults(alloc, &program, ranges),
+        Ok(program) => is_fault(alloc, &program, range),
         Err(_) => false,
     }
 }
 
 const RANGES: &[Range] = &[
-    (0, 1_000_000, Some(SimFault::BadNodes)),
-    (17, 1_000_000, Some(SimFault::BadNodes)),
-    (16, 0, Some(SimFault::BadSteps)),
-    (16, 1_000_001, Some(SimFault::BadSteps)),
-    (16, 1_000_000, None),
-    (1, 1, None),
+    ("no nodes", 0, 1_000_000, Some(SimFault::BadNodes)),
+    ("17 nodes", 17, 1_000_000, Some(SimFault::BadNodes)),
+    ("no steps", 16, 0, Some(SimFault::BadSteps)),
+    ("too many steps", 16, 1_000_001, Some(SimFault::BadSteps)),
+    ("the most", 16, 1_000_000, None),
+    ("the fewest", 1, 1, None),
 ];
 
 #[test]
 fn numbers_out_of_range_have_no_run(rt: HostRuntime) {
-    holds(&rt, have_faults(rt.alloc(), RANGES));
+    for range in RANGES {
+        holds(&rt, range.0, has_fault(rt.alloc(), range));
+    }
 }
 
 /// Whether a run of which the turns are not kept says the same.
@@ -242,23 +294,6 @@ fn is_same_in(alloc: Global, program: &Program, order: Order, races: usize) -> b
     }
 }
 
-/// Whether a run in rounds and one in a random order say the same where the turns of the nodes are not kept, and have so many races.
-fn is_same_in_brief(alloc: Global, text: &[u8], races: usize) -> bool {
-    match parse(alloc, text) {
-        Ok(program) => {
-            is_same_in(alloc, &program, Order::Rounds, races)
-                && is_same_in(alloc, &program, Order::Random, races)
-        }
-        Err(_) => false,
-    }
-}
-
-#[test]
-fn brief_runs_say_the_same(rt: HostRuntime) {
-    holds(&rt, is_same_in_brief(rt.alloc(), WRITTEN_BY_ONE, 0));
-    holds(&rt, is_same_in_brief(rt.alloc(), READ_WITHOUT_ORDER, 2));
-}
-
 /// Whether a run by these events, of which the turns are not kept, says the same as a report, where there is one, and nothing is
 /// left to do after it, or something.
 fn is_replayed(
@@ -294,17 +329,28 @@ fn replays(alloc: Global, program: &Program) -> bool {
     }
 }
 
-/// Whether the events of a run say the same where they are played over without the turns of the nodes, and something is left to do
-/// after all but the last of them, and nothing after all.
-fn replays_in_brief(alloc: Global, text: &[u8]) -> bool {
+/// Whether a run in rounds and one in a random order say the same where the turns of the nodes are not kept, and have so many
+/// races. And whether the events of a run say the same where they are played over without the turns of the nodes, and something is
+/// left to do after all but the last of them, and nothing after all.
+fn say_the_same(alloc: Global, text: &[u8], races: usize) -> bool {
     match parse(alloc, text) {
-        Ok(program) => replays(alloc, &program),
+        Ok(program) => {
+            is_same_in(alloc, &program, Order::Rounds, races)
+                && is_same_in(alloc, &program, Order::Random, races)
+                && replays(alloc, &program)
+        }
         Err(_) => false,
     }
 }
 
+const BRIEF: &[(&str, &[u8], usize)] = &[
+    ("written by one", WRITTEN_BY_ONE, 0),
+    ("read without order", READ_WITHOUT_ORDER, 2),
+];
+
 #[test]
-fn replays_say_the_same(rt: HostRuntime) {
-    holds(&rt, replays_in_brief(rt.alloc(), WRITTEN_BY_ONE));
-    holds(&rt, replays_in_brief(rt.alloc(), READ_WITHOUT_ORDER));
+fn brief_runs_and_replays_say_the_same(rt: HostRuntime) {
+    for (name, text, races) in BRIEF {
+        holds(&rt, name, say_the_same(rt.alloc(), text, *races));
+    }
 }

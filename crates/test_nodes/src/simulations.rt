@@ -59,6 +59,7 @@ enum Wanted<'a> {
 /// A text that so many nodes run, the options, the events and what is wanted.
 #[derive(Clone, Copy)]
 struct Run<'a> {
+    name: &'a str,
     text: &'a [u8],
     nodes: u8,
     collect: u32,
@@ -180,15 +181,6 @@ fn is_met(alloc: Global, run: &Run) -> bool {
     }
 }
 
-fn are_met(alloc: Global, runs: &[Run]) -> bool {
-    for run in runs {
-        if !is_met(alloc, run) {
-            return false;
-        }
-    }
-    true
-}
-
 // A lock that is asked for while its holder goes on: the grant has the time of the release, and not what came after.
 const LATE_GRANT_EVENTS: &[(Event, u32)] = &[
     (Event::Run(0), 5),
@@ -248,118 +240,104 @@ const HANDED_ON_EVENTS: &[(Event, u32)] = &[
     (Event::Run(2), 3),
 ];
 
-const LOCKED: &[Run] = &[
+const LATE: Run = Run {
+    name: "a late grant",
+    text: LATE_GRANT,
+    nodes: 2,
+    collect: 0,
+    size: Size::Words64,
+    events: Events::Each(LATE_GRANT_EVENTS),
+    wanted: Wanted::Prints(&[(1, 1), (1, 0)]),
+};
+
+const SHARED: Run = Run {
+    name: "nodes write words of one page",
+    text: FALSE_SHARING,
+    events: Events::Rounds(60),
+    wanted: Wanted::EachPrints(&[10, 11]),
+    ..LATE
+};
+
+const KEPT: Run = Run {
+    name: "writers keep pages with no collection",
+    text: KEPT_BY_WRITERS,
+    nodes: 3,
+    wanted: Wanted::EachPrints(&[4, 6, 8]),
+    ..SHARED
+};
+
+const RACING: Race = Race {
+    word: 1,
+    node_a: 0,
+    interval_a: 3,
+    node_b: 1,
+    interval_b: 3,
+};
+
+const RUNS: &[Run] = &[
+    LATE,
     Run {
-        text: LATE_GRANT,
-        nodes: 2,
-        collect: 0,
-        size: Size::Words64,
-        events: Events::Each(LATE_GRANT_EVENTS),
-        wanted: Wanted::Prints(&[(1, 1), (1, 0)]),
-    },
-    Run {
-        text: LATE_GRANT,
-        nodes: 2,
-        collect: 0,
-        size: Size::Words64,
+        name: "a late grant, each message twice",
         events: Events::Each(REPEATED_EVENTS),
-        wanted: Wanted::Prints(&[(1, 1), (1, 0)]),
+        ..LATE
     },
     Run {
+        name: "a lock that is held",
         text: HELD,
         nodes: 3,
-        collect: 0,
-        size: Size::Words64,
         events: Events::Each(HELD_EVENTS),
         wanted: Wanted::Prints(&[(2, 1), (1, 0)]),
+        ..LATE
     },
     Run {
+        name: "a lock that is handed on",
         text: HANDED_ON,
         nodes: 3,
-        collect: 0,
-        size: Size::Words64,
         events: Events::Each(HANDED_ON_EVENTS),
         wanted: Wanted::Prints(&[(2, 3)]),
+        ..LATE
+    },
+    SHARED,
+    Run {
+        name: "nodes write words of one large page",
+        size: Size::Words256,
+        ..SHARED
+    },
+    Run {
+        name: "four nodes count",
+        text: COUNTER,
+        nodes: 4,
+        wanted: Wanted::EachPrints(&[4]),
+        ..SHARED
+    },
+    KEPT,
+    Run {
+        name: "writers keep pages over collections from weight 1 on",
+        collect: 1,
+        ..KEPT
+    },
+    Run {
+        name: "writers keep pages over collections from weight 2 on",
+        collect: 2,
+        ..KEPT
+    },
+    Run {
+        name: "writers keep pages over collections from weight 3 on",
+        collect: 3,
+        ..KEPT
+    },
+    Run {
+        name: "races are reported by interval",
+        text: HALF_LOCKED,
+        events: Events::Rounds(30),
+        wanted: Wanted::Race(RACING),
+        ..SHARED
     },
 ];
 
 #[test]
-fn locks_bring_what_was_written_under_them(rt: HostRuntime) {
-    holds(&rt, are_met(rt.alloc(), LOCKED));
-}
-
-const SHARED_FALSELY: Run = Run {
-    text: FALSE_SHARING,
-    nodes: 2,
-    collect: 0,
-    size: Size::Words64,
-    events: Events::Rounds(60),
-    wanted: Wanted::EachPrints(&[10, 11]),
-};
-
-const SHARED_FALSELY_ON_LARGE_PAGES: Run = Run {
-    size: Size::Words256,
-    ..SHARED_FALSELY
-};
-
-#[test]
-fn nodes_write_words_of_one_page(rt: HostRuntime) {
-    holds(
-        &rt,
-        are_met(rt.alloc(), &[SHARED_FALSELY, SHARED_FALSELY_ON_LARGE_PAGES]),
-    );
-}
-
-const COUNTED: &[Run] = &[Run {
-    text: COUNTER,
-    nodes: 4,
-    collect: 0,
-    size: Size::Words64,
-    events: Events::Rounds(60),
-    wanted: Wanted::EachPrints(&[4]),
-}];
-
-#[test]
-fn four_nodes_count(rt: HostRuntime) {
-    holds(&rt, are_met(rt.alloc(), COUNTED));
-}
-
-/// Whether the writers keep their pages, where a collection is asked for from this weight on.
-fn are_kept(alloc: Global, collect: u32) -> bool {
-    let run = Run {
-        text: KEPT_BY_WRITERS,
-        nodes: 3,
-        collect,
-        size: Size::Words64,
-        events: Events::Rounds(60),
-        wanted: Wanted::EachPrints(&[4, 6, 8]),
-    };
-    is_met(alloc, &run)
-}
-
-#[test]
-fn writers_keep_pages_over_collections(rt: HostRuntime) {
-    for collect in 0..4u32 {
-        holds(&rt, are_kept(rt.alloc(), collect));
+fn runs_show_what_is_wanted(rt: HostRuntime) {
+    for run in RUNS {
+        holds(&rt, run.name, is_met(rt.alloc(), run));
     }
-}
-
-const RACING: &[Run] = &[Run {
-    text: HALF_LOCKED,
-    nodes: 2,
-    collect: 0,
-    size: Size::Words64,
-    events: Events::Rounds(30),
-    wanted: Wanted::Race(Race {
-        word: 1,
-        node_a: 0,
-        interval_a: 3,
-        node_b: 1,
-        interval_b: 3,
-    }),
-}];
-
-#[test]
-fn races_are_reported_by_interval(rt: HostRuntime) {
-    holds(&rt, are_met(rt.alloc(), RACING));
 }

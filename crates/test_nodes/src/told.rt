@@ -131,17 +131,6 @@ const THREE_WRITERS: &[u8] =
     b"words 1; locks 0; if me == 2 { [0] = 12; } barrier; if me == 1 { [0] = 11; } barrier;
     if me == 0 { [0] = 10; } barrier; x = [0]; print x;";
 
-const TWO_WRITES: Told = Told::Writes(2, &[(0, 2, 2), (1, 3, 7)]);
-
-const THREE_WRITES: Told = Told::Writes(3, &[(2, 1, 1), (1, 2, 5), (0, 3, 9)]);
-
-// The last node is told of them.
-#[test]
-fn later_writes_weigh_more(rt: HostRuntime) {
-    holds(&rt, is_shown(rt.alloc(), SILENT_SECOND, 3, TWO_WRITES));
-    holds(&rt, is_shown(rt.alloc(), THREE_WRITERS, 4, THREE_WRITES));
-}
-
 // Node 0 leaves page 0 as it was.
 const WRITTEN_BACK: &[u8] =
     b"words 1; locks 0; if me == 0 { [0] = 9; [0] = 0; } barrier; x = [0]; print x;";
@@ -151,10 +140,34 @@ const NO_CHANGES: [u8; 24] = [
     2, 9, 0, 1, 0, 0, 0, 1, 0, 0, 0, 12, 0, 0, 0, 0, 0, 1, 0, 0, 0, 1, 0, 0,
 ];
 
+/// A text, how many nodes run it, and what it is to show.
+type Row<'a> = (&'a str, &'a [u8], u32, Told<'a>);
+
+const ROWS: &[Row] = &[
+    // The last node is told of them.
+    (
+        "the later of two writes weighs more",
+        SILENT_SECOND,
+        3,
+        Told::Writes(2, &[(0, 2, 2), (1, 3, 7)]),
+    ),
+    (
+        "the later of three writes weighs more",
+        THREE_WRITERS,
+        4,
+        Told::Writes(3, &[(2, 1, 1), (1, 2, 5), (0, 3, 9)]),
+    ),
+    (
+        "a reply of no changes has its bytes",
+        WRITTEN_BACK,
+        2,
+        Told::Reply(&NO_CHANGES),
+    ),
+];
+
 #[test]
-fn a_reply_of_no_changes_has_its_bytes(rt: HostRuntime) {
-    holds(
-        &rt,
-        is_shown(rt.alloc(), WRITTEN_BACK, 2, Told::Reply(&NO_CHANGES)),
-    );
+fn nodes_are_told(rt: HostRuntime) {
+    for (name, text, nodes, told) in ROWS {
+        holds(&rt, name, is_shown(rt.alloc(), text, *nodes, *told));
+    }
 }

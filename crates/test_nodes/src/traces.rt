@@ -144,5 +144,5 @@ fn is_traced(alloc: Global) -> bool {
 
 #[test]
 fn a_trace_has_the_accesses_by_interval(rt: HostRuntime) {
-    holds(&rt, is_traced(rt.alloc()));
+    holds(&rt, "one barrier", is_traced(rt.alloc()));
 }

@@ -10,7 +10,6 @@ use lrc_page::Pages;
 use lrc_store::{Interval, Intervals};
 use lrc_time::Time;
 use std::alloc::{AllocError, Global};
-use std::test::Fail;
 
 /// The node and the index of an interval, and how many pages it wrote.
 type Told = (u8, u32, usize);
@@ -23,16 +22,24 @@ struct Says<'a> {
     told: &'a [&'a [Told]],
 }
 
-/// What is done with a manager, or what is wanted of it. An arrival is a node's, at an episode, whether it asks for a collection,
-/// and its time.
+/// What is wanted of an arrival.
+#[derive(Clone, Copy)]
+enum Wanted<'a> {
+    /// It waits for others.
+    Waits,
+    /// It is refused, and the manager knows what it knew.
+    Refused(BarrierFault),
+    /// It is the last, it asks for a collection where one is to follow, and the departures say this.
+    Departs(Says<'a>),
+    /// It is the last of sixteen, it asks for a collection, and each is told of the intervals of all others.
+    AllDepart,
+}
+
+/// What is done with a manager, or what is wanted of it.
 #[derive(Clone, Copy)]
 enum Step<'a> {
-    /// The arrival waits for others.
-    Waits(u8, u32, bool, &'a [u32]),
-    /// The arrival is refused.
-    Refused(u8, u32, &'a [u32], BarrierFault),
-    /// The arrival is the last, and the departures say this.
-    Departs(u8, u32, bool, &'a [u32], Says<'a>),
+    /// A node arrives at an episode, at a time.
+    Arrives(u8, u32, &'a [u32], Wanted<'a>),
     /// A node's Clean for an episode gets this answer.
     Clean(u8, u32, Result<Option<u32>, BarrierFault>),
     /// So many intervals of a node are known.
@@ -78,86 +85,6 @@ fn enter(
     }
 }
 
-/// One of so many nodes arrives with the newest interval that it has closed, if any. Of a few nodes only node 0 wrote a page, of
-/// sixteen each.
-fn arrive(
-    alloc: Global,
-    manager: &mut Manager,
-    nodes: u8,
-    from: u8,
-    episode: u32,
-    ask: bool,
-    time: &[u32],
-) -> Result<Result<Option<Departures>, BarrierFault>, AllocError>
-    requires few { nodes ≤ 16 }
-    requires nodes { length manager.old.last ≡ nodes }
-    requires from { from < nodes }
-    ensures { length manager.new.last ≡ nodes }
-{
-    let time = of(nodes, time);
-    let intervals = newest(alloc, from, &time, from == 0 || nodes == 16)?;
-    let arrival = Arrival {
-        episode,
-        ask,
-        time,
-        intervals,
-    };
-    Ok(enter(manager, from, &arrival))
-}
-
-fn waits(
-    alloc: Global,
-    manager: &mut Manager,
-    nodes: u8,
-    from: u8,
-    episode: u32,
-    ask: bool,
-    time: &[u32],
-) -> Result<bool, AllocError>
-    requires few { nodes ≤ 16 }
-    requires nodes { length manager.old.last ≡ nodes }
-    ensures { length manager.new.last ≡ nodes }
-{
-    if from >= nodes {
-        return Ok(false);
-    }
-    let kept = matches!(
-        arrive(alloc, manager, nodes, from, episode, ask, time)?,
-        Ok(None)
-    );
-    Ok(kept && time.get(usize::from(from)) == Some(&manager.last(from)))
-}
-
-/// Whether an arrival is refused with this fault, and the manager knows what it knew.
-fn is_refused(
-    alloc: Global,
-    manager: &mut Manager,
-    nodes: u8,
-    from: u8,
-    episode: u32,
-    time: &[u32],
-    fault: BarrierFault,
-) -> Result<bool, AllocError>
-    requires few { nodes ≤ 16 }
-    requires nodes { length manager.old.last ≡ nodes }
-    ensures { length manager.new.last ≡ nodes }
-{
-    if from >= nodes {
-        return Ok(false);
-    }
-    let last = manager.last(from);
-    let given = arrive(alloc, manager, nodes, from, episode, false, time)?.err();
-    Ok(given == Some(fault) && manager.last(from) == last)
-}
-
-/// The departures, which the last arrival gives.
-fn told(answer: &Result<Option<Departures>, BarrierFault>) -> &[Departure] {
-    match answer {
-        Ok(Some(departures)) => departures.as_slice(),
-        Ok(None) | Err(_) => &[],
-    }
-}
-
 /// Whether these are the intervals with these nodes, indices and numbers of pages.
 fn are(intervals: &Intervals, wanted: &[Told]) -> bool {
     for (interval, want) in intervals.as_slice().iter().zip(wanted) {
@@ -170,10 +97,12 @@ fn are(intervals: &Intervals, wanted: &[Told]) -> bool {
 
 /// Whether there is a departure for each node, from this episode, with these intervals.
 fn tell(departures: &[Departure], episode: u32, wanted: &[&[Told]]) -> bool {
-    for ((to, departure), told) in (0..16u8).zip(departures).zip(wanted) {
+    let mut to: u8 = 0;
+    for (departure, told) in departures.iter().zip(wanted) {
         if departure.to != to || departure.episode != episode || !are(&departure.intervals, told) {
             return false;
         }
+        to = to.wrapping_add(1);
     }
     departures.len() == wanted.len()
 }
@@ -186,221 +115,6 @@ fn agree(departures: &[Departure], time: &Time, collect: bool) -> bool {
         }
     }
     true
-}
-
-/// Whether the last arrival has all depart, and the departures say this.
-fn departs(
-    alloc: Global,
-    manager: &mut Manager,
-    nodes: u8,
-    from: u8,
-    episode: u32,
-    ask: bool,
-    time: &[u32],
-    says: Says,
-) -> Result<bool, AllocError>
-    requires few { nodes ≤ 16 }
-    requires nodes { length manager.old.last ≡ nodes }
-    ensures { length manager.new.last ≡ nodes }
-{
-    if from >= nodes {
-        return Ok(false);
-    }
-    let all = of(nodes, says.time);
-    let answer = arrive(alloc, manager, nodes, from, episode, ask, time)?;
-    let departures = told(&answer);
-    Ok(tell(departures, episode, says.told) && agree(departures, &all, says.collect))
-}
-
-/// Takes a step with a manager of so many nodes, and answers whether what was wanted came out.
-fn is_met(alloc: Global, manager: &mut Manager, nodes: u8, step: Step) -> Result<bool, AllocError>
-    requires few { nodes ≤ 16 }
-    requires nodes { length manager.old.last ≡ nodes }
-    ensures { length manager.new.last ≡ nodes }
-{
-    match step {
-        Step::Waits(from, episode, ask, time) => {
-            waits(alloc, manager, nodes, from, episode, ask, time)
-        }
-        Step::Refused(from, episode, time, fault) => {
-            is_refused(alloc, manager, nodes, from, episode, time, fault)
-        }
-        Step::Departs(from, episode, ask, time, says) => {
-            departs(alloc, manager, nodes, from, episode, ask, time, says)
-        }
-        Step::Clean(from, episode, answer) => {
-            Ok(from < nodes && manager.clean(from, episode) == answer)
-        }
-        Step::Last(node, index) => Ok(node < nodes && manager.last(node) == index),
-    }
-}
-
-fn are_met(
-    alloc: Global,
-    manager: &mut Manager,
-    nodes: u8,
-    steps: &[Step],
-) -> Result<bool, AllocError>
-    requires few { nodes ≤ 16 }
-    requires nodes { length manager.old.last ≡ nodes }
-    ensures { length manager.new.last ≡ nodes }
-{
-    for step in steps {
-        if !is_met(alloc, manager, nodes, *step)? {
-            return Ok(false);
-        }
-    }
-    Ok(true)
-}
-
-/// Whether a manager of so many nodes that knows nothing at first meets each of the steps.
-fn meets(alloc: Global, nodes: u8, steps: &[Step]) -> Result<bool, AllocError>
-    requires some { 1 ≤ nodes }
-    requires few { nodes ≤ 16 }
-{
-    let mut manager = Manager::new(alloc, nodes);
-    are_met(alloc, &mut manager, nodes, steps)
-}
-
-#[test]
-fn refuses_arrivals_out_of_turn(rt: HostRuntime) -> Result<(), Fail> {
-    let wrong = BarrierFault::WrongEpisode;
-    let steps = [
-        Step::Last(0, 0),
-        Step::Refused(0, 2, &[9, 9, 9], wrong),
-        Step::Refused(0, u32::MAX, &[9, 9, 9], wrong),
-        Step::Waits(0, 1, false, &[3, 0, 0]),
-        Step::Refused(0, 1, &[9, 9, 9], BarrierFault::Twice),
-        Step::Refused(0, 2, &[9, 9, 9], wrong),
-        Step::Refused(1, 0, &[9, 9, 9], wrong),
-        Step::Clean(0, 1, Err(wrong)),
-        Step::Clean(0, 0, Err(wrong)),
-    ];
-    holds(&rt, meets(rt.alloc(), 3, &steps))
-}
-
-// Three nodes that know nothing of each other arrive, and depart.
-#[test]
-fn tells_each_node_what_it_lacks(rt: HostRuntime) -> Result<(), Fail> {
-    let told: [&[Told]; 3] = [
-        &[(1, 1, 0), (2, 1, 0)],
-        &[(0, 1, 1), (2, 1, 0)],
-        &[(0, 1, 1), (1, 1, 0)],
-    ];
-    let steps = [
-        Step::Waits(2, 1, false, &[0, 0, 1]),
-        Step::Waits(0, 1, false, &[1, 0, 0]),
-        Step::Departs(
-            1,
-            1,
-            false,
-            &[0, 1, 0],
-            Says {
-                collect: false,
-                time: &[1, 1, 1],
-                told: &told,
-            },
-        ),
-    ];
-    holds(&rt, meets(rt.alloc(), 3, &steps))
-}
-
-// Three nodes, of which the second knows the first, and the third both but for the first's newest interval, arrive, and
-// depart.
-#[test]
-fn tells_no_node_what_it_knew(rt: HostRuntime) -> Result<(), Fail> {
-    let told: [&[Told]; 3] = [&[(1, 2, 0), (2, 5, 0)], &[(2, 5, 0)], &[(0, 3, 1)]];
-    let steps = [
-        Step::Waits(0, 1, false, &[3, 0, 0]),
-        Step::Waits(1, 1, false, &[3, 2, 0]),
-        Step::Departs(
-            2,
-            1,
-            false,
-            &[2, 2, 5],
-            Says {
-                collect: false,
-                time: &[3, 2, 5],
-                told: &told,
-            },
-        ),
-    ];
-    holds(&rt, meets(rt.alloc(), 3, &steps))
-}
-
-// One of two nodes asks for a collection, and then none does.
-#[test]
-fn a_collection_waits_for_every_clean(rt: HostRuntime) -> Result<(), Fail> {
-    let wrong = BarrierFault::WrongEpisode;
-    let told: [&[Told]; 2] = [&[], &[]];
-    let steps = [
-        Step::Waits(0, 1, false, &[0, 0]),
-        Step::Departs(
-            1,
-            1,
-            true,
-            &[0, 0],
-            Says {
-                collect: true,
-                time: &[0, 0],
-                told: &told,
-            },
-        ),
-        Step::Refused(0, 2, &[0, 0], wrong),
-        Step::Clean(0, 2, Err(wrong)),
-        Step::Clean(0, 1, Ok(None)),
-        Step::Clean(0, 1, Err(BarrierFault::Twice)),
-        Step::Clean(1, 1, Ok(Some(1))),
-        Step::Clean(1, 1, Err(wrong)),
-        Step::Waits(0, 2, false, &[0, 0]),
-        Step::Departs(
-            1,
-            2,
-            false,
-            &[0, 0],
-            Says {
-                collect: false,
-                time: &[0, 0],
-                told: &told,
-            },
-        ),
-        Step::Clean(1, 2, Err(wrong)),
-    ];
-    holds(&rt, meets(rt.alloc(), 2, &steps))
-}
-
-#[test]
-fn a_manager_of_two_refuses_another_episode_and_a_second_arrival(
-    rt: HostRuntime,
-) -> Result<(), Fail> {
-    let steps = [
-        Step::Refused(0, 2, &[0, 0], BarrierFault::WrongEpisode),
-        Step::Waits(0, 1, false, &[0, 0]),
-        Step::Refused(0, 1, &[0, 0], BarrierFault::Twice),
-    ];
-    holds(&rt, meets(rt.alloc(), 2, &steps))
-}
-
-/// The entries of sixteen nodes of which one has closed as many intervals as there can be.
-fn largest(node: u8) -> [u32; 16]
-    requires { node < 16 }
-{
-    let mut entries = [0; 16];
-    entries[usize::from(node)] = u32::MAX;
-    entries
-}
-
-/// All of sixteen nodes but the last arrive.
-fn fifteen_wait(alloc: Global, manager: &mut Manager) -> Result<bool, AllocError>
-    requires { length manager.old.last ≡ 16 }
-    ensures { length manager.new.last ≡ 16 }
-{
-    for node in 0..15u8 {
-        if !waits(alloc, manager, 16, node, 1, false, &largest(node))? {
-            return Ok(false);
-        }
-    }
-    Ok(true)
 }
 
 /// Whether these departures tell each of sixteen nodes of all others, and that a collection follows.
@@ -416,17 +130,305 @@ fn tell_of_fifteen(told: &[Departure]) -> bool {
     told.len() == 16
 }
 
+/// Whether the departures of the last arrival at an episode say this.
+fn say(departures: &[Departure], nodes: u8, episode: u32, says: &Says) -> bool
+    requires some { 1 ≤ nodes }
+    requires few { nodes ≤ 16 }
+{
+    tell(departures, episode, says.told) && agree(departures, &of(nodes, says.time), says.collect)
+}
+
+/// Whether an arrival at an episode gets the answer that is wanted.
+fn is_wanted(
+    answer: &Result<Option<Departures>, BarrierFault>,
+    nodes: u8,
+    episode: u32,
+    wanted: &Wanted,
+) -> bool
+    requires some { 1 ≤ nodes }
+    requires few { nodes ≤ 16 }
+{
+    match (answer, wanted) {
+        (Ok(None), Wanted::Waits) => true,
+        (Err(fault), Wanted::Refused(want)) => *fault == *want,
+        (Ok(Some(all)), Wanted::Departs(says)) => say(all.as_slice(), nodes, episode, says),
+        (Ok(Some(all)), Wanted::AllDepart) => tell_of_fifteen(all.as_slice()),
+        _ => false,
+    }
+}
+
+fn asks(wanted: &Wanted) -> bool {
+    match wanted {
+        Wanted::Departs(says) => says.collect,
+        Wanted::AllDepart => true,
+        Wanted::Waits | Wanted::Refused(_) => false,
+    }
+}
+
+/// Whether an arrival gets the answer that is wanted, and the manager knows the node's intervals, or what it knew.
+fn is_answered(
+    manager: &mut Manager,
+    nodes: u8,
+    from: u8,
+    arrival: &Arrival,
+    wanted: &Wanted,
+) -> bool
+    requires some { 1 ≤ nodes }
+    requires few { nodes ≤ 16 }
+    requires from { from < length manager.old.last }
+    requires own { IsArrival (length manager.old.last) from arrival.now }
+    ensures { length manager.new.last ≡ length manager.old.last }
+{
+    let last = if matches!(wanted, Wanted::Refused(_)) {
+        manager.last(from)
+    } else {
+        arrival.time.at(from)
+    };
+    let answer = enter(manager, from, arrival);
+    is_wanted(&answer, nodes, arrival.episode, wanted) && manager.last(from) == last
+}
+
+/// One of so many nodes arrives with the newest interval that it has closed, if any, and gets the answer that is wanted. Of a
+/// few nodes only node 0 wrote a page, of sixteen each.
+fn arrives(
+    alloc: Global,
+    manager: &mut Manager,
+    nodes: u8,
+    from: u8,
+    episode: u32,
+    time: &[u32],
+    wanted: &Wanted,
+) -> Result<bool, AllocError>
+    requires some { 1 ≤ nodes }
+    requires few { nodes ≤ 16 }
+    requires nodes { length manager.old.last ≡ nodes }
+    ensures { length manager.new.last ≡ nodes }
+{
+    if from >= nodes {
+        return Ok(false);
+    }
+    let time = of(nodes, time);
+    let intervals = newest(alloc, from, &time, from == 0 || nodes == 16)?;
+    let arrival = Arrival {
+        episode,
+        ask: asks(wanted),
+        time,
+        intervals,
+    };
+    Ok(is_answered(manager, nodes, from, &arrival, wanted))
+}
+
+/// Takes a step with a manager of so many nodes, and answers whether what was wanted came out.
+fn is_met(alloc: Global, manager: &mut Manager, nodes: u8, step: &Step) -> Result<bool, AllocError>
+    requires some { 1 ≤ nodes }
+    requires few { nodes ≤ 16 }
+    requires nodes { length manager.old.last ≡ nodes }
+    ensures { length manager.new.last ≡ nodes }
+{
+    match step {
+        Step::Arrives(from, episode, time, wanted) => {
+            arrives(alloc, manager, nodes, *from, *episode, time, wanted)
+        }
+        Step::Clean(from, episode, answer) => {
+            Ok(*from < nodes && manager.clean(*from, *episode) == *answer)
+        }
+        Step::Last(node, index) => Ok(*node < nodes && manager.last(*node) == *index),
+    }
+}
+
+fn are_met(
+    alloc: Global,
+    manager: &mut Manager,
+    nodes: u8,
+    steps: &[Step],
+) -> Result<bool, AllocError>
+    requires some { 1 ≤ nodes }
+    requires few { nodes ≤ 16 }
+    requires nodes { length manager.old.last ≡ nodes }
+    ensures { length manager.new.last ≡ nodes }
+{
+    for step in steps {
+        if !is_met(alloc, manager, nodes, step)? {
+            return Ok(false);
+        }
+    }
+    Ok(true)
+}
+
+/// A worked case: how many nodes a manager has that knows nothing at first, and what is done with it.
+#[derive(Clone, Copy)]
+struct Row<'a> {
+    name: &'a str,
+    nodes: u8,
+    steps: &'a [Step<'a>],
+}
+
+/// Whether a manager of a row's nodes meets each of its steps.
+fn is_row_met(alloc: Global, row: &Row) -> Result<bool, AllocError> {
+    if row.nodes == 0 || row.nodes > 16 {
+        return Ok(false);
+    }
+    let mut manager = Manager::new(alloc, row.nodes);
+    are_met(alloc, &mut manager, row.nodes, row.steps)
+}
+
+const WRONG: BarrierFault = BarrierFault::WrongEpisode;
+
+const OUT_OF_TURN: &[Step] = &[
+    Step::Last(0, 0),
+    Step::Arrives(0, 2, &[9, 9, 9], Wanted::Refused(WRONG)),
+    Step::Arrives(0, u32::MAX, &[9, 9, 9], Wanted::Refused(WRONG)),
+    Step::Arrives(0, 1, &[3, 0, 0], Wanted::Waits),
+    Step::Arrives(0, 1, &[9, 9, 9], Wanted::Refused(BarrierFault::Twice)),
+    Step::Arrives(0, 2, &[9, 9, 9], Wanted::Refused(WRONG)),
+    Step::Arrives(1, 0, &[9, 9, 9], Wanted::Refused(WRONG)),
+    Step::Clean(0, 1, Err(WRONG)),
+    Step::Clean(0, 0, Err(WRONG)),
+];
+
+// Three nodes that know nothing of each other arrive, and depart.
+const STRANGERS: &[Step] = &[
+    Step::Arrives(2, 1, &[0, 0, 1], Wanted::Waits),
+    Step::Arrives(0, 1, &[1, 0, 0], Wanted::Waits),
+    Step::Arrives(
+        1,
+        1,
+        &[0, 1, 0],
+        Wanted::Departs(Says {
+            collect: false,
+            time: &[1, 1, 1],
+            told: &[
+                &[(1, 1, 0), (2, 1, 0)],
+                &[(0, 1, 1), (2, 1, 0)],
+                &[(0, 1, 1), (1, 1, 0)],
+            ],
+        }),
+    ),
+];
+
+// Three nodes, of which the second knows the first, and the third both but for the first's newest interval, arrive, and
+// depart.
+const ACQUAINTED: &[Step] = &[
+    Step::Arrives(0, 1, &[3, 0, 0], Wanted::Waits),
+    Step::Arrives(1, 1, &[3, 2, 0], Wanted::Waits),
+    Step::Arrives(
+        2,
+        1,
+        &[2, 2, 5],
+        Wanted::Departs(Says {
+            collect: false,
+            time: &[3, 2, 5],
+            told: &[&[(1, 2, 0), (2, 5, 0)], &[(2, 5, 0)], &[(0, 3, 1)]],
+        }),
+    ),
+];
+
+// The second of two nodes asks for a collection, and then none does.
+const COLLECTED: &[Step] = &[
+    Step::Arrives(0, 1, &[0, 0], Wanted::Waits),
+    Step::Arrives(
+        1,
+        1,
+        &[0, 0],
+        Wanted::Departs(Says {
+            collect: true,
+            time: &[0, 0],
+            told: &[&[], &[]],
+        }),
+    ),
+    Step::Arrives(0, 2, &[0, 0], Wanted::Refused(WRONG)),
+    Step::Clean(0, 2, Err(WRONG)),
+    Step::Clean(0, 1, Ok(None)),
+    Step::Clean(0, 1, Err(BarrierFault::Twice)),
+    Step::Clean(1, 1, Ok(Some(1))),
+    Step::Clean(1, 1, Err(WRONG)),
+    Step::Arrives(0, 2, &[0, 0], Wanted::Waits),
+    Step::Arrives(
+        1,
+        2,
+        &[0, 0],
+        Wanted::Departs(Says {
+            collect: false,
+            time: &[0, 0],
+            told: &[&[], &[]],
+        }),
+    ),
+    Step::Clean(1, 2, Err(WRONG)),
+];
+
+const OF_TWO: &[Step] = &[
+    Step::Arrives(0, 2, &[0, 0], Wanted::Refused(WRONG)),
+    Step::Arrives(0, 1, &[0, 0], Wanted::Waits),
+    Step::Arrives(0, 1, &[0, 0], Wanted::Refused(BarrierFault::Twice)),
+];
+
+const ROWS: &[Row] = &[
+    Row {
+        name: "refuses arrivals out of turn",
+        nodes: 3,
+        steps: OUT_OF_TURN,
+    },
+    Row {
+        name: "tells each node what it lacks",
+        nodes: 3,
+        steps: STRANGERS,
+    },
+    Row {
+        name: "tells no node what it knew",
+        nodes: 3,
+        steps: ACQUAINTED,
+    },
+    Row {
+        name: "a collection waits for every clean",
+        nodes: 2,
+        steps: COLLECTED,
+    },
+    Row {
+        name: "a manager of two refuses another episode and a second arrival",
+        nodes: 2,
+        steps: OF_TWO,
+    },
+];
+
+#[test]
+fn barriers_are_as_worked(rt: HostRuntime) {
+    for row in ROWS {
+        holds(&rt, row.name, is_row_met(rt.alloc(), row) == Ok(true));
+    }
+}
+
+/// The entries of sixteen nodes of which one has closed as many intervals as there can be.
+fn largest(node: u8) -> [u32; 16]
+    requires { node < 16 }
+{
+    let mut entries = [0; 16];
+    entries[usize::from(node)] = u32::MAX;
+    entries
+}
+
 /// Whether the last of sixteen nodes arrives behind all others and asks for a collection, and all depart.
 fn sixteen_depart(alloc: Global, manager: &mut Manager) -> Result<bool, AllocError>
     requires { length manager.old.last ≡ 16 }
 {
-    let wait = fifteen_wait(alloc, manager)?;
-    let answer = arrive(alloc, manager, 16, 15, 1, true, &largest(15))?;
-    Ok(wait && tell_of_fifteen(told(&answer)) && manager.last(15) == u32::MAX)
+    for node in 0..16u8 {
+        let wanted = if node == 15 {
+            Wanted::AllDepart
+        } else {
+            Wanted::Waits
+        };
+        if !arrives(alloc, manager, 16, node, 1, &largest(node), &wanted)? {
+            return Ok(false);
+        }
+    }
+    Ok(true)
+}
+
+fn sixteen(alloc: Global) -> Result<bool, AllocError> {
+    let mut manager = Manager::new(alloc, 16);
+    sixteen_depart(alloc, &mut manager)
 }
 
 #[test]
-fn sixteen_nodes_depart(rt: HostRuntime) -> Result<(), Fail> {
-    let mut manager = Manager::new(rt.alloc(), 16);
-    holds(&rt, sixteen_depart(rt.alloc(), &mut manager))
+fn sixteen_nodes_depart(rt: HostRuntime) {
+    holds(&rt, "sixteen nodes", sixteen(rt.alloc()) == Ok(true));
 }

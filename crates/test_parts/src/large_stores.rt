@@ -8,7 +8,6 @@ use lrc_page::Pages;
 use lrc_store::{Interval, Intervals, Key, Store};
 use lrc_time::Time;
 use std::alloc::{AllocError, Global};
-use std::test::Fail;
 
 /// A time of sixteen nodes, of which each has closed so many intervals, but one of them one more.
 fn time_of(each: u32, one: Option<u8>) -> Time
@@ -57,7 +56,8 @@ fn close(alloc: Global, store: &mut Store, node: u8, round: u32) -> Result<bool,
     ensures pages { store.new.pages ≡ 1024 }
 {
     let stamp = time_of(round, Some(node));
-    if stamp.at(node).checked_sub(1) != Some(store.last(node)) {
+    let last = store.last(node);
+    if stamp.at(node) <= last || stamp.at(node) - 1 != last {
         return Ok(false);
     }
     let interval = Interval::new(node, stamp, pages_of(alloc, node, round)?);
@@ -82,75 +82,88 @@ fn fill(alloc: Global, store: &mut Store) -> Result<bool, AllocError>
     Ok(true)
 }
 
+/// Whether this is the interval at a place among the 512, by nodes and rounds.
+fn is_at(interval: &Interval, place: usize) -> bool {
+    usize::from(interval.node) == place / 32
+        && interval.index() as usize == place % 32 + 1
+        && interval.pages.len() == usize::from(pages_in((place % 32) as u32))
+}
+
 /// Whether these are the 512 intervals, by nodes and rounds.
 fn are_all(intervals: &Intervals) -> bool {
-    let list = intervals.as_slice();
-    list.len() == 512
-        && list.iter().enumerate().all(|(place, interval)| {
-            usize::from(interval.node) == place / 32
-                && interval.index() as usize == place % 32 + 1
-                && interval.pages.len() == usize::from(pages_in((place % 32) as u32))
-        })
+    for (place, interval) in intervals.as_slice().iter().enumerate() {
+        if !is_at(interval, place) {
+            return false;
+        }
+    }
+    intervals.len() == 512
 }
 
 /// Whether these are the keys of page 0 from this place on, by rounds and nodes.
 fn are_from(keys: &[Key], first: usize) -> bool
     requires { first ≤ 512 }
 {
+    for (key, place) in keys.iter().zip(first..512) {
+        if usize::from(key.node) != place % 16
+            || key.index as usize != place / 16 + 1
+            || key.page != 0
+        {
+            return false;
+        }
+    }
     keys.len() == 512 - first
-        && keys.iter().zip(first..512).all(|(key, place)| {
-            usize::from(key.node) == place % 16
-                && key.index as usize == place / 16 + 1
-                && key.page == 0
-        })
 }
 
 /// Whether these are the 512 intervals, and a duplicate of them is equal.
-fn are_all_twice(intervals: &Intervals) -> Result<bool, AllocError> {
-    let second = intervals.duplicate()?;
-    Ok(are_all(intervals) && are_all(&second) && second == *intervals)
+fn are_all_twice(intervals: &Intervals) -> bool {
+    match intervals.duplicate() {
+        Ok(second) => are_all(intervals) && are_all(&second) && second == *intervals,
+        Err(_) => false,
+    }
 }
 
-fn all_are_newer(store: &Store) -> Result<bool, AllocError>
+fn all_are_newer(store: &Store) -> bool
     requires { length store.now.last ≡ 16 }
 {
-    let newer = store.newer_than(&time_of(0, None), &time_of(32, None))?;
-    are_all_twice(&newer)
+    match store.newer_than(&time_of(0, None), &time_of(32, None)) {
+        Ok(newer) => are_all_twice(&newer),
+        Err(_) => false,
+    }
 }
 
 /// Whether what is missing of page 0 are the keys from this place on.
-fn are_missing_from(store: &Store, first: usize) -> Result<bool, AllocError>
+fn are_missing_from(store: &Store, first: usize) -> bool
     requires nodes { length store.now.last ≡ 16 }
     requires first { first ≤ 512 }
 {
-    let missing = store.missing(0, &time_of(0, None))?;
-    Ok(are_from(&missing, first))
+    match store.missing(0, &time_of(0, None)) {
+        Ok(missing) => are_from(&missing, first),
+        Err(_) => false,
+    }
 }
 
-fn all_are_found(alloc: Global, store: &mut Store) -> Result<bool, AllocError>
-    requires nodes { length store.old.last ≡ 16 }
-    requires pages { store.old.pages ≡ 1024 }
+/// Whether all of five hundred intervals are found, and the later half of them once what half of the rounds closed is discarded.
+fn are_found_and_dropped(alloc: Global, store: Store) -> [bool; 2]
+    requires nodes { length store.last ≡ 16 }
+    requires pages { store.pages ≡ 1024 }
 {
-    Ok(fill(alloc, store)? && all_are_newer(store)? && are_missing_from(store, 0)?)
-}
-
-#[test]
-fn five_hundred_intervals_are_found(rt: HostRuntime) -> Result<(), Fail> {
-    let mut store = Store::new(rt.alloc(), 16, 1024)?;
-    holds(&rt, all_are_found(rt.alloc(), &mut store))
-}
-
-fn half_are_dropped(alloc: Global, store: &mut Store) -> Result<bool, AllocError>
-    requires nodes { length store.old.last ≡ 16 }
-    requires pages { store.old.pages ≡ 1024 }
-{
-    let filled = fill(alloc, store)?;
+    let mut store = store;
+    let filled = matches!(fill(alloc, &mut store), Ok(true));
+    let found = filled && all_are_newer(&store) && are_missing_from(&store, 0);
     store.discard(&time_of(16, None));
-    Ok(filled && store.len() == 256 && are_missing_from(store, 256)?)
+    [found, store.len() == 256 && are_missing_from(&store, 256)]
+}
+
+fn five_hundred(alloc: Global) -> [bool; 2] {
+    match Store::new(alloc, 16, 1024) {
+        Ok(store) => are_found_and_dropped(alloc, store),
+        Err(_) => [false; 2],
+    }
 }
 
 #[test]
-fn half_of_five_hundred_intervals_are_dropped(rt: HostRuntime) -> Result<(), Fail> {
-    let mut store = Store::new(rt.alloc(), 16, 1024)?;
-    holds(&rt, half_are_dropped(rt.alloc(), &mut store))
+fn five_hundred_intervals_are_found_and_half_of_them_dropped(rt: HostRuntime) {
+    let [found, dropped] = five_hundred(rt.alloc());
+    holds(&rt, "all are found", found);
+    holds(&rt, "half are dropped", dropped);
 }

@@ -25,5 +25,3 @@ mod stores;
 mod tables;
 #[cfg(test)]
 mod times;
-#[cfg(test)]
-mod weights;

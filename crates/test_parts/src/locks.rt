@@ -92,14 +92,19 @@ fn a_manager_forwards_to_the_last_asker(rt: HostRuntime) {
 fn successor_waits(held: &mut Held) -> bool
     requires { held.old ≡ first_held 1 2 1 }
 {
-    let before = held.granted(0) == Err(LockFault::NotAsked) && !held.try_local(0);
+    let before = [
+        held.granted(0) == Err(LockFault::NotAsked),
+        !held.try_local(0),
+    ];
     held.ask(0);
-    before
-        && is_kept(held, 0, 0, of(2, &[1, 0]))
-        && is_refused(held, 0, 0, of(2, &[2, 0]), LockFault::SecondSuccessor)
-        && held.granted(0) == Ok(())
-        && is_served(held, 0, 0, &[1, 0], &[0, 3])
-        && is_refused(held, 0, 0, of(2, &[4, 3]), LockFault::NotMine)
+    let then = [
+        is_kept(held, 0, 0, of(2, &[1, 0])),
+        is_refused(held, 0, 0, of(2, &[2, 0]), LockFault::SecondSuccessor),
+        held.granted(0) == Ok(()),
+        is_served(held, 0, 0, &[1, 0], &[0, 3]),
+        is_refused(held, 0, 0, of(2, &[4, 3]), LockFault::NotMine),
+    ];
+    before == [true; 2] && then == [true; 5]
 }
 
 #[test]
@@ -113,15 +118,18 @@ fn refuses_others(held: &mut Held) -> bool
     requires { held.old ≡ first_held 1 2 1 }
 {
     held.ask(0);
-    is_refused(held, 0, 1, of(2, &[9, 9]), LockFault::NotMine)
-        && !held.try_local(0)
-        && held.granted(0) == Ok(())
-        && held.granted(0) == Err(LockFault::NotAsked)
-        && is_kept(held, 0, 0, of(2, &[7, 2]))
-        && held.granted(0) == Err(LockFault::NotAsked)
-        && is_refused(held, 0, 1, of(2, &[9, 9]), LockFault::NotMine)
-        && is_refused(held, 0, 0, of(2, &[8, 2]), LockFault::SecondSuccessor)
-        && is_served(held, 0, 0, &[7, 2], &[6, 5])
+    let seen = [
+        is_refused(held, 0, 1, of(2, &[9, 9]), LockFault::NotMine),
+        !held.try_local(0),
+        held.granted(0) == Ok(()),
+        held.granted(0) == Err(LockFault::NotAsked),
+        is_kept(held, 0, 0, of(2, &[7, 2])),
+        held.granted(0) == Err(LockFault::NotAsked),
+        is_refused(held, 0, 1, of(2, &[9, 9]), LockFault::NotMine),
+        is_refused(held, 0, 0, of(2, &[8, 2]), LockFault::SecondSuccessor),
+        is_served(held, 0, 0, &[7, 2], &[6, 5]),
+    ];
+    seen == [true; 9]
 }
 
 #[test]
@@ -134,15 +142,18 @@ fn refusals_at_a_token_that_is_awaited(rt: HostRuntime) {
 fn leaves_with_the_last(held: &mut Held) -> bool
     requires { held.old ≡ first_held 1 2 2 }
 {
-    held.granted(1) == Err(LockFault::NotAsked)
-        && is_refused(held, 1, 1, of(2, &[9, 9]), LockFault::NotMine)
-        && held.try_local(1)
-        && !held.try_local(1)
-        && is_freed(held, 1, of(2, &[0, 2]))
-        && held.try_local(1)
-        && is_freed(held, 1, of(2, &[0, 4]))
-        && is_passed(held, 1, 0, &[3, 1], &[0, 4])
-        && !held.try_local(1)
+    let seen = [
+        held.granted(1) == Err(LockFault::NotAsked),
+        is_refused(held, 1, 1, of(2, &[9, 9]), LockFault::NotMine),
+        held.try_local(1),
+        !held.try_local(1),
+        is_freed(held, 1, of(2, &[0, 2])),
+        held.try_local(1),
+        is_freed(held, 1, of(2, &[0, 4])),
+        is_passed(held, 1, 0, &[3, 1], &[0, 4]),
+        !held.try_local(1),
+    ];
+    seen == [true; 9]
 }
 
 #[test]

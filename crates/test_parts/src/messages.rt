@@ -3,60 +3,143 @@
 ghost use Rattle.std.specs.Prelude.{◌≡◌, ◌≤◌, IfOk, length};
 ghost use Rattle.lrc_envelope.specs.Records.{GoWith};
 
-use crate::checks::passes;
-use bytes::Bytes;
+use crate::checks::holds;
 use lrc_envelope::{Arrive, ChangesRequest, Envelope, Indices, Message, News};
 use lrc_page::Pages;
 use lrc_store::{Interval, Intervals};
 use lrc_time::Time;
 use lrc_wire::{EncodeFault, WireFault, decode, encode, spell_over};
 use std::alloc::{AllocError, Global};
-use std::test::Fail;
 
 // Node 1 asks node 0 for lock 0, at time 0,1.
-const REQUEST: [u8; 22] = [
+const REQUEST: &[u8] = &[
     1, 1, 1, 0, 0, 0, 0, 0, 0, 0, 0, 10, 0, 2, 0, 0, 0, 0, 0, 0, 0, 1,
 ];
 
 // Node 0 passes node 15's request for lock 3 on to node 1.
-const FORWARD: [u8; 19] = [1, 2, 0, 1, 0, 0, 0, 5, 0, 0, 0, 7, 3, 15, 1, 0, 0, 0, 0];
+const FORWARD: &[u8] = &[1, 2, 0, 1, 0, 0, 0, 5, 0, 0, 0, 7, 3, 15, 1, 0, 0, 0, 0];
 
 // Node 0 hands lock 0 to node 1, at time 2,0: its interval 1 wrote nothing, its interval 2 page 0.
-const GRANT: [u8; 52] = [
+const GRANT: &[u8] = &[
     2, 3, 0, 1, 0, 0, 0, 0, 0, 0, 0, 40, 0, 2, 0, 0, 0, 2, 0, 0, 0, 0, 0, 0, 0, 2, 0, 2, 0, 0, 0,
     1, 0, 0, 0, 0, 0, 0, 0, 2, 0, 0, 0, 2, 0, 0, 0, 0, 0, 1, 0, 0,
 ];
 
 // Node 1 has arrived and asks for a collection, at time 0,1: its interval 1 wrote pages 3 and 63.
-const ARRIVE: [u8; 46] = [
+const ARRIVE: &[u8] = &[
     1, 4, 1, 0, 0, 0, 0, 0, 0, 0, 0, 34, 0, 0, 0, 1, 1, 2, 0, 0, 0, 0, 0, 0, 0, 1, 0, 0, 0, 1, 1,
     2, 0, 0, 0, 0, 0, 0, 0, 1, 0, 2, 0, 3, 0, 63,
 ];
 
 // Node 1 asks node 0 for what its intervals 1 and 256 changed in page 5.
-const CHANGES_REQUEST: [u8; 26] = [
+const CHANGES_REQUEST: &[u8] = &[
     1, 8, 1, 0, 0, 0, 0, 3, 0, 0, 0, 14, 0, 5, 0, 0, 0, 2, 0, 0, 0, 1, 0, 0, 1, 0,
 ];
 
 // Node 0 tells node 1 that its interval 1 left page 0 as it was, in either version.
-const NO_CHANGES_1: [u8; 23] = [
+const NO_CHANGES_1: &[u8] = &[
     1, 9, 0, 1, 0, 0, 0, 1, 0, 0, 0, 11, 0, 0, 0, 0, 0, 1, 0, 0, 0, 1, 0,
 ];
 
-const NO_CHANGES_2: [u8; 24] = [
+const NO_CHANGES_2: &[u8] = &[
     2, 9, 0, 1, 0, 0, 0, 1, 0, 0, 0, 12, 0, 0, 0, 0, 0, 1, 0, 0, 0, 1, 0, 0,
 ];
 
 // Node 0 tells node 1 that its interval 1 changed words 2, 3 and 63 of page 0 to 3, 1 and 1: one by one, and in two runs.
-const CHANGES_1: [u8; 50] = [
+const CHANGES_1: &[u8] = &[
     1, 9, 0, 1, 0, 0, 0, 0, 0, 0, 0, 38, 0, 0, 0, 0, 0, 1, 0, 0, 0, 1, 3, 2, 0, 0, 0, 0, 0, 0, 0,
     3, 3, 0, 0, 0, 0, 0, 0, 0, 1, 63, 0, 0, 0, 0, 0, 0, 0, 1,
 ];
 
-const CHANGES_2: [u8; 52] = [
+const CHANGES_2: &[u8] = &[
     2, 9, 0, 1, 0, 0, 0, 0, 0, 0, 0, 40, 0, 0, 0, 0, 0, 1, 0, 0, 0, 1, 0, 2, 2, 1, 0, 0, 0, 0, 0,
     0, 0, 3, 0, 0, 0, 0, 0, 0, 0, 1, 63, 0, 0, 0, 0, 0, 0, 0, 0, 1,
 ];
+
+const DEPART: &[u8] = &[
+    1, 5, 0, 0, 0, 0, 0, 1, 0, 0, 0, 14, 0, 0, 0, 1, 0, 1, 0, 0, 0, 7, 0, 0, 0, 0,
+];
+
+const CLEAN: &[u8] = &[1, 6, 3, 0, 0, 0, 0, 2, 0, 0, 0, 4, 0, 0, 0, 9];
+
+const DISCARD: &[u8] = &[1, 7, 0, 3, 0, 0, 0, 2, 0, 0, 0, 4, 255, 255, 255, 255];
+
+const PAGE_REQUEST: &[u8] = &[1, 10, 15, 15, 0, 0, 0, 0, 0, 0, 0, 2, 0, 63];
+
+// Node 1 gets page 0 of node 0's, by number, and a page of 65 values.
+const PAGE: &[u8] = &[1, 10, 0, 1, 0, 0, 0, 0, 0, 0, 0, 2, 0, 0];
+
+const VALUES: &[u8] = &[2, 11, 0, 1, 0, 0, 0, 0, 0, 0, 0, 4, 0, 0, 0, 65];
+
+// The grant whose last interval names pages 1 and then 0.
+const FALLING: &[u8] = &[
+    2, 3, 0, 1, 0, 0, 0, 0, 0, 0, 0, 42, 0, 2, 0, 0, 0, 2, 0, 0, 0, 0, 0, 0, 0, 2, 0, 2, 0, 0, 0,
+    1, 0, 0, 0, 0, 0, 0, 0, 2, 0, 0, 0, 2, 0, 0, 0, 0, 0, 2, 0, 1, 0, 0,
+];
+
+// The last word of page 1023 alone, in version 2.
+const LAST_ALONE: &[u8] = &[
+    2, 9, 0, 1, 0, 0, 0, 0, 0, 0, 0, 22, 3, 255, 0, 0, 0, 1, 0, 0, 0, 1, 0, 1, 255, 0, 1, 2, 3, 4,
+    5, 6, 7, 8,
+];
+
+/// Long bytes: a front, and groups behind it. A group has its number, from 1 on, in four bytes, some more bytes, and items;
+/// without numbered groups there are items alone. An item has bytes, its number in one byte or four, bytes again, and
+/// perhaps its number in a byte once more.
+#[derive(Clone, Copy)]
+pub struct Long<'a> {
+    pub front: &'a [u8],
+    pub groups: Option<(u32, &'a [u8])>,
+    pub items: u32,
+    pub first: u32,
+    pub step: u32,
+    pub is_wide: bool,
+    pub before: &'a [u8],
+    pub behind: &'a [u8],
+    pub is_at_end: bool,
+}
+
+fn put_items(bytes: &mut Vec<u8>, long: &Long) -> Result<(), AllocError> {
+    for item in 0..long.items {
+        let number = item
+            .wrapping_mul(long.step)
+            .wrapping_add(long.first)
+            .to_be_bytes();
+        bytes.extend_from_slice(long.before)?;
+        if long.is_wide {
+            bytes.extend_from_slice(&number)?;
+        } else {
+            bytes.push(number[3])?;
+        }
+        bytes.extend_from_slice(long.behind)?;
+        if long.is_at_end {
+            bytes.push(number[3])?;
+        }
+    }
+    Ok(())
+}
+
+fn put_groups(
+    bytes: &mut Vec<u8>,
+    long: &Long,
+    count: u32,
+    front: &[u8],
+) -> Result<(), AllocError> {
+    for group in 0..count {
+        bytes.extend_from_slice(&group.wrapping_add(1).to_be_bytes())?;
+        bytes.extend_from_slice(front)?;
+        put_items(bytes, long)?;
+    }
+    Ok(())
+}
+
+fn put_long(bytes: &mut Vec<u8>, long: &Long) -> Result<(), AllocError> {
+    bytes.extend_from_slice(long.front)?;
+    match long.groups {
+        Some((count, front)) => put_groups(bytes, long, count, front),
+        None => put_items(bytes, long),
+    }
+}
 
 /// Reads the bytes, a second time where memory was refused.
 fn read(alloc: Global, bytes: &[u8]) -> Result<Envelope, WireFault> {
@@ -66,361 +149,370 @@ fn read(alloc: Global, bytes: &[u8]) -> Result<Envelope, WireFault> {
     }
 }
 
-/// What reading the bytes and writing them again gives.
-fn rewritten(alloc: Global, bytes: &[u8]) -> Result<Bytes, Fail> {
-    let envelope = read(alloc, bytes)?;
-    Ok(encode(alloc, &envelope)?)
+fn is_written(alloc: Global, envelope: &Envelope, wanted: &[u8]) -> bool {
+    match encode(alloc, envelope) {
+        Ok(bytes) => bytes.as_slice() == wanted,
+        Err(_) => false,
+    }
 }
 
 /// Whether reading the first bytes and writing them again gives the second.
-pub fn gives(alloc: Global, bytes: &[u8], wanted: &[u8]) -> Result<bool, Fail> {
-    Ok(rewritten(alloc, bytes)?.as_slice() == wanted)
+pub fn gives(alloc: Global, bytes: &[u8], wanted: &[u8]) -> bool {
+    match read(alloc, bytes) {
+        Ok(envelope) => is_written(alloc, &envelope, wanted),
+        Err(_) => false,
+    }
 }
 
 /// Whether the bytes are read, and written as they were.
-pub fn is_kept(alloc: Global, bytes: &[u8]) -> Result<bool, Fail> {
+pub fn is_kept(alloc: Global, bytes: &[u8]) -> bool {
     gives(alloc, bytes, bytes)
 }
 
+/// The same of a long message.
+fn is_long_kept(alloc: Global, long: &Long) -> bool {
+    let mut bytes = Vec::new(alloc);
+    put_long(&mut bytes, long).is_ok() && is_kept(alloc, &bytes)
+}
+
+/// Whether this long message is read and written as the other.
+fn gives_long(alloc: Global, long: &Long, wanted: &Long) -> bool {
+    let mut bytes = Vec::new(alloc);
+    let mut others = Vec::new(alloc);
+    put_long(&mut bytes, long).is_ok()
+        && put_long(&mut others, wanted).is_ok()
+        && gives(alloc, &bytes, &others)
+}
+
+fn is_written_over(envelope: &Envelope, others: Vec<u8>, wanted: &[u8]) -> bool {
+    match spell_over(others, envelope) {
+        Ok(bytes) => bytes.as_slice() == wanted,
+        Err(_) => false,
+    }
+}
+
+fn is_put_over_copy(alloc: Global, envelope: &Envelope, others: &[u8], wanted: &[u8]) -> bool {
+    match others.to_vec(alloc) {
+        Ok(others) => is_written_over(envelope, others, wanted),
+        Err(_) => false,
+    }
+}
+
 /// Whether the message of these bytes is written in place of others, and nothing of them is left.
-fn is_put_over(alloc: Global, bytes: &[u8], others: &[u8]) -> Result<bool, Fail> {
-    let envelope = read(alloc, bytes)?;
-    let written = spell_over(others.to_vec(alloc)?, &envelope)?;
-    Ok(written.as_slice() == bytes)
+fn is_put_over(alloc: Global, bytes: &[u8], others: &[u8]) -> bool {
+    match read(alloc, bytes) {
+        Ok(envelope) => is_put_over_copy(alloc, &envelope, others, bytes),
+        Err(_) => false,
+    }
+}
+
+fn has_fault(alloc: Global, bytes: &[u8], fault: Option<WireFault>) -> bool {
+    read(alloc, bytes).err() == fault
 }
 
 /// Whether each part of the bytes is short.
 fn is_short_in_parts(alloc: Global, bytes: &[u8]) -> bool {
-    (0..bytes.len()).all(|len| read(alloc, &bytes[..len]).err() == Some(WireFault::Short))
-}
-
-/// Whether the bytes with one more are long.
-fn is_long_with_one_more(alloc: Global, bytes: &[u8]) -> Result<bool, AllocError> {
-    let mut more = bytes.to_vec(alloc)?;
-    more.push(0)?;
-    Ok(read(alloc, &more).err() == Some(WireFault::Long))
-}
-
-/// The bytes with this version number.
-fn as_version(alloc: Global, bytes: &[u8], version: u8) -> Result<Vec<u8>, AllocError> {
-    let mut copy = bytes.to_vec(alloc)?;
-    if !copy.is_empty() {
-        copy[0] = version;
+    for len in 0..bytes.len() {
+        if !has_fault(alloc, &bytes[..len], Some(WireFault::Short)) {
+            return false;
+        }
     }
+    true
+}
+
+/// Places that get other values.
+type Edits<'a> = &'a [(usize, u8)];
+
+/// The bytes once these places have these values, with zeros behind them.
+fn edited(alloc: Global, bytes: &[u8], edits: Edits, more: &[u8]) -> Result<Vec<u8>, AllocError> {
+    let mut copy = bytes.to_vec(alloc)?;
+    for (place, value) in edits {
+        if *place < copy.len() {
+            copy[*place] = *value;
+        }
+    }
+    copy.extend_from_slice(more)?;
     Ok(copy)
 }
 
+fn is_faulty(
+    alloc: Global,
+    bytes: &[u8],
+    edits: Edits,
+    more: &[u8],
+    fault: Option<WireFault>,
+) -> bool {
+    match edited(alloc, bytes, edits, more) {
+        Ok(bytes) => has_fault(alloc, &bytes, fault),
+        Err(_) => false,
+    }
+}
+
+/// Whether nothing less or more than the bytes is read.
+fn is_exact(alloc: Global, bytes: &[u8]) -> bool {
+    is_short_in_parts(alloc, bytes) && is_faulty(alloc, bytes, &[], &[0], Some(WireFault::Long))
+}
+
 /// Whether a message that both versions spell is written in version 2, and nothing less or more is read.
-fn are_both_kept(alloc: Global, one: &[u8], two: &[u8]) -> Result<bool, Fail> {
-    Ok(
-        gives(alloc, one, two)?
-            && is_kept(alloc, two)?
-            && is_short_in_parts(alloc, one)
-            && is_short_in_parts(alloc, two)
-            && is_long_with_one_more(alloc, one)?
-            && is_long_with_one_more(alloc, two)?,
-    )
+fn are_both_kept(alloc: Global, one: &[u8], two: &[u8]) -> bool {
+    gives(alloc, one, two) && is_kept(alloc, two) && is_exact(alloc, one) && is_exact(alloc, two)
 }
 
 /// The same of a message whose bytes differ in the version alone.
-fn is_either_kept(alloc: Global, bytes: &[u8]) -> Result<bool, Fail> {
-    let one = as_version(alloc, bytes, 1)?;
-    let two = as_version(alloc, bytes, 2)?;
-    are_both_kept(alloc, &one, &two)
-}
-
-/// The same of each of these messages.
-fn is_each_kept(alloc: Global, messages: &[&[u8]]) -> Result<bool, Fail> {
-    for bytes in messages {
-        if !is_either_kept(alloc, bytes)? {
-            return Ok(false);
-        }
+fn is_either_kept(alloc: Global, bytes: &[u8]) -> bool {
+    match (
+        edited(alloc, bytes, &[(0, 1)], &[]),
+        edited(alloc, bytes, &[(0, 2)], &[]),
+    ) {
+        (Ok(one), Ok(two)) => are_both_kept(alloc, &one, &two),
+        _ => false,
     }
-    Ok(true)
 }
 
-/// The fault of the bytes once these places have these values.
-fn fault_of(
-    alloc: Global,
-    bytes: &[u8],
-    edits: &[(usize, u8)],
-) -> Result<Option<WireFault>, AllocError> {
-    let mut edited = bytes.to_vec(alloc)?;
-    for (place, value) in edits {
-        if *place < edited.len() {
-            edited[*place] = *value;
-        }
+/// The same of long messages.
+fn are_long_both_kept(alloc: Global, one: &Long, two: &Long) -> bool {
+    let mut first = Vec::new(alloc);
+    let mut second = Vec::new(alloc);
+    put_long(&mut first, one).is_ok()
+        && put_long(&mut second, two).is_ok()
+        && are_both_kept(alloc, &first, &second)
+}
+
+/// What is wanted of bytes.
+#[derive(Clone, Copy)]
+pub enum Case<'a> {
+    /// A message whose bytes differ in the version alone is read, and written in version 2, and nothing less or more is read.
+    Either(&'a [u8]),
+    /// The same of a message that each version spells in its own way.
+    Both(&'a [u8], &'a [u8]),
+    /// The same of long ones.
+    BothLong(Long<'a>, Long<'a>),
+    /// A message in version 2 is read, and written as it was.
+    Kept(&'a [u8]),
+    /// The same of a long one.
+    KeptLong(Long<'a>),
+    /// The first long one is read, and written as the second.
+    Gives(Long<'a>, Long<'a>),
+    /// The message of the first bytes is written in place of the second, and nothing of them is left.
+    Over(&'a [u8], &'a [u8]),
+}
+
+/// Whether what is wanted of bytes comes out.
+pub fn is_met(alloc: Global, case: &Case) -> bool {
+    match case {
+        Case::Either(bytes) => is_either_kept(alloc, bytes),
+        Case::Both(one, two) => are_both_kept(alloc, one, two),
+        Case::BothLong(one, two) => are_long_both_kept(alloc, one, two),
+        Case::Kept(bytes) => is_kept(alloc, bytes),
+        Case::KeptLong(long) => is_long_kept(alloc, long),
+        Case::Gives(long, wanted) => gives_long(alloc, long, wanted),
+        Case::Over(bytes, others) => is_put_over(alloc, bytes, others),
     }
-    Ok(read(alloc, &edited).err())
 }
 
-/// Places that get other values, and the fault that the message then has.
-type Edited<'a> = (&'a [(usize, u8)], Option<WireFault>);
+/// A page of 64 words in version 1: word n has the value n.
+const WORDS_1: Long = Long {
+    front: &[1, 11, 0, 1, 0, 0, 0, 0, 0, 0, 2, 2, 0, 63],
+    groups: None,
+    items: 64,
+    first: 0,
+    step: 1,
+    is_wide: false,
+    before: &[0; 7],
+    behind: &[],
+    is_at_end: false,
+};
 
-/// Whether the message has these faults.
-fn has_faults(alloc: Global, bytes: &[u8], rows: &[Edited]) -> Result<bool, Fail> {
-    for (edits, want) in rows {
-        if fault_of(alloc, bytes, edits)? != *want {
-            return Ok(false);
-        }
-    }
-    Ok(true)
-}
+/// The same in version 2.
+const WORDS_2: Long = Long {
+    front: &[2, 11, 0, 1, 0, 0, 0, 0, 0, 0, 2, 4, 0, 63, 0, 64],
+    ..WORDS_1
+};
 
-#[test]
-fn lock_messages_are_read_and_written(rt: HostRuntime) -> Result<(), Fail> {
-    passes(&rt, is_each_kept(rt.alloc(), &[&REQUEST, &FORWARD, &GRANT]))
-}
+/// All words of page 1023 in one run, in version 2.
+const ALL_IN_A_RUN: Long = Long {
+    front: &[
+        2, 9, 0, 1, 0, 0, 0, 0, 0, 0, 8, 14, 3, 255, 0, 0, 0, 1, 0, 0, 0, 1, 0, 1, 0, 255,
+    ],
+    items: 256,
+    ..WORDS_1
+};
 
-const DEPART: [u8; 26] = [
-    1, 5, 0, 0, 0, 0, 0, 1, 0, 0, 0, 14, 0, 0, 0, 1, 0, 1, 0, 0, 0, 7, 0, 0, 0, 0,
+/// Every second word of a page of 256 words, which are 128 runs of a word each, in version 2.
+const EVERY_SECOND: Long = Long {
+    front: &[
+        2, 9, 0, 1, 0, 0, 0, 0, 0, 0, 5, 12, 3, 255, 0, 0, 0, 1, 0, 0, 0, 1, 0, 128,
+    ],
+    items: 128,
+    step: 2,
+    before: &[],
+    behind: &[0, 1, 2, 3, 4, 5, 6, 7, 8],
+    ..WORDS_1
+};
+
+/// Node 0 has arrived alone with intervals that wrote nothing: 5 bytes for episode and flag, 5 for the time, 4 for the
+/// count, and 8 for each interval.
+const LONGEST: Long = Long {
+    front: &[
+        2, 4, 0, 0, 0, 0, 0, 0, 0, 255, 255, 254, 0, 0, 0, 1, 0, 1, 0, 31, 255, 254, 0, 31, 255,
+        254,
+    ],
+    items: 2_097_150,
+    first: 1,
+    is_wide: true,
+    before: &[0, 1],
+    behind: &[0, 0],
+    ..WORDS_1
+};
+
+const KEPT: &[(&str, Case)] = &[
+    ("a request", Case::Either(REQUEST)),
+    ("a forward", Case::Either(FORWARD)),
+    ("a grant", Case::Either(GRANT)),
+    ("an arrival", Case::Either(ARRIVE)),
+    ("a departure", Case::Either(DEPART)),
+    ("a clean", Case::Either(CLEAN)),
+    ("a discard", Case::Either(DISCARD)),
+    ("a request for changes", Case::Either(CHANGES_REQUEST)),
+    ("a request for a page", Case::Either(PAGE_REQUEST)),
+    ("no changes", Case::Both(NO_CHANGES_1, NO_CHANGES_2)),
+    ("changes", Case::Both(CHANGES_1, CHANGES_2)),
+    ("over none", Case::Over(GRANT, &[])),
+    ("over fewer bytes", Case::Over(GRANT, FORWARD)),
+    ("over more bytes", Case::Over(NO_CHANGES_2, GRANT)),
+    ("over about as many bytes", Case::Over(CHANGES_2, CHANGES_1)),
+    ("a page", Case::BothLong(WORDS_1, WORDS_2)),
+    ("all words in a run", Case::KeptLong(ALL_IN_A_RUN)),
+    ("every second word", Case::KeptLong(EVERY_SECOND)),
+    ("the last word alone", Case::Kept(LAST_ALONE)),
 ];
 
-const CLEAN: [u8; 16] = [1, 6, 3, 0, 0, 0, 0, 2, 0, 0, 0, 4, 0, 0, 0, 9];
-
-const DISCARD: [u8; 16] = [1, 7, 0, 3, 0, 0, 0, 2, 0, 0, 0, 4, 255, 255, 255, 255];
-
-/// Whether messages are written in place of none, fewer and more bytes than their own.
-fn are_put_over(alloc: Global) -> Result<bool, Fail> {
-    Ok(
-        is_put_over(alloc, &GRANT, &[])?
-            && is_put_over(alloc, &GRANT, &FORWARD)?
-            && is_put_over(alloc, &NO_CHANGES_2, &GRANT)?
-            && is_put_over(alloc, &CHANGES_2, &CHANGES_1)?,
-    )
-}
-
 #[test]
-fn a_message_takes_the_place_of_other_bytes(rt: HostRuntime) -> Result<(), Fail> {
-    passes(&rt, are_put_over(rt.alloc()))
-}
-
-#[test]
-fn barrier_messages_are_read_and_written(rt: HostRuntime) -> Result<(), Fail> {
-    let messages: [&[u8]; 4] = [&ARRIVE, &DEPART, &CLEAN, &DISCARD];
-    passes(&rt, is_each_kept(rt.alloc(), &messages))
-}
-
-fn are_changes_kept(alloc: Global) -> Result<bool, Fail> {
-    Ok(
-        is_either_kept(alloc, &CHANGES_REQUEST)?
-            && are_both_kept(alloc, &NO_CHANGES_1, &NO_CHANGES_2)?
-            && are_both_kept(alloc, &CHANGES_1, &CHANGES_2)?,
-    )
-}
-
-#[test]
-fn changes_messages_are_read_and_written(rt: HostRuntime) -> Result<(), Fail> {
-    passes(&rt, are_changes_kept(rt.alloc()))
-}
-
-/// A page of 64 words behind these bytes: word n has the value n.
-fn with_words(alloc: Global, front: &[u8]) -> Result<Vec<u8>, AllocError> {
-    let mut bytes = front.to_vec(alloc)?;
-    for value in 0..64 {
-        bytes.extend_from_slice(&[0, 0, 0, 0, 0, 0, 0, value])?;
+fn messages_are_read_and_written(rt: HostRuntime) {
+    for (name, case) in KEPT {
+        holds(&rt, name, is_met(rt.alloc(), case));
     }
-    Ok(bytes)
 }
 
-/// Whether a page is read in both versions, and written.
-fn is_page_kept(alloc: Global) -> Result<bool, Fail> {
-    let one = with_words(alloc, &[1, 11, 0, 1, 0, 0, 0, 0, 0, 0, 2, 2, 0, 63])?;
-    let two = with_words(alloc, &[2, 11, 0, 1, 0, 0, 0, 0, 0, 0, 2, 4, 0, 63, 0, 64])?;
-    are_both_kept(alloc, &one, &two)
-}
+/// Edits of the places of a message, and the fault that it then has.
+type Edited<'a> = (Edits<'a>, Option<WireFault>);
 
-const PAGE_REQUEST: [u8; 14] = [1, 10, 15, 15, 0, 0, 0, 0, 0, 0, 0, 2, 0, 63];
+// runs that touch or lie over the one before, one past offset 255, counts of more runs than can be, a run that is cut
+// off, and values behind
+const OF_RUNS: &[Edited] = &[
+    (&[(42, 4)], Some(WireFault::NotAscending)),
+    (&[(42, 3)], Some(WireFault::NotAscending)),
+    (&[(42, 255), (43, 1)], Some(WireFault::BadCount)),
+    (&[(24, 255)], Some(WireFault::BadCount)),
+    (&[(23, 129)], Some(WireFault::BadCount)),
+    (&[(22, 255)], Some(WireFault::BadCount)),
+    (&[(43, 1)], Some(WireFault::Short)),
+    (&[(23, 1)], Some(WireFault::Long)),
+];
 
-fn are_pages_kept(alloc: Global) -> Result<bool, Fail> {
-    Ok(is_either_kept(alloc, &PAGE_REQUEST)? && is_page_kept(alloc)?)
-}
+const OF_NUMBERS: &[Edited] = &[
+    (&[(13, 63)], None),
+    (&[(13, 64)], Some(WireFault::BadCount)),
+    (&[(0, 2), (13, 64)], None),
+    (&[(0, 2), (12, 3), (13, 255)], None),
+    (&[(0, 2), (12, 4)], Some(WireFault::BadCount)),
+    (&[(0, 3)], Some(WireFault::BadVersion)),
+    (&[(0, 0)], Some(WireFault::BadVersion)),
+];
 
-#[test]
-fn page_messages_are_read_and_written(rt: HostRuntime) -> Result<(), Fail> {
-    passes(&rt, are_pages_kept(rt.alloc()))
-}
+const OF_OFFSETS: &[Edited] = &[
+    (&[(41, 64)], Some(WireFault::BadCount)),
+    (&[(22, 65)], Some(WireFault::BadCount)),
+];
 
-/// A reply of interval 1's changes in page 1023, in version 2: the header, and so many bytes of runs.
-fn reply(alloc: Global, len: u16, runs: u16) -> Result<Vec<u8>, AllocError> {
-    let len = len.to_be_bytes();
-    let runs = runs.to_be_bytes();
-    let front = [
-        2, 9, 0, 1, 0, 0, 0, 0, 0, 0, len[0], len[1], 3, 255, 0, 0, 0, 1, 0, 0, 0, 1, runs[0],
-        runs[1],
-    ];
-    front.to_vec(alloc)
-}
+const OF_VALUES: &[Edited] = &[
+    (&[], Some(WireFault::BadCount)),
+    (&[(14, 1), (15, 0)], Some(WireFault::Short)),
+];
 
-/// The reply with all words of a page in one run.
-fn all_in_a_run(alloc: Global) -> Result<Vec<u8>, AllocError> {
-    let mut bytes = reply(alloc, 2062, 1)?;
-    bytes.extend_from_slice(&[0, 255])?;
-    for offset in 0..=255 {
-        bytes.extend_from_slice(&[0, 0, 0, 0, 0, 0, 0, offset])?;
+const OF_HEADERS: &[Edited] = &[
+    (&[(1, 0)], Some(WireFault::BadKind)),
+    (&[(1, 12)], Some(WireFault::BadKind)),
+    (&[(2, 16)], Some(WireFault::BadNode)),
+    (&[(3, 16)], Some(WireFault::BadNode)),
+    (&[(8, 2)], Some(WireFault::BadCount)),
+    (&[(11, 9)], Some(WireFault::Long)),
+    (&[(11, 11)], Some(WireFault::Short)),
+    (&[(0, 3), (1, 12)], Some(WireFault::BadVersion)),
+    (&[(1, 12), (2, 16)], Some(WireFault::BadKind)),
+    (&[(3, 16), (8, 2)], Some(WireFault::BadNode)),
+    (&[(8, 1), (11, 0)], Some(WireFault::Short)),
+    (&[(8, 1), (11, 1)], Some(WireFault::BadCount)),
+];
+
+const OF_FORWARDS: &[Edited] = &[
+    (&[(12, 64)], Some(WireFault::BadCount)),
+    (&[(13, 16)], Some(WireFault::BadNode)),
+    (&[(14, 17)], Some(WireFault::BadCount)),
+];
+
+const OF_GRANTS: &[Edited] = &[
+    (&[(25, 1)], Some(WireFault::Long)),
+    (&[(25, 3)], Some(WireFault::Short)),
+    (&[(26, 2)], Some(WireFault::BadNode)),
+    (&[(27, 1)], Some(WireFault::BadCount)),
+    (&[(31, 0)], Some(WireFault::BadCount)),
+    (&[(31, 2)], Some(WireFault::NotAscending)),
+    (&[(50, 4)], Some(WireFault::BadCount)),
+    // an interval is compared with the one before it before its pages are read
+    (&[(43, 1), (50, 4)], Some(WireFault::NotAscending)),
+    // four billion intervals that are not there
+    (&[(22, 255), (23, 255)], Some(WireFault::Short)),
+];
+
+const OF_ARRIVALS: &[Edited] = &[
+    (&[(15, 0)], Some(WireFault::BadCount)),
+    (&[(16, 2)], Some(WireFault::BadCount)),
+    (&[(30, 0)], Some(WireFault::BadCount)),
+    (&[(43, 64)], Some(WireFault::BadCount)),
+    (&[(45, 3)], Some(WireFault::NotAscending)),
+];
+
+const OF_REQUESTS: &[Edited] = &[
+    (&[(17, 0)], Some(WireFault::BadCount)),
+    (&[(17, 1)], Some(WireFault::Long)),
+    (&[(24, 0)], Some(WireFault::BadCount)),
+    (&[(24, 0), (25, 1)], Some(WireFault::NotAscending)),
+    (&[(14, 255)], Some(WireFault::Short)),
+];
+
+const OF_CHANGES: &[Edited] = &[(&[(32, 2)], Some(WireFault::NotAscending))];
+
+const OF_FALLING: &[Edited] = &[(&[], Some(WireFault::NotAscending))];
+
+const FAULTS: &[(&str, &[u8], &[Edited])] = &[
+    ("runs", CHANGES_2, OF_RUNS),
+    ("ranges of a page's number", PAGE, OF_NUMBERS),
+    ("ranges of changes", CHANGES_1, OF_OFFSETS),
+    ("ranges of a page's values", VALUES, OF_VALUES),
+    ("header", REQUEST, OF_HEADERS),
+    ("forward", FORWARD, OF_FORWARDS),
+    ("grant", GRANT, OF_GRANTS),
+    ("arrival", ARRIVE, OF_ARRIVALS),
+    ("request for changes", CHANGES_REQUEST, OF_REQUESTS),
+    ("changes", CHANGES_1, OF_CHANGES),
+    ("pages that fall", FALLING, OF_FALLING),
+];
+
+fn has_faults(alloc: Global, bytes: &[u8], rows: &[Edited]) -> bool {
+    for (edits, fault) in rows {
+        if !is_faulty(alloc, bytes, edits, &[], *fault) {
+            return false;
+        }
     }
-    Ok(bytes)
+    true
 }
 
-/// The reply with every second word of a page, which are 128 runs of a word each.
-fn every_second(alloc: Global) -> Result<Vec<u8>, AllocError> {
-    let mut bytes = reply(alloc, 1292, 128)?;
-    for half in 0..128u8 {
-        bytes.extend_from_slice(&[half * 2, 0, 1, 2, 3, 4, 5, 6, 7, 8])?;
+#[test]
+fn names_the_first_fault(rt: HostRuntime) {
+    for (name, bytes, rows) in FAULTS {
+        holds(&rt, name, has_faults(rt.alloc(), bytes, rows));
     }
-    Ok(bytes)
-}
-
-/// The reply with the last word of a page alone.
-fn last_alone(alloc: Global) -> Result<Vec<u8>, AllocError> {
-    let mut bytes = reply(alloc, 22, 1)?;
-    bytes.extend_from_slice(&[255, 0, 1, 2, 3, 4, 5, 6, 7, 8])?;
-    Ok(bytes)
-}
-
-fn is_whole_run_kept(alloc: Global) -> Result<bool, Fail> {
-    let bytes = all_in_a_run(alloc)?;
-    is_kept(alloc, &bytes)
-}
-
-fn is_every_second_kept(alloc: Global) -> Result<bool, Fail> {
-    let bytes = every_second(alloc)?;
-    is_kept(alloc, &bytes)
-}
-
-fn is_last_kept(alloc: Global) -> Result<bool, Fail> {
-    let bytes = last_alone(alloc)?;
-    is_kept(alloc, &bytes)
-}
-
-fn are_largest_kept(alloc: Global) -> Result<bool, Fail> {
-    Ok(is_whole_run_kept(alloc)? && is_every_second_kept(alloc)? && is_last_kept(alloc)?)
-}
-
-#[test]
-fn the_largest_pages_are_read_and_written(rt: HostRuntime) -> Result<(), Fail> {
-    passes(&rt, are_largest_kept(rt.alloc()))
-}
-
-#[test]
-fn names_what_is_wrong_with_runs(rt: HostRuntime) -> Result<(), Fail> {
-    // runs that touch or lie over the one before, one past offset 255, counts of more runs than can be, a run that is cut off,
-    // and values behind
-    let rows: [Edited; 8] = [
-        (&[(42, 4)], Some(WireFault::NotAscending)),
-        (&[(42, 3)], Some(WireFault::NotAscending)),
-        (&[(42, 255), (43, 1)], Some(WireFault::BadCount)),
-        (&[(24, 255)], Some(WireFault::BadCount)),
-        (&[(23, 129)], Some(WireFault::BadCount)),
-        (&[(22, 255)], Some(WireFault::BadCount)),
-        (&[(43, 1)], Some(WireFault::Short)),
-        (&[(23, 1)], Some(WireFault::Long)),
-    ];
-    passes(&rt, has_faults(rt.alloc(), &CHANGES_2, &rows))
-}
-
-// Node 1 gets page 0 of node 0's, by number, and a page of 65 values.
-const PAGE: [u8; 14] = [1, 10, 0, 1, 0, 0, 0, 0, 0, 0, 0, 2, 0, 0];
-
-const VALUES: [u8; 16] = [2, 11, 0, 1, 0, 0, 0, 0, 0, 0, 0, 4, 0, 0, 0, 65];
-
-fn are_ranges(alloc: Global) -> Result<bool, Fail> {
-    let bad = Some(WireFault::BadCount);
-    let pages: [Edited; 7] = [
-        (&[(13, 63)], None),
-        (&[(13, 64)], bad),
-        (&[(0, 2), (13, 64)], None),
-        (&[(0, 2), (12, 3), (13, 255)], None),
-        (&[(0, 2), (12, 4)], bad),
-        (&[(0, 3)], Some(WireFault::BadVersion)),
-        (&[(0, 0)], Some(WireFault::BadVersion)),
-    ];
-    let changes: [Edited; 2] = [(&[(41, 64)], bad), (&[(22, 65)], bad)];
-    let values: [Edited; 2] = [(&[], bad), (&[(14, 1), (15, 0)], Some(WireFault::Short))];
-    Ok(
-        has_faults(alloc, &PAGE, &pages)?
-            && has_faults(alloc, &CHANGES_1, &changes)?
-            && has_faults(alloc, &VALUES, &values)?,
-    )
-}
-
-#[test]
-fn each_version_has_its_ranges(rt: HostRuntime) -> Result<(), Fail> {
-    passes(&rt, are_ranges(rt.alloc()))
-}
-
-#[test]
-fn names_the_first_fault_of_a_header(rt: HostRuntime) -> Result<(), Fail> {
-    let rows: [Edited; 12] = [
-        (&[(1, 0)], Some(WireFault::BadKind)),
-        (&[(1, 12)], Some(WireFault::BadKind)),
-        (&[(2, 16)], Some(WireFault::BadNode)),
-        (&[(3, 16)], Some(WireFault::BadNode)),
-        (&[(8, 2)], Some(WireFault::BadCount)),
-        (&[(11, 9)], Some(WireFault::Long)),
-        (&[(11, 11)], Some(WireFault::Short)),
-        (&[(0, 3), (1, 12)], Some(WireFault::BadVersion)),
-        (&[(1, 12), (2, 16)], Some(WireFault::BadKind)),
-        (&[(3, 16), (8, 2)], Some(WireFault::BadNode)),
-        (&[(8, 1), (11, 0)], Some(WireFault::Short)),
-        (&[(8, 1), (11, 1)], Some(WireFault::BadCount)),
-    ];
-    passes(&rt, has_faults(rt.alloc(), &REQUEST, &rows))
-}
-
-fn are_faults_of_locks(alloc: Global) -> Result<bool, Fail> {
-    let forward: [Edited; 3] = [
-        (&[(12, 64)], Some(WireFault::BadCount)),
-        (&[(13, 16)], Some(WireFault::BadNode)),
-        (&[(14, 17)], Some(WireFault::BadCount)),
-    ];
-    let grant: [Edited; 9] = [
-        (&[(25, 1)], Some(WireFault::Long)),
-        (&[(25, 3)], Some(WireFault::Short)),
-        (&[(26, 2)], Some(WireFault::BadNode)),
-        (&[(27, 1)], Some(WireFault::BadCount)),
-        (&[(31, 0)], Some(WireFault::BadCount)),
-        (&[(31, 2)], Some(WireFault::NotAscending)),
-        (&[(50, 4)], Some(WireFault::BadCount)),
-        // an interval is compared with the one before it before its pages are read
-        (&[(43, 1), (50, 4)], Some(WireFault::NotAscending)),
-        // four billion intervals that are not there
-        (&[(22, 255), (23, 255)], Some(WireFault::Short)),
-    ];
-    Ok(has_faults(alloc, &FORWARD, &forward)? && has_faults(alloc, &GRANT, &grant)?)
-}
-
-#[test]
-fn names_the_first_fault_of_a_grant(rt: HostRuntime) -> Result<(), Fail> {
-    passes(&rt, are_faults_of_locks(rt.alloc()))
-}
-
-fn are_faults_of_others(alloc: Global) -> Result<bool, Fail> {
-    let arrive: [Edited; 5] = [
-        (&[(15, 0)], Some(WireFault::BadCount)),
-        (&[(16, 2)], Some(WireFault::BadCount)),
-        (&[(30, 0)], Some(WireFault::BadCount)),
-        (&[(43, 64)], Some(WireFault::BadCount)),
-        (&[(45, 3)], Some(WireFault::NotAscending)),
-    ];
-    let request: [Edited; 5] = [
-        (&[(17, 0)], Some(WireFault::BadCount)),
-        (&[(17, 1)], Some(WireFault::Long)),
-        (&[(24, 0)], Some(WireFault::BadCount)),
-        (&[(24, 0), (25, 1)], Some(WireFault::NotAscending)),
-        (&[(14, 255)], Some(WireFault::Short)),
-    ];
-    let changes: [Edited; 1] = [(&[(32, 2)], Some(WireFault::NotAscending))];
-    Ok(
-        has_faults(alloc, &ARRIVE, &arrive)?
-            && has_faults(alloc, &CHANGES_REQUEST, &request)?
-            && has_faults(alloc, &CHANGES_1, &changes)?,
-    )
-}
-
-#[test]
-fn names_the_first_fault_of_an_arrival_or_changes(rt: HostRuntime) -> Result<(), Fail> {
-    passes(&rt, are_faults_of_others(rt.alloc()))
 }
 
 /// Node 0's interval of this index, the only node's, which wrote nothing.
@@ -463,31 +555,6 @@ fn intervals_without_pages(alloc: Global, count: u32) -> Result<Intervals, Alloc
     Ok(intervals)
 }
 
-/// Node 0 has arrived alone with intervals that wrote nothing: 5 bytes for episode and flag, 5 for the time, 4 for the
-/// count, and 8 for each interval.
-fn longest(alloc: Global) -> Result<Vec<u8>, AllocError> {
-    let mut bytes = [
-        2, 4, 0, 0, 0, 0, 0, 0, 0, 255, 255, 254, 0, 0, 0, 1, 0, 1, 0, 31, 255, 254, 0, 31, 255,
-        254,
-    ]
-    .to_vec(alloc)?;
-    for before in 0..2_097_150u32 {
-        let index = (before + 1).to_be_bytes();
-        bytes.extend_from_slice(&[0, 1, index[0], index[1], index[2], index[3], 0, 0])?;
-    }
-    Ok(bytes)
-}
-
-fn is_longest_kept(alloc: Global) -> Result<bool, Fail> {
-    let bytes = longest(alloc)?;
-    Ok(bytes.len() == 12 + 16_777_214 && is_kept(alloc, &bytes)?)
-}
-
-#[test]
-fn the_longest_body_is_read_and_written(rt: HostRuntime) -> Result<(), Fail> {
-    passes(&rt, is_longest_kept(rt.alloc()))
-}
-
 /// Node 0's arrival, alone, with so many intervals that wrote nothing.
 fn arrival_of(alloc: Global, count: u32) -> Result<Envelope, AllocError> {
     let intervals = intervals_without_pages(alloc, count)?;
@@ -508,15 +575,20 @@ fn arrival_of(alloc: Global, count: u32) -> Result<Envelope, AllocError> {
     })
 }
 
-/// One interval more than the longest has: a body of 16,777,222 bytes, which is too many.
-fn is_arrival_too_long(alloc: Global) -> Result<bool, Fail> {
-    let envelope = arrival_of(alloc, 2_097_151)?;
-    Ok(encode(alloc, &envelope).err() == Some(EncodeFault::TooLong))
+/// Whether an envelope has so many bytes, or is too long.
+fn is_of(alloc: Global, envelope: &Envelope, len: Option<usize>) -> bool {
+    match encode(alloc, envelope) {
+        Ok(bytes) => len == Some(bytes.len()),
+        Err(fault) => len.is_none() && fault == EncodeFault::TooLong,
+    }
 }
 
-#[test]
-fn an_arrival_over_the_limit_is_not_written(rt: HostRuntime) -> Result<(), Fail> {
-    passes(&rt, is_arrival_too_long(rt.alloc()))
+/// One interval more than the longest has: a body of 16,777,222 bytes, which is too many.
+fn is_arrival_too_long(alloc: Global) -> bool {
+    match arrival_of(alloc, 2_097_151) {
+        Ok(envelope) => is_of(alloc, &envelope, None),
+        Err(_) => false,
+    }
 }
 
 /// Adds the index where it is above the last.
@@ -549,33 +621,29 @@ fn request_of(alloc: Global, count: u32) -> Result<Option<Envelope>, AllocError>
     }))
 }
 
-/// What writing the request of so many intervals gives: how many bytes, or the fault.
-fn written(alloc: Global, count: u32) -> Result<Option<Result<usize, EncodeFault>>, AllocError> {
-    let Some(envelope) = request_of(alloc, count)? else {
-        return Ok(None);
-    };
-    Ok(Some(encode(alloc, &envelope).map(|bytes| bytes.len())))
+/// Whether the request of so many intervals has so many bytes, or is too long.
+fn is_request_of(alloc: Global, count: u32, len: Option<usize>) -> bool {
+    match request_of(alloc, count) {
+        Ok(Some(envelope)) => is_of(alloc, &envelope, len),
+        _ => false,
+    }
+}
+
+#[test]
+fn the_longest_body_is_read_and_written(rt: HostRuntime) {
+    holds(&rt, "arrival", is_met(rt.alloc(), &Case::KeptLong(LONGEST)));
+}
+
+#[test]
+fn an_arrival_over_the_limit_is_not_written(rt: HostRuntime) {
+    holds(&rt, "arrival", is_arrival_too_long(rt.alloc()));
 }
 
 /// 2 bytes for the page, 4 for the count, and 4 for each index: 16,777,214 in all, and 4 more, which are too many.
-fn is_request_too_long(alloc: Global) -> Result<bool, Fail> {
-    Ok(
-        written(alloc, 4_194_302)? == Some(Ok(12 + 16_777_214))
-            && written(alloc, 4_194_303)? == Some(Err(EncodeFault::TooLong)),
-    )
-}
-
 #[test]
-fn a_body_over_the_limit_is_not_written(rt: HostRuntime) -> Result<(), Fail> {
-    passes(&rt, is_request_too_long(rt.alloc()))
-}
-
-// The grant whose last interval names pages 1 and then 0.
-#[test]
-fn pages_that_fall_are_refused(rt: HostRuntime) {
-    let falling = [
-        2, 3, 0, 1, 0, 0, 0, 0, 0, 0, 0, 42, 0, 2, 0, 0, 0, 2, 0, 0, 0, 0, 0, 0, 0, 2, 0, 2, 0, 0,
-        0, 1, 0, 0, 0, 0, 0, 0, 0, 2, 0, 0, 0, 2, 0, 0, 0, 0, 0, 2, 0, 1, 0, 0,
-    ];
-    assert!(rt; read(rt.alloc(), &falling).err() == Some(WireFault::NotAscending));
+fn a_body_over_the_limit_is_not_written(rt: HostRuntime) {
+    let alloc = rt.alloc();
+    let longest = is_request_of(alloc, 4_194_302, Some(12 + 16_777_214));
+    holds(&rt, "request", longest);
+    holds(&rt, "long request", is_request_of(alloc, 4_194_303, None));
 }

@@ -5,7 +5,6 @@ ghost use Rattle.std.specs.Prelude.{◌≡◌, ◌∷◌, IfOk, []};
 use crate::checks::holds;
 use lrc_page::{Change, Changes, Mask, Page, Pages, Size, offset_of, page_of, pages_of};
 use std::alloc::{AllocError, Global};
-use std::test::Fail;
 
 /// A page of 64 words with 3 at offset 2 and 1 at offset 63.
 fn written_twice() -> Page {
@@ -95,20 +94,10 @@ fn are_worked_changes(alloc: Global) -> Result<bool, AllocError> {
     )
 }
 
-#[test]
-fn finds_the_worked_changes(rt: HostRuntime) -> Result<(), Fail> {
-    holds(&rt, are_worked_changes(rt.alloc()))
-}
-
 fn are_applied(alloc: Global) -> Result<bool, AllocError> {
     let mut twin = Page::zero(Size::Words64);
     two_changes(alloc)?.apply(&mut twin);
     Ok(twin == written_twice() && twin != Page::zero(Size::Words256))
-}
-
-#[test]
-fn applies_the_worked_changes(rt: HostRuntime) -> Result<(), Fail> {
-    holds(&rt, are_applied(rt.alloc()))
 }
 
 /// A page of 256 words with 1 at every one.
@@ -119,11 +108,6 @@ fn full() -> Page {
 fn are_all_words(alloc: Global) -> Result<bool, AllocError> {
     let zeros = Page::zero(Size::Words256);
     are_between(alloc, &zeros, &full(), 256, change(0, 1), change(255, 1))
-}
-
-#[test]
-fn changes_every_word_of_the_larger_page(rt: HostRuntime) -> Result<(), Fail> {
-    holds(&rt, are_all_words(rt.alloc()))
 }
 
 /// All 256 changes, by hand.
@@ -142,11 +126,6 @@ fn are_all_pushed(alloc: Global) -> Result<bool, AllocError> {
     let by_hand = pushed(alloc)?;
     let zeros = Page::zero(Size::Words256);
     are_the_changes(alloc, &zeros, &full(), &by_hand)
-}
-
-#[test]
-fn pushes_every_word_of_the_larger_page(rt: HostRuntime) -> Result<(), Fail> {
-    holds(&rt, are_all_pushed(rt.alloc()))
 }
 
 #[test]
@@ -221,11 +200,6 @@ fn is_a_set(alloc: Global) -> Result<bool, AllocError> {
     are_three(&mut pages)
 }
 
-#[test]
-fn holds_sets_of_pages(rt: HostRuntime) -> Result<(), Fail> {
-    holds(&rt, is_a_set(rt.alloc()))
-}
-
 /// All pages, put in from the last to the first.
 fn every_page(alloc: Global) -> Result<Pages, AllocError> {
     let mut pages = Pages::empty(alloc);
@@ -267,6 +241,32 @@ fn are_at_their_places(alloc: Global) -> Result<bool, AllocError> {
 }
 
 #[test]
-fn puts_pages_at_their_places(rt: HostRuntime) -> Result<(), Fail> {
-    holds(&rt, are_at_their_places(rt.alloc()))
+fn changes_and_sets_are_as_worked(rt: HostRuntime) {
+    let alloc = rt.alloc();
+    holds(
+        &rt,
+        "finds the worked changes",
+        are_worked_changes(alloc) == Ok(true),
+    );
+    holds(
+        &rt,
+        "applies the worked changes",
+        are_applied(alloc) == Ok(true),
+    );
+    holds(
+        &rt,
+        "changes every word of the larger page",
+        are_all_words(alloc) == Ok(true),
+    );
+    holds(
+        &rt,
+        "pushes every word of the larger page",
+        are_all_pushed(alloc) == Ok(true),
+    );
+    holds(&rt, "holds sets of pages", is_a_set(alloc) == Ok(true));
+    holds(
+        &rt,
+        "puts pages at their places",
+        are_at_their_places(alloc) == Ok(true),
+    );
 }

@@ -10,14 +10,13 @@ use lrc_page::{Changes, Pages};
 use lrc_store::{Interval, IntervalAt, Intervals, Key, Store};
 use lrc_time::Time;
 use std::alloc::{AllocError, Global};
-use std::test::Fail;
 
 /// The node, the index and the page of a notice.
 type Notice = (u8, u32, u16);
 
 /// What is done with a store, or what is wanted of it.
 #[derive(Clone, Copy)]
-pub enum Step<'a> {
+enum Step<'a> {
     /// The next interval of a node is added: its stamp, and the pages that it wrote.
     Put(u8, &'a [u32], &'a [u16]),
     /// What all know is discarded.
@@ -67,7 +66,7 @@ fn put(
     node: u8,
     stamp: &[u32],
     written: &[u16],
-) -> Result<bool, AllocError>
+) -> bool
     requires some { 1 ≤ nodes }
     requires most { nodes ≤ 16 }
     requires nodes { length store.old.last ≡ nodes }
@@ -77,14 +76,17 @@ fn put(
     ensures pages { store.new.pages ≡ pages }
 {
     let stamp = of(nodes, stamp);
-    if node >= nodes || stamp.at(node).checked_sub(1) != Some(store.last(node)) {
-        return Ok(false);
+    if node >= nodes {
+        return false;
     }
-    let Some(pages) = pages_of(alloc, written, pages)? else {
-        return Ok(false);
-    };
-    store.add(&Interval::new(node, stamp, pages))?;
-    Ok(true)
+    let last = store.last(node);
+    if stamp.at(node) <= last || stamp.at(node) - 1 != last {
+        return false;
+    }
+    match pages_of(alloc, written, pages) {
+        Ok(Some(pages)) => store.add(&Interval::new(node, stamp, pages)).is_ok(),
+        _ => false,
+    }
 }
 
 fn key_of(notice: Notice) -> Key {
@@ -148,30 +150,26 @@ fn before_is(store: &Store, node: u8, wanted: &[Notice]) -> bool {
 }
 
 fn are_keys(keys: &[Key], wanted: &[Notice]) -> bool {
+    for (key, want) in keys.iter().zip(wanted) {
+        if *key != key_of(*want) {
+            return false;
+        }
+    }
     keys.len() == wanted.len()
-        && keys
-            .iter()
-            .zip(wanted)
-            .all(|(key, want)| *key == key_of(*want))
 }
 
-fn lacks(
-    store: &Store,
-    nodes: u8,
-    page: u16,
-    since: &[u32],
-    wanted: &[Notice],
-) -> Result<bool, AllocError>
+fn lacks(store: &Store, nodes: u8, page: u16, since: &[u32], wanted: &[Notice]) -> bool
     requires some { 1 ≤ nodes }
     requires most { nodes ≤ 16 }
     requires nodes { nodes ≡ length store.now.last }
 {
-    let since = of(nodes, since);
-    let keys = store.missing(page, &since)?;
-    Ok(are_keys(&keys, wanted))
+    match store.missing(page, &of(nodes, since)) {
+        Ok(keys) => are_keys(&keys, wanted),
+        Err(_) => false,
+    }
 }
 
-fn discard(store: &mut Store, nodes: u8, known: &[u32])
+fn discard(store: &mut Store, nodes: u8, known: &[u32]) -> bool
     requires some { 1 ≤ nodes }
     requires most { nodes ≤ 16 }
     requires nodes { length store.old.last ≡ nodes }
@@ -180,34 +178,36 @@ fn discard(store: &mut Store, nodes: u8, known: &[u32])
 {
     let known = of(nodes, known);
     store.discard(&known);
+    true
 }
 
 fn are_ids(intervals: &Intervals, wanted: &[(u8, u32)]) -> bool {
+    for (interval, want) in intervals.as_slice().iter().zip(wanted) {
+        if (interval.node, interval.index()) != *want {
+            return false;
+        }
+    }
     intervals.len() == wanted.len()
-        && intervals.as_slice().iter().zip(wanted).all(|(interval, want)| interval.node == want.0
-            && interval.index() == want.1)
 }
 
-fn are_duplicated(intervals: &Intervals, wanted: &[(u8, u32)]) -> Result<bool, AllocError> {
-    let second = intervals.duplicate()?;
-    Ok(are_ids(intervals, wanted) && are_ids(&second, wanted) && second == *intervals)
+fn are_duplicated(intervals: &Intervals, wanted: &[(u8, u32)]) -> bool {
+    match intervals.duplicate() {
+        Ok(second) => {
+            are_ids(intervals, wanted) && are_ids(&second, wanted) && second == *intervals
+        }
+        Err(_) => false,
+    }
 }
 
-fn has_newer(
-    store: &Store,
-    nodes: u8,
-    since: &[u32],
-    upto: &[u32],
-    wanted: &[(u8, u32)],
-) -> Result<bool, AllocError>
+fn has_newer(store: &Store, nodes: u8, since: &[u32], upto: &[u32], wanted: &[(u8, u32)]) -> bool
     requires some { 1 ≤ nodes }
     requires most { nodes ≤ 16 }
     requires nodes { nodes ≡ length store.now.last }
 {
-    let since = of(nodes, since);
-    let upto = of(nodes, upto);
-    let newer = store.newer_than(&since, &upto)?;
-    are_duplicated(&newer, wanted)
+    match store.newer_than(&of(nodes, since), &of(nodes, upto)) {
+        Ok(newer) => are_duplicated(&newer, wanted),
+        Err(_) => false,
+    }
 }
 
 /// The weight of the stamp of a key's interval, and 0 where the interval is not among these.
@@ -222,38 +222,36 @@ fn weight_of(intervals: &Intervals, key: Key) -> u64 {
 }
 
 fn are_weighed(keys: &[Key], intervals: &Intervals, wanted: &[(u8, u32, u64)]) -> bool {
+    for (key, want) in keys.iter().zip(wanted) {
+        if (key.node, key.index, weight_of(intervals, *key)) != *want {
+            return false;
+        }
+    }
     keys.len() == wanted.len()
-        && keys.iter().zip(wanted).all(|(key, want)| (
-            key.node,
-            key.index,
-            weight_of(intervals, *key),
-        ) == *want)
 }
 
-fn weighed(
-    store: &Store,
-    nodes: u8,
-    page: u16,
-    upto: &[u32],
-    wanted: &[(u8, u32, u64)],
-) -> Result<bool, AllocError>
+fn weighed(store: &Store, nodes: u8, page: u16, upto: &[u32], wanted: &[(u8, u32, u64)]) -> bool
     requires some { 1 ≤ nodes }
     requires most { nodes ≤ 16 }
     requires nodes { nodes ≡ length store.now.last }
 {
     let zeros = Time::new(nodes);
-    let intervals = store.newer_than(&zeros, &of(nodes, upto))?;
-    let keys = store.missing(page, &zeros)?;
-    Ok(are_weighed(&keys, &intervals, wanted))
+    match (
+        store.newer_than(&zeros, &of(nodes, upto)),
+        store.missing(page, &zeros),
+    ) {
+        (Ok(intervals), Ok(keys)) => are_weighed(&keys, &intervals, wanted),
+        _ => false,
+    }
 }
 
 /// Whether what a step that changes nothing wants comes out.
-fn is_as_wanted(store: &Store, nodes: u8, step: &Step) -> Result<bool, AllocError>
+fn is_as_wanted(store: &Store, nodes: u8, step: &Step) -> bool
     requires some { 1 ≤ nodes }
     requires most { nodes ≤ 16 }
     requires nodes { nodes ≡ length store.now.last }
 {
-    Ok(match step {
+    match step {
         Step::Put(..) | Step::Discard(..) => false,
         Step::Count(count) => store.len() == *count && store.is_empty() == (*count == 0),
         Step::Last(node, index) => *node < nodes && store.last(*node) == *index,
@@ -261,20 +259,14 @@ fn is_as_wanted(store: &Store, nodes: u8, step: &Step) -> Result<bool, AllocErro
         Step::Node(node, wanted) => node_is(store, *node, wanted),
         Step::Newest(node, wanted) => interval_is(store, store.newest(*node), wanted),
         Step::Before(node, wanted) => before_is(store, *node, wanted),
-        Step::Missing(page, since, wanted) => lacks(store, nodes, *page, since, wanted)?,
-        Step::Newer(since, upto, wanted) => has_newer(store, nodes, since, upto, wanted)?,
-        Step::Weighed(page, upto, wanted) => weighed(store, nodes, *page, upto, wanted)?,
-    })
+        Step::Missing(page, since, wanted) => lacks(store, nodes, *page, since, wanted),
+        Step::Newer(since, upto, wanted) => has_newer(store, nodes, since, upto, wanted),
+        Step::Weighed(page, upto, wanted) => weighed(store, nodes, *page, upto, wanted),
+    }
 }
 
 /// Takes a step with a store of so many nodes and pages, and answers whether what was wanted came out.
-fn is_met(
-    alloc: Global,
-    store: &mut Store,
-    nodes: u8,
-    pages: u16,
-    step: &Step,
-) -> Result<bool, AllocError>
+fn is_met(alloc: Global, store: &mut Store, nodes: u8, pages: u16, step: &Step) -> bool
     requires some { 1 ≤ nodes }
     requires most { nodes ≤ 16 }
     requires nodes { length store.old.last ≡ nodes }
@@ -284,23 +276,14 @@ fn is_met(
     ensures pages { store.new.pages ≡ pages }
 {
     match step {
-        Step::Put(node, stamp, written) => {
-            return put(alloc, store, nodes, pages, *node, stamp, written);
-        }
+        Step::Put(node, stamp, written) => put(alloc, store, nodes, pages, *node, stamp, written),
         Step::Discard(known) => discard(store, nodes, known),
-        _ => return is_as_wanted(store, nodes, step),
+        _ => is_as_wanted(store, nodes, step),
     }
-    Ok(true)
 }
 
 /// Takes steps with a store of so many nodes and pages, and answers whether each is met.
-fn are_met(
-    alloc: Global,
-    store: &mut Store,
-    nodes: u8,
-    pages: u16,
-    steps: &[Step],
-) -> Result<bool, AllocError>
+fn are_met(alloc: Global, store: &mut Store, nodes: u8, pages: u16, steps: &[Step]) -> bool
     requires some { 1 ≤ nodes }
     requires most { nodes ≤ 16 }
     requires nodes { length store.old.last ≡ nodes }
@@ -310,11 +293,11 @@ fn are_met(
     ensures pages { store.new.pages ≡ pages }
 {
     for step in steps {
-        if !is_met(alloc, store, nodes, pages, step)? {
-            return Ok(false);
+        if !is_met(alloc, store, nodes, pages, step) {
+            return false;
         }
     }
-    Ok(true)
+    true
 }
 
 fn both_are_met(
@@ -324,152 +307,71 @@ fn both_are_met(
     pages: u16,
     first: &[Step],
     second: &[Step],
-) -> Result<bool, AllocError>
+) -> bool
     requires some { 1 ≤ nodes }
     requires most { nodes ≤ 16 }
     requires nodes { length store.old.last ≡ nodes }
     requires pages { store.old.pages ≡ pages }
     requires few { pages ≤ 1024 }
 {
-    Ok(are_met(alloc, store, nodes, pages, first)? && are_met(alloc, store, nodes, pages, second)?)
+    are_met(alloc, store, nodes, pages, first) && are_met(alloc, store, nodes, pages, second)
 }
 
-/// Whether a store of so many nodes and pages that is empty at first meets each of the first steps, and then of the second.
-pub fn meets(
+fn all_are_met(
     alloc: Global,
+    store: Store,
     nodes: u8,
     pages: u16,
     first: &[Step],
     second: &[Step],
-) -> Result<bool, AllocError>
+) -> bool
+    requires some { 1 ≤ nodes }
+    requires most { nodes ≤ 16 }
+    requires nodes { length store.last ≡ nodes }
+    requires pages { store.pages ≡ pages }
+    requires few { pages ≤ 1024 }
+{
+    let mut store = store;
+    both_are_met(alloc, &mut store, nodes, pages, first, second)
+}
+
+/// Whether a store of so many nodes and pages that is empty at first meets each of the first steps, and then of the second.
+fn meets(alloc: Global, nodes: u8, pages: u16, first: &[Step], second: &[Step]) -> bool
     requires some { 1 ≤ nodes }
     requires few { nodes ≤ 16 }
     requires pages { pages ≤ 1024 }
 {
-    let mut store = Store::new(alloc, nodes, pages)?;
-    both_are_met(alloc, &mut store, nodes, pages, first, second)
+    match Store::new(alloc, nodes, pages) {
+        Ok(store) => all_are_met(alloc, store, nodes, pages, first, second),
+        Err(_) => false,
+    }
+}
+
+/// A worked case: how many nodes and pages a store has that is empty at first, and what is done with it, at first and then.
+#[derive(Clone, Copy)]
+struct Row<'a> {
+    name: &'a str,
+    nodes: u8,
+    pages: u16,
+    first: &'a [Step<'a>],
+    then: &'a [Step<'a>],
+}
+
+fn is_row_met(alloc: Global, row: &Row) -> bool {
+    let Row { nodes, pages, .. } = *row;
+    1 <= nodes && nodes <= 16 && pages <= 1024 && meets(alloc, nodes, pages, row.first, row.then)
 }
 
 /// Three intervals of two nodes: the worked store.
-const WORKED: [Step<'static>; 3] = [
+const WORKED: &[Step] = &[
     Step::Put(0, &[1, 0, 0], &[0]),
     Step::Put(1, &[0, 1, 0], &[0, 1]),
     Step::Put(0, &[2, 1, 0], &[1]),
 ];
 
-/// Whether the worked store meets each of the steps.
-fn worked(alloc: Global, steps: &[Step]) -> Result<bool, AllocError> {
-    meets(alloc, 3, 2, &WORKED, steps)
-}
-
-#[test]
-fn lists_run_through_the_worked_intervals(rt: HostRuntime) -> Result<(), Fail> {
-    let steps = [
-        Step::Before(0, &[(0, 1, 0)]),
-        Step::Newest(0, &[(0, 2, 1)]),
-        Step::Newest(1, &[(1, 1, 0), (1, 1, 1)]),
-        Step::Newest(2, &[]),
-        Step::Discard(&[1, 1, 0]),
-        Step::Newest(0, &[(0, 2, 1)]),
-        Step::Newest(1, &[]),
-        Step::Newest(2, &[]),
-    ];
-    holds(&rt, worked(rt.alloc(), &steps))
-}
-
-#[test]
-fn freed_places_are_used_again(rt: HostRuntime) -> Result<(), Fail> {
-    let steps = [
-        Step::Discard(&[1, 1, 0]),
-        Step::Put(2, &[2, 1, 1], &[]),
-        Step::Put(1, &[2, 2, 1], &[0, 1]),
-        Step::Newest(0, &[(0, 2, 1)]),
-        Step::Newest(1, &[(1, 2, 0), (1, 2, 1)]),
-        Step::Newest(2, &[]),
-        Step::Page(0, &[(1, 2, 0)]),
-        Step::Page(1, &[(1, 2, 1), (0, 2, 1)]),
-        Step::Node(0, &[2]),
-        Step::Node(1, &[2]),
-        Step::Node(2, &[1]),
-    ];
-    holds(&rt, worked(rt.alloc(), &steps))
-}
-
-#[test]
-fn discards_some_of_each_node(rt: HostRuntime) -> Result<(), Fail> {
-    let steps = [
-        Step::Put(1, &[2, 2, 0], &[0]),
-        Step::Discard(&[1, 1, 0]),
-        Step::Node(0, &[2]),
-        Step::Node(1, &[2]),
-        Step::Node(2, &[]),
-        Step::Page(0, &[(1, 2, 0)]),
-        Step::Page(1, &[(0, 2, 1)]),
-    ];
-    holds(&rt, worked(rt.alloc(), &steps))
-}
-
-#[test]
-fn lists_run_through_the_worked_store(rt: HostRuntime) -> Result<(), Fail> {
-    let steps = [
-        Step::Page(0, &[(1, 1, 0), (0, 1, 0)]),
-        Step::Page(1, &[(0, 2, 1), (1, 1, 1)]),
-        Step::Node(0, &[2, 1]),
-        Step::Discard(&[1, 1, 0]),
-        Step::Page(0, &[]),
-        Step::Page(1, &[(0, 2, 1)]),
-        Step::Node(0, &[2]),
-        Step::Node(1, &[]),
-        Step::Node(2, &[]),
-    ];
-    holds(&rt, worked(rt.alloc(), &steps))
-}
-
-#[test]
-fn finds_what_the_worked_store_lacks(rt: HostRuntime) -> Result<(), Fail> {
-    let steps = [
-        Step::Missing(0, &[0, 0, 0], &[(0, 1, 0), (1, 1, 0)]),
-        Step::Missing(1, &[0, 0, 0], &[(1, 1, 1), (0, 2, 1)]),
-    ];
-    holds(&rt, worked(rt.alloc(), &steps))
-}
-
-#[test]
-fn finds_what_is_newer(rt: HostRuntime) -> Result<(), Fail> {
-    let steps = [Step::Newer(&[1, 0, 0], &[2, 1, 0], &[(0, 2), (1, 1)])];
-    holds(&rt, worked(rt.alloc(), &steps))
-}
-
-#[test]
-fn what_is_discarded_is_gone(rt: HostRuntime) -> Result<(), Fail> {
-    let steps = [
-        Step::Discard(&[1, 1, 0]),
-        Step::Count(1),
-        Step::Last(1, 1),
-        Step::Missing(1, &[0, 0, 0], &[(0, 2, 1)]),
-    ];
-    holds(&rt, worked(rt.alloc(), &steps))
-}
-
-#[test]
-fn lighter_intervals_come_first(rt: HostRuntime) -> Result<(), Fail> {
-    let intervals = [
-        Step::Put(0, &[1, 0, 5], &[0]),
-        Step::Put(1, &[0, 1, 0], &[0]),
-    ];
-    let steps = [Step::Missing(0, &[0, 0, 0], &[(1, 1, 0), (0, 1, 0)])];
-    holds(&rt, meets(rt.alloc(), 3, 2, &intervals, &steps))
-}
-
-#[test]
-fn weights_order_the_worked_store(rt: HostRuntime) -> Result<(), Fail> {
-    let steps = [Step::Weighed(1, &[2, 1, 0], &[(1, 1, 1), (0, 2, 3)])];
-    holds(&rt, worked(rt.alloc(), &steps))
-}
-
 /// Node 0 writes page 0 under a lock, and behind a barrier node 1 does so: the intervals of both up to the next barrier. Each
 /// closes one as it acquires, one as it releases and one as it arrives.
-const ONE_AFTER_ANOTHER: [Step<'static>; 6] = [
+const ONE_AFTER_ANOTHER: &[Step] = &[
     Step::Put(0, &[1, 0, 0], &[]),
     Step::Put(0, &[2, 0, 0], &[0]),
     Step::Put(0, &[3, 0, 0], &[]),
@@ -478,32 +380,186 @@ const ONE_AFTER_ANOTHER: [Step<'static>; 6] = [
     Step::Put(1, &[3, 3, 1], &[0]),
 ];
 
-#[test]
-fn the_later_of_two_writers_weighs_more(rt: HostRuntime) -> Result<(), Fail> {
-    let steps = [Step::Weighed(0, &[3, 3, 1], &[(0, 2, 2), (1, 3, 7)])];
-    holds(&rt, meets(rt.alloc(), 3, 2, &ONE_AFTER_ANOTHER, &steps))
-}
+/// Three writers of a page, each in an episode of its own: the intervals of nodes 0, 1 and 2 up to their third barrier. Node 2
+/// wrote before the first one, node 1 before the second, node 0 before the third; node 3 never.
+const THREE_WRITERS: &[Step] = &[
+    Step::Put(0, &[1, 0, 0, 0], &[]),
+    Step::Put(1, &[0, 1, 0, 0], &[]),
+    Step::Put(2, &[0, 0, 1, 0], &[0]),
+    Step::Put(0, &[2, 1, 1, 1], &[]),
+    Step::Put(1, &[1, 2, 1, 1], &[0]),
+    Step::Put(0, &[3, 2, 2, 2], &[0]),
+];
+
+const ROWS: &[Row] = &[
+    Row {
+        name: "lists run through the worked intervals",
+        nodes: 3,
+        pages: 2,
+        first: WORKED,
+        then: &[
+            Step::Before(0, &[(0, 1, 0)]),
+            Step::Newest(0, &[(0, 2, 1)]),
+            Step::Newest(1, &[(1, 1, 0), (1, 1, 1)]),
+            Step::Newest(2, &[]),
+            Step::Discard(&[1, 1, 0]),
+            Step::Newest(0, &[(0, 2, 1)]),
+            Step::Newest(1, &[]),
+            Step::Newest(2, &[]),
+        ],
+    },
+    Row {
+        name: "freed places are used again",
+        nodes: 3,
+        pages: 2,
+        first: WORKED,
+        then: &[
+            Step::Discard(&[1, 1, 0]),
+            Step::Put(2, &[2, 1, 1], &[]),
+            Step::Put(1, &[2, 2, 1], &[0, 1]),
+            Step::Newest(0, &[(0, 2, 1)]),
+            Step::Newest(1, &[(1, 2, 0), (1, 2, 1)]),
+            Step::Newest(2, &[]),
+            Step::Page(0, &[(1, 2, 0)]),
+            Step::Page(1, &[(1, 2, 1), (0, 2, 1)]),
+            Step::Node(0, &[2]),
+            Step::Node(1, &[2]),
+            Step::Node(2, &[1]),
+        ],
+    },
+    Row {
+        name: "discards some of each node",
+        nodes: 3,
+        pages: 2,
+        first: WORKED,
+        then: &[
+            Step::Put(1, &[2, 2, 0], &[0]),
+            Step::Discard(&[1, 1, 0]),
+            Step::Node(0, &[2]),
+            Step::Node(1, &[2]),
+            Step::Node(2, &[]),
+            Step::Page(0, &[(1, 2, 0)]),
+            Step::Page(1, &[(0, 2, 1)]),
+        ],
+    },
+    Row {
+        name: "lists run through the worked store",
+        nodes: 3,
+        pages: 2,
+        first: WORKED,
+        then: &[
+            Step::Page(0, &[(1, 1, 0), (0, 1, 0)]),
+            Step::Page(1, &[(0, 2, 1), (1, 1, 1)]),
+            Step::Node(0, &[2, 1]),
+            Step::Discard(&[1, 1, 0]),
+            Step::Page(0, &[]),
+            Step::Page(1, &[(0, 2, 1)]),
+            Step::Node(0, &[2]),
+            Step::Node(1, &[]),
+            Step::Node(2, &[]),
+        ],
+    },
+    Row {
+        name: "finds what the worked store lacks",
+        nodes: 3,
+        pages: 2,
+        first: WORKED,
+        then: &[
+            Step::Missing(0, &[0, 0, 0], &[(0, 1, 0), (1, 1, 0)]),
+            Step::Missing(1, &[0, 0, 0], &[(1, 1, 1), (0, 2, 1)]),
+        ],
+    },
+    Row {
+        name: "finds what is newer",
+        nodes: 3,
+        pages: 2,
+        first: WORKED,
+        then: &[Step::Newer(&[1, 0, 0], &[2, 1, 0], &[(0, 2), (1, 1)])],
+    },
+    Row {
+        name: "what is discarded is gone",
+        nodes: 3,
+        pages: 2,
+        first: WORKED,
+        then: &[
+            Step::Discard(&[1, 1, 0]),
+            Step::Count(1),
+            Step::Last(1, 1),
+            Step::Missing(1, &[0, 0, 0], &[(0, 2, 1)]),
+        ],
+    },
+    Row {
+        name: "lighter intervals come first",
+        nodes: 3,
+        pages: 2,
+        first: &[
+            Step::Put(0, &[1, 0, 5], &[0]),
+            Step::Put(1, &[0, 1, 0], &[0]),
+        ],
+        then: &[Step::Missing(0, &[0, 0, 0], &[(1, 1, 0), (0, 1, 0)])],
+    },
+    Row {
+        name: "weights order the worked store",
+        nodes: 3,
+        pages: 2,
+        first: WORKED,
+        then: &[Step::Weighed(1, &[2, 1, 0], &[(1, 1, 1), (0, 2, 3)])],
+    },
+    Row {
+        name: "the later of two writers weighs more",
+        nodes: 3,
+        pages: 2,
+        first: ONE_AFTER_ANOTHER,
+        then: &[Step::Weighed(0, &[3, 3, 1], &[(0, 2, 2), (1, 3, 7)])],
+    },
+    Row {
+        name: "the writer of each episode weighs more than the one before",
+        nodes: 4,
+        pages: 1,
+        first: THREE_WRITERS,
+        then: &[Step::Weighed(0, &[3, 2, 1, 0], &[(2, 1, 1), (1, 2, 5), (0, 3, 9)])],
+    },
+    Row {
+        name: "discards nothing and everything",
+        nodes: 3,
+        pages: 2,
+        first: WORKED,
+        then: &[
+            Step::Discard(&[0, 0, 0]),
+            Step::Count(3),
+            Step::Page(1, &[(0, 2, 1), (1, 1, 1)]),
+            Step::Discard(&[2, 1, 0]),
+            Step::Count(0),
+            Step::Last(0, 2),
+            Step::Last(1, 1),
+            Step::Page(1, &[]),
+            Step::Node(0, &[]),
+        ],
+    },
+    Row {
+        name: "what is missing up to what was known is missing in all of the list",
+        nodes: 3,
+        pages: 2,
+        first: &[
+            Step::Put(0, &[1, 0, 0], &[1]),
+            Step::Put(1, &[0, 1, 0], &[1]),
+        ],
+        then: &[Step::Missing(1, &[1, 0, 0], &[(1, 1, 1)])],
+    },
+    Row {
+        name: "a duplicate is equal",
+        nodes: 3,
+        pages: 2,
+        first: WORKED,
+        then: &[Step::Newer(&[0, 0, 0], &[2, 1, 0], &[(0, 1), (0, 2), (1, 1)])],
+    },
+];
 
 #[test]
-fn discards_nothing_and_everything(rt: HostRuntime) -> Result<(), Fail> {
-    let steps = [
-        Step::Discard(&[0, 0, 0]),
-        Step::Count(3),
-        Step::Page(1, &[(0, 2, 1), (1, 1, 1)]),
-        Step::Discard(&[2, 1, 0]),
-        Step::Count(0),
-        Step::Last(0, 2),
-        Step::Last(1, 1),
-        Step::Page(1, &[]),
-        Step::Node(0, &[]),
-    ];
-    holds(&rt, worked(rt.alloc(), &steps))
-}
-
-#[test]
-fn a_duplicate_is_equal(rt: HostRuntime) -> Result<(), Fail> {
-    let steps = [Step::Newer(&[0, 0, 0], &[2, 1, 0], &[(0, 1), (0, 2), (1, 1)])];
-    holds(&rt, worked(rt.alloc(), &steps))
+fn stores_are_as_worked(rt: HostRuntime) {
+    for row in ROWS {
+        holds(&rt, row.name, is_row_met(rt.alloc(), row));
+    }
 }
 
 /// One change: 7 at offset 3.
@@ -569,8 +625,8 @@ fn link_keeps(alloc: Global, store: &mut Store) -> Result<bool, AllocError>
     Ok(before && is_seven(store.changes_at(at)) && is_seven(store.changes(key_of((0, 1, 1)))))
 }
 
-/// Whether the notice that is missing of page 1 is found, as far as the list is searched and in all of it, by a time that knew all
-/// there was before node 1's interval came.
+/// Whether the notice that is missing of page 1 is found, as far as the list is searched, by a time that knew all there was
+/// before node 1's interval came.
 fn stops_at_the_known(alloc: Global, store: &mut Store) -> Result<bool, AllocError>
     requires { store.old ≡ empty_store 3 2 }
 {
@@ -579,23 +635,54 @@ fn stops_at_the_known(alloc: Global, store: &mut Store) -> Result<bool, AllocErr
     let mut since = Time::new(3);
     since.raise(0, 1);
     let found = store.missing_until_known(1, &since)?;
-    Ok(are_keys(&found, &[(1, 1, 1)]) && lacks(store, 3, 1, &[1, 0, 0], &[(1, 1, 1)])?)
+    Ok(are_keys(&found, &[(1, 1, 1)]))
+}
+
+fn key_keeps_in(alloc: Global, store: Store) -> bool
+    requires { store ≡ empty_store 3 2 }
+{
+    let mut store = store;
+    matches!(key_keeps(alloc, &mut store), Ok(true))
+}
+
+fn link_keeps_in(alloc: Global, store: Store) -> bool
+    requires { store ≡ empty_store 3 2 }
+{
+    let mut store = store;
+    matches!(link_keeps(alloc, &mut store), Ok(true))
+}
+
+fn stops_in(alloc: Global, store: Store) -> bool
+    requires { store ≡ empty_store 3 2 }
+{
+    let mut store = store;
+    matches!(stops_at_the_known(alloc, &mut store), Ok(true))
+}
+
+fn key_is_kept(alloc: Global) -> bool {
+    match Store::new(alloc, 3, 2) {
+        Ok(store) => key_keeps_in(alloc, store),
+        Err(_) => false,
+    }
+}
+
+fn link_is_kept(alloc: Global) -> bool {
+    match Store::new(alloc, 3, 2) {
+        Ok(store) => link_keeps_in(alloc, store),
+        Err(_) => false,
+    }
+}
+
+fn is_found_up_to_the_known(alloc: Global) -> bool {
+    match Store::new(alloc, 3, 2) {
+        Ok(store) => stops_in(alloc, store),
+        Err(_) => false,
+    }
 }
 
 #[test]
-fn finds_what_is_missing_up_to_what_was_known(rt: HostRuntime) -> Result<(), Fail> {
-    let mut store = Store::new(rt.alloc(), 3, 2)?;
-    holds(&rt, stops_at_the_known(rt.alloc(), &mut store))
-}
-
-#[test]
-fn keeps_the_changes_of_a_key(rt: HostRuntime) -> Result<(), Fail> {
-    let mut store = Store::new(rt.alloc(), 3, 2)?;
-    holds(&rt, key_keeps(rt.alloc(), &mut store))
-}
-
-#[test]
-fn keeps_the_changes_of_a_link(rt: HostRuntime) -> Result<(), Fail> {
-    let mut store = Store::new(rt.alloc(), 3, 2)?;
-    holds(&rt, link_keeps(rt.alloc(), &mut store))
+fn keeps_changes_and_finds_what_is_missing_up_to_what_was_known(rt: HostRuntime) {
+    holds(&rt, "the changes of a key", key_is_kept(rt.alloc()));
+    holds(&rt, "the changes of a link", link_is_kept(rt.alloc()));
+    holds(&rt, "what is missing", is_found_up_to_the_known(rt.alloc()));
 }

@@ -9,7 +9,6 @@ use crate::checks::holds;
 use lrc_page::{Changes, Page, Size};
 use lrc_table::{PageTable, State};
 use std::alloc::{AllocError, Global};
-use std::test::Fail;
 
 /// How many changes there are, and the offset and the value of the last; zeros where there is none.
 fn summary(changes: Option<Changes>) -> Option<(usize, u8, u64)> {
@@ -86,10 +85,9 @@ fn worked_table(alloc: Global, table: &mut PageTable) -> Result<bool, AllocError
     )
 }
 
-#[test]
-fn keeps_the_worked_table(rt: HostRuntime) -> Result<(), Fail> {
-    let mut table = PageTable::new(rt.alloc(), 65, Size::Words64)?;
-    holds(&rt, worked_table(rt.alloc(), &mut table))
+fn is_worked(alloc: Global) -> Result<bool, AllocError> {
+    let mut table = PageTable::new(alloc, 65, Size::Words64)?;
+    worked_table(alloc, &mut table)
 }
 
 fn settled_pages(table: &mut PageTable) -> Result<bool, AllocError>
@@ -107,10 +105,9 @@ fn settled_pages(table: &mut PageTable) -> Result<bool, AllocError>
     Ok([closed, first, again, closed_again, silent] == [true; 5] && seen == (true, Some(5)))
 }
 
-#[test]
-fn settles_the_worked_pages(rt: HostRuntime) -> Result<(), Fail> {
-    let mut table = PageTable::new(rt.alloc(), 65, Size::Words64)?;
-    holds(&rt, settled_pages(&mut table))
+fn are_settled(alloc: Global) -> Result<bool, AllocError> {
+    let mut table = PageTable::new(alloc, 65, Size::Words64)?;
+    settled_pages(&mut table)
 }
 
 fn earlier_pages(table: &mut PageTable) -> Result<bool, AllocError>
@@ -137,10 +134,9 @@ fn earlier_pages(table: &mut PageTable) -> Result<bool, AllocError>
     )
 }
 
-#[test]
-fn keeps_earlier_pending_pages(rt: HostRuntime) -> Result<(), Fail> {
-    let mut table = PageTable::new(rt.alloc(), 257, Size::Words256)?;
-    holds(&rt, earlier_pages(&mut table))
+fn are_earlier_kept(alloc: Global) -> Result<bool, AllocError> {
+    let mut table = PageTable::new(alloc, 257, Size::Words256)?;
+    earlier_pages(&mut table)
 }
 
 fn base_copies(table: &mut PageTable) -> Result<bool, AllocError>
@@ -158,10 +154,9 @@ fn base_copies(table: &mut PageTable) -> Result<bool, AllocError>
     Ok(closed && pending && (kept, read) == (Some(1), Some(2)) && table.base(0).is_none())
 }
 
-#[test]
-fn keeps_base_copies(rt: HostRuntime) -> Result<(), Fail> {
-    let mut table = PageTable::new(rt.alloc(), 1, Size::Words64)?;
-    holds(&rt, base_copies(&mut table))
+fn are_bases_kept(alloc: Global) -> Result<bool, AllocError> {
+    let mut table = PageTable::new(alloc, 1, Size::Words64)?;
+    base_copies(&mut table)
 }
 
 /// A page of 64 words with 9 at offset 1.
@@ -220,10 +215,9 @@ fn absent_page(alloc: Global, table: &mut PageTable) -> Result<bool, AllocError>
     )
 }
 
-#[test]
-fn fetches_an_absent_page(rt: HostRuntime) -> Result<(), Fail> {
-    let mut table = PageTable::new(rt.alloc(), 65, Size::Words64)?;
-    holds(&rt, absent_page(rt.alloc(), &mut table))
+fn is_fetched(alloc: Global) -> Result<bool, AllocError> {
+    let mut table = PageTable::new(alloc, 65, Size::Words64)?;
+    absent_page(alloc, &mut table)
 }
 
 /// Writes its number and one more to a word, where its page is not pending.
@@ -273,7 +267,25 @@ fn large_fill(alloc: Global) -> Result<bool, AllocError> {
 }
 
 #[test]
-fn holds_the_most_words(rt: HostRuntime) -> Result<(), Fail> {
-    holds(&rt, small_fill(rt.alloc()))?;
-    holds(&rt, large_fill(rt.alloc()))
+fn tables_are_as_worked(rt: HostRuntime) {
+    let alloc = rt.alloc();
+    holds(&rt, "keeps the worked table", is_worked(alloc) == Ok(true));
+    holds(
+        &rt,
+        "settles the worked pages",
+        are_settled(alloc) == Ok(true),
+    );
+    holds(
+        &rt,
+        "keeps earlier pending pages",
+        are_earlier_kept(alloc) == Ok(true),
+    );
+    holds(&rt, "keeps base copies", are_bases_kept(alloc) == Ok(true));
+    holds(&rt, "fetches an absent page", is_fetched(alloc) == Ok(true));
+}
+
+#[test]
+fn holds_the_most_words(rt: HostRuntime) {
+    holds(&rt, "of 64", small_fill(rt.alloc()) == Ok(true));
+    holds(&rt, "of 256", large_fill(rt.alloc()) == Ok(true));
 }

@@ -59,7 +59,12 @@ fn entry(time: &Time, node: u8) -> u32 {
 
 // Whether the entries of a time of sixteen nodes go up by one from the first.
 fn ascends_from(time: &Time, first: u32) -> bool {
-    (0..16u8).all(|node| entry(time, node) == first.saturating_add(u32::from(node)))
+    for node in 0..16u8 {
+        if entry(time, node) != first.saturating_add(u32::from(node)) {
+            return false;
+        }
+    }
+    true
 }
 
 // A time by itself, the other, their join, and which of them covers which.
@@ -79,14 +84,13 @@ fn the_join_covers_both(rt: HostRuntime) {
     let one = of(3, &[3, 0, 1]);
     let other = of(3, &[1, 2, 1]);
     let both = joined(&one, &other);
-    assert!(rt; are_joined(&one, &other, &both));
-    assert!(rt; [one.weight(), other.weight(), both.weight()] == [4, 4, 6]);
+    let weights = [one.weight(), other.weight(), both.weight()] == [4, 4, 6];
+    assert!(rt; weights && are_joined(&one, &other, &both));
 }
 
 #[test]
 fn sixteen_entries_are_kept_apart(rt: HostRuntime) {
     let time = of_sixteen(100);
-    assert!(rt; ascends_from(&time, 100) && time.copy() == time);
-    let weights = [time.weight(), of_sixteen(u32::MAX).weight()];
-    assert!(rt; weights == [1_720, 68_719_476_720]);
+    let weights = [time.weight(), of_sixteen(u32::MAX).weight()] == [1_720, 68_719_476_720];
+    assert!(rt; weights && ascends_from(&time, 100) && time.copy() == time);
 }

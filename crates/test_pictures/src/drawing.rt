@@ -2,7 +2,7 @@
 
 use lrc_chart_model::{Arrow, Band, Kind, Lost, Picture, Race, Row};
 use lrc_chart_svg::document_of;
-use lrc_svg::document_part;
+use lrc_svg::{Document, document_part};
 use std::alloc::{AllocError, Global};
 
 // The root, its size, the ground and the title.
@@ -82,7 +82,7 @@ pub(crate) fn bytes(alloc: Global, words: &[u8]) -> Result<Vec<u8>, AllocError> 
 }
 
 // A row that has words and a hint alone.
-pub(crate) fn row(
+fn row(
     alloc: Global,
     column: u8,
     kind: Kind,
@@ -101,24 +101,41 @@ pub(crate) fn row(
     })
 }
 
+pub(crate) fn push_row(
+    alloc: Global,
+    rows: &mut Vec<Row>,
+    column: u8,
+    kind: Kind,
+    words: &[u8],
+    hint: &[u8],
+) -> Result<(), AllocError> {
+    rows.push(row(alloc, column, kind, words, hint)?)?;
+    Ok(())
+}
+
 fn push_act(alloc: Global, rows: &mut Vec<Row>) -> Result<(), AllocError> {
-    let mut act = row(alloc, 1, Kind::Act, b"acquire 0", b"act 0")?;
+    push_row(alloc, rows, 1, Kind::Act, b"acquire 0", b"act 0")?;
+    match rows.last_mut() {
+        Some(act) => put_interval(act),
+        None => Ok(()),
+    }
+}
+
+fn put_interval(act: &mut Row) -> Result<(), AllocError> {
     act.time.extend_from_slice(b"0,1")?;
     act.invalid.extend_from_slice(b"page 0")?;
     act.closes = true;
-    rows.push(act)?;
     Ok(())
 }
 
 fn push_rows(alloc: Global, rows: &mut Vec<Row>) -> Result<(), AllocError> {
-    rows.push(row(alloc, 1, Kind::Wait, b"waits", b"turn 0")?)?;
-    rows.push(row(alloc, 0, Kind::Message, b"takes", b"turn 1")?)?;
+    push_row(alloc, rows, 1, Kind::Wait, b"waits", b"turn 0")?;
+    push_row(alloc, rows, 0, Kind::Message, b"takes", b"turn 1")?;
     push_act(alloc, rows)?;
-    rows.push(row(alloc, 0, Kind::Barrier, b"arrive", b"act 1")?)?;
-    Ok(())
+    push_row(alloc, rows, 0, Kind::Barrier, b"arrive", b"act 1")
 }
 
-fn push_arrows(alloc: Global, arrows: &mut Vec<Arrow>) -> Result<(), AllocError> {
+fn push_request(alloc: Global, arrows: &mut Vec<Arrow>) -> Result<(), AllocError> {
     arrows.push(Arrow {
         from: 0,
         sender: 1,
@@ -128,6 +145,10 @@ fn push_arrows(alloc: Global, arrows: &mut Vec<Arrow>) -> Result<(), AllocError>
         label: bytes(alloc, b"lock-request")?,
         hint: bytes(alloc, b"lock 0")?,
     })?;
+    Ok(())
+}
+
+fn push_grant(alloc: Global, arrows: &mut Vec<Arrow>) -> Result<(), AllocError> {
     arrows.push(Arrow {
         from: 1,
         sender: 0,
@@ -172,7 +193,7 @@ fn push_band(alloc: Global, bands: &mut Vec<Band>) -> Result<(), AllocError> {
     Ok(())
 }
 
-fn push_columns(alloc: Global, columns: &mut Vec<Vec<u8>>) -> Result<(), AllocError> {
+pub(crate) fn push_columns(alloc: Global, columns: &mut Vec<Vec<u8>>) -> Result<(), AllocError> {
     columns.push(bytes(alloc, b"node 0")?)?;
     columns.push(bytes(alloc, b"node 1")?)?;
     Ok(())
@@ -183,7 +204,8 @@ fn fill(alloc: Global, picture: &mut Picture) -> Result<(), AllocError> {
     picture.title.extend_from_slice(b"sample")?;
     push_columns(alloc, &mut picture.columns)?;
     push_rows(alloc, &mut picture.rows)?;
-    push_arrows(alloc, &mut picture.arrows)?;
+    push_request(alloc, &mut picture.arrows)?;
+    push_grant(alloc, &mut picture.arrows)?;
     push_lost(alloc, &mut picture.lost)?;
     push_band(alloc, &mut picture.bands)?;
     push_race(alloc, &mut picture.races)
@@ -201,21 +223,29 @@ pub(crate) fn blank(alloc: Global) -> Picture {
     }
 }
 
-// The text of the drawing.
-fn drawn(alloc: Global) -> Result<Vec<u8>, AllocError> {
-    let mut picture = blank(alloc);
-    fill(alloc, &mut picture)?;
-    let document = document_of(alloc, &picture)?;
-    document_part(alloc, &document)
+// Whether the text of a document begins and ends so.
+fn is_written(alloc: Global, document: &Document, first: &[u8], last: &[u8]) -> bool {
+    match document_part(alloc, document) {
+        Ok(text) => text.starts_with(first) && text.ends_with(last),
+        Err(_) => false,
+    }
 }
 
-// Whether the drawing begins and ends so.
-fn is_drawn(alloc: Global) -> Result<bool, AllocError> {
-    let text = drawn(alloc)?;
-    Ok(text.starts_with(FIRST) && text.ends_with(REST))
+// Whether the drawing of a picture begins and ends so.
+pub(crate) fn is_drawn(alloc: Global, picture: &Picture, first: &[u8], last: &[u8]) -> bool {
+    match document_of(alloc, picture) {
+        Ok(document) => is_written(alloc, &document, first, last),
+        Err(_) => false,
+    }
+}
+
+// Whether a picture of one of each is drawn so.
+fn is_sample_drawn(alloc: Global) -> bool {
+    let mut picture = blank(alloc);
+    fill(alloc, &mut picture).is_ok() && is_drawn(alloc, &picture, FIRST, REST)
 }
 
 #[test]
 fn things_stand_where_they_should(rt: HostRuntime) {
-    assert!(rt; is_drawn(rt.alloc()) == Ok(true));
+    assert!(rt; is_sample_drawn(rt.alloc()));
 }

@@ -1,18 +1,25 @@
 // The legend of a drawing: each of its signs looks as what it stands for, and no two kinds of rows look alike.
 
-use crate::drawing::{blank, bytes, row};
+use crate::checks::passes;
+use crate::drawing::{blank, bytes, push_row};
 use lrc_chart_model::{Arrow, Kind, Lost, Picture, Race};
 use lrc_chart_svg::document_of;
 use lrc_svg::{Attribute, Content, Document};
 use std::alloc::{AllocError, Global};
 
+const KINDS: &[Kind] = &[
+    Kind::Act,
+    Kind::Wait,
+    Kind::Message,
+    Kind::Trap,
+    Kind::Barrier,
+];
+
 // The kinds of rows in the order of the legend, and the messages and races in that of its lines.
 fn push_rows(alloc: Global, picture: &mut Picture) -> Result<(), AllocError> {
-    picture.rows.push(row(alloc, 0, Kind::Act, b"", b"")?)?;
-    picture.rows.push(row(alloc, 0, Kind::Wait, b"", b"")?)?;
-    picture.rows.push(row(alloc, 0, Kind::Message, b"", b"")?)?;
-    picture.rows.push(row(alloc, 0, Kind::Trap, b"", b"")?)?;
-    picture.rows.push(row(alloc, 0, Kind::Barrier, b"", b"")?)?;
+    for kind in KINDS {
+        push_row(alloc, &mut picture.rows, 0, *kind, b"", b"")?;
+    }
     Ok(())
 }
 
@@ -51,10 +58,14 @@ fn push_lines(alloc: Global, picture: &mut Picture) -> Result<(), AllocError> {
 
 fn drawn(alloc: Global) -> Result<Document, AllocError> {
     let mut picture = blank(alloc);
-    picture.columns.push(bytes(alloc, b"node 0")?)?;
-    push_rows(alloc, &mut picture)?;
-    push_lines(alloc, &mut picture)?;
+    fill(alloc, &mut picture)?;
     document_of(alloc, &picture)
+}
+
+fn fill(alloc: Global, picture: &mut Picture) -> Result<(), AllocError> {
+    picture.columns.push(bytes(alloc, b"node 0")?)?;
+    push_rows(alloc, picture)?;
+    push_lines(alloc, picture)
 }
 
 // The legend's boxes and lines, each before its name, stand behind the ground and the title.
@@ -105,20 +116,17 @@ fn stands_for(document: &Document, sign: usize, group: usize, count: usize) -> b
     }
 }
 
-#[test]
-fn boxes_of_the_legend_are_those_of_rows(rt: HostRuntime) -> Result<(), AllocError> {
-    let document = drawn(rt.alloc())?;
+// Whether the box of each kind looks as its row, and its area as no other one's.
+fn are_boxes_those_of_rows(document: &Document) -> bool {
+    let mut is = true;
     for kind in 0..5usize {
         for other in 0..5usize {
-            let same = stands_for(&document, BOXES + 2 * kind, ROWS + other, 3);
-            assert!(rt; same == (kind == other), "kinds {kind} and {other}");
+            let same = stands_for(document, BOXES + 2 * kind, ROWS + other, 3);
+            is = is && same == (kind == other);
         }
-        assert!(rt;
-            stands_for(&document, BOXES + 2 * kind, ROWS + kind, 4),
-            "kind {kind}"
-        );
+        is = is && stands_for(document, BOXES + 2 * kind, ROWS + kind, 4);
     }
-    Ok(())
+    is
 }
 
 // The shapes of the legend's lines, from where they begin: plain ones, one to a cross around its end, and one between two bars.
@@ -141,26 +149,47 @@ fn ends_so(document: &Document, place: usize, shape: &[u8]) -> bool {
     }
 }
 
-#[test]
-fn lines_of_the_legend_have_their_shapes(rt: HostRuntime) -> Result<(), AllocError> {
-    let document = drawn(rt.alloc())?;
+// Whether each line of the legend has its shape.
+fn have_lines_their_shapes(document: &Document) -> bool {
+    let mut is = true;
     for line in 0..5usize {
-        let same = ends_so(&document, LINES + 2 * line, SHAPES[line]);
-        assert!(rt; same, "line {line}");
+        is = is && ends_so(document, LINES + 2 * line, SHAPES[line]);
     }
-    Ok(())
+    is
 }
 
-// The first line of the legend is the rule of a row; then come a message, one taken again, one never taken, and a race.
-#[test]
-fn lines_of_the_legend_are_those_of_messages_and_races(rt: HostRuntime) -> Result<(), AllocError> {
-    let document = drawn(rt.alloc())?;
+// Whether the lines are those of messages and races. The first one is the rule of a row; then come a message, one taken again, one never
+// taken, and a race.
+fn are_lines_those_of_messages(document: &Document) -> bool {
+    let mut is = true;
     for line in 0..4usize {
-        let same = stands_for(&document, LINES + 2 + 2 * line, GROUPS + line, 3);
-        assert!(rt; same, "line {line}");
+        is = is && stands_for(document, LINES + 2 + 2 * line, GROUPS + line, 3);
     }
-    let again = stands_for(&document, LINES + 2, GROUPS + 1, 3);
-    let race = stands_for(&document, LINES + 2, GROUPS + 3, 3);
-    assert!(rt; !again && !race);
-    Ok(())
+    is && !stands_for(document, LINES + 2, GROUPS + 1, 3)
+        && !stands_for(document, LINES + 2, GROUPS + 3, 3)
+}
+
+// What is asked of the legend, and is not so.
+fn first_wrong_of(document: &Document) -> Option<&'static str> {
+    if !are_boxes_those_of_rows(document) {
+        Some("boxes of the legend are those of rows")
+    } else if !have_lines_their_shapes(document) {
+        Some("lines of the legend have their shapes")
+    } else if !are_lines_those_of_messages(document) {
+        Some("lines of the legend are those of messages and races")
+    } else {
+        None
+    }
+}
+
+fn first_wrong(alloc: Global) -> Option<&'static str> {
+    match drawn(alloc) {
+        Ok(document) => first_wrong_of(&document),
+        Err(_) => Some("no memory"),
+    }
+}
+
+#[test]
+fn signs_of_the_legend_look_as_what_they_stand_for(rt: HostRuntime) {
+    passes(&rt, first_wrong(rt.alloc()));
 }

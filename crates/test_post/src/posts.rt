@@ -4,20 +4,39 @@ ghost use Rattle.std.specs.Prelude.{◌≡◌};
 
 use bytes::Bytes;
 use lrc_envelope::Picker;
-use lrc_post::{Mailbox, Parcel, Post, PostFault, Unput, Wire};
+use lrc_post::{Mailbox, Parcel, Post, PostFault, Unput, Wire, Wires};
 use std::alloc::{AllocError, Global};
 use std::process::Abort;
 use std::sync::Wait;
 use std::test::Fail;
 use std::thread;
 
+/// Fails with the name of the case where the answer is no. It is no too where memory was refused.
+fn holds(rt: &impl Abort, name: &str, answer: bool) {
+    if !answer {
+        rt.panic(name);
+    }
+}
+
+/// What is done with a mailbox of node 1, or wanted of it.
+#[derive(Clone, Copy)]
+enum Step<'a> {
+    /// Node 0 puts two parcels, with stamps 1 and 2, so many times, and they are taken.
+    PutTwo(u64),
+    /// It puts two, and both come back, since the mailbox is closed.
+    GetsTwoBack,
+    /// The next parcels have these stamps, 0 for none, so many times.
+    Gives(u64, &'a [u64]),
+    Close,
+    IsEmpty(bool),
+    /// So much has happened.
+    Happened(usize),
+}
+
 /// Node 0 puts two parcels for node 1, with stamps 1 and 2. Where that is refused: why, and how many came back.
-fn put_two(
-    rt: &impl Abort,
-    alloc: Global,
-    mailbox: &mut Mailbox,
-) -> Result<Option<(PostFault, usize)>, AllocError> {
-    assert!(rt; mailbox.owner() == 1);
+fn put_two(alloc: Global, mailbox: &mut Mailbox) -> Result<Option<(PostFault, usize)>, AllocError>
+    requires { mailbox.old.owner ≡ 1 }
+{
     let first = Parcel {
         to: 1,
         stamp: 1,
@@ -35,219 +54,398 @@ fn put_two(
     })
 }
 
-/// The stamp of the parcel that is given next, and 0 for none.
-fn next_stamp(mailbox: &mut Mailbox) -> Result<u64, PostFault> {
-    Ok(match mailbox.give()? {
-        Some(parcel) => parcel.stamp,
-        None => 0,
-    })
-}
-
-/// The stamps of the parcels that a mailbox of node 1 gives in five calls after two were put.
-fn stamps_by(rt: &impl Abort, alloc: Global, picker: Picker) -> Result<[u64; 5], Fail> {
-    let mut mailbox = Mailbox::new(alloc, 1, 2, picker)?;
-    let refused = put_two(rt, alloc, &mut mailbox)?;
-    assert!(rt; refused.is_none());
-    let mut stamps = [0; 5];
-    for place in 0..5usize {
-        stamps[place] = next_stamp(&mut mailbox)?;
+/// Puts two, and answers whether they were taken, or both came back since the mailbox is closed.
+fn puts_two(alloc: Global, mailbox: &mut Mailbox, is_closed: bool) -> bool {
+    if mailbox.owner() != 1 {
+        return false;
     }
-    Ok(stamps)
-}
-
-#[test]
-fn gives_by_the_picker(rt: HostRuntime) -> Result<(), Fail> {
-    let oldest = stamps_by(&rt, rt.alloc(), Picker::Oldest)?;
-    let newest = stamps_by(&rt, rt.alloc(), Picker::Newest)?;
-    let twice = stamps_by(&rt, rt.alloc(), Picker::Twice)?;
-    assert!(rt; [oldest, newest, twice] == [[1, 2, 0, 0, 0], [2, 1, 0, 0, 0], [1, 1, 2, 2, 0]]);
-    Ok(())
-}
-
-#[test]
-fn is_empty_only_once_each_parcel_was_given_two_times(rt: HostRuntime) -> Result<(), Fail> {
-    let mut mailbox = Mailbox::new(rt.alloc(), 1, 2, Picker::Twice)?;
-    let fresh = mailbox.is_empty();
-    let refused = put_two(&rt, rt.alloc(), &mut mailbox)?;
-    assert!(rt; fresh && refused.is_none());
-    for _ in 0..4u64 {
-        let left = !mailbox.is_empty();
-        let stamp = next_stamp(&mut mailbox)?;
-        assert!(rt; left && stamp > 0);
+    match put_two(alloc, mailbox) {
+        Ok(None) => !is_closed,
+        Ok(Some((fault, back))) => is_closed && fault == PostFault::Closed && back == 2,
+        Err(_) => false,
     }
-    assert!(rt; mailbox.is_empty());
-    Ok(())
 }
 
-#[test]
-fn refuses_and_gives_nothing_once_closed(rt: HostRuntime) -> Result<(), Fail> {
-    let mut mailbox = Mailbox::new(rt.alloc(), 1, 2, Picker::Oldest)?;
-    let first = put_two(&rt, rt.alloc(), &mut mailbox)?;
-    mailbox.close();
-    let second = put_two(&rt, rt.alloc(), &mut mailbox)?;
-    let given = next_stamp(&mut mailbox)?;
-    assert!(rt;
-        (first, second, given, mailbox.history().len())
-            == (None, Some((PostFault::Closed, 2)), 0, 2)
-    );
-    Ok(())
-}
-
-#[test]
-fn gives_a_thousand_parcels(rt: HostRuntime) -> Result<(), Fail> {
-    let mut mailbox = Mailbox::new(rt.alloc(), 1, 2, Picker::Newest)?;
-    for _ in 0..500u64 {
-        let refused = put_two(&rt, rt.alloc(), &mut mailbox)?;
-        assert!(rt; refused.is_none());
-    }
-    let mut twos = 0u64;
-    for _ in 0..1000u64 {
-        if next_stamp(&mut mailbox)? == 2 && twos < 1000 {
-            twos += 1;
+fn puts_often(alloc: Global, mailbox: &mut Mailbox, times: u64) -> bool {
+    for _ in 0..times {
+        if !puts_two(alloc, mailbox, false) {
+            return false;
         }
     }
-    let left = next_stamp(&mut mailbox)?;
-    assert!(rt; (twos, left, mailbox.history().len()) == (500, 0, 2000));
-    Ok(())
+    true
 }
 
-/// The stamp of the parcel that node 1 polls next, and 0 for none.
-fn polled<R: Wait>(rt: &R, post: &Post) -> Result<u64, PostFault> {
-    Ok(match post.poll(rt, 1)? {
-        Some(parcel) => parcel.stamp,
-        None => 0,
-    })
+/// Whether the parcel that is given next has this stamp; or none is given, for 0.
+fn gives_one(mailbox: &mut Mailbox, stamp: u64) -> bool {
+    match mailbox.give() {
+        Ok(Some(parcel)) => parcel.stamp == stamp,
+        Ok(None) => stamp == 0,
+        Err(_) => false,
+    }
 }
 
-/// A node puts parcels for node 1, with these stamps. Where that is refused: why, and how many came back.
-fn put_stamps<R: Wait>(
-    rt: &R,
-    alloc: Global,
-    post: &Post,
-    me: u8,
-    stamps: &[u64],
-) -> Result<Option<(PostFault, usize)>, AllocError> {
+fn gives(mailbox: &mut Mailbox, stamps: &[u64]) -> bool {
+    for stamp in stamps {
+        if !gives_one(mailbox, *stamp) {
+            return false;
+        }
+    }
+    true
+}
+
+fn gives_often(mailbox: &mut Mailbox, times: u64, stamps: &[u64]) -> bool {
+    for _ in 0..times {
+        if !gives(mailbox, stamps) {
+            return false;
+        }
+    }
+    true
+}
+
+fn closes(mailbox: &mut Mailbox) -> bool {
+    mailbox.close();
+    true
+}
+
+/// Takes a step, and answers whether what was wanted came out.
+fn is_met(alloc: Global, mailbox: &mut Mailbox, step: &Step) -> bool {
+    match step {
+        Step::PutTwo(times) => puts_often(alloc, mailbox, *times),
+        Step::GetsTwoBack => puts_two(alloc, mailbox, true),
+        Step::Gives(times, stamps) => gives_often(mailbox, *times, stamps),
+        Step::Close => closes(mailbox),
+        Step::IsEmpty(wanted) => mailbox.is_empty() == *wanted,
+        Step::Happened(count) => mailbox.history().len() == *count,
+    }
+}
+
+fn are_met(alloc: Global, mailbox: &mut Mailbox, steps: &[Step]) -> bool {
+    for step in steps {
+        if !is_met(alloc, mailbox, step) {
+            return false;
+        }
+    }
+    true
+}
+
+fn all_are_met(alloc: Global, mailbox: Mailbox, steps: &[Step]) -> bool {
+    let mut mailbox = mailbox;
+    are_met(alloc, &mut mailbox, steps)
+}
+
+/// Whether a mailbox of node 1 among two meets each of the steps.
+fn meets(alloc: Global, picker: Picker, steps: &[Step]) -> bool {
+    match Mailbox::new(alloc, 1, 2, picker) {
+        Ok(mailbox) => all_are_met(alloc, mailbox, steps),
+        Err(_) => false,
+    }
+}
+
+const MAILBOXES: &[(&str, Picker, &[Step])] = &[
+    (
+        "gives the oldest",
+        Picker::Oldest,
+        &[Step::PutTwo(1), Step::Gives(1, &[1, 2, 0, 0, 0])],
+    ),
+    (
+        "gives the newest",
+        Picker::Newest,
+        &[Step::PutTwo(1), Step::Gives(1, &[2, 1, 0, 0, 0])],
+    ),
+    (
+        "gives each twice",
+        Picker::Twice,
+        &[Step::PutTwo(1), Step::Gives(1, &[1, 1, 2, 2, 0])],
+    ),
+    (
+        "is empty only once each parcel was given two times",
+        Picker::Twice,
+        EMPTIED,
+    ),
+    (
+        "refuses and gives nothing once closed",
+        Picker::Oldest,
+        CLOSED,
+    ),
+    ("gives a thousand parcels", Picker::Newest, THOUSAND),
+];
+
+const EMPTIED: &[Step] = &[
+    Step::IsEmpty(true),
+    Step::PutTwo(1),
+    Step::IsEmpty(false),
+    Step::Gives(1, &[1]),
+    Step::IsEmpty(false),
+    Step::Gives(1, &[1]),
+    Step::IsEmpty(false),
+    Step::Gives(1, &[2]),
+    Step::IsEmpty(false),
+    Step::Gives(1, &[2]),
+    Step::IsEmpty(true),
+];
+
+const CLOSED: &[Step] = &[
+    Step::PutTwo(1),
+    Step::Close,
+    Step::GetsTwoBack,
+    Step::Gives(1, &[0]),
+    Step::Happened(2),
+];
+
+const THOUSAND: &[Step] = &[
+    Step::PutTwo(500),
+    Step::Gives(500, &[2, 1]),
+    Step::Gives(1, &[0]),
+    Step::Happened(2000),
+];
+
+#[test]
+fn mailboxes_are_as_worked(rt: HostRuntime) {
+    for (name, picker, steps) in MAILBOXES {
+        holds(&rt, name, meets(rt.alloc(), *picker, steps));
+    }
+}
+
+/// What is done with a post, or wanted of it.
+#[derive(Clone, Copy)]
+enum Act<'a> {
+    /// A node puts parcels for another, with these stamps, and they are taken.
+    Puts(u8, u8, &'a [u64]),
+    /// The same, and all of them come back, since the post is closed.
+    GetsBack(u8, u8, &'a [u64]),
+    /// A node polls parcels with these stamps, 0 for none.
+    Polls(u8, &'a [u64]),
+    /// A node takes nothing.
+    TakesNone(u8),
+    Close,
+}
+
+/// Parcels for a node, with these stamps.
+fn parcels_of(alloc: Global, to: u8, stamps: &[u64]) -> Result<Vec<Parcel>, AllocError> {
     let mut parcels = Vec::new(alloc);
     for stamp in stamps {
         parcels.push(Parcel {
-            to: 1,
+            to,
             stamp: *stamp,
             bytes: Bytes::new(),
         })?;
     }
-    Ok(match post.put_all(rt, me, parcels) {
-        Ok(()) => None,
-        Err(unput) => Some((unput.fault, unput.parcels.len())),
-    })
+    Ok(parcels)
 }
 
-/// The stamps that node 1 polls in five calls after two parcels were put, and how long each history then is.
-fn post_stamps_by<R: Wait + Abort>(
-    rt: &R,
-    alloc: Global,
-    picker: Picker,
-) -> Result<([u64; 5], usize, usize), Fail> {
-    let post = Post::new(alloc, 2, picker)?;
-    let refused = put_stamps(rt, alloc, &post, 0, &[1, 2])?;
-    assert!(rt; refused.is_none());
-    let mut stamps = [0; 5];
-    for place in 0..5usize {
-        stamps[place] = polled(rt, &post)?;
+/// Whether these are parcels for a node, with these stamps.
+fn are_parcels(parcels: &[Parcel], to: u8, stamps: &[u64]) -> bool {
+    for (parcel, stamp) in parcels.iter().zip(stamps) {
+        if parcel.to != to || parcel.stamp != *stamp || !parcel.bytes.is_empty() {
+            return false;
+        }
     }
-    let wires = post.into_wires();
-    let mailboxes = wires.mailboxes();
-    assert!(rt; mailboxes.len() == 2);
-    Ok((
-        stamps,
-        mailboxes[0].history().len(),
-        mailboxes[1].history().len(),
-    ))
+    parcels.len() == stamps.len()
 }
 
-#[test]
-fn post_gives_by_the_picker(rt: HostRuntime) -> Result<(), Fail> {
-    let oldest = post_stamps_by(&rt, rt.alloc(), Picker::Oldest)?;
-    let newest = post_stamps_by(&rt, rt.alloc(), Picker::Newest)?;
-    let twice = post_stamps_by(&rt, rt.alloc(), Picker::Twice)?;
-    assert!(rt; oldest == ([1, 2, 0, 0, 0], 0, 4));
-    assert!(rt; newest == ([2, 1, 0, 0, 0], 0, 4));
-    assert!(rt; twice == ([1, 1, 2, 2, 0], 0, 6));
-    Ok(())
+fn come_back(unput: &Unput, to: u8, stamps: &[u64]) -> bool {
+    unput.fault == PostFault::Closed && are_parcels(&unput.parcels, to, stamps)
 }
 
-#[test]
-fn post_refuses_once_closed(rt: HostRuntime) -> Result<(), Fail> {
-    let post = Post::new(rt.alloc(), 2, Picker::Oldest)?;
-    let first = put_stamps(&rt, rt.alloc(), &post, 0, &[1, 2])?;
-    post.close(&rt);
-    let second = put_stamps(&rt, rt.alloc(), &post, 0, &[3, 4, 5])?;
-    let given = polled(&rt, &post)?;
-    assert!(rt; (first, second, given) == (None, Some((PostFault::Closed, 3)), 0));
-    let taken = post.take(&rt, 1)?;
-    assert!(rt; taken.is_none());
-    Ok(())
-}
-
-/// Node 0 puts a parcel for node 1 with stamp 1. Where that is refused: why, and whether it came back alone.
-fn put_one<R: Wait>(
+/// A node puts parcels for another, with these stamps. Whether they are taken, or all come back since the post is closed.
+fn puts<R: Wait>(
     rt: &R,
     alloc: Global,
     post: &Post,
-) -> Result<Option<(PostFault, bool)>, AllocError> {
-    let parcels = vec![in alloc;
-        Parcel {
-            to: 1,
-            stamp: 1,
-            bytes: Bytes::new(),
-        },
-    ]?;
-    Ok(match post.put_all(rt, 0, parcels) {
-        Ok(()) => None,
-        Err(unput) => Some((unput.fault, is_the_one(&unput.parcels))),
+    from: u8,
+    to: u8,
+    stamps: &[u64],
+    is_closed: bool,
+) -> bool {
+    let Ok(parcels) = parcels_of(alloc, to, stamps) else {
+        return false;
+    };
+    match post.put_all(rt, from, parcels) {
+        Ok(()) => !is_closed,
+        Err(unput) => is_closed && come_back(&unput, to, stamps),
+    }
+}
+
+/// The stamp of the parcel that a node polls next, and 0 for none.
+fn polled<R: Wait>(rt: &R, post: &Post, me: u8) -> Result<u64, PostFault> {
+    Ok(match post.poll(rt, me)? {
+        Some(parcel) => parcel.stamp,
+        None => 0,
     })
 }
 
-/// Whether this is one parcel for node 1 with stamp 1.
-fn is_the_one(parcels: &[Parcel]) -> bool {
-    match parcels {
-        [parcel] => parcel.to == 1 && parcel.stamp == 1 && parcel.bytes.is_empty(),
-        _ => false,
-    }
-}
-
-/// What comes of one parcel before the post is closed, whose stamp is polled two times, and what of it after: why it is
-/// refused, and how many of a poll and a take give nothing.
-fn one_before_and_one_after<R: Wait>(
-    rt: &R,
-    alloc: Global,
-    picker: Picker,
-) -> Result<(bool, [u64; 2], Option<(PostFault, bool)>, [bool; 2]), Fail> {
-    let post = Post::new(alloc, 2, picker)?;
-    let put = put_one(rt, alloc, &post)?.is_none();
-    let stamps = [polled(rt, &post)?, polled(rt, &post)?];
-    post.close(rt);
-    let refused = put_one(rt, alloc, &post)?;
-    let nothing = [post.poll(rt, 1)?.is_none(), post.take(rt, 1)?.is_none()];
-    Ok((put, stamps, refused, nothing))
-}
-
-#[test]
-fn a_parcel_is_given_once_and_comes_back_from_a_closed_post(rt: HostRuntime) -> Result<(), Fail> {
-    let oldest = one_before_and_one_after(&rt, rt.alloc(), Picker::Oldest)?;
-    let newest = one_before_and_one_after(&rt, rt.alloc(), Picker::Newest)?;
-    let wanted = (true, [1, 0], Some((PostFault::Closed, true)), [true, true]);
-    assert!(rt; [oldest, newest] == [wanted, wanted]);
-    Ok(())
-}
-
-/// How many parcels node 1 polls whose stamps are 1, 2, 3 and so on.
-fn polled_in_order<R: Wait>(rt: &R, post: &Post) -> Result<u64, PostFault> {
-    for before in 0..10_000u64 {
-        if polled(rt, post)? != before + 1 {
-            return Ok(before);
+fn polls<R: Wait>(rt: &R, post: &Post, me: u8, stamps: &[u64]) -> bool {
+    for stamp in stamps {
+        if polled(rt, post, me) != Ok(*stamp) {
+            return false;
         }
     }
-    Ok(10_000)
+    true
+}
+
+fn is_closed<R: Wait>(rt: &R, post: &Post) -> bool {
+    post.close(rt);
+    true
+}
+
+/// Does an act, and answers whether what was wanted came out.
+fn is_done<R: Wait>(rt: &R, alloc: Global, post: &Post, act: &Act) -> bool {
+    match act {
+        Act::Puts(from, to, stamps) => puts(rt, alloc, post, *from, *to, stamps, false),
+        Act::GetsBack(from, to, stamps) => puts(rt, alloc, post, *from, *to, stamps, true),
+        Act::Polls(me, stamps) => polls(rt, post, *me, stamps),
+        Act::TakesNone(me) => matches!(post.take(rt, *me), Ok(None)),
+        Act::Close => is_closed(rt, post),
+    }
+}
+
+fn are_done<R: Wait>(rt: &R, alloc: Global, post: &Post, acts: &[Act]) -> bool {
+    for act in acts {
+        if !is_done(rt, alloc, post, act) {
+            return false;
+        }
+    }
+    true
+}
+
+/// Whether so much has happened in the mailboxes of the first nodes.
+fn have_happened(wires: &Wires, counts: &[usize]) -> bool {
+    for (mailbox, count) in wires.mailboxes().iter().zip(counts) {
+        if mailbox.history().len() != *count {
+            return false;
+        }
+    }
+    wires.mailboxes().len() >= counts.len()
+}
+
+/// What is done with a post of so many nodes, and how much has happened then in the mailboxes of the first ones.
+#[derive(Clone, Copy)]
+struct Row<'a> {
+    name: &'a str,
+    nodes: u8,
+    picker: Picker,
+    acts: &'a [Act<'a>],
+    happened: &'a [usize],
+}
+
+fn is_row_met<R: Wait>(rt: &R, alloc: Global, row: &Row) -> bool {
+    match Post::new(alloc, row.nodes, row.picker) {
+        Ok(post) => {
+            are_done(rt, alloc, &post, row.acts) && have_happened(&post.into_wires(), row.happened)
+        }
+        Err(_) => false,
+    }
+}
+
+// A parcel before the post is closed, polled two times, and one after.
+const ONE_BEFORE_AND_ONE_AFTER: &[Act] = &[
+    Act::Puts(0, 1, &[1]),
+    Act::Polls(1, &[1, 0]),
+    Act::Close,
+    Act::GetsBack(0, 1, &[1]),
+    Act::Polls(1, &[0]),
+    Act::TakesNone(1),
+];
+
+const ROWS: &[Row] = &[
+    Row {
+        name: "gives the oldest",
+        nodes: 2,
+        picker: Picker::Oldest,
+        acts: &[Act::Puts(0, 1, &[1, 2]), Act::Polls(1, &[1, 2, 0, 0, 0])],
+        happened: &[0, 4],
+    },
+    Row {
+        name: "gives the newest",
+        nodes: 2,
+        picker: Picker::Newest,
+        acts: &[Act::Puts(0, 1, &[1, 2]), Act::Polls(1, &[2, 1, 0, 0, 0])],
+        happened: &[0, 4],
+    },
+    Row {
+        name: "gives each twice",
+        nodes: 2,
+        picker: Picker::Twice,
+        acts: &[Act::Puts(0, 1, &[1, 2]), Act::Polls(1, &[1, 1, 2, 2, 0])],
+        happened: &[0, 6],
+    },
+    Row {
+        name: "refuses once closed",
+        nodes: 2,
+        picker: Picker::Oldest,
+        acts: &[
+            Act::Puts(0, 1, &[1, 2]),
+            Act::Close,
+            Act::GetsBack(0, 1, &[3, 4, 5]),
+            Act::Polls(1, &[0]),
+            Act::TakesNone(1),
+        ],
+        happened: &[0, 2],
+    },
+    Row {
+        name: "a parcel is given once and comes back from a closed post, oldest first",
+        nodes: 2,
+        picker: Picker::Oldest,
+        acts: ONE_BEFORE_AND_ONE_AFTER,
+        happened: &[0, 2],
+    },
+    Row {
+        name: "a parcel is given once and comes back from a closed post, newest first",
+        nodes: 2,
+        picker: Picker::Newest,
+        acts: ONE_BEFORE_AND_ONE_AFTER,
+        happened: &[0, 2],
+    },
+    // The only node puts parcels for itself; when it waits the post closes.
+    Row {
+        name: "closes when all wait and nothing is in flight, oldest first",
+        nodes: 1,
+        picker: Picker::Oldest,
+        acts: &[
+            Act::Puts(0, 0, &[1, 2]),
+            Act::Polls(0, &[1, 2, 0, 0, 0, 0, 0, 0, 0, 0]),
+            Act::Puts(0, 0, &[3]),
+            Act::Polls(0, &[3, 0, 0, 0, 0, 0, 0, 0, 0, 0]),
+            Act::TakesNone(0),
+            Act::GetsBack(0, 0, &[4]),
+        ],
+        happened: &[6],
+    },
+    Row {
+        name: "closes when all wait and nothing is in flight, newest first",
+        nodes: 1,
+        picker: Picker::Newest,
+        acts: &[
+            Act::Puts(0, 0, &[1, 2]),
+            Act::Polls(0, &[2, 1, 0, 0, 0, 0, 0, 0, 0, 0]),
+            Act::Puts(0, 0, &[3]),
+            Act::Polls(0, &[3, 0, 0, 0, 0, 0, 0, 0, 0, 0]),
+            Act::TakesNone(0),
+            Act::GetsBack(0, 0, &[4]),
+        ],
+        happened: &[6],
+    },
+    Row {
+        name: "closes when all wait and nothing is in flight, each twice",
+        nodes: 1,
+        picker: Picker::Twice,
+        acts: &[
+            Act::Puts(0, 0, &[1, 2]),
+            Act::Polls(0, &[1, 1, 2, 2, 0, 0, 0, 0, 0, 0]),
+            Act::Puts(0, 0, &[3]),
+            Act::Polls(0, &[3, 3, 0, 0, 0, 0, 0, 0, 0, 0]),
+            Act::TakesNone(0),
+            Act::GetsBack(0, 0, &[4]),
+        ],
+        happened: &[9],
+    },
+];
+
+#[test]
+fn posts_are_as_worked(rt: HostRuntime) {
+    for row in ROWS {
+        holds(&rt, row.name, is_row_met(&rt, rt.alloc(), row));
+    }
 }
 
 /// The stamps from 1 on, so many.
@@ -259,29 +457,37 @@ fn stamps_upto(alloc: Global, count: u64) -> Result<Vec<u64>, AllocError> {
     Ok(stamps)
 }
 
+fn keeps<R: Wait>(rt: &R, alloc: Global, post: Post, stamps: &[u64]) -> bool {
+    puts(rt, alloc, &post, 0, 1, stamps, false)
+        && polls(rt, &post, 1, stamps)
+        && have_happened(&post.into_wires(), &[0, 6_000])
+}
+
+/// Whether a post of sixteen nodes keeps three thousand parcels.
+fn keeps_three_thousand<R: Wait>(rt: &R, alloc: Global) -> bool {
+    let Ok(stamps) = stamps_upto(alloc, 3_000) else {
+        return false;
+    };
+    match Post::new(alloc, 16, Picker::Oldest) {
+        Ok(post) => keeps(rt, alloc, post, &stamps),
+        Err(_) => false,
+    }
+}
+
 #[test]
-fn post_keeps_three_thousand_parcels(rt: HostRuntime) -> Result<(), Fail> {
-    let post = Post::new(rt.alloc(), 16, Picker::Oldest)?;
-    let stamps = stamps_upto(rt.alloc(), 3_000)?;
-    let refused = put_stamps(&rt, rt.alloc(), &post, 0, &stamps)?;
-    let given = polled_in_order(&rt, &post)?;
-    assert!(rt; (refused, given) == (None, 3_000));
-    let wires = post.into_wires();
-    let mailboxes = wires.mailboxes();
-    assert!(rt; mailboxes.len() == 16);
-    assert!(rt; mailboxes[1].history().len() == 6_000);
-    Ok(())
+fn post_keeps_three_thousand_parcels(rt: HostRuntime) {
+    holds(&rt, "of one node", keeps_three_thousand(&rt, rt.alloc()));
 }
 
 /// A node puts five hundred parcels for node 1, one in each call, each with its own number as the stamp, and then waits for a
 /// parcel of its own, which never comes.
-fn put_many<R: Wait>(rt: &R, alloc: Global, post: &Post, me: u8) -> Result<bool, AllocError> {
+fn put_many<R: Wait>(rt: &R, alloc: Global, post: &Post, me: u8) -> bool {
     for _ in 0..500u64 {
-        if put_stamps(rt, alloc, post, me, &[u64::from(me)])?.is_some() {
-            return Ok(false);
+        if !puts(rt, alloc, post, me, 1, &[u64::from(me)], false) {
+            return false;
         }
     }
-    Ok(matches!(post.take(rt, me), Ok(None)))
+    matches!(post.take(rt, me), Ok(None))
 }
 
 /// Takes until the post is closed: how many parcels came.
@@ -299,10 +505,23 @@ fn take_many<R: Wait>(rt: &R, post: &Post) -> Option<u64> {
 
 /// Whether each parcel of a history was put by the node that its stamp names.
 fn are_put_by_their_stamps(history: &[Wire]) -> bool {
-    history.iter().all(|wire| match wire {
-        Wire::Put { from, stamp, .. } => u64::from(*from) == *stamp,
-        Wire::Took { .. } => true,
-    })
+    for wire in history {
+        if let Wire::Put { from, stamp, .. } = wire
+            && u64::from(*from) != *stamp
+        {
+            return false;
+        }
+    }
+    true
+}
+
+fn are_put_in_thousand(wires: &Wires) -> bool {
+    match wires.mailboxes() {
+        [_, mailbox, _] => {
+            mailbox.history().len() == 2000 && are_put_by_their_stamps(mailbox.history())
+        }
+        _ => false,
+    }
 }
 
 #[test]
@@ -321,70 +540,12 @@ fn two_threads_put_a_thousand_and_one_takes_them(rt: HostRuntime) -> Result<(), 
         },
         || take_many(&rt, shared),
     );
-    assert!(rt; puts.0? && puts.1?);
-    assert!(rt; taken == Some(1000));
-    let wires = post.into_wires();
-    assert!(rt; wires.mailboxes().len() == 3);
-    let history = wires.mailboxes()[1].history();
-    assert!(rt; history.len() == 2000);
-    assert!(rt; are_put_by_their_stamps(history));
-    Ok(())
-}
-
-/// The only node of a post puts parcels for itself, with these stamps. Whether the post took them.
-fn puts_itself<R: Wait>(
-    rt: &R,
-    alloc: Global,
-    post: &Post,
-    stamps: &[u64],
-) -> Result<bool, AllocError> {
-    let mut parcels = Vec::new(alloc);
-    for stamp in stamps {
-        parcels.push(Parcel {
-            to: 0,
-            stamp: *stamp,
-            bytes: Bytes::new(),
-        })?;
-    }
-    Ok(post.put_all(rt, 0, parcels).is_ok())
-}
-
-/// How many of ten polls give the only node a parcel.
-fn polls_itself<R: Wait>(rt: &R, post: &Post) -> Result<u64, PostFault> {
-    let mut given = 0u64;
-    for _ in 0..10u64 {
-        if post.poll(rt, 0)?.is_some() && given < 10 {
-            given += 1;
-        }
-    }
-    Ok(given)
-}
-
-/// Whether a post of one node takes parcels until the node waits, and none from then on; and how many parcels were polled.
-fn closes_at_the_wait<R: Wait>(
-    rt: &R,
-    alloc: Global,
-    picker: Picker,
-) -> Result<([bool; 4], [u64; 2]), Fail> {
-    let post = Post::new(alloc, 1, picker)?;
-    let two = puts_itself(rt, alloc, &post, &[1, 2])?;
-    let first = polls_itself(rt, &post)?;
-    let one = puts_itself(rt, alloc, &post, &[3])?;
-    let second = polls_itself(rt, &post)?;
-    let none = post.take(rt, 0)?.is_none();
-    let late = puts_itself(rt, alloc, &post, &[4])?;
-    Ok(([two, one, none, late], [first, second]))
-}
-
-#[test]
-fn post_closes_when_all_wait_and_nothing_is_in_flight(rt: HostRuntime) -> Result<(), Fail> {
-    let oldest = closes_at_the_wait(&rt, rt.alloc(), Picker::Oldest)?;
-    let newest = closes_at_the_wait(&rt, rt.alloc(), Picker::Newest)?;
-    let twice = closes_at_the_wait(&rt, rt.alloc(), Picker::Twice)?;
-    let open_till_then = [true, true, true, false];
-    assert!(rt; oldest == (open_till_then, [2, 1]));
-    assert!(rt; newest == (open_till_then, [2, 1]));
-    assert!(rt; twice == (open_till_then, [4, 2]));
+    holds(
+        &rt,
+        "puts and takes",
+        puts.0 && puts.1 && taken == Some(1000),
+    );
+    holds(&rt, "history", are_put_in_thousand(&post.into_wires()));
     Ok(())
 }
 
@@ -432,8 +593,8 @@ fn put_what_fits<R: Wait>(rt: &R, alloc: Global, post: &Post, parcels: Vec<Parce
 
 /// The stamp of the parcel that node 1 polls next, a second time where memory was refused, and 0 for none.
 fn polled_at_last<R: Wait>(rt: &R, post: &Post) -> Result<u64, PostFault> {
-    match polled(rt, post) {
-        Err(PostFault::NoMemory) => polled(rt, post),
+    match polled(rt, post, 1) {
+        Err(PostFault::NoMemory) => polled(rt, post, 1),
         stamp => stamp,
     }
 }
@@ -452,10 +613,14 @@ fn polled_from<R: Wait>(rt: &R, post: &Post, last: u64) -> Result<u64, PostFault
 
 /// Whether these are those of the twenty parcels that come after this stamp, in order.
 fn are_after(parcels: &[Parcel], last: u64) -> bool {
-    last.saturating_add(parcels.len() as u64) == 20
-        && parcels.iter().zip(0..20u64).all(|(parcel, place)| {
-            parcel.to == 1 && parcel.stamp == last.saturating_add(place + 1)
-        })
+    let mut stamp = last;
+    for parcel in parcels {
+        stamp = stamp.saturating_add(1);
+        if parcel.to != 1 || parcel.stamp != stamp {
+            return false;
+        }
+    }
+    stamp == 20
 }
 
 /// Whether what comes back and what is polled before are always the twenty parcels, in order; and whether all are polled once

@@ -146,12 +146,6 @@ const HANDED_ON_TIMES: Option<&[Asked]> = Some(&[
     Asked::Agree,
 ]);
 
-// The acquire at position 8 learns what node 1 learnt from node 0, and each node's own entry counts its closing acts.
-#[test]
-fn a_lock_hands_times_on(rt: HostRuntime) {
-    holds(&rt, has_times_of(rt.alloc(), HANDED_ON, 3, HANDED_ON_TIMES));
-}
-
 // Three nodes come to a barrier, one of them with a lock, and the next barrier is left open.
 const MET: &[(u8, Deed)] = &[
     (0, Deed::Write(0, 7)),
@@ -173,12 +167,6 @@ const MET_TIMES: Option<&[Asked]> = Some(&[
     Asked::At(11, &[1, 2, 1]),
     Asked::Agree,
 ]);
-
-// The depart at position 10 learns what every node knew at its arrive, and nothing of what node 1 did since.
-#[test]
-fn a_barrier_joins_times(rt: HostRuntime) {
-    holds(&rt, has_times_of(rt.alloc(), MET, 3, MET_TIMES));
-}
 
 /// Sixteen nodes take one lock in turn, so many turns in all.
 fn turns_of_sixteen(alloc: Global, turns: u16) -> Result<Vec<Act>, AllocError> {
@@ -206,17 +194,32 @@ fn has_times_in_turn(alloc: Global, turns: u16, asked: Asked) -> bool {
 // After the last release every node has closed forty intervals, and the last node knows all.
 #[test]
 fn a_long_run_has_times(rt: HostRuntime) {
+    let forty = has_times_in_turn(rt.alloc(), 320, Asked::At(959, &[40; 16]));
+    holds(&rt, "forty intervals", forty);
     holds(
         &rt,
-        has_times_in_turn(rt.alloc(), 320, Asked::At(959, &[40; 16])),
+        "agree",
+        has_times_in_turn(rt.alloc(), 64, Asked::Agree),
     );
-    holds(&rt, has_times_in_turn(rt.alloc(), 64, Asked::Agree));
 }
 
 // A lock that is taken from its holder.
 const BROKEN: &[(u8, Deed)] = &[(0, Deed::Acquire(3)), (1, Deed::Acquire(3))];
 
+/// What nodes do, of how many, and what is asked of their times.
+type Row<'a> = (&'a str, &'a [(u8, Deed)], u8, Option<&'a [Asked<'a>]>);
+
+const ROWS: &[Row] = &[
+    // The acquire at position 8 learns what node 1 learnt from node 0, and each node's own entry counts its closing acts.
+    ("a lock hands times on", HANDED_ON, 3, HANDED_ON_TIMES),
+    // The depart at position 10 learns what every node knew at its arrive, and nothing of what node 1 did since.
+    ("a barrier joins times", MET, 3, MET_TIMES),
+    ("a broken run has no times", BROKEN, 2, None),
+];
+
 #[test]
-fn a_broken_run_has_no_times(rt: HostRuntime) {
-    holds(&rt, has_times_of(rt.alloc(), BROKEN, 2, None));
+fn runs_have_times(rt: HostRuntime) {
+    for (name, deeds, nodes, asked) in ROWS {
+        holds(&rt, name, has_times_of(rt.alloc(), deeds, *nodes, *asked));
+    }
 }

@@ -118,11 +118,6 @@ const ONE_EPOCH: &Case = &Case {
     races: &[(0, [0, 1], [1, 1])],
 };
 
-#[test]
-fn writes_in_one_epoch_race(rt: HostRuntime) {
-    holds(&rt, is_found_in(rt.alloc(), Size::Words64, ONE_EPOCH));
-}
-
 const TWO_EPOCHS: &Case = &Case {
     first: &[Access::Write(0, [1, 0], 0)],
     second: &[Access::Write(1, [1, 2], 0)],
@@ -130,22 +125,12 @@ const TWO_EPOCHS: &Case = &Case {
     races: &[],
 };
 
-#[test]
-fn writes_across_a_barrier_do_not_race(rt: HostRuntime) {
-    holds(&rt, is_found_in(rt.alloc(), Size::Words64, TWO_EPOCHS));
-}
-
 const UNKNOWN_EPOCH: &Case = &Case {
     first: &[Access::Write(0, [1, 0], 0)],
     second: &[Access::Write(1, [0, 2], 0)],
     agree: false,
     races: &[(0, [0, 1], [1, 2])],
 };
-
-#[test]
-fn a_later_epoch_that_does_not_know_an_earlier_one_disagrees(rt: HostRuntime) {
-    holds(&rt, is_found_in(rt.alloc(), Size::Words64, UNKNOWN_EPOCH));
-}
 
 const READ_AND_WRITTEN: &Case = &Case {
     first: &[
@@ -162,14 +147,6 @@ const READ_AND_WRITTEN: &Case = &Case {
     agree: true,
     races: &[(4, [0, 1], [1, 1])],
 };
-
-#[test]
-fn reads_do_not_race_and_an_interval_races_once(rt: HostRuntime) {
-    holds(
-        &rt,
-        is_found_in(rt.alloc(), Size::Words64, READ_AND_WRITTEN),
-    );
-}
 
 // The time of the first node's second interval lacks what that of its first one has.
 const FALLING_TIMES: &Case = &Case {
@@ -191,11 +168,6 @@ const FALLING_TIMES: &Case = &Case {
         (0, [0, 1], [3, 8]),
     ],
 };
-
-#[test]
-fn times_need_not_rise(rt: HostRuntime) {
-    holds(&rt, is_found_in(rt.alloc(), Size::Words64, FALLING_TIMES));
-}
 
 const LARGE_PAGES: &Case = &Case {
     first: &[
@@ -219,10 +191,41 @@ const LARGE_PAGES: &Case = &Case {
     ],
 };
 
+const CASES: &[(&str, Size, &Case)] = &[
+    ("writes in one epoch race", Size::Words64, ONE_EPOCH),
+    (
+        "writes across a barrier do not race",
+        Size::Words64,
+        TWO_EPOCHS,
+    ),
+    (
+        "a later epoch that does not know an earlier one disagrees",
+        Size::Words64,
+        UNKNOWN_EPOCH,
+    ),
+    (
+        "reads do not race and an interval races once",
+        Size::Words64,
+        READ_AND_WRITTEN,
+    ),
+    ("times need not rise", Size::Words64, FALLING_TIMES),
+    (
+        "the words of large pages are told apart, 256",
+        Size::Words256,
+        LARGE_PAGES,
+    ),
+    (
+        "the words of large pages are told apart, 64",
+        Size::Words64,
+        LARGE_PAGES,
+    ),
+];
+
 #[test]
-fn the_words_of_large_pages_are_told_apart(rt: HostRuntime) {
-    holds(&rt, is_found_in(rt.alloc(), Size::Words256, LARGE_PAGES));
-    holds(&rt, is_found_in(rt.alloc(), Size::Words64, LARGE_PAGES));
+fn races_are_found(rt: HostRuntime) {
+    for (name, size, case) in CASES {
+        holds(&rt, name, is_found_in(rt.alloc(), *size, case));
+    }
 }
 
 /// Where the nodes of a run stand: how many intervals and epochs each has had.
@@ -457,8 +460,7 @@ fn the_detector_and_the_judge_agree_on_chosen_runs(rt: HostRuntime) {
     let at_will = agreed_in_all(rt.alloc(), false);
     let in_turn = agreed_in_all(rt.alloc(), true);
     let long = agreed_in_run(rt.alloc(), 3, 16, false, 400, 600);
-    holds(
-        &rt,
-        at_will > Some(100) && in_turn == Some(0) && long > Some(100),
-    );
+    holds(&rt, "at will", at_will > Some(100));
+    holds(&rt, "in turn", in_turn == Some(0));
+    holds(&rt, "of sixteen", long > Some(100));
 }

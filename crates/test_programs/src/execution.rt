@@ -70,7 +70,7 @@ const ASKED: &[(Ask, u64)] = &[
 
 #[test]
 fn a_thread_asks_step_by_step(rt: HostRuntime) {
-    holds(&rt, asks_in(rt.alloc(), ONE_NODE, ASKED));
+    holds(&rt, "a thread", asks_in(rt.alloc(), ONE_NODE, ASKED));
 }
 
 /// An order of two nodes, and the acts that it leads to, if it may be.
@@ -92,53 +92,12 @@ fn leads_to(alloc: Global, program: &Program, led: Led) -> bool {
     }
 }
 
-fn leads_to_each(alloc: Global, program: &Program, rows: &[Led]) -> bool {
-    for led in rows {
-        if !leads_to(alloc, program, *led) {
-            return false;
-        }
-    }
-    true
-}
-
-/// Whether the text, led by each of these orders on two nodes, makes these acts, or none.
-fn is_led(alloc: Global, text: &[u8], rows: &[Led]) -> bool {
+/// Whether the text, led by this order on two nodes, makes these acts, or none.
+fn is_led(alloc: Global, text: &[u8], led: Led) -> bool {
     match parse(alloc, text) {
-        Ok(program) => leads_to_each(alloc, &program, rows),
+        Ok(program) => leads_to(alloc, &program, led),
         Err(_) => false,
     }
-}
-
-const ORDERS: &[Led] = &[
-    (
-        &[0, 1, 0, 1, 1, 0, 1],
-        Some(&[
-            (0, Deed::Quiet),
-            (1, Deed::Quiet),
-            (0, Deed::Write(0, 5)),
-            (1, Deed::Read(0, 5)),
-            (1, Deed::Print(5)),
-            (0, Deed::End),
-            (1, Deed::End),
-        ]),
-    ),
-    (
-        &[1, 1, 0, 0],
-        Some(&[
-            (1, Deed::Quiet),
-            (1, Deed::Read(0, 0)),
-            (0, Deed::Quiet),
-            (0, Deed::Write(0, 5)),
-        ]),
-    ),
-    (&[], Some(&[])),
-    (&[2], None),
-    (&[0, 0, 0, 0], None),
-];
-
-#[test]
-fn an_order_leads_the_plain_machine(rt: HostRuntime) {
-    holds(&rt, is_led(rt.alloc(), TWO_NODES, ORDERS));
 }
 
 /// The acts that the text makes in rounds.
@@ -173,7 +132,7 @@ fn counts_to_sixteen(alloc: Global) -> bool {
 
 #[test]
 fn each_node_counts(rt: HostRuntime) {
-    holds(&rt, counts_to_sixteen(rt.alloc()));
+    holds(&rt, "sixteen", counts_to_sixteen(rt.alloc()));
 }
 
 const HUNDRED_TURNS: &[u8] =
@@ -224,7 +183,7 @@ fn hundred_turns(alloc: Global, count: usize) -> bool {
 #[test]
 fn a_long_order_leads_the_plain_machine(rt: HostRuntime) {
     // 101 conditions, 100 times five statements, then Arrive, Depart, Read, Print and End
-    holds(&rt, hundred_turns(rt.alloc(), 16 * 606));
+    holds(&rt, "turns", hundred_turns(rt.alloc(), 16 * 606));
 }
 
 fn contains_each(acts: &[Act], wanted: &[(u8, Deed)]) -> bool {
@@ -260,7 +219,7 @@ const TRAPPED: &[(u8, Deed)] = &[
 
 #[test]
 fn each_trap_has_its_cause(rt: HostRuntime) {
-    holds(&rt, traps(rt.alloc(), TRAPPED));
+    holds(&rt, "traps", traps(rt.alloc(), TRAPPED));
 }
 
 /// Whether the text on one node, with so many steps, makes these acts in rounds.
@@ -286,35 +245,75 @@ const PRINTED: &[(u8, Deed)] = &[
 
 const ENDLESS: &[u8] = b"words 1; locks 0; while 1 { x = x + 1; }";
 
+const QUIET: &[(u8, Deed)] = &[(0, Deed::Quiet), (0, Deed::Quiet), (0, Deed::Quiet)];
+
 #[test]
 fn arithmetic_wraps_and_steps_are_used_up(rt: HostRuntime) {
-    holds(&rt, makes_alone(rt.alloc(), ARITHMETIC, 1_000_000, PRINTED));
-    holds(
-        &rt,
-        makes_alone(rt.alloc(), ENDLESS, 3, &[(0, Deed::Quiet); 3]),
-    );
+    let printed = makes_alone(rt.alloc(), ARITHMETIC, 1_000_000, PRINTED);
+    holds(&rt, "arithmetic", printed);
+    holds(&rt, "steps", makes_alone(rt.alloc(), ENDLESS, 3, QUIET));
 }
 
 // Node 1 takes the lock after node 0, which writes word 1 behind its release.
 const LATE: &[u8] = b"words 2; locks 1; if me == 0 { acquire 0; [0] = 1; release 0; [1] = 2; }
     else { acquire 0; x = [0]; y = [1]; release 0; print x; print y; }";
 
-const LATE_ORDER: &[Led] = &[(
-    &[0, 0, 0, 0, 0, 1, 1, 1, 1],
-    Some(&[
-        (0, Deed::Quiet),
-        (0, Deed::Acquire(0)),
-        (0, Deed::Write(0, 1)),
-        (0, Deed::Release(0)),
-        (0, Deed::Write(1, 2)),
-        (1, Deed::Quiet),
-        (1, Deed::Acquire(0)),
-        (1, Deed::Read(0, 1)),
-        (1, Deed::Read(1, 2)),
-    ]),
-)];
+const LED: &[(&str, &[u8], Led)] = &[
+    (
+        "the reader waits",
+        TWO_NODES,
+        (
+            &[0, 1, 0, 1, 1, 0, 1],
+            Some(&[
+                (0, Deed::Quiet),
+                (1, Deed::Quiet),
+                (0, Deed::Write(0, 5)),
+                (1, Deed::Read(0, 5)),
+                (1, Deed::Print(5)),
+                (0, Deed::End),
+                (1, Deed::End),
+            ]),
+        ),
+    ),
+    (
+        "the reader is first",
+        TWO_NODES,
+        (
+            &[1, 1, 0, 0],
+            Some(&[
+                (1, Deed::Quiet),
+                (1, Deed::Read(0, 0)),
+                (0, Deed::Quiet),
+                (0, Deed::Write(0, 5)),
+            ]),
+        ),
+    ),
+    ("no order", TWO_NODES, (&[], Some(&[]))),
+    ("a node that is not there", TWO_NODES, (&[2], None)),
+    ("a node at its end", TWO_NODES, (&[0, 0, 0, 0], None)),
+    (
+        "the plain machine reads what was written last",
+        LATE,
+        (
+            &[0, 0, 0, 0, 0, 1, 1, 1, 1],
+            Some(&[
+                (0, Deed::Quiet),
+                (0, Deed::Acquire(0)),
+                (0, Deed::Write(0, 1)),
+                (0, Deed::Release(0)),
+                (0, Deed::Write(1, 2)),
+                (1, Deed::Quiet),
+                (1, Deed::Acquire(0)),
+                (1, Deed::Read(0, 1)),
+                (1, Deed::Read(1, 2)),
+            ]),
+        ),
+    ),
+];
 
 #[test]
-fn the_plain_machine_reads_what_was_written_last(rt: HostRuntime) {
-    holds(&rt, is_led(rt.alloc(), LATE, LATE_ORDER));
+fn an_order_leads_the_plain_machine(rt: HostRuntime) {
+    for (name, text, led) in LED {
+        holds(&rt, name, is_led(rt.alloc(), text, *led));
+    }
 }

@@ -1,6 +1,6 @@
 // Texts and the programs that they are.
 
-use crate::checks::holds;
+use crate::checks::{holds, holds_at};
 use lrc_lang::fault::{FaultKind, ParseFault};
 use lrc_lang::parse;
 use lrc_lang::program::{Expression, Operator, Program, Statement};
@@ -133,15 +133,13 @@ fn is_shown(program: &Program, counts: (u32, u8), wanted: &[u8]) -> bool {
 /// A text with the statements that it is.
 type Tree<'a> = (&'a [u8], &'a [u8]);
 
-/// Whether each text is a program with these counts of words and locks, and these statements.
-fn are_trees(alloc: Global, counts: (u32, u8), trees: &[Tree]) -> bool {
-    for (text, wanted) in trees {
-        match parse(alloc, text) {
-            Ok(program) if is_shown(&program, counts, wanted) => {}
-            _ => return false,
-        }
+/// Whether a text is a program with these counts of words and locks, and these statements.
+fn is_tree(alloc: Global, counts: (u32, u8), tree: &Tree) -> bool {
+    let (text, wanted) = tree;
+    match parse(alloc, text) {
+        Ok(program) => is_shown(&program, counts, wanted),
+        Err(_) => false,
     }
-    true
 }
 
 const EXPRESSIONS: &[Tree] = &[
@@ -190,10 +188,12 @@ const EXPRESSIONS: &[Tree] = &[
 
 #[test]
 fn expressions_have_their_trees(rt: HostRuntime) {
-    holds(&rt, are_trees(rt.alloc(), (1, 0), EXPRESSIONS));
+    for (place, tree) in EXPRESSIONS.iter().enumerate() {
+        holds_at(&rt, place, is_tree(rt.alloc(), (1, 0), tree));
+    }
 }
 
-const STATEMENTS: &[Tree] = &[(
+const STATEMENTS: &Tree = &(
     b"words 65536;\tlocks 64; # every construct \xff\r
         x = 1; y = [x]; [y] = x + 2; acquire 0; release 63; barrier; print me;
         if x == 1 { print 1; } else { if y { } else { barrier; } print 2; }
@@ -201,11 +201,15 @@ const STATEMENTS: &[Tree] = &[(
     b"{p0 = 1;p1 reads p0;write p1, (+ p0 2);acquire 0;release 63;barrier;print me;\
         if (== p0 1){print 1;}{if p1{}{barrier;};print 2;};\
         if p0{print 3;}{};while (< p0 nodes){p0 = (+ p0 1);if 0{while 1{};}{};};}",
-)];
+);
 
 #[test]
 fn statements_have_their_trees(rt: HostRuntime) {
-    holds(&rt, are_trees(rt.alloc(), (65_536, 64), STATEMENTS));
+    holds(
+        &rt,
+        "statements",
+        is_tree(rt.alloc(), (65_536, 64), STATEMENTS),
+    );
 }
 
 /// The line and the kind of a text's fault, if it has one.
@@ -217,15 +221,6 @@ fn has_fault(alloc: Global, text: &[u8], wanted: Fault) -> bool {
         Ok(_program) => wanted.is_none(),
         Err(ParseFault { line, kind }) => wanted == Some((line, kind)),
     }
-}
-
-fn have_faults(alloc: Global, rows: &[(&[u8], u32, FaultKind)]) -> bool {
-    for (text, line, kind) in rows {
-        if !has_fault(alloc, text, Some((*line, *kind))) {
-            return false;
-        }
-    }
-    true
 }
 
 const FAULTS: &[(&[u8], u32, FaultKind)] = &[
@@ -265,13 +260,19 @@ const FAULTS: &[(&[u8], u32, FaultKind)] = &[
 
 #[test]
 fn faults_have_their_kind_and_line(rt: HostRuntime) {
-    holds(&rt, have_faults(rt.alloc(), FAULTS));
+    for (place, (text, line, kind)) in FAULTS.iter().enumerate() {
+        holds_at(
+            &rt,
+            place,
+            has_fault(rt.alloc(), text, Some((*line, *kind))),
+        );
+    }
 }
 
 const OPEN: &[u8] = b"words 1; locks 0;\n";
 
-/// A text of parts, each so many times, and its fault.
-type Large<'a> = (&'a [(&'a [u8], usize)], Fault);
+/// A name, a text of parts, each so many times, and its fault.
+type Large<'a> = (&'a str, &'a [(&'a [u8], usize)], Fault);
 
 fn put_copies(text: &mut Vec<u8>, part: &[u8], count: usize) -> Result<(), AllocError> {
     for _copy in 0..count {
@@ -287,27 +288,34 @@ fn put_parts(text: &mut Vec<u8>, parts: &[(&[u8], usize)]) -> Result<(), AllocEr
     Ok(())
 }
 
-fn has_large_fault(alloc: Global, large: &Large) -> bool {
-    let (parts, fault) = large;
+fn has_large_fault(alloc: Global, parts: &[(&[u8], usize)], fault: Fault) -> bool {
     let mut text = Vec::new(alloc);
-    put_parts(&mut text, parts).is_ok() && has_fault(alloc, &text, *fault)
-}
-
-fn have_large_faults(alloc: Global, rows: &[Large]) -> bool {
-    for large in rows {
-        if !has_large_fault(alloc, large) {
-            return false;
-        }
-    }
-    true
+    put_parts(&mut text, parts).is_ok() && has_fault(alloc, &text, fault)
 }
 
 const TOO_DEEP: Fault = Some((2, FaultKind::TooDeep));
 
-const NESTED: &[Large] = &[
-    (&[(OPEN, 1), (b"if 1 {", 32), (b"}", 32)], None),
-    (&[(OPEN, 1), (b"if 1 {", 33), (b"}", 33)], TOO_DEEP),
+const PRINT: &[u8] = b"words 1; locks 0;\nprint 0";
+
+const OVER_LIMIT: Fault = Some((2, FaultKind::OverLimit));
+
+const TOO_LONG: Fault = Some((1, FaultKind::TooLong));
+
+const SHORT_OPEN: &[u8] = b"words 1;locks 0;";
+
+const LARGE: &[Large] = &[
     (
+        "32 branches may be open",
+        &[(OPEN, 1), (b"if 1 {", 32), (b"}", 32)],
+        None,
+    ),
+    (
+        "33 branches may not",
+        &[(OPEN, 1), (b"if 1 {", 33), (b"}", 33)],
+        TOO_DEEP,
+    ),
+    (
+        "31 loops and a parenthesis may be open",
         &[
             (OPEN, 1),
             (b"while 1 {", 31),
@@ -317,6 +325,7 @@ const NESTED: &[Large] = &[
         None,
     ),
     (
+        "32 loops and a parenthesis may not",
         &[
             (OPEN, 1),
             (b"while 1 {", 32),
@@ -325,27 +334,43 @@ const NESTED: &[Large] = &[
         ],
         TOO_DEEP,
     ),
-    (&[(b"words 1; locks 0;\nx = ", 1), (b"(", 33)], TOO_DEEP),
+    (
+        "33 parentheses may not",
+        &[(b"words 1; locks 0;\nx = ", 1), (b"(", 33)],
+        TOO_DEEP,
+    ),
+    (
+        "an expression has 256 operators",
+        &[(PRINT, 1), (b" + (1 * 2)", 128), (b";", 1)],
+        None,
+    ),
+    (
+        "an expression has not 257 operators",
+        &[(PRINT, 1), (b" + 1", 257), (b";", 1)],
+        OVER_LIMIT,
+    ),
+    (
+        "several expressions have more",
+        &[(OPEN, 1), (b"[1 + 1] = 2 + 2;", 129)],
+        None,
+    ),
+    (
+        "a text has 65536 bytes",
+        &[(SHORT_OPEN, 1), (b"a=1;", 16_380)],
+        None,
+    ),
+    (
+        "a text has not 65537 bytes",
+        &[(SHORT_OPEN, 1), (b"a=1;", 16_380), (b"\n", 1)],
+        TOO_LONG,
+    ),
 ];
 
 #[test]
-fn thirty_two_may_be_open(rt: HostRuntime) {
-    holds(&rt, have_large_faults(rt.alloc(), NESTED));
-}
-
-const PRINT: &[u8] = b"words 1; locks 0;\nprint 0";
-
-const OVER_LIMIT: Fault = Some((2, FaultKind::OverLimit));
-
-const OPERATORS: &[Large] = &[
-    (&[(PRINT, 1), (b" + (1 * 2)", 128), (b";", 1)], None),
-    (&[(PRINT, 1), (b" + 1", 257), (b";", 1)], OVER_LIMIT),
-    (&[(OPEN, 1), (b"[1 + 1] = 2 + 2;", 129)], None),
-];
-
-#[test]
-fn an_expression_has_256_operators(rt: HostRuntime) {
-    holds(&rt, have_large_faults(rt.alloc(), OPERATORS));
+fn large_texts_have_their_faults(rt: HostRuntime) {
+    for (name, parts, fault) in LARGE {
+        holds(&rt, name, has_large_fault(rt.alloc(), parts, *fault));
+    }
 }
 
 /// Adds so many statements with different names, each of `a` alone.
@@ -366,19 +391,12 @@ fn has_fault_of_names(alloc: Global, count: usize, fault: Fault) -> bool {
 
 const TOO_MANY_NAMES: Fault = Some((2, FaultKind::TooManyNames));
 
-const TOO_LONG: Fault = Some((1, FaultKind::TooLong));
-
-const LONG: &[Large] = &[
-    (&[(b"words 1;locks 0;", 1), (b"a=1;", 16_380)], None),
-    (
-        &[(b"words 1;locks 0;", 1), (b"a=1;", 16_380), (b"\n", 1)],
-        TOO_LONG,
-    ),
-];
-
 #[test]
-fn a_text_has_32_names_and_65536_bytes(rt: HostRuntime) {
-    holds(&rt, has_fault_of_names(rt.alloc(), 32, None));
-    holds(&rt, has_fault_of_names(rt.alloc(), 33, TOO_MANY_NAMES));
-    holds(&rt, have_large_faults(rt.alloc(), LONG));
+fn a_text_has_32_names(rt: HostRuntime) {
+    holds(&rt, "32", has_fault_of_names(rt.alloc(), 32, None));
+    holds(
+        &rt,
+        "33",
+        has_fault_of_names(rt.alloc(), 33, TOO_MANY_NAMES),
+    );
 }

@@ -15,21 +15,27 @@ fn are_lines(alloc: Global, text: &[u8], wanted: &[u32]) -> bool {
 const BRANCHES: &[u8] =
     b"words 1;\nlocks 0;\nif me == 0 {\n  [0] = 5; # one\n} else {\n  x = [0];\n  print x;\n}\n";
 
-#[test]
-fn both_branches_and_a_comment(rt: HostRuntime) {
-    holds(&rt, are_lines(rt.alloc(), BRANCHES, &[3, 4, 6, 7, 9]));
-}
-
 const LOOPS: &[u8] =
     b"words 1; locks 1; x =\n3; while x\n> 0 { if x == 2 { barrier; } while\n0 { } x = x - 1; } acquire 0;";
 
-#[test]
-fn loops_in_loops_and_several_on_a_line(rt: HostRuntime) {
-    holds(&rt, are_lines(rt.alloc(), LOOPS, &[1, 2, 3, 3, 3, 4, 4, 4]));
-}
+const ROWS: &[(&str, &[u8], &[u32])] = &[
+    ("both branches and a comment", BRANCHES, &[3, 4, 6, 7, 9]),
+    (
+        "loops in loops and several on a line",
+        LOOPS,
+        &[1, 2, 3, 3, 3, 4, 4, 4],
+    ),
+    ("no statement", b"words 1;\nlocks 0;", &[2]),
+    (
+        "no statement, and an empty line",
+        b"words 1;\nlocks 0;\n\n",
+        &[4],
+    ),
+];
 
 #[test]
-fn no_statement(rt: HostRuntime) {
-    holds(&rt, are_lines(rt.alloc(), b"words 1;\nlocks 0;", &[2]));
-    holds(&rt, are_lines(rt.alloc(), b"words 1;\nlocks 0;\n\n", &[4]));
+fn statements_have_their_lines(rt: HostRuntime) {
+    for (name, text, lines) in ROWS {
+        holds(&rt, name, are_lines(rt.alloc(), text, lines));
+    }
 }

@@ -28,12 +28,7 @@ const UNORDERED: &[(u8, Deed)] = &[
     (0, Deed::End),
 ];
 
-#[test]
-fn a_read_races_with_the_write_before_it(rt: HostRuntime) {
-    holds(&rt, is_first_of(rt.alloc(), UNORDERED, Some(3)));
-}
-
-const HALF_ORDERED: [(u8, Deed); 7] = [
+const HALF_ORDERED: &[(u8, Deed)] = &[
     (0, Deed::Acquire(0)),
     (0, Deed::Write(0, 1)),
     (0, Deed::Release(0)),
@@ -43,15 +38,27 @@ const HALF_ORDERED: [(u8, Deed); 7] = [
     (1, Deed::Read(1, 0)),
 ];
 
-#[test]
-fn what_a_lock_orders_does_not_race(rt: HostRuntime) {
-    holds(&rt, is_first_of(rt.alloc(), &HALF_ORDERED[..6], None));
-    holds(&rt, is_first_of(rt.alloc(), &HALF_ORDERED, Some(6)));
-}
+const ORDERED: &[(u8, Deed)] = &[
+    (0, Deed::Acquire(0)),
+    (0, Deed::Write(0, 1)),
+    (0, Deed::Release(0)),
+    (1, Deed::Acquire(0)),
+    (1, Deed::Read(0, 1)),
+    (0, Deed::Write(1, 2)),
+];
+
+const ROWS: &[(&str, &[(u8, Deed)], Option<usize>)] = &[
+    ("a read races with the write before it", UNORDERED, Some(3)),
+    ("what a lock orders does not race", ORDERED, None),
+    ("what no lock orders races", HALF_ORDERED, Some(6)),
+    ("an empty run has no race", &[], None),
+];
 
 #[test]
-fn an_empty_run_has_no_race(rt: HostRuntime) {
-    holds(&rt, is_first(rt.alloc(), &[], None));
+fn first_races_are_found(rt: HostRuntime) {
+    for (name, deeds, first) in ROWS {
+        holds(&rt, name, is_first_of(rt.alloc(), deeds, *first));
+    }
 }
 
 /// Sixteen nodes in turn write a word each, and then one writes the first of them.
@@ -73,5 +80,5 @@ fn the_last_is_found(alloc: Global) -> bool {
 
 #[test]
 fn the_last_of_many_accesses_races(rt: HostRuntime) {
-    holds(&rt, the_last_is_found(rt.alloc()));
+    holds(&rt, "the last", the_last_is_found(rt.alloc()));
 }

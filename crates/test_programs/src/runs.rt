@@ -83,11 +83,6 @@ const RACING: &Row = &Row {
     ],
 };
 
-#[test]
-fn a_racing_pair(rt: HostRuntime) {
-    holds(&rt, answers_row(rt.alloc(), RACING));
-}
-
 // Node 0 writes one word under a lock and another after it, and node 1 reads both under the lock.
 const HALF_LOCKED: &Row = &Row {
     deeds: &[
@@ -116,11 +111,6 @@ const HALF_LOCKED: &Row = &Row {
     ],
 };
 
-#[test]
-fn one_word_races_and_one_does_not(rt: HostRuntime) {
-    holds(&rt, answers_row(rt.alloc(), HALF_LOCKED));
-}
-
 // Three nodes write one word twice, in no order.
 const UNORDERED: &Row = &Row {
     deeds: &[
@@ -148,11 +138,6 @@ const UNORDERED: &Row = &Row {
     ],
 };
 
-#[test]
-fn three_unordered_writers(rt: HostRuntime) {
-    holds(&rt, answers_row(rt.alloc(), UNORDERED));
-}
-
 // Node 0 hands one lock to node 1, and node 1 another to node 2.
 const HANDED_ON: &Row = &Row {
     deeds: &[
@@ -179,11 +164,6 @@ const HANDED_ON: &Row = &Row {
     ],
 };
 
-#[test]
-fn ordered_through_a_third_node(rt: HostRuntime) {
-    holds(&rt, answers_row(rt.alloc(), HANDED_ON));
-}
-
 // Node 0 writes a word, and after a barrier all three nodes read it. A fourth node has not arrived.
 const MET: &Row = &Row {
     deeds: &[
@@ -206,11 +186,6 @@ const MET: &Row = &Row {
     ],
 };
 
-#[test]
-fn a_barrier_orders_all(rt: HostRuntime) {
-    holds(&rt, answers_row(rt.alloc(), MET));
-}
-
 // A value that no write before it wrote,
 const NEVER_WRITTEN: &Row = &Row {
     deeds: &[
@@ -231,12 +206,6 @@ const REPLACED: &Row = &Row {
     ],
     asked: &[Asked::Misread(Some(3))],
 };
-
-#[test]
-fn faults_of_reading(rt: HostRuntime) {
-    holds(&rt, answers_row(rt.alloc(), NEVER_WRITTEN));
-    holds(&rt, answers_row(rt.alloc(), REPLACED));
-}
 
 // A lock taken from its holder, one released by a node that does not hold it,
 const HELD: &Row = &Row {
@@ -260,11 +229,24 @@ const EARLY: &Row = &Row {
     asked: &[Asked::Broken(2, Some(3))],
 };
 
+const ROWS: &[(&str, &Row)] = &[
+    ("a racing pair", RACING),
+    ("one word races and one does not", HALF_LOCKED),
+    ("three unordered writers", UNORDERED),
+    ("ordered through a third node", HANDED_ON),
+    ("a barrier orders all", MET),
+    ("faults of reading: never written", NEVER_WRITTEN),
+    ("faults of reading: replaced", REPLACED),
+    ("faults of synchronization: held", HELD),
+    ("faults of synchronization: not held", NOT_HELD),
+    ("faults of synchronization: early", EARLY),
+];
+
 #[test]
-fn faults_of_synchronization(rt: HostRuntime) {
-    holds(&rt, answers_row(rt.alloc(), HELD));
-    holds(&rt, answers_row(rt.alloc(), NOT_HELD));
-    holds(&rt, answers_row(rt.alloc(), EARLY));
+fn runs_are_judged(rt: HostRuntime) {
+    for (name, row) in ROWS {
+        holds(&rt, name, answers_row(rt.alloc(), row));
+    }
 }
 
 /// A long run: sixteen nodes in turn write, read and print under the lock with the largest number. Or the same run without its
@@ -300,6 +282,8 @@ const LOCKED_ASKED: &[Asked] = &[
     Asked::Before(999, 0, false),
 ];
 
+const UNLOCKED_ASKED: &[Asked] = &[Asked::Races(120, &[])];
+
 /// Whether there are nodes 0 to 15 alone.
 fn sixteen_are_in_range() -> bool {
     let deed = Deed::End;
@@ -308,10 +292,15 @@ fn sixteen_are_in_range() -> bool {
 
 #[test]
 fn long_runs_are_judged(rt: HostRuntime) {
-    holds(&rt, sixteen_are_in_range());
-    holds(&rt, answers_long(rt.alloc(), 250, true, LOCKED_ASKED));
+    holds(&rt, "range", sixteen_are_in_range());
     holds(
         &rt,
-        answers_long(rt.alloc(), 500, false, &[Asked::Races(120, &[])]),
+        "locked",
+        answers_long(rt.alloc(), 250, true, LOCKED_ASKED),
+    );
+    holds(
+        &rt,
+        "unlocked",
+        answers_long(rt.alloc(), 500, false, UNLOCKED_ASKED),
     );
 }

@@ -2,6 +2,7 @@
 
 ghost use Rattle.std.specs.Prelude.{◌≡◌, ◌++◌, ◌∷◌, [], true, IfErr, IfNone, IfSome, OnOk};
 
+use crate::checks::passes;
 use crate::shell::options;
 use bytes::Bytes;
 use lrc_exec::code::Code;
@@ -9,10 +10,9 @@ use lrc_lang::parse;
 use lrc_node::{Logged, Node};
 use lrc_post::{Parcel, PostFault};
 use lrc_run::{Gate, Mail, Stop, work};
-use std::alloc::Global;
+use std::alloc::{AllocError, Global};
 use std::collections::VecDeque;
 use std::sync::Wait;
-use std::test::Fail;
 
 /// A gate at which nobody waits.
 struct OpenGate;
@@ -84,27 +84,51 @@ fn worked<R: Wait>(rt: &R, alloc: Global, mail: &mut Letters, text: &[u8]) -> Re
 /// Node 1 asks node 0 for this lock, and waits for it.
 const ASKS: &[u8] = b"words 1; locks 1; acquire 0; release 0;";
 
-#[test]
-fn a_thread_ends_where_nothing_more_comes_or_the_post_is_closed(
-    rt: HostRuntime,
-) -> Result<(), Fail> {
-    for closed in [false, true] {
-        let mut letters = Letters {
-            come: VecDeque::new(rt.alloc()),
-            put: Vec::new(rt.alloc()),
-            closed,
-        };
-        letters.come.push_back(Parcel {
-            to: 1,
-            stamp: 1,
-            bytes: Bytes::new(),
-        })?;
-        let result = worked(&rt, rt.alloc(), &mut letters, ASKS);
-        let wanted = if closed { Err(Stop::Closed) } else { Ok(()) };
-        assert!(rt;
-            (result, letters.put.len(), letters.come.len())
-                == (wanted, usize::from(!closed), usize::from(closed))
-        );
+// One empty parcel that will come, over an open or a closed post.
+fn one_parcel_comes(alloc: Global, closed: bool) -> Result<Letters, AllocError> {
+    let mut come = VecDeque::new(alloc);
+    come.push_back(Parcel {
+        to: 1,
+        stamp: 1,
+        bytes: Bytes::new(),
+    })?;
+    Ok(Letters {
+        come,
+        put: Vec::new(alloc),
+        closed,
+    })
+}
+
+// Whether the thread ends well, all was taken and the request put; or the post is said to be closed, and nothing was put or taken.
+fn is_worked<R: Wait>(rt: &R, alloc: Global, letters: &mut Letters) -> bool {
+    let closed = letters.closed;
+    match worked(rt, alloc, letters, ASKS) {
+        Ok(()) => !closed && letters.put.len() == 1 && letters.come.is_empty(),
+        Err(stop) => {
+            closed && stop == Stop::Closed && letters.put.is_empty() && letters.come.len() == 1
+        }
     }
-    Ok(())
+}
+
+fn is_met<R: Wait>(rt: &R, alloc: Global, closed: bool) -> bool {
+    match one_parcel_comes(alloc, closed) {
+        Ok(mut letters) => is_worked(rt, alloc, &mut letters),
+        Err(_) => false,
+    }
+}
+
+const ROWS: &[(&str, bool)] = &[("nothing more comes", false), ("the post is closed", true)];
+
+fn first_wrong<R: Wait>(rt: &R, alloc: Global) -> Option<&'static str> {
+    for (name, closed) in ROWS {
+        if !is_met(rt, alloc, *closed) {
+            return Some(name);
+        }
+    }
+    None
+}
+
+#[test]
+fn a_thread_ends_where_nothing_more_comes_or_the_post_is_closed(rt: HostRuntime) {
+    passes(&rt, first_wrong(&rt, rt.alloc()));
 }

@@ -4,16 +4,16 @@
 #[cfg(test)]
 mod alone;
 #[cfg(test)]
+mod checks;
+#[cfg(test)]
 mod gates;
 #[cfg(test)]
 mod letters;
 #[cfg(test)]
-mod orders;
+mod refusals;
 #[cfg(test)]
 mod rows;
 #[cfg(test)]
 mod shell;
 #[cfg(test)]
 mod weaves;
-#[cfg(test)]
-mod worn;

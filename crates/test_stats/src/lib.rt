@@ -1,7 +1,5 @@
-//! Tests alone: the counts of a run, and the times of its acts.
+//! Tests alone: the times of a run's acts. Its counts are played by `test_examples`.
 #![tactic(auto)]
 
-#[cfg(test)]
-mod counts;
 #[cfg(test)]
 mod times;

@@ -1,11 +1,12 @@
 // The times of acts.
 
+use lrc_time::Time;
 use lrc_timed::times::times_of_acts;
 use lrc_trace::act::{Act, Deed};
-use std::alloc::{AllocError, Global};
+use std::alloc::Global;
 
 // Node 1 arrives at a barrier; node 0 gets a lock, gives it back and arrives; both depart; and node 1 gets the lock.
-const ACTS: [Act; 7] = [
+const ACTS: &[Act] = &[
     Act {
         node: 1,
         deed: Deed::Arrive,
@@ -36,26 +37,32 @@ const ACTS: [Act; 7] = [
     },
 ];
 
-const TIMES: [[u32; 2]; 7] = [[0, 1], [1, 0], [2, 0], [3, 0], [3, 1], [3, 1], [3, 2]];
+const TIMES: &[[u32; 2]] = &[[0, 1], [1, 0], [2, 0], [3, 0], [3, 1], [3, 1], [3, 2]];
 
-fn are_timed(alloc: Global, acts: &[Act], wanted: &[[u32; 2]]) -> Result<bool, AllocError> {
+/// Whether a time of two nodes is this one.
+fn is_time(time: &Time, wanted: [u32; 2]) -> bool {
+    time.nodes() == 2 && [time.at(0), time.at(1)] == wanted
+}
+
+fn are_times(times: &[Time], wanted: &[[u32; 2]]) -> bool {
+    times.len() == wanted.len()
+        && times
+            .iter()
+            .zip(wanted)
+            .all(|(time, wanted)| is_time(time, *wanted))
+}
+
+fn are_timed(alloc: Global, acts: &[Act], wanted: &[[u32; 2]]) -> bool {
     if !acts.iter().all(|act| act.node < 2) {
-        return Ok(false);
+        return false;
     }
-    let times = times_of_acts(alloc, acts, 2)?;
-    if times.len() != wanted.len() {
-        return Ok(false);
+    match times_of_acts(alloc, acts, 2) {
+        Ok(times) => are_times(&times, wanted),
+        Err(_) => false,
     }
-    for (place, time) in times.iter().enumerate() {
-        if time.nodes() != 2 || [time.at(0), time.at(1)] != wanted[place] {
-            return Ok(false);
-        }
-    }
-    Ok(true)
 }
 
 #[test]
-fn locks_and_barriers_hand_times_on(rt: HostRuntime) -> Result<(), AllocError> {
-    assert!(rt; are_timed(rt.alloc(), &ACTS, &TIMES)?);
-    Ok(())
+fn locks_and_barriers_hand_times_on(rt: HostRuntime) {
+    assert!(rt; are_timed(rt.alloc(), ACTS, TIMES));
 }

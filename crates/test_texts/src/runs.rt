@@ -3,19 +3,17 @@
 use lrc_acts_text::{acts_part, json_part, rapid_part};
 use lrc_time::Time;
 use lrc_trace::act::{Act, Deed};
-use std::alloc::{AllocError, Global};
-
-fn act(node: u8, deed: Deed) -> Act {
-    Act { node, deed }
-}
+use std::alloc::Global;
 
 // Whether this is the text of the acts, of which each is of a line.
-fn says_acts(alloc: Global, acts: &[Act], lines: &[u32], text: &[u8]) -> Result<bool, AllocError> {
+fn says_acts(alloc: Global, acts: &[Act], lines: &[u32], text: &[u8]) -> bool {
     if lines.len() != acts.len() {
-        return Ok(false);
+        return false;
     }
-    let part = acts_part(alloc, acts, lines)?;
-    Ok(part.as_slice() == text)
+    match acts_part(alloc, acts, lines) {
+        Ok(part) => part.as_slice() == text,
+        Err(_) => false,
+    }
 }
 
 // Whether this is the trace of the acts of a program with so many locks on so many nodes.
@@ -26,35 +24,77 @@ fn says_rapid(
     locks: u8,
     nodes: u8,
     text: &[u8],
-) -> Result<bool, AllocError> {
+) -> bool {
     if lines.len() != acts.len() {
-        return Ok(false);
+        return false;
     }
-    let part = rapid_part(alloc, acts, lines, locks, nodes)?;
-    Ok(part.as_slice() == text)
+    match rapid_part(alloc, acts, lines, locks, nodes) {
+        Ok(part) => part.as_slice() == text,
+        Err(_) => false,
+    }
 }
 
 // One node writes a word under a lock and another outside it, and then the other node reads both under the lock.
-fn passed_on() -> [Act; 14] {
-    [
-        act(0, Deed::Quiet),
-        act(0, Deed::Acquire(0)),
-        act(0, Deed::Write(0, 1)),
-        act(0, Deed::Release(0)),
-        act(0, Deed::Write(1, 2)),
-        act(1, Deed::Quiet),
-        act(1, Deed::Acquire(0)),
-        act(1, Deed::Read(0, 1)),
-        act(1, Deed::Read(1, 0)),
-        act(1, Deed::Release(0)),
-        act(1, Deed::Print(1)),
-        act(1, Deed::Print(0)),
-        act(1, Deed::End),
-        act(0, Deed::End),
-    ]
-}
+const PASSED_ON: &[Act] = &[
+    Act {
+        node: 0,
+        deed: Deed::Quiet,
+    },
+    Act {
+        node: 0,
+        deed: Deed::Acquire(0),
+    },
+    Act {
+        node: 0,
+        deed: Deed::Write(0, 1),
+    },
+    Act {
+        node: 0,
+        deed: Deed::Release(0),
+    },
+    Act {
+        node: 0,
+        deed: Deed::Write(1, 2),
+    },
+    Act {
+        node: 1,
+        deed: Deed::Quiet,
+    },
+    Act {
+        node: 1,
+        deed: Deed::Acquire(0),
+    },
+    Act {
+        node: 1,
+        deed: Deed::Read(0, 1),
+    },
+    Act {
+        node: 1,
+        deed: Deed::Read(1, 0),
+    },
+    Act {
+        node: 1,
+        deed: Deed::Release(0),
+    },
+    Act {
+        node: 1,
+        deed: Deed::Print(1),
+    },
+    Act {
+        node: 1,
+        deed: Deed::Print(0),
+    },
+    Act {
+        node: 1,
+        deed: Deed::End,
+    },
+    Act {
+        node: 0,
+        deed: Deed::End,
+    },
+];
 
-const LINES: [u32; 14] = [3, 4, 5, 6, 7, 3, 9, 10, 11, 12, 13, 14, 16, 16];
+const LINES: &[u32] = &[3, 4, 5, 6, 7, 3, 9, 10, 11, 12, 13, 14, 16, 16];
 
 const ACTS_TEXT: &[u8] =
     b"0 quiet # line 3\n0 acquire 0 # line 4\n0 write 0 1 # line 5\n0 release 0 # line 6\n0 write 1 2 # line 7
@@ -63,7 +103,7 @@ const ACTS_TEXT: &[u8] =
 
 #[test]
 fn a_line_for_each_act(rt: HostRuntime) {
-    assert!(rt; says_acts(rt.alloc(), &passed_on(), &LINES, ACTS_TEXT) == Ok(true));
+    assert!(rt; says_acts(rt.alloc(), PASSED_ON, LINES, ACTS_TEXT));
 }
 
 // The time of one of two nodes that knows so many intervals of each.
@@ -93,18 +133,14 @@ fn times() -> [Time; 8] {
 }
 
 // Whether this is what the acts are as JSON.
-fn says_json(
-    alloc: Global,
-    acts: &[Act],
-    lines: &[u32],
-    times: &[Time],
-    text: &[u8],
-) -> Result<bool, AllocError> {
+fn says_json(alloc: Global, acts: &[Act], lines: &[u32], times: &[Time], text: &[u8]) -> bool {
     if lines.len() != acts.len() || times.len() != acts.len() {
-        return Ok(false);
+        return false;
     }
-    let part = json_part(alloc, acts, lines, times)?;
-    Ok(part.as_slice() == text)
+    match json_part(alloc, acts, lines, times) {
+        Ok(part) => part.as_slice() == text,
+        Err(_) => false,
+    }
 }
 
 const JSON_TEXT: &[u8] =
@@ -119,8 +155,15 @@ const JSON_TEXT: &[u8] =
 
 #[test]
 fn an_object_for_each_act(rt: HostRuntime) {
-    let acts = passed_on();
-    assert!(rt; says_json(rt.alloc(), &acts[..8], &LINES[..8], &times(), JSON_TEXT) == Ok(true));
+    assert!(rt;
+        says_json(
+            rt.alloc(),
+            &PASSED_ON[..8],
+            &LINES[..8],
+            &times(),
+            JSON_TEXT
+        )
+    );
 }
 
 const RAPID_TEXT: &[u8] = b"T0|acq(L0)|4\nT0|w(V0)|5\nT0|rel(L0)|6\nT0|w(V1)|7\nT1|acq(L0)|9
@@ -128,20 +171,38 @@ T1|r(V0)|10\nT1|r(V1)|11\nT1|rel(L0)|12\n";
 
 #[test]
 fn accesses_and_locks_as_a_trace(rt: HostRuntime) {
-    assert!(rt; says_rapid(rt.alloc(), &passed_on(), &LINES, 1, 2, RAPID_TEXT) == Ok(true));
+    assert!(rt; says_rapid(rt.alloc(), PASSED_ON, LINES, 1, 2, RAPID_TEXT));
 }
 
 // Two nodes come to a barrier and go on, one of them comes to a second one, and the other gets the third lock.
-fn met() -> [Act; 6] {
-    [
-        act(0, Deed::Arrive),
-        act(1, Deed::Arrive),
-        act(1, Deed::Depart),
-        act(1, Deed::Arrive),
-        act(0, Deed::Depart),
-        act(0, Deed::Acquire(2)),
-    ]
-}
+const MET: &[Act] = &[
+    Act {
+        node: 0,
+        deed: Deed::Arrive,
+    },
+    Act {
+        node: 1,
+        deed: Deed::Arrive,
+    },
+    Act {
+        node: 1,
+        deed: Deed::Depart,
+    },
+    Act {
+        node: 1,
+        deed: Deed::Arrive,
+    },
+    Act {
+        node: 0,
+        deed: Deed::Depart,
+    },
+    Act {
+        node: 0,
+        deed: Deed::Acquire(2),
+    },
+];
+
+const MET_LINES: &[u32] = &[4, 4, 4, 5, 4, 9];
 
 const MET_TEXT: &[u8] = b"T0|acq(L3)|4\nT0|rel(L3)|4\nT1|acq(L4)|4\nT1|rel(L4)|4
 T1|acq(L3)|4\nT1|rel(L3)|4\nT1|acq(L4)|4\nT1|rel(L4)|4\nT1|acq(L6)|5\nT1|rel(L6)|5
@@ -149,5 +210,5 @@ T0|acq(L3)|4\nT0|rel(L3)|4\nT0|acq(L4)|4\nT0|rel(L4)|4\nT0|acq(L2)|9\n";
 
 #[test]
 fn barriers_are_locks_past_those_of_the_program(rt: HostRuntime) {
-    assert!(rt; says_rapid(rt.alloc(), &met(), &[4, 4, 4, 5, 4, 9], 3, 2, MET_TEXT) == Ok(true));
+    assert!(rt; says_rapid(rt.alloc(), MET, MET_LINES, 3, 2, MET_TEXT));
 }

@@ -6,6 +6,7 @@ ghost use Rattle.lrc_protocol.specs.Turn.{done, is_addressed, is_repeat, take_tu
 ghost use Rattle.lrc_protocol.specs.Follows.{is_expected};
 ghost use Rattle.lrc_protocol.specs.Turn.{turn_or};
 ghost use Rattle.lrc_node.specs.Taking.{effect_of};
+ghost use Rattle.lrc_node.specs.Node.{is_turn};
 ghost use Rattle.lrc_node.specs.Taken.{RefusesTake};
 ghost use Rattle.lrc_node.specs.declared.fault.NodeFault.TheVariants.{NoMemory, Unexpected, Worn};
 
@@ -37,6 +38,22 @@ impl NodeState<'_> {
             return Err(NodeFault::Unexpected);
         }
         self.take_anew(envelope)
+    }
+
+    /// Whether a message is taken, as far as numbers go: it is for this node, from one of the nodes, and taken before or expected.
+    pub(crate) fn awaits(&self, envelope: &Envelope) -> bool
+        ensures { result ≡ is_turn (take_turn self.now envelope.now) }
+    {
+        let from = envelope.from;
+        let addressed = self.is_addressed(envelope);
+        if !addressed {
+            return false;
+        }
+        let repeat = self.is_repeat(envelope);
+        if repeat {
+            return true;
+        }
+        self.expects(from, &envelope.message)
     }
 
     // Whether a message is for this node, and from one of the nodes.

@@ -1,4 +1,5 @@
 use Rattle.std.proofs.Common.{◌∙◌, arith, length, refl}
+use Rattle.std.proofs.lemmas.Result.{IfOk-from_err}
 use Rattle.lrc_barrier.specs.declared.departure.Departure.{Departure}
 use Rattle.lrc_barrier.specs.Barrier.{IsArrival}
 use Rattle.lrc_barrier.specs.Filled.{all_with}
@@ -34,3 +35,15 @@ loop-node-preserved c =
     c.in_ok-intervals.intervals own.counted c.collects-collect.ensures
     (c.copy.ensures ∙ c.time_of_all-time.ensures.all) c.in_ok-intervals.ensures)
     c.in_ok-push.ensures.items
+
+pub loop-node-init : goal.loop-node-init
+loop-node-init c = c.in_ok-list.ensures.items
+
+pub returns-in_err-list : goal.returns-in_err-list
+returns-in_err-list c = IfOk-from_err c.from_residual.result _ c.from_residual.ensures.0
+
+pub returns-in_err-intervals : goal.returns-in_err-intervals
+returns-in_err-intervals c = IfOk-from_err c.from_residual-in_err-intervals.result _ c.from_residual-in_err-intervals.ensures.0
+
+pub returns-in_err-push : goal.returns-in_err-push
+returns-in_err-push c = IfOk-from_err c.from_residual-in_err-push.result _ c.from_residual-in_err-push.ensures.0

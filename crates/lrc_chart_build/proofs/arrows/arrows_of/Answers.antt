@@ -2,7 +2,7 @@ use Rattle.std.proofs.Common.{◌∙◌, ◌++◌, [], ℕ, List, ap, get_or, ma
 use Rattle.std.specs.Prelude.{None, slice_get}
 use Rattle.std.specs.List.{flat_map}
 use Rattle.lrc_envelope.specs.Envelope.{EnvelopeRecord}
-use Rattle.lrc_chart_rows.specs.Arrows.{takers}
+use Rattle.lrc_chart_rows.specs.Takers.{takers}
 use Rattle.lrc_chart_rows.specs.declared.row.Row.{Row}
 use Rattle.lrc_chart_build.specs.Arrows.{sent_in_turn, shown_message_arrows}
 use Rattle.lrc_chart_build.specs.Seen.{SeenArrow, seen_arrow}

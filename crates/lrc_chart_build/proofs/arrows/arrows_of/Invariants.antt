@@ -2,7 +2,7 @@ use Rattle.std.proofs.Common.{◌≡◌, map, take}
 use Rattle.std.specs.Prelude.{slice_get}
 use Rattle.std.specs.List.{flat_map}
 use Rattle.lrc_text.specs.Each.{each}
-use Rattle.lrc_chart_rows.specs.Arrows.{takers}
+use Rattle.lrc_chart_rows.specs.Takers.{takers}
 use Rattle.lrc_chart_build.specs.Arrows.{sent_in_turn, shown_message_arrows}
 use Rattle.lrc_chart_build.specs.Seen.{seen_arrow}
 use Rattle.lrc_chart_build.proofs.arrows.arrows_of.Given as goal

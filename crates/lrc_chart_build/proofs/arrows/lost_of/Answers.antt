@@ -2,7 +2,7 @@ use Rattle.std.proofs.Common.{◌∙◌, ◌++◌, [], ℕ, List, ap, get_or, ma
 use Rattle.std.specs.Prelude.{slice_get}
 use Rattle.std.specs.List.{flat_map}
 use Rattle.lrc_envelope.specs.Envelope.{EnvelopeRecord}
-use Rattle.lrc_chart_rows.specs.Arrows.{takers}
+use Rattle.lrc_chart_rows.specs.Takers.{takers}
 use Rattle.lrc_chart_rows.specs.declared.row.Row.{Row}
 use Rattle.lrc_chart_build.specs.Arrows.{lost_if, sent_in_turn}
 use Rattle.lrc_chart_build.specs.Seen.{SeenLost, seen_lost}

@@ -2,7 +2,7 @@ use Rattle.std.proofs.Common.{◌≡◌, map, take}
 use Rattle.std.specs.Prelude.{slice_get}
 use Rattle.std.specs.List.{flat_map}
 use Rattle.lrc_text.specs.Each.{each}
-use Rattle.lrc_chart_rows.specs.Arrows.{takers}
+use Rattle.lrc_chart_rows.specs.Takers.{takers}
 use Rattle.lrc_chart_build.specs.Arrows.{lost_if, sent_in_turn}
 use Rattle.lrc_chart_build.specs.Seen.{seen_lost}
 use Rattle.lrc_chart_build.proofs.arrows.lost_of.Given as goal

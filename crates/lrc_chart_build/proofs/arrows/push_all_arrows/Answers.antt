@@ -1,6 +1,6 @@
 use Rattle.std.proofs.Common.{◌∙◌, ◌++◌, ℕ, List, ap, map}
 use Rattle.lrc_envelope.specs.Envelope.{EnvelopeRecord}
-use Rattle.lrc_chart_rows.specs.Arrows.{takers}
+use Rattle.lrc_chart_rows.specs.Takers.{takers}
 use Rattle.lrc_chart_build.specs.Arrows.{shown_message_arrows}
 use Rattle.lrc_chart_build.specs.Seen.{SeenArrow, seen_arrow}
 use Rattle.lrc_chart_build.proofs.Steps.{flat_step}

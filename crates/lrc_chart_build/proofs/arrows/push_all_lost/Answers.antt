@@ -1,6 +1,6 @@
 use Rattle.std.proofs.Common.{◌∙◌, ◌++◌, ℕ, List, ap, map}
 use Rattle.lrc_envelope.specs.Envelope.{EnvelopeRecord}
-use Rattle.lrc_chart_rows.specs.Arrows.{takers}
+use Rattle.lrc_chart_rows.specs.Takers.{takers}
 use Rattle.lrc_chart_build.specs.Arrows.{lost_if}
 use Rattle.lrc_chart_build.specs.Seen.{SeenLost, seen_lost}
 use Rattle.lrc_chart_build.proofs.Steps.{flat_step}

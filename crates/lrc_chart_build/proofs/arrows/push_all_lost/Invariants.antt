@@ -1,6 +1,6 @@
 use Rattle.std.proofs.Common.{◌≡◌, ◌++◌, map, take}
 use Rattle.std.specs.List.{flat_map}
-use Rattle.lrc_chart_rows.specs.Arrows.{takers}
+use Rattle.lrc_chart_rows.specs.Takers.{takers}
 use Rattle.lrc_chart_build.specs.Arrows.{lost_if}
 use Rattle.lrc_chart_build.specs.Seen.{seen_lost}
 use Rattle.lrc_chart_build.proofs.arrows.push_all_lost.Given as goal

@@ -1,5 +1,5 @@
 use Rattle.std.proofs.Common.{◌≡◌, ℕ, ◌+◌, ◌<◌, [], length, get_or, refl, sym, ap, ◌∙◌, arith, length-set}
-use Rattle.std.proofs.lemmas.List.{get_or_default}
+use Rattle.std.proofs.lemmas.List.{get_or_default, get_or-replicate}
 use Rattle.std.specs.Prelude.{slice_index}
 use Rattle.lrc_trace.specs.declared.act.Deed.TheVariants.{Arrive}
 use Rattle.lrc_trace.specs.Run.{Does, is_arrive, arrives_before}
@@ -81,3 +81,13 @@ loop-position-preserved c =
         counts = rw w.arrives-is (counts_same run position _ _ read is_arrive c.loop-position.arrives (no_arrive _ w.in_default.not-Arrive) old);
       }
     ]
+
+pub loop-position-init : goal.loop-position-init
+loop-position-init c = record {
+  time = c.new-time.ensures;
+  long = refl;
+  counts = λ q within. get_or-replicate 16 q 0 0 within;
+}
+
+pub bounds-acts-position : goal.bounds-acts-position
+bounds-acts-position c = c.loop-position-test.true

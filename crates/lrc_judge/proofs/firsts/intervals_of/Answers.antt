@@ -1,6 +1,8 @@
 -- One position further.
-use Rattle.std.proofs.Common.{◌≡◌, ℕ, ◌+◌, ◌<◌, inl, inr, length, get_or, sym, ◌∙◌, ap, arith, length-set}
+use Rattle.std.proofs.Common.{◌≡◌, ℕ, ◌+◌, ◌<◌, inl, inr, length, get_or, refl, sym, ◌∙◌, ap, arith, length-set}
 use Rattle.std.specs.Prelude.{true, false, slice_index}
+use Rattle.std.proofs.lemmas.List.{get_or-replicate}
+use Rattle.std.proofs.lemmas.Result.{IfOk-from_err}
 use Rattle.lrc_trace.specs.declared.act.Act.{Act}
 use Rattle.lrc_trace.specs.declared.act.Deed.TheVariants.{Quiet}
 use Rattle.lrc_trace.specs.Run.{Does}
@@ -48,3 +50,23 @@ loop-position-preserved c =
       full = rest.0;
       reached = rest.1;
     }
+
+pub bounds-acts-position : goal.bounds-acts-position
+bounds-acts-position c = c.loop-position-test.true
+
+pub bounds-reached-node : goal.bounds-reached-node
+bounds-reached-node c = rw c.from-node.ensures (c.requires c.loop-position.position (record { node = 0; deed = Quiet }) c.loop-position-test.true)
+
+pub bounds-reached-node-in-Acquire : goal.bounds-reached-node-in-Acquire
+bounds-reached-node-in-Acquire c =
+    rw c.from-node.ensures (c.requires c.loop-position.position (record { node = 0; deed = Quiet }) c.loop-position-test.true)
+
+pub returns-in_err-push : goal.returns-in_err-push
+returns-in_err-push c = IfOk-from_err c.from_residual.result _ c.from_residual.ensures.0
+
+pub loop-position-init : goal.loop-position-init
+loop-position-init c = record {
+  so_far = record { long = ap length c.new-intervals.ensures.items; each = λ k node d before. absurd (omega (arith, before)) };
+  full = refl;
+  reached = λ q within. get_or-replicate 16 q 1 0 within;
+}

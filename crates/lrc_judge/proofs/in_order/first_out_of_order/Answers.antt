@@ -7,6 +7,7 @@ use Rattle.lrc_trace.specs.declared.act.Deed.TheVariants.{Quiet, Read, Write}
 use Rattle.lrc_trace.specs.Run.{Does}
 use Rattle.lrc_trace.proofs.Positions.{Does-read, Does-deed, Does-one_deed, Does-within}
 use Rattle.lrc_judge.specs.InOrder.{IsLastWritten}
+use Rattle.lrc_judge.proofs.Deeds.{read_not_write, read_value, read_word}
 use Rattle.lrc_judge.proofs.LastWritten.{IsMemory-none, IsMemory-same, IsMemory-next}
 use Rattle.lrc_judge.proofs.in_order.first_out_of_order.Goals as goal
 use Rattle.lrc_judge.proofs.in_order.first_out_of_order.Goals.{in-Read+else-value-last_written, in-Write+in_ok-insert-in-Write, in_default}
@@ -24,13 +25,13 @@ loop-position-preserved c =
           let read : Does run n node (Read w.in-Read.word w.in-Read.value) = Does-deed w.in-Read.is here in
           record {
             memory = rw w.memory-is (IsMemory-same run n c.loop-position.memory
-                (λ word v (p, d). let e = Does-one_deed read d in let never : ⊥ = cc in never) c.loop-position.invariant.memory);
+                (λ word v (p, d). read_not_write (Does-one_deed read d)) c.loop-position.invariant.memory);
             reads = λ j word v lt (p, r).
                 elim (cases_eq j n) [
                   | inl same ↦
                       let both : Read w.in-Read.word w.in-Read.value ≡ Read word v = Does-one_deed read (subst (λ k. Does run k p (Read word v)) same r) in
-                      let words : w.in-Read.word ≡ word = cc in
-                      let values : w.in-Read.value ≡ v = cc in
+                      let words : w.in-Read.word ≡ word = read_word both in
+                      let values : w.in-Read.value ≡ v = read_value both in
                       let now = c.loop-position.invariant.memory w.in-Read.word in
                       let is : w.in-Read.value ≡ w.last_written-last_written.result = w.if-value-last_written.false in
                       rw (same, ← words, ← values, is, w.last_written-last_written.ensures) now
@@ -44,7 +45,7 @@ loop-position-preserved c =
                 w.in_ok-insert-in-Write.ensures.updates c.loop-position.invariant.memory);
             reads = λ j word v lt (p, r).
                 elim (cases_eq j n) [
-                  | inl same ↦ let e = Does-one_deed write (subst (λ k. Does run k p (Read word v)) same r) in let never : ⊥ = cc in absurd never
+                  | inl same ↦ absurd (read_not_write (sym (Does-one_deed write (subst (λ k. Does run k p (Read word v)) same r))))
                   | inr other ↦ old j word v (omega arith) (p, r)
                 ];
           }

@@ -1,5 +1,6 @@
 -- Each act's row is pushed, and at the end the rows say the order.
 use Rattle.std.proofs.Common.{◌≡◌, length, subst, arith}
+use Rattle.std.proofs.lemmas.Result.{IfOk-from_err}
 use Rattle.lrc_trace.specs.declared.act.Act.{Act}
 use Rattle.lrc_trace.specs.declared.act.Deed.TheVariants.{Quiet}
 use Rattle.lrc_trace.proofs.Positions.{Does-read, Does-one_node}
@@ -31,3 +32,27 @@ returns c =
     let order : Order = record { rows = c.loop-position.rows } in
     let at : c.loop-position.position ≡ length c.args.acts.now = omega arith in
     order_of c.args.acts.now order (subst (λ n. AreRows c.args.acts.now n c.loop-position.rows.items) at c.loop-position.invariant.rows)
+
+pub reach_of-reach-requires : goal.reach_of-reach-requires
+reach_of-reach-requires c = record {
+  past = c.loop-position.invariant.past;
+  nodes = c.requires;
+  within = c.loop-position-test.true;
+}
+
+pub note-requires : goal.note-requires
+note-requires c = record {
+  past = c.loop-position.invariant.past;
+  reach = c.reach_of-reach.ensures;
+  nodes = c.requires;
+  within = c.loop-position-test.true;
+}
+
+pub returns-in_err-past : goal.returns-in_err-past
+returns-in_err-past c = IfOk-from_err c.from_residual.result _ c.from_residual.ensures.0
+
+pub returns-in_err-note : goal.returns-in_err-note
+returns-in_err-note c = IfOk-from_err c.from_residual-in_err-note.result _ c.from_residual-in_err-note.ensures.0
+
+pub returns-in_err-push : goal.returns-in_err-push
+returns-in_err-push c = IfOk-from_err c.from_residual-in_err-push.result _ c.from_residual-in_err-push.ensures.0

@@ -5,6 +5,7 @@ use Rattle.lrc_trace.specs.declared.act.Act.{Act}
 use Rattle.lrc_trace.specs.declared.act.Deed.TheVariants.{Quiet, Write}
 use Rattle.lrc_trace.specs.Reading.{AreOrdered}
 use Rattle.lrc_trace.proofs.Positions.{Does-read, Does-deed, Does-one_deed}
+use Rattle.lrc_judge.proofs.Deeds.{write_word}
 use Rattle.lrc_judge.proofs.reading.flag_at.Goals as goal
 
 pub returns-in-Write : goal.returns-in-Write
@@ -13,7 +14,7 @@ returns-in-Write c = λ word value done.
     let run = c.args.acts.now in
     let here = Does-deed c.in-Write.is (Does-read run c.args.position quiet c.requires.within) in
     let both : Write c.in-Write.word c.in-Write.field-1 ≡ Write word value = Does-one_deed here done.1 in
-    let words : c.in-Write.word ≡ word = cc in
+    let words : c.in-Write.word ≡ word = write_word both in
     subst (λ w. (c.are_ordered.result ≡ true) ↔ AreOrdered run c.args.position w) words
     (c.are_ordered.ensures run c.requires.written c.requires.nodes c.requires.flags)
 

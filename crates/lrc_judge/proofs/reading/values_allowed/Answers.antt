@@ -1,7 +1,6 @@
 -- One value where the writes are ordered, else all; sorted, and each kept once.
-use Rattle.std.proofs.Common.{◌≡◌, ℕ, eqb, inl, inr, sym, ◌∙◌}
+use Rattle.std.proofs.Common.{◌≡◌, ℕ, eqb, sym, ◌∙◌}
 use Rattle.std.specs.Prelude.{◌↔◌, false, true, Contains}
-use Rattle.std.proofs.lemmas.Bool.{cases_Bool}
 use Rattle.std.proofs.lemmas.List.Filters.{dedup_is}
 use Rattle.lrc_trace.specs.Reading.{IsSomeWrite, MayRead}
 use Rattle.lrc_judge.proofs.Additions.{adds-push}
@@ -23,19 +22,13 @@ returns c =
     let exact : (value : ℕ) → Contains c.if-tally.values.items value ↔ MayRead run j word value =
     elim c.if-tally.branch [
       | then-tally+in_ok-push w ↦
-          let ordered : tally.are_ordered ≡ true = elim (cases_Bool tally.are_ordered) [
-            | inl yes' ↦ yes'
-            | inr f ↦ let h = w.if-tally.true in let never : ⊥ = cc in absurd never
-          ] in
+          let ordered : tally.are_ordered ≡ true = w.if-tally.true in
           rw w.values-is (allowed-adds run j word none w.push.new.self.items (λ v. v ≡ w.latest.result) c.new-values.ensures.items
           (adds-push none w.push.new.self.items w.latest.result w.in_ok-push.ensures.items)
           (λ v. let m = may_last run j word 0 written tally.are_ordered tally.last t ordered v in
           (λ e. m.0 (e ∙ w.latest.ensures), λ r. m.1 r ∙ sym w.latest.ensures)))
       | else-tally+in_ok-add_written w ↦
-          let unordered : tally.are_ordered ≡ false = elim (cases_Bool tally.are_ordered) [
-            | inl yes' ↦ let h = w.if-tally.false in let never : ⊥ = cc in absurd never
-            | inr f ↦ f
-          ] in
+          let unordered : tally.are_ordered ≡ false = w.if-tally.false in
           rw w.values-is (allowed-adds run j word none w.add_written.new.values.items (IsSomeWrite run j word) c.new-values.ensures.items
           w.in_ok-add_written.ensures (may_any run j word 0 written tally.are_ordered tally.last t unordered))
     ] in

@@ -5,4 +5,4 @@ use Rattle.lrc_weave.proofs.woven.weave.Goals as goal
 pub returns-in-Err-clause-mismatch : goal.returns-in-Err-clause-mismatch
 returns-in-Err-clause-mismatch c = λ is.
     let same : c.in-Err.fault ≡ Mismatch = cc in
-    c.weave_run.ensures.mismatch (c.in-Err.is ∙ ap Err same)
+    c.woven_run.ensures.mismatch (c.in-Err.is ∙ ap Err same)

@@ -1,28 +1,16 @@
-use Rattle.std.proofs.Common.{◌∙◌, sym, subst, map, rules}
-use Rattle.std.proofs.lemmas.List.{length-map}
-use Rattle.lrc_weave.specs.Sent.{AreTakesSent}
-use Rattle.lrc_weave.specs.Whole.{MakesRun}
-use Rattle.lrc_weave.specs.Woven.{AreWoven}
-use Rattle.lrc_weave.proofs.Paired.{sent_where_matched}
+use Rattle.std.proofs.Common.{map, rules}
+use Rattle.lrc_weave.proofs.Looping.{alike_of, matched_if, unmatched_by}
 use Rattle.lrc_weave.proofs.woven.weave_run.Goals as goal
 
-pub returns-in-Ok-clause-woven : goal.returns-in-Ok-clause-woven
-returns-in-Ok-clause-woven c = λ program nodes options are.
-    let logs = map (λ log. log.items) c.args.logs.now in
-    let sources : AreTakesSent logs =
-    sent_where_matched logs c.args.wires.now (c.in_ok-are_matched.ensures.0 (search rules))
-    (c.requires.each ∙ sym (length-map c.args.logs.now (λ log. log.items))) in
-    let w = c.in-Ok.ensures.woven program nodes options are sources in
-    (w.0, subst (λ events. AreWoven logs events.items w.0) (sym c.whole.ensures.events) w.1)
+pub returns-then-not-are_all_own-clause-mismatch : goal.returns-then-not-are_all_own-clause-mismatch
+returns-then-not-are_all_own-clause-mismatch c = λ is matched.
+    unmatched_by (map (λ log. log.items) c.args.logs.now) c.args.wires.now c.are_all_own.result c.are_all_own.ensures (search rules) matched
 
-pub returns-in-Ok-clause-makes : goal.returns-in-Ok-clause-makes
-returns-in-Ok-clause-makes c = λ program nodes options are.
-    let logs = map (λ log. log.items) c.args.logs.now in
-    let run = c.whole.result in
-    let sources : AreTakesSent logs =
-    sent_where_matched logs c.args.wires.now (c.in_ok-are_matched.ensures.0 (search rules))
-    (c.requires.each ∙ sym (length-map c.args.logs.now (λ log. log.items))) in
-    subst (λ events. MakesRun program nodes options logs events.items run.acts.items run.in_flight) (sym c.whole.ensures.events)
-    (subst (λ acts. MakesRun program nodes options logs c.in-Ok.run'.events.items acts.items run.in_flight) (sym c.whole.ensures.acts)
-    (subst (MakesRun program nodes options logs c.in-Ok.run'.events.items c.in-Ok.run'.acts.items) (sym c.whole.ensures.flight)
-    (c.in-Ok.ensures.makes program nodes options are sources)))
+pub returns-clause-matched : goal.returns-clause-matched
+returns-clause-matched c =
+    matched_if (map (λ log. log.items) c.args.logs.now) c.args.wires.now c.woven_run.result (c.are_all_own.ensures.0 (search rules))
+    c.woven_run.ensures.alike
+
+pub returns-clause-mismatch : goal.returns-clause-mismatch
+returns-clause-mismatch c = λ is matched.
+    c.woven_run.ensures.mismatch is (alike_of (map (λ log. log.items) c.args.logs.now) c.args.wires.now matched)

@@ -2,32 +2,38 @@ use Rattle.std.proofs.Common.{◌≡◌, ◌∙◌, Err, ap}
 use Rattle.lrc_protocol.specs.Run.{fresh_world}
 use Rattle.lrc_world.specs.declared.report.SimFault.TheVariants.{Worn}
 use Rattle.lrc_world.specs.Rounds.{schedule_of_rounds}
-use Rattle.lrc_world.proofs.Briefly.{ok_of, brief_kept, brief_races, brief_report}
 use Rattle.lrc_world.proofs.Driven.{worn_by}
-use Rattle.lrc_world.proofs.Unskipped.{rounds_unskipped}
+use Rattle.lrc_world.proofs.Runs.{brief_of_run, kept_of_run, races_of_run, ran}
 use Rattle.lrc_world.proofs.simulate.drive_briefly.Goals as goal
 
 pub returns-in-Ok-clause-report : goal.returns-in-Ok-clause-report
 returns-in-Ok-clause-report c =
-    brief_report c.args.program.now c.args.nodes c.args.options.now c.in-Ok.events.items c.in-Ok.report c.brief_of.result c.brief_of.ensures.acts c.brief_of.ensures.ends _
-    c.brief_of.ensures.first (ok_of _ c.lead.result (c.in-Ok.events, c.in-Ok.report) c.in-Ok.is c.lead.ensures.report)
+    brief_of_run _ c.args.program.now c.args.nodes c.args.options.now _ c.in-Ok.run' (ran c.run_checked.result c.in-Ok.run' _ c.in-Ok.is c.run_checked.ensures.run)
+    c.brief_of.result c.brief_of.ensures.acts c.brief_of.ensures.ends c.brief_of.ensures.first
+
+pub returns-in-Ok-clause-rounds : goal.returns-in-Ok-clause-rounds
+returns-in-Ok-clause-rounds c = (ran c.run_checked.result c.in-Ok.run' _ c.in-Ok.is c.run_checked.ensures.run).events.led
 
 pub returns-in-Ok-clause-unskipped : goal.returns-in-Ok-clause-unskipped
-returns-in-Ok-clause-unskipped c =
-    rounds_unskipped c.args.program.now c.args.nodes c.args.options.now c.args.picker c.in-Ok.events.items
-    (ok_of _ c.lead.result (c.in-Ok.events, c.in-Ok.report) c.in-Ok.is c.lead.ensures.led)
+returns-in-Ok-clause-unskipped c = (ran c.run_checked.result c.in-Ok.run' _ c.in-Ok.is c.run_checked.ensures.run).events.unskipped
 
 pub returns-in-Ok-clause-races : goal.returns-in-Ok-clause-races
 returns-in-Ok-clause-races c =
-    brief_races c.args.program.now c.args.nodes c.args.options.now c.in-Ok.events.items c.in-Ok.report c.brief_of.result c.brief_of.ensures.acts c.brief_of.ensures.ends
-    c.brief_of.ensures.races (ok_of _ c.lead.result (c.in-Ok.events, c.in-Ok.report) c.in-Ok.is c.lead.ensures.races)
+    races_of_run _ c.args.program.now c.args.nodes c.args.options.now _ c.in-Ok.run' (ran c.run_checked.result c.in-Ok.run' _ c.in-Ok.is c.run_checked.ensures.run)
+    c.brief_of.result c.brief_of.ensures.acts c.brief_of.ensures.ends c.brief_of.ensures.races
 
 pub returns-in-Ok-clause-kept : goal.returns-in-Ok-clause-kept
 returns-in-Ok-clause-kept c =
-    brief_kept c.args.program.now c.args.nodes c.args.options.now c.in-Ok.events.items c.in-Ok.report c.brief_of.result c.brief_of.ensures.acts c.brief_of.ensures.ends
-    (ok_of _ c.lead.result (c.in-Ok.events, c.in-Ok.report) c.in-Ok.is c.lead.ensures.kept)
+    kept_of_run _ c.args.program.now c.args.nodes c.args.options.now _ c.in-Ok.run' (ran c.run_checked.result c.in-Ok.run' _ c.in-Ok.is c.run_checked.ensures.run)
+    c.brief_of.result c.brief_of.ensures.acts c.brief_of.ensures.ends
+
+pub returns-in-Ok-clause-few : goal.returns-in-Ok-clause-few
+returns-in-Ok-clause-few c = (ran c.run_checked.result c.in-Ok.run' _ c.in-Ok.is c.run_checked.ensures.run).events.few
+
+pub returns-in-Ok-clause-over : goal.returns-in-Ok-clause-over
+returns-in-Ok-clause-over c = (ran c.run_checked.result c.in-Ok.run' _ c.in-Ok.is c.run_checked.ensures.run).events.over
 
 pub returns-in-Err-clause-worn : goal.returns-in-Err-clause-worn
 returns-in-Err-clause-worn c = λ e.
     worn_by (schedule_of_rounds c.args.picker c.args.nodes) (fresh_world c.args.program.now c.args.nodes c.args.options.now)
-    (c.lead.ensures.worn (let same : c.in-Err.fault ≡ Worn = cc in c.in-Err.is ∙ ap Err same))
+    (c.run_checked.ensures.worn (let same : c.in-Err.fault ≡ Worn = cc in c.in-Err.is ∙ ap Err same))

@@ -4,8 +4,8 @@ use Rattle.std.specs.List.{list_any}
 use Rattle.lrc_envelope.specs.Envelope.{EnvelopeRecord}
 use Rattle.lrc_consistency_laws.proofs.Ahead.{take_ahead}
 use Rattle.lrc_world.specs.declared.flying.Flying.{Flying}
-use Rattle.lrc_world.specs.declared.report.SimFault.{SimFault}
-use Rattle.lrc_world.specs.declared.report.SimFault.TheVariants.{BadNodes, BadSteps, NoMemory, Worn}
+use Rattle.lrc_world.specs.declared.report.TurnFault.{TurnFault}
+use Rattle.lrc_world.specs.declared.report.TurnFault.TheVariants.{NoMemory, Worn}
 use Rattle.lrc_world.specs.World.{IsSendFault, is_long, seen_flying, shown_new}
 use Rattle.lrc_world.proofs.Events.{fault_up, get_at, take_whole}
 use Rattle.lrc_world.proofs.Lists.{map-both}
@@ -32,9 +32,7 @@ module _ (out : List EnvelopeRecord) (k : ℕ) (envelope : EnvelopeRecord) (ther
       ∙ map-both (shown_new stamp) (take k out) (envelope ∷ [])))
 
   -- why one of the messages is not sent
-  one_fault : (fault : SimFault) → IsSendFault (envelope ∷ []) fault → IsSendFault out fault
-  one_fault BadNodes is = absurd is
-  one_fault BadSteps is = absurd is
+  one_fault : (fault : TurnFault) → IsSendFault (envelope ∷ []) fault → IsSendFault out fault
   one_fault Worn is = one_is is_long out k envelope there (alone (is_long envelope) is)
   one_fault NoMemory is = tt
 

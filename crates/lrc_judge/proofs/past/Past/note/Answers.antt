@@ -8,6 +8,7 @@ use Rattle.lrc_trace.specs.Run.{Does, is_arrive, is_depart, arrives_before, depa
 use Rattle.lrc_trace.proofs.Positions.{Does-read, Does-node}
 use Rattle.lrc_judge.specs.declared.reach.Reach.{Reach}
 use Rattle.lrc_judge.specs.Past.{EachGathers, Acted, Released, Arrived}
+use Rattle.lrc_judge.proofs.Deeds.{arrive_not_release, depart_not_arrive, depart_not_release, release_not_arrive}
 use Rattle.lrc_judge.proofs.NextPast.{acted_next, released_next, released_same, arrived_next, arrived_push, arrived_same}
 use Rattle.lrc_trace.proofs.Counts.{bound_same, bound_next, counts_same, counts_next, no_arrive, no_depart}
 use Rattle.lrc_judge.proofs.past.Past.note.Goals as goal
@@ -21,7 +22,66 @@ here : (c : After-from-node) → Does c.args.acts.now c.args.position c.from-nod
 here c = Does-node (sym c.from-node.ensures) (Does-read c.args.acts.now c.args.position (record { node = 0; deed = Quiet }) c.requires.within)
 
 node_within : (c : After-from-node) → c.from-node.result < 16
-node_within c = let below = c.requires.nodes c.args.position (record { node = 0; deed = Quiet }) c.requires.within in omega (arith, below, c.from-node.ensures)
+node_within c = rw c.from-node.ensures (c.requires.nodes c.args.position (record { node = 0; deed = Quiet }) c.requires.within)
+
+pub bounds-acts-position : goal.bounds-acts-position
+bounds-acts-position c = c.requires.within
+
+pub bounds-self-node : goal.bounds-self-node
+bounds-self-node c = rw c.from-node.ensures (c.requires.nodes c.args.position (record { node = 0; deed = Quiet }) c.requires.within)
+
+pub bounds-self-node-in-Arrive : goal.bounds-self-node-in-Arrive
+bounds-self-node-in-Arrive c = rw c.from-node.ensures (c.requires.nodes c.args.position (record { node = 0; deed = Quiet }) c.requires.within)
+
+pub bounds-self-node-in-Arrive-2 : goal.bounds-self-node-in-Arrive-2
+bounds-self-node-in-Arrive-2 c = rw c.from-node.ensures (c.requires.nodes c.args.position (record { node = 0; deed = Quiet }) c.requires.within)
+
+pub bounds-self-node-in-Depart : goal.bounds-self-node-in-Depart
+bounds-self-node-in-Depart c = rw c.from-node.ensures (c.requires.nodes c.args.position (record { node = 0; deed = Quiet }) c.requires.within)
+
+pub bounds-self-node-in-Depart-2 : goal.bounds-self-node-in-Depart-2
+bounds-self-node-in-Depart-2 c = rw c.from-node.ensures (c.requires.nodes c.args.position (record { node = 0; deed = Quiet }) c.requires.within)
+
+-- a table keeps its length
+pub invariant_of-self : goal.invariant_of-self
+invariant_of-self c = record {
+  all_acted = length-set c.args.self.now.acted c.from-node.result c.args.reach ∙ c.args.self.now.all_acted;
+  all_released = c.args.self.now.all_released;
+  all_arrives = c.args.self.now.all_arrives;
+  all_departs = c.args.self.now.all_departs;
+}
+
+pub invariant_of-self-in_default : goal.invariant_of-self-in_default
+invariant_of-self-in_default c = record {
+  all_acted = length-set c.args.self.now.acted c.from-node.result c.args.reach ∙ c.args.self.now.all_acted;
+  all_released = c.args.self.now.all_released;
+  all_arrives = c.args.self.now.all_arrives;
+  all_departs = c.args.self.now.all_departs;
+}
+
+pub invariant_of-self-in-Depart : goal.invariant_of-self-in-Depart
+invariant_of-self-in-Depart c = record {
+  all_acted = length-set c.args.self.now.acted c.from-node.result c.args.reach ∙ c.args.self.now.all_acted;
+  all_released = c.args.self.now.all_released;
+  all_arrives = c.args.self.now.all_arrives;
+  all_departs = length-set c.args.self.now.departs c.from-node.result _ ∙ c.args.self.now.all_departs;
+}
+
+pub invariant_of-self-then-number-len : goal.invariant_of-self-then-number-len
+invariant_of-self-then-number-len c = record {
+  all_acted = length-set c.args.self.now.acted c.from-node.result c.args.reach ∙ c.args.self.now.all_acted;
+  all_released = c.args.self.now.all_released;
+  all_arrives = length-set c.args.self.now.arrives c.from-node.result _ ∙ c.args.self.now.all_arrives;
+  all_departs = c.args.self.now.all_departs;
+}
+
+pub invariant_of-self-else-number-len : goal.invariant_of-self-else-number-len
+invariant_of-self-else-number-len c = record {
+  all_acted = length-set c.args.self.now.acted c.from-node.result c.args.reach ∙ c.args.self.now.all_acted;
+  all_released = c.args.self.now.all_released;
+  all_arrives = length-set c.args.self.now.arrives c.from-node.result _ ∙ c.args.self.now.all_arrives;
+  all_departs = c.args.self.now.all_departs;
+}
 
 acted : (c : After-from-node) → EachGathers c.args.acts.now (Acted c.args.acts.now (c.args.position + 1))
     (set c.args.self.now.acted c.from-node.result c.args.reach)
@@ -96,8 +156,8 @@ returns-in-Depart c =
     let e = c.in-Depart.is in
     record {
       acted = acted b;
-      released = released_as_before b (λ l r. (cc));
-      arrived = arrived_as_before b (λ a. (cc));
+      released = released_as_before b (depart_not_release e);
+      arrived = arrived_as_before b (depart_not_arrive e);
       all_kept = kept_as_before b (ap is_arrive e);
       arrives = arrives_as_before b (ap is_arrive e);
       departs = departs_more b (ap is_depart e);
@@ -123,7 +183,7 @@ returns-in-Release c =
       acted = acted b;
       released = released_next run c.args.position c.from-node.result (act_at b).deed
           (here b) table c.from-lock.result c.args.reach c.joined.result is within c.requires.past.released c.requires.reach joined;
-      arrived = arrived_as_before b (λ a. (cc));
+      arrived = arrived_as_before b (release_not_arrive e);
       all_kept = kept_as_before b (ap is_arrive e);
       arrives = arrives_as_before b (ap is_arrive e);
       departs = departs_as_before b (ap is_depart e);
@@ -142,7 +202,7 @@ returns-then-number-len c =
     let long = length-set table number c.joined-then-number-len.result in
     record {
       acted = acted b;
-      released = released_as_before b (λ l r. (cc));
+      released = released_as_before b (arrive_not_release e);
       arrived = arrived_next c.args.acts.now c.args.position c.from-node.result (act_at b).deed
           (here b) table number e at c.requires.past.arrived c.args.reach c.requires.reach c.joined-then-number-len.result within joined;
       all_kept = bound_next c.args.acts.now c.args.position c.from-node.result (act_at b).deed (here b) is_arrive (length table) _
@@ -164,7 +224,7 @@ returns-in_ok-push-in-Arrive c =
     let long = length_push table c.args.reach in
     record {
       acted = acted b;
-      released = released_as_before b (λ l r. (cc));
+      released = released_as_before b (arrive_not_release e);
       arrived = rw pushed (arrived_push c.args.acts.now c.args.position c.from-node.result (act_at b).deed
           (here b) table number e at c.requires.past.arrived c.args.reach c.requires.reach last c.requires.past.all_kept);
       all_kept = rw pushed (bound_next c.args.acts.now c.args.position c.from-node.result (act_at b).deed (here b) is_arrive

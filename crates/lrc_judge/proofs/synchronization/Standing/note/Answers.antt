@@ -1,5 +1,5 @@
 -- Each arm keeps what the definition of the standing says, one position further.
-use Rattle.std.proofs.Common.{◌≡◌, ℕ, ◌+◌, ◌<◌, inl, inr, length, get_or, sym, ◌∙◌, ap, arith}
+use Rattle.std.proofs.Common.{◌≡◌, ℕ, ◌+◌, ◌<◌, inl, inr, length, get_or, sym, ◌∙◌, ap, arith, length-set}
 use Rattle.std.specs.Prelude.{false}
 use Rattle.lrc_trace.specs.declared.act.Act.{Act}
 use Rattle.lrc_trace.specs.declared.act.Deed.TheVariants.{Quiet, Acquire, Release}
@@ -9,6 +9,7 @@ use Rattle.lrc_trace.proofs.Positions.{Does-read, Does-node, Does-deed}
 use Rattle.lrc_judge.specs.Synchronization.{acquire, release}
 use Rattle.lrc_trace.proofs.Counts.{counts_same, counts_next, no_arrive, no_depart}
 use Rattle.lrc_trace.proofs.Locks.{AreHolders, held, holders_same, holders_acquire, holders_release}
+use Rattle.lrc_judge.proofs.Deeds.{arrive_not_acquire, arrive_not_release, depart_not_acquire, depart_not_release}
 use Rattle.lrc_judge.proofs.synchronization.Standing.note.Goals as goal
 use Rattle.lrc_judge.proofs.synchronization.Standing.note.Goals.{After-from-node}
 
@@ -20,7 +21,51 @@ here : (c : After-from-node) → Does c.args.acts.now c.args.position c.from-nod
 here c = Does-node (sym c.from-node.ensures) (Does-read c.args.acts.now c.args.position (record { node = 0; deed = Quiet }) c.requires.within)
 
 node_within : (c : After-from-node) → c.from-node.result < 16
-node_within c = let below = c.requires.acts c.args.position (record { node = 0; deed = Quiet }) c.requires.within in omega (arith, below, c.from-node.ensures)
+node_within c = rw c.from-node.ensures (c.requires.acts c.args.position (record { node = 0; deed = Quiet }) c.requires.within)
+
+pub bounds-acts-position : goal.bounds-acts-position
+bounds-acts-position c = c.requires.within
+
+pub bounds-self-node : goal.bounds-self-node
+bounds-self-node c = rw c.from-node.ensures (c.requires.acts c.args.position (record { node = 0; deed = Quiet }) c.requires.within)
+
+pub bounds-self-node-in-Arrive : goal.bounds-self-node-in-Arrive
+bounds-self-node-in-Arrive c = rw c.from-node.ensures (c.requires.acts c.args.position (record { node = 0; deed = Quiet }) c.requires.within)
+
+pub bounds-self-node-in-Depart : goal.bounds-self-node-in-Depart
+bounds-self-node-in-Depart c = rw c.from-node.ensures (c.requires.acts c.args.position (record { node = 0; deed = Quiet }) c.requires.within)
+
+pub bounds-self-node-in-Depart-2 : goal.bounds-self-node-in-Depart-2
+bounds-self-node-in-Depart-2 c = rw c.from-node.ensures (c.requires.acts c.args.position (record { node = 0; deed = Quiet }) c.requires.within)
+
+-- a table keeps its length
+pub invariant_of-self : goal.invariant_of-self
+invariant_of-self c = record {
+  all_locks = length-set c.args.self.now.holder c.from.result _ ∙ c.args.self.now.all_locks;
+  all_arrives = c.args.self.now.all_arrives;
+  all_departs = c.args.self.now.all_departs;
+}
+
+pub invariant_of-self-in-Release : goal.invariant_of-self-in-Release
+invariant_of-self-in-Release c = record {
+  all_locks = length-set c.args.self.now.holder c.from-in-Release.result _ ∙ c.args.self.now.all_locks;
+  all_arrives = c.args.self.now.all_arrives;
+  all_departs = c.args.self.now.all_departs;
+}
+
+pub invariant_of-self-in-Arrive : goal.invariant_of-self-in-Arrive
+invariant_of-self-in-Arrive c = record {
+  all_locks = c.args.self.now.all_locks;
+  all_arrives = length-set c.args.self.now.arrives c.from-node.result _ ∙ c.args.self.now.all_arrives;
+  all_departs = c.args.self.now.all_departs;
+}
+
+pub invariant_of-self-in-Depart : goal.invariant_of-self-in-Depart
+invariant_of-self-in-Depart c = record {
+  all_locks = c.args.self.now.all_locks;
+  all_arrives = c.args.self.now.all_arrives;
+  all_departs = length-set c.args.self.now.departs c.from-node.result _ ∙ c.args.self.now.all_departs;
+}
 
 -- what an act of another kind leaves as it is
 holder_as_before : (c : After-from-node) → ((l : ℕ) → (act_at c).deed ≡ Acquire l → ⊥)
@@ -76,7 +121,7 @@ returns-in-Arrive c =
     let e = c.in-Arrive.is in
     let within = node_within b in
     record {
-      holder = holder_as_before b (λ l a. (cc)) (λ l r. (cc));
+      holder = holder_as_before b (arrive_not_acquire e) (arrive_not_release e);
       arrives = counts_next c.args.acts.now c.args.position c.from-node.result (act_at b).deed
           (here b) is_arrive c.args.self.now.arrives (ap is_arrive e) (omega (arith, c.args.self.now.all_arrives)) c.requires.standing.arrives;
       departs = departs_as_before b (ap is_depart e);
@@ -88,7 +133,7 @@ returns-in-Depart c =
     let e = c.in-Depart.is in
     let within = node_within b in
     record {
-      holder = holder_as_before b (λ l a. (cc)) (λ l r. (cc));
+      holder = holder_as_before b (depart_not_acquire e) (depart_not_release e);
       arrives = arrives_as_before b (ap is_arrive e);
       departs = counts_next c.args.acts.now c.args.position c.from-node.result (act_at b).deed
           (here b) is_depart c.args.self.now.departs (ap is_depart e) (omega (arith, c.args.self.now.all_departs)) c.requires.standing.departs;

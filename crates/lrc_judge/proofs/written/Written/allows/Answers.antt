@@ -1,17 +1,14 @@
 -- What a read may give, by the last write or by any.
 use Rattle.std.proofs.Common.{◌≡◌, sym, ◌∙◌, inl, inr, arith}
 use Rattle.std.specs.Prelude.{false, true}
-use Rattle.std.proofs.lemmas.Bool.{cases_Bool, false≢true, eqb-true, eq-eqb}
+use Rattle.std.proofs.lemmas.Bool.{false≢true, eqb-true, eq-eqb}
 use Rattle.lrc_judge.proofs.LatestWrites.{may_unordered, may_none, may_latest}
 use Rattle.lrc_judge.proofs.written.Written.allows.Goals as goal
 
 pub returns-else-value-eq0 : goal.returns-else-value-eq0
 returns-else-value-eq0 c =
     let run = c.args.acts.now in
-    let off : c.args.is_ordered ≡ false = elim (cases_Bool c.args.is_ordered) [
-      | inl t ↦ let h = c.if-not-is_ordered.true in let never : ⊥ = cc in absurd never
-      | inr f ↦ f
-    ] in
+    let off : c.args.is_ordered ≡ false = c.if-not-is_ordered.true in
     let may = may_unordered run c.args.self.now c.requires.written c.requires.nodes c.args.word c.args.position c.args.value
     (λ o. false≢true (sym off ∙ c.requires.flag.1 o)) in (
       λ h. may.0 (inr (c.has.ensures.0 h)),
@@ -21,10 +18,7 @@ returns-else-value-eq0 c =
 pub returns-in-Some : goal.returns-in-Some
 returns-in-Some c =
     let run = c.args.acts.now in
-    let on : c.args.is_ordered ≡ true = elim (cases_Bool c.args.is_ordered) [
-      | inl t ↦ t
-      | inr f ↦ let h = c.if-not-is_ordered.false in let never : ⊥ = cc in absurd never
-    ] in
+    let on : c.args.is_ordered ≡ true = c.if-not-is_ordered.false in
     let may = may_latest run c.args.self.now c.requires.written c.requires.nodes c.args.word c.args.position c.args.value c.in-Some.latest
     c.value_at.result (c.requires.flag.0 on) c.in-Some.ensures (λ node v d. c.value_at.ensures node c.args.word v d) in
     (λ t. may.0 (eqb-true c.args.value _ t), λ m. eq-eqb c.args.value _ (may.1 m))

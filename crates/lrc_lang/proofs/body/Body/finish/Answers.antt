@@ -65,8 +65,8 @@ returns-in-AfterThen c =
     (none_open b.outer.items (sym c.if-not-is_empty.false ∙ c.is_empty.ensures ∙ ap (λ n. n == 0) b.outer.ok.0))
     (sym c.replace.ensures.value ∙ c.in-AfterThen.is)) c.done_if.ensures.step
 
-pub returns : goal.returns
-returns c =
+pub returns-in_default : goal.returns-in_default
+returns-in_default c =
     let b = c.args.self.now in
     ap (option_map holding)
     (elsewhere (outer_seen b) (before_seen b) b.place (partial_seen b.expression) (λ e. c.in_default.not-AtStatement (c.replace.ensures.value ∙ e))

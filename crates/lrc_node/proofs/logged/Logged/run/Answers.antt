@@ -1,115 +1,70 @@
-use Rattle.std.proofs.Common.{◌≡◌, ◌∙◌, Ok, Some, ap, rules}
-use Rattle.lrc_protocol.specs.Turn.{run_turn}
-use Rattle.lrc_protocol.specs.Run.{run, outcome_of}
-use Rattle.lrc_node.specs.Logged.{LoggedNode, TracedLog, NotesFault, sound}
-use Rattle.lrc_node.proofs.Logging.{logs_settled, fails_settled, notes_settled, seen_made, some_of, may_settle, failing_settled, failing_roomless}
-use Rattle.lrc_node.proofs.Outcomes.{fault_up}
+use Rattle.std.proofs.Common.{Ok, ap, ◌∙◌, sym, refl}
+use Rattle.std.specs.Prelude.{is_some}
+use Rattle.lrc_protocol.specs.Run.{run}
+use Rattle.lrc_node.proofs.Logging.{owed_settled, owed_worn, seen_log}
+use Rattle.lrc_node.proofs.Takes.{is_turn_run}
+use Rattle.lrc_node.proofs.Whole.{whole_on}
+use Rattle.lrc_node.specs.Node.{wish_of}
 use Rattle.lrc_node.proofs.logged.Logged.run.Goals as goal
+
+-- ---- where no stamp is left
+
+pub returns-in_default-clause-logs : goal.returns-in_default-clause-logs
+returns-in_default-clause-logs c =
+    (owed_worn c.args.self.now c.self.inside.node c.make_room.new.node c.wear_out.new.node c.self.inside.log.items c.make_room.new.log.items
+    c.self.inside.stamp run 0 c.is_some.result c.wear_out.result c.self.view_is c.self.invariant
+    c.in_ok-make_room.ensures.made.0 c.in_ok-make_room.ensures.made.1 c.make_room.ensures.same c.in_default.ensures.worn
+    (λ node e. c.is_some.ensures ∙ ap is_some (c.wish-wish.ensures ∙ ap wish_of e) ∙ sym (is_turn_run node))
+    c.wear_out.ensures).logs
 
 -- ---- a turn that only the node's own thread sees
 
 pub returns-in-Some-Quiet-clause-logs : goal.returns-in-Some-Quiet-clause-logs
-returns-in-Some-Quiet-clause-logs c = λ l e.
-    let turn = c.run_quietly-turn.result in
-    let mid : LoggedNode = record { node = c.run_quietly-turn.new.self.node; log = c.self.inside.log.items } in
-    let before : LoggedNode = record { node = c.self.inside.node.node; log = c.self.inside.log.items } in
-    let at : before ≡ sound l = ap (λ (t : TracedLog). t.logged) c.self.view_is ∙ c.in_ok-make_room.ensures.room.1 ∙ e in
-    let node : c.self.inside.node.node ≡ Some l.node = ap (λ (m : LoggedNode). m.node) at in
-    let same : c.self.inside.log.items ≡ l.log = ap (λ (m : LoggedNode). m.log) at in
-    logs_settled l run 0 (run_turn l.node) mid c.enter.new.self.logged (Ok turn) c.enter.result same
-    (seen_made c.run_quietly-turn.new.self (run_turn l.node) c.self.inside.node.trace (Ok turn) (c.run_quietly-turn.ensures l.node node))
-    tt c.enter.ensures.enters
+returns-in-Some-Quiet-clause-logs c =
+    (owed_settled c.args.self.now c.self.inside.node c.make_room.new.node c.run_quietly-turn.new.self c.self.inside.log.items c.make_room.new.log.items
+    c.enter.new.log.items c.self.inside.stamp c.in-Some.stamp run 0 (Ok c.run_quietly-turn.result) (Ok tt) c.self.view_is c.self.invariant
+    c.in_ok-make_room.ensures.made.0 c.in_ok-make_room.ensures.made.1 c.make_room.ensures.same c.in-Some.ensures.stamp c.in-Some.ensures.few
+    c.run_quietly-turn.ensures (λ node e. tt) tt tt (refl, c.enter.ensures.log)).logs
 
-pub returns-in-Some-Quiet-clause-notes : goal.returns-in-Some-Quiet-clause-notes
-returns-in-Some-Quiet-clause-notes c =
-    let some = some_of c.args.self.now.logged.node c.in_ok-make_room.ensures.room.0 in
-    let before : LoggedNode = record { node = c.self.inside.node.node; log = c.self.inside.log.items } in
-    let at : before ≡ c.args.self.now.logged = ap (λ (t : TracedLog). t.logged) c.self.view_is ∙ c.in_ok-make_room.ensures.room.1 in
-    let node : c.self.inside.node.node ≡ Some some.0 = ap (λ (m : LoggedNode). m.node) at ∙ some.1 in
-    let same : c.self.inside.log.items ≡ c.args.self.now.logged.log = ap (λ (m : LoggedNode). m.log) at in
-    let trace : c.self.inside.node.trace ≡ c.args.self.now.trace = ap (λ (t : TracedLog). t.trace) c.self.view_is ∙ c.in_ok-make_room.ensures.trace in
-    notes_settled c.args.self.now c.enter.new.self c.run_quietly-turn.new.self c.self.inside.log.items run 0 (run_turn some.0)
-    (Ok c.run_quietly-turn.result) c.enter.result c.self.inside.node.trace trace same (c.run_quietly-turn.ensures some.0 node) tt
-    c.enter.ensures.enters c.enter.ensures.trace
-
-pub returns-in-Some-Quiet-clause-fails : goal.returns-in-Some-Quiet-clause-fails
-returns-in-Some-Quiet-clause-fails c =
-    let mid : LoggedNode = record { node = c.run_quietly-turn.new.self.node; log = c.self.inside.log.items } in
-    let before : LoggedNode = record { node = c.self.inside.node.node; log = c.self.inside.log.items } in
-    let some = some_of c.args.self.now.logged.node c.in_ok-make_room.ensures.room.0 in
-    let at : before ≡ c.args.self.now.logged = ap (λ (t : TracedLog). t.logged) c.self.view_is ∙ c.in_ok-make_room.ensures.room.1 in
-    let same : c.self.inside.log.items ≡ c.args.self.now.logged.log = ap (λ (m : LoggedNode). m.log) at in
-    fails_settled some.0 c.args.self.now.logged.log run 0 (run_turn some.0) mid c.enter.new.self.logged (Ok c.run_quietly-turn.result)
-    c.enter.result same tt c.enter.ensures.enters
-
-pub returns-in-Some-Quiet-clause-fault : goal.returns-in-Some-Quiet-clause-fault
-returns-in-Some-Quiet-clause-fault c =
-    let mid : LoggedNode = record { node = c.run_quietly-turn.new.self.node; log = c.self.inside.log.items } in
-    may_settle run 0 mid c.enter.new.self.logged (Ok c.run_quietly-turn.result) c.enter.result tt c.enter.ensures.enters
-
-pub returns-in-Some-Quiet-clause-notes_failing : goal.returns-in-Some-Quiet-clause-notes_failing
-returns-in-Some-Quiet-clause-notes_failing c = λ n e.
-    let before : LoggedNode = record { node = c.self.inside.node.node; log = c.self.inside.log.items } in
-    let at : before ≡ c.args.self.now.logged = ap (λ (t : TracedLog). t.logged) c.self.view_is ∙ c.in_ok-make_room.ensures.room.1 in
-    let node : c.self.inside.node.node ≡ Some n = ap (λ (m : LoggedNode). m.node) at ∙ e in
-    let trace : c.self.inside.node.trace ≡ c.args.self.now.trace = ap (λ (t : TracedLog). t.trace) c.self.view_is ∙ c.in_ok-make_room.ensures.trace in
-    failing_settled c.args.self.now c.enter.new.self c.run_quietly-turn.new.self c.self.inside.log.items run 0 n (run_turn n)
-    (Ok c.run_quietly-turn.result) c.enter.result c.self.inside.node.trace trace (c.run_quietly-turn.ensures n node) tt
-    tt c.enter.ensures.enters c.enter.ensures.trace
+pub returns-in-Some-Quiet-clause-whole : goal.returns-in-Some-Quiet-clause-whole
+returns-in-Some-Quiet-clause-whole c = λ program nodes options me.
+    whole_on program nodes options me c.args.self.now (seen_log c.run_quietly-turn.new.self c.enter.new.log.items) run 0 (Ok tt) (λ e. refl)
+    (owed_settled c.args.self.now c.self.inside.node c.make_room.new.node c.run_quietly-turn.new.self c.self.inside.log.items c.make_room.new.log.items
+    c.enter.new.log.items c.self.inside.stamp c.in-Some.stamp run 0 (Ok c.run_quietly-turn.result) (Ok tt) c.self.view_is c.self.invariant
+    c.in_ok-make_room.ensures.made.0 c.in_ok-make_room.ensures.made.1 c.make_room.ensures.same c.in-Some.ensures.stamp c.in-Some.ensures.few
+    c.run_quietly-turn.ensures (λ node e. tt) tt tt (refl, c.enter.ensures.log))
 
 -- ---- any other turn
 
 pub returns-clause-logs : goal.returns-clause-logs
-returns-clause-logs c = λ l e.
-    let mid : LoggedNode = record { node = c.run_wish-outcome.new.self.node; log = c.self.inside.log.items } in
-    let before : LoggedNode = record { node = c.self.inside.node.node; log = c.self.inside.log.items } in
-    let at : before ≡ sound l = ap (λ (t : TracedLog). t.logged) c.self.view_is ∙ c.in_ok-make_room.ensures.room.1 ∙ e in
-    let node : c.self.inside.node.node ≡ Some l.node = ap (λ (m : LoggedNode). m.node) at in
-    let same : c.self.inside.log.items ≡ l.log = ap (λ (m : LoggedNode). m.log) at in
-    logs_settled l run 0 (run_turn l.node) mid c.settle.new.self.logged c.run_wish-outcome.result c.settle.result same
-    (seen_made c.run_wish-outcome.new.self (run_turn l.node) c.self.inside.node.trace c.run_wish-outcome.result (c.run_wish-outcome.ensures.done l.node node))
-    (c.run_wish-outcome.ensures.refused l.node node) c.settle.ensures.settled
+returns-clause-logs c =
+    (owed_settled c.args.self.now c.self.inside.node c.make_room.new.node c.run_wish-outcome.new.self c.self.inside.log.items c.make_room.new.log.items
+    c.settle.new.log.items c.self.inside.stamp c.in-Some.stamp run 0 c.run_wish-outcome.result c.settle.result c.self.view_is c.self.invariant
+    c.in_ok-make_room.ensures.made.0 c.in_ok-make_room.ensures.made.1 c.make_room.ensures.same c.in-Some.ensures.stamp c.in-Some.ensures.few
+    c.run_wish-outcome.ensures.done c.run_wish-outcome.ensures.refused c.run_wish-outcome.ensures.kept c.run_wish-outcome.ensures.fault
+    c.settle.ensures.settled).logs
 
 pub returns-clause-notes : goal.returns-clause-notes
 returns-clause-notes c =
-    let some = some_of c.args.self.now.logged.node c.in_ok-make_room.ensures.room.0 in
-    let before : LoggedNode = record { node = c.self.inside.node.node; log = c.self.inside.log.items } in
-    let at : before ≡ c.args.self.now.logged = ap (λ (t : TracedLog). t.logged) c.self.view_is ∙ c.in_ok-make_room.ensures.room.1 in
-    let node : c.self.inside.node.node ≡ Some some.0 = ap (λ (m : LoggedNode). m.node) at ∙ some.1 in
-    let same : c.self.inside.log.items ≡ c.args.self.now.logged.log = ap (λ (m : LoggedNode). m.log) at in
-    let trace : c.self.inside.node.trace ≡ c.args.self.now.trace = ap (λ (t : TracedLog). t.trace) c.self.view_is ∙ c.in_ok-make_room.ensures.trace in
-    notes_settled c.args.self.now c.settle.new.self c.run_wish-outcome.new.self c.self.inside.log.items run 0 (run_turn some.0)
-    c.run_wish-outcome.result c.settle.result c.self.inside.node.trace trace same (c.run_wish-outcome.ensures.done some.0 node) c.run_wish-outcome.ensures.kept
-    c.settle.ensures.settled c.settle.ensures.trace
+    (owed_settled c.args.self.now c.self.inside.node c.make_room.new.node c.run_wish-outcome.new.self c.self.inside.log.items c.make_room.new.log.items
+    c.settle.new.log.items c.self.inside.stamp c.in-Some.stamp run 0 c.run_wish-outcome.result c.settle.result c.self.view_is c.self.invariant
+    c.in_ok-make_room.ensures.made.0 c.in_ok-make_room.ensures.made.1 c.make_room.ensures.same c.in-Some.ensures.stamp c.in-Some.ensures.few
+    c.run_wish-outcome.ensures.done c.run_wish-outcome.ensures.refused c.run_wish-outcome.ensures.kept c.run_wish-outcome.ensures.fault
+    c.settle.ensures.settled).notes
 
 pub returns-clause-fails : goal.returns-clause-fails
 returns-clause-fails c =
-    let mid : LoggedNode = record { node = c.run_wish-outcome.new.self.node; log = c.self.inside.log.items } in
-    let before : LoggedNode = record { node = c.self.inside.node.node; log = c.self.inside.log.items } in
-    let some = some_of c.args.self.now.logged.node c.in_ok-make_room.ensures.room.0 in
-    let at : before ≡ c.args.self.now.logged = ap (λ (t : TracedLog). t.logged) c.self.view_is ∙ c.in_ok-make_room.ensures.room.1 in
-    let node : c.self.inside.node.node ≡ Some some.0 = ap (λ (m : LoggedNode). m.node) at ∙ some.1 in
-    let same : c.self.inside.log.items ≡ c.args.self.now.logged.log = ap (λ (m : LoggedNode). m.log) at in
-    fails_settled some.0 c.args.self.now.logged.log run 0 (run_turn some.0) mid c.settle.new.self.logged c.run_wish-outcome.result c.settle.result same
-    (c.run_wish-outcome.ensures.refused some.0 node) c.settle.ensures.settled
+    (owed_settled c.args.self.now c.self.inside.node c.make_room.new.node c.run_wish-outcome.new.self c.self.inside.log.items c.make_room.new.log.items
+    c.settle.new.log.items c.self.inside.stamp c.in-Some.stamp run 0 c.run_wish-outcome.result c.settle.result c.self.view_is c.self.invariant
+    c.in_ok-make_room.ensures.made.0 c.in_ok-make_room.ensures.made.1 c.make_room.ensures.same c.in-Some.ensures.stamp c.in-Some.ensures.few
+    c.run_wish-outcome.ensures.done c.run_wish-outcome.ensures.refused c.run_wish-outcome.ensures.kept c.run_wish-outcome.ensures.fault
+    c.settle.ensures.settled).fails
 
-pub returns-clause-fault : goal.returns-clause-fault
-returns-clause-fault c =
-    let mid : LoggedNode = record { node = c.run_wish-outcome.new.self.node; log = c.self.inside.log.items } in
-    may_settle run 0 mid c.settle.new.self.logged c.run_wish-outcome.result c.settle.result c.run_wish-outcome.ensures.fault c.settle.ensures.settled
-
-pub returns-clause-notes_failing : goal.returns-clause-notes_failing
-returns-clause-notes_failing c = λ n e.
-    let before : LoggedNode = record { node = c.self.inside.node.node; log = c.self.inside.log.items } in
-    let at : before ≡ c.args.self.now.logged = ap (λ (t : TracedLog). t.logged) c.self.view_is ∙ c.in_ok-make_room.ensures.room.1 in
-    let node : c.self.inside.node.node ≡ Some n = ap (λ (m : LoggedNode). m.node) at ∙ e in
-    let trace : c.self.inside.node.trace ≡ c.args.self.now.trace = ap (λ (t : TracedLog). t.trace) c.self.view_is ∙ c.in_ok-make_room.ensures.trace in
-    failing_settled c.args.self.now c.settle.new.self c.run_wish-outcome.new.self c.self.inside.log.items run 0 n (run_turn n)
-    c.run_wish-outcome.result c.settle.result c.self.inside.node.trace trace (c.run_wish-outcome.ensures.done n node) (c.run_wish-outcome.ensures.refused n node)
-    c.run_wish-outcome.ensures.kept c.settle.ensures.settled c.settle.ensures.trace
-
-pub returns-in_err-make_room-clause-notes_failing : goal.returns-in_err-make_room-clause-notes_failing
-returns-in_err-make_room-clause-notes_failing c = λ n e.
-    fault_up c.from_residual.result c.in_err-make_room.field-0.0
-    (λ fault. NotesFault c.args.self.now.trace (outcome_of n run) fault c.make_room.new.self.trace) c.from_residual.ensures.1
-    (failing_roomless c.args.self.now c.make_room.new.self (outcome_of n run) n c.in_err-make_room.field-0.0 (search rules) c.make_room.ensures.trace e)
+pub returns-clause-whole : goal.returns-clause-whole
+returns-clause-whole c = λ program nodes options me.
+    whole_on program nodes options me c.args.self.now (seen_log c.run_wish-outcome.new.self c.settle.new.log.items) run 0 c.settle.result (λ e. refl)
+    (owed_settled c.args.self.now c.self.inside.node c.make_room.new.node c.run_wish-outcome.new.self c.self.inside.log.items c.make_room.new.log.items
+    c.settle.new.log.items c.self.inside.stamp c.in-Some.stamp run 0 c.run_wish-outcome.result c.settle.result c.self.view_is c.self.invariant
+    c.in_ok-make_room.ensures.made.0 c.in_ok-make_room.ensures.made.1 c.make_room.ensures.same c.in-Some.ensures.stamp c.in-Some.ensures.few
+    c.run_wish-outcome.ensures.done c.run_wish-outcome.ensures.refused c.run_wish-outcome.ensures.kept c.run_wish-outcome.ensures.fault
+    c.settle.ensures.settled)

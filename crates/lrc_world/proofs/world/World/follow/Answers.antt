@@ -8,8 +8,8 @@ use Rattle.std.specs.Option.{option_to_list}
 use Rattle.lrc_protocol.specs.Run.{EntryRecord}
 use Rattle.lrc_node.specs.Logged.{TracedLog}
 use Rattle.lrc_world.specs.declared.world.World.{World}
-use Rattle.lrc_world.specs.declared.report.SimFault.{SimFault}
-use Rattle.lrc_world.specs.declared.report.SimFault.TheVariants.{NoMemory}
+use Rattle.lrc_world.specs.declared.report.TurnFault.{TurnFault}
+use Rattle.lrc_world.specs.declared.report.TurnFault.TheVariants.{NoMemory}
 use Rattle.lrc_world.specs.World.{AddsTo, IsSendFault, NodeLogsLast, is_long, seen_flying, shown_new}
 use Rattle.lrc_world.proofs.world.World.follow.Goals as goal
 
@@ -34,7 +34,7 @@ module _ (world : World) (n : ℕ) (entry : EntryRecord) (last : NodeLogsLast wo
   not_none : (o : _) → None ≡ o → o ≡ Some entry → ⊥
   not_none o none some = let gone : None ≡ Some entry = none ∙ some in cc
 
-  not_sent : (new : World) (result : Result (Unit {0}) SimFault) (fault : SimFault) → IsErrAnd result (λ f. f ≡ fault) → IsSendFault entry.turn.out fault
+  not_sent : (new : World) (result : Result (Unit {0}) TurnFault) (fault : TurnFault) → IsErrAnd result (λ f. f ≡ fault) → IsSendFault entry.turn.out fault
       → AddsTo world new n entry result
   not_sent new (Ok done) fault is why = absurd is
   not_sent new (Err f) fault is why = subst (IsSendFault entry.turn.out) (sym is) why

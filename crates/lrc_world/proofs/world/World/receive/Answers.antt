@@ -1,12 +1,12 @@
 use Rattle.std.proofs.Common.{◌≡◌, refl, sym, subst, Ok, Err, true, false, rules, ℕ, Option, Result, IsErrAnd}
 use Rattle.lrc_protocol.specs.Run.{World as Run}
-use Rattle.lrc_world.specs.declared.report.SimFault.{SimFault}
+use Rattle.lrc_world.specs.declared.report.TurnFault.{TurnFault}
 use Rattle.lrc_world.specs.declared.world.World.{World}
 use Rattle.lrc_world.specs.World.{Starts, ReceivesTo, turn_made}
 use Rattle.lrc_world.proofs.Played.{received, taken_at}
 use Rattle.lrc_world.proofs.world.World.receive.Goals as goal
 
-refused_up : (starts : Starts) (old mid : World) (run : Run) (place to : ℕ) (fault : SimFault) (r : Result (Option ℕ) SimFault) → IsErrAnd r (λ f. f ≡ fault)
+refused_up : (starts : Starts) (old mid : World) (run : Run) (place to : ℕ) (fault : TurnFault) (r : Result (Option ℕ) TurnFault) → IsErrAnd r (λ f. f ≡ fault)
     → ReceivesTo starts old mid run place (received to (Err fault)) → ReceivesTo starts old mid run place r
 refused_up starts old mid run place to fault (Ok x) is h = absurd is
 refused_up starts old mid run place to fault (Err f) is h = subst (λ x. ReceivesTo starts old mid run place (Err x)) (sym is) h

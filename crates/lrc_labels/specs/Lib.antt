@@ -1,0 +1,6 @@
+pub mod Cut
+pub mod Line
+pub mod Name
+pub mod Reading
+pub mod Show
+pub mod Apart

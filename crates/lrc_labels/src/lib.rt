@@ -1,0 +1,15 @@
+//! Labels: comments that name the words and the locks of a program. `#: word 1 flag` calls word 1 `flag`, `#: words 2 5 list` calls
+//! words 2 to 5 `list[0]` to `list[3]`, and `#: lock 0 mutex` calls lock 0 `mutex`.
+#![tactic(auto)]
+
+pub mod cut;
+mod form;
+pub mod label;
+pub mod laws;
+mod line;
+mod name;
+mod reading;
+mod show;
+
+pub use reading::{has_name, read_labels};
+pub use show::{push_lock_label, push_word_label};

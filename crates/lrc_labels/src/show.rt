@@ -1,0 +1,103 @@
+// Labels behind the numbers of words and locks.
+
+ghost use Rattle.std.specs.Prelude.{◌≡◌, ◌++◌, OnOk, find, map, option_map};
+ghost use Rattle.lrc_labels.specs.Reading.{label_seen};
+ghost use Rattle.lrc_labels.specs.Show.{lock_label_text, lock_text, names_lock, names_word, place_text, word_label_text, word_text};
+
+use crate::label::{Label, Target};
+use lrc_text::push_number;
+use std::alloc::AllocError;
+
+/// Adds ` (LABEL)` behind the number of a word, where one of the labels names the word. The label is `NAME`, and under `words`
+/// `NAME[I]` with the word's place I among its words.
+pub fn push_word_label(
+    text: &mut Vec<u8>,
+    labels: &[Label<'_>],
+    word: u32,
+) -> Result<(), AllocError>
+    ensures { OnOk result (text.new.items ≡ text.old.items ++ word_label_text (map label_seen labels.now) word) }
+{
+    match label_of_word(labels, word) {
+        Some(label) => push_word_text(text, label, word),
+        None => Ok(()),
+    }
+}
+
+/// Adds ` (LABEL)` behind the number of a lock, where one of the labels names the lock.
+pub fn push_lock_label(text: &mut Vec<u8>, labels: &[Label<'_>], lock: u8) -> Result<(), AllocError>
+    ensures { OnOk result (text.new.items ≡ text.old.items ++ lock_label_text (map label_seen labels.now) lock) }
+{
+    match label_of_lock(labels, lock) {
+        Some(label) => push_lock_text(text, label),
+        None => Ok(()),
+    }
+}
+
+// The first of the labels that names a word.
+fn label_of_word<'t>(labels: &[Label<'t>], word: u32) -> Option<Label<'t>>
+    ensures { option_map label_seen result ≡ find (λ label. names_word label.target word) (map label_seen labels.now) }
+{
+    labels
+        .iter()
+        .find(|label| names_word(label.target, word))
+        .copied()
+}
+
+// The first of the labels that names a lock.
+fn label_of_lock<'t>(labels: &[Label<'t>], lock: u8) -> Option<Label<'t>>
+    ensures { option_map label_seen result ≡ find (λ label. names_lock label.target lock) (map label_seen labels.now) }
+{
+    labels
+        .iter()
+        .find(|label| names_lock(label.target, lock))
+        .copied()
+}
+
+fn names_word(target: Target, word: u32) -> bool
+    ensures { result ≡ names_word target word }
+{
+    match target {
+        Target::Word(named) => named == word,
+        Target::Words(first, last) => first <= word && word <= last,
+        Target::Lock(_) => false,
+    }
+}
+
+fn names_lock(target: Target, lock: u8) -> bool
+    ensures { result ≡ names_lock target lock }
+{
+    match target {
+        Target::Lock(named) => named == lock,
+        _ => false,
+    }
+}
+
+fn push_word_text(text: &mut Vec<u8>, label: Label<'_>, word: u32) -> Result<(), AllocError>
+    ensures { OnOk result (text.new.items ≡ text.old.items ++ word_text word (label_seen label.entry)) }
+{
+    text.extend_from_slice(b" (")?;
+    text.extend_from_slice(label.name)?;
+    push_place(text, label.target, word)?;
+    text.extend_from_slice(b")")
+}
+
+// Adds the place of a word among those that a label numbers.
+fn push_place(text: &mut Vec<u8>, target: Target, word: u32) -> Result<(), AllocError>
+    ensures { OnOk result (text.new.items ≡ text.old.items ++ place_text target word) }
+{
+    match target {
+        Target::Words(first, _) => {
+            push_number(text, b"[", u64::from(word.saturating_sub(first)))?;
+            text.extend_from_slice(b"]")
+        }
+        _ => Ok(()),
+    }
+}
+
+fn push_lock_text(text: &mut Vec<u8>, label: Label<'_>) -> Result<(), AllocError>
+    ensures { OnOk result (text.new.items ≡ text.old.items ++ lock_text (label_seen label.entry)) }
+{
+    text.extend_from_slice(b" (")?;
+    text.extend_from_slice(label.name)?;
+    text.extend_from_slice(b")")
+}

@@ -1,0 +1,4 @@
+pub mod Excerpt
+pub mod Expected
+pub mod Head
+pub mod Kind

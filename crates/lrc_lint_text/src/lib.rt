@@ -1,0 +1,11 @@
+//! The words of `lint`: where something was found, a line of the text with a caret below it, and what may stand in a place.
+#![tactic(auto)]
+
+mod excerpt;
+mod expected;
+mod head;
+pub mod kind;
+
+pub use excerpt::push_excerpt;
+pub use expected::push_expected;
+pub use head::{push_count, push_fault, push_place, push_unexpected, push_unexpected_end};

@@ -1,0 +1,4 @@
+//! The search through the settled states of a program.
+#![tactic(auto)]
+
+pub mod turning;

@@ -1,0 +1,52 @@
+// Threads that turn for ever, found by their coming round.
+
+ghost use Rattle.std.specs.Prelude.{◌≡◌, ◌≤◌, length};
+ghost use Rattle.lrc_exec.specs.Spots.{thread_at, IsFlat};
+ghost use Rattle.lrc_search.specs.Turning.{is_quiet_ask, IsCourse};
+
+use lrc_exec::machine::Ask;
+use lrc_exec::spot::{Flat, Spot};
+
+/// What comes of the quiet acts and prints of a thread.
+#[derive(Clone, Copy, Debug, PartialEq, Eq)]
+pub enum Course {
+    /// Another act comes after them.
+    Stops,
+    /// They have no end: the thread comes round.
+    Turns,
+    /// As many came as were to be looked at.
+    Open,
+}
+
+/// What comes of the quiet acts and prints of a thread at no barrier, of which so many are looked at. A thread that comes round is found
+/// by comparing it with one that it was before (Brent 1980): that one is taken anew each time that twice as many acts were looked at.
+pub fn course_of(flat: &Flat, spot: &Spot, most: u64) -> Course
+    requires flat { IsFlat flat.now }
+    requires within { spot.now.place ≤ length flat.now.code.now }
+    ensures { IsCourse (thread_at flat.now spot.now) most result }
+{
+    let mut walker = *spot;
+    let mut earlier = *spot;
+    let mut again = 1;
+    for step in 0..most {
+        if !is_quiet(flat.ask(&walker)) {
+            return Course::Stops;
+        }
+        flat.answer(&mut walker, 0);
+        if walker == earlier {
+            return Course::Turns;
+        }
+        if step >= again {
+            earlier = walker;
+            again = step.saturating_add(step);
+        }
+    }
+    Course::Open
+}
+
+// Whether a quiet act or a print is asked for.
+fn is_quiet(ask: Ask) -> bool
+    ensures { result ≡ is_quiet_ask ask }
+{
+    matches!(ask, Ask::Quiet | Ask::Print(_))
+}

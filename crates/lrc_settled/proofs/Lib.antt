@@ -1,0 +1,16 @@
+pub mod Parts
+pub mod Held
+pub mod Diamond
+pub mod Alike
+pub mod Front
+pub mod Turning
+pub mod Finishing
+pub mod Settle
+pub mod Aligned
+pub mod Onward
+pub mod Settled
+pub mod Rounds
+pub mod Certified
+pub mod ByThreads
+pub mod FromThreads
+pub mod GoingOn

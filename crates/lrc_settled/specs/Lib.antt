@@ -1,0 +1,5 @@
+pub mod Free
+pub mod Settling
+pub mod Steps
+pub mod Threads
+pub mod Rows

@@ -1,7 +1,0 @@
-use Rattle.std.proofs.Common.{map}
-use Rattle.lrc_weave.proofs.Comparing.{UpTo}
-use Rattle.lrc_weave.proofs.Looping.{NodeSo}
-use Rattle.lrc_weave.proofs.compared.are_matched.Given as goal
-
-abbrev pub invariant-loop-node : goal.invariant-loop-node
-invariant-loop-node l = UpTo (NodeSo l.wires) (map (λ log. log.items) l.logs) l.node

@@ -1,0 +1,83 @@
+-- A run, from what its functions say of it.
+use Rattle.std.proofs.Common.{◌≡◌, ◌∙◌, ◌↔◌, ◌≤◌, ℕ, List, IfOk, Result, Ok, Some, true, subst, ap, arith, map}
+use Rattle.lrc_lang.specs.declared.program.Program.{Program}
+use Rattle.lrc_race.specs.Races.{AreRacesOf}
+use Rattle.lrc_judge.specs.Races.{AreNamedRaces}
+use Rattle.lrc_protocol.specs.declared.event.Event.{Event}
+use Rattle.lrc_protocol.specs.Node.{OptionsRecord}
+use Rattle.lrc_protocol.specs.Run.{World as Made, run_of}
+use Rattle.lrc_world.specs.declared.keep.Keep.{Keep}
+use Rattle.lrc_world.specs.declared.rounds.Lead.{Lead}
+use Rattle.lrc_world.specs.declared.rounds.Lead.TheVariants.{Random, Rounds}
+use Rattle.lrc_world.specs.declared.run.Run.{Run}
+use Rattle.lrc_world.specs.declared.world.World.{World}
+use Rattle.lrc_world.specs.Driven.{schedule_of}
+use Rattle.lrc_world.specs.Led.{AreLed}
+use Rattle.lrc_world.specs.declared.keep.Keep.TheVariants.{All}
+use Rattle.lrc_world.specs.declared.report.Brief.{Brief}
+use Rattle.lrc_world.specs.Promises.{AreKept}
+use Rattle.lrc_world.specs.Report.{AreAll, IsBriefOf, IsKeptReport, IsOver, IsReportOf}
+use Rattle.lrc_world.specs.Runs.{IsRunBy}
+use Rattle.lrc_world.specs.Turned.{AreAllTurned}
+use Rattle.lrc_world.specs.World.{Starts, Shows, starts_of}
+use Rattle.lrc_world.proofs.Briefly.{brief_kept, brief_races, brief_report}
+use Rattle.lrc_world.proofs.Events.{over_after}
+use Rattle.lrc_world.proofs.Races.{kept_races}
+use Rattle.lrc_world.proofs.Theorem.{all_kept}
+use Rattle.lrc_world.proofs.Unskipped.{rounds_unskipped, wandering_unskipped}
+
+-- the run of some events, after which the world shows what they made
+pub run_is : (AreIts : List Event → Type 0) (program : Program) (nodes : ℕ) (options : OptionsRecord) (keep : Keep) (events : List Event)
+    (run : Run) (world : World) (made : Made) → run.events.items ≡ events → AreIts run.events.items → run_of program nodes options events ≡ Some made
+    → 1 ≤ nodes → Shows (starts_of program nodes options keep) world made
+    → ((starts : Starts) (made : Made) → Shows starts world made → (run.is_over ≡ true) ↔ IsOver made)
+    → ((starts : Starts) (made : Made) → Shows starts world made → IsKeptReport starts.keep run.report made)
+    → AreRacesOf (map (λ node. node.trace) world.nodes.items) run.report.races.items
+    → IsRunBy AreIts program nodes options keep run
+run_is AreIts program nodes options keep events run world made same its makes some shows over report races =
+    let told = report (starts_of program nodes options keep) made shows in
+    let plays = ap (run_of program nodes options) same ∙ makes in
+    record {
+      events = its;
+      made = made;
+      makes = plays;
+      report = told;
+      races = kept_races program nodes options events made makes world keep shows run.report.acts.items run.report.races.items told.acts races;
+      over = over (starts_of program nodes options keep) made shows;
+      kept = all_kept program nodes options run.events.items run.report.acts.items made plays told.acts (omega (arith, some)) shows.short
+          run.report.ends.items told.ends;
+    }
+
+-- no event of a run that is led is skipped
+pub led_unskipped : (program : Program) (nodes : ℕ) (options : OptionsRecord) (lead : Lead) (events : List Event)
+    → AreLed (schedule_of nodes lead) program nodes options events → AreAllTurned program nodes options events
+led_unskipped program nodes options (Rounds picker) events led = rounds_unskipped program nodes options picker events led
+led_unskipped program nodes options (Random seed) events led = wandering_unskipped program nodes options seed events led
+
+-- what is answered where there is a run
+pub ran : {E : Type 0} (r : Result Run E) (run : Run) (P : Run → Type 0) → r ≡ Ok run → IfOk r P → P run
+ran r run P is holds = subst (λ x. IfOk x P) is holds
+
+-- the report of a run that keeps all turns
+pub report_of : (AreIts : List Event → Type 0) (program : Program) (nodes : ℕ) (options : OptionsRecord) (run : Run)
+    → IsRunBy AreIts program nodes options All run → IsReportOf program nodes options run.events.items run.report
+report_of AreIts program nodes options run is =
+    (is.made, is.makes, record { acts = is.report.acts; ends = is.report.ends; logs = is.report.logs; first = is.report.first })
+
+module _ (AreIts : List Event → Type 0) (program : Program) (nodes : ℕ) (options : OptionsRecord) (keep : Keep) (run : Run)
+    (is : IsRunBy AreIts program nodes options keep run) where
+  -- whether nothing is left to do after its events
+  pub over_of : (run.is_over ≡ true) ↔ AreAll program nodes options run.events.items
+  over_of = over_after program nodes options run.events.items is.made run.is_over is.makes is.over
+
+  -- what is said of it in brief
+  module _ (brief : Brief) (acts : brief.acts ≡ run.report.acts) (ends : brief.ends ≡ run.report.ends) where
+    pub brief_of_run : brief.first_race ≡ run.report.first_race → IsBriefOf program nodes options run.events.items brief
+    brief_of_run first =
+        brief_report program nodes options run.events.items run.report brief acts ends keep first (is.made, is.makes, is.report)
+
+    pub kept_of_run : AreKept program nodes options run.events.items brief.acts.items brief.ends.items
+    kept_of_run = brief_kept program nodes options run.events.items run.report brief acts ends is.kept
+
+    pub races_of_run : brief.races ≡ run.report.races → AreNamedRaces brief.acts.items brief.races.items
+    races_of_run races = brief_races program nodes options run.events.items run.report brief acts ends races is.races

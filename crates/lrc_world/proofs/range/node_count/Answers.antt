@@ -1,0 +1,10 @@
+use Rattle.std.proofs.Common.{◌∙◌}
+use Rattle.lrc_world.proofs.Ranges.{nodes_in_range, steps_in_range}
+use Rattle.lrc_world.proofs.range.node_count.Goals as goal
+
+pub returns-in-Ok : goal.returns-in-Ok
+returns-in-Ok c = (
+  c.number.ensures ∙ c.in-Ok.ensures.0,
+  nodes_in_range c.in-Ok.setting c.args.nodes c.args.options.now c.in-Ok.ensures.0 c.in-Ok.ensures.1,
+  steps_in_range c.in-Ok.setting c.args.nodes c.args.options.now c.in-Ok.ensures.0 c.in-Ok.ensures.1,
+)

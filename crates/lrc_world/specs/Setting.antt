@@ -1,0 +1,7 @@
+-- The setting of a run, as the nodes are told of it.
+use Rattle.lrc_protocol.specs.Node.{OptionsRecord}
+use Rattle.lrc_setting.specs.declared.setting.Setting.{Setting}
+
+-- how the nodes go
+abbrev pub options_of : Setting → OptionsRecord
+options_of setting = record { steps = setting.steps.count; collect = setting.collect; first = setting.first; size = setting.size }

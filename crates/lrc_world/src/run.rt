@@ -1,0 +1,141 @@
+// A run of a program, in whichever order it goes on.
+
+ghost use Rattle.std.specs.Prelude.{◌≡◌, ◌↔◌, ℕ, ◌<◌, [], All, IfErr, IfOk, map, true};
+ghost use Rattle.lrc_exec.specs.Nodes.{AreNodes};
+ghost use Rattle.lrc_judge.specs.declared.TheConstants.{NODES};
+ghost use Rattle.lrc_protocol.specs.Run.{World as AnyRun, fresh_world};
+ghost use Rattle.lrc_race.specs.Races.{AreRacesOf, AreTracesOf};
+ghost use Rattle.lrc_trace.specs.Conflict.{IsRaceFree};
+ghost use Rattle.lrc_world.specs.Driven.{schedule_of};
+ghost use Rattle.lrc_world.specs.Led.{WearsOut};
+ghost use Rattle.lrc_world.specs.Report.{IsKeptReport, IsOver, IsWornBy, IsWornFault};
+ghost use Rattle.lrc_world.specs.Runs.{AreLedToEnd, IsRun, IsRunBy, IsTurnFault};
+ghost use Rattle.lrc_world.specs.World.{Starts, Shows};
+
+use crate::keep::Keep;
+use crate::report::{Report, TurnFault};
+use crate::rounds::{Driver, Lead};
+use crate::setting::options_of;
+use crate::world::World;
+use lrc_envelope::Picker;
+use lrc_exec::code::Code;
+use lrc_lang::program::Program;
+use lrc_node::Options;
+use lrc_protocol::Event;
+use lrc_setting::setting::Setting;
+use std::alloc::{AllocError, Global};
+
+/// In which order a run goes on.
+#[derive(Clone, Copy)]
+pub enum Order<'e> {
+    /// By these events. One that names no ready node, and no message in flight that its receiver expects, is skipped.
+    Events(&'e [Event]),
+    /// In rounds: in each, every ready node from 0 up goes on once, and then as many messages are delivered as are in flight, each of
+    /// them the one that the picker says; with `Twice` a message stays in flight the first time that it is delivered.
+    Rounds(Picker),
+    /// At random, from this seed: the next event is one of the turns of the ready nodes, ascending, and the deliveries of the messages
+    /// in flight, oldest first. Which of them, the next number of SplitMix64 says, by its remainder.
+    Random(u64),
+}
+
+/// A run.
+#[derive(Drop)]
+pub struct Run {
+    /// The events that it was made of, also those that were skipped.
+    pub events: Vec<Event>,
+    /// Whether nothing is left to do after them: no node is ready, and no message is in flight.
+    pub is_over: bool,
+    /// What came of it.
+    pub report: Report,
+}
+
+/// The run of a program in an order. Of the turns of the nodes it has what is to be kept of them.
+///
+/// In rounds and at random it goes on as long as a node is ready or a message in flight, and there are fewer than 100,000,000 events.
+pub fn run_in(
+    alloc: Global,
+    program: &Program,
+    setting: &Setting,
+    order: Order<'_>,
+    keep: Keep,
+) -> Result<Run, TurnFault>
+    ensures run { IfOk result (IsRun program.now setting.now order.entry keep) }
+    ensures fault { IfErr result (IsTurnFault program.now setting.now order.entry) }
+{
+    let nodes = setting.nodes.number();
+    let options = options_of(setting);
+    match order {
+        Order::Events(events) => by_events(alloc, program, nodes, &options, events, keep),
+        Order::Rounds(picker) => led(alloc, program, nodes, &options, Lead::Rounds(picker), keep),
+        Order::Random(seed) => led(alloc, program, nodes, &options, Lead::Random(seed), keep),
+    }
+}
+
+// The run of these events.
+fn by_events(
+    alloc: Global,
+    program: &Program,
+    nodes: u8,
+    options: &Options,
+    events: &[Event],
+    keep: Keep,
+) -> Result<Run, TurnFault>
+    requires { AreNodes nodes }
+    ensures run { IfOk result (IsRunBy (λ played. played ≡ events.now) program.now nodes options.now keep) }
+    ensures fault { IfErr result (IsWornFault (IsWornBy program.now nodes options.now events.now)) }
+{
+    let code = Code::new(alloc, program)?;
+    let mut world = World::new(alloc, &code, nodes, options, keep)?;
+    for event in events {
+        world.play(*event)?;
+    }
+    let played = Vec::from_slice(alloc, events)?;
+    let run = run_after(world, played)?;
+    Ok(run)
+}
+
+// The run that is led so.
+fn led(
+    alloc: Global,
+    program: &Program,
+    nodes: u8,
+    options: &Options,
+    lead: Lead,
+    keep: Keep,
+) -> Result<Run, TurnFault>
+    requires { AreNodes nodes }
+    ensures run { IfOk result (IsRunBy (AreLedToEnd (schedule_of nodes lead) program.now nodes options.now)
+        program.now nodes options.now keep) }
+    ensures fault { IfErr result (IsWornFault (WearsOut (schedule_of nodes lead)
+        (fresh_world program.now nodes options.now))) }
+{
+    let code = Code::new(alloc, program)?;
+    let world = World::new(alloc, &code, nodes, options, keep)?;
+    let mut driver = Driver::new(alloc, world);
+    driver.lead(nodes, lead)?;
+    let Driver { world, events } = driver;
+    let run = run_after(world, events)?;
+    Ok(run)
+}
+
+// What came of these events, after which all stands so.
+fn run_after(world: World<'_>, events: Vec<Event>) -> Result<Run, AllocError>
+    requires acts { All (λ act. act.node < NODES) world.acts.items }
+    requires traces { (nodes : ℕ) × AreTracesOf nodes (map (λ node. node.trace) world.nodes.items) }
+    requires raceless { AreRacesOf (map (λ node. node.trace) world.nodes.items) [] → IsRaceFree world.acts.items }
+    ensures events { IfOk result (λ run. run.events ≡ events) }
+    ensures over { IfOk result (λ run. (starts : Starts) (made : AnyRun) → Shows starts world.entry made
+        → (run.is_over ≡ true) ↔ IsOver made) }
+    ensures report { IfOk result (λ run. (starts : Starts) (made : AnyRun) → Shows starts world.entry made
+        → IsKeptReport starts.keep run.report made) }
+    ensures races { IfOk result (λ run.
+        AreRacesOf (map (λ node. node.trace) world.entry.nodes.items) run.report.races.items) }
+{
+    let is_over = world.is_over();
+    let report = world.report()?;
+    Ok(Run {
+        events,
+        is_over,
+        report,
+    })
+}

@@ -1,0 +1,44 @@
+// The setting of a run, by the numbers that it is asked for with.
+
+ghost use Rattle.std.specs.Prelude.{◌≡◌, ◌⊎◌, MatchResult};
+ghost use Rattle.lrc_exec.specs.Nodes.{AreNodes};
+ghost use Rattle.lrc_setting.specs.Ranges.{AreSteps};
+ghost use Rattle.lrc_world.specs.Setting.{options_of};
+
+use crate::report::SimFault;
+use lrc_node::Options;
+use lrc_setting::setting::{Nodes, Setting, Steps};
+
+/// The setting of so many nodes with these options, where all is in range.
+pub fn setting_of(nodes: u32, options: &Options) -> Result<Setting, SimFault>
+    ensures { MatchResult result
+        (λ setting. (setting.nodes.count ≡ nodes) × (options_of setting ≡ options.now))
+        (λ fault. ((fault ≡ SimFault.BadNodes) × ¬ AreNodes nodes)
+        ⊎ ((fault ≡ SimFault.BadSteps) × AreNodes nodes × ¬ AreSteps options.now.steps)) }
+{
+    let Some(nodes) = Nodes::new(nodes) else {
+        return Err(SimFault::BadNodes);
+    };
+    let Some(steps) = Steps::new(options.steps) else {
+        return Err(SimFault::BadSteps);
+    };
+    Ok(Setting {
+        nodes,
+        steps,
+        collect: options.collect,
+        size: options.size,
+        first: options.first,
+    })
+}
+
+/// How the nodes go in this setting.
+pub fn options_of(setting: &Setting) -> Options
+    ensures { result ≡ options_of setting.now }
+{
+    Options {
+        steps: setting.steps.count,
+        collect: setting.collect,
+        first: setting.first,
+        size: setting.size,
+    }
+}

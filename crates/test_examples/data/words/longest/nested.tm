@@ -1,0 +1,1 @@
+words 1; locks 0;if 1 {if 1 {if 1 {if 1 {if 1 {if 1 {if 1 {if 1 {if 1 {if 1 {if 1 {if 1 {if 1 {if 1 {if 1 {if 1 {if 1 {if 1 {if 1 {if 1 {if 1 {if 1 {if 1 {if 1 {if 1 {if 1 {if 1 {if 1 {if 1 {if 1 {if 1 {if 1 {print 5;}}}}}}}}}}}}}}}}}}}}}}}}}}}}}}}}

@@ -1,0 +1,1 @@
+words 1; locks 1; x = 1 / 0;

@@ -1,0 +1,9 @@
+//! Tests alone: labels, and the words of `lint`.
+#![tactic(auto)]
+
+#[cfg(test)]
+mod checks;
+#[cfg(test)]
+mod labels;
+#[cfg(test)]
+mod words;
