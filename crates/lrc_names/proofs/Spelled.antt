@@ -1,6 +1,6 @@
 -- What splitting a line says of what it spells.
-use Rattle.std.proofs.Common.{◌≡◌, ◌≢◌, ℕ, zero, suc, ◌+◌, ◌-◌, ◌<◌, ◌≤◌, ◌⊎◌, List, [], ◌∷◌, ◌++◌, length, get_or, take, drop, inl, inr, refl, sym, subst, ◌∙◌, ap, arith, append_assoc}
-use Rattle.std.specs.Prelude.{◌==◌, ◌&&◌, ◌||◌, not, Bool, true, false, All, Contains, codes, IsTrue}
+use Rattle.std.proofs.Common.{◌≡◌, ◌≢◌, ℕ, zero, suc, ◌+◌, ◌-◌, ◌<◌, ◌⊎◌, List, [], ◌∷◌, ◌++◌, length, get_or, take, drop, inl, inr, refl, sym, subst, ◌∙◌, ap, arith, append_assoc}
+use Rattle.std.specs.Prelude.{◌==◌, ◌&&◌, ◌||◌, not, Bool, true, false, codes, IsTrue}
 use Rattle.lrc_names.specs.declared.line.Kind.{Kind}
 use Rattle.lrc_names.specs.declared.line.Kind.TheVariants.{Read, Write, Acquire, Release, Post, Wait, Fork, Join, Arrive, Depart, Idle}
 use Rattle.lrc_names.specs.Line.{IsName, IsText, IsIdleWord, word, enclosed, SpellsOperation, with_target, alone, with_text, begins, ends, enters, exits, requests, branches, SpellsEvent, unplaced, placed, IsBody, returned, unreturned, IsBlank, empty, comment}

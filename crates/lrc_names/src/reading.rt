@@ -43,9 +43,7 @@ fn is_name(text: &[u8]) -> bool
 {
     !text.is_empty()
         && text.len() <= LONGEST_NAME
-        && text
-            .iter()
-            .all(|byte| *byte != b'|' && *byte != b'(' && *byte != b')' && *byte != b'\n')
+        && text.iter().all(|byte| *byte != b'|' && *byte != b'(' && *byte != b')' && *byte != b'\n')
 }
 
 fn is_text(text: &[u8]) -> bool
@@ -129,7 +127,11 @@ fn opened<'a>(word: &'a [u8], rest: &'a [u8]) -> Option<(Kind, &'a [u8])>
 {
     let inner = without_last(rest, b')')?;
     if let Some(kind) = kind_of(word) {
-        return if is_name(inner) { Some((kind, inner)) } else { None };
+        return if is_name(inner) {
+            Some((kind, inner))
+        } else {
+            None
+        };
     }
     if is_idle_word(word) && is_text(inner) {
         Some((Kind::Idle, &[]))

@@ -1,5 +1,5 @@
 -- The line but its carriage return.
-use Rattle.std.proofs.Common.{◌≡◌, ◌∷◌, ◌++◌, [], sym, subst}
+use Rattle.std.proofs.Common.{sym, subst}
 use Rattle.lrc_names.specs.Line.{IsBody, returned, unreturned}
 use Rattle.lrc_names.proofs.reading.body_of.Goals as goal
 

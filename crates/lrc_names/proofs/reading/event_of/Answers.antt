@@ -1,7 +1,6 @@
 -- The parts between the bars.
-use Rattle.std.proofs.Common.{◌≡◌, ℕ, List, Option, MatchOption, None, sym, subst}
+use Rattle.std.proofs.Common.{ℕ, List, MatchOption, sym, subst}
 use Rattle.lrc_names.specs.declared.line.Kind.{Kind}
-use Rattle.lrc_names.specs.declared.line.Named.{Named}
 use Rattle.lrc_names.specs.Line.{SpellsEvent}
 use Rattle.lrc_names.proofs.Spelled.{event-barred, unnamed_thread, no_location, no_operation, is_placed, no_operation_alone, is_unplaced}
 use Rattle.lrc_names.proofs.reading.event_of.Goals as goal

@@ -1,6 +1,6 @@
 -- Each word in turn.
 use Rattle.std.proofs.Common.{◌≡◌, List, ℕ, refl, sym, subst}
-use Rattle.std.specs.Prelude.{codes, IsTrue}
+use Rattle.std.specs.Prelude.{IsTrue}
 use Rattle.lrc_names.specs.Line.{IsIdleWord, begins, ends, enters, exits, requests, branches}
 use Rattle.lrc_names.proofs.reading.is_idle_word.Goals as goal
 

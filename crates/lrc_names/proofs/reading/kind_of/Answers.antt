@@ -1,8 +1,7 @@
 -- Every word is among those.
-use Rattle.std.proofs.Common.{◌≡◌, ◌<◌, ◌≤◌, ℕ, List, arith, refl}
+use Rattle.std.proofs.Common.{◌≡◌, arith, refl}
 use Rattle.lrc_names.specs.declared.line.Kind.{Kind}
 use Rattle.lrc_names.specs.declared.line.Kind.TheVariants.{Read, Write, Acquire, Release, Post, Wait, Fork, Join, Arrive, Depart, Idle}
-use Rattle.lrc_names.specs.declared.reading.TheConstants.{KINDS}
 use Rattle.lrc_names.specs.Line.{word}
 use Rattle.lrc_names.proofs.reading.kind_of.Goals as goal
 

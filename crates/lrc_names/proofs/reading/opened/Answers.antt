@@ -1,5 +1,5 @@
 -- What is enclosed is the target, or the text behind an idle word.
-use Rattle.std.proofs.Common.{◌≡◌, ℕ, List, ◌∷◌, ◌++◌, MatchOption, refl, sym, subst, ap}
+use Rattle.std.proofs.Common.{ℕ, List, ◌∷◌, ◌++◌, MatchOption, sym, subst}
 use Rattle.lrc_names.specs.declared.line.Kind.{Kind}
 use Rattle.lrc_names.specs.Line.{SpellsOperation}
 use Rattle.lrc_names.proofs.Spelled.{unclosed, targeted, misnamed, idling, neither}

@@ -1,6 +1,5 @@
 -- An idle word alone has no parenthesis.
-use Rattle.std.proofs.Common.{◌≡◌, sym, subst}
-use Rattle.lrc_names.specs.Line.{SpellsOperation, alone}
+use Rattle.lrc_names.specs.Line.{alone}
 use Rattle.lrc_names.proofs.reading.operation_of.Goals as goal
 
 pub returns-in-None : goal.returns-in-None
