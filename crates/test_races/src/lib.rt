@@ -1,7 +1,9 @@
-//! Tests alone: traces, and the pairs that are told of them.
+//! Tests alone: lines of traces, and the pairs that are told of traces.
 #![tactic(auto)]
 
 #[cfg(test)]
 mod cases;
+#[cfg(test)]
+mod lines;
 #[cfg(test)]
 mod played;
