@@ -1,1 +1,2 @@
 pub mod Spelled
+pub mod Named

@@ -6,4 +6,6 @@ mod cases;
 #[cfg(test)]
 mod lines;
 #[cfg(test)]
+mod numbers;
+#[cfg(test)]
 mod played;
