@@ -8,6 +8,7 @@
 mod barriers;
 mod clocks;
 pub mod detector;
+pub mod held;
 pub mod trace;
 mod variables;
 mod vectors;
