@@ -1,5 +1,6 @@
 -- The cycles of a barrier, one event further.
-use Rattle.std.proofs.Common.{add-one, ◌≡◌, ℕ, zero, suc, ◌+◌, ◌≤◌, List, refl, arith}
+use Rattle.std.proofs.Common.{add-one, ◌≡◌, ℕ, zero, suc, ◌+◌, ◌≤◌, List, inl, inr, refl, ap, arith}
+use Rattle.std.proofs.lemmas.Bool.{cases_eq}
 use Rattle.std.specs.Prelude.{Option, Some, None, slice_get, true, false, ◌==◌, cond}
 use Rattle.lrc_std.specs.declared.event.Event.{Event}
 use Rattle.lrc_std.specs.declared.event.Operation.{Operation}
@@ -50,3 +51,46 @@ cycles_before-few events x (suc n) =
     let one = event-little x (slice_get events n) (cycles_before events x n) in
     let few = cycles_before-few events x n in
     omega arith
+
+-- nor is one opened again
+opened-no_less : (o : Option ℕ) (number : ℕ) → number ≤ opened o number
+opened-no_less None number = omega arith
+opened-no_less (Some cycle) number = elim (cycle == number) as (λ b. number ≤ cond b (number + 1) number) [ true ↦ omega arith | false ↦ omega arith ]
+
+after-no_less : (x t : ℕ) (o : Operation) (cycles : Cycles) → cycles.current ≤ (after_operation x t o cycles).current
+after-no_less x t (Arrive y) cycles =
+    elim (y == x) as (λ b. cycles.current ≤ (cond b (arrived t cycles) cycles).current) [ true ↦ omega arith | false ↦ omega arith ]
+after-no_less x t (Depart y) cycles =
+    elim (y == x) as (λ b. cycles.current ≤ (cond b (departed t cycles) cycles).current) [
+      | true ↦ opened-no_less (cycles.of t) cycles.current
+      | false ↦ omega arith
+    ]
+after-no_less x t (Read v) cycles = omega arith
+after-no_less x t (Write v) cycles = omega arith
+after-no_less x t (Acquire v) cycles = omega arith
+after-no_less x t (Release v) cycles = omega arith
+after-no_less x t (Post v) cycles = omega arith
+after-no_less x t (Wait v) cycles = omega arith
+after-no_less x t (Fork v) cycles = omega arith
+after-no_less x t (Join v) cycles = omega arith
+after-no_less x t Idle cycles = omega arith
+
+event-no_less : (x : ℕ) (o : Option Event) (cycles : Cycles) → cycles.current ≤ (after_event x o cycles).current
+event-no_less x None cycles = omega arith
+event-no_less x (Some e) cycles = after-no_less x e.thread e.operation cycles
+
+pub cycles_before-grows : (events : List Event) (x k n : ℕ) → k ≤ n → (cycles_before events x k).current ≤ (cycles_before events x n).current
+unfolding cycles_before
+cycles_before-grows events x k zero le =
+    elim (cases_eq k zero) [
+      | inl same ↦ let e = ap (λ m. (cycles_before events x m).current) same in omega arith
+      | inr other ↦ omega arith
+    ]
+cycles_before-grows events x k (suc n) le =
+    elim (cases_eq k (suc n)) [
+      | inl same ↦ let e = ap (λ m. (cycles_before events x m).current) same in omega arith
+      | inr other ↦
+          let one = event-no_less x (slice_get events n) (cycles_before events x n) in
+          let past = cycles_before-grows events x k n (omega arith) in
+          omega arith
+    ]

@@ -3,3 +3,4 @@ pub mod HappensBefore
 pub mod Cycles
 pub mod Prefix
 pub mod Told
+pub mod Holders

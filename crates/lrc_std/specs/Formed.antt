@@ -3,6 +3,7 @@ use Rattle.std.specs.Prelude.{◌≡◌, ◌≢◌, ℕ, zero, suc, ◌+◌, ◌
 use Rattle.lrc_std.specs.declared.event.Event.{Event}
 use Rattle.lrc_std.specs.declared.event.Operation.{Operation}
 use Rattle.lrc_std.specs.declared.event.Operation.TheVariants.{Acquire, Release, Fork, Join, Arrive, Depart}
+use Rattle.lrc_std.specs.declared.fault.Holder.{Holder}
 use Rattle.lrc_std.specs.declared.fault.Reason.{Reason}
 use Rattle.lrc_std.specs.declared.fault.Reason.TheVariants.{Joined, Waits, NotArrived, Held, NotHeld, Known}
 use Rattle.lrc_std.specs.Trace.{At}
@@ -30,12 +31,6 @@ IsAtBarrier thread barrier event = (event.thread ≡ thread) × ((event.operatio
 pub record WaitsAt (events : List Event) (n thread barrier : ℕ) (arrive : Event) : Type 0 where
   pub last : IsLastBefore events n (IsAtBarrier thread barrier) arrive
   pub arrives : arrive.operation ≡ Arrive barrier
-
--- who holds a lock: the thread, how many of its acquires want a release, and the line of the acquire by which it came to hold it
-pub record Holder : Type 0 where
-  pub thread : ℕ
-  pub depth : ℕ
-  pub line : ℕ
 
 -- an acquire: of a lock that nobody holds, or that the thread holds, or that another holds
 abbrev pub after_acquire : Event → Option Holder → Option Holder

@@ -16,3 +16,14 @@ pub enum Reason {
     /// It forks this thread, which is known since this line.
     Known { thread: u32, line: u64 },
 }
+
+/// Who holds a lock.
+#[derive(Clone, Copy, PartialEq, Eq)]
+pub struct Holder {
+    /// The thread.
+    pub thread: u32,
+    /// How many of its acquires want a release.
+    pub depth: u64,
+    /// The line of the acquire by which it came to hold the lock.
+    pub line: u64,
+}

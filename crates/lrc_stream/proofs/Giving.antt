@@ -1,6 +1,6 @@
 -- What threads, locks and barriers keep, one event further.
 use Rattle.std.proofs.Common.{◌≡◌, ◌≢◌, ℕ, ◌+◌, ◌<◌, List, get_or, inl, inr, refl, sym, subst, ◌∙◌, ap, arith}
-use Rattle.std.specs.Prelude.{Option, Some}
+use Rattle.std.specs.Prelude.{Option, Some, None}
 use Rattle.std.proofs.lemmas.Bool.{cases_eq}
 use Rattle.lrc_std.specs.declared.event.Event.{Event}
 use Rattle.lrc_std.specs.declared.event.Operation.{Operation}
@@ -9,13 +9,13 @@ use Rattle.lrc_std.specs.Trace.{At, given}
 use Rattle.lrc_std.specs.Cycles.{Cycles, cycles_before, after_operation, arrived, departed, opened}
 use Rattle.lrc_std.specs.Order.{program, fork, base, HappensBefore}
 use Rattle.lrc_std.proofs.Positions.{At-one}
-use Rattle.lrc_std.proofs.Cycles.{cycles_before-next}
+use Rattle.lrc_std.proofs.Cycles.{cycles_before-next, cycles_before-grows}
 use Rattle.lrc_stream.specs.declared.clocks.Clocks.{Clocks}
 use Rattle.lrc_stream.specs.declared.barriers.Barrier.{Barrier}
-use Rattle.lrc_stream.specs.Barriers.{SameBarrier, IsArrived, IsDeparted, current_of, cycle_of, row_of}
+use Rattle.lrc_stream.specs.Barriers.{SameBarrier, IsArrived, IsClosed, IsDeparted, current_of, cycle_of, open_of, closed_of}
 use Rattle.lrc_stream.specs.Clocks.{row, IsGained}
 use Rattle.lrc_stream.specs.Knowing.{Gathers, Before, OfThread, GivesLock, ArrivesIn, AreThreads, AreLocks, IsBarrier, IsReached}
-use Rattle.lrc_stream.proofs.Gathering.{Gathers-equal, next-same, next-joined, next-only}
+use Rattle.lrc_stream.proofs.Gathering.{Gathers-none, Gathers-equal, next-same, next-joined, next-only}
 
 -- what gives no lock
 pub given-none : (o : Operation) → ((l : ℕ) → o ≡ Release l → ⊥) → ((l : ℕ) → o ≡ Post l → ⊥) → (l : ℕ) → given o ≡ Some l → ⊥
@@ -102,11 +102,27 @@ module _ (events : List Event) (n : ℕ) (b : Event) (here : At events n b) wher
   not_arrived : (x c : ℕ) → (b.operation ≡ Arrive x → ⊥) → ArrivesIn events x c n → ⊥
   not_arrived x c none (a, at, arrives, is) = none (sym (ap (λ (y : Event). y.operation) (At-one at here)) ∙ arrives)
 
-  rows_kept : (x : ℕ) → (b.operation ≡ Arrive x → ⊥) → (old new : Option Barrier) → ((c : ℕ) → row_of new c ≡ row_of old c) → IsBarrier events n x old → (c : ℕ)
-      → Gathers events (Before (n + 1) (ArrivesIn events x c)) (row_of new c)
-  rows_kept x none old new same is c =
-      subst (λ r. Gathers events (Before (n + 1) (ArrivesIn events x c)) r) (sym (same c))
-      (next-same events n (ArrivesIn events x c) (row_of old c) (not_arrived x c none) (is.rows c))
+  open_kept : (x : ℕ) → (b.operation ≡ Arrive x → ⊥) → (old : Option Barrier) → IsBarrier events n x old
+      → Gathers events (Before (n + 1) (ArrivesIn events x (current_of old))) (open_of old)
+  open_kept x none old is = next-same events n (ArrivesIn events x (current_of old)) (open_of old) (not_arrived x (current_of old) none) is.arrived
+
+  closed_kept : (x : ℕ) → (b.operation ≡ Arrive x → ⊥) → (old new : Option Barrier) (t c : ℕ) → cycle_of old t ≡ Some c → c ≢ current_of old
+      → closed_of new t ≡ closed_of old t → IsBarrier events n x old → Gathers events (Before (n + 1) (ArrivesIn events x c)) (closed_of new t)
+  closed_kept x none old new t c of apart same is =
+      subst (λ r. Gathers events (Before (n + 1) (ArrivesIn events x c)) r) (sym same)
+      (next-same events n (ArrivesIn events x c) (closed_of old t) (not_arrived x c none) (is.closed t c of apart))
+
+  -- the open cycle is the same, and each thread's
+  barrier_same : (x : ℕ) → (b.operation ≡ Arrive x → ⊥) → (old new : Option Barrier) → SameBarrier new old → IsBarrier events n x old
+      → (cycles_before events x n).current ≡ (cycles_before events x (n + 1)).current
+      → ((t : ℕ) → (cycles_before events x n).of t ≡ (cycles_before events x (n + 1)).of t) → IsBarrier events (n + 1) x new
+  barrier_same x none old new same is current of = record {
+    current = same.current ∙ is.current ∙ current;
+    of = λ t. same.of t ∙ is.of t ∙ of t;
+    arrived = subst (λ c. Gathers events (Before (n + 1) (ArrivesIn events x c)) (open_of new)) (sym same.current)
+        (subst (λ r. Gathers events (Before (n + 1) (ArrivesIn events x (current_of old))) r) (sym same.arrived) (open_kept x none old is));
+    closed = λ t c is_of apart. closed_kept x none old new t c (sym (same.of t) ∙ is_of) (λ e. apart (e ∙ sym same.current)) (same.closed t) is;
+  }
 
   -- the barrier's cycles are as they were
   untouched : (x : ℕ) (o : Operation) (cycles : Cycles) → (o ≡ Arrive x → ⊥) → (o ≡ Depart x → ⊥) → after_operation x b.thread o cycles ≡ cycles
@@ -135,11 +151,7 @@ module _ (events : List Event) (n : ℕ) (b : Event) (here : At events n b) wher
   barrier_kept x f g old new same is =
       let next : cycles_before events x (n + 1) ≡ cycles_before events x n =
       cycles_before-next events x n b here ∙ untouched x b.operation (cycles_before events x n) f g in
-      record {
-        current = same.current ∙ is.current ∙ ap (λ (c : Cycles). c.current) (sym next);
-        of = λ t. same.of t ∙ is.of t ∙ ap (λ (c : Cycles). c.of t) (sym next);
-        rows = rows_kept x f old new same.rows is;
-      }
+      barrier_same x f old new same is (ap (λ (c : Cycles). c.current) (sym next)) (λ t. ap (λ (c : Cycles). c.of t) (sym next))
 
   after_arrive : (x : ℕ) (cycles : Cycles) → after_operation x b.thread (Arrive x) cycles ≡ arrived b.thread cycles
   after_arrive x cycles = grind arith
@@ -167,15 +179,63 @@ module _ (events : List Event) (n : ℕ) (b : Event) (here : At events n b) wher
                   ∙ ap (λ (c : Cycles). c.of b.thread) (sym next) ∙ ap (λ u. (cycles_before events x (n + 1)).of u) (sym same)
               | inr other ↦ a.others t other ∙ is.of t ∙ sym (arrived_other b.thread t before other) ∙ ap (λ (c : Cycles). c.of t) (sym next)
             ];
-        rows = λ c.
-            elim (cases_eq c (current_of old)) [
+        arrived = subst (λ c. Gathers events (Before (n + 1) (ArrivesIn events x c)) (open_of new)) (sym a.current)
+            (next-joined events n (ArrivesIn events x (current_of old)) (open_of old) known (open_of new) (b, here, op, sym is.current)
+            is.arrived g a.joined);
+        closed = λ t c of apart.
+            elim (cases_eq t b.thread) [
               | inl same ↦
-                  subst (λ d. Gathers events (Before (n + 1) (ArrivesIn events x d)) (row_of new d)) (sym same)
-                  (next-joined events n (ArrivesIn events x (current_of old)) (row_of old (current_of old)) known (row_of new (current_of old))
-                  (b, here, op, sym is.current) (is.rows (current_of old)) g a.joined)
+                  let own : cycle_of new t ≡ Some (current_of old) = ap (λ u. cycle_of new u) same ∙ a.here in
+                  let one : c ≡ current_of old = cc in
+                  absurd (apart (one ∙ sym a.current))
               | inr other ↦
-                  subst (λ r. Gathers events (Before (n + 1) (ArrivesIn events x c)) r) (sym (a.rows c other))
-                  (next-same events n (ArrivesIn events x c) (row_of old c) (λ (d, at, arrives, in_cycle). other (sym in_cycle ∙ sym is.current)) (is.rows c))
+                  subst (λ r. Gathers events (Before (n + 1) (ArrivesIn events x c)) r) (sym (a.closed t))
+                  (next-same events n (ArrivesIn events x c) (closed_of old t)
+                  (λ (d, at, arrives, in_cycle). apart (sym in_cycle ∙ sym is.current ∙ sym a.current))
+                  (is.closed t c (sym (a.others t other) ∙ of) (λ e. apart (e ∙ sym a.current))))
+            ];
+      }
+
+  opened_own : (m : ℕ) → opened (Some m) m ≡ m + 1
+  opened_own m = grind arith
+
+  opened_same : (o : Option ℕ) (m : ℕ) → o ≡ Some m → opened o m ≡ m + 1
+  opened_same o m same = ap (λ p. opened p m) same ∙ opened_own m
+
+  opened_other : (o : Option ℕ) (m : ℕ) → (o ≡ Some m → ⊥) → opened o m ≡ m
+  opened_other None m other = refl
+  opened_other (Some c) m other =
+      elim (cases_eq c m) [
+        | inl same ↦ absurd (other (ap Some same))
+        | inr apart ↦ grind (arith, apart)
+      ]
+
+  -- the open cycle is closed
+  barrier_closed : (x : ℕ) → b.operation ≡ Depart x → (old new : Option Barrier) → cycle_of old b.thread ≡ Some (current_of old) → IsClosed old new
+      → IsBarrier events n x old → cycles_before events x (n + 1) ≡ departed b.thread (cycles_before events x n) → IsBarrier events (n + 1) x new
+  barrier_closed x op old new own d is next =
+      let before = cycles_before events x n in
+      let none : b.operation ≡ Arrive x → ⊥ = λ arrives. let never : ⊥ = cc in never in
+      let of_open : before.of b.thread ≡ Some before.current = sym (is.of b.thread) ∙ own ∙ ap Some is.current in
+      record {
+        current = d.current ∙ ap (λ m. m + 1) is.current ∙ sym (opened_same (before.of b.thread) before.current of_open)
+            ∙ ap (λ (c : Cycles). c.current) (sym next);
+        of = λ t. d.of t ∙ is.of t ∙ ap (λ (c : Cycles). c.of t) (sym next);
+        arrived = subst (λ r. Gathers events (Before (n + 1) (ArrivesIn events x (current_of new))) r) (sym d.arrived)
+            (Gathers-none events (Before (n + 1) (ArrivesIn events x (current_of new)))
+            (λ k (lt, (a, at, arrives, in_cycle)).
+            let few = cycles_before-grows events x k n (omega arith) in
+            let one = d.current in
+            let two = is.current in
+            omega arith));
+        closed = λ t c of apart.
+            let was : cycle_of old t ≡ Some c = sym (d.of t) ∙ of in
+            elim (cases_eq c (current_of old)) [
+              | inl now ↦
+                  subst (λ r. Gathers events (Before (n + 1) (ArrivesIn events x c)) r) (sym (d.here t (was ∙ ap Some now)))
+                  (subst (λ m. Gathers events (Before (n + 1) (ArrivesIn events x m)) (open_of old)) (sym now) (open_kept x none old is))
+              | inr other ↦
+                  closed_kept x none old new t c was other (d.others t (λ e. let same : c ≡ current_of old = cc in other same)) is
             ];
       }
 
@@ -185,9 +245,11 @@ module _ (events : List Event) (n : ℕ) (b : Event) (here : At events n b) wher
       let before = cycles_before events x n in
       let next : cycles_before events x (n + 1) ≡ departed b.thread before =
       cycles_before-next events x n b here ∙ ap (λ o. after_operation x b.thread o before) op ∙ after_depart x before in
-      record {
-        current = d.current ∙ ap (λ o. opened o (current_of old)) (is.of b.thread) ∙ ap (λ m. opened (before.of b.thread) m) is.current
-            ∙ ap (λ (c : Cycles). c.current) (sym next);
-        of = λ t. d.of t ∙ is.of t ∙ ap (λ (c : Cycles). c.of t) (sym next);
-        rows = rows_kept x (λ arrives. let never : ⊥ = cc in never) old new d.rows is;
-      }
+      elim d [
+        | inl (own, closed) ↦ barrier_closed x op old new own closed is next
+        | inr (other, same) ↦
+            barrier_same x (λ arrives. let never : ⊥ = cc in never) old new same is
+            (sym (opened_other (before.of b.thread) before.current (λ e. other (is.of b.thread ∙ e ∙ ap Some (sym is.current))))
+            ∙ ap (λ (c : Cycles). c.current) (sym next))
+            (λ t. ap (λ (c : Cycles). c.of t) (sym next))
+      ]

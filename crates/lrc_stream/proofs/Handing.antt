@@ -1,5 +1,6 @@
 -- What an event gets is what comes right before it.
-use Rattle.std.proofs.Common.{◌≡◌, ℕ, ◌+◌, ◌⊎◌, List, inl, inr, refl, sym, subst, ◌∙◌, ap}
+use Rattle.std.proofs.Common.{◌≡◌, ◌≢◌, ℕ, ◌+◌, ◌⊎◌, List, inl, inr, refl, sym, subst, ◌∙◌, ap, arith}
+use Rattle.std.proofs.lemmas.Bool.{cases_eq}
 use Rattle.std.specs.Prelude.{Option, Some, None, slice_get}
 use Rattle.lrc_std.specs.declared.event.Event.{Event}
 use Rattle.lrc_std.specs.declared.event.Operation.{Operation}
@@ -11,7 +12,7 @@ use Rattle.lrc_std.proofs.Positions.{At-one}
 use Rattle.lrc_stream.specs.declared.clocks.Clocks.{Clocks}
 use Rattle.lrc_stream.specs.declared.barriers.Barrier.{Barrier}
 use Rattle.lrc_stream.specs.declared.barriers.Barriers.{Barriers}
-use Rattle.lrc_stream.specs.Barriers.{cycle_of, row_of, known_by}
+use Rattle.lrc_stream.specs.Barriers.{current_of, cycle_of, open_of, closed_of, known_by}
 use Rattle.lrc_stream.specs.Clocks.{row, IsGained, IsMarked}
 use Rattle.lrc_stream.specs.Knowing.{Gathers, Before, OfThread, GivesLock, ArrivesIn, AreThreads, AreLocks, IsBarrier, AreBarriers, IsReached, Handed, handed}
 use Rattle.lrc_stream.proofs.Gathering.{Gathers-none, Gathers-same, Gathers-joined, Gathers-here}
@@ -76,13 +77,30 @@ module _ (events : List Event) (n : ℕ) where
 
   -- ---- the row that is handed
 
+  known_open : (kept : Option Barrier) (t c : ℕ) → c ≡ current_of kept → known_by kept t (Some c) ≡ open_of kept
+  known_open kept t c same = grind (arith, same)
+
+  known_closed : (kept : Option Barrier) (t c : ℕ) → c ≢ current_of kept → known_by kept t (Some c) ≡ closed_of kept t
+  known_closed kept t c other = grind (arith, other)
+
+  cycle_gathers : (x t c : ℕ) (kept : Option Barrier) → IsBarrier events n x kept → cycle_of kept t ≡ Some c
+      → Gathers events (Before n (ArrivesIn events x c)) (known_by kept t (Some c))
+  cycle_gathers x t c kept is e =
+      elim (cases_eq c (current_of kept)) [
+        | inl same ↦
+            subst (λ r. Gathers events (Before n (ArrivesIn events x c)) r) (sym (known_open kept t c same))
+            (subst (λ d. Gathers events (Before n (ArrivesIn events x d)) (open_of kept)) (sym same) is.arrived)
+        | inr other ↦
+            subst (λ r. Gathers events (Before n (ArrivesIn events x c)) r) (sym (known_closed kept t c other)) (is.closed t c e other)
+      ]
+
   known_gathers : (x t : ℕ) (kept : Option Barrier) → IsBarrier events n x kept → (cycle : Option ℕ) → (cycles_before events x n).of t ≡ cycle
-      → Gathers events (Handed events n t (Depart x)) (known_by kept cycle)
+      → Gathers events (Handed events n t (Depart x)) (known_by kept t cycle)
   known_gathers x t kept is None e = Gathers-none events (Handed events n t (Depart x)) (λ k (c, at, h). let never : ⊥ = cc in never)
   known_gathers x t kept is (Some c) e =
-      Gathers-same events (Before n (ArrivesIn events x c)) (Handed events n t (Depart x)) (row_of kept c)
+      Gathers-same events (Before n (ArrivesIn events x c)) (Handed events n t (Depart x)) (known_by kept t (Some c))
       (λ k h. (c, e, h))
-      (λ k (d, at, h). let same : d ≡ c = cc in subst (λ y. Before n (ArrivesIn events x y) k) same h) (is.rows c)
+      (λ k (d, at, h). let same : d ≡ c = cc in subst (λ y. Before n (ArrivesIn events x y) k) same h) (cycle_gathers x t c kept is (is.of t ∙ e))
 
   module _ (threads locks : Clocks) (barriers : Barriers) (are_threads : AreThreads events n threads) (are_locks : AreLocks events n locks)
       (are_barriers : AreBarriers events n barriers) where

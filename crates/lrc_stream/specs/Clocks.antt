@@ -17,6 +17,11 @@ pub record IsGained (before after : Clocks) (index : ℕ) (known : List ℕ) : T
   pub here : (thread : ℕ) → slice_index (row after index) thread ≡ max (slice_index (row before index) thread) (slice_index known thread)
   pub others : (other : ℕ) → other ≢ index → row after other ≡ row before other
 
+-- at this index exactly this is known, and at all others what was before
+pub record IsReplaced (before after : Clocks) (index : ℕ) (known : List ℕ) : Type 0 where
+  pub here : row after index ≡ known
+  pub others : (other : ℕ) → other ≢ index → row after other ≡ row before other
+
 -- the thread's own entry has this value, and all others are as before
 pub record IsMarked (before after : Clocks) (thread value : ℕ) : Type 0 where
   pub here : IsPut (row before thread) (row after thread) thread value

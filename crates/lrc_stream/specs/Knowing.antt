@@ -1,5 +1,5 @@
 -- What the vectors of the detector know of the events before a position.
-use Rattle.std.specs.Prelude.{◌≡◌, ℕ, ◌<◌, ◌≤◌, ◌⊎◌, List, [], Option, Some, None, slice_get, slice_index}
+use Rattle.std.specs.Prelude.{◌≡◌, ◌≢◌, ℕ, ◌<◌, ◌≤◌, ◌⊎◌, List, [], Option, Some, None, slice_get, slice_index}
 use Rattle.lrc_std.specs.declared.event.Event.{Event}
 use Rattle.lrc_std.specs.declared.event.Operation.{Operation}
 use Rattle.lrc_std.specs.declared.event.Operation.TheVariants.{Acquire, Wait, Fork, Join, Arrive, Depart}
@@ -13,7 +13,7 @@ use Rattle.lrc_stream.specs.declared.barriers.Barriers.{Barriers}
 use Rattle.lrc_stream.specs.declared.variables.Last.{Last}
 use Rattle.lrc_stream.specs.declared.variables.Variables.{Variables}
 use Rattle.lrc_stream.specs.Clocks.{row}
-use Rattle.lrc_stream.specs.Barriers.{current_of, cycle_of, row_of, known_of}
+use Rattle.lrc_stream.specs.Barriers.{current_of, cycle_of, open_of, closed_of, known_of}
 use Rattle.lrc_stream.specs.Variables.{last_at, lasts_of}
 
 -- A vector gathers these positions: an event is one of them, or happens before one, exactly where its position is below
@@ -44,10 +44,13 @@ AreThreads events n threads = (u : ℕ) → Gathers events (Before n (OfThread e
 abbrev pub AreLocks : List Event → ℕ → Clocks → Type 0
 AreLocks events n locks = (l : ℕ) → Gathers events (Before n (GivesLock events l)) (row locks l)
 
+-- what is kept of a barrier: its open cycle, and of each thread its cycle, where that is closed
 pub record IsBarrier (events : List Event) (n x : ℕ) (barrier : Option Barrier) : Type 0 where
   pub current : current_of barrier ≡ (cycles_before events x n).current
   pub of : (thread : ℕ) → cycle_of barrier thread ≡ (cycles_before events x n).of thread
-  pub rows : (cycle : ℕ) → Gathers events (Before n (ArrivesIn events x cycle)) (row_of barrier cycle)
+  pub arrived : Gathers events (Before n (ArrivesIn events x (current_of barrier))) (open_of barrier)
+  pub closed : (thread cycle : ℕ) → cycle_of barrier thread ≡ Some cycle → cycle ≢ current_of barrier
+      → Gathers events (Before n (ArrivesIn events x cycle)) (closed_of barrier thread)
 
 abbrev pub AreBarriers : List Event → ℕ → Barriers → Type 0
 AreBarriers events n barriers = (x : ℕ) → IsBarrier events n x (slice_get barriers.barriers.items x)

@@ -4,3 +4,4 @@ pub mod Barriers
 pub mod Variables
 pub mod Knowing
 pub mod Detecting
+pub mod Held

@@ -1,20 +1,22 @@
-// The cycles of barriers, and what the arrives of each know.
-ghost use Rattle.std.specs.Prelude.{◌≡◌, ◌≢◌, ℕ, ◌+◌, ◌^◌, ◌<◌, [], OnOk, Option, slice_get, vec_len};
-ghost use Rattle.lrc_stream.specs.Clocks.{row};
-ghost use Rattle.lrc_stream.specs.Barriers.{SameBarrier, IsArrived, IsDeparted, IsSet, current_of, cycle_of, known_of, cycle_at, known_by};
+// The cycles of barriers, and what the arrives of the open ones know, and of those that threads still depart from.
+ghost use Rattle.std.specs.Prelude.{◌≡◌, ◌≢◌, ℕ, ◌+◌, ◌^◌, ◌<◌, ◌↔◌, [], IsTrue, OnOk, Option, length, slice_get, vec_len};
+ghost use Rattle.lrc_stream.specs.Barriers.{SameBarrier, IsArrived, IsClosed, IsDeparted, IsSet, IsKeptBelow, current_of, cycle_of, known_of, cycle_at};
 
 use crate::clocks::Clocks;
+use crate::vectors::join;
 use std::alloc::{AllocError, Global};
 
-/// A barrier.
+/// A barrier. What it keeps grows with its threads, and not with its cycles.
 #[derive(Drop)]
 pub struct Barrier {
-    /// What the arrives of each cycle know.
-    pub cycles: Clocks,
     /// The number of the open cycle.
     pub current: usize,
+    /// What the arrives of the open cycle know.
+    pub arrived: Vec<u64>,
     /// Of each thread the cycle of its last arrive.
     pub of: Vec<Option<usize>>,
+    /// Of each thread what the arrives of that cycle know, where it is closed.
+    pub closed: Clocks,
 }
 
 // Sets the cycle of a thread.
@@ -28,15 +30,42 @@ fn set_cycle(of: &mut Vec<Option<usize>>, thread: usize, cycle: usize) -> Result
     Ok(())
 }
 
+fn is_of(cycle: Option<usize>, current: usize) -> bool
+    ensures { IsTrue result ↔ (cycle ≡ Option.Some current) }
+{
+    match cycle {
+        Some(number) => number == current,
+        None => false,
+    }
+}
+
+// Keeps for each thread of the open cycle what the arrives of that cycle know.
+fn keep(
+    closed: &mut Clocks,
+    of: &[Option<usize>],
+    current: usize,
+    known: &[u64],
+) -> Result<(), AllocError>
+    ensures { OnOk result (IsKeptBelow (length of.now) closed.old closed.new of.now current known.now) }
+{
+    for (thread, cycle) in of.iter().enumerate() {
+        if is_of(*cycle, current) {
+            closed.set(thread, known)?;
+        }
+    }
+    Ok(())
+}
+
 impl Barrier {
     /// Before any event.
     pub fn new(alloc: Global) -> Barrier
         ensures { SameBarrier (Option.Some result) Option.None }
     {
         Barrier {
-            cycles: Clocks::new(alloc),
             current: 0,
+            arrived: Vec::new(alloc),
             of: Vec::new(alloc),
+            closed: Clocks::new(alloc),
         }
     }
 
@@ -45,7 +74,13 @@ impl Barrier {
         ensures { result.now ≡ known_of (Option.Some self.now) thread }
     {
         match self.of.get(thread) {
-            Some(Some(cycle)) => self.cycles.row(*cycle),
+            Some(Some(cycle)) => {
+                if *cycle == self.current {
+                    self.arrived.as_slice()
+                } else {
+                    self.closed.row(thread)
+                }
+            }
             _ => &[],
         }
     }
@@ -54,20 +89,38 @@ impl Barrier {
     pub fn arrive(&mut self, thread: usize, known: &[u64]) -> Result<(), AllocError>
         ensures { OnOk result (IsArrived (Option.Some self.old) (Option.Some self.new) thread known.now) }
     {
-        self.cycles.gain(self.current, known)?;
+        join(&mut self.arrived, known)?;
         set_cycle(&mut self.of, thread, self.current)?;
         Ok(())
     }
 
-    /// A thread departs.
-    pub fn depart(&mut self, thread: usize)
-        ensures { self.old.current + 1 < 2 ^ 64 → IsDeparted (Option.Some self.old) (Option.Some self.new) thread }
+    // Closes the open cycle, and opens the next.
+    fn close(&mut self) -> Result<(), AllocError>
+        ensures { OnOk result (self.old.current + 1 < 2 ^ 64 → IsClosed (Option.Some self.old) (Option.Some self.new)) }
     {
-        if let Some(Some(cycle)) = self.of.get(thread) {
-            if *cycle == self.current {
-                self.current = self.current.saturating_add(1);
-            }
+        keep(
+            &mut self.closed,
+            self.of.as_slice(),
+            self.current,
+            self.arrived.as_slice(),
+        )?;
+        self.arrived.clear();
+        self.current = self.current.saturating_add(1);
+        Ok(())
+    }
+
+    /// A thread departs.
+    pub fn depart(&mut self, thread: usize) -> Result<(), AllocError>
+        ensures { OnOk result (self.old.current + 1 < 2 ^ 64 → IsDeparted (Option.Some self.old) (Option.Some self.new) thread) }
+    {
+        let cycle = match self.of.get(thread) {
+            Some(cycle) => *cycle,
+            None => None,
+        };
+        if is_of(cycle, self.current) {
+            self.close()?;
         }
+        Ok(())
     }
 }
 
@@ -121,13 +174,15 @@ impl Barriers {
     }
 
     /// A thread departs from the barrier.
-    pub fn depart(&mut self, barrier: usize, thread: usize)
-        ensures here { current_of (slice_get self.old.barriers.items barrier) + 1 < 2 ^ 64
-            → IsDeparted (slice_get self.old.barriers.items barrier) (slice_get self.new.barriers.items barrier) thread }
-        ensures others { (other : ℕ) → other ≢ barrier → slice_get self.new.barriers.items other ≡ slice_get self.old.barriers.items other }
+    pub fn depart(&mut self, barrier: usize, thread: usize) -> Result<(), AllocError>
+        ensures here { OnOk result (current_of (slice_get self.old.barriers.items barrier) + 1 < 2 ^ 64
+            → IsDeparted (slice_get self.old.barriers.items barrier) (slice_get self.new.barriers.items barrier) thread) }
+        ensures others { OnOk result ((other : ℕ) → other ≢ barrier
+            → slice_get self.new.barriers.items other ≡ slice_get self.old.barriers.items other) }
     {
         if barrier < self.barriers.len() {
-            self.barriers[barrier].depart(thread);
+            self.barriers[barrier].depart(thread)?;
         }
+        Ok(())
     }
 }

@@ -1,6 +1,6 @@
-// Vectors of threads, of locks, or of the cycles of a barrier.
+// Vectors of threads, or of locks.
 ghost use Rattle.std.specs.Prelude.{◌≡◌, ℕ, ◌<◌, [], OnOk, vec_len};
-ghost use Rattle.lrc_stream.specs.Clocks.{row, IsGained, IsMarked};
+ghost use Rattle.lrc_stream.specs.Clocks.{row, IsGained, IsReplaced, IsMarked};
 
 use crate::vectors::{join, put};
 use std::alloc::{AllocError, Global};
@@ -49,6 +49,17 @@ impl Clocks {
     {
         self.reach(index)?;
         join(&mut self.rows[index], known)?;
+        Ok(())
+    }
+
+    /// Sets what is known at this index.
+    pub fn set(&mut self, index: usize, known: &[u64]) -> Result<(), AllocError>
+        ensures { OnOk result (IsReplaced self.old self.new index known.now) }
+    {
+        self.reach(index)?;
+        let row = &mut self.rows[index];
+        row.clear();
+        row.extend_from_slice(known)?;
         Ok(())
     }
 

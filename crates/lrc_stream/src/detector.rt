@@ -96,7 +96,7 @@ fn give_barrier(barriers: &mut Barriers, known: &[u64], event: Event) -> Result<
             Ok(())
         }
         Operation::Depart(barrier) => {
-            barriers.depart(barrier as usize, thread);
+            barriers.depart(barrier as usize, thread)?;
             Ok(())
         }
         _ => Ok(()),

@@ -1,7 +1,13 @@
-//! Tests alone: traces, and the pairs that are told of them.
+//! Tests alone: lines of traces, numbers of names, pairs that are told of traces, and faults at locks.
 #![tactic(auto)]
 
 #[cfg(test)]
 mod cases;
+#[cfg(test)]
+mod lines;
+#[cfg(test)]
+mod locks;
+#[cfg(test)]
+mod numbers;
 #[cfg(test)]
 mod played;

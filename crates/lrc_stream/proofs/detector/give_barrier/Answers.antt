@@ -10,7 +10,7 @@ use Rattle.lrc_stream.proofs.Giving.{barrier_kept, barrier_arrived, barrier_depa
 use Rattle.lrc_stream.proofs.detector.give_barrier.Goals as goal
 
 same : (o : Option Barrier) → SameBarrier o o
-same o = record { current = refl; of = λ t. refl; rows = λ c. refl }
+same o = record { current = refl; arrived = refl; of = λ t. refl; closed = λ t. refl }
 
 pub returns-in_default : goal.returns-in_default
 returns-in_default c = λ events n few here g old x.
@@ -34,8 +34,8 @@ returns-in_ok-arrive-in-Arrive c = λ events n few here g old x.
           (c.in_ok-arrive-in-Arrive.ensures.others x other) (old x)
     ]
 
-pub returns-in-Depart : goal.returns-in-Depart
-returns-in-Depart c = λ events n few here g old x.
+pub returns-in_ok-depart-in-Depart : goal.returns-in_ok-depart-in-Depart
+returns-in_ok-depart-in-Depart c = λ events n few here g old x.
     let old_x = slice_get c.args.barriers.now.barriers.items x in
     let new_x = slice_get c.depart.new.self.barriers.items x in
     let y = c.in-Depart.barrier in
@@ -45,9 +45,9 @@ returns-in-Depart c = λ events n few here g old x.
           let current = (old y).current in
           subst (λ z. IsBarrier events (n + 1) z (slice_get c.depart.new.self.barriers.items z)) (sym here_too)
           (barrier_departed events n c.args.event here y c.in-Depart.is (slice_get c.args.barriers.now.barriers.items y)
-          (slice_get c.depart.new.self.barriers.items y) (c.depart.ensures.here (omega arith)) (old y))
+          (slice_get c.depart.new.self.barriers.items y) (c.in_ok-depart-in-Depart.ensures.here (omega arith)) (old y))
       | inr other ↦
           barrier_kept events n c.args.event here x
           (λ e. let never : ⊥ = cc in never) (λ e. let one : x ≡ y = cc in other one) old_x new_x
-          (subst (λ (o : Option Barrier). SameBarrier o old_x) (sym (c.depart.ensures.others x other)) (same old_x)) (old x)
+          (subst (λ (o : Option Barrier). SameBarrier o old_x) (sym (c.in_ok-depart-in-Depart.ensures.others x other)) (same old_x)) (old x)
     ]

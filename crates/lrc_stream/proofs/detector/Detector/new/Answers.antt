@@ -23,7 +23,8 @@ no_barrier : (events : List Event) (x : ℕ) → IsBarrier events 0 x None
 no_barrier events x = record {
   current = sym (ap (λ (c : Cycles). c.current) (cycles_before-none events x));
   of = λ t. sym (ap (λ (c : Cycles). c.of t) (cycles_before-none events x));
-  rows = λ cycle. Gathers-none events (Before 0 (ArrivesIn events x cycle)) (λ k (lt, h). omega arith);
+  arrived = Gathers-none events (Before 0 (ArrivesIn events x 0)) (λ k (lt, h). omega arith);
+  closed = λ t cycle of apart. Gathers-none events (Before 0 (ArrivesIn events x cycle)) (λ k (lt, h). omega arith);
 }
 
 no_barriers : (events : List Event) (barriers : Barriers) → barriers.barriers.items ≡ [] → AreBarriers events 0 barriers

@@ -1,0 +1,56 @@
+// Numbers of names.
+
+use lrc_names::table::Table;
+use std::alloc::{AllocError, Global};
+
+// Whether the names, in turn, are given these numbers.
+fn are_numbered(table: &mut Table, names: &[(&'static [u8], usize)]) -> Result<bool, AllocError> {
+    for (name, number) in names {
+        if table.number(name)? != *number {
+            return Ok(false);
+        }
+    }
+    Ok(true)
+}
+
+fn is_named(table: &Table, number: usize, name: &[u8]) -> bool {
+    match table.name(number) {
+        Some(found) => found == name,
+        None => false,
+    }
+}
+
+fn numbers_hold(alloc: Global) -> Result<bool, AllocError> {
+    let mut table = Table::new(alloc);
+    let numbered = are_numbered(
+        &mut table,
+        &[
+            (b"T1", 0),
+            (b"T2", 1),
+            (b"T1", 0),
+            (b"T", 2),
+            (b"T10", 3),
+            (b"t1", 4),
+            (b"T2", 1),
+        ],
+    )?;
+    Ok(
+        numbered
+            && table.count() == 5
+            && is_named(&table, 2, b"T")
+            && is_named(&table, 4, b"t1")
+            && table.name(5).is_none(),
+    )
+}
+
+fn is_so(answer: Result<bool, AllocError>) -> bool {
+    match answer {
+        Ok(so) => so,
+        Err(_) => false,
+    }
+}
+
+#[test]
+fn names_are_numbered_in_order_of_first_mention(rt: HostRuntime) {
+    assert!(rt; is_so(numbers_hold(rt.alloc())));
+}
