@@ -3,7 +3,8 @@ use Rattle.std.proofs.Common.{◌≡◌, ◌≢◌, ℕ, zero, suc, ◌+◌, ◌
 use Rattle.std.specs.Prelude.{◌==◌, ◌&&◌, ◌||◌, not, Bool, true, false, codes, IsTrue}
 use Rattle.lrc_names.specs.declared.line.Kind.{Kind}
 use Rattle.lrc_names.specs.declared.line.Kind.TheVariants.{Read, Write, Acquire, Release, Post, Wait, Fork, Join, Arrive, Depart, Idle}
-use Rattle.lrc_names.specs.Line.{IsName, IsText, IsIdleWord, word, enclosed, SpellsOperation, with_target, alone, with_text, begins, ends, enters, exits, requests, branches, SpellsEvent, unplaced, placed, IsBody, returned, unreturned, IsBlank, empty, comment}
+use Rattle.lrc_names.specs.Line.{IsName, IsText, IsIdleWord, word, enclosed, SpellsOperation, with_target, alone, with_text, begins, ends, enters}
+use Rattle.lrc_names.specs.Line.{exits, requests, branches, SpellsEvent, unplaced, placed, IsBody, returned, unreturned, IsBlank, empty, comment}
 use Rattle.std.proofs.lemmas.Bool.{false≢true, eqb-true, eq-eqb}
 use Rattle.std.proofs.lemmas.Bool.Decides.{eqb_tells}
 use Rattle.std.proofs.lemmas.List.{length-take, length-drop, get_or-take, take-append-drop}
