@@ -58,5 +58,5 @@ fn is_random(alloc: Global) -> bool {
 
 #[test]
 fn a_random_order_begins_with_the_first_numbers_of_its_generator(rt: HostRuntime) {
-    holds(&rt, is_random(rt.alloc()));
+    holds(&rt, "a node by itself", is_random(rt.alloc()));
 }

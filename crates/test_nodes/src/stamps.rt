@@ -145,5 +145,5 @@ fn all_hold(alloc: Global) -> bool {
 
 #[test]
 fn a_refused_turn_adds_nothing_where_stamps_are_used_up(rt: HostRuntime) {
-    holds(&rt, all_hold(rt.alloc()));
+    holds(&rt, "two nodes and one lock", all_hold(rt.alloc()));
 }
