@@ -1,39 +1,13 @@
 -- What is told of one event more.
-use Rattle.std.proofs.Common.{ℕ, ◌+◌, ◌-◌, ◌<◌, ◌≤◌, List, [], ◌++◌, length, get_or, inl, inr, refl, arith, length-append}
-use Rattle.std.specs.Prelude.{AllPairs, Contains}
-use Rattle.std.proofs.lemmas.Bool.{cases_eq, cases_lt}
-use Rattle.std.proofs.lemmas.List.{get_or_append_left, get_or-append_right, get_or_default}
+use Rattle.std.proofs.Common.{ℕ, ◌+◌, ◌≤◌, List, [], ◌++◌, length, inl, inr, arith}
+use Rattle.std.proofs.lemmas.Bool.{cases_eq}
 use Rattle.std.proofs.lemmas.List.Elements.{Contains-append_left, Contains-append_right, Contains-append_cases}
 use Rattle.lrc_std.specs.declared.event.Event.{Event}
 use Rattle.lrc_std.specs.declared.event.Pair.{Pair}
 use Rattle.lrc_std.specs.Races.{ComesFirst, AreTold, AreToldAt}
 use Rattle.lrc_std.proofs.Positions.{At-within}
 use Rattle.lrc_stream.specs.Detecting.{AreToldBefore}
-
-contained_at : (pairs : List Pair) (k : ℕ) (d : Pair) → k < length pairs → Contains pairs (get_or pairs k d)
-contained_at pairs k d lt = (k, lt, get_or_default pairs k (get_or pairs k d) d lt)
-
--- two lists in order are in order as one, where each of the first comes before each of the second
-pairs-append : (R : Pair → Pair → Type 0) (xs ys : List Pair) → AllPairs R xs → AllPairs R ys
-    → ((p q : Pair) → Contains xs p → Contains ys q → R p q) → AllPairs R (xs ++ ys)
-pairs-append R xs ys f g h i j d lt within =
-    let long = length-append xs ys in
-    elim (cases_lt j (length xs)) [
-      | inl left ↦
-          let i_left : i < length xs = omega arith in
-          rw (get_or_append_left xs ys d i i_left, get_or_append_left xs ys d j left) (f i j d lt left)
-      | inr right ↦
-          let j_in : j - length xs < length ys = omega arith in
-          elim (cases_lt i (length xs)) [
-            | inl i_left ↦
-                rw (get_or_append_left xs ys d i i_left, get_or-append_right xs ys (length xs) j d refl right)
-                (h (get_or xs i d) (get_or ys (j - length xs) d) (contained_at xs i d i_left) (contained_at ys (j - length xs) d j_in))
-            | inr i_right ↦
-                let less : i - length xs < j - length xs = omega arith in
-                rw (get_or-append_right xs ys (length xs) i d refl i_right, get_or-append_right xs ys (length xs) j d refl right)
-                (g (i - length xs) (j - length xs) d less j_in)
-          ]
-    ]
+use Rattle.lrc_stream.proofs.Pairs.{pairs-append}
 
 pub told-none : (events : List Event) → AreToldBefore events 0 []
 told-none events = record {

@@ -6,3 +6,5 @@ pub mod Giving
 pub mod Noting
 pub mod Telling
 pub mod Collecting
+pub mod Pairs
+pub mod Placing

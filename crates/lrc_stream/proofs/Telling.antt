@@ -4,7 +4,7 @@ use Rattle.std.specs.Prelude.{◌↔◌, ◌==◌, nat_lt, Option, Some, None, B
 use Rattle.std.proofs.lemmas.Bool.{cases_eq, cases_lt, lt-ltb, eq-eqb, ne_eqb}
 use Rattle.std.proofs.lemmas.List.Elements.{Contains-push, Contains-push_cases, Contains-append_left}
 use Rattle.std.proofs.lemmas.List.Quantifiers.{all_pairs_push}
-use Rattle.std.proofs.lemmas.Option.{slice_get-get_or, slice_get_past}
+use Rattle.std.proofs.lemmas.Option.{slice_get-get_or}
 use Rattle.std.proofs.lemmas.List.{append-nil, get_or_default}
 use Rattle.lrc_std.specs.declared.event.Event.{Event}
 use Rattle.lrc_std.specs.declared.event.Pair.{Pair}
@@ -16,19 +16,18 @@ use Rattle.lrc_std.specs.Races.{Conflict, Races, IsTold, ComesFirst, AreToldAt}
 use Rattle.lrc_std.proofs.Positions.{At-one}
 use Rattle.lrc_std.proofs.HappensBefore.{transitive}
 use Rattle.lrc_stream.specs.declared.variables.Last.{Last}
-use Rattle.lrc_stream.specs.Variables.{last_at, last_or, no_last, told_with, told_one, told_below}
-use Rattle.lrc_stream.specs.Knowing.{Gathers, IsLastAt, IsLastOf, IsLast, AccessOf, WriteOf}
+use Rattle.lrc_stream.specs.Variables.{thread_of, told_with, told_one, told_at, told_below}
+use Rattle.lrc_stream.specs.Knowing.{Gathers, IsLastAt, IsLastOf, IsLast, IsRow, AccessOf, WriteOf}
 use Rattle.lrc_stream.proofs.Gathering.{Gathers-one}
 use Rattle.lrc_stream.proofs.Noting.{operation_of}
+use Rattle.lrc_stream.proofs.Pairs.{contained_at}
 
 -- ---- the list, as a program makes it
 
 pub told-next : (lasts : List Last) (known : List ℕ) (later : Placed) (w : Bool) (i : ℕ) (d : Last) (r : Option Pair) → i < length lasts
-    → r ≡ told_one (get_or lasts i d) i known later w
+    → r ≡ told_one (get_or lasts i d) known later w
     → told_below lasts known later w (i + 1) ≡ told_below lasts known later w i ++ option_to_list r
-told-next lasts known later w i d r lt e =
-    let at : last_at lasts i ≡ get_or lasts i d = ap last_or (slice_get-get_or lasts i d lt) in
-    rw (add-one, at, ← e) refl
+told-next lasts known later w i d r lt e = rw (add-one, slice_get-get_or lasts i d lt, ← e) refl
 
 -- ---- pairs
 
@@ -51,10 +50,14 @@ abbrev pub Rival : List Event → Bool → ℕ → ℕ → ℕ → Type 0
 Rival events true v u k = AccessOf events v u k
 Rival events false v u k = WriteOf events v u k
 
-rival_last : (events : List Event) (n v u : ℕ) (w : Bool) (last : Last) → IsLast events n v u last
-    → IsLastOf events n (Rival events w v u) (if w then last.access else last.write)
-rival_last events n v u true last is = is.access
-rival_last events n v u false last is = is.write
+rival_last : (events : List Event) (n v : ℕ) (w : Bool) (last : Last) → IsLast events n v last
+    → IsLastOf events n (Rival events w v (thread_of last)) (if w then Some last.access else last.write)
+rival_last events n v true last is = is.access
+rival_last events n v false last is = is.write
+
+rival_access : (events : List Event) (v u k : ℕ) (w : Bool) → Rival events w v u k → AccessOf events v u k
+rival_access events v u k true h = h
+rival_access events v u k false (a, at, of, writes) = (a, at, of, inr writes)
 
 module _ (events : List Event) (later : Placed) (here : At events later.position later.event) (w : Bool) (v : ℕ)
     (op : later.event.operation ≡ operation_of w v) (known : List ℕ) (g : Gathers events (λ k. k ≡ later.position) known) where
@@ -179,103 +182,102 @@ module _ (events : List Event) (later : Placed) (here : At events later.position
               )
         ]
 
-  one_exact : (last : Last) (u : ℕ) → IsLast events n v u last → (p : Pair)
-      → (told_one last u known later w ≡ Some p) ↔ (IsTold events p × (p.later.position ≡ n) × (p.earlier.event.thread ≡ u))
-  one_exact last u is p =
+  one_exact : (last : Last) → IsLast events n v last → (p : Pair)
+      → (told_one last known later w ≡ Some p) ↔ (IsTold events p × (p.later.position ≡ n) × (p.earlier.event.thread ≡ thread_of last))
+  one_exact last is p =
+      let u = thread_of last in
       elim (cases_eq u b.thread) [
         | inl same ↦
             let test : (u == b.thread) ≡ true = eq-eqb u b.thread same in (
-              λ e. let none : told_one last u known later w ≡ None = rw test refl in let never : ⊥ = cc in absurd never,
+              λ e. let none : told_one last known later w ≡ None = rw test refl in let never : ⊥ = cc in absurd never,
               λ (told, at_n, of). absurd (race_apart p.earlier.position p.earlier.event told.first
                   (subst (λ m. Races events p.earlier.position m) at_n told.races) (of ∙ same)),
             )
         | inr apart ↦
             let test : (u == b.thread) ≡ false = ne_eqb u b.thread apart in
-            let with : told_one last u known later w ≡ told_with (if w then last.access else last.write) (get_or known u 0) later = rw test refl in
-            let exact = with_exact u apart (if w then last.access else last.write) (rival_last events n v u w last is) p in
+            let with : told_one last known later w ≡ told_with (if w then Some last.access else last.write) (get_or known u 0) later = rw test refl in
+            let exact = with_exact u apart (if w then Some last.access else last.write) (rival_last events n v w last is) p in
             (λ e. exact.0 (sym with ∙ e), λ told. with ∙ exact.1 told)
       ]
 
   -- ---- the list
 
-  record AreToldBelow (u : ℕ) (pairs : List Pair) : Type 0 where
-    in_order : AllPairs ComesFirst pairs
-    exact : (p : Pair) → Contains pairs p ↔ (IsTold events p × (p.later.position ≡ n) × (p.earlier.event.thread < u))
+  module _ (lasts : List Last) (are : IsRow events n v lasts) where
+    abbrev d : Last
+    d = record { access = later; write = None }
 
-  module _ (lasts : List Last) (are : (u : ℕ) → IsLast events n v u (last_at lasts u)) where
-    more : (u : ℕ) (pairs : List Pair) (o : Option Pair)
-        → ((p : Pair) → (o ≡ Some p) ↔ (IsTold events p × (p.later.position ≡ n) × (p.earlier.event.thread ≡ u)))
-        → AreToldBelow u pairs → AreToldBelow (suc u) (pairs ++ option_to_list o)
-    more u pairs None none old = rw append-nil (record {
+    abbrev thread_at : ℕ → ℕ
+    thread_at k = thread_of (get_or lasts k d)
+
+    record AreToldBelow (i : ℕ) (pairs : List Pair) : Type 0 where
+      in_order : AllPairs ComesFirst pairs
+      exact : (p : Pair) → Contains pairs p ↔ (IsTold events p × (p.later.position ≡ n) × ((k : ℕ) × (k < i) × (p.earlier.event.thread ≡ thread_at k)))
+
+    more : (i : ℕ) → i < length lasts → (pairs : List Pair) (o : Option Pair)
+        → ((p : Pair) → (o ≡ Some p) ↔ (IsTold events p × (p.later.position ≡ n) × (p.earlier.event.thread ≡ thread_at i)))
+        → AreToldBelow i pairs → AreToldBelow (suc i) (pairs ++ option_to_list o)
+    more i lt pairs None none old = rw append-nil (record {
       in_order = old.in_order;
       exact = λ p. (
-        λ h. let (told, at, below) = (old.exact p).0 h in (told, at, omega arith),
-        λ (told, at, below).
-            elim (cases_eq p.earlier.event.thread u) [
-              | inl same ↦ let e = (none p).1 (told, at, same) in let never : ⊥ = cc in absurd never
-              | inr other ↦ (old.exact p).1 (told, at, omega arith)
+        λ h. let (told, at, (k, below, of)) = (old.exact p).0 h in (told, at, (k, omega arith, of)),
+        λ (told, at, (k, below, of)).
+            elim (cases_eq k i) [
+              | inl same ↦ let e = (none p).1 (told, at, of ∙ ap thread_at same) in let never : ⊥ = cc in absurd never
+              | inr other ↦ (old.exact p).1 (told, at, (k, omega arith, of))
             ],
       );
     })
-    more u pairs (Some q) is old =
+    more i lt pairs (Some q) is old =
         let (q_told, q_at, q_of) = (is q).0 refl in
         record {
-          in_order = all_pairs_push ComesFirst pairs q old.in_order (λ k d lt.
-              let (told, at, below) = (old.exact (get_or pairs k d)).0 (k, lt, get_or_default pairs k (get_or pairs k d) d lt) in
+          in_order = all_pairs_push ComesFirst pairs q old.in_order (λ j e j_in.
+              let (told, at, (k, below, of)) = (old.exact (get_or pairs j e)).0 (j, j_in, get_or_default pairs j (get_or pairs j e) e j_in) in
+              let lower = are.ascending k i d below lt in
               inr (at ∙ sym q_at, omega arith));
           exact = λ p. (
             λ h.
                 elim (Contains-push_cases pairs q p h) [
-                  | inl before ↦ let (told, at, below) = (old.exact p).0 before in (told, at, omega arith)
-                  | inr same ↦ subst (λ (x : Pair). IsTold events x × (x.later.position ≡ n) × (x.earlier.event.thread < suc u)) same
-                      (q_told, q_at, omega arith)
+                  | inl before ↦ let (told, at, (k, below, of)) = (old.exact p).0 before in (told, at, (k, omega arith, of))
+                  | inr same ↦
+                      subst (λ (x : Pair). IsTold events x × (x.later.position ≡ n) × ((k : ℕ) × (k < suc i) × (x.earlier.event.thread ≡ thread_at k))) same
+                      (q_told, q_at, (i, omega arith, q_of))
                 ],
-            λ (told, at, below).
-                elim (cases_eq p.earlier.event.thread u) [
+            λ (told, at, (k, below, of)).
+                elim (cases_eq k i) [
                   | inl same ↦
-                      let e = (is p).1 (told, at, same) in
+                      let e = (is p).1 (told, at, of ∙ ap thread_at same) in
                       let one : q ≡ p = cc in
                       subst (λ (x : Pair). Contains (pairs ++ q ∷ []) x) one (Contains-push pairs q)
-                  | inr other ↦ Contains-append_left pairs (q ∷ []) p ((old.exact p).1 (told, at, omega arith))
+                  | inr other ↦ Contains-append_left pairs (q ∷ []) p ((old.exact p).1 (told, at, (k, omega arith, of)))
                 ],
           );
         }
 
-    told_so_far : (u : ℕ) → AreToldBelow u (told_below lasts known later w u)
-    told_so_far zero = record {
-      in_order = λ i j d lt within. absurd (omega arith);
-      exact = λ p. (λ (k, lt, h). absurd (omega arith), λ (told, at, below). absurd (omega arith));
+    told_so_far : (i : ℕ) → i ≤ length lasts → AreToldBelow i (told_below lasts known later w i)
+    told_so_far zero le = record {
+      in_order = λ i j e lt within. absurd (omega arith);
+      exact = λ p. (λ (k, lt, h). absurd (omega arith), λ (told, at, (k, below, of)). absurd (omega arith));
     }
-    told_so_far (suc u) =
-        more u (told_below lasts known later w u) (told_one (last_at lasts u) u known later w) (one_exact (last_at lasts u) u (are u)) (told_so_far u)
-
-    -- beyond the list nothing was accessed
-    thread_within : (u k : ℕ) → k < n → Rival events w v u k → u < length lasts
-    thread_within u k lt h =
-        elim (cases_lt u (length lasts)) [
-          | inl within ↦ within
-          | inr past ↦
-              let none : last_at lasts u ≡ no_last = ap last_or (slice_get_past lasts u past) in
-              let is = subst (λ l. IsLast events n v u l) none (are u) in
-              absurd (no_rival w (rival_last events n v u w no_last is) k lt h)
-        ]
-      where
-        no_rival : (w' : Bool) → IsLastOf events n (Rival events w v u) (if w' then no_last.access else no_last.write) → (k : ℕ) → k < n → Rival events w v u k → ⊥
-        no_rival true h = h
-        no_rival false h = h
+    told_so_far (suc i) le =
+        let lt : i < length lasts = omega arith in
+        let last : Last = get_or lasts i d in
+        subst (λ o. AreToldBelow (suc i) (told_below lasts known later w i ++ option_to_list (told_at o known later w))) (sym (slice_get-get_or lasts i d lt))
+        (more i lt (told_below lasts known later w i) (told_one last known later w) (one_exact last (are.sound last (contained_at lasts i d lt))) (told_so_far i (omega arith)))
 
     pub told_all : AreToldAt events n (told_below lasts known later w (length lasts))
     told_all =
-        let all = told_so_far (length lasts) in
+        let all = told_so_far (length lasts) (omega arith) in
         record {
           in_order = all.in_order;
           exact = λ p. (
-            λ h. let (told, at, below) = (all.exact p).0 h in (told, at),
+            λ h. let (told, at, (k, below, of)) = (all.exact p).0 h in (told, at),
             λ (told, at).
                 let races : Races events p.earlier.position n = subst (λ m. Races events p.earlier.position m) at told.races in
-                let within = thread_within p.earlier.event.thread p.earlier.position races.earlier
-                (race_rival p.earlier.event.thread p.earlier.position p.earlier.event told.first refl races) in
-                (all.exact p).1 (told, at, within),
+                let rival = race_rival p.earlier.event.thread p.earlier.position p.earlier.event told.first refl races in
+                let (last, (k, within, is), of) = are.complete p.earlier.event.thread p.earlier.position races.earlier
+                (rival_access events v p.earlier.event.thread p.earlier.position w rival) in
+                let same : get_or lasts k d ≡ last = get_or_default lasts k d last within ∙ is in
+                (all.exact p).1 (told, at, (k, within, sym of ∙ sym (ap thread_of same))),
           );
         }
 

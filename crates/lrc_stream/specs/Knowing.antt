@@ -1,5 +1,5 @@
 -- What the vectors of the detector know of the events before a position.
-use Rattle.std.specs.Prelude.{◌≡◌, ◌≢◌, ℕ, ◌<◌, ◌≤◌, ◌⊎◌, List, [], Option, Some, None, slice_get, slice_index}
+use Rattle.std.specs.Prelude.{◌≡◌, ◌≢◌, ℕ, ◌<◌, ◌≤◌, ◌⊎◌, List, [], Option, Some, None, Contains, slice_get, slice_index}
 use Rattle.lrc_std.specs.declared.event.Event.{Event}
 use Rattle.lrc_std.specs.declared.event.Operation.{Operation}
 use Rattle.lrc_std.specs.declared.event.Operation.TheVariants.{Acquire, Wait, Fork, Join, Arrive, Depart}
@@ -14,7 +14,7 @@ use Rattle.lrc_stream.specs.declared.variables.Last.{Last}
 use Rattle.lrc_stream.specs.declared.variables.Variables.{Variables}
 use Rattle.lrc_stream.specs.Clocks.{row}
 use Rattle.lrc_stream.specs.Barriers.{current_of, cycle_of, open_of, closed_of, known_of}
-use Rattle.lrc_stream.specs.Variables.{last_at, lasts_of}
+use Rattle.lrc_stream.specs.Variables.{thread_of, lasts_of, IsAscending}
 
 -- A vector gathers these positions: an event is one of them, or happens before one, exactly where its position is below
 -- the entry of its thread.
@@ -94,9 +94,15 @@ AccessOf events v u k = (a : Event) × At events k a × (a.thread ≡ u) × Acce
 abbrev pub WriteOf : List Event → ℕ → ℕ → ℕ → Type 0
 WriteOf events v u k = (a : Event) × At events k a × (a.thread ≡ u) × Writes a v
 
-pub record IsLast (events : List Event) (n v u : ℕ) (last : Last) : Type 0 where
-  pub access : IsLastOf events n (AccessOf events v u) last.access
-  pub write : IsLastOf events n (WriteOf events v u) last.write
+pub record IsLast (events : List Event) (n v : ℕ) (last : Last) : Type 0 where
+  pub access : IsLastAt events n (AccessOf events v (thread_of last)) last.access
+  pub write : IsLastOf events n (WriteOf events v (thread_of last)) last.write
+
+-- a row has the last accesses of each thread that accesses the variable, and of no other
+pub record IsRow (events : List Event) (n v : ℕ) (lasts : List Last) : Type 0 where
+  pub ascending : IsAscending lasts
+  pub sound : (last : Last) → Contains lasts last → IsLast events n v last
+  pub complete : (u k : ℕ) → k < n → AccessOf events v u k → (last : Last) × Contains lasts last × (thread_of last ≡ u)
 
 abbrev pub AreVariables : List Event → ℕ → Variables → Type 0
-AreVariables events n variables = (v u : ℕ) → IsLast events n v u (last_at (lasts_of variables v) u)
+AreVariables events n variables = (v : ℕ) → IsRow events n v (lasts_of variables v)

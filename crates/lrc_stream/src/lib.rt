@@ -2,8 +2,9 @@
 //! any length.
 //!
 //! The method is the plain one: a vector of each thread, of each lock, and of each barrier's open cycle, with one for each
-//! thread that is of a closed one; of each variable, for each thread, the last access and the last write. So memory grows
-//! with threads, locks, barriers and variables, and not with the length of the trace.
+//! thread that is of a closed one; of each variable, for each thread that accesses it, the last access and the last write,
+//! ascending by thread. So memory grows with threads, locks and barriers, and with the threads of each variable, and not with
+//! the length of the trace.
 //!
 //! Beside it, `held` says who holds each lock, and what is wrong with an event at a lock.
 #![tactic(auto)]

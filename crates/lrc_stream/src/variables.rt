@@ -1,43 +1,32 @@
 // The last accesses of variables.
-ghost use Rattle.std.specs.Prelude.{◌≡◌, ◌≢◌, ℕ, ◌<◌, [], ◌++◌, OnOk, length, vec_len};
-ghost use Rattle.lrc_stream.specs.Variables.{last_at, lasts_of, no_last, noted, told_one, told_below, IsNoted, IsNotedAt};
+ghost use Rattle.std.specs.Prelude.{◌≡◌, ◌≢◌, ℕ, ◌<◌, [], ◌++◌, OnOk, length};
+ghost use Rattle.lrc_stream.specs.Variables.{lasts_of, noted, told_one, told_below, IsNoted, IsRowNoted, IsPlace};
 
 use lrc_std::event::{Pair, Placed};
 use std::alloc::{AllocError, Global};
 
-/// The last access of a variable by a thread, and its last write.
+/// The last access of a variable by a thread that accesses it, and its last write.
 #[derive(Clone, Copy)]
 pub struct Last {
-    pub access: Option<Placed>,
+    pub access: Placed,
     pub write: Option<Placed>,
 }
 
-// What is kept where nothing was accessed.
-fn no_last() -> Last
-    ensures { result ≡ no_last }
-{
-    Last {
-        access: None,
-        write: None,
-    }
-}
-
 // The pair of an access with the last one of a thread, where that thread is another and the access does not know of it.
-fn told_one(
-    last: &Last,
-    thread: usize,
-    known: &[u64],
-    later: Placed,
-    is_write: bool,
-) -> Option<Pair>
-    ensures { result ≡ told_one last.now thread known.now later is_write }
+fn told_one(last: &Last, known: &[u64], later: Placed, is_write: bool) -> Option<Pair>
+    ensures { result ≡ told_one last.now known.now later is_write }
 {
-    if thread == later.event.thread as usize {
+    let thread = last.access.event.thread;
+    if thread == later.event.thread {
         return None;
     }
-    let found = if is_write { last.access } else { last.write };
+    let found = if is_write {
+        Some(last.access)
+    } else {
+        last.write
+    };
     let earlier = found?;
-    let known_there = match known.get(thread) {
+    let known_there = match known.get(thread as usize) {
         Some(value) => *value,
         None => 0,
     };
@@ -57,31 +46,58 @@ pub fn tell(
 ) -> Result<(), AllocError>
     ensures { OnOk result (told.new.items ≡ told.old.items ++ told_below lasts.now known.now later is_write (length lasts.now)) }
 {
-    for (thread, last) in lasts.iter().enumerate() {
-        if let Some(pair) = told_one(last, thread, known, later, is_write) {
+    for last in lasts {
+        if let Some(pair) = told_one(last, known, later, is_write) {
             told.push(pair)?;
         }
     }
     Ok(())
 }
 
-// Notes an access among the last ones of its variable.
-fn note_last(lasts: &mut Vec<Last>, placed: Placed, is_write: bool) -> Result<(), AllocError>
-    ensures { OnOk result (IsNotedAt lasts.old.items lasts.new.items placed is_write) }
+// Where the thread has its entry, or is to have it: behind all lower threads.
+fn place_of(lasts: &[Last], thread: u32) -> usize
+    ensures { IsPlace lasts.now thread result }
 {
-    let thread = placed.event.thread as usize;
-    while lasts.len() <= thread {
-        lasts.push(no_last())?;
+    for (at, last) in lasts.iter().enumerate() {
+        if last.access.event.thread >= thread {
+            return at;
+        }
     }
+    lasts.len()
+}
+
+// The entry of a thread, with an access more.
+fn noted(old: Option<Last>, placed: Placed, is_write: bool) -> Last
+    ensures { result ≡ noted old placed is_write }
+{
     let write = if is_write {
         Some(placed)
     } else {
-        lasts[thread].write
+        match old {
+            Some(last) => last.write,
+            None => None,
+        }
     };
-    lasts[thread] = Last {
-        access: Some(placed),
+    Last {
+        access: placed,
         write,
-    };
+    }
+}
+
+// Notes an access among the last ones of its variable.
+fn note_last(lasts: &mut Vec<Last>, placed: Placed, is_write: bool) -> Result<(), AllocError>
+    ensures { OnOk result (IsRowNoted lasts.old.items lasts.new.items placed is_write) }
+{
+    let thread = placed.event.thread;
+    let at = place_of(lasts.as_slice(), thread);
+    if at < lasts.len() {
+        let last = lasts[at];
+        if last.access.event.thread == thread {
+            lasts[at] = noted(Some(last), placed, is_write);
+            return Ok(());
+        }
+    }
+    lasts.insert(at, noted(None, placed, is_write))?;
     Ok(())
 }
 
@@ -113,7 +129,7 @@ impl Variables {
 
     // Makes a row for the variable, where there is none.
     fn reach(&mut self, variable: usize) -> Result<(), AllocError>
-        ensures { OnOk result ((variable < vec_len self.new.rows) × ((other : ℕ) → lasts_of self.new other ≡ lasts_of self.old other)) }
+        ensures { OnOk result ((variable < length self.new.rows.items) × ((other : ℕ) → lasts_of self.new other ≡ lasts_of self.old other)) }
     {
         let alloc = *self.rows.allocator();
         while self.rows.len() <= variable {

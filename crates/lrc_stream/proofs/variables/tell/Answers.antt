@@ -7,16 +7,16 @@ use Rattle.lrc_stream.proofs.Telling.{told-next}
 use Rattle.lrc_stream.proofs.variables.tell.Goals as goal
 use Rattle.lrc_stream.proofs.variables.tell.Goals.{in-Some+in_ok-push, in_default}
 
-pub loop-thread-preserved : goal.loop-thread-preserved
-loop-thread-preserved c =
-    let before = told_below c.args.lasts.now c.args.known.now c.args.later c.args.is_write c.loop-thread.thread in
-    let next = told-next c.args.lasts.now c.args.known.now c.args.later c.args.is_write c.loop-thread.thread _ c.told_one.result c.loop-thread-test.true c.told_one.ensures in
+pub loop-last-preserved : goal.loop-last-preserved
+loop-last-preserved c =
+    let before = told_below c.args.lasts.now c.args.known.now c.args.later c.args.is_write c.loop-last.last-index in
+    let next = told-next c.args.lasts.now c.args.known.now c.args.later c.args.is_write c.loop-last.last-index _ c.told_one.result c.loop-last-test.true c.told_one.ensures in
     elim c.match-told_one.branch [
       | in-Some+in_ok-push w ↦
           let one = ap (λ o. before ++ option_to_list o) w.in-Some.is in
-          ap (λ v. v.items) w.told-is ∙ w.in_ok-push.ensures.items ∙ ap (λ xs. xs ++ w.in-Some.pair ∷ []) c.loop-thread.invariant
+          ap (λ v. v.items) w.told-is ∙ w.in_ok-push.ensures.items ∙ ap (λ xs. xs ++ w.in-Some.pair ∷ []) c.loop-last.invariant
           ∙ append_assoc c.args.told.now.items before (w.in-Some.pair ∷ []) ∙ ap (λ xs. c.args.told.now.items ++ xs) (sym (next ∙ one))
       | in_default w ↦
           let none = ap (λ o. before ++ option_to_list o) w.in_default.is in
-          ap (λ v. v.items) w.told-is ∙ c.loop-thread.invariant ∙ ap (λ xs. c.args.told.now.items ++ xs) (sym (next ∙ none ∙ append-nil before))
+          ap (λ v. v.items) w.told-is ∙ c.loop-last.invariant ∙ ap (λ xs. c.args.told.now.items ++ xs) (sym (next ∙ none ∙ append-nil before))
     ]

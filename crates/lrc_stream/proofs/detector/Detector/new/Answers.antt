@@ -9,8 +9,8 @@ use Rattle.lrc_stream.specs.declared.barriers.Barriers.{Barriers}
 use Rattle.lrc_stream.specs.declared.barriers.Barrier.{Barrier}
 use Rattle.lrc_stream.specs.declared.variables.Variables.{Variables}
 use Rattle.lrc_stream.specs.Clocks.{row, entries_of}
-use Rattle.lrc_stream.specs.Variables.{last_at, lasts_of, items_of}
-use Rattle.lrc_stream.specs.Knowing.{Gathers, Before, AreVariables, IsBarrier, AreBarriers, IsLast, ArrivesIn}
+use Rattle.lrc_stream.specs.Variables.{lasts_of, items_of}
+use Rattle.lrc_stream.specs.Knowing.{Gathers, Before, AreVariables, IsBarrier, AreBarriers, IsRow, ArrivesIn}
 use Rattle.lrc_stream.proofs.Gathering.{Gathers-none}
 use Rattle.lrc_stream.proofs.detector.Detector.new.Goals as goal
 
@@ -33,9 +33,13 @@ no_barriers events barriers e x =
     subst (λ (o : Option Barrier). IsBarrier events 0 x o) (sym none) (no_barrier events x)
 
 no_variables : (events : List Event) (variables : Variables) → variables.rows.items ≡ [] → AreVariables events 0 variables
-no_variables events variables e v u =
+no_variables events variables e v =
     let empty : lasts_of variables v ≡ [] = ap (λ rows. items_of (slice_get rows v)) e in
-    subst (λ r. IsLast events 0 v u (last_at r u)) (sym empty) (record { access = λ k lt h. omega arith; write = λ k lt h. omega arith })
+    subst (λ r. IsRow events 0 v r) (sym empty) (record {
+      ascending = λ i j d lt within. absurd (omega arith);
+      sound = λ last (k, lt, is). absurd (omega arith);
+      complete = λ u k lt h. absurd (omega arith);
+    })
 
 pub returns : goal.returns
 returns c = λ events. record {
