@@ -5,3 +5,5 @@ pub mod Existing
 pub mod Unordered
 pub mod Holding
 pub mod Barriers
+pub mod Exactly
+pub mod KnownWrites
