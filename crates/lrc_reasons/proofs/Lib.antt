@@ -7,3 +7,4 @@ pub mod Holding
 pub mod Barriers
 pub mod Exactly
 pub mod KnownWrites
+pub mod Allowing
