@@ -5,3 +5,6 @@ pub mod Existing
 pub mod Unordered
 pub mod Holding
 pub mod Barriers
+pub mod Exactly
+pub mod KnownWrites
+pub mod Allowing

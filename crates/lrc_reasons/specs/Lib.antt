@@ -4,3 +4,5 @@ pub mod Starts
 pub mod Known
 pub mod Onward
 pub mod Held
+pub mod Writes
+pub mod Crossing

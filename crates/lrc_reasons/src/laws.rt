@@ -1,13 +1,16 @@
 // Laws of the definitions of reasons. Each function is a theorem: its body is empty, and its clause is the law.
-ghost use Rattle.std.specs.Prelude.{◌≡◌, ℕ, ◌<◌, ◌↔◌, List};
+ghost use Rattle.std.specs.Prelude.{◌≡◌, ℕ, ◌<◌, ◌⊎◌, ◌↔◌, List};
 ghost use Rattle.lrc_trace.specs.declared.act.Act.{Act};
 ghost use Rattle.lrc_trace.specs.declared.act.Deed.{Deed};
-ghost use Rattle.lrc_trace.specs.Run.{Does, departs_before};
+ghost use Rattle.lrc_trace.specs.declared.act.Deed.TheVariants.{Write};
+ghost use Rattle.lrc_trace.specs.Run.{Does, IsDone, departs_before};
 ghost use Rattle.lrc_trace.specs.Conflict.{Races};
 ghost use Rattle.lrc_trace.specs.Interval.{interval_at};
 ghost use Rattle.lrc_trace.specs.Synchronization.{Holds, IsWellSynchronized, WaitsAtBarriers};
 ghost use Rattle.lrc_trace.specs.Order.{HappensBefore};
+ghost use Rattle.lrc_trace.specs.Reading.{WrittenBefore, MayRead};
 ghost use Rattle.lrc_reasons.specs.Chains.{IsChain, IsTold};
+ghost use Rattle.lrc_reasons.specs.Writes.{IsKnownWrite, IsLastKnownWrite, IsCrossing};
 
 /// There is a chain from one position to another exactly where the one happens before the other.
 pub fn a_chain_is_there_where_one_happens_before_the_other()
@@ -41,4 +44,16 @@ pub fn races_are_behind_the_same_barrier()
     ensures { (nodes : ℕ) (run : List Act) → IsWellSynchronized nodes run → WaitsAtBarriers run → (i j p q : ℕ) (a b : Deed)
         → Races run i j → Does run i p a → Does run j q b → p < nodes → q < nodes
         → departs_before run p i ≡ departs_before run q j }
+{}
+
+/// What a read may give, by the writes to its word that are known at it. Where no two of them race it is the value of the
+/// last one, or 0 where there are none. Where two race it is 0, or what any of them wrote.
+pub fn known_writes_say_what_a_read_may_give()
+    ensures last { (run : List Act) (position word i value : ℕ) → IsLastKnownWrite run position word i → IsDone run i (Write word value)
+        → ((k l : ℕ) → ¬ IsCrossing run position word k l)
+        → (given : ℕ) → MayRead run position word given ↔ (given ≡ value) }
+    ensures none { (run : List Act) (position word : ℕ) → ((i : ℕ) → ¬ IsKnownWrite run position word i)
+        → (given : ℕ) → MayRead run position word given ↔ (given ≡ 0) }
+    ensures race { (run : List Act) (position word i j : ℕ) → IsCrossing run position word i j
+        → (given : ℕ) → MayRead run position word given ↔ ((given ≡ 0) ⊎ ((k : ℕ) × WrittenBefore run position word k given)) }
 {}

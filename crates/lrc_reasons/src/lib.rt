@@ -10,6 +10,7 @@ pub mod laws;
 mod numbers;
 mod onward;
 mod starts;
+pub mod writes;
 
 /// How many nodes, and how many locks, an act can name.
 const NAMES: usize = 256;
