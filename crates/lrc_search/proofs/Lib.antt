@@ -1,1 +1,3 @@
 pub mod Walking
+pub mod Freely
+pub mod SoFar
