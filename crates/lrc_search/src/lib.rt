@@ -2,4 +2,5 @@
 #![tactic(auto)]
 
 pub mod settling;
+pub mod table;
 pub mod turning;
