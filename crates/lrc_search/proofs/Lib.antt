@@ -1,1 +1,4 @@
 pub mod Walking
+pub mod Freely
+pub mod SoFar
+pub mod Spots

@@ -1,1 +1,3 @@
 pub mod Turning
+pub mod Settling
+pub mod Table
