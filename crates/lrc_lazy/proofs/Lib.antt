@@ -5,3 +5,4 @@ pub mod FirstRace
 pub mod Racing
 pub mod Resting
 pub mod Outcomes
+pub mod Stopping

@@ -32,7 +32,7 @@ deeds_more n run a =
     ap (map (λ (x : Act). x.deed)) (filter-append (λ (x : Act). x.node == n) run (a ∷ []))
     ∙ map-append (λ (x : Act). x.deed) (filter (λ (x : Act). x.node == n) run) (filter (λ (x : Act). x.node == n) (a ∷ []))
 
-deeds_more-own : (n : ℕ) (run : List Act) (d : Deed) → deeds_of n (run ++ act_of n d ∷ []) ≡ deeds_of n run ++ d ∷ []
+pub deeds_more-own : (n : ℕ) (run : List Act) (d : Deed) → deeds_of n (run ++ act_of n d ∷ []) ≡ deeds_of n run ++ d ∷ []
 deeds_more-own n run d = deeds_more n run (act_of n d) ∙ ap (λ ds. deeds_of n run ++ ds) (deeds_of-own (act_of n d) [])
 
 deeds_more-other : (n : ℕ) (run : List Act) (a : Act) → (a.node ≡ n → ⊥) → deeds_of n (run ++ a ∷ []) ≡ deeds_of n run ++ []

@@ -8,13 +8,19 @@ ghost use Rattle.lrc_consistency_laws.specs.Follows.{nodes_of_acts};
 ghost use Rattle.lrc_consistency_laws.specs.Racing.{HasNoRace};
 ghost use Rattle.lrc_explore.specs.Outcome.{IsOutcome};
 ghost use Rattle.lrc_explore.specs.Stuck.{IsAtRest};
-ghost use Rattle.lrc_lazy.specs.Lazy.{IsLazyRun, IsOver, IsLazyOutcome, HasNoLazyRace, RacesInSomeOrder, RacesInSomeLazyRun};
+ghost use Rattle.lrc_lazy.specs.Lazy.{IsLazyRun, IsOver, AllHaveStoppedOrWait, IsLazyOutcome, HasNoLazyRace, RacesInSomeOrder, RacesInSomeLazyRun};
 
 /// After a lazy run no node can act exactly where no act more makes a lazy run: a node that is about to read always has a value that it
 /// may read.
 pub fn a_run_is_over_where_no_lazy_run_goes_on()
     ensures { (program : Program) (nodes : ℕ) (acts : List Act) → IsLazyRun program nodes acts
         → (IsOver program nodes acts ↔ ((act : Act) → ¬ IsLazyRun program nodes (acts ++ act ∷ []))) }
+{}
+
+/// No node can act where each has ended, has trapped, or waits for a lock that some node holds or at a barrier that some node has not
+/// come to. So a run of which every node ends is over.
+pub fn a_run_is_over_where_each_node_has_stopped_or_waits()
+    ensures { (program : Program) (nodes : ℕ) (acts : List Act) → AllHaveStoppedOrWait program nodes acts → IsOver program nodes acts }
 {}
 
 /// After a run of the plain machine no node can act exactly where the machine is at rest: so a lazy outcome is of runs that are over in
