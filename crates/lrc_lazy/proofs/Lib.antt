@@ -6,3 +6,6 @@ pub mod Racing
 pub mod Resting
 pub mod Outcomes
 pub mod Stopping
+pub mod Chains
+pub mod BufferingLazily
+pub mod BufferingPlainly

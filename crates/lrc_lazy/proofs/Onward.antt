@@ -47,7 +47,7 @@ makes_read [] w u v (and_then g m) = and_then (other_read v g).1 nothing_more
 makes_read (d ∷ ds) w u v (and_then g m) = and_then g (makes_read ds w u v m)
 
 -- where each act is of one of the nodes, all are
-all_in_range : (nodes : ℕ) (run : List Act) → ((k n : ℕ) (d : Deed) → Does run k n d → n < nodes) → All (λ a. a.node < nodes) run
+pub all_in_range : (nodes : ℕ) (run : List Act) → ((k n : ℕ) (d : Deed) → Does run k n d → n < nodes) → All (λ a. a.node < nodes) run
 all_in_range nodes run each k d lt =
     let a = act_at run k lt in
     let at : slice_index_or run k d ≡ a.0 = get_or_from_slice_get run k a.0 d a.1.stands in

@@ -2,12 +2,14 @@
 
 ghost use Rattle.std.specs.Prelude.{◌≡◌, ℕ, ◌↔◌, ◌++◌, ◌∷◌, [], List, Some};
 ghost use Rattle.lrc_lang.specs.declared.program.Program.{Program};
+ghost use Rattle.lrc_lang.specs.Tree.{program_of};
 ghost use Rattle.lrc_trace.specs.declared.act.Act.{Act};
 ghost use Rattle.lrc_exec.specs.Plain.{Plain, plain_start, plain_from, plain};
 ghost use Rattle.lrc_consistency_laws.specs.Follows.{nodes_of_acts};
 ghost use Rattle.lrc_consistency_laws.specs.Racing.{HasNoRace};
 ghost use Rattle.lrc_explore.specs.Outcome.{IsOutcome};
 ghost use Rattle.lrc_explore.specs.Stuck.{IsAtRest};
+ghost use Rattle.lrc_lazy.specs.Buffering.{store_buffering, both_print_zero};
 ghost use Rattle.lrc_lazy.specs.Lazy.{IsLazyRun, IsOver, AllHaveStoppedOrWait, IsLazyOutcome, HasNoLazyRace, RacesInSomeOrder, RacesInSomeLazyRun};
 
 /// After a lazy run no node can act exactly where no act more makes a lazy run: a node that is about to read always has a value that it
@@ -48,4 +50,11 @@ pub fn without_a_race_lazy_runs_are_plain()
 pub fn without_a_race_lazy_outcomes_are_plain()
     ensures { (program : Program) (nodes : ℕ) → HasNoRace program nodes → (notes : List Act)
         → (IsLazyOutcome program nodes notes ↔ IsOutcome program nodes notes) }
+{}
+
+/// Store buffering: two nodes each write a word of their own and then read the other's. Both may read 0 in a lazy run, and in no order of
+/// the plain machine. So with races a lazy outcome need not be one of the plain machine.
+pub fn store_buffering_has_an_outcome_that_is_lazy_alone()
+    ensures lazy { (program : Program) → program_of program ≡ store_buffering → IsLazyOutcome program 2 both_print_zero }
+    ensures plain { (program : Program) → program_of program ≡ store_buffering → ¬ IsOutcome program 2 both_print_zero }
 {}
