@@ -5,3 +5,7 @@ pub mod FirstRace
 pub mod Racing
 pub mod Resting
 pub mod Outcomes
+pub mod Stopping
+pub mod Chains
+pub mod BufferingLazily
+pub mod BufferingPlainly

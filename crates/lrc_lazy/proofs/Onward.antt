@@ -32,7 +32,7 @@ deeds_more n run a =
     ap (map (λ (x : Act). x.deed)) (filter-append (λ (x : Act). x.node == n) run (a ∷ []))
     ∙ map-append (λ (x : Act). x.deed) (filter (λ (x : Act). x.node == n) run) (filter (λ (x : Act). x.node == n) (a ∷ []))
 
-deeds_more-own : (n : ℕ) (run : List Act) (d : Deed) → deeds_of n (run ++ act_of n d ∷ []) ≡ deeds_of n run ++ d ∷ []
+pub deeds_more-own : (n : ℕ) (run : List Act) (d : Deed) → deeds_of n (run ++ act_of n d ∷ []) ≡ deeds_of n run ++ d ∷ []
 deeds_more-own n run d = deeds_more n run (act_of n d) ∙ ap (λ ds. deeds_of n run ++ ds) (deeds_of-own (act_of n d) [])
 
 deeds_more-other : (n : ℕ) (run : List Act) (a : Act) → (a.node ≡ n → ⊥) → deeds_of n (run ++ a ∷ []) ≡ deeds_of n run ++ []
@@ -47,7 +47,7 @@ makes_read [] w u v (and_then g m) = and_then (other_read v g).1 nothing_more
 makes_read (d ∷ ds) w u v (and_then g m) = and_then g (makes_read ds w u v m)
 
 -- where each act is of one of the nodes, all are
-all_in_range : (nodes : ℕ) (run : List Act) → ((k n : ℕ) (d : Deed) → Does run k n d → n < nodes) → All (λ a. a.node < nodes) run
+pub all_in_range : (nodes : ℕ) (run : List Act) → ((k n : ℕ) (d : Deed) → Does run k n d → n < nodes) → All (λ a. a.node < nodes) run
 all_in_range nodes run each k d lt =
     let a = act_at run k lt in
     let at : slice_index_or run k d ≡ a.0 = get_or_from_slice_get run k a.0 d a.1.stands in

@@ -93,7 +93,7 @@ module _ (run : List Act) (j word : ℕ) where
     };
   }
 
-  none_may : ((i v : ℕ) → WrittenBefore run j word i v → ⊥) → MayRead run j word 0
+  pub none_may : ((i v : ℕ) → WrittenBefore run j word i v → ⊥) → MayRead run j word 0
   none_may none = record {
     weak = inl refl;
     strong = λ ordered. record { none = λ unwritten. refl; last = λ i v last. absurd (none i v last.written) };

@@ -2,19 +2,27 @@
 
 ghost use Rattle.std.specs.Prelude.{◌≡◌, ℕ, ◌↔◌, ◌++◌, ◌∷◌, [], List, Some};
 ghost use Rattle.lrc_lang.specs.declared.program.Program.{Program};
+ghost use Rattle.lrc_lang.specs.Tree.{program_of};
 ghost use Rattle.lrc_trace.specs.declared.act.Act.{Act};
 ghost use Rattle.lrc_exec.specs.Plain.{Plain, plain_start, plain_from, plain};
 ghost use Rattle.lrc_consistency_laws.specs.Follows.{nodes_of_acts};
 ghost use Rattle.lrc_consistency_laws.specs.Racing.{HasNoRace};
 ghost use Rattle.lrc_explore.specs.Outcome.{IsOutcome};
 ghost use Rattle.lrc_explore.specs.Stuck.{IsAtRest};
-ghost use Rattle.lrc_lazy.specs.Lazy.{IsLazyRun, IsOver, IsLazyOutcome, HasNoLazyRace, RacesInSomeOrder, RacesInSomeLazyRun};
+ghost use Rattle.lrc_lazy.specs.Buffering.{store_buffering, both_print_zero};
+ghost use Rattle.lrc_lazy.specs.Lazy.{IsLazyRun, IsOver, AllHaveStoppedOrWait, IsLazyOutcome, HasNoLazyRace, RacesInSomeOrder, RacesInSomeLazyRun};
 
 /// After a lazy run no node can act exactly where no act more makes a lazy run: a node that is about to read always has a value that it
 /// may read.
 pub fn a_run_is_over_where_no_lazy_run_goes_on()
     ensures { (program : Program) (nodes : ℕ) (acts : List Act) → IsLazyRun program nodes acts
         → (IsOver program nodes acts ↔ ((act : Act) → ¬ IsLazyRun program nodes (acts ++ act ∷ []))) }
+{}
+
+/// No node can act where each has ended, has trapped, or waits for a lock that some node holds or at a barrier that some node has not
+/// come to. So a run of which every node ends is over.
+pub fn a_run_is_over_where_each_node_has_stopped_or_waits()
+    ensures { (program : Program) (nodes : ℕ) (acts : List Act) → AllHaveStoppedOrWait program nodes acts → IsOver program nodes acts }
 {}
 
 /// After a run of the plain machine no node can act exactly where the machine is at rest: so a lazy outcome is of runs that are over in
@@ -42,4 +50,11 @@ pub fn without_a_race_lazy_runs_are_plain()
 pub fn without_a_race_lazy_outcomes_are_plain()
     ensures { (program : Program) (nodes : ℕ) → HasNoRace program nodes → (notes : List Act)
         → (IsLazyOutcome program nodes notes ↔ IsOutcome program nodes notes) }
+{}
+
+/// Store buffering: two nodes each write a word of their own and then read the other's. Both may read 0 in a lazy run, and in no order of
+/// the plain machine. So with races a lazy outcome need not be one of the plain machine.
+pub fn store_buffering_has_an_outcome_that_is_lazy_alone()
+    ensures lazy { (program : Program) → program_of program ≡ store_buffering → IsLazyOutcome program 2 both_print_zero }
+    ensures plain { (program : Program) → program_of program ≡ store_buffering → ¬ IsOutcome program 2 both_print_zero }
 {}
