@@ -8,3 +8,4 @@ pub mod Telling
 pub mod Collecting
 pub mod Pairs
 pub mod Placing
+pub mod Firsts

@@ -5,3 +5,4 @@ pub mod Variables
 pub mod Knowing
 pub mod Detecting
 pub mod Held
+pub mod Threads

@@ -395,6 +395,26 @@ pub const FORKS: &[Case] = &[
 
 /// Races.
 pub const RACES: &[Case] = &[
+    // threads come in another order than that of their numbers
+    Case {
+        events: &[
+            (1, 5, Write(0)),
+            (2, 1, Read(0)),
+            (3, 3, Write(0)),
+            (4, 1, Read(0)),
+            (5, 0, Write(0)),
+        ],
+        told: &[
+            (1, 2),
+            (2, 3),
+            (1, 3),
+            (3, 4),
+            (1, 4),
+            (4, 5),
+            (3, 5),
+            (1, 5),
+        ],
+    },
     // after-a-race
     Case {
         events: &[

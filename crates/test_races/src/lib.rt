@@ -1,4 +1,4 @@
-//! Tests alone: lines of traces, numbers of names, pairs that are told of traces, and faults at locks.
+//! Tests alone: lines of traces, numbers of names, pairs that are told of traces, and faults at locks and of threads.
 #![tactic(auto)]
 
 #[cfg(test)]
@@ -11,3 +11,5 @@ mod locks;
 mod numbers;
 #[cfg(test)]
 mod played;
+#[cfg(test)]
+mod threads;

@@ -7,9 +7,9 @@ use lrc_stream::held::Holders;
 use std::alloc::{AllocError, Global};
 
 /// A trace, its events with their threads, the first on line 1; and the line of the first fault, with its reason.
-struct Case {
-    events: &'static [(u32, Operation)],
-    fault: Option<(u64, Reason)>,
+pub(crate) struct Case {
+    pub(crate) events: &'static [(u32, Operation)],
+    pub(crate) fault: Option<(u64, Reason)>,
 }
 
 const CASES: &[Case] = &[
@@ -88,7 +88,7 @@ fn first_fault(
     Ok(None)
 }
 
-fn is_same(found: Option<(u64, Reason)>, wanted: &Option<(u64, Reason)>) -> bool {
+pub(crate) fn is_same(found: Option<(u64, Reason)>, wanted: &Option<(u64, Reason)>) -> bool {
     match (found, wanted) {
         (Some(found), Some(wanted)) => found.0 == wanted.0 && found.1 == wanted.1,
         (None, None) => true,
@@ -106,7 +106,7 @@ fn all_hold(alloc: Global) -> Result<bool, AllocError> {
     Ok(true)
 }
 
-fn is_so(answer: Result<bool, AllocError>) -> bool {
+pub(crate) fn is_so(answer: Result<bool, AllocError>) -> bool {
     match answer {
         Ok(so) => so,
         Err(_) => false,
