@@ -1,7 +1,15 @@
-//! Tests alone: runs of a few acts, and the chains told in them.
+//! Tests alone: runs of a few acts, and what is told in them: chains, what is known and held, and what a read gives.
 #![tactic(auto)]
 
 #[cfg(test)]
 mod chains;
 #[cfg(test)]
 mod checks;
+#[cfg(test)]
+mod held;
+#[cfg(test)]
+mod known;
+#[cfg(test)]
+mod runs;
+#[cfg(test)]
+mod writes;
