@@ -2,4 +2,6 @@
 #![tactic(auto)]
 
 #[cfg(test)]
+mod settling;
+#[cfg(test)]
 mod turning;
