@@ -17,59 +17,59 @@ type Row = (
 );
 
 const EVENTS: &[Row] = &[
-    (b"T1|r(x)|1", b"T1", Read, b"x", b"1"),
-    (b"T1|w(x)", b"T1", Write, b"x", b""),
-    (b"T1|acq(L)|", b"T1", Acquire, b"L", b""),
-    (b"T1|rel(L)|2", b"T1", Release, b"L", b"2"),
-    (b"T1|post(L)|2", b"T1", Post, b"L", b"2"),
-    (b"T1|wait(L)|2", b"T1", Wait, b"L", b"2"),
-    (b"T1|fork(T2)|3", b"T1", Fork, b"T2", b"3"),
-    (b"T1|join(T2)|3", b"T1", Join, b"T2", b"3"),
-    (b"T1|arrive(X.7)|3", b"T1", Arrive, b"X.7", b"3"),
-    (b"T1|depart(X.7)|3", b"T1", Depart, b"X.7", b"3"),
+    (b"t1|r(x)|1", b"t1", Read, b"x", b"1"),
+    (b"t1|w(x)", b"t1", Write, b"x", b""),
+    (b"t1|acq(L)|", b"t1", Acquire, b"L", b""),
+    (b"t1|rel(L)|2", b"t1", Release, b"L", b"2"),
+    (b"t1|post(L)|2", b"t1", Post, b"L", b"2"),
+    (b"t1|wait(L)|2", b"t1", Wait, b"L", b"2"),
+    (b"t1|fork(t2)|3", b"t1", Fork, b"t2", b"3"),
+    (b"t1|join(t2)|3", b"t1", Join, b"t2", b"3"),
+    (b"t1|arrive(X.7)|3", b"t1", Arrive, b"X.7", b"3"),
+    (b"t1|depart(X.7)|3", b"t1", Depart, b"X.7", b"3"),
     // idle operations, alone, with a method, and with nothing in their parentheses
-    (b"T1|begin|4", b"T1", Idle, b"", b"4"),
-    (b"T1|end", b"T1", Idle, b"", b""),
-    (b"T1|enter(void m(int, (a)))|4", b"T1", Idle, b"", b"4"),
-    (b"T1|exit()|4", b"T1", Idle, b"", b"4"),
-    (b"T1|req(L)|4", b"T1", Idle, b"", b"4"),
-    (b"T1|branch|4", b"T1", Idle, b"", b"4"),
+    (b"t1|begin|4", b"t1", Idle, b"", b"4"),
+    (b"t1|end", b"t1", Idle, b"", b""),
+    (b"t1|enter(void m(int, (a)))|4", b"t1", Idle, b"", b"4"),
+    (b"t1|exit()|4", b"t1", Idle, b"", b"4"),
+    (b"t1|req(L)|4", b"t1", Idle, b"", b"4"),
+    (b"t1|branch|4", b"t1", Idle, b"", b"4"),
     // a blank, a carriage return and the sign of a comment stand for themselves within a line
-    (b" T1 |w( x )| 1 ", b" T1 ", Write, b" x ", b" 1 "),
+    (b" t1 |w( x )| 1 ", b" t1 ", Write, b" x ", b" 1 "),
     (b"T\r|w(x\r)|1\r2", b"T\r", Write, b"x\r", b"1\r2"),
     (b"T#|w(#)|#", b"T#", Write, b"#", b"#"),
-    (b"T1|w(x)|f(1)", b"T1", Write, b"x", b"f(1)"),
+    (b"t1|w(x)|f(1)", b"t1", Write, b"x", b"f(1)"),
     // one carriage return at the end is no part of the line, and one alone
-    (b"T1|w(x)|1\r", b"T1", Write, b"x", b"1"),
-    (b"T1|w(x)\r", b"T1", Write, b"x", b""),
-    (b"T1|w(x)|1\r\r", b"T1", Write, b"x", b"1\r"),
+    (b"t1|w(x)|1\r", b"t1", Write, b"x", b"1"),
+    (b"t1|w(x)\r", b"t1", Write, b"x", b""),
+    (b"t1|w(x)|1\r\r", b"t1", Write, b"x", b"1\r"),
 ];
 
-const NOTHING: &[&[u8]] = &[b"", b"\r", b"#", b"# T1|r(x)|1", b"#\r"];
+const NOTHING: &[&[u8]] = &[b"", b"\r", b"#", b"# t1|r(x)|1", b"#\r"];
 
 const BAD: &[&[u8]] = &[
     b" ",
     b" # no comment",
     b"\r\r",
-    b"T2|w(x",
-    b"T2|hear(x)|",
-    b"T1|ends|1",
-    b"T1|begin(x|1",
-    b"T1|w(x)|1|",
-    b"T1 r(x)",
-    b"T1|r (x)|1",
-    b"T1| r(x)|1",
-    b"T1|R(x)|1",
-    b"T1||1",
-    b"T1|read(x)|2",
-    b"T1|w(x|y)|1",
-    b"T1|w(x)y|1",
-    b"T1|acq()|1",
-    b"T1|w|1",
-    b"T1|w(x(1))|1",
+    b"t2|w(x",
+    b"t2|hear(x)|",
+    b"t1|ends|1",
+    b"t1|begin(x|1",
+    b"t1|w(x)|1|",
+    b"t1 r(x)",
+    b"t1|r (x)|1",
+    b"t1| r(x)|1",
+    b"t1|R(x)|1",
+    b"t1||1",
+    b"t1|read(x)|2",
+    b"t1|w(x|y)|1",
+    b"t1|w(x)y|1",
+    b"t1|acq()|1",
+    b"t1|w|1",
+    b"t1|w(x(1))|1",
     b"|r(x)|1",
     b"T(1|r(x)|1",
-    b"T1|w(x)\r\r",
+    b"t1|w(x)\r\r",
 ];
 
 fn is_event(named: Named<'_>, row: &Row) -> bool {
@@ -122,9 +122,9 @@ fn is_longest(alloc: Global, before: &[u8], count: u16, behind: &[u8]) -> Result
 
 fn are_longest(alloc: Global) -> Result<bool, AllocError> {
     let thread = is_longest(alloc, b"", 255, b"|w(x)|1")?;
-    let target = is_longest(alloc, b"T1|acq(", 255, b")|1")?;
-    let location = is_longest(alloc, b"T1|w(x)|", 255, b"")?;
-    let idle = is_longest(alloc, b"T1|enter(", 255, b")|")?;
+    let target = is_longest(alloc, b"t1|acq(", 255, b")|1")?;
+    let location = is_longest(alloc, b"t1|w(x)|", 255, b"")?;
+    let idle = is_longest(alloc, b"t1|enter(", 255, b")|")?;
     let comment = is_longest(alloc, b"#", 4095, b"")?;
     let returned = is_longest(alloc, b"#", 4094, b"\r")?;
     Ok(thread && target && location && idle && comment && returned)

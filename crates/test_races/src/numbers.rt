@@ -25,13 +25,13 @@ fn numbers_hold(alloc: Global) -> Result<bool, AllocError> {
     let numbered = are_numbered(
         &mut table,
         &[
-            (b"T1", 0),
-            (b"T2", 1),
-            (b"T1", 0),
+            (b"t1", 0),
+            (b"t2", 1),
+            (b"t1", 0),
             (b"T", 2),
-            (b"T10", 3),
+            (b"t10", 3),
             (b"t1", 4),
-            (b"T2", 1),
+            (b"t2", 1),
         ],
     )?;
     Ok(
