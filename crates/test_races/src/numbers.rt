@@ -25,20 +25,20 @@ fn numbers_hold(alloc: Global) -> Result<bool, AllocError> {
     let numbered = are_numbered(
         &mut table,
         &[
-            (b"t1", 0),
-            (b"t2", 1),
-            (b"t1", 0),
-            (b"T", 2),
-            (b"t10", 3),
-            (b"t1", 4),
-            (b"t2", 1),
+            (b"A1", 0),
+            (b"A2", 1),
+            (b"A1", 0),
+            (b"A", 2),
+            (b"A10", 3),
+            (b"a1", 4),
+            (b"A2", 1),
         ],
     )?;
     Ok(
         numbered
             && table.count() == 5
-            && is_named(&table, 2, b"T")
-            && is_named(&table, 4, b"t1")
+            && is_named(&table, 2, b"A")
+            && is_named(&table, 4, b"a1")
             && table.name(5).is_none(),
     )
 }
