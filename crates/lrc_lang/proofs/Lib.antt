@@ -11,6 +11,7 @@ pub mod LexemesSigns
 pub mod LexemesSpans
 pub mod LexemesSteps
 pub mod LexemesUnique
+pub mod Located
 pub mod Names
 pub mod OneAnswer
 pub mod Options

@@ -5,6 +5,7 @@ pub mod Lexemes
 pub mod Lexer
 pub mod Lines
 pub mod Parser
+pub mod Positions
 pub mod Sizes
 pub mod Statements
 pub mod Symbol

@@ -9,6 +9,7 @@ mod limits;
 pub mod lines;
 mod parser;
 mod partial;
+pub mod positions;
 pub mod program;
 mod state;
 mod symbol;
