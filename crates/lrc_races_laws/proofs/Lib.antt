@@ -1,0 +1,4 @@
+pub mod Operations
+pub mod Episodes
+pub mod Orders
+pub mod Racing
