@@ -1,6 +1,6 @@
 -- The cycles of the barrier are the episodes of the acts: an arrive is of the cycle with as many of its node's arrives before it.
-use Rattle.std.proofs.Common.{◌≡◌, ◌≢◌, ℕ, zero, suc, ◌+◌, ◌-◌, ◌<◌, ◌≤◌, List, length, true, false, inl, inr, refl, sym, subst, ap, ◌∙◌, arith, eq-eqb}
-use Rattle.std.specs.Prelude.{Option, Some, None, cond, ◌==◌}
+use Rattle.std.proofs.Common.{◌≡◌, ◌≢◌, ℕ, zero, suc, ◌+◌, ◌<◌, ◌≤◌, List, length, false, inl, inr, refl, sym, subst, ap, ◌∙◌, arith, eq-eqb}
+use Rattle.std.specs.Prelude.{Some, cond, ◌==◌}
 use Rattle.std.proofs.lemmas.Bool.{cases_eq, cases_Bool, eqb-true}
 use Rattle.lrc_trace.specs.declared.act.Act.{Act}
 use Rattle.lrc_trace.specs.declared.act.Deed.{Deed}
@@ -10,7 +10,6 @@ use Rattle.lrc_trace.specs.Synchronization.{IsWellSynchronized, WaitsAtBarriers}
 use Rattle.lrc_trace.proofs.Positions.{Does-deed}
 use Rattle.lrc_trace.proofs.Intervals.{count_of-more, count_of-same, act_at}
 use Rattle.lrc_std.specs.declared.event.Event.{Event}
-use Rattle.lrc_std.specs.declared.event.Operation.TheVariants.{Arrive, Depart}
 use Rattle.lrc_std.specs.Cycles.{Cycles, cycles_before, no_cycles, arrived, departed, opened, after_operation}
 use Rattle.lrc_std.proofs.Cycles.{cycles_before-none, cycles_before-next}
 use Rattle.lrc_races_laws.specs.Traces.{Numbers, operation_of, AreEvents}

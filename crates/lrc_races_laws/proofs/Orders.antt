@@ -1,5 +1,5 @@
 -- The order of the events is that of the acts.
-use Rattle.std.proofs.Common.{◌≡◌, ℕ, ◌<◌, ◌≤◌, List, length, refl, sym, subst, ap, ◌∙◌, arith}
+use Rattle.std.proofs.Common.{◌≡◌, ℕ, List, refl, sym, subst, ap, ◌∙◌, arith}
 use Rattle.std.specs.Prelude.{Some}
 use Rattle.std.proofs.lemmas.Option.{same_Some}
 use Rattle.lrc_trace.specs.declared.act.Act.{Act}
@@ -10,12 +10,11 @@ use Rattle.lrc_trace.specs.Order.{Precedes as PrecedesIn, HappensBefore as Happe
 use Rattle.lrc_trace.proofs.Positions.{Does-deed, Does-node, Does-within}
 use Rattle.lrc_trace.proofs.Intervals.{act_at}
 use Rattle.lrc_std.specs.declared.event.Event.{Event}
-use Rattle.lrc_std.specs.declared.event.Operation.TheVariants.{Fork, Join, Arrive, Depart}
 use Rattle.lrc_std.specs.Trace.{At, given, got}
 use Rattle.lrc_std.specs.Order.{Precedes, HappensBefore, program, lock, fork, join, fork_join, barrier, base, further}
 use Rattle.lrc_std.specs.Cycles.{cycles_before}
 use Rattle.lrc_std.proofs.Positions.{At-one, At-within}
-use Rattle.lrc_races_laws.specs.Traces.{Numbers, operation_of, Locks, AreEvents}
+use Rattle.lrc_races_laws.specs.Traces.{Numbers, operation_of, AreEvents}
 use Rattle.lrc_races_laws.proofs.Operations.{of_given, of_got, of_arrive, of_depart, of_fork, of_join}
 use Rattle.lrc_races_laws.proofs.Episodes.{IsRun, arrive-cycle, depart-cycle}
 

@@ -1,20 +1,20 @@
 -- The races of the events are those of the acts.
-use Rattle.std.proofs.Common.{◌≡◌, ◌≢◌, ℕ, ◌<◌, ◌≤◌, ◌⊎◌, List, inl, inr, refl, sym, subst, ap, ◌∙◌}
+use Rattle.std.proofs.Common.{◌≡◌, ℕ, ◌≤◌, List, inl, inr, sym, subst, ap, ◌∙◌}
 use Rattle.std.specs.Prelude.{Contains}
 use Rattle.lrc_trace.specs.declared.act.Act.{Act}
 use Rattle.lrc_trace.specs.declared.act.Deed.{Deed}
 use Rattle.lrc_trace.specs.declared.act.Deed.TheVariants.{Read as Reading, Write as Writing}
 use Rattle.lrc_trace.specs.Run.{Does}
-use Rattle.lrc_trace.specs.Conflict.{Accesses as AccessesIn, Reads as ReadsIn, Writes as WritesIn, Races as RacesIn}
-use Rattle.lrc_trace.proofs.Positions.{Does-deed, Does-one_node}
+use Rattle.lrc_trace.specs.Conflict.{Accesses as AccessesIn, Writes as WritesIn, Races as RacesIn}
+use Rattle.lrc_trace.proofs.Positions.{Does-deed}
 use Rattle.lrc_std.specs.declared.event.Event.{Event}
 use Rattle.lrc_std.specs.declared.event.Pair.{Pair}
-use Rattle.lrc_std.specs.declared.event.Operation.TheVariants.{Read, Write}
+use Rattle.lrc_std.specs.declared.event.Operation.TheVariants.{Write}
 use Rattle.lrc_std.specs.Trace.{At, Accesses, Writes}
-use Rattle.lrc_std.specs.Races.{Races, Conflict, IsTold, AreTold}
+use Rattle.lrc_std.specs.Races.{Races, AreTold}
 use Rattle.lrc_std.proofs.Positions.{At-one}
 use Rattle.lrc_std.proofs.Told.{race_told}
-use Rattle.lrc_races_laws.specs.Traces.{Numbers, operation_of, AreEvents, AreToldOf}
+use Rattle.lrc_races_laws.specs.Traces.{Numbers, AreToldOf}
 use Rattle.lrc_races_laws.proofs.Operations.{of_read, of_write}
 use Rattle.lrc_races_laws.proofs.Episodes.{IsRun}
 use Rattle.lrc_races_laws.proofs.Orders.{IsActOf, act_of_event, ordered, ordered_back}

@@ -15,7 +15,9 @@ ghost use Rattle.lrc_std.specs.declared.event.Event.{Event};
 ghost use Rattle.lrc_std.specs.declared.event.Pair.{Pair};
 ghost use Rattle.lrc_std.specs.Order.{HappensBefore};
 ghost use Rattle.lrc_std.specs.Races.{Races, AreTold};
+ghost use Rattle.lrc_acts_text.specs.Rapid.{rapid_of};
 ghost use Rattle.lrc_races_laws.specs.Traces.{Numbers, AreEvents, AreToldOf};
+ghost use Rattle.lrc_races_laws.specs.Steps.{AreEventsOfSteps, AreToldOfSteps};
 
 /// Of events that stand for well-synchronized acts, in which nodes wait at barriers, the order is happens before of the acts, the
 /// races are theirs, and the pairs told are races of theirs, of each access and node the last.
@@ -40,4 +42,13 @@ pub fn races_of_every_run_are_told()
     ensures told { (program : Program) (nodes : ℕ) (options : OptionsRecord) (steps : List Step) (world : World) (numbers : Numbers)
         (events : List Event) (pairs : List Pair) → run_of program nodes options steps ≡ Some world → AreEvents numbers world.acts events
         → AreTold events pairs → AreToldOf world.acts pairs }
+{}
+
+/// In every run, of any program on any number of nodes and whatever its events, the pairs told of its trace in the form of RAPID are
+/// races of the run, of each access and node the last.
+pub fn races_of_every_rapid_trace_are_told()
+    ensures { (program : Program) (nodes : ℕ) (options : OptionsRecord) (steps : List Step) (world : World) (numbers : Numbers)
+        (events : List Event) (pairs : List Pair) → run_of program nodes options steps ≡ Some world
+        → AreEventsOfSteps numbers (rapid_of program.locks nodes world.acts) events → AreTold events pairs
+        → AreToldOfSteps world.acts (rapid_of program.locks nodes world.acts) pairs }
 {}
