@@ -12,6 +12,7 @@ pub mod LexemesSpans
 pub mod LexemesSteps
 pub mod LexemesUnique
 pub mod Located
+pub mod MayStand
 pub mod Names
 pub mod OneAnswer
 pub mod Options
@@ -25,5 +26,7 @@ pub mod Statements
 pub mod StatementsBack
 pub mod StatementsEnd
 pub mod States
+pub mod Stopping
+pub mod Takes
 pub mod Taking
 pub mod Trees

@@ -1,6 +1,8 @@
 pub mod Counts
 pub mod Faults
+pub mod FirstFault
 pub mod Grammar
+pub mod Kind
 pub mod Lexemes
 pub mod Lexer
 pub mod Lines

@@ -11,4 +11,5 @@ pub mod SeenLimits
 pub mod SeenParser
 pub mod SeenState
 pub mod State
+pub mod Stops
 pub mod View

@@ -3,6 +3,8 @@
 
 mod body;
 pub mod fault;
+pub mod first_fault;
+pub mod kind;
 pub mod lexemes;
 mod lexer;
 mod limits;
