@@ -1,5 +1,6 @@
-pub mod Held
+pub mod Known
 pub mod Learns
 pub mod Lists
+pub mod Standing
 pub mod Trees
-pub mod Words
+pub mod Under

@@ -1,9 +1,8 @@
 -- Lists that grow by what stands for one item more, and what is found in lists.
-use Rattle.std.proofs.Common.{◌≡◌, ◌∙◌, ◌<◌, ◌≤◌, ◌+◌, ℕ, ap, sym, subst, List, [], ◌∷◌, ◌++◌, length, map, take, drop, get_or, replicate, zero, suc, append_assoc, append-nil, Bool, ◌||◌, refl, arith}
-use Rattle.std.specs.Prelude.{find, option_map, cond, count_by, fold, ◌&&◌, true, false, Some, None, OnOk, Result, Ok, Err}
+use Rattle.std.proofs.Common.{◌≡◌, ◌∙◌, ◌<◌, ◌≤◌, ◌+◌, ℕ, ap, sym, List, [], ◌∷◌, ◌++◌, length, map, take, drop, get_or, replicate, zero, suc, append_assoc, append-nil, Bool, ◌||◌, refl}
+use Rattle.std.specs.Prelude.{find, cond, count_by, fold, ◌&&◌, true, false, Some, None}
 use Rattle.std.specs.List.{flat_map, list_all, list_any, range_with_len}
 use Rattle.std.proofs.lemmas.List.{map_more, drop_more, drop_all, take_all, flat_map_more}
-use Rattle.std.proofs.lemmas.List.Concat.{flat_map-append}
 use Rattle.std.proofs.lemmas.List.Folds.{list_any-append}
 use Rattle.lrc_text.proofs.Each.{range_more}
 

@@ -1,12 +1,12 @@
 -- What stands in statements of the code.
-use Rattle.std.proofs.Common.{◌≡◌, ◌∙◌, ◌<◌, ◌≤◌, ◌+◌, ℕ, ap, sym, subst, List, [], ◌∷◌, ◌++◌, length, map, take, get_or, append_assoc, append-nil, refl}
+use Rattle.std.proofs.Common.{◌≡◌, ◌∙◌, ◌<◌, ◌≤◌, ◌+◌, ℕ, ap, sym, subst, List, [], ◌∷◌, ◌++◌, length, take, get_or, append_assoc, append-nil, refl}
 use Rattle.std.specs.Prelude.{IfOk, OnOk, Result}
-use Rattle.std.proofs.lemmas.List.{map_push, take_more, take_all}
+use Rattle.std.proofs.lemmas.List.{take_more, take_all}
 use Rattle.std.proofs.lemmas.Result.{on_ok_weaker}
 use Rattle.lrc_lang.specs.declared.program.Expression.{Expression}
 use Rattle.lrc_lang.specs.declared.program.Statement.{Statement}
 use Rattle.lrc_lang.specs.declared.program.Statement.TheVariants.{Assign, Read, Write, Acquire, Release, Barrier, Print, If', While', If, While}
-use Rattle.lrc_lang.specs.Statements.{Statement as Tree, Block, next, empty, statement_of, block_of, row_of, expression_of, if_else, while_do}
+use Rattle.lrc_lang.specs.Statements.{Statement as Tree, Block, statement_of, block_of, row_of, expression_of, if_else, while_do}
 use Rattle.lrc_lang.specs.declared.program.Statement.TheBlock.{hidden-the_row-Statement-0}
 use Rattle.lrc_lang.proofs.Trees.{row_of_hidden}
 use Rattle.lrc_exec.proofs.Flat.{if_made, while_made}

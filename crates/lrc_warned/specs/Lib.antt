@@ -7,4 +7,5 @@ pub mod Inside
 pub mod Locks
 pub mod Names
 pub mod Operations
+pub mod Places
 pub mod Words

@@ -4,6 +4,7 @@ ghost use Rattle.std.specs.Prelude.{◌≡◌, ◌<◌, ◌++◌, ◌∷◌, [],
 ghost use Rattle.std.specs.List.{list_any, range_with_len};
 ghost use Rattle.lrc_text.specs.Each.{each};
 ghost use Rattle.lrc_lang.specs.Statements.{block_of, statement_of};
+ghost use Rattle.lrc_warned.specs.declared.found.Kind.TheVariants.{HeldAtBarrier};
 ghost use Rattle.lrc_warned.specs.declared.held.Side.TheVariants.{Acquired};
 ghost use Rattle.lrc_warned.specs.Found.{found_at, statement_seen};
 ghost use Rattle.lrc_warned.specs.Held.{Path, acquire_by, at_start, barrier_by, found_if, held_already, held_already_at, held_at_barrier, is_under};
@@ -217,8 +218,8 @@ fn first_held(tables: &[Vec<bool>], i: usize) -> Option<u8>
     requires { length tables.now < 256 }
     ensures { result ≡ position (λ under. slice_index_or under i false) (map (λ t. t.items) tables.now) }
 {
-    for (lock, under) in tables.iter().enumerate() {
-        if table_at(under, i, false) {
+    for lock in 0..tables.len() {
+        if table_at(&tables[lock], i, false) {
             return Some(lock as u8);
         }
     }

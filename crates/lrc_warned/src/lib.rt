@@ -10,4 +10,5 @@ pub mod inside;
 pub mod locks;
 pub mod names;
 pub mod operations;
+pub mod places;
 pub mod words;

@@ -26,8 +26,22 @@ pub fn never_written(
         return Ok(());
     }
     let mut known = vec![in alloc; false; words as usize]?;
-    mark_writes(&mut known, statements);
-    push_unknown_reads(out, &mut known, statements)
+    never_written_by(out, &mut known, statements)
+}
+
+// The same by a table of words that has no marks yet.
+fn never_written_by(
+    out: &mut Vec<Found>,
+    known: &mut [bool],
+    statements: &[StatementAt<'_>],
+) -> Result<(), AllocError>
+    requires few { length known.old < 2 ^ 32 }
+    requires unmarked { (k : ℕ) → k < length known.old → slice_index_or known.old k false ≡ false }
+    requires constants { list_any (λ s. writes_some s.statement) (map statement_seen statements.now) ≡ false }
+    ensures { OnOk result (out.new.items ≡ out.old.items ++ never_written (length known.old) (map statement_seen statements.now)) }
+{
+    mark_writes(known, statements);
+    push_unknown_reads(out, known, statements)
 }
 
 // Whether there is a shared write of what is no constant.

@@ -1,5 +1,8 @@
 // Warnings, with their lines and columns.
 
+ghost use Rattle.std.specs.Prelude.{◌≡◌};
+ghost use Rattle.lrc_warnings.specs.Order.{rank, rank_of};
+
 use lrc_labels::label::Reason;
 use lrc_warned::found::Kind;
 
@@ -12,23 +15,34 @@ pub enum Says {
     OfLabel(Reason),
 }
 
-/// A warning, and the line and the column of the token that it is of, both counted from 1, columns in bytes.
+/// The line and the column of a token, both counted from 1, columns in bytes.
+#[derive(Clone, Copy)]
+pub struct Spot {
+    pub line: u32,
+    pub column: u32,
+}
+
+/// A warning, and the line and the column of the token that it is of.
 #[derive(Clone, Copy)]
 pub struct Warning {
-    pub line: u64,
-    pub column: u64,
+    pub line: usize,
+    pub column: usize,
     pub says: Says,
 }
 
 /// The place of a kind of warning among those of one token.
-pub fn rank(says: Says) -> u8 {
+pub fn rank(says: Says) -> u8
+    ensures { result ≡ rank says }
+{
     match says {
         Says::OfText(kind) => rank_of(kind),
         Says::OfLabel(_) => 15,
     }
 }
 
-fn rank_of(kind: Kind) -> u8 {
+fn rank_of(kind: Kind) -> u8
+    ensures { result ≡ rank_of kind }
+{
     match kind {
         Kind::NeverSet(_) => 0,
         Kind::NeverRead(_) => 1,

@@ -1,4 +1,4 @@
-use Rattle.lrc_warned.specs.Found.{StatementAt, found_at, statement_seen}
+use Rattle.lrc_warned.specs.Found.{StatementAt, statement_seen}
 use Rattle.lrc_warned.specs.Access.{no_such_lock_at}
 use Rattle.lrc_warned.proofs.Lists.{flat_all, flat_more, flat_none}
 use Rattle.lrc_warned.proofs.access.no_such_lock.Goals as goal

@@ -1,7 +1,7 @@
 -- What is warned of in the items so far was added.
 use Rattle.std.proofs.Common.{◌≡◌, ◌++◌, map, take}
 use Rattle.std.specs.List.{flat_map}
-use Rattle.lrc_warned.specs.Found.{StatementAt, found_at, statement_seen}
+use Rattle.lrc_warned.specs.Found.{StatementAt, statement_seen}
 use Rattle.lrc_warned.specs.Access.{no_such_word_at}
 use Rattle.lrc_warned.proofs.access.no_such_word.Given as goal
 

@@ -1,4 +1,4 @@
-use Rattle.std.proofs.Common.{◌≡◌, ◌∙◌, ℕ, ap, sym, map, take_all, Option, ◌||◌, get_or, List}
+use Rattle.std.proofs.Common.{◌∙◌, ℕ, ap, sym, map, take_all, Option, ◌||◌, get_or, List}
 use Rattle.std.specs.Prelude.{false}
 use Rattle.std.specs.List.{list_any}
 use Rattle.lrc_lang.specs.Statements.{statement_of}

@@ -1,7 +1,7 @@
-use Rattle.std.proofs.Common.{rules, tests, ◌∙◌, Bor, ◌||◌}
+use Rattle.std.proofs.Common.{rules, tests, ◌∙◌, Bor}
 use Rattle.std.proofs.lemmas.Iterator.{YieldsList-from_slice}
 use Rattle.std.proofs.lemmas.Iterator.Search.{any_from_yields_List}
-use Rattle.lrc_lang.specs.Statements.{Expression as Part, Statement as Tree, expression_of, statement_of}
+use Rattle.lrc_lang.specs.Statements.{statement_of}
 use Rattle.lrc_lang.specs.declared.program.Statement.{Statement}
 use Rattle.lrc_warned.specs.Blocks.{is_barrier}
 use Rattle.lrc_warned.proofs.Lists.{any_seen}

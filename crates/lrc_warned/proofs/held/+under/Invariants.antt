@@ -2,7 +2,7 @@
 use Rattle.std.proofs.Common.{◌≡◌, ◌++◌, map, take}
 use Rattle.lrc_lang.specs.Statements.{block_of}
 use Rattle.lrc_warned.specs.Held.{Path, is_under, paths}
-use Rattle.lrc_warned.proofs.Held.{behind_all}
+use Rattle.lrc_warned.proofs.Under.{behind_all}
 use Rattle.lrc_warned.proofs.held.+under.Given as goal
 
 abbrev pub invariant-put_block-loop-s : goal.invariant-put_block-loop-s

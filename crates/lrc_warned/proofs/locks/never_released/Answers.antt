@@ -1,5 +1,5 @@
 use Rattle.std.proofs.Common.{map}
-use Rattle.lrc_warned.specs.Found.{node_seen, statement_seen}
+use Rattle.lrc_warned.specs.Found.{statement_seen}
 use Rattle.lrc_warned.specs.Locks.{never_released_of}
 use Rattle.lrc_warned.proofs.Lists.{count_more}
 use Rattle.lrc_warned.proofs.locks.never_released.Goals as goal

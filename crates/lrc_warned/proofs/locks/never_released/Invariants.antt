@@ -1,7 +1,7 @@
 -- What is warned of, by the numbers so far, was added.
 use Rattle.std.proofs.Common.{◌≡◌, ◌++◌, map}
 use Rattle.std.specs.List.{flat_map, range_with_len}
-use Rattle.lrc_warned.specs.Found.{node_seen, statement_seen}
+use Rattle.lrc_warned.specs.Found.{statement_seen}
 use Rattle.lrc_warned.specs.Locks.{never_released_of}
 use Rattle.lrc_warned.proofs.locks.never_released.Given as goal
 

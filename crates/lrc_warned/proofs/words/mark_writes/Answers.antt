@@ -1,4 +1,4 @@
-use Rattle.std.proofs.Common.{◌∙◌, ◌≡◌, ◌<◌, ◌||◌, ℕ, ap, refl, arith, length, map, get_or, take_all, Option, List, Bool, sym}
+use Rattle.std.proofs.Common.{◌∙◌, ◌||◌, ℕ, ap, arith, map, get_or, take_all, Option, List, Bool, sym}
 use Rattle.std.specs.Prelude.{false}
 use Rattle.std.specs.List.{list_any}
 use Rattle.lrc_warned.specs.declared.found.StatementAt as code_statement
@@ -6,7 +6,7 @@ use Rattle.lrc_warned.specs.Constant.{is_value}
 use Rattle.lrc_warned.specs.Found.{StatementAt, statement_seen}
 use Rattle.lrc_warned.specs.Words.{word_written}
 use Rattle.lrc_warned.proofs.Lists.{any_more}
-use Rattle.lrc_warned.proofs.Words.{or_assoc, or_nothing}
+use Rattle.lrc_warned.proofs.Known.{or_assoc, or_nothing}
 use Rattle.lrc_warned.proofs.words.mark_writes.Goals as goal
 
 pub loop-s-init : goal.loop-s-init

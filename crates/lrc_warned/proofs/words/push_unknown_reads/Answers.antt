@@ -1,9 +1,9 @@
-use Rattle.std.proofs.Common.{◌∙◌, ◌≡◌, ◌<◌, ◌||◌, ◌++◌, ℕ, ap, refl, arith, length, map, get_or, ◌+◌, Option, sym, subst, append-nil}
+use Rattle.std.proofs.Common.{◌∙◌, ◌≡◌, ◌||◌, ◌++◌, ℕ, ap, refl, arith, length, map, get_or, ◌+◌, Option, sym, append-nil}
 use Rattle.std.specs.Prelude.{false}
 use Rattle.lrc_warned.specs.Constant.{is_value}
 use Rattle.lrc_warned.specs.Found.{statement_seen}
 use Rattle.lrc_warned.specs.Words.{never_written_at, unknown_at, word_read}
-use Rattle.lrc_warned.proofs.Words.{each_all, each_grown, known_more, known_none, unknown_is}
+use Rattle.lrc_warned.proofs.Known.{each_all, each_grown, known_more, known_none, unknown_is}
 use Rattle.lrc_warned.proofs.words.push_unknown_reads.Goals as goal
 
 pub loop-s-init : goal.loop-s-init

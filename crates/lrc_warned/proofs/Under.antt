@@ -1,17 +1,26 @@
 -- What stands under an acquire, or a release.
-use Rattle.std.proofs.Common.{◌≡◌, ◌∙◌, ◌<◌, ◌≤◌, ◌+◌, ℕ, zero, suc, ap, sym, subst, refl, arith, List, [], ◌∷◌, ◌++◌, length, map, take, get_or, Bool, append_assoc, append-nil}
-use Rattle.std.specs.Prelude.{◌&&◌, true, false, cond, OnOk, Result, Option, Some, None, nat_lt, position}
+use Rattle.std.proofs.Common.{◌≡◌, ◌∙◌, ◌<◌, ◌≤◌, ◌+◌, ℕ, zero, suc, ap, sym, refl, arith, List, [], ◌∷◌, ◌++◌, length, map, take, get_or, Bool, append_assoc, append-nil}
+use Rattle.std.specs.Prelude.{◌&&◌, true, false, cond, OnOk, Result, Option, Some, None, nat_lt, not, option_map, position}
 use Rattle.std.specs.List.{enumerate_from, flat_map, list_any, position_or_len, range_with_len}
 use Rattle.std.proofs.lemmas.List.{length-map, map-append, take_all, take_more}
+use Rattle.std.proofs.lemmas.Bool.{le-ltb, lt-ltb}
+use Rattle.std.proofs.lemmas.List.Sums.{position_or_len_is}
 use Rattle.std.proofs.lemmas.Result.{on_ok_weaker}
 use Rattle.lrc_text.specs.Each.{each}
 use Rattle.lrc_lang.specs.declared.program.Expression.{Expression}
 use Rattle.lrc_lang.specs.declared.program.Statement.{Statement}
 use Rattle.lrc_lang.specs.declared.program.Statement.TheVariants.{Assign, Read, Write, Acquire, Release, Barrier, Print, If', While', If, While}
-use Rattle.lrc_lang.specs.Statements.{Statement as Tree, Block, statement_of, block_of}
+use Rattle.lrc_lang.specs.Statements.{Statement as Tree, statement_of, block_of}
 use Rattle.lrc_exec.proofs.Flat.{if_made, while_made}
 use Rattle.lrc_warned.specs.declared.held.Side.{Side}
-use Rattle.lrc_warned.specs.Held.{Path, Step, passes, beside, enters, is_under, paths, paths_within, takes, undoes}
+use Rattle.lrc_warned.specs.declared.held.Side.TheVariants.{Acquired, Released}
+use Rattle.lrc_warned.specs.declared.found.Found.{Found}
+use Rattle.lrc_warned.specs.declared.found.Kind.TheVariants.{HeldAlready, HeldAtBarrier, NotHeld}
+use Rattle.lrc_warned.specs.Blocks.{is_barrier}
+use Rattle.lrc_warned.specs.Found.{StatementAt, found_at}
+use Rattle.lrc_warned.specs.Held.{Path, passes, beside, enters, acquire_by, barrier_by, found_if, held_already_at, held_at_barrier, held_at_barrier_at, is_under}
+use Rattle.lrc_warned.specs.Held.{not_held_at, paths, paths_within, release_by, takes, undoes, with_path}
+use Rattle.lrc_warned.specs.Locks.{acquires, releases}
 use Rattle.lrc_warned.specs.Inside.{statements_in, within}
 use Rattle.lrc_warned.proofs.Trees.{if_is, while_is}
 
@@ -157,9 +166,66 @@ each_same f g same items = each_from f g same 0 items
 
 length_to : {A B : Type 0} (f : A → B) (p : B → Bool) (items : List A) → position_or_len p (map f items) ≡ position_or_len (λ x. p (f x)) items
 length_to f p [] = refl
-length_to f p (x ∷ others) = ap (λ (n : ℕ). cond (p (f x)) 0 (suc n)) (length_to f p others)
+length_to f p (x ∷ others) = ap (λ (n : ℕ). cond (not (p (f x))) (1 + n) 0) (length_to f p others)
+
+same_length : {A : Type 0} (p q : A → Bool) → ((x : A) → p x ≡ q x) → (items : List A) → position_or_len p items ≡ position_or_len q items
+same_length p q same [] = refl
+same_length p q same (x ∷ others) =
+    ap (λ (b : Bool). cond (not b) (1 + position_or_len p others) 0) (same x) ∙ ap (λ (n : ℕ). cond (not (q x)) (1 + n) 0) (same_length p q same others)
+
+position_same : {A : Type 0} (p q : A → Bool) → ((x : A) → p x ≡ q x) → (items : List A) → position p items ≡ position q items
+position_same p q same items = ap (λ (n : ℕ). cond {A = Option ℕ} (nat_lt n (length items)) (Some n) None) (same_length p q same items)
 
 pub position_mapped : {A B : Type 0} (f : A → B) (p : B → Bool) (items : List A) → position p (map f items) ≡ position (λ x. p (f x)) items
 position_mapped f p items =
     ap (λ (n : ℕ). cond {A = Option ℕ} (nat_lt n (length (map f items))) (Some n) None) (length_to f p items)
     ∙ ap (λ (m : ℕ). cond {A = Option ℕ} (nat_lt (position_or_len (λ x. p (f x)) items) m) (Some (position_or_len (λ x. p (f x)) items)) None) (length-map items f)
+
+-- the first that passes a test
+pub first_here : {A : Type 0} (p : A → Bool) (items : List A) (i : ℕ) (d : A) → i < length items → ((k : ℕ) → k < i → p (get_or items k d) ≡ false)
+    → p (get_or items i d) ≡ true → Some i ≡ position p items
+first_here p items i d lt before here =
+    let n : position_or_len p items ≡ i = position_or_len_is p items i d (omega (arith, lt)) before (λ h. here) in
+    sym (ap (λ (m : ℕ). cond {A = Option ℕ} (nat_lt m (length items)) (Some m) None) n
+    ∙ ap (λ (b : Bool). cond {A = Option ℕ} b (Some i) None) (lt-ltb i (length items) lt))
+
+pub first_nowhere : {A : Type 0} (p : A → Bool) (items : List A) (i : ℕ) (d : A) → length items ≤ i → ((k : ℕ) → k < i → p (get_or items k d) ≡ false)
+    → None ≡ position p items
+first_nowhere p items i d past before =
+    let n : position_or_len p items ≡ length items =
+    position_or_len_is p items (length items) d (omega arith) (λ k lt. before k (omega (arith, lt, past))) (λ h. absurd (omega (arith, h))) in
+    sym (ap (λ (m : ℕ). cond {A = Option ℕ} (nat_lt m (length items)) (Some m) None) n
+    ∙ ap (λ (b : Bool). cond {A = Option ℕ} b (Some (length items)) None) (le-ltb (length items) (length items) (omega arith)))
+
+-- ---- tables in place of paths
+
+module _ (lock : ℕ) (under : List Bool) (all : List Path) where
+  pub acquires_by : under ≡ map (is_under Acquired lock) all → (statements : List StatementAt)
+      → each (acquire_by lock under) statements ≡ with_path (held_already_at lock) statements all
+  acquires_by is statements =
+      each_same (acquire_by lock under) (λ i s. held_already_at lock s (get_or all i []))
+      (λ i s. ap (λ (b : Bool). found_if (acquires lock s.statement && b) s.at (HeldAlready lock))
+      (ap (λ (l : List Bool). get_or l i false) is ∙ get_mapped (is_under Acquired lock) all i [])) statements
+
+  pub releases_by : under ≡ map (is_under Released lock) all → (statements : List StatementAt)
+      → each (release_by lock under) statements ≡ with_path (not_held_at lock) statements all
+  releases_by is statements =
+      each_same (release_by lock under) (λ i s. not_held_at lock s (get_or all i []))
+      (λ i s. ap (λ (b : Bool). found_if (releases lock s.statement && b) s.at (NotHeld lock))
+      (ap (λ (l : List Bool). get_or l i true) is ∙ get_mapped (is_under Released lock) all i [])) statements
+
+pub barriers_by : (locks : ℕ) (tables : List (List Bool)) (all : List Path)
+    → tables ≡ map (λ lock. map (is_under Acquired lock) all) (range_with_len 0 locks) → (statements : List StatementAt)
+    → each (barrier_by tables) statements ≡ held_at_barrier locks statements all
+barriers_by locks tables all is statements =
+    each_same (barrier_by tables) (λ i s. held_at_barrier_at locks s (get_or all i []))
+    (λ i s. ap (λ (o : Option ℕ). cond {A = List Found} (is_barrier s.statement) (found_at s.at (option_map HeldAtBarrier o)) [])
+    (ap (λ (l : List (List Bool)). position (λ under. get_or under i false) l) is
+    ∙ position_mapped (λ (lock : ℕ). map (is_under Acquired lock) all) (λ under. get_or under i false) (range_with_len 0 locks)
+    ∙ position_same (λ (lock : ℕ). get_or (map (is_under Acquired lock) all) i false) (λ (lock : ℕ). is_under Acquired lock (get_or all i []))
+    (λ lock. get_mapped (is_under Acquired lock) all i []) (range_with_len 0 locks))) statements
+
+-- what is added, by tables
+pub ok_same : {R E : Type 0} {Y : Type 0} (result : Result R E) (old now one other : List Y) → one ≡ other → OnOk result (now ≡ old ++ one)
+    → OnOk result (now ≡ old ++ other)
+ok_same result old now one other same h = on_ok_weaker result (λ (is : now ≡ old ++ one). is ∙ ap (λ l. old ++ l) same) h

@@ -49,15 +49,15 @@ each_all {A} {S} {Y} of seen items i old now past is =
 module _ (known : List Bool) (words : ℕ) (all : List StatementAt) (i : ℕ) (long : length known ≡ words)
     (is : (k : ℕ) → k < words → get_or known k false ≡ is_known all i k) where
   decided : (at w : ℕ) (b : Bool) → nat_lt w words ≡ b
-      → cond b (cond (get_or known w false) [] (record { at = at; kind = NeverWritten w } ∷ [])) []
-      ≡ cond b (cond (is_known all i w) [] (record { at = at; kind = NeverWritten w } ∷ [])) []
+      → cond {A = List Found} b (cond {A = List Found} (get_or known w false) [] (record { at = at; kind = NeverWritten w } ∷ [])) []
+      ≡ cond {A = List Found} b (cond {A = List Found} (is_known all i w) [] (record { at = at; kind = NeverWritten w } ∷ [])) []
   decided at w true h = ap (λ (k : Bool). cond {A = List Found} k [] (record { at = at; kind = NeverWritten w } ∷ [])) (is w (ltb-true w words h))
   decided at w false h = refl
 
   pub unknown_is : (at : ℕ) (o : Option ℕ) → unknown_at known at o ≡ unless_known words all i at o
   unknown_is at None = refl
   unknown_is at (Some w) =
-      ap (λ (n : ℕ). cond {A = List Found} (nat_lt w n) (cond (get_or known w false) [] (record { at = at; kind = NeverWritten w } ∷ [])) []) long
+      ap (λ (n : ℕ). cond {A = List Found} (nat_lt w n) (cond {A = List Found} (get_or known w false) [] (record { at = at; kind = NeverWritten w } ∷ [])) []) long
       ∙ decided at w (nat_lt w words) refl
 
 pub known_more : (items : List code_statement.StatementAt) (i k : ℕ) (x : code_statement.StatementAt) (now next : Bool) → i < length items → x ≡ get_or items i x
@@ -94,17 +94,18 @@ may_any k (print e) h = absurd (cc)
 may_any k (if_else e a b) h = absurd (cc)
 may_any k (while_do e a) h = absurd (cc)
 
-any_weaker : {A : Type 0} (p q : A → Bool) → ((x : A) → p x ≡ true → q x ≡ true) → (items : List A) → list_any p items ≡ true → list_any q items ≡ true
-any_weaker {A} p q weaker [] h = h
-any_weaker {A} p q weaker (x ∷ others) h = by (p x) refl h
-  where
-    or_true : (b : Bool) → (b || true) ≡ true
-    or_true true = refl
-    or_true false = refl
+or_true : (b : Bool) → (b || true) ≡ true
+or_true true = refl
+or_true false = refl
 
-    by : (b : Bool) → p x ≡ b → (b || list_any p others) ≡ true → (q x || list_any q others) ≡ true
-    by true is k = ap (λ (b : Bool). b || list_any q others) (weaker x is)
-    by false is k = ap (λ (b : Bool). q x || b) (any_weaker p q weaker others k) ∙ or_true (q x)
+weaker_first : (p q : Bool) (ps qs : Bool) → (p ≡ true → q ≡ true) → (ps ≡ true → qs ≡ true) → (p || ps) ≡ true → (q || qs) ≡ true
+weaker_first true q ps qs one others h = ap (λ (b : Bool). b || qs) (one refl)
+weaker_first false q ps qs one others h = ap (λ (b : Bool). q || b) (others h) ∙ or_true q
+
+any_weaker : {A : Type 0} (p q : A → Bool) → ((x : A) → p x ≡ true → q x ≡ true) → (items : List A) → list_any p items ≡ true → list_any q items ≡ true
+any_weaker p q weaker [] h = h
+any_weaker p q weaker (x ∷ others) h =
+    weaker_first (p x) (q x) (list_any p others) (list_any q others) (weaker x) (any_weaker p q weaker others) h
 
 each_nothing : {X Y : Type 0} (of : ℕ → X → List Y) → ((i : ℕ) (x : X) → of i x ≡ []) → (n : ℕ) (items : List X)
     → flat_map (λ at. of at.0 at.1) (enumerate_from n items) ≡ []
@@ -126,7 +127,7 @@ nothing_told words all some = each_nothing (never_written_at words all) (λ i s.
     told : (i at : ℕ) (o : Option ℕ) → unless_known words all i at o ≡ []
     told i at None = refl
     told i at (Some w) =
-        ap (λ (b : Bool). cond {A = List Found} (nat_lt w words) (cond b [] (record { at = at; kind = NeverWritten w } ∷ [])) []) (here i w)
+        ap (λ (b : Bool). cond {A = List Found} (nat_lt w words) (cond {A = List Found} b [] (record { at = at; kind = NeverWritten w } ∷ [])) []) (here i w)
         ∙ whichever (nat_lt w words)
 
 pub nothing_added : (words : ℕ) (all : List StatementAt) (old : List Found) → list_any (λ s. writes_some s.statement) all ≡ true
