@@ -1,0 +1,6 @@
+pub mod Known
+pub mod Learns
+pub mod Lists
+pub mod Standing
+pub mod Trees
+pub mod Under
