@@ -15,7 +15,7 @@ use Rattle.lrc_std.proofs.Cycles.{cycles_before-none, cycles_before-next}
 use Rattle.lrc_races_laws.specs.Traces.{Numbers, operation_of, AreEvents}
 use Rattle.lrc_races_laws.proofs.Operations.{view, IsElse}
 
-not-eqb : (a b : ℕ) → a ≢ b → (a == b) ≡ false
+pub not-eqb : (a b : ℕ) → a ≢ b → (a == b) ≡ false
 not-eqb a b other = elim (cases_Bool (a == b)) [ inl equal ↦ absurd (other (eqb-true a b equal)) | inr unequal ↦ unequal ]
 
 -- the events stand for acts of so many nodes that are well synchronized, and wait at barriers

@@ -4,3 +4,6 @@ pub mod Orders
 pub mod Racing
 pub mod StepRaces
 pub mod StepDeeds
+pub mod Holding
+pub mod Formed
+pub mod StepsFormed

@@ -15,6 +15,7 @@ ghost use Rattle.lrc_std.specs.declared.event.Event.{Event};
 ghost use Rattle.lrc_std.specs.declared.event.Pair.{Pair};
 ghost use Rattle.lrc_std.specs.Order.{HappensBefore};
 ghost use Rattle.lrc_std.specs.Races.{Races, AreTold};
+ghost use Rattle.lrc_std.specs.Formed.{IsWellFormed};
 ghost use Rattle.lrc_acts_text.specs.Rapid.{rapid_of};
 ghost use Rattle.lrc_races_laws.specs.Traces.{Numbers, AreEvents, AreToldOf};
 ghost use Rattle.lrc_races_laws.specs.Steps.{AreEventsOfSteps, AreToldOfSteps};
@@ -51,4 +52,15 @@ pub fn races_of_every_rapid_trace_are_told()
         (events : List Event) (pairs : List Pair) → run_of program nodes options steps ≡ Some world
         → AreEventsOfSteps numbers (rapid_of program.locks nodes world.acts) events → AreTold events pairs
         → AreToldOfSteps world.acts (rapid_of program.locks nodes world.acts) pairs }
+{}
+
+/// In every run, of any program on any number of nodes and whatever its events, no event that stands for one of its acts is one that
+/// no program would give, nor is one of its trace in the form of RAPID.
+pub fn every_run_is_well_formed()
+    ensures acts { (program : Program) (nodes : ℕ) (options : OptionsRecord) (steps : List Step) (world : World) (numbers : Numbers)
+        (events : List Event) → run_of program nodes options steps ≡ Some world → AreEvents numbers world.acts events
+        → IsWellFormed events }
+    ensures rapid { (program : Program) (nodes : ℕ) (options : OptionsRecord) (steps : List Step) (world : World) (numbers : Numbers)
+        (events : List Event) → run_of program nodes options steps ≡ Some world
+        → AreEventsOfSteps numbers (rapid_of program.locks nodes world.acts) events → IsWellFormed events }
 {}

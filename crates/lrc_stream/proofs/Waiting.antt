@@ -5,70 +5,21 @@ use Rattle.std.proofs.lemmas.Bool.{cases_eq}
 use Rattle.lrc_std.specs.declared.event.Event.{Event}
 use Rattle.lrc_std.specs.declared.event.Operation.TheVariants.{Arrive, Depart}
 use Rattle.lrc_std.specs.Trace.{At}
-use Rattle.lrc_std.specs.Formed.{IsLastBefore, IsAtBarrier, WaitsAt}
-use Rattle.lrc_std.proofs.Positions.{At-one}
+use Rattle.lrc_std.specs.Formed.{IsAtBarrier, WaitsAt}
+use Rattle.lrc_std.proofs.Lasts.{last_kept, last_back, last_here, last_is}
 use Rattle.lrc_stream.specs.declared.waits.Waiting.{Waiting}
 use Rattle.lrc_stream.specs.declared.waits.Waits.{Waits}
 use Rattle.lrc_std.specs.declared.fault.Reason.TheVariants.{Waits as WaitsAtOne, NotArrived}
 use Rattle.lrc_stream.specs.Waits.{waiting_of, IsWaitSet, IsWait, AreWaits, WaitsAlone, HasNoBarrierFault, IsBarrierFault}
 
 module _ (events : List Event) (n : ℕ) (b : Event) (here : At events n b) where
-  module _ (These : Event → Type 0) where
-    same_at : (k : ℕ) (a : Event) → k ≡ n → At events k a → a ≡ b
-    same_at k a same at = At-one (subst (λ m. At events m a) same at) here
-
-    last_kept : (a : Event) → (These b → ⊥) → IsLastBefore events n These a → IsLastBefore events (n + 1) These a
-    last_kept a fails old =
-        let lt = old.before in
-        record {
-          position = old.position;
-          before = omega arith;
-          at = old.at;
-          is = old.is;
-          last = λ k other below at these.
-              elim (cases_eq k n) [
-                | inl same ↦ absurd (fails (subst These (same_at k other same at) these))
-                | inr before ↦ old.last k other (omega arith) at these
-              ];
-        }
-
-    last_back : (a : Event) → (These b → ⊥) → IsLastBefore events (n + 1) These a → IsLastBefore events n These a
-    last_back a fails new =
-        let lt = new.before in
-        elim (cases_eq new.position n) [
-          | inl same ↦ absurd (fails (subst These (same_at new.position a same new.at) new.is))
-          | inr before ↦
-              record {
-                position = new.position;
-                before = omega arith;
-                at = new.at;
-                is = new.is;
-                last = λ k other below at these. new.last k other (omega arith) at these;
-              }
-        ]
-
-    last_here : These b → IsLastBefore events (n + 1) These b
-    last_here these = record {
-      position = n;
-      before = omega arith;
-      at = here;
-      is = these;
-      last = λ k other below at is. omega arith;
-    }
-
-    last_is : (a : Event) → These b → IsLastBefore events (n + 1) These a → a ≡ b
-    last_is a these new =
-        let lt = new.before in
-        let le = new.last n b (omega arith) here these in
-        same_at new.position a (omega arith) new.at
-
   wait_back : (u x : ℕ) (a : Event) → (IsAtBarrier u x b → ⊥) → WaitsAt events (n + 1) u x a → WaitsAt events n u x a
-  wait_back u x a fails new = record { last = last_back (IsAtBarrier u x) a fails new.last; arrives = new.arrives }
+  wait_back u x a fails new = record { last = last_back events n b here (IsAtBarrier u x) a fails new.last; arrives = new.arrives }
 
   wait_kept : (u : ℕ) → ((x : ℕ) → IsAtBarrier u x b → ⊥) → (w : Option Waiting) → IsWait events n u w → IsWait events (n + 1) u w
   wait_kept u fails (Some w) old = record {
     arrive = old.arrive;
-    at = record { last = last_kept (IsAtBarrier u w.barrier) old.arrive (fails w.barrier) old.at.last; arrives = old.at.arrives };
+    at = record { last = last_kept events n b here (IsAtBarrier u w.barrier) old.arrive (fails w.barrier) old.at.last; arrives = old.at.arrives };
     line = old.line;
     alone = λ x other at. old.alone x other (wait_back u x other (fails x) at);
   }
@@ -119,7 +70,7 @@ module _ (events : List Event) (n : ℕ) (b : Event) (here : At events n b) wher
           → AreWaits events (n + 1) after
       waits_arrived waits after set old = waits_set waits after (Some (record { barrier = x; line = b.line })) set (record {
         arrive = b;
-        at = record { last = last_here (IsAtBarrier b.thread x) (refl, inl op); arrives = op };
+        at = record { last = last_here events n b here (IsAtBarrier b.thread x) (refl, inl op); arrives = op };
         line = refl;
         alone = alone;
       }) old
@@ -136,7 +87,7 @@ module _ (events : List Event) (n : ℕ) (b : Event) (here : At events n b) wher
       none y a at =
           elim (cases_eq y x) [
             | inl same ↦
-                let is : a ≡ b = last_is (IsAtBarrier b.thread y) a (refl, inr (subst (λ z. b.operation ≡ Depart z) (sym same) op)) at.last in
+                let is : a ≡ b = last_is events n b here (IsAtBarrier b.thread y) a (refl, inr (subst (λ z. b.operation ≡ Depart z) (sym same) op)) at.last in
                 let arrives : b.operation ≡ Arrive y = subst (λ (e : Event). e.operation ≡ Arrive y) is at.arrives in
                 let never : ⊥ = cc in
                 never

@@ -1,10 +1,12 @@
-//! Tests alone: lines of traces, numbers of names, pairs that are told of traces, and their first faults.
+//! Tests alone: lines of traces, numbers of names, pairs that are told of traces, and their groups and first faults.
 #![tactic(auto)]
 
 #[cfg(test)]
 mod cases;
 #[cfg(test)]
 mod faults;
+#[cfg(test)]
+mod groups;
 #[cfg(test)]
 mod lines;
 #[cfg(test)]
