@@ -1,5 +1,5 @@
 -- The words of warnings.
-use Rattle.std.specs.Prelude.{ℕ, Bool, true, false, List, [], ◌++◌, codes, decimal, if◌then◌else◌, slice_index_or}
+use Rattle.std.specs.Prelude.{ℕ, true, false, List, [], ◌++◌, codes, decimal, if◌then◌else◌, slice_index_or}
 use Rattle.std.specs.List.{list_any}
 use Rattle.std.specs.Str.{bytes_eq}
 use Rattle.lrc_labels.specs.declared.label.Reason.{Reason}
@@ -21,6 +21,10 @@ named_text name words labels =
 abbrev pub lock_text : ℕ → List ℕ → List Label → List ℕ
 lock_text lock words labels = codes "lock " ++ decimal lock ++ lock_label_text labels lock ++ words
 
+-- a word with its label, and what is said of it
+abbrev pub worded_text : ℕ → List ℕ → List Label → List ℕ
+worded_text word words labels = codes "word " ++ decimal word ++ word_label_text labels word ++ words
+
 -- what a warning says, by the names of the text and its labels
 abbrev pub kind_text : Kind → List (List ℕ) → List Label → List ℕ
 kind_text (NeverSet name) names labels = named_text (slice_index_or names name []) (codes " is read and never set, so it is 0") labels
@@ -30,8 +34,7 @@ kind_text (NoSuchLock lock) names labels = codes "lock " ++ decimal lock ++ code
 kind_text DivisionByZero names labels = codes "division by zero: this traps"
 kind_text (BelowZero false) names labels = codes "no value is below 0: this is always 0"
 kind_text (BelowZero true) names labels = codes "no value is below 0: this is always 1"
-kind_text (NeverWritten word) names labels =
-    codes "word " ++ decimal word ++ word_label_text labels word ++ codes " is read and never written, so it is 0"
+kind_text (NeverWritten word) names labels = worded_text word (codes " is read and never written, so it is 0") labels
 kind_text (HeldAlready lock) names labels = lock_text lock (codes " is held here already: this traps") labels
 kind_text (NotHeld lock) names labels = lock_text lock (codes " is not held here: this traps") labels
 kind_text (HeldAtBarrier lock) names labels =

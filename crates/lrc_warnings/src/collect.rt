@@ -25,7 +25,14 @@ pub fn found_in(
 {
     let statements = places::statements_at(alloc, &program.statements, tokens)?;
     let nodes = places::nodes_at(alloc, &program.statements, tokens)?;
-    all_of(alloc, &nodes, &statements, &program.statements, program.words(), program.locks())
+    all_of(
+        alloc,
+        &nodes,
+        &statements,
+        &program.statements,
+        program.words(),
+        program.locks(),
+    )
 }
 
 fn all_of(

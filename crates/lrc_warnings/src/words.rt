@@ -4,12 +4,11 @@ ghost use Rattle.std.specs.Prelude.{◌≡◌, ◌++◌, [], OnOk, codes, decima
 ghost use Rattle.lrc_labels.specs.Reading.{label_seen};
 ghost use Rattle.lrc_warned.specs.declared.found.Kind.TheVariants.{BelowZero, NeverWritten};
 ghost use Rattle.lrc_warnings.specs.declared.warning.Says.TheVariants.{OfLabel};
-ghost use Rattle.lrc_warnings.specs.Words.{kind_text, lock_text, named_text, reason_text, says_text};
+ghost use Rattle.lrc_warnings.specs.Words.{kind_text, lock_text, named_text, reason_text, says_text, worded_text};
 
 use crate::warning::Says;
-use lrc_labels::has_name;
 use lrc_labels::label::{Label, Reason};
-use lrc_labels::{push_lock_label, push_word_label};
+use lrc_labels::{has_name, push_lock_label, push_word_label};
 use lrc_text::push_number;
 use lrc_warned::found::Kind;
 use std::alloc::AllocError;
@@ -33,8 +32,14 @@ pub fn push_words(
 fn push_reason(out: &mut Vec<u8>, reason: Reason) -> Result<(), AllocError>
     ensures { OnOk result (out.new.items ≡ out.old.items ++ says_text (OfLabel reason) [] []) }
 {
-    out.extend_from_slice(b"this label says nothing: ")?;
-    out.extend_from_slice(reason_words(reason))
+    push_both(out, b"this label says nothing: ", reason_words(reason))
+}
+
+fn push_both(out: &mut Vec<u8>, one: &[u8], other: &[u8]) -> Result<(), AllocError>
+    ensures { OnOk result (out.new.items ≡ out.old.items ++ (one.now ++ other.now)) }
+{
+    out.extend_from_slice(one)?;
+    out.extend_from_slice(other)
 }
 
 fn push_kind(
@@ -62,7 +67,12 @@ fn push_kind(
             push_numbered(out, b"lock ", lock, b" is not below locks: this traps")
         }
         Kind::NeverWritten(word) => push_unwritten(out, word, labels),
-        Kind::HeldAlready(lock) => push_locked(out, lock, b" is held here already: this traps", labels),
+        Kind::HeldAlready(lock) => push_locked(
+            out,
+            lock,
+            b" is held here already: this traps",
+            labels,
+        ),
         Kind::NotHeld(lock) => push_locked(out, lock, b" is not held here: this traps", labels),
         Kind::HeldAtBarrier(lock) => push_locked(
             out,
@@ -98,16 +108,23 @@ fn below_zero_words(always: bool) -> &'static [u8]
     }
 }
 
-fn push_unwritten(
+fn push_unwritten(out: &mut Vec<u8>, word: u32, labels: &[Label<'_>]) -> Result<(), AllocError>
+    ensures { OnOk result (out.new.items ≡ out.old.items ++ kind_text (NeverWritten word) [] (map label_seen labels.now)) }
+{
+    push_worded(out, word, b" is read and never written, so it is 0", labels)
+}
+
+fn push_worded(
     out: &mut Vec<u8>,
     word: u32,
+    words: &[u8],
     labels: &[Label<'_>],
 ) -> Result<(), AllocError>
-    ensures { OnOk result (out.new.items ≡ out.old.items ++ kind_text (NeverWritten word) [] (map label_seen labels.now)) }
+    ensures { OnOk result (out.new.items ≡ out.old.items ++ worded_text word words.now (map label_seen labels.now)) }
 {
     push_number(out, b"word ", u64::from(word))?;
     push_word_label(out, labels, word)?;
-    out.extend_from_slice(b" is read and never written, so it is 0")
+    out.extend_from_slice(words)
 }
 
 fn name_at<'t>(names: &[&'t [u8]], name: u8) -> &'t [u8]
@@ -172,7 +189,8 @@ fn reason_words(reason: Reason) -> &'static [u8]
     ensures { result.now ≡ reason_text reason }
 {
     match reason {
-        Reason::AnotherForm => b"a label is `#: word W NAME`, `#: words W V NAME` or `#: lock K NAME`",
+        Reason::AnotherForm =>
+            b"a label is `#: word W NAME`, `#: words W V NAME` or `#: lock K NAME`",
         Reason::NoSuchWord => b"there is no such word",
         Reason::NoSuchLock => b"there is no such lock",
         Reason::WordTaken => b"an earlier label has its word",
