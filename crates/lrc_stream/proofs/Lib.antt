@@ -9,3 +9,5 @@ pub mod Collecting
 pub mod Pairs
 pub mod Placing
 pub mod Firsts
+pub mod Waiting
+pub mod Finding
