@@ -11,3 +11,4 @@ pub mod Placing
 pub mod Firsts
 pub mod Waiting
 pub mod Finding
+pub mod Grouping

@@ -8,3 +8,4 @@ pub mod Held
 pub mod Threads
 pub mod Waits
 pub mod Finding
+pub mod Grouping

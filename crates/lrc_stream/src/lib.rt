@@ -14,6 +14,7 @@ mod barriers;
 mod clocks;
 pub mod detector;
 pub mod fault_finder;
+pub mod groups;
 mod held;
 mod threads;
 pub mod trace;
