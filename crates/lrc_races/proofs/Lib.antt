@@ -1,0 +1,3 @@
+mod ActLemmas
+mod NamingLemmas
+mod TextLemmas
