@@ -164,7 +164,7 @@ naming_more {said = said} {after = after} s n m = record {
 
 -- ---- events by numbers stay
 
-keeps_operation : {before after : Naming} {target : List ℕ} {kind : Kind} {operation : Operation} → KeepsAll before after
+pub keeps_operation : {before after : Naming} {target : List ℕ} {kind : Kind} {operation : Operation} → KeepsAll before after
     → IsOperation before target kind operation → IsOperation after target kind operation
 keeps_operation k (read n) = read (moved k.variables n)
 keeps_operation k (write n) = write (moved k.variables n)
@@ -219,3 +219,16 @@ unlocated (byte ∷ rest) e = let never : ⊥ = omega arith in absurd never
 pub placed : (location : List ℕ) → ¬ (length location ≡ 0) → (located location ≡ location ∷ []) × (location ≢ [])
 placed [] some = absurd (some refl)
 placed (byte ∷ rest) some = (refl, λ e. let never : ⊥ = cc in absurd never)
+
+pub mention_none : (location : List ℕ) (names : List (List ℕ)) → length location ≡ 0 → Mentions (located location) names names
+mention_none location names e = subst (λ ms. Mentions ms names names) (sym (unlocated location e)) no_mention
+
+pub mention_one : (location : List ℕ) {before after : List (List ℕ)} {number : ℕ} → ¬ (length location ≡ 0) → IsNumbered before location after number
+    → Mentions (located location) before after
+mention_one location {before} {after} some n = subst (λ ms. Mentions ms before after) (sym (placed location some).0) (mention_more n no_mention)
+
+pub after_none : {mentions before between after : List (List ℕ)} → Mentions [] before between → Mentions mentions between after → Mentions mentions before after
+after_none no_mention m = m
+
+pub same_names : (names : List (List ℕ)) → Keeps names names
+same_names names = record { at = λ k name e. e }

@@ -1,5 +1,5 @@
 -- What is told of a trace, from its bytes.
-use Rattle.std.specs.Prelude.{◌≡◌, ◌≢◌, ℕ, ◌+◌, ◌<◌, ◌≤◌, ◌⊎◌, ◌==◌, Bool, if◌then◌else◌, List, [], ◌∷◌, ◌++◌, Option, All, flat_map, length}
+use Rattle.std.specs.Prelude.{◌≡◌, ℕ, ◌+◌, ◌<◌, ◌≤◌, ◌⊎◌, ◌==◌, Bool, if◌then◌else◌, List, [], ◌∷◌, ◌++◌, Option, flat_map, length}
 use Rattle.lrc_std.specs.declared.event.Event.{Event}
 use Rattle.lrc_std.specs.declared.event.Pair.{Pair}
 use Rattle.lrc_std.specs.declared.fault.Fault.{Fault as IllFormed}
@@ -8,6 +8,7 @@ use Rattle.lrc_std.specs.Races.{AreTold}
 use Rattle.lrc_std.specs.Formed.{IsFirstFault}
 use Rattle.lrc_std.specs.Groups.{AreGroups}
 use Rattle.lrc_names.specs.Line.{line_feed, longest_line}
+use Rattle.lrc_names.specs.Lacking.{Lacks}
 use Rattle.lrc_races.specs.declared.form.Form.{Form}
 use Rattle.lrc_races.specs.declared.fault.Fault.{Fault}
 use Rattle.lrc_races.specs.declared.fault.Fault.TheVariants.{BadEvent, NoMemory}
@@ -15,9 +16,13 @@ use Rattle.lrc_races.specs.Says.{Said, Say, IsFirstBad}
 use Rattle.lrc_races.specs.Naming.{Naming, IsTrace}
 use Rattle.lrc_races.specs.Spelled.{race_lines, group_lines, fault_line, counts_line}
 
--- the text has no line feed
+-- the text has no line feed, and none of the lines has
 abbrev pub IsOneLine : List ℕ → Type 0
-IsOneLine text = All (λ (byte : ℕ). byte ≢ line_feed) text
+IsOneLine text = Lacks line_feed text
+
+abbrev pub AreLines : List (List ℕ) → Type 0
+AreLines [] = Unit {0}
+AreLines (line ∷ lines) = IsOneLine line × AreLines lines
 
 -- a line with its line feed
 abbrev pub ended : List ℕ → List ℕ
@@ -25,9 +30,9 @@ ended line = line ++ line_feed ∷ []
 
 -- The bytes are these whole lines, each with its line feed, and behind them this rest of a line.
 pub record IsCut (bytes : List ℕ) (lines : List (List ℕ)) (rest : List ℕ) : Type 0 where
-  pub is : bytes ≡ flat_map ended lines ++ rest
-  pub lines : All IsOneLine lines
-  pub rest : IsOneLine rest
+  pub whole : bytes ≡ flat_map ended lines ++ rest
+  pub each : AreLines lines
+  pub last : IsOneLine rest
 
 -- The pairs that are told of what is said, and the text of them: a line for each, but no line where they are told in groups.
 pub record IsToldOf (form : Form) (group : Bool) (said : List Said) (told : List ℕ) : Type 0 where
@@ -76,7 +81,7 @@ pub record IsWholeOf (form : Form) (group : Bool) (said : List Said) (status : �
   pub first_fault : IsFirstFault events (length events) fault
   pub text : told ≡ (if group then [] else race_lines form naming pairs) ++ (group_lines form naming groups ++ (fault_line naming fault
       ++ counts_line naming (length pairs) (length events)))
-  pub status : status ≡ (if length pairs == 0 then 0 else 3)
+  pub answer : status ≡ (if length pairs == 0 then 0 else 3)
 
 -- The bytes are a whole trace: what stands behind their last line feed is a line too.
 pub record Ends (form : Form) (group : Bool) (bytes : List ℕ) (status : ℕ) (told : List ℕ) : Type 0 where

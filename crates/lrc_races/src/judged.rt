@@ -1,14 +1,15 @@
 // A trace as it is judged, one event after another.
-ghost use Rattle.std.specs.Prelude.{◌≡◌, ◌+◌, ◌++◌, ◌×◌, ◌==◌, [], IfErr, IfOk, OnErr, OnOk, if◌then◌else◌};
+ghost use Rattle.std.specs.Prelude.{◌≡◌, ◌+◌, [], Bool, IfErr, IfOk, OnErr, OnOk};
 ghost use Rattle.lrc_names.specs.Line.{saying_of};
 ghost use Rattle.lrc_races.specs.declared.fault.Fault.TheVariants.{NoMemory};
+ghost use Rattle.lrc_races.specs.declared.form.Form.{Form as AnyForm};
 ghost use Rattle.lrc_races.specs.Tables.{naming_of};
 ghost use Rattle.lrc_races.specs.Judged.{HasJudged, HasJudgedOne, HasToldAll, IsTelling};
 
 use crate::fault::Fault;
 use crate::form::Form;
 use crate::naming::Names;
-use crate::spelling::{push_counts, push_fault, push_groups, push_pairs};
+use crate::spelling::{push_end, push_pairs};
 use lrc_names::line::Named;
 use lrc_std::event::{Event, Pair};
 use lrc_stream::detector::Detector;
@@ -68,7 +69,7 @@ fn sum(one: u64, other: u64) -> Result<u64, Fault>
 impl Judged {
     /// Before any event.
     pub fn new(alloc: Global) -> Judged
-        ensures { (form : _) (group : _) → HasJudged form group [] [] result }
+        ensures { (form : AnyForm) (group : Bool) → HasJudged form group [] [] result }
     {
         Judged {
             names: Names::new(alloc),
@@ -113,23 +114,24 @@ impl Judged {
         Ok(())
     }
 
-    // Adds what is told at the end.
-    fn write_end(&mut self, form: Form) -> Result<(), AllocError> {
-        self.text.clear();
-        push_groups(&mut self.text, form, &self.names, self.groups.list())?;
-        push_fault(&mut self.text, &self.names, self.finder.fault())?;
-        push_counts(&mut self.text, &self.names, self.races, self.detector.position)?;
-        Ok(())
-    }
-
     /// Adds what is told at the end: the groups, what is not well formed, and the last line. Answers the status of the program:
     /// 3 where a race was told, else 0.
     pub fn end(&mut self, form: Form, out: &mut Vec<u8>) -> Result<u8, AllocError>
         ensures ok { IfOk result (HasToldAll form self.old out.old.items out.new.items) }
         ensures err { OnErr result (out.new.items ≡ out.old.items) }
     {
-        self.write_end(form)?;
+        let races = self.races;
+        self.text.clear();
+        push_end(
+            &mut self.text,
+            form,
+            &self.names,
+            self.groups.list(),
+            self.finder.fault(),
+            races,
+            self.detector.position,
+        )?;
         out.extend_from_slice(self.text.as_slice())?;
-        Ok(if self.races == 0 { 0 } else { 3 })
+        Ok(if races == 0 { 0 } else { 3 })
     }
 }

@@ -218,8 +218,8 @@ fn push_group(
     Ok(())
 }
 
-/// Adds the lines of groups.
-pub fn push_groups(
+// Adds the lines of groups.
+fn push_groups(
     text: &mut Vec<u8>,
     form: Form,
     names: &Names,
@@ -278,8 +278,8 @@ fn push_reason(
     }
 }
 
-/// Adds the line of the first event that no program would give, if there is one.
-pub fn push_fault(
+// Adds the line of the first event that no program would give, if there is one.
+fn push_fault(
     text: &mut Vec<u8>,
     names: &Names,
     fault: Option<Fault>,
@@ -298,8 +298,8 @@ pub fn push_fault(
     }
 }
 
-/// Adds the last line: how many races, events, and names of each kind.
-pub fn push_counts(
+// Adds the last line: how many races, events, and names of each kind.
+fn push_counts(
     text: &mut Vec<u8>,
     names: &Names,
     races: u64,
@@ -314,5 +314,24 @@ pub fn push_counts(
     push_count(text, b", locks ", &names.locks)?;
     push_count(text, b", barriers ", &names.barriers)?;
     push_two(text, b"\n", b"")?;
+    Ok(())
+}
+
+/// Adds what is told at the end of a trace: groups, the first event that no program would give, and the last line.
+pub fn push_end(
+    text: &mut Vec<u8>,
+    form: Form,
+    names: &Names,
+    groups: &[Group],
+    fault: Option<Fault>,
+    races: u64,
+    events: u64,
+) -> Result<(), AllocError>
+    ensures { OnOk result (text.new.items ≡ text.old.items ++ (group_lines form (naming_of names.now) groups.now
+        ++ (fault_line (naming_of names.now) fault ++ counts_line (naming_of names.now) races events))) }
+{
+    push_groups(text, form, names, groups)?;
+    push_fault(text, names, fault)?;
+    push_counts(text, names, races, events)?;
     Ok(())
 }
