@@ -1,6 +1,7 @@
 pub mod Beginnings
 pub mod Behind
 pub mod Expressions
+pub mod FirstFaults
 pub mod Foreign
 mod Keywords
 pub mod LexemesExist

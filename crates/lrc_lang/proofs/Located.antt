@@ -10,6 +10,7 @@ use Rattle.lrc_lang.specs.Token.{number, name, keyword, sign, finish, Lexeme, to
 use Rattle.lrc_lang.specs.Lexemes.{IsBlank, IsLineFeed, IsHash, IsDigit, IsLetter, IsLetterOrDigit, IsWithinLine, BeginsWith, IsSpan, value_of}
 use Rattle.lrc_lang.specs.Lexemes.{IsNoNumber, keyword_text, IsKeyword, sign_text, at, Lexes, passes_blank, passes_line_feed, passes_comment}
 use Rattle.lrc_lang.specs.Lexemes.{takes_number, takes_keyword, takes_name, takes_sign, stops_at_number, stops_at_byte, stops_at_end, Follows, IsShorter}
+use Rattle.lrc_lang.specs.FirstFault.{placed}
 use Rattle.lrc_lang.specs.Lexer.{IsReady}
 use Rattle.lrc_lang.specs.Parser.Past.{GoesOn}
 use Rattle.lrc_lang.specs.Positions.{places_in, places_behind, with_byte, behind_line_feed, Located, located_at, located, HasLocated}
@@ -198,3 +199,24 @@ pub within_bound : (text : List ℕ) (a b before behind : ℕ) → before ≤ a 
 within_bound text a b before behind was up is =
     let long : length (take (b - a) (drop a text)) ≤ b - a = simp length-take (omega arith) in
     omega arith
+
+-- what stands at its places stands there
+pub placed_located : {line : ℕ} {text : List ℕ} {all : List Placed} (whole : List ℕ) (lexed : Lexes line text all)
+    → map placed (located whole all (places_in lexed)) ≡ all
+placed_located whole (passes_blank is inside) = placed_located whole inside
+placed_located whole (passes_line_feed is inside) = placed_located whole inside
+placed_located whole (passes_comment is span inside) = placed_located whole inside
+placed_located {line} whole (takes_number {digits = digits} begins is inside) =
+    ap (λ others. at line (token (number (value_of digits))) ∷ others) (placed_located whole inside)
+placed_located {line} whole (takes_keyword {which = which} word inside) =
+    ap (λ others. at line (token (keyword which)) ∷ others) (placed_located whole inside)
+placed_located {line} whole (takes_name {word = bytes} word other inside) =
+    ap (λ others. at line (token (name bytes)) ∷ others) (placed_located whole inside)
+placed_located {line} whole (takes_sign {mark = mark} is inside) =
+    ap (λ others. at line (token (sign mark)) ∷ others) (placed_located whole inside)
+placed_located whole (stops_at_number digits bad) = refl
+placed_located whole (stops_at_byte nothing) = refl
+placed_located whole stops_at_end = refl
+
+pub lexed_located : {text : List ℕ} {all : List Located} → HasLocated text all → Lexes 1 text (map placed all)
+lexed_located {text} h = subst (Lexes 1 text) (sym (ap (map placed) h.each ∙ placed_located text h.lexed)) h.lexed

@@ -1,7 +1,9 @@
 // The first fault of a text, where it is, and what may stand there.
 
-ghost use Rattle.std.specs.Prelude.{◌≡◌, [], List, map, IfOk, MatchOption};
-ghost use Rattle.lrc_lang.specs.Faults.{AreFaultless};
+ghost use Rattle.std.specs.Prelude.{◌≡◌, ◌≤◌, ℕ, [], List, length, map, IfOk, MatchOption};
+ghost use Rattle.lrc_lang.specs.declared.fault.FaultKind.{FaultKind as FaultKindSeen};
+ghost use Rattle.lrc_lang.specs.declared.kind.Kind.{Kind as KindSeen};
+ghost use Rattle.lrc_lang.specs.Faults.{AreFaultless, HasFirstFault};
 ghost use Rattle.lrc_lang.specs.FirstFault.{IsFirstFaultOf, placed};
 ghost use Rattle.lrc_lang.specs.Parser.Located.{located_of};
 ghost use Rattle.lrc_lang.specs.Parser.Seen.{symbol_seen};
@@ -10,6 +12,7 @@ ghost use Rattle.lrc_lang.specs.Parser.SeenState.{state_seen};
 ghost use Rattle.lrc_lang.specs.Parser.State.{start};
 ghost use Rattle.lrc_lang.specs.Parser.Stops.{IsRefused, IsTaken, Stops, kinds_taken, symbol_of_kind, takes_kind};
 ghost use Rattle.lrc_lang.specs.Parser.View.{lexeme_of, token_of};
+ghost use Rattle.lrc_lang.specs.Positions.{HasLocated, Located as Spot};
 ghost use Rattle.lrc_lang.specs.Token.{Token as TokenSeen, token};
 
 use crate::fault::FaultKind;
@@ -50,7 +53,13 @@ pub fn first_fault(alloc: Global, all: &[Located<'_>]) -> Result<Option<FirstFau
     first_fault_behind(&mut state, &mut limits, alloc, all)
 }
 
-// The same, from the state of a text of which nothing has come.
+/// The first fault of what stands in a text is the first fault of the text.
+pub fn first_faults_are_those_of_texts()
+    ensures { (text : List ℕ) (all : List Spot) (index : ℕ) (kind : FaultKindSeen) (may_stand : List KindSeen) → length text ≤ 65536
+        → HasLocated text all → (first : IsFirstFaultOf all index kind may_stand) → HasFirstFault text first.has.found.line kind }
+{}
+
+// The first fault of what stands in a text, from the state of a text of which nothing has come.
 fn first_fault_behind<'t>(
     state: &mut ParserState,
     limits: &mut Limits<'t>,
