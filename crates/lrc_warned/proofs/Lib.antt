@@ -1,3 +1,5 @@
+pub mod Acquired
+pub mod Derived
 pub mod Known
 pub mod Learns
 pub mod Lists

@@ -1,6 +1,7 @@
 pub mod Access
 pub mod Blocks
 pub mod Constant
+pub mod Derived
 pub mod Found
 pub mod Held
 pub mod Inside
@@ -9,3 +10,4 @@ pub mod Names
 pub mod Operations
 pub mod Places
 pub mod Words
+pub mod Under

@@ -7,6 +7,7 @@ mod constant;
 pub mod found;
 pub mod held;
 pub mod inside;
+pub mod laws;
 pub mod locks;
 pub mod names;
 pub mod operations;
