@@ -88,7 +88,8 @@ module _ (numbers : Numbers) (nodes : ℕ) (acts : List Act) (events : List Even
       count_of-same is_depart acts q n r d does (λ e k. let no = (else (sym e)).no_depart in let never : ⊥ = cc in never),
     )
 
-    stays_more : (n : ℕ) (a : Event) → ((a : Event) → WaitsAt events n (numbers.thread q) numbers.barrier a → departs_before acts q n < arrives_before acts q n) → (r : ℕ) (d : Deed) → Does acts n r d → (b : Event) → At events n b
+    stays_more : (n : ℕ) (a : Event) → ((a : Event) → WaitsAt events n (numbers.thread q) numbers.barrier a → departs_before acts q n < arrives_before acts q n)
+        → (r : ℕ) (d : Deed) → Does acts n r d → (b : Event) → At events n b
         → b.thread ≡ numbers.thread r → b.operation ≡ operation_of numbers d → (q ≡ r → IsElse numbers d)
         → WaitsAt events (n + 1) (numbers.thread q) numbers.barrier a → departs_before acts q (n + 1) < arrives_before acts q (n + 1)
     stays_more n a ih r d does b here thread operation else at =
@@ -100,7 +101,8 @@ module _ (numbers : Numbers) (nodes : ℕ) (acts : List Act) (events : List Even
         let other = counts.1 in
         omega arith
 
-    step_more : (n : ℕ) (a : Event) → n ≤ length acts → ((a : Event) → WaitsAt events n (numbers.thread q) numbers.barrier a → departs_before acts q n < arrives_before acts q n) → (r : ℕ) (d : Deed) → Does acts n r d → (b : Event) → At events n b
+    step_more : (n : ℕ) (a : Event) → n ≤ length acts
+        → ((a : Event) → WaitsAt events n (numbers.thread q) numbers.barrier a → departs_before acts q n < arrives_before acts q n) → (r : ℕ) (d : Deed) → Does acts n r d → (b : Event) → At events n b
         → b.thread ≡ numbers.thread r → b.operation ≡ operation_of numbers d
         → WaitsAt events (n + 1) (numbers.thread q) numbers.barrier a → departs_before acts q (n + 1) < arrives_before acts q (n + 1)
     step_more n a le ih r d does b here thread operation at =
@@ -143,7 +145,8 @@ module _ (numbers : Numbers) (nodes : ℕ) (acts : List Act) (events : List Even
         step_more n a (omega arith) (λ x waiting. waits_more n x (omega arith) waiting) act.node act.deed does b here thread operation at_next in
         subst (λ m. departs_before acts q m < arrives_before acts q m) (sym one) result
 
-    stays_waiting : (n : ℕ) → (departs_before acts q n < arrives_before acts q n → (a : Event) × WaitsAt events n (numbers.thread q) numbers.barrier a) → (r : ℕ) (d : Deed) → Does acts n r d → (b : Event) → At events n b
+    stays_waiting : (n : ℕ) → (departs_before acts q n < arrives_before acts q n → (a : Event) × WaitsAt events n (numbers.thread q) numbers.barrier a)
+        → (r : ℕ) (d : Deed) → Does acts n r d → (b : Event) → At events n b
         → b.thread ≡ numbers.thread r → b.operation ≡ operation_of numbers d → (q ≡ r → IsElse numbers d)
         → departs_before acts q (n + 1) < arrives_before acts q (n + 1) → (a : Event) × WaitsAt events (n + 1) (numbers.thread q) numbers.barrier a
     stays_waiting n ih r d does b here thread operation else less =
@@ -158,7 +161,8 @@ module _ (numbers : Numbers) (nodes : ℕ) (acts : List Act) (events : List Even
           },
         )
 
-    step_waiting : (n : ℕ) → n ≤ length acts → (departs_before acts q n < arrives_before acts q n → (a : Event) × WaitsAt events n (numbers.thread q) numbers.barrier a) → (r : ℕ) (d : Deed) → Does acts n r d → (b : Event) → At events n b
+    step_waiting : (n : ℕ) → n ≤ length acts → (departs_before acts q n < arrives_before acts q n → (a : Event) × WaitsAt events n (numbers.thread q) numbers.barrier a)
+        → (r : ℕ) (d : Deed) → Does acts n r d → (b : Event) → At events n b
         → b.thread ≡ numbers.thread r → b.operation ≡ operation_of numbers d
         → departs_before acts q (n + 1) < arrives_before acts q (n + 1) → (a : Event) × WaitsAt events (n + 1) (numbers.thread q) numbers.barrier a
     step_waiting n le ih r d does b here thread operation less =

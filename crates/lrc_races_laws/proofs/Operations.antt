@@ -2,7 +2,8 @@
 use Rattle.std.proofs.Common.{◌≡◌, ℕ, false, inl, inr, refl}
 use Rattle.std.specs.Prelude.{Some, ◌⊎◌}
 use Rattle.lrc_trace.specs.declared.act.Deed.{Deed}
-use Rattle.lrc_trace.specs.declared.act.Deed.TheVariants.{Quiet, Print, Trap, End, Read as Reading, Write as Writing, Acquire as Acquiring, Release as Releasing, Arrive as Arriving, Depart as Departing}
+use Rattle.lrc_trace.specs.declared.act.Deed.TheVariants.{Quiet, Print, Trap, End, Read as Reading}
+use Rattle.lrc_trace.specs.declared.act.Deed.TheVariants.{Write as Writing, Acquire as Acquiring, Release as Releasing, Arrive as Arriving, Depart as Departing}
 use Rattle.lrc_trace.specs.Run.{is_arrive, is_depart}
 use Rattle.lrc_std.specs.declared.event.Operation.TheVariants.{Read, Write, Acquire, Release, Arrive, Depart, Fork, Join}
 use Rattle.lrc_std.specs.Trace.{given, got}
