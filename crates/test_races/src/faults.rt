@@ -79,7 +79,12 @@ const CASES: &[Case] = &[
     },
     Case {
         name: "the first fault alone is told",
-        events: &[(0, Write(0)), (0, Release(0)), (1, Release(1)), (1, Write(0))],
+        events: &[
+            (0, Write(0)),
+            (0, Release(0)),
+            (1, Release(1)),
+            (1, Write(0)),
+        ],
         fault: Some((2, Reason::NotHeld { lock: 0 })),
     },
     Case {
@@ -135,7 +140,12 @@ const CASES: &[Case] = &[
     },
     Case {
         name: "a depart without an arrive",
-        events: &[(0, Arrive(0)), (1, Arrive(0)), (1, Depart(0)), (1, Depart(0))],
+        events: &[
+            (0, Arrive(0)),
+            (1, Arrive(0)),
+            (1, Depart(0)),
+            (1, Depart(0)),
+        ],
         fault: Some((4, Reason::NotArrived { barrier: 0 })),
     },
     Case {

@@ -11,3 +11,5 @@ mod lines;
 mod numbers;
 #[cfg(test)]
 mod played;
+#[cfg(test)]
+mod sessions;
