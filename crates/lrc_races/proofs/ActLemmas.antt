@@ -1,5 +1,5 @@
 -- What the words of a line of acts say.
-use Rattle.std.proofs.Common.{◌≡◌, ℕ, suc, ◌+◌, ◌^◌, ◌<◌, ◌≤◌, ◌⊎◌, List, [], ◌∷◌, ◌++◌, length, get_or, take, drop, inl, inr, sym, subst, refl, ◌∙◌, ap, arith, Bor}
+use Rattle.std.proofs.Common.{◌≡◌, ℕ, suc, ◌^◌, ◌<◌, ◌≤◌, ◌⊎◌, List, [], ◌∷◌, ◌++◌, length, get_or, drop, inl, inr, sym, subst, refl, ◌∙◌, ap, arith}
 use Rattle.std.specs.Prelude.{Option, Some, None, MatchOption, codes, decimal, All, Bool, true, false, ◌==◌, ◌&&◌}
 use Rattle.std.specs.Str.Parse.{IsNumeral, AllDigits, digits_value}
 use Rattle.std.proofs.lemmas.Str.Parse.{IsNumeralModel, numerals_by_value, tells_digits}
@@ -11,10 +11,10 @@ use Rattle.std.specs.List.{before_first}
 use Rattle.lrc_names.specs.declared.line.Kind.{Kind}
 use Rattle.lrc_names.specs.declared.line.Kind.TheVariants.{Read, Write, Acquire, Release, Post, Wait, Fork, Join, Arrive, Depart, Idle}
 use Rattle.lrc_text.specs.Digits.{IsNumber}
-use Rattle.lrc_acts.specs.ActsText.{IsNamedWithOne, words_between, words_on}
+use Rattle.lrc_acts.specs.ActsText.{words_between, words_on}
 use Rattle.lrc_names.specs.Line.{Saying}
 use Rattle.lrc_names.specs.declared.line.Line.TheVariants.{Bad}
-use Rattle.lrc_races.specs.Acts.{IsNamed, IsAccessed, IsAccess, IsOnLock, IsIdle, quiet, ends, prints, traps, SaysOperation, IsDigit, EndsDigits, SaysLine, IsLocation, SaysNoAct, SaysAct, ReadsAct}
+use Rattle.lrc_races.specs.Acts.{IsNamed, IsAccessed, IsIdle, quiet, ends, prints, traps, SaysOperation, IsDigit, EndsDigits, SaysLine, IsLocation, SaysNoAct, SaysAct, ReadsAct}
 
 own : IsNumeralModel (AllDigits 10) (digits_value 10)
 own = numerals_by_value (AllDigits 10) tells_digits
@@ -91,15 +91,15 @@ module _ (word digits : List ℕ) where
     pub acquired : word ≡ codes "acquire" → (r : Option X) → FindsLock Acquire r → AnswersOne r
     unfolding same_bytes
     acquired is None none = λ kind target s. elim (one_number kind target s) [
-        | inl x ↦ none target x.2
-        | inr rest ↦ elim rest [
-            | inl x ↦ differ word (codes "acquire") (codes "release") refl refl is x.0
-            | inr more ↦ elim more [
-                | inl x ↦ differ word (codes "acquire") (codes "print") refl refl is x.0
-                | inr x ↦ differ word (codes "acquire") (codes "trap") refl refl is x.0
-              ]
-          ]
+      | inl x ↦ none target x.2
+      | inr rest ↦ elim rest [
+        | inl x ↦ differ word (codes "acquire") (codes "release") refl refl is x.0
+        | inr more ↦ elim more [
+          | inl x ↦ differ word (codes "acquire") (codes "print") refl refl is x.0
+          | inr x ↦ differ word (codes "acquire") (codes "trap") refl refl is x.0
+        ]
       ]
+    ]
     acquired is (Some f) (k, n) =
         let says : SaysOperation (word ∷ digits ∷ []) Acquire (target_of f) = record { digits = digits; whole = ap (λ w. w ∷ digits ∷ []) is; says = n } in
         subst (λ kind. SaysOperation (word ∷ digits ∷ []) kind (target_of f)) (sym k) says
@@ -107,15 +107,15 @@ module _ (word digits : List ℕ) where
     pub released : word ≡ codes "release" → (r : Option X) → FindsLock Release r → AnswersOne r
     unfolding same_bytes
     released is None none = λ kind target s. elim (one_number kind target s) [
-        | inl x ↦ differ word (codes "release") (codes "acquire") refl refl is x.0
-        | inr rest ↦ elim rest [
-            | inl x ↦ none target x.2
-            | inr more ↦ elim more [
-                | inl x ↦ differ word (codes "release") (codes "print") refl refl is x.0
-                | inr x ↦ differ word (codes "release") (codes "trap") refl refl is x.0
-              ]
-          ]
+      | inl x ↦ differ word (codes "release") (codes "acquire") refl refl is x.0
+      | inr rest ↦ elim rest [
+        | inl x ↦ none target x.2
+        | inr more ↦ elim more [
+          | inl x ↦ differ word (codes "release") (codes "print") refl refl is x.0
+          | inr x ↦ differ word (codes "release") (codes "trap") refl refl is x.0
+        ]
       ]
+    ]
     released is (Some f) (k, n) =
         let says : SaysOperation (word ∷ digits ∷ []) Release (target_of f) = record { digits = digits; whole = ap (λ w. w ∷ digits ∷ []) is; says = n } in
         subst (λ kind. SaysOperation (word ∷ digits ∷ []) kind (target_of f)) (sym k) says
@@ -128,30 +128,30 @@ module _ (word digits : List ℕ) where
     pub printed : word ≡ codes "print" → (r : Option X) → FindsIdle 0 18446744073709551615 r → AnswersOne r
     unfolding same_bytes
     printed is None none = λ kind target s. elim (one_number kind target s) [
-        | inl x ↦ differ word (codes "print") (codes "acquire") refl refl is x.0
-        | inr rest ↦ elim rest [
-            | inl x ↦ differ word (codes "print") (codes "release") refl refl is x.0
-            | inr more ↦ elim more [
-                | inl x ↦ none x.1.0 (omega arith) x.1.1
-                | inr x ↦ differ word (codes "print") (codes "trap") refl refl is x.0
-              ]
-          ]
+      | inl x ↦ differ word (codes "print") (codes "acquire") refl refl is x.0
+      | inr rest ↦ elim rest [
+        | inl x ↦ differ word (codes "print") (codes "release") refl refl is x.0
+        | inr more ↦ elim more [
+          | inl x ↦ none x.1.0 (omega arith) x.1.1
+          | inr x ↦ differ word (codes "print") (codes "trap") refl refl is x.0
+        ]
       ]
+    ]
     printed is (Some f) (k, t, n) =
         idles f k t (prints {value = n.0} (record { digits = digits; whole = ap (λ w. w ∷ digits ∷ []) is; says = n.2 }))
 
     pub trapped : word ≡ codes "trap" → (r : Option X) → FindsIdle 1 5 r → AnswersOne r
     unfolding same_bytes
     trapped is None none = λ kind target s. elim (one_number kind target s) [
-        | inl x ↦ differ word (codes "trap") (codes "acquire") refl refl is x.0
-        | inr rest ↦ elim rest [
-            | inl x ↦ differ word (codes "trap") (codes "release") refl refl is x.0
-            | inr more ↦ elim more [
-                | inl x ↦ differ word (codes "trap") (codes "print") refl refl is x.0
-                | inr x ↦ none x.1.0 x.1.1 x.1.2
-              ]
-          ]
+      | inl x ↦ differ word (codes "trap") (codes "acquire") refl refl is x.0
+      | inr rest ↦ elim rest [
+        | inl x ↦ differ word (codes "trap") (codes "release") refl refl is x.0
+        | inr more ↦ elim more [
+          | inl x ↦ differ word (codes "trap") (codes "print") refl refl is x.0
+          | inr x ↦ none x.1.0 x.1.1 x.1.2
+        ]
       ]
+    ]
     trapped is (Some f) (k, t, n) =
         idles f k t (traps {cause = n.0} n.1 (record { digits = digits; whole = ap (λ w. w ∷ digits ∷ []) is; says = n.2 }))
 
@@ -194,9 +194,9 @@ module _ (word digits value : List ℕ) where
     pub reads : word ≡ codes "read" → (r : Option X) → FindsAccess Read r → AnswersTwo r
     unfolding same_bytes
     reads is None none = λ kind target s. elim (two_numbers kind target s) [
-        | inl x ↦ none target x.2
-        | inr x ↦ differ word (codes "read") (codes "write") refl refl is x.0
-      ]
+      | inl x ↦ none target x.2
+      | inr x ↦ differ word (codes "read") (codes "write") refl refl is x.0
+    ]
     reads is (Some f) (k, n) =
         let says : SaysOperation (word ∷ digits ∷ value ∷ []) Read (target_of f)
         = record { digits = digits; value_digits = value; whole = ap (λ w. w ∷ digits ∷ value ∷ []) is; accessed = n } in
@@ -205,9 +205,9 @@ module _ (word digits value : List ℕ) where
     pub writes : word ≡ codes "write" → (r : Option X) → FindsAccess Write r → AnswersTwo r
     unfolding same_bytes
     writes is None none = λ kind target s. elim (two_numbers kind target s) [
-        | inl x ↦ differ word (codes "write") (codes "read") refl refl is x.0
-        | inr x ↦ none target x.2
-      ]
+      | inl x ↦ differ word (codes "write") (codes "read") refl refl is x.0
+      | inr x ↦ none target x.2
+    ]
     writes is (Some f) (k, n) =
         let says : SaysOperation (word ∷ digits ∷ value ∷ []) Write (target_of f)
         = record { digits = digits; value_digits = value; whole = ap (λ w. w ∷ digits ∷ value ∷ []) is; accessed = n } in
@@ -246,10 +246,18 @@ module _ (comment rest digits behind : List ℕ) (line : comment ≡ codes "# li
   located few =
       elim (cases_lt 0 (length digits)) [
         | inl some ↦ inl (record {
-            rest = behind; whole = line ∙ ap (λ r. codes "# line " ++ r) whole; some = some; few = few; all = all; ends = over;
-          })
-        | inr none ↦ inr (nil_from_length digits (omega arith), λ other says.
-            let is = same other says in let some = says.some in omega (arith, ap length is))
+          rest = behind;
+          whole = line ∙ ap (λ r. codes "# line " ++ r) whole;
+          some = some;
+          few = few;
+          all = all;
+          ends = over;
+        })
+        | inr none ↦ inr (
+          nil_from_length digits (omega arith),
+          λ other says.
+              let is = same other says in let some = says.some in omega (arith, ap length is),
+        )
       ]
 
   pub unlocated : 10 < length digits → IsLocation comment []
@@ -266,16 +274,22 @@ module _ (line text digits after : List ℕ) (before : text ≡ before_first (λ
   no_blank none = let a = none.wordless in let b = words in let never : ⊥ = cc in absurd never
 
   pub unnamed : ((name : List ℕ) → ¬ IsNamed digits name) → ReadsAct line Bad
-  unnamed none = (no_blank, λ saying says.
-      let a = says.whole in let b = words in
-      let is : says.digits ≡ digits = cc in
-      none saying.thread (subst (λ d. IsNamed d saying.thread) is says.thread))
+  unnamed none = (
+    no_blank,
+    λ saying says.
+        let a = says.whole in let b = words in
+        let is : says.digits ≡ digits = cc in
+        none saying.thread (subst (λ d. IsNamed d saying.thread) is says.thread),
+  )
 
   pub unsaid : ((kind : Kind) (target : List ℕ) → ¬ SaysOperation (words_between after) kind target) → ReadsAct line Bad
-  unsaid none = (no_blank, λ saying says.
-      let a = says.whole in let b = words in
-      let is : says.rest ≡ words_between after = cc in
-      none saying.kind saying.target (subst (λ w. SaysOperation w saying.kind saying.target) is says.operation))
+  unsaid none = (
+    no_blank,
+    λ saying says.
+        let a = says.whole in let b = words in
+        let is : says.rest ≡ words_between after = cc in
+        none saying.kind saying.target (subst (λ w. SaysOperation w saying.kind saying.target) is says.operation),
+  )
 
   pub said : length line ≤ 4096 → (saying : Saying) → IsNamed digits saying.thread → SaysOperation (words_between after) saying.kind saying.target
       → (comment : List ℕ) → comment ≡ drop (length text) line → IsLocation comment saying.location → SaysAct line saying

@@ -1,6 +1,6 @@
 -- What one event more makes of what is judged.
-use Rattle.std.proofs.Common.{◌≡◌, ◌≢◌, ◌↔◌, ℕ, zero, suc, ◌+◌, ◌^◌, ◌<◌, ◌≤◌, ◌⊎◌, ◌==◌, Bool, true, false, List, [], ◌∷◌, ◌++◌, length, inl, inr, sym, subst, refl, ◌∙◌, ap, arith, append_assoc, append-nil, length-append}
-use Rattle.std.specs.Prelude.{Option, Some, None, AllPairs, Contains, flat_map, slice_get, unwrap_or, codes, if◌then◌else◌}
+use Rattle.std.proofs.Common.{◌≡◌, ℕ, zero, suc, ◌+◌, ◌^◌, ◌<◌, ◌⊎◌, ◌==◌, Bool, true, false, List, [], ◌∷◌, ◌++◌, length, inl, inr, sym, subst, refl, ◌∙◌, ap, arith, append_assoc, append-nil, length-append}
+use Rattle.std.specs.Prelude.{Option, Some, None, Contains, slice_get, unwrap_or, codes, if◌then◌else◌}
 use Rattle.std.proofs.lemmas.List.Concat.{flat_map-append}
 use Rattle.std.proofs.lemmas.Bool.{eqb-true, eq-eqb}
 use Rattle.lrc_std.specs.declared.event.Event.{Event}
@@ -15,8 +15,6 @@ use Rattle.lrc_std.specs.Formed.{IsFirstFault}
 use Rattle.lrc_std.specs.Groups.{AreGroups}
 use Rattle.lrc_std.proofs.Positions.{At-within, At-one}
 use Rattle.lrc_std.proofs.Prefix.{At-longer, At-shorter, longer, shorter}
-use Rattle.lrc_stream.specs.declared.detector.Detector.{Detector}
-use Rattle.lrc_stream.specs.declared.fault_finder.FaultFinder.{FaultFinder}
 use Rattle.lrc_stream.specs.declared.groups.Groups.{Groups}
 use Rattle.lrc_stream.specs.Detecting.{HasTaken, AreToldBefore}
 use Rattle.lrc_stream.specs.Finding.{HasLooked}
@@ -29,8 +27,8 @@ use Rattle.lrc_races.specs.Says.{Said}
 use Rattle.lrc_races.specs.Naming.{Numbers, Naming, IsNaming, IsOperation, IsLocated, IsEvent, AreEvents, no_events, event_more}
 use Rattle.lrc_races.specs.Naming.{read, write, acquire, release, post, wait, fork, join, arrive, depart, idle}
 use Rattle.lrc_races.specs.Tables.{naming_of, MentionsAll}
-use Rattle.lrc_races.specs.Spelled.{name_at, variable_of, place_name, together, access_parts, race_line, race_lines, group_lines, fault_line, counts_line, thread_word, kind_word, place_word, variable_word}
-use Rattle.lrc_races.specs.Told.{IsWholeOf, IsToldOf}
+use Rattle.lrc_races.specs.Spelled.{name_at, variable_of, place_name, together, access_parts, race_line, race_lines, group_lines, fault_line, counts_line, variable_word}
+use Rattle.lrc_races.specs.Told.{IsToldOf}
 use Rattle.lrc_races.specs.Judged.{HasJudged, HasJudgedOne, HasToldAll, IsTelling}
 use Rattle.lrc_races.proofs.NamingLemmas.{Keeps, KeepsAll, keeps_names, keeps_events, events_push, naming_more, nothing_named, slice_get-next}
 
@@ -41,7 +39,12 @@ module _ (events more : List Event) where
   races-longer {j = j} r =
       let within = At-within r.second in
       record {
-        a = r.a; b = r.b; earlier = r.earlier; first = At-longer more r.first; second = At-longer more r.second; conflict = r.conflict;
+        a = r.a;
+        b = r.b;
+        earlier = r.earlier;
+        first = At-longer more r.first;
+        second = At-longer more r.second;
+        conflict = r.conflict;
         unordered = λ h. r.unordered (shorter events more within h);
       }
 
@@ -50,8 +53,13 @@ module _ (events more : List Event) where
       let earlier = r.earlier in
       let first : i < length events = omega arith in
       record {
-        a = r.a; b = r.b; earlier = r.earlier; first = At-shorter more first r.first; second = At-shorter more within r.second;
-        conflict = r.conflict; unordered = λ h. r.unordered (longer events more h);
+        a = r.a;
+        b = r.b;
+        earlier = r.earlier;
+        first = At-shorter more first r.first;
+        second = At-shorter more within r.second;
+        conflict = r.conflict;
+        unordered = λ h. r.unordered (longer events more h);
       }
 
   told-longer : (pair : Pair) → IsTold events pair → IsTold (events ++ more) pair
@@ -194,7 +202,7 @@ module _ {form : Form} {group : Bool} (before after : Judged) (one : Said) (even
     (mentioned : MentionsAll one.saying (naming_of before.names) (naming_of after.names)) (is : IsEvent (naming_of after.names) one event)
     (small : before.detector.position + 1 < 2 ^ 64)
     (detects : (events : List Event) (n : ℕ) → At events n event → HasTaken events n before.detector
-        → HasTaken events (n + 1) after.detector × AreToldAt events n after.told.items)
+    → HasTaken events (n + 1) after.detector × AreToldAt events n after.told.items)
     (looks : (events : List Event) (n : ℕ) → n + 1 < 2 ^ 64 → At events n event → HasLooked events n before.finder → HasLooked events (n + 1) after.finder)
     (races : after.races ≡ before.races + length after.told.items)
     (tells : IsTelling form group (naming_of after.names) after.told.items before.groups after.groups old new) where
@@ -209,8 +217,7 @@ module _ {form : Form} {group : Bool} (before after : Judged) (one : Said) (even
       let both = λ (more : List Event). detects (events ++ event ∷ more) (length events) (at more) (h.taken (event ∷ more)) in
       let small_here : length events + 1 < 2 ^ 64 = omega (arith, position, small) in
       let longer_by : length events + 1 ≡ length next = omega (arith, long) in
-      let are_told = told-push events event h.pairs after.told.items h.are_told (both []).1 in
-      (
+      let are_told = told-push events event h.pairs after.told.items h.are_told (both []).1 in (
         (if group then [] else race_lines form (naming_of after.names) after.told.items),
         tells.text,
         record {
@@ -289,7 +296,11 @@ pub judged_none : (form : Form) (group : Bool) (judged : Judged)
     → AreGrouped [] judged.groups → judged.races ≡ 0 → HasJudged form group [] [] judged
 judged_none form group judged names taken looked grouped races = record {
   naming = subst (λ n. IsNaming [] n) (sym names) (record {
-    threads = nothing_named; variables = nothing_named; locks = nothing_named; barriers = nothing_named; locations = nothing_named;
+    threads = nothing_named;
+    variables = nothing_named;
+    locks = nothing_named;
+    barriers = nothing_named;
+    locations = nothing_named;
   });
   events = [];
   are = no_events;
@@ -305,6 +316,7 @@ judged_none form group judged names taken looked grouped races = record {
     no_pairs : (g : Bool) → AreGrouped (let none : List Pair = [] in if g then none else none) judged.groups
     no_pairs true = grouped
     no_pairs false = grouped
+
     no_text : (g : Bool) → (let none : List ℕ = [] in none) ≡ (if g then [] else race_lines form (naming_of judged.names) [])
     no_text true = refl
     no_text false = refl

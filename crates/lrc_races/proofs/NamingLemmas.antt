@@ -1,5 +1,5 @@
 -- Names and their numbers, as more are mentioned.
-use Rattle.std.proofs.Common.{◌≡◌, ◌≢◌, ◌↔◌, ℕ, zero, suc, ◌+◌, ◌<◌, ◌≤◌, List, [], ◌∷◌, ◌++◌, length, get_or, take, inl, inr, sym, subst, refl, ◌∙◌, ap, arith, append_assoc, length-append}
+use Rattle.std.proofs.Common.{◌≡◌, ◌≢◌, ◌↔◌, ℕ, zero, suc, ◌≤◌, List, [], ◌∷◌, ◌++◌, length, take, inl, inr, sym, subst, refl, ◌∙◌, ap, arith, append_assoc, length-append}
 use Rattle.std.specs.Prelude.{Option, Some, None, AllPairs, Contains, flat_map, slice_get}
 use Rattle.std.proofs.lemmas.Bool.{cases_lt}
 use Rattle.std.proofs.lemmas.Option.{slice_get_within, get_or_from_slice_get}
@@ -119,13 +119,13 @@ named_one {mentions = mentions} {before = before} {name = name} {number = number
 named_one {mentions = mentions} {before = before} {name = name} f (new none) =
     let exact : (x : List ℕ) → Contains (before ++ name ∷ []) x ↔ Contains (mentions ++ name ∷ []) x = λ x. (
       λ h. elim (Contains-push_cases before name x h) [
-          | inl old ↦ Contains-append_left mentions (name ∷ []) x ((f.exact x).0 old)
-          | inr same ↦ subst (λ y. Contains (mentions ++ name ∷ []) y) same (Contains-push mentions name)
-        ],
+        | inl old ↦ Contains-append_left mentions (name ∷ []) x ((f.exact x).0 old)
+        | inr same ↦ subst (λ y. Contains (mentions ++ name ∷ []) y) same (Contains-push mentions name)
+      ],
       λ h. elim (Contains-push_cases mentions name x h) [
-          | inl old ↦ Contains-append_left before (name ∷ []) x ((f.exact x).1 old)
-          | inr same ↦ subst (λ y. Contains (before ++ name ∷ []) y) same (Contains-push before name)
-        ],
+        | inl old ↦ Contains-append_left before (name ∷ []) x ((f.exact x).1 old)
+        | inr same ↦ subst (λ y. Contains (before ++ name ∷ []) y) same (Contains-push before name)
+      ],
     ) in
     record {
       distinct = apart before name f.distinct none;

@@ -1,23 +1,22 @@
 -- Lines, blocks, and what is told of them.
-use Rattle.std.proofs.Common.{◌≡◌, ℕ, suc, ◌+◌, ◌<◌, ◌≤◌, ◌==◌, Bool, true, false, List, [], ◌∷◌, ◌++◌, length, inl, inr, sym, subst, refl, ◌∙◌, ap, arith, append_assoc, append-nil, length-append}
-use Rattle.std.specs.Prelude.{Option, Result, Ok, Err, IfErr, IfOk, OnErr, OnOk, flat_map}
+use Rattle.std.proofs.Common.{◌≡◌, ℕ, suc, ◌+◌, ◌<◌, ◌==◌, Bool, true, false, List, [], ◌∷◌, ◌++◌, length, inl, inr, sym, subst, refl, ◌∙◌, ap, arith, append_assoc, append-nil, length-append}
+use Rattle.std.specs.Prelude.{Result, Ok, Err, IfErr, OnOk, flat_map}
 use Rattle.std.proofs.lemmas.Result.{on_ok_weaker}
 use Rattle.std.proofs.lemmas.Bool.{false≢true, eqb-true, eq-eqb}
-use Rattle.lrc_names.specs.Lacking.{Lacks}
-use Rattle.lrc_names.specs.Line.{Saying, longest_line, line_feed}
+use Rattle.lrc_names.specs.Line.{Saying}
 use Rattle.lrc_races.specs.declared.form.Form.{Form}
 use Rattle.lrc_races.specs.declared.form.Form.TheVariants.{Std, Acts}
 use Rattle.lrc_races.specs.declared.fault.Fault.{Fault}
 use Rattle.lrc_races.specs.declared.fault.Fault.TheVariants.{BadEvent, NoMemory}
 use Rattle.lrc_races.specs.declared.judged.Judged.{Judged}
 use Rattle.lrc_races.specs.declared.session.Session.{Session}
-use Rattle.lrc_races.specs.Says.{Said, Say, no_line, blank_line, event_line, Says, SaysNothing, IsBad, IsFirstBad}
+use Rattle.lrc_races.specs.Says.{Said, Say, no_line, blank_line, event_line, Says, SaysNothing, IsBad}
 use Rattle.lrc_races.specs.Judged.{HasJudged, HasJudgedOne, HasToldAll}
-use Rattle.lrc_races.specs.Told.{IsCut, IsOneLine, AreLines, ended, Tells, Stops, IsBadEvent, Ends, Fails, IsBadTrace, IsWholeOf, IsToldOf}
+use Rattle.lrc_races.specs.Told.{IsCut, IsOneLine, AreLines, ended, Stops, IsWholeOf, IsToldOf}
 use Rattle.lrc_races.specs.Session.{LineSays, says_none, says_one, HasTakenLine, IsAt, HasCompleted, IsBadLine, HasKept, IsTooLong, HasLines, HasRead}
 use Rattle.lrc_races.specs.Session.{HasDone, HasGoneOn, IsStoppedAt, HasEnded, HasFailed}
 use Rattle.lrc_races.proofs.NamingLemmas.{flat_map-push}
-use Rattle.lrc_races.proofs.JudgedLemmas.{told_of, judged_none}
+use Rattle.lrc_races.proofs.JudgedLemmas.{told_of}
 
 -- ---- one line
 
@@ -261,8 +260,7 @@ module _ {form : Form} {group : Bool} {bytes told block left old mid : List ℕ}
       let c = cut_of behind in
       let whole : (bytes ++ d.done ++ (part ++ 10 ∷ [])) ++ behind ≡ bytes ++ block
       = append_assoc (bytes ++ d.done) (part ++ 10 ∷ []) behind ∙ ap (λ x. bytes ++ d.done ++ x) (append_assoc part (10 ∷ []) behind)
-          ∙ append_assoc bytes d.done (part ++ 10 ∷ behind) ∙ ap (λ x. bytes ++ (d.done ++ x)) (sym split) ∙ ap (λ x. bytes ++ x) (sym d.whole) in
-      (
+      ∙ append_assoc bytes d.done (part ++ 10 ∷ behind) ∙ ap (λ x. bytes ++ (d.done ++ x)) (sym split) ∙ ap (λ x. bytes ++ x) (sym d.whole) in (
         d.more,
         same ∙ d.text,
         record {

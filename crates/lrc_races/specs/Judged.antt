@@ -2,8 +2,6 @@
 use Rattle.std.specs.Prelude.{◌≡◌, ℕ, Bool, if◌then◌else◌, List, [], ◌∷◌, ◌++◌, length}
 use Rattle.lrc_std.specs.declared.event.Event.{Event}
 use Rattle.lrc_std.specs.declared.event.Pair.{Pair}
-use Rattle.lrc_std.specs.declared.group.Group.{Group}
-use Rattle.lrc_std.specs.declared.fault.Fault.{Fault as IllFormed}
 use Rattle.lrc_std.specs.Races.{AreTold}
 use Rattle.lrc_stream.specs.declared.groups.Groups.{Groups}
 use Rattle.lrc_stream.specs.Detecting.{HasTaken}

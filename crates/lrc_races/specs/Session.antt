@@ -10,7 +10,7 @@ use Rattle.lrc_races.specs.declared.judged.Judged.{Judged}
 use Rattle.lrc_races.specs.declared.session.Session.{Session}
 use Rattle.lrc_races.specs.Says.{Said, Say, Says, SaysNothing, IsBad}
 use Rattle.lrc_races.specs.Judged.{HasJudged}
-use Rattle.lrc_races.specs.Told.{IsCut, IsOneLine, Tells, Stops, Ends, Fails, ended}
+use Rattle.lrc_races.specs.Told.{IsCut, Tells, Stops, Ends, Fails}
 
 -- what a line is read as, in this form
 abbrev pub ReadsIn : Form → List ℕ → Line → Type 0

@@ -34,12 +34,7 @@ fn name(table: &Table, number: u32) -> &[u8]
 }
 
 // Adds a word, and behind it a name.
-fn push_name(
-    text: &mut Vec<u8>,
-    word: &[u8],
-    table: &Table,
-    number: u32,
-) -> Result<(), AllocError>
+fn push_name(text: &mut Vec<u8>, word: &[u8], table: &Table, number: u32) -> Result<(), AllocError>
     ensures { OnOk result (text.new.items ≡ text.old.items ++ word.now ++ name_at (names_of table.now) number) }
 {
     push_two(text, word, name(table, number))?;
@@ -186,12 +181,7 @@ fn push_sides(text: &mut Vec<u8>, names: &Names, pair: Pair) -> Result<(), Alloc
 }
 
 // Adds the first pair of a group.
-fn push_first(
-    text: &mut Vec<u8>,
-    form: Form,
-    names: &Names,
-    pair: Pair,
-) -> Result<(), AllocError>
+fn push_first(text: &mut Vec<u8>, form: Form, names: &Names, pair: Pair) -> Result<(), AllocError>
     ensures { OnOk result (text.new.items ≡ text.old.items ++ together (first_parts form (naming_of names.now) pair)) }
 {
     let variable = variable_of(pair.earlier.event.operation);
@@ -203,12 +193,7 @@ fn push_first(
 }
 
 // Adds the line of a group of pairs.
-fn push_group(
-    text: &mut Vec<u8>,
-    form: Form,
-    names: &Names,
-    group: Group,
-) -> Result<(), AllocError>
+fn push_group(text: &mut Vec<u8>, form: Form, names: &Names, group: Group) -> Result<(), AllocError>
     ensures { OnOk result (text.new.items ≡ text.old.items ++ group_line form (naming_of names.now) group) }
 {
     push_sides(text, names, group.first)?;
@@ -256,7 +241,12 @@ fn push_reason(
         }
         Reason::NotArrived { barrier } => {
             push_name(text, b"thread ", &names.threads, thread)?;
-            push_name(text, b" has not arrived at barrier ", &names.barriers, barrier)?;
+            push_name(
+                text,
+                b" has not arrived at barrier ",
+                &names.barriers,
+                barrier,
+            )?;
             Ok(())
         }
         Reason::Held { lock, thread, line } => {
@@ -279,11 +269,7 @@ fn push_reason(
 }
 
 // Adds the line of the first event that no program would give, if there is one.
-fn push_fault(
-    text: &mut Vec<u8>,
-    names: &Names,
-    fault: Option<Fault>,
-) -> Result<(), AllocError>
+fn push_fault(text: &mut Vec<u8>, names: &Names, fault: Option<Fault>) -> Result<(), AllocError>
     ensures { OnOk result (text.new.items ≡ text.old.items ++ fault_line (naming_of names.now) fault) }
 {
     match fault {
@@ -299,12 +285,7 @@ fn push_fault(
 }
 
 // Adds the last line: how many races, events, and names of each kind.
-fn push_counts(
-    text: &mut Vec<u8>,
-    names: &Names,
-    races: u64,
-    events: u64,
-) -> Result<(), AllocError>
+fn push_counts(text: &mut Vec<u8>, names: &Names, races: u64, events: u64) -> Result<(), AllocError>
     ensures { OnOk result (text.new.items ≡ text.old.items ++ counts_line (naming_of names.now) races events) }
 {
     push_number(text, b"races ", races)?;

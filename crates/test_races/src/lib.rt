@@ -13,3 +13,5 @@ mod lines;
 mod numbers;
 #[cfg(test)]
 mod played;
+#[cfg(test)]
+mod sessions;

@@ -1,5 +1,5 @@
 -- The numbers are added, one after another.
-use Rattle.lrc_races.proofs.TextLemmas.{Pushed, start, two}
+use Rattle.lrc_races.proofs.TextLemmas.{start, two}
 use Rattle.lrc_races.proofs.spelling.push_counts.Goals as goal
 
 pub returns : goal.returns

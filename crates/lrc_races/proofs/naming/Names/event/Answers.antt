@@ -21,12 +21,12 @@ returns-clause-event c =
     record {
       thread = moved (keeps_all m.threads) (numbers c.in_ok-thread.ensures.numbered);
       operation = keeps_operation (record {
-          threads = same_names _;
-          variables = same_names _;
-          locks = same_names _;
-          barriers = same_names _;
-          locations = keeps_all c.in_ok-location.ensures.mentioned;
-        }) c.in_ok-operation.ensures.operation;
+        threads = same_names _;
+        variables = same_names _;
+        locks = same_names _;
+        barriers = same_names _;
+        locations = keeps_all c.in_ok-location.ensures.mentioned;
+      }) c.in_ok-operation.ensures.operation;
       line = refl;
       location = c.in_ok-location.ensures.located;
     }

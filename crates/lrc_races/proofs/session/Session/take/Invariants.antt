@@ -1,5 +1,5 @@
 -- What is done of the block.
-use Rattle.std.proofs.Common.{◌≡◌, ℕ, Bool, List, length}
+use Rattle.std.proofs.Common.{ℕ, Bool, List, length}
 use Rattle.lrc_races.specs.declared.form.Form.{Form}
 use Rattle.lrc_races.specs.Session.{HasLines, HasDone}
 use Rattle.lrc_races.proofs.session.Session.take.Given as goal

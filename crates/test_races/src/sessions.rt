@@ -1,0 +1,138 @@
+// What is printed of traces, in blocks of any size.
+
+use lrc_races::fault::Fault;
+use lrc_races::form::Form;
+use lrc_races::session::Session;
+use std::alloc::Global;
+
+// A trace, how it is read, and what is printed of it, with the status or the fault.
+struct Row {
+    name: &'static str,
+    form: Form,
+    group: bool,
+    trace: &'static [u8],
+    printed: &'static [u8],
+    end: Result<u8, u64>,
+}
+
+const ROWS: &[Row] = &[
+    Row {
+        name: "two writes race",
+        form: Form::Std,
+        group: false,
+        trace: b"T1|w(x)|1\nT2|w(x)|2\n",
+        printed: b"race x: line 1 T1 write at 1, line 2 T2 write at 2\nraces 1, events 2, threads 2, variables 1, locks 0, barriers 0\n",
+        end: Ok(3),
+    },
+    Row {
+        name: "the last line has no line feed, and no location",
+        form: Form::Std,
+        group: false,
+        trace: b"# a comment\n\nT1|w(x)\r\nT2|r(x)|",
+        printed: b"race x: line 3 T1 write, line 4 T2 read\nraces 1, events 2, threads 2, variables 1, locks 0, barriers 0\n",
+        end: Ok(3),
+    },
+    Row {
+        name: "a bad line behind a race",
+        form: Form::Std,
+        group: false,
+        trace: b"T1|w(x)|1\nT2|w(x)|2\nT2|w(y\nT1|w(y)|1\n",
+        printed: b"race x: line 1 T1 write at 1, line 2 T2 write at 2\n",
+        end: Err(3),
+    },
+    Row {
+        name: "a bad line, where groups are asked for",
+        form: Form::Std,
+        group: true,
+        trace: b"T1|w(x)|1\nT2|w(x)|2\nT2|w(y",
+        printed: b"",
+        end: Err(3),
+    },
+    Row {
+        name: "groups, in the order in which they are first told",
+        form: Form::Std,
+        group: true,
+        trace: b"T1|w(x)|b\nT1|w(y)|b\nT2|r(x)|a\nT2|r(y)|a\nT3|w(x)|\n",
+        printed: b"races b write, a read: 2, first x lines 1, 3\nraces b write, - write: 1, first x lines 1, 5\nraces a read, - write: 1, first x lines 3, 5\nraces 4, events 5, threads 3, variables 2, locks 0, barriers 0\n",
+        end: Ok(3),
+    },
+    Row {
+        name: "no race, and a release of what is not held",
+        form: Form::Std,
+        group: false,
+        trace: b"T1|acq(L)|1\nT1|w(x)|2\nT1|rel(L)|3\nT1|rel(L)|4\nT2|fork(T3)|5\nT2|arrive(B)|6\n",
+        printed: b"not well formed at line 4: lock L is not held by thread T1\nraces 0, events 6, threads 3, variables 1, locks 1, barriers 1\n",
+        end: Ok(0),
+    },
+    Row {
+        name: "acts, their numbers without leading zeros",
+        form: Form::Acts,
+        group: false,
+        trace: b"0 write 007 1 # line 09\n 12 read 7 0\t# line 4\n\n1 arrive\n1 trap 5",
+        printed: b"race word 7: line 1 node 0 write at 09, line 2 node 12 read at 4\nnot well formed at line 5: thread 1 waits at barrier 0 since line 4\nraces 1, events 4, threads 3, variables 1, locks 0, barriers 1\n",
+        end: Ok(3),
+    },
+    Row {
+        name: "an act of a lock past 32 bits",
+        form: Form::Acts,
+        group: false,
+        trace: b"0 acquire 4294967295\n0 release 4294967296\n",
+        printed: b"",
+        end: Err(2),
+    },
+    Row {
+        name: "nothing",
+        form: Form::Std,
+        group: true,
+        trace: b"",
+        printed: b"races 0, events 0, threads 0, variables 0, locks 0, barriers 0\n",
+        end: Ok(0),
+    },
+];
+
+fn take_all(
+    session: &mut Session,
+    trace: &[u8],
+    size: usize,
+    out: &mut Vec<u8>,
+) -> Result<(), Fault> {
+    let mut left = trace;
+    for _ in 0..trace.len() {
+        if left.len() > size {
+            let (block, behind) = left.split_at(size);
+            session.take(block, out)?;
+            left = behind;
+        }
+    }
+    session.take(left, out)
+}
+
+fn play(session: &mut Session, trace: &[u8], size: usize, out: &mut Vec<u8>) -> Result<u8, Fault> {
+    take_all(session, trace, size, out)?;
+    session.finish(out)
+}
+
+fn is_end(found: Result<u8, Fault>, wanted: Result<u8, u64>) -> bool {
+    match (found, wanted) {
+        (Ok(status), Ok(other)) => status == other,
+        (Err(Fault::BadEvent(line)), Err(other)) => line == other,
+        _ => false,
+    }
+}
+
+// Whether the trace is played as the row says, in blocks of this size.
+fn plays(alloc: Global, row: &Row, size: usize) -> bool {
+    let mut session = Session::new(alloc, row.form, row.group);
+    let mut out = Vec::new(alloc);
+    let end = play(&mut session, row.trace, size, &mut out);
+    is_end(end, row.end) && out.as_slice() == row.printed
+}
+
+#[test]
+fn traces_are_printed_whatever_their_blocks(rt: HostRuntime) {
+    for row in ROWS {
+        for size in [1, 7, 65536] {
+            assert!(rt; plays(rt.alloc(), row, size), "{}", row.name);
+        }
+    }
+}
