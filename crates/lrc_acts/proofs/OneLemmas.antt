@@ -1,6 +1,7 @@
 -- A text has one answer: one list of acts, or one first bad line, and never both.
-use Rattle.std.proofs.Common.{◌≡◌, ◌∙◌, ◌+◌, ◌*◌, ◌==◌, ℕ, suc, List, [], ◌∷◌, ◌++◌, Option, Ok, Err, length, get_or, cond}
+use Rattle.std.proofs.Common.{◌≡◌, ◌∙◌, ◌+◌, ◌*◌, ◌==◌, ℕ, suc, List, [], ◌∷◌, ◌++◌, ◌⊎◌, Option, Result, Ok, Err, length, get_or, cond}
 use Rattle.std.proofs.Common.{refl, sym, subst, ap, ap₂, inl, inr, arith}
+use Rattle.std.specs.Prelude.{MatchResult}
 use Rattle.std.specs.Str.Parse.{digits_value}
 use Rattle.lrc_trace.specs.declared.act.Act.{Act}
 use Rattle.lrc_trace.specs.declared.act.Cause.{Cause}
@@ -10,7 +11,8 @@ use Rattle.lrc_trace.specs.declared.act.Deed.TheVariants.{Quiet, Print, Read, Wr
 use Rattle.lrc_trace.specs.Run.{act_of}
 use Rattle.lrc_text.specs.ActText.{cause_number}
 use Rattle.lrc_text.specs.Lines.{lines_of}
-use Rattle.lrc_acts.specs.declared.reading.ActsFault.TheVariants.{BadAct}
+use Rattle.lrc_acts.specs.declared.reading.ActsFault.{ActsFault}
+use Rattle.lrc_acts.specs.declared.reading.ActsFault.TheVariants.{BadAct, NoMemory, TooLong}
 use Rattle.lrc_acts.specs.declared.reading.LinedActs.{LinedActs}
 use Rattle.lrc_acts.specs.ActsText.{SayActs, SaysAct, SaysDeed, IsBad, IsFirstBad, ReadsActs, empty, more, none}
 
@@ -132,13 +134,16 @@ one_list nodes text lined others a b = one a.1 b.1
 
 pub not_both : (nodes : Option ℕ) (text : List ℕ) (lined : LinedActs) (line : ℕ) → ReadsActs nodes text (Ok lined)
     → ReadsActs nodes text (Err (BadAct line)) → ⊥
-not_both nodes text lined line a (inl long) = omega (arith, a.0, long.0)
-not_both nodes text lined line a (inr short) =
-    no_bad 1 short.1.before short.1.line short.1.after short.1.bad (subst (λ (lines : List (List ℕ)). SayActs nodes 1 lines lined.acts.items lined.lines.items) short.1.whole a.1)
+not_both nodes text lined line a first =
+    no_bad 1 first.1.before first.1.line first.1.after first.1.bad (subst (λ (lines : List (List ℕ)). SayActs nodes 1 lines lined.acts.items lined.lines.items) first.1.whole a.1)
 
 pub one_bad_line : (nodes : Option ℕ) (text : List ℕ) (line other : ℕ) → ReadsActs nodes text (Err (BadAct line))
     → ReadsActs nodes text (Err (BadAct other)) → line ≡ other
-one_bad_line nodes text line other (inl a) (inl b) = a.1 ∙ sym b.1
-one_bad_line nodes text line other (inl a) (inr b) = absurd (omega (arith, a.0, b.0))
-one_bad_line nodes text line other (inr a) (inl b) = absurd (omega (arith, a.0, b.0))
-one_bad_line nodes text line other (inr a) (inr b) = one_first_bad nodes (lines_of text) line other a.1 b.1
+one_bad_line nodes text line other a b = one_first_bad nodes (lines_of text) line other a.1 b.1
+
+pub too_long : (nodes : Option ℕ) (text : List ℕ) (result : Result LinedActs ActsFault) → ReadsActs nodes text (Err TooLong)
+    → ReadsActs nodes text result → MatchResult result (λ lined. ⊥) (λ fault. (fault ≡ TooLong) ⊎ (fault ≡ NoMemory))
+too_long nodes text (Ok lined) long a = omega (arith, long, a.0)
+too_long nodes text (Err TooLong) long a = inl refl
+too_long nodes text (Err (BadAct line)) long a = absurd (omega (arith, long, a.0))
+too_long nodes text (Err NoMemory) long a = inr refl

@@ -1,5 +1,5 @@
 -- The text of a list of acts, one on a line.
-use Rattle.std.specs.Prelude.{◌≡◌, ◌<◌, ◌≤◌, ◌+◌, ◌==◌, ◌||◌, ◌⊎◌, ℕ, Bool, not, List, [], ◌∷◌, ◌++◌, length, codes}
+use Rattle.std.specs.Prelude.{◌≡◌, ◌<◌, ◌≤◌, ◌+◌, ◌==◌, ◌||◌, ℕ, Bool, not, List, [], ◌∷◌, ◌++◌, length, codes}
 use Rattle.std.specs.Prelude.{filter, Option, Some, None, Result, Ok, Err}
 use Rattle.std.specs.List.{before_first, slice_split}
 use Rattle.lrc_trace.specs.declared.act.Act.{Act}
@@ -9,7 +9,7 @@ use Rattle.lrc_text.specs.ActText.{cause_number}
 use Rattle.lrc_text.specs.Digits.{IsNumber}
 use Rattle.lrc_text.specs.Lines.{lines_of}
 use Rattle.lrc_acts.specs.declared.reading.ActsFault.{ActsFault}
-use Rattle.lrc_acts.specs.declared.reading.ActsFault.TheVariants.{BadAct, NoMemory}
+use Rattle.lrc_acts.specs.declared.reading.ActsFault.TheVariants.{BadAct, NoMemory, TooLong}
 use Rattle.lrc_acts.specs.declared.reading.LinedActs.{LinedActs}
 
 -- a blank is a space, a tab or a carriage return
@@ -101,10 +101,10 @@ pub record SaysSome (nodes : Option ℕ) (lines : List (List ℕ)) : Type 0 wher
 abbrev pub most_bytes : ℕ
 most_bytes = 67108864
 
--- What a text of acts comes to: the acts that its lines say, each with its line, or the first line that is bad, where a text that is too long
--- is wrong in its first line. Memory may run out at any text.
+-- What a text of acts comes to: it is too long; or the acts that its lines say, each with its line, or the first line that is bad. Memory may
+-- run out at any text.
 abbrev pub ReadsActs : Option ℕ → List ℕ → Result LinedActs ActsFault → Type 0
 ReadsActs nodes text (Ok lined) = (length text ≤ most_bytes) × SayActs nodes 1 (lines_of text) lined.acts.items lined.lines.items
-ReadsActs nodes text (Err (BadAct line)) = ((most_bytes < length text) × (line ≡ 1))
-    ⊎ ((length text ≤ most_bytes) × IsFirstBad nodes (lines_of text) line)
+ReadsActs nodes text (Err TooLong) = most_bytes < length text
+ReadsActs nodes text (Err (BadAct line)) = (length text ≤ most_bytes) × IsFirstBad nodes (lines_of text) line
 ReadsActs nodes text (Err NoMemory) = Unit {0}

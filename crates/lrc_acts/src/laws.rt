@@ -1,7 +1,8 @@
 // Laws of the text of acts.
 
-ghost use Rattle.std.specs.Prelude.{◌≡◌, ℕ, List, Option, Ok, Err};
-ghost use Rattle.lrc_acts.specs.declared.reading.ActsFault.TheVariants.{BadAct};
+ghost use Rattle.std.specs.Prelude.{◌≡◌, ◌⊎◌, ℕ, List, MatchResult, Option, Result, Ok, Err};
+ghost use Rattle.lrc_acts.specs.declared.reading.ActsFault.TheVariants.{BadAct, NoMemory, TooLong};
+ghost use Rattle.lrc_acts.specs.declared.reading.ActsFault.{ActsFault};
 ghost use Rattle.lrc_acts.specs.declared.reading.LinedActs.{LinedActs};
 ghost use Rattle.lrc_acts.specs.ActsText.{ReadsActs};
 ghost use Rattle.lrc_acts.specs.Printed.{PrintedIsRead, SaysOne};
@@ -16,7 +17,8 @@ pub fn says_one()
     ensures { SaysOne }
 {}
 
-/// No text says two lists of acts, or acts on two lists of lines, none has two first bad lines, and none has one and says acts.
+/// No text says two lists of acts, or acts on two lists of lines, none has two first bad lines, and none has one and says acts. A text that
+/// is too long says no acts and has no bad line.
 pub fn texts_of_acts_have_one_answer()
     ensures acts { (nodes : Option ℕ) (text : List ℕ) (lined others : LinedActs) → ReadsActs nodes text (Ok lined)
         → ReadsActs nodes text (Ok others)
@@ -25,4 +27,6 @@ pub fn texts_of_acts_have_one_answer()
         → ReadsActs nodes text (Ok lined) → ReadsActs nodes text (Err (BadAct line)) → ⊥ }
     ensures line { (nodes : Option ℕ) (text : List ℕ) (line other : ℕ) → ReadsActs nodes text (Err (BadAct line))
         → ReadsActs nodes text (Err (BadAct other)) → line ≡ other }
+    ensures too_long { (nodes : Option ℕ) (text : List ℕ) (result : Result LinedActs ActsFault) → ReadsActs nodes text (Err TooLong)
+        → ReadsActs nodes text result → MatchResult result (λ lined. ⊥) (λ fault. (fault ≡ TooLong) ⊎ (fault ≡ NoMemory)) }
 {}

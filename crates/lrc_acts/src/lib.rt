@@ -5,4 +5,4 @@ mod deeds;
 pub mod judge_lines;
 pub mod laws;
 pub mod reading;
-mod words;
+pub mod words;

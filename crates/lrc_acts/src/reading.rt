@@ -29,6 +29,8 @@ pub struct LinedActs {
 /// Why a text gives no acts.
 #[derive(Clone, Copy, Debug, PartialEq, Eq)]
 pub enum ActsFault {
+    /// The text is longer than any text of acts.
+    TooLong,
     /// The line of this number, counted from 1, says no act.
     BadAct(u32),
     /// Memory ran out.
@@ -53,14 +55,14 @@ impl From<AllocError> for ActsFault {
 
 /// The acts that a text says, one on each line: a node from 0 to 15, and below the number of nodes where that is given, and what it
 /// does. Words are parted by blanks (spaces, tabs, carriage returns), the sign # begins a comment, and a line without a word
-/// says no act. A text of more than 67,108,864 bytes is wrong in its first line. Memory runs out only where there is an act to be kept.
+/// says no act. A text of more than 67,108,864 bytes is too long. Memory runs out only where there is an act to be kept.
 pub fn acts_of(alloc: Global, text: &[u8], nodes: Option<u32>) -> Result<LinedActs, ActsFault>
     ensures ok { IfOk result (λ lined. ReadsActs nodes text.now (Ok lined)) }
     ensures err { IfErr result (λ fault. ReadsActs nodes text.now (Err fault)) }
     ensures memory { IfErr result (λ fault. fault ≡ NoMemory → (length text.now ≤ most_bytes) × SaysSome nodes (lines_of text.now)) }
 {
     if text.len() > MOST_BYTES {
-        return Err(ActsFault::BadAct(1));
+        return Err(ActsFault::TooLong);
     }
     let mut lined = LinedActs {
         acts: Vec::new(alloc),

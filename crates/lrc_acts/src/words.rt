@@ -10,8 +10,8 @@ fn is_blank(byte: u8) -> bool
     byte == b' ' || (byte == b'\t' || byte == b'\r')
 }
 
-// What stands before the sign # that begins a comment.
-pub(crate) fn before_comment(line: &[u8]) -> &[u8]
+/// What stands before the sign # that begins a comment.
+pub fn before_comment(line: &[u8]) -> &[u8]
     ensures { result.now ≡ before_first (λ byte. byte == 35) line.now }
 {
     &line[..place_of_comment(line)]
@@ -26,8 +26,8 @@ fn place_of_comment(text: &[u8]) -> usize
         .unwrap_or(text.len())
 }
 
-// The first word of a text, and what stands behind it.
-pub(crate) fn first_word(text: &[u8]) -> Option<(&[u8], &[u8])>
+/// The first word of a text, and what stands behind it.
+pub fn first_word(text: &[u8]) -> Option<(&[u8], &[u8])>
     ensures { MatchOption result (words_between text.now ≡ []) (λ parts. words_between text.now ≡ parts.0.now ∷ words_between parts.1.now) }
 {
     let (_blanks, rest) = text.split_at(place_of_word(text));

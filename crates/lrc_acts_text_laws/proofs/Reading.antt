@@ -1,7 +1,7 @@
 -- What is printed of acts is read as these acts, also where the number of nodes is given, and whatever the reader answers but want of
 -- memory says so.
-use Rattle.std.proofs.Common.{◌≡◌, ◌<◌, ◌≤◌, ◌+◌, ◌⊎◌, ℕ, List, [], ◌∷◌, ◌++◌, Option, None, Result, Ok, Err, All, subst, ap}
-use Rattle.std.proofs.Common.{arith, inl, inr, length}
+use Rattle.std.proofs.Common.{◌≡◌, ◌<◌, ◌≤◌, ◌+◌, ◌⊎◌, ℕ, List, [], ◌∷◌, ◌++◌, Option, None, Result, Ok, Err, All, subst}
+use Rattle.std.proofs.Common.{arith, length}
 use Rattle.std.proofs.Common.{refl}
 use Rattle.std.specs.Prelude.{slice_index, MatchResult}
 use Rattle.std.specs.List.{enumerate_from, flat_map}
@@ -12,9 +12,9 @@ use Rattle.lrc_text.specs.Lines.{lines_of}
 use Rattle.lrc_acts.specs.ActsText.{IsAmong, IsBad, ReadsActs, SayActs, SaysAct, empty, more, most_bytes, none}
 use Rattle.lrc_acts.specs.Printed.{IsPrinted, IsRanged, line_more, nothing}
 use Rattle.lrc_acts.specs.declared.reading.ActsFault.{ActsFault}
-use Rattle.lrc_acts.specs.declared.reading.ActsFault.TheVariants.{BadAct, NoMemory}
+use Rattle.lrc_acts.specs.declared.reading.ActsFault.TheVariants.{BadAct, NoMemory, TooLong}
 use Rattle.lrc_acts.specs.declared.reading.LinedActs.{LinedActs}
-use Rattle.lrc_acts.proofs.OneLemmas.{one}
+use Rattle.lrc_acts.proofs.OneLemmas.{one, too_long}
 use Rattle.lrc_acts_text.specs.ActsText.{acts_text}
 use Rattle.lrc_acts_text_laws.proofs.Values.{AreValues}
 
@@ -62,8 +62,8 @@ module _ (given : Option ℕ) (text : List ℕ) (acts : List Act) (numbers : Lis
   pub read_whole : (result : Result LinedActs ActsFault) → length text ≤ most_bytes → ReadsActs given text result
       → MatchResult result (λ lined. (lined.acts.items ≡ acts) × (lined.lines.items ≡ numbers)) (λ fault. fault ≡ NoMemory)
   read_whole (Ok lined) short reads = one reads.1 said
-  read_whole (Err (BadAct line)) short (inl long) = absurd (omega (arith, long.0, short))
-  read_whole (Err (BadAct line)) short (inr first) =
+  read_whole (Err TooLong) short long = absurd (omega (arith, long, short))
+  read_whole (Err (BadAct line)) short first =
       absurd (none_bad first.1.before first.1.line first.1.after
       (subst (λ lines. SayActs given 1 lines acts numbers) first.1.whole said) first.1.bad)
   read_whole (Err NoMemory) short reads = refl
@@ -71,8 +71,5 @@ module _ (given : Option ℕ) (text : List ℕ) (acts : List Act) (numbers : Lis
 -- what it makes of one that is too long
 pub read_long : (given : Option ℕ) (text : List ℕ) (result : Result LinedActs ActsFault) → most_bytes < length text
     → ReadsActs given text result
-    → MatchResult result (λ lined. ⊥) (λ fault. (fault ≡ BadAct 1) ⊎ (fault ≡ NoMemory))
-read_long given text (Ok lined) long reads = omega (arith, long, reads.0)
-read_long given text (Err (BadAct line)) long (inl first) = inl (ap (λ n. BadAct n) first.1)
-read_long given text (Err (BadAct line)) long (inr first) = absurd (omega (arith, long, first.0))
-read_long given text (Err NoMemory) long reads = inr refl
+    → MatchResult result (λ lined. ⊥) (λ fault. (fault ≡ TooLong) ⊎ (fault ≡ NoMemory))
+read_long given text = too_long given text

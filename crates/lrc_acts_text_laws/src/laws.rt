@@ -19,7 +19,7 @@ ghost use Rattle.lrc_acts.specs.ActsText.{ReadsActs, SayActs, most_bytes};
 ghost use Rattle.lrc_acts.specs.JudgeLines.{lazy_line, synchronized_line};
 ghost use Rattle.lrc_acts.specs.Printed.{IsRanged, numbers_from};
 ghost use Rattle.lrc_acts.specs.declared.reading.ActsFault.{ActsFault};
-ghost use Rattle.lrc_acts.specs.declared.reading.ActsFault.TheVariants.{BadAct, NoMemory};
+ghost use Rattle.lrc_acts.specs.declared.reading.ActsFault.TheVariants.{NoMemory, TooLong};
 ghost use Rattle.lrc_acts.specs.declared.reading.LinedActs.{LinedActs};
 ghost use Rattle.lrc_verdict.specs.Judgement.{CountsNodes, IsJudgement};
 ghost use Rattle.lrc_acts_text.specs.Rapid.{rapid_of};
@@ -57,7 +57,7 @@ pub fn acts_of_a_text_are_in_range()
 
 /// What is printed of every run of a program is read as its acts, the first of them on line 1 and each on a line of its own, also
 /// where a number of nodes is given that is no less than theirs. So where it is not too long the reader answers just these acts,
-/// unless memory runs out; where it is too long it answers that the first line is bad.
+/// unless memory runs out; where it is too long it answers so.
 pub fn printed_acts_of_every_run_are_read()
     ensures ranged { (nodes : ℕ) (acts : List Act) (printed : List ℕ) → IsPrintedRun nodes acts printed → All IsRanged acts }
     ensures read { (nodes : ℕ) (acts : List Act) (printed : List ℕ) (given : Option ℕ) → IsPrintedRun nodes acts printed
@@ -67,7 +67,7 @@ pub fn printed_acts_of_every_run_are_read()
         → ReadsActs given printed result
         → MatchResult result (λ lined. (lined.acts.items ≡ acts) × (lined.lines.items ≡ numbers_from 1 acts)) (λ fault. fault ≡ NoMemory) }
     ensures too_long { (printed : List ℕ) (given : Option ℕ) (result : Result LinedActs ActsFault) → most_bytes < length printed
-        → ReadsActs given printed result → MatchResult result (λ _. ⊥) (λ fault. (fault ≡ BadAct 1) ⊎ (fault ≡ NoMemory)) }
+        → ReadsActs given printed result → MatchResult result (λ _. ⊥) (λ fault. (fault ≡ TooLong) ⊎ (fault ≡ NoMemory)) }
 {}
 
 /// What a judge says of what is printed of a run is what the definitions say of the run's acts. It begins with the lines

@@ -1,7 +1,7 @@
 -- What the program answers to a choice: a text that it prints and its status, or the first fault.
 use Rattle.std.specs.Prelude.{◌≡◌, ◌⊎◌, ℕ, List, Option, Result, Ok, Err, codes, option_map}
 use Rattle.lrc_acts.specs.ActsText.{ReadsActs}
-use Rattle.lrc_acts.specs.declared.reading.ActsFault.TheVariants.{BadAct}
+use Rattle.lrc_acts.specs.declared.reading.ActsFault.TheVariants.{BadAct, TooLong}
 use Rattle.lrc_exec.specs.Rounds.{AreActsOfRounds}
 use Rattle.lrc_lang.specs.Faults.{HasFirstFault, IsText}
 use Rattle.lrc_lang.specs.Lines.{HasLines}
@@ -24,7 +24,7 @@ use Rattle.lrc_args.specs.declared.choice.Judging.{Judging}
 use Rattle.lrc_args.specs.declared.choice.RunChoice.{RunChoice}
 use Rattle.lrc_args.specs.declared.choice.Shape.{Shape}
 use Rattle.lrc_cli.specs.declared.fault.Fault.{Fault}
-use Rattle.lrc_cli.specs.declared.fault.Fault.TheVariants.{Text, Acts, TooManyStates, NoMemory}
+use Rattle.lrc_cli.specs.declared.fault.Fault.TheVariants.{Text, Acts, LongActs, TooManyStates, NoMemory}
 
 -- the text is this program's
 abbrev pub IsTextOf : List ℕ → Program → Type 0
@@ -85,6 +85,7 @@ IsTextFault text _ = ⊥
 
 -- the fault of a text of acts
 abbrev pub IsActsFault : Option ℕ → List ℕ → Fault → Type 0
+IsActsFault nodes text LongActs = ReadsActs nodes text (Err TooLong)
 IsActsFault nodes text (Acts line) = ReadsActs nodes text (Err (BadAct line))
 IsActsFault nodes text NoMemory = Unit {0}
 IsActsFault nodes text _ = ⊥

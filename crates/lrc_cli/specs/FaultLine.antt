@@ -31,6 +31,7 @@ fault_of_events (BadEvent line) = faults.Events line
 fault_of_events events_faults.NoMemory = faults.NoMemory
 
 abbrev pub fault_of_acts : ActsFault → Fault
+fault_of_acts acts_faults.TooLong = faults.LongActs
 fault_of_acts (BadAct line) = faults.Acts line
 fault_of_acts acts_faults.NoMemory = faults.NoMemory
 
@@ -63,6 +64,7 @@ fault_words (faults.Text line kind) = codes "line " ++ decimal line ++ codes ": 
 fault_words (faults.Events line) = codes "events line " ++ decimal line ++ codes ": bad event"
 fault_words (faults.Acts line) = codes "acts line " ++ decimal line ++ codes ": bad act"
 fault_words (faults.TooManyStates most) = codes "more than " ++ decimal most ++ codes " states"
+fault_words faults.LongActs = codes "acts line 1: text too long"
 fault_words faults.Worn = codes "message numbers used up"
 fault_words faults.TooLong = codes "too long for a chart"
 fault_words faults.Mismatch = codes "logs and wires differ"

@@ -25,6 +25,8 @@ pub enum Fault {
     Events(u32),
     /// The line of this number in the text of acts says no act.
     Acts(u32),
+    /// The text of acts is longer than any may be.
+    LongActs,
     /// The numbers of messages were used up.
     Worn,
     /// A search through every order met more states than this, which it might.
@@ -48,6 +50,7 @@ impl Display for Fault {
             }
             Fault::Events(line) => write!(f, "events line {line}: bad event"),
             Fault::Acts(line) => write!(f, "acts line {line}: bad act"),
+            Fault::LongActs => write!(f, "acts line 1: text too long"),
             Fault::Worn => write!(f, "message numbers used up"),
             Fault::TooManyStates(most) => write!(f, "more than {most} states"),
             Fault::TooLong => write!(f, "too long for a chart"),
@@ -86,6 +89,7 @@ impl From<ActsFault> for Fault {
 
     fn from(fault: ActsFault) -> Fault {
         match fault {
+            ActsFault::TooLong => Fault::LongActs,
             ActsFault::BadAct(line) => Fault::Acts(line),
             ActsFault::NoMemory => Fault::NoMemory,
         }

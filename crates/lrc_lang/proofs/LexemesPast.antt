@@ -35,7 +35,7 @@ on_follows bad_byte on inside = absurd on
 on_follows bad_number on inside = absurd on
 
 -- behind the end of the text and behind a fault stands nothing
-nothing_follows : (line : ℕ) (rest : List ℕ) (found : Lexeme) → ¬ GoesOn found → Follows found line rest []
+pub nothing_follows : (line : ℕ) (rest : List ℕ) (found : Lexeme) → ¬ GoesOn found → Follows found line rest []
 nothing_follows line rest (token (number value)) off = absurd (off tt)
 nothing_follows line rest (token (name word)) off = absurd (off tt)
 nothing_follows line rest (token (keyword which)) off = absurd (off tt)

@@ -5,7 +5,7 @@ use Rattle.lrc_lang.specs.declared.token.Sign.TheVariants.{Semicolon, Assign, Op
 use Rattle.lrc_lang.specs.declared.token.Sign.TheVariants.{CloseParenthesis, Plus, Minus, Star, Slash, Percent, Equal, NotEqual, Less, LessOrEqual}
 use Rattle.lrc_lang.specs.declared.token.Sign.TheVariants.{Greater, GreaterOrEqual}
 use Rattle.lrc_lang.specs.Token.{sign, token, bad_byte}
-use Rattle.lrc_lang.specs.Lexemes.{IsDigit, IsLetter, BeginsWith, HasFront, sign_text, takes_sign, stops_at_byte}
+use Rattle.lrc_lang.specs.Lexemes.{IsDigit, IsLetter, BeginsWith, HasFront, sign_text, IsSign, BeginsNothing, takes_sign, stops_at_byte}
 use Rattle.lrc_lang.specs.Lexer.{IsReady, Takes}
 
 -- how a sign may be spelled
@@ -65,38 +65,49 @@ length-sign_text mark = go (sign_text mark) (sign_spelling mark)
     go text (inr two) = omega (arith, ap length two.1)
 
 -- a byte and a `=` that are a sign
+pub long_sign_is : {first : ℕ} {behind rest : List ℕ} {mark : Sign} → sign_text mark ≡ first ∷ 61 ∷ [] → behind ≡ 61 ∷ rest
+    → IsSign (first ∷ behind) mark rest
+long_sign_is {first} {behind} {rest} {mark} is goes_on = record {
+  whole = ap (λ t. first ∷ t) goes_on ∙ sym (ap (λ t. t ++ rest) is);
+  longest = λ other front. omega (arith, length-sign_text other, ap length is);
+}
+
 pub long_sign_is_taken : {first : ℕ} {behind rest : List ℕ} {mark : Sign} → sign_text mark ≡ first ∷ 61 ∷ [] → behind ≡ 61 ∷ rest
     → Takes (first ∷ behind) (token (sign mark)) rest
-long_sign_is_taken {first} {behind} {rest} {mark} is goes_on line more follows =
-    takes_sign (record {
-      whole = ap (λ t. first ∷ t) goes_on ∙ sym (ap (λ t. t ++ rest) is);
-      longest = λ other front. omega (arith, length-sign_text other, ap length is);
-    }) follows
+long_sign_is_taken is goes_on line more follows = takes_sign (long_sign_is is goes_on) follows
 
 -- a byte that is a sign, where no longer one stands
+pub short_sign_is : {first : ℕ} {behind : List ℕ} {mark : Sign} → sign_text mark ≡ first ∷ []
+    → (BeginsWith (λ byte. byte ≡ 61) behind → (longer : Sign) → sign_text longer ≢ first ∷ 61 ∷ []) → IsSign (first ∷ behind) mark behind
+unfolding GoesOn
+short_sign_is {first} {behind} {mark} is no_longer = record {
+  whole = sym (ap (λ t. t ++ behind) is);
+  longest = λ other front. elim (front_of_sign first behind other front) [
+    | inl one ↦ omega (arith, ap length one, ap length is)
+    | inr two ↦ absurd (no_longer two.1 other two.0)
+  ];
+}
+
 pub short_sign_is_taken : {first : ℕ} {behind : List ℕ} {mark : Sign} → sign_text mark ≡ first ∷ []
     → (BeginsWith (λ byte. byte ≡ 61) behind → (longer : Sign) → sign_text longer ≢ first ∷ 61 ∷ []) → Takes (first ∷ behind) (token (sign mark)) behind
-unfolding GoesOn
-short_sign_is_taken {first} {behind} {mark} is no_longer line more follows =
-    takes_sign (record {
-      whole = sym (ap (λ t. t ++ behind) is);
-      longest = λ other front. elim (front_of_sign first behind other front) [
-        | inl one ↦ omega (arith, ap length one, ap length is)
-        | inr two ↦ absurd (no_longer two.1 other two.0)
-      ];
-    }) follows
+short_sign_is_taken is no_longer line more follows = takes_sign (short_sign_is is no_longer) follows
 
 -- a byte that begins nothing
+pub begins_nothing : {first : ℕ} {behind : List ℕ} → IsReady (first ∷ behind) → ¬ IsDigit first → ¬ IsLetter first
+    → (BeginsWith (λ byte. byte ≡ 61) behind → (longer : Sign) → sign_text longer ≢ first ∷ 61 ∷ []) → ((mark : Sign) → sign_text mark ≢ first ∷ [])
+    → BeginsNothing first behind
+unfolding GoesOn
+begins_nothing {first} {behind} ready no_digit no_letter no_longer no_sign = record {
+  no_blank = λ h. ready (inl h);
+  no_line_feed = λ h. ready (inr (inl h));
+  no_comment = λ h. ready (inr (inr h));
+  no_number = no_digit;
+  no_word = no_letter;
+  no_sign = λ mark front. elim (front_of_sign first behind mark front) [ inl one ↦ no_sign mark one | inr two ↦ no_longer two.1 mark two.0 ];
+}
+
 pub bad_byte_is_taken : {first : ℕ} {behind : List ℕ} → IsReady (first ∷ behind) → ¬ IsDigit first → ¬ IsLetter first
     → (BeginsWith (λ byte. byte ≡ 61) behind → (longer : Sign) → sign_text longer ≢ first ∷ 61 ∷ []) → ((mark : Sign) → sign_text mark ≢ first ∷ [])
     → Takes (first ∷ behind) bad_byte behind
-unfolding GoesOn
-bad_byte_is_taken {first} {behind} ready no_digit no_letter no_longer no_sign line more none =
-    rw none (stops_at_byte (record {
-      no_blank = λ h. ready (inl h);
-      no_line_feed = λ h. ready (inr (inl h));
-      no_comment = λ h. ready (inr (inr h));
-      no_number = no_digit;
-      no_word = no_letter;
-      no_sign = λ mark front. elim (front_of_sign first behind mark front) [ inl one ↦ no_sign mark one | inr two ↦ no_longer two.1 mark two.0 ];
-    }))
+bad_byte_is_taken ready no_digit no_letter no_longer no_sign line more none =
+    rw none (stops_at_byte (begins_nothing ready no_digit no_letter no_longer no_sign))

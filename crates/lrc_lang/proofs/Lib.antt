@@ -1,6 +1,7 @@
 pub mod Beginnings
 pub mod Behind
 pub mod Expressions
+pub mod FirstFaults
 pub mod Foreign
 mod Keywords
 pub mod LexemesExist
@@ -11,6 +12,8 @@ pub mod LexemesSigns
 pub mod LexemesSpans
 pub mod LexemesSteps
 pub mod LexemesUnique
+pub mod Located
+pub mod MayStand
 pub mod Names
 pub mod OneAnswer
 pub mod Options
@@ -24,5 +27,7 @@ pub mod Statements
 pub mod StatementsBack
 pub mod StatementsEnd
 pub mod States
+pub mod Stopping
+pub mod Takes
 pub mod Taking
 pub mod Trees

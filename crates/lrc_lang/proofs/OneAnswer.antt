@@ -68,7 +68,7 @@ same_tokens before (next ∷ lexemes) (t ∷ tokens) (u ∷ others) a b =
     ap₂ ◌∷◌ same (same_tokens (before ++ t ∷ []) lexemes tokens others a.2 rest)
 
 -- and among them is no fault
-no_fault : (before : List Token) (lexemes : List Placed) (tokens : List Token) (line : ℕ) (kind : FaultKind) →
+pub no_fault : (before : List Token) (lexemes : List Placed) (tokens : List Token) (line : ℕ) (kind : FaultKind) →
     AreFaultless before lexemes tokens → IsFirstFault before lexemes line kind → ⊥
 no_fault before [] tokens line kind a f = f
 no_fault before (next ∷ lexemes) [] line kind a f = a

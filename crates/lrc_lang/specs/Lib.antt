@@ -1,10 +1,13 @@
 pub mod Counts
 pub mod Faults
+pub mod FirstFault
 pub mod Grammar
+pub mod Kind
 pub mod Lexemes
 pub mod Lexer
 pub mod Lines
 pub mod Parser
+pub mod Positions
 pub mod Sizes
 pub mod Statements
 pub mod Symbol

@@ -1,17 +1,21 @@
 // Statements of which some symbols have come.
 
-ghost use Rattle.std.specs.Prelude.{◌≡◌, option_map};
+ghost use Rattle.std.specs.Prelude.{◌≡◌, ◌↔◌, ℕ, IsTrue, List, is_some, option_map};
 ghost use Rattle.lrc_lang.specs.Parser.Body.{start, holding, in_expression, body_with, whole_of};
 ghost use Rattle.lrc_lang.specs.Parser.Body.{is_ending, ending_of, ended, done, opened, close, close_for};
 ghost use Rattle.lrc_lang.specs.Parser.Body.{begin, go_on, behind_name, behind_equals, behind_word};
 ghost use Rattle.lrc_lang.specs.Parser.Body.{at_end, behind_then, behind_else};
 ghost use Rattle.lrc_lang.specs.Parser.Partial.{nothing};
 ghost use Rattle.lrc_lang.specs.Parser.Seen.{symbol_seen, partial_seen, Gives, GivesNew};
-ghost use Rattle.lrc_lang.specs.Parser.SeenBody.{IsExpected, Steps, purpose_seen, owner_seen, body_seen};
+ghost use Rattle.lrc_lang.specs.Parser.SeenBody.{IsExpected, Steps, purpose_seen, owner_seen, outer_seen, body_seen};
+ghost use Rattle.lrc_lang.specs.declared.token.Keyword.TheVariants.{Else};
+ghost use Rattle.lrc_lang.specs.Symbol.{keyword};
+ghost use Rattle.lrc_lang.specs.Parser.Body.{Around as AroundSeen};
+ghost use Rattle.lrc_lang.specs.Tree.{Block, Expression as Word, Statement as StatementSeen};
 ghost use Rattle.lrc_lang.specs.Tree.{if_else, empty, expression_of, statement_of, block_of};
 
 use crate::fault::FaultKind;
-use crate::partial::Partial;
+use crate::partial::{Partial, begins_operand};
 use crate::program::{Expression, Statement};
 use crate::symbol::Symbol;
 use crate::token::{Keyword, Sign};
@@ -100,6 +104,46 @@ fn expect(symbol: Symbol, wanted: Sign) -> Result<(), FaultKind>
     }
 }
 
+// Whether this symbol may stand behind a name that begins a statement, and behind a `[word]` that does.
+fn follows_target(symbol: Symbol) -> bool
+    ensures name { (outer : List AroundSeen) (before : Block) (k : ℕ) →
+        result ≡ is_some (behind_name outer before k (symbol_seen symbol)) }
+    ensures word { (outer : List AroundSeen) (before : Block) (word : Word) →
+        result ≡ is_some (behind_word outer before word (symbol_seen symbol)) }
+{
+    matches!(symbol, Symbol::Sign(Sign::Assign))
+}
+
+// Whether this symbol may stand behind a name and `=`.
+fn follows_equals(symbol: Symbol) -> bool
+    ensures { (outer : List AroundSeen) (before : Block) (k : ℕ) →
+        result ≡ is_some (behind_equals outer before k (symbol_seen symbol)) }
+{
+    matches!(symbol, Symbol::Sign(Sign::OpenBracket)) || begins_operand(symbol)
+}
+
+// Whether this symbol may stand in front of the end of a statement.
+fn ends_statement(symbol: Symbol) -> bool
+    ensures { (outer : List AroundSeen) (before : Block) (statement : StatementSeen) →
+        result ≡ is_some (at_end outer before statement (symbol_seen symbol)) }
+{
+    matches!(symbol, Symbol::Sign(Sign::Semicolon))
+}
+
+// Whether this symbol may stand behind `else`.
+fn follows_else(symbol: Symbol) -> bool
+    ensures { (outer : List AroundSeen) (before : Block) (condition : Word) (first : Block) →
+        result ≡ is_some (behind_else outer before condition first (symbol_seen symbol)) }
+{
+    matches!(symbol, Symbol::Sign(Sign::OpenBrace))
+}
+
+fn is_else(symbol: Symbol) -> bool
+    ensures { IsTrue result ↔ (symbol_seen symbol ≡ keyword Else) }
+{
+    matches!(symbol, Symbol::Keyword(Keyword::Else))
+}
+
 impl Purpose {
     // Whether a symbol ends an expression that stands for this.
     fn is_ended_by(&self, symbol: Symbol) -> bool
@@ -153,6 +197,68 @@ impl Body {
             Place::BeforeEnd(statement) => self.at_end(statement, symbol),
             Place::AfterThen(condition, first) => self.behind_then(condition, first, symbol),
             Place::AfterElse(condition, first) => self.behind_else(condition, first, symbol),
+        }
+    }
+
+    /// Whether `take` takes this symbol.
+    pub fn takes(&self, symbol: Symbol) -> bool
+        ensures { result ≡ is_some (body_with (body_seen self.now) (symbol_seen symbol)) }
+    {
+        match &self.place {
+            Place::AtStatement => self.begins(symbol),
+            Place::AfterName(_) | Place::AfterWord(_) => follows_target(symbol),
+            Place::AfterEquals(_) => follows_equals(symbol),
+            Place::InExpression(purpose) => self.goes_on(purpose, symbol),
+            Place::BeforeEnd(_) => ends_statement(symbol),
+            Place::AfterThen(_, _) => self.follows_then(symbol),
+            Place::AfterElse(_, _) => follows_else(symbol),
+        }
+    }
+
+    /// Whether `finish` ends the statements.
+    pub fn is_whole(&self) -> bool
+        ensures { result ≡ is_some (whole_of (body_seen self.now)) }
+    {
+        self.outer.is_empty() && matches!(self.place, Place::AtStatement | Place::AfterThen(_, _))
+    }
+
+    // Whether a statement may begin with this, or the innermost block end with it.
+    fn begins(&self, symbol: Symbol) -> bool
+        ensures { (before : Block) → result ≡ is_some (begin (outer_seen self.now) before (symbol_seen symbol)) }
+    {
+        match symbol {
+            Symbol::Name(_)
+            | Symbol::Sign(Sign::OpenBracket)
+            | Symbol::Keyword(
+                Keyword::Acquire
+                | Keyword::Release
+                | Keyword::Barrier
+                | Keyword::Print
+                | Keyword::If
+                | Keyword::While,
+            ) => true,
+            Symbol::Sign(Sign::CloseBrace) => !self.outer.is_empty(),
+            _ => false,
+        }
+    }
+
+    // Whether this symbol may stand behind the first block of an `if`.
+    fn follows_then(&self, symbol: Symbol) -> bool
+        ensures { (before first : Block) (condition : Word) →
+            result ≡ is_some (behind_then (outer_seen self.now) before condition first (symbol_seen symbol)) }
+    {
+        is_else(symbol) || self.begins(symbol)
+    }
+
+    // Whether this symbol may stand in an expression, or end it.
+    fn goes_on(&self, purpose: &Purpose, symbol: Symbol) -> bool
+        ensures { (before : Block) → result ≡ is_some (go_on (outer_seen self.now) before
+            (purpose_seen purpose.now) (partial_seen self.now.expression) (symbol_seen symbol)) }
+    {
+        if purpose.is_ended_by(symbol) {
+            self.expression.is_whole()
+        } else {
+            self.expression.takes(symbol)
         }
     }
 

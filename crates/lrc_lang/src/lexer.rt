@@ -5,6 +5,7 @@ ghost use Rattle.std.specs.Option.{SomeIff};
 ghost use Rattle.lrc_lang.specs.declared.token.Sign.{Sign};
 ghost use Rattle.lrc_lang.specs.Lexemes.{IsDigit, IsLetter, BeginsWith, IsSpan, value_of, keyword_text, IsKeyword, sign_text, NextIs, IsShorter};
 ghost use Rattle.lrc_lang.specs.Lexer.{Has, IsReady, Passes, Takes};
+ghost use Rattle.lrc_lang.specs.Positions.{PassesTo, TakesHere, NextAt};
 ghost use Rattle.lrc_lang.specs.Parser.View.{lexeme_of, placed_of};
 
 use crate::token::{Keyword, Lexeme, Placed, Sign, Token};
@@ -33,6 +34,13 @@ pub struct Lexer<'t> {
     pub line: u32,
     /// The line stays in range, however many line feeds are left.
     ghost line_fits: { line + length rest.now < 2 ^ 32 },
+}
+
+/// What stands next in a text, and how many bytes are left of the text from its first byte on.
+#[derive(Clone, Copy)]
+pub struct Met<'t> {
+    pub found: Placed<'t>,
+    pub left: usize,
 }
 
 /// Bytes that stand together.
@@ -71,8 +79,26 @@ impl<'t> Lexer<'t> {
         Placed { line, lexeme }
     }
 
+    /// Takes what stands next, as `next_lexeme` does, and says where it is.
+    pub fn next_met(&mut self) -> Met<'t>
+        ensures next { NextAt self.old.line self.old.rest.now (placed_of result.found) result.left self.new.rest.now }
+        ensures line { self.new.line ≡ result.found.line }
+        ensures shorter { IsShorter (lexeme_of result.found.lexeme) self.old.rest.now self.new.rest.now }
+    {
+        self.skip();
+        let left = self.rest.len();
+        let line = self.line;
+        let (lexeme, rest) = lexeme_at(self.rest);
+        self.rest = rest;
+        Met {
+            found: Placed { line, lexeme },
+            left,
+        }
+    }
+
     // Passes over blanks, line feeds and comments.
     fn skip(&mut self)
+        ensures places { PassesTo self.old.line self.old.rest.now self.new.line self.new.rest.now }
         ensures passed { Passes self.old.line self.old.rest.now self.new.line self.new.rest.now }
         ensures ready { IsReady self.new.rest.now }
         ensures shorter { length self.new.rest.now ≤ length self.old.rest.now }
@@ -94,6 +120,7 @@ impl<'t> Lexer<'t> {
 // What stands at the front of a text, and the rest behind it.
 fn lexeme_at(text: &[u8]) -> (Lexeme<'_>, &[u8])
     requires { IsReady text.now }
+    ensures here { TakesHere text.now (lexeme_of result.0) result.1.now }
     ensures taken { Takes text.now (lexeme_of result.0) result.1.now }
     ensures shorter { IsShorter (lexeme_of result.0) text.now result.1.now }
 {
@@ -108,6 +135,7 @@ fn lexeme_at(text: &[u8]) -> (Lexeme<'_>, &[u8])
 // The number at the front of a text, or the fault where its digits are none, and the rest behind the digits.
 fn number_at(text: &[u8]) -> (Lexeme<'_>, &[u8])
     requires { BeginsWith IsDigit text.now }
+    ensures here { TakesHere text.now (lexeme_of result.0) result.1.now }
     ensures taken { Takes text.now (lexeme_of result.0) result.1.now }
     ensures shorter { IsShorter (lexeme_of result.0) text.now result.1.now }
 {
@@ -124,6 +152,7 @@ fn number_at(text: &[u8]) -> (Lexeme<'_>, &[u8])
 // The keyword or the name at the front of a text, and the rest behind it.
 fn word_at(text: &[u8]) -> (Lexeme<'_>, &[u8])
     requires { BeginsWith IsLetter text.now }
+    ensures here { TakesHere text.now (lexeme_of result.0) result.1.now }
     ensures taken { Takes text.now (lexeme_of result.0) result.1.now }
     ensures shorter { IsShorter (lexeme_of result.0) text.now result.1.now }
 {
@@ -139,6 +168,7 @@ fn sign_at(first: u8, behind: &[u8]) -> (Lexeme<'_>, &[u8])
     requires ready { IsReady (first ∷ behind.now) }
     requires no_digit { ¬ IsDigit first }
     requires no_letter { ¬ IsLetter first }
+    ensures here { TakesHere (first ∷ behind.now) (lexeme_of result.0) result.1.now }
     ensures taken { Takes (first ∷ behind.now) (lexeme_of result.0) result.1.now }
     ensures shorter { IsShorter (lexeme_of result.0) (first ∷ behind.now) result.1.now }
 {

@@ -3,12 +3,15 @@
 
 mod body;
 pub mod fault;
+pub mod first_fault;
+pub mod kind;
 pub mod lexemes;
 mod lexer;
 mod limits;
 pub mod lines;
 mod parser;
 mod partial;
+pub mod positions;
 pub mod program;
 mod state;
 mod symbol;

@@ -89,8 +89,8 @@ fn read_into(state: &mut ParserState, alloc: Global, text: &[u8]) -> Result<(), 
     }
 }
 
-// Takes what stands next.
-fn take<'t>(
+/// Takes what stands next.
+pub fn take<'t>(
     state: &mut ParserState,
     limits: &mut Limits<'t>,
     lexeme: Lexeme<'t>,

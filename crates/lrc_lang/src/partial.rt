@@ -1,12 +1,12 @@
 // An expression of which some symbols have come.
 
-ghost use Rattle.std.specs.Prelude.{◌≡◌, Some, None, option_map, IfOk, IsOk};
+ghost use Rattle.std.specs.Prelude.{◌≡◌, Some, None, option_map, is_some, IfOk, IsOk};
 ghost use Rattle.lrc_lang.specs.Grammar.{joins};
 ghost use Rattle.lrc_lang.specs.Parser.Partial.{joined, no_pending, level_with, whole_of};
 ghost use Rattle.lrc_lang.specs.Parser.Partial.{nothing, close, go_on, partial_with, value_of, waiting};
 ghost use Rattle.lrc_lang.specs.Parser.Seen.{joins_seen, pending_seen, level_seen, partial_seen};
 ghost use Rattle.lrc_lang.specs.Parser.Seen.{symbol_seen, Gives, GivesNew};
-ghost use Rattle.lrc_lang.specs.Tree.{expression_of};
+ghost use Rattle.lrc_lang.specs.Tree.{Expression as Operand, expression_of};
 
 use crate::fault::FaultKind;
 use crate::program::{Expression, Operator};
@@ -99,6 +99,17 @@ impl Level {
         }
     }
 
+    // Whether this operator may stand behind an operand.
+    fn takes(&self, operator: Operator) -> bool
+        ensures { (operand : Operand) → result
+            ≡ is_some (level_with (joins operator) (level_seen self.now) operand operator) }
+    {
+        match joined_by(operator) {
+            Joins::Factors | Joins::Terms => true,
+            Joins::Sums => self.compared.is_none(),
+        }
+    }
+
     // The expression that an operand ends.
     fn whole(self, alloc: Global, operand: Expression) -> Result<Expression, AllocError>
         ensures { IfOk result (λ e. expression_of e
@@ -150,7 +161,49 @@ fn waiting(left: Expression, operator: Operator) -> Option<Pending>
     Some(Pending { left, operator })
 }
 
+/// Whether an operand may begin with this.
+pub fn begins_operand(symbol: Symbol) -> bool
+    ensures { result ≡ is_some (partial_with nothing (symbol_seen symbol)) }
+{
+    matches!(
+        symbol,
+        Symbol::Number(_)
+            | Symbol::Name(_)
+            | Symbol::Keyword(Keyword::Me | Keyword::Nodes)
+            | Symbol::Sign(Sign::OpenParenthesis)
+    )
+}
+
 impl Partial {
+    /// Whether `take` takes this symbol.
+    pub fn takes(&self, symbol: Symbol) -> bool
+        ensures { result ≡ is_some (partial_with (partial_seen self.now) (symbol_seen symbol)) }
+    {
+        match self.operand {
+            None => begins_operand(symbol),
+            Some(_) => self.goes_on(symbol),
+        }
+    }
+
+    // Whether this symbol may stand behind an operand.
+    fn goes_on(&self, symbol: Symbol) -> bool
+        ensures { (operand : Operand) → result
+            ≡ is_some (go_on (partial_seen self.now).outer (level_seen self.now.level) operand (symbol_seen symbol)) }
+    {
+        match symbol {
+            Symbol::Operator(operator) => self.level.takes(operator),
+            Symbol::Sign(Sign::CloseParenthesis) => !self.outer.is_empty(),
+            _ => false,
+        }
+    }
+
+    /// Whether `finish` gives an expression.
+    pub fn is_whole(&self) -> bool
+        ensures { result ≡ is_some (value_of (partial_seen self.now)) }
+    {
+        self.outer.is_empty() && self.operand.is_some()
+    }
+
     /// An expression of which nothing has come.
     pub fn empty(alloc: Global) -> Partial
         ensures { partial_seen result ≡ nothing }

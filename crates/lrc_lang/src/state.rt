@@ -1,6 +1,6 @@
 // A text of which some symbols have come.
 
-ghost use Rattle.std.specs.Prelude.{◌≡◌, ◌≤◌};
+ghost use Rattle.std.specs.Prelude.{◌≡◌, ◌≤◌, is_some};
 ghost use Rattle.lrc_lang.specs.declared.TheConstants.{MOST_WORDS};
 
 use crate::MOST_WORDS;
@@ -40,7 +40,7 @@ pub struct ParserState {
 impl ParserState {
     ghost use Rattle.lrc_lang.specs.Parser.Seen.{symbol_seen};
     ghost use Rattle.lrc_lang.specs.Parser.SeenState.{state_seen, TakesSymbol};
-    ghost use Rattle.lrc_lang.specs.Parser.State.{start, program_in};
+    ghost use Rattle.lrc_lang.specs.Parser.State.{start, in_statements, program_in, state_with};
     ghost use Rattle.lrc_lang.specs.Sizes.{names_in, depth_of, most_operators};
     ghost use Rattle.lrc_lang.specs.Tree.{program_of};
 
@@ -53,6 +53,30 @@ impl ParserState {
             words: 1,
             locks: 0,
             body: Body::start(alloc),
+        }
+    }
+
+    /// Whether this symbol can stand here, its size aside.
+    pub fn takes(&self, symbol: Symbol) -> bool
+        ensures { result ≡ is_some (state_with (state_seen self.now) (symbol_seen symbol)) }
+    {
+        match (self.stage, symbol) {
+            (Stage::Words, Symbol::Keyword(Keyword::Words))
+            | (Stage::WordsNumber | Stage::LocksNumber, Symbol::Number(_))
+            | (Stage::WordsEnd | Stage::LocksEnd, Symbol::Sign(Sign::Semicolon))
+            | (Stage::Locks, Symbol::Keyword(Keyword::Locks)) => true,
+            (Stage::Statements, _) => self.goes_on(symbol),
+            _ => false,
+        }
+    }
+
+    // Whether this symbol can stand among the statements, or end them.
+    fn goes_on(&self, symbol: Symbol) -> bool
+        ensures { result ≡ is_some (in_statements (state_seen self.now) (symbol_seen symbol)) }
+    {
+        match symbol {
+            Symbol::End => self.body.is_whole(),
+            _ => self.body.takes(symbol),
         }
     }
 

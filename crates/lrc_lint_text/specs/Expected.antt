@@ -1,22 +1,9 @@
 -- What may stand in a place, in words.
 use Rattle.std.specs.Prelude.{ℕ, ◌&&◌, ◌||◌, not, Bool, List, [], ◌∷◌, ◌++◌, codes, if◌then◌else◌}
 use Rattle.std.specs.List.{flat_map}
-use Rattle.lrc_lang.specs.declared.token.Keyword.TheVariants as keywords
-use Rattle.lrc_lang.specs.declared.token.Sign.TheVariants as signs
-use Rattle.lrc_lint_text.specs.declared.kind.Kind.{Kind}
-use Rattle.lrc_lint_text.specs.declared.kind.Kind.TheVariants as kinds
+use Rattle.lrc_lang.specs.declared.kind.Kind.{Kind}
+use Rattle.lrc_lang.specs.Kind.{all_kinds}
 use Rattle.lrc_lint_text.specs.Kind.{comparison_kinds, has, has_all, operand_kinds, operator_kinds, phrase, statement_kinds}
-
--- all kinds, in the order in which they are told
-unfoldable pub all_kinds : List Kind
-all_kinds = kinds.Name ∷ kinds.Number ∷ kinds.Keyword keywords.Words ∷ kinds.Keyword keywords.Locks ∷ kinds.Keyword keywords.Acquire
-    ∷ kinds.Keyword keywords.Release ∷ kinds.Keyword keywords.Barrier ∷ kinds.Keyword keywords.Print ∷ kinds.Keyword keywords.If
-    ∷ kinds.Keyword keywords.Else ∷ kinds.Keyword keywords.While ∷ kinds.Keyword keywords.Me ∷ kinds.Keyword keywords.Nodes
-    ∷ kinds.Sign signs.Semicolon ∷ kinds.Sign signs.Assign ∷ kinds.Sign signs.OpenBracket ∷ kinds.Sign signs.CloseBracket
-    ∷ kinds.Sign signs.OpenBrace ∷ kinds.Sign signs.CloseBrace ∷ kinds.Sign signs.OpenParenthesis ∷ kinds.Sign signs.CloseParenthesis
-    ∷ kinds.Sign signs.Plus ∷ kinds.Sign signs.Minus ∷ kinds.Sign signs.Star ∷ kinds.Sign signs.Slash ∷ kinds.Sign signs.Percent
-    ∷ kinds.Sign signs.Equal ∷ kinds.Sign signs.NotEqual ∷ kinds.Sign signs.Less ∷ kinds.Sign signs.LessOrEqual ∷ kinds.Sign signs.Greater
-    ∷ kinds.Sign signs.GreaterOrEqual ∷ kinds.End ∷ []
 
 -- the name of a group, where all its members may stand
 abbrev pub group_phrase : List Kind → List ℕ → List Kind → List (List ℕ)

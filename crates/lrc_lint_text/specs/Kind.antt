@@ -7,8 +7,8 @@ use Rattle.lrc_lang.specs.declared.token.Keyword.TheVariants as keywords
 use Rattle.lrc_lang.specs.declared.token.Sign.{Sign}
 use Rattle.lrc_lang.specs.declared.token.Sign.TheVariants as signs
 use Rattle.lrc_lang.specs.Lexemes.{keyword_text, sign_text}
-use Rattle.lrc_lint_text.specs.declared.kind.Kind.{Kind}
-use Rattle.lrc_lint_text.specs.declared.kind.Kind.TheVariants as kinds
+use Rattle.lrc_lang.specs.declared.kind.Kind.{Kind}
+use Rattle.lrc_lang.specs.declared.kind.Kind.TheVariants as kinds
 
 abbrev pub quoted : List ℕ → List ℕ
 quoted text = codes "`" ++ text ++ codes "`"

@@ -2,10 +2,12 @@
 
 ghost use Rattle.std.specs.Prelude.{◌≡◌, ◌++◌, IfOk, OnOk, codes, map};
 ghost use Rattle.std.specs.List.{flat_map};
+ghost use Rattle.lrc_lang.specs.Kind.{all_kinds};
 ghost use Rattle.lrc_lint_text.specs.Kind.{comparison_kinds, operand_kinds, operator_kinds, statement_kinds};
-ghost use Rattle.lrc_lint_text.specs.Expected.{all_kinds, expected_text, group_phrase, is_said, joined, phrases_of, says, single_phrase};
+ghost use Rattle.lrc_lint_text.specs.Expected.{expected_text, group_phrase, is_said, joined, phrases_of, says, single_phrase};
 
-use crate::kind::{Kind, has, has_all, phrase};
+use crate::kind::{has, has_all, phrase};
+use lrc_lang::kind::{Kind, all_kinds};
 use lrc_lang::token::{Keyword, Sign};
 use std::alloc::{AllocError, Global};
 
@@ -47,71 +49,32 @@ const COMPARISON: &[Kind] = &[
     Kind::Sign(Sign::GreaterOrEqual),
 ];
 
-/// All kinds, in the order in which they are told.
-const KINDS: &[Kind] = &[
-    Kind::Name,
-    Kind::Number,
-    Kind::Keyword(Keyword::Words),
-    Kind::Keyword(Keyword::Locks),
-    Kind::Keyword(Keyword::Acquire),
-    Kind::Keyword(Keyword::Release),
-    Kind::Keyword(Keyword::Barrier),
-    Kind::Keyword(Keyword::Print),
-    Kind::Keyword(Keyword::If),
-    Kind::Keyword(Keyword::Else),
-    Kind::Keyword(Keyword::While),
-    Kind::Keyword(Keyword::Me),
-    Kind::Keyword(Keyword::Nodes),
-    Kind::Sign(Sign::Semicolon),
-    Kind::Sign(Sign::Assign),
-    Kind::Sign(Sign::OpenBracket),
-    Kind::Sign(Sign::CloseBracket),
-    Kind::Sign(Sign::OpenBrace),
-    Kind::Sign(Sign::CloseBrace),
-    Kind::Sign(Sign::OpenParenthesis),
-    Kind::Sign(Sign::CloseParenthesis),
-    Kind::Sign(Sign::Plus),
-    Kind::Sign(Sign::Minus),
-    Kind::Sign(Sign::Star),
-    Kind::Sign(Sign::Slash),
-    Kind::Sign(Sign::Percent),
-    Kind::Sign(Sign::Equal),
-    Kind::Sign(Sign::NotEqual),
-    Kind::Sign(Sign::Less),
-    Kind::Sign(Sign::LessOrEqual),
-    Kind::Sign(Sign::Greater),
-    Kind::Sign(Sign::GreaterOrEqual),
-    Kind::End,
-];
-
-fn statement_kinds() -> &'static [Kind]
+/// What begins a statement.
+pub fn statement_kinds() -> &'static [Kind]
     ensures { result.now ≡ statement_kinds }
 {
     STATEMENT
 }
 
-fn operand_kinds() -> &'static [Kind]
+/// What begins an operand.
+pub fn operand_kinds() -> &'static [Kind]
     ensures { result.now ≡ operand_kinds }
 {
     OPERAND
 }
 
-fn operator_kinds() -> &'static [Kind]
+/// The signs of sums and products.
+pub fn operator_kinds() -> &'static [Kind]
     ensures { result.now ≡ operator_kinds }
 {
     OPERATOR
 }
 
-fn comparison_kinds() -> &'static [Kind]
+/// The signs that compare.
+pub fn comparison_kinds() -> &'static [Kind]
     ensures { result.now ≡ comparison_kinds }
 {
     COMPARISON
-}
-
-fn all_kinds() -> &'static [Kind]
-    ensures { result.now ≡ all_kinds }
-{
-    KINDS
 }
 
 /// Adds the line that says that these kinds of tokens may stand in a place. Where all members of a group may stand, the line has the

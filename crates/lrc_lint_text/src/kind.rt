@@ -1,22 +1,10 @@
-// Kinds of tokens.
+// How kinds of tokens are called.
 
 ghost use Rattle.std.specs.Prelude.{◌≡◌};
 ghost use Rattle.lrc_lint_text.specs.Kind.{has, has_all, keyword_phrase, phrase, sign_phrase};
 
+use lrc_lang::kind::Kind;
 use lrc_lang::token::{Keyword, Sign};
-
-/// A kind of token: what the grammar tells apart.
-#[derive(Clone, Copy)]
-pub enum Kind {
-    /// A private name, whichever.
-    Name,
-    /// A number, whichever.
-    Number,
-    Keyword(Keyword),
-    Sign(Sign),
-    /// The end of the text.
-    End,
-}
 
 /// How a kind is called where it may stand: a keyword and a sign by its spelling in back quotes.
 pub fn phrase(kind: Kind) -> &'static [u8]

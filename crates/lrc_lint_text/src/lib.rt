@@ -7,5 +7,7 @@ mod head;
 pub mod kind;
 
 pub use excerpt::push_excerpt;
-pub use expected::push_expected;
+pub use expected::{
+    comparison_kinds, operand_kinds, operator_kinds, push_expected, statement_kinds,
+};
 pub use head::{push_count, push_fault, push_place, push_unexpected, push_unexpected_end};

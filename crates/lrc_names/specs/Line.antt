@@ -101,20 +101,30 @@ pub record SaysNothing (line : List ℕ) : Type 0 where
   pub short : length line ≤ longest_line
   pub blank : IsBlank body
 
+-- What a line says of an event: the thread, what it does and to what, and where; the location is empty where there is none.
+pub record Saying : Type 0 where
+  pub thread : List ℕ
+  pub kind : Kind
+  pub target : List ℕ
+  pub location : List ℕ
+
+abbrev pub saying_of : Named → Saying
+saying_of named = record { thread = named.thread.now; kind = named.kind; target = named.target.now; location = named.location.now }
+
 -- The line says the event. (A name may begin with the sign of a comment nowhere but in the first place of a line.)
-pub record Says (line : List ℕ) (named : Named) : Type 0 where
+pub record Says (line : List ℕ) (saying : Saying) : Type 0 where
   pub body : List ℕ
   pub of : IsBody line body
   pub short : length line ≤ longest_line
   pub no_comment : ¬ IsBlank body
-  pub spells : SpellsEvent named.thread.now named.kind named.target.now named.location.now body
+  pub spells : SpellsEvent saying.thread saying.kind saying.target saying.location body
 
 -- The line has not the form.
 abbrev pub IsBad : List ℕ → Type 0
-IsBad line = ¬ SaysNothing line × ((named : Named) → ¬ Says line named)
+IsBad line = ¬ SaysNothing line × ((saying : Saying) → ¬ Says line saying)
 
 -- what a line is read as
 abbrev pub Reads : List ℕ → Line → Type 0
 Reads line Nothing = SaysNothing line
-Reads line (Event named) = Says line named
+Reads line (Event named) = Says line (saying_of named)
 Reads line Bad = IsBad line

@@ -26,8 +26,8 @@ const KINDS: [Kind; 10] = [
     Kind::Depart,
 ];
 
-// What stands before the first of these bytes, and what behind it.
-fn split(text: &[u8], byte: u8) -> Option<(&[u8], &[u8])>
+/// What stands before the first of these bytes, and what behind it.
+pub fn split(text: &[u8], byte: u8) -> Option<(&[u8], &[u8])>
     ensures { MatchOption result (Lacks byte text.now) (λ parts. (text.now ≡ parts.0.now ++ byte ∷ parts.1.now) × Lacks byte parts.0.now) }
 {
     for (at, other) in text.iter().enumerate() {

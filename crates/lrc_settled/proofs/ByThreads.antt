@@ -23,7 +23,7 @@ by_freedom : (thread : Thread) (b : Bool) → is_free (next_of thread) ≡ b →
 by_freedom thread true e turning = turns thread (turning e)
 by_freedom thread false e turning = waits thread e
 
-settled_thread : (o : Option Thread) → (is_free_in o ≡ true → TurnsIn o) → ThreadSettles o [] o
+pub settled_thread : (o : Option Thread) → (is_free_in o ≡ true → TurnsIn o) → ThreadSettles o [] o
 settled_thread None is = stopped
 settled_thread (Some thread) is = by_freedom thread (is_free (next_of thread)) refl is
 
@@ -81,7 +81,7 @@ by_threads settles = record {
 }
 
 -- what a settled thread comes to is itself
-stays_itself : {o there : Option Thread} {deeds : List Deed} → ThreadSettles o deeds there → (is_free_in o ≡ true → TurnsIn o)
+pub stays_itself : {o there : Option Thread} {deeds : List Deed} → ThreadSettles o deeds there → (is_free_in o ≡ true → TurnsIn o)
     → (there ≡ o) × (deeds ≡ [])
 stays_itself stopped is = (refl, refl)
 stays_itself (waits thread e) is = (refl, refl)

@@ -27,7 +27,7 @@ use Rattle.lrc_settled.proofs.Settle.{settling_free}
 
 -- ---- what holds of each settled state
 
-barrier_of_all : (machine : Plain) (fine : Fine machine) → AllWait machine → AtBarrier machine (fine.aligned.episode + 1) 0 (length machine.threads)
+pub barrier_of_all : (machine : Plain) (fine : Fine machine) → AllWait machine → AtBarrier machine (fine.aligned.episode + 1) 0 (length machine.threads)
 barrier_of_all machine fine all = record {
   held = fine.held;
   size = refl;
@@ -57,17 +57,17 @@ state_fine (onward acts more before after state leads) = leads_fine leads (state
 
 -- ---- states alike
 
-back : {machine other : Plain} → AreAlike machine other → AreAlike other machine
+pub back : {machine other : Plain} → AreAlike machine other → AreAlike other machine
 back a = record { memory = sym a.memory; holders = sym a.holders; threads = sym a.threads }
 
-same_thread : {machine other : Plain} → AreAlike machine other → (node : ℕ) → thread_in machine node ≡ thread_in other node
+pub same_thread : {machine other : Plain} → AreAlike machine other → (node : ℕ) → thread_in machine node ≡ thread_in other node
 same_thread a node = ap (λ ts. slice_index_or ts node None) a.threads
 
 -- the state after a step that is made at the other too
-record StepsAlike (other : Plain) (node : ℕ) (deed : Deed) (after : Plain) : Type 0 where
-  there : Plain
-  step : plain_step other node ≡ Some (deed, there)
-  alike : AreAlike after there
+pub record StepsAlike (other : Plain) (node : ℕ) (deed : Deed) (after : Plain) : Type 0 where
+  pub there : Plain
+  pub step : plain_step other node ≡ Some (deed, there)
+  pub alike : AreAlike after there
 
 can_alike : (machine other : Plain) → AreAlike machine other → (node : ℕ) (deed : Deed) → (deed ≡ Depart → ⊥) → CanDo machine node deed → CanDo other node deed
 can_alike machine other a node (Read w v) never_so can = can ∙ ap (λ xs. slice_index xs w) a.memory
@@ -75,7 +75,7 @@ can_alike machine other a node (Acquire l) never_so can = ap (λ hs. is_none (sl
 can_alike machine other a node Depart never_so can = absurd (never_so refl)
 can_alike machine other a node _ never_so can = tt
 
-step_alike : (machine other after : Plain) → AreAlike machine other → (node : ℕ) (deed : Deed) → plain_step machine node ≡ Some (deed, after)
+pub step_alike : (machine other after : Plain) → AreAlike machine other → (node : ℕ) (deed : Deed) → plain_step machine node ≡ Some (deed, after)
     → (deed ≡ Depart → ⊥) → StepsAlike other node deed after
 step_alike machine other after a node deed step never_so =
     let s = stepped machine node deed after step in
@@ -90,15 +90,15 @@ step_alike machine other after a node deed step never_so =
       };
     }
 
-record SettlesAlike (other : Plain) (acts : List Act) (after : Plain) : Type 0 where
-  there : Plain
-  settles : Settles other acts there
-  alike : AreAlike after there
+pub record SettlesAlike (other : Plain) (acts : List Act) (after : Plain) : Type 0 where
+  pub there : Plain
+  pub settles : Settles other acts there
+  pub alike : AreAlike after there
 
-settled_at_alike : {machine other : Plain} → AreAlike machine other → (node : ℕ) → IsSettledAt machine node → IsSettledAt other node
+pub settled_at_alike : {machine other : Plain} → AreAlike machine other → (node : ℕ) → IsSettledAt machine node → IsSettledAt other node
 settled_at_alike a node is = subst (λ o. is_free_in o ≡ true → TurnsIn o) (same_thread a node) is
 
-settles_alike : {machine after : Plain} {acts : List Act} → Settles machine acts after → (other : Plain) → AreAlike machine other
+pub settles_alike : {machine after : Plain} {acts : List Act} → Settles machine acts after → (other : Plain) → AreAlike machine other
     → SettlesAlike other acts after
 settles_alike (settled machine is) other a =
     record { there = other; settles = settled other (record { each = λ node. settled_at_alike a node (is.each node) }); alike = a }
@@ -113,12 +113,12 @@ settles_alike (settling machine after final node deed acts next step more) other
     } in
     record { there = rest.there; settles = settling other st.there rest.there node deed acts next' st.step rest.settles; alike = rest.alike }
 
-record DepartsAlike (other : Plain) (order : List ℕ) (acts : List Act) (after : Plain) : Type 0 where
-  there : Plain
-  led : plain_from other order ≡ Some (acts, there)
-  alike : AreAlike after there
+pub record DepartsAlike (other : Plain) (order : List ℕ) (acts : List Act) (after : Plain) : Type 0 where
+  pub there : Plain
+  pub led : plain_from other order ≡ Some (acts, there)
+  pub alike : AreAlike after there
 
-departs_alike : (many place long count counted : ℕ) → place + many ≡ long → (machine other after : Plain) (acts : List Act) → AreAlike machine other
+pub departs_alike : (many place long count counted : ℕ) → place + many ≡ long → (machine other after : Plain) (acts : List Act) → AreAlike machine other
     → AtBarrier machine count place long → AtBarrier other counted place long → plain_from machine (range_with_len place many) ≡ Some (acts, after)
     → DepartsAlike other (range_with_len place many) acts after
 departs_alike zero place long count counted sum machine other after acts a b c led =
@@ -144,7 +144,7 @@ departs_alike (suc many) place long count counted sum machine other after acts a
       alike = rest.alike;
     }
 
-leads_alike : {machine after : Plain} {acts : List Act} → Leads machine acts after → Fine machine → (other : Plain) → Fine other → AreAlike machine other
+pub leads_alike : {machine after : Plain} {acts : List Act} → Leads machine acts after → Fine machine → (other : Plain) → Fine other → AreAlike machine other
     → LeadsAlike other acts after
 leads_alike (alone machine mid after node deed acts kind step settles) fine other fine' a =
     let st = step_alike machine other mid a node deed step (contended_no_depart deed kind) in
@@ -166,14 +166,14 @@ leads_alike (together machine mid after departs acts all led settles) fine other
       alike = rest.alike;
     }
 
-depart_or_not : (deed : Deed) → (deed ≡ Depart) ⊎ (deed ≡ Depart → ⊥)
+pub depart_or_not : (deed : Deed) → (deed ≡ Depart) ⊎ (deed ≡ Depart → ⊥)
 depart_or_not Depart = inl refl
 depart_or_not _ = inr (λ e. cc)
 
-none_made : (made : Deed × Plain) → ◌≡◌ {A = Option (Deed × Plain)} None (Some made) → ⊥
+pub none_made : (made : Deed × Plain) → ◌≡◌ {A = Option (Deed × Plain)} None (Some made) → ⊥
 none_made made e = cc
 
-rests_alike : (machine other : Plain) → Fine machine → Fine other → AreAlike machine other → IsAtRest machine → (node : ℕ)
+pub rests_alike : (machine other : Plain) → Fine machine → Fine other → AreAlike machine other → IsAtRest machine → (node : ℕ)
     → (o : Option (Deed × Plain)) → plain_step other node ≡ o → o ≡ None
 rests_alike machine other fine fine' a still node None e = refl
 rests_alike machine other fine fine' a still node (Some made) e = elim (depart_or_not made.0) [

@@ -4,3 +4,4 @@ pub mod Cycles
 pub mod Prefix
 pub mod Told
 pub mod Holders
+pub mod Lasts

@@ -3,6 +3,7 @@ use Rattle.std.specs.Prelude.{◌≡◌, ◌≢◌, ℕ, zero, suc, ◌+◌, ◌
 use Rattle.lrc_std.specs.declared.event.Event.{Event}
 use Rattle.lrc_std.specs.declared.event.Operation.{Operation}
 use Rattle.lrc_std.specs.declared.event.Operation.TheVariants.{Acquire, Release, Fork, Join, Arrive, Depart}
+use Rattle.lrc_std.specs.declared.fault.Fault.{Fault}
 use Rattle.lrc_std.specs.declared.fault.Holder.{Holder}
 use Rattle.lrc_std.specs.declared.fault.Reason.{Reason}
 use Rattle.lrc_std.specs.declared.fault.Reason.TheVariants.{Joined, Waits, NotArrived, Held, NotHeld, Known}
@@ -101,6 +102,11 @@ pub record IsIllFormed (events : List Event) (n : ℕ) (reason : Reason) : Type 
   pub holds : Holds events n event reason
   pub first : (other : Reason) → Holds events n event other → rank reason ≤ rank other
   pub earlier : (k : ℕ) (a : Event) (other : Reason) → k < n → At events k a → ¬ Holds events k a other
+
+-- the first fault of the events before position n, if there is one
+abbrev pub IsFirstFault : List Event → ℕ → Option Fault → Type 0
+IsFirstFault events n (Some fault) = (k : ℕ) × (k < n) × At events k fault.event × IsIllFormed events k fault.reason
+IsFirstFault events n None = (k : ℕ) (a : Event) (reason : Reason) → k < n → At events k a → ¬ Holds events k a reason
 
 -- the trace is well formed
 abbrev pub IsWellFormed : List Event → Type 0

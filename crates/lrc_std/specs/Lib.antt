@@ -3,3 +3,4 @@ pub mod Cycles
 pub mod Order
 pub mod Races
 pub mod Formed
+pub mod Groups

@@ -1,5 +1,7 @@
 // What is wrong with an event that no program would give.
 
+use crate::event::Event;
+
 /// Why no program would give an event, the first that holds. A line is that of the event that is to blame.
 #[derive(Clone, Copy, PartialEq, Eq)]
 pub enum Reason {
@@ -15,6 +17,15 @@ pub enum Reason {
     NotHeld { lock: u32 },
     /// It forks this thread, which is known since this line.
     Known { thread: u32, line: u64 },
+}
+
+/// An event that no program would give, and why.
+#[derive(Clone, Copy, PartialEq, Eq)]
+pub struct Fault {
+    /// The event.
+    pub event: Event,
+    /// What is wrong with it.
+    pub reason: Reason,
 }
 
 /// Who holds a lock.

@@ -34,6 +34,12 @@ pub fn each_race_is_told()
         → (pair : Pair) × Contains pairs pair × (pair.later.position ≡ j) × (pair.earlier.event.thread ≡ a.thread) × (i ≤ pair.earlier.position) }
 {}
 
+/// An access has a pair told exactly where it races with an earlier one.
+pub fn an_access_is_told_exactly_where_it_races()
+    ensures { (events : List Event) (pairs : List Pair) (j : ℕ) → AreTold events pairs
+        → ((pair : Pair) × Contains pairs pair × (pair.later.position ≡ j)) ↔ ((i : ℕ) × Races events i j) }
+{}
+
 /// Nothing is told exactly where no two accesses race.
 pub fn nothing_is_told_where_nothing_races()
     ensures { (events : List Event) (pairs : List Pair) → AreTold events pairs → ((pairs ≡ []) ↔ ((i j : ℕ) → ¬ Races events i j)) }

@@ -6,4 +6,5 @@
 
 pub mod event;
 pub mod fault;
+pub mod group;
 pub mod laws;

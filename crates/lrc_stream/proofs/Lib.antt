@@ -9,3 +9,6 @@ pub mod Collecting
 pub mod Pairs
 pub mod Placing
 pub mod Firsts
+pub mod Waiting
+pub mod Finding
+pub mod Grouping

@@ -6,3 +6,6 @@ pub mod Knowing
 pub mod Detecting
 pub mod Held
 pub mod Threads
+pub mod Waits
+pub mod Finding
+pub mod Grouping

@@ -6,15 +6,18 @@
 //! ascending by thread. So memory grows with threads, locks and barriers, and with the threads of each variable, and not with
 //! the length of the trace.
 //!
-//! Beside it, `held` says who holds each lock, and what is wrong with an event at a lock; `threads` says which threads were
-//! joined and which are known, and what is wrong with an event by that.
+//! Beside it, `fault_finder` finds the first event that no program would give: `held` says who holds each lock, `waits` who
+//! waits at a barrier, `threads` which threads were joined and which are known.
 #![tactic(auto)]
 
 mod barriers;
 mod clocks;
 pub mod detector;
-pub mod held;
-pub mod threads;
+pub mod fault_finder;
+pub mod groups;
+mod held;
+mod threads;
 pub mod trace;
 mod variables;
 mod vectors;
+mod waits;

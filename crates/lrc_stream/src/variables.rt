@@ -1,6 +1,6 @@
 // The last accesses of variables.
-ghost use Rattle.std.specs.Prelude.{◌≡◌, ◌≢◌, ℕ, ◌<◌, [], ◌++◌, OnOk, length};
-ghost use Rattle.lrc_stream.specs.Variables.{lasts_of, noted, told_one, told_below, IsNoted, IsRowNoted, IsPlace};
+ghost use Rattle.std.specs.Prelude.{◌≡◌, ◌≢◌, ℕ, ◌<◌, ◌≤◌, [], ◌++◌, OnOk, length};
+ghost use Rattle.lrc_stream.specs.Variables.{lasts_of, noted, told_one, told_below, IsAscending, IsNoted, IsRowNoted, IsPlace};
 
 use lrc_std::event::{Pair, Placed};
 use std::alloc::{AllocError, Global};
@@ -56,14 +56,10 @@ pub fn tell(
 
 // Where the thread has its entry, or is to have it: behind all lower threads.
 fn place_of(lasts: &[Last], thread: u32) -> usize
-    ensures { IsPlace lasts.now thread result }
+    ensures within { result ≤ length lasts.now }
+    ensures place { IsAscending lasts.now → IsPlace lasts.now thread result }
 {
-    for (at, last) in lasts.iter().enumerate() {
-        if last.access.event.thread >= thread {
-            return at;
-        }
-    }
-    lasts.len()
+    lasts.partition_point(|last| last.access.event.thread < thread)
 }
 
 // The entry of a thread, with an access more.

@@ -6,3 +6,10 @@ use std::process::Abort;
 pub fn holds(rt: &impl Abort, answer: bool) {
     assert!(rt; answer);
 }
+
+/// Fails where a row was found wrong, with the row's name.
+pub fn passes(rt: &impl Abort, wrong: Option<&str>) {
+    if let Some(name) = wrong {
+        panic!(rt; "{name}");
+    }
+}

@@ -2,8 +2,8 @@
 
 use crate::checks::holds;
 use lrc_lang::fault::FaultKind;
+use lrc_lang::kind::Kind;
 use lrc_lang::token::{Keyword, Sign};
-use lrc_lint_text::kind::Kind;
 use lrc_lint_text::{push_count, push_excerpt, push_expected, push_fault, push_place};
 use std::alloc::{AllocError, Global};
 

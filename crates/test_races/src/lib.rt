@@ -1,15 +1,15 @@
-//! Tests alone: lines of traces, numbers of names, pairs that are told of traces, and faults at locks and of threads.
+//! Tests alone: lines of traces, numbers of names, pairs that are told of traces, and their groups and first faults.
 #![tactic(auto)]
 
 #[cfg(test)]
 mod cases;
 #[cfg(test)]
-mod lines;
+mod faults;
 #[cfg(test)]
-mod locks;
+mod groups;
+#[cfg(test)]
+mod lines;
 #[cfg(test)]
 mod numbers;
 #[cfg(test)]
 mod played;
-#[cfg(test)]
-mod threads;

@@ -3,6 +3,8 @@ use Rattle.lrc_lang.specs.Lexemes.{IsBlank, IsLineFeed, IsHash, IsDigit, IsLette
 use Rattle.lrc_lang.specs.Lexer.{Takes}
 use Rattle.lrc_lang.specs.Parser.View.{lexeme_of}
 use Rattle.lrc_lang.proofs.LexemesSteps.{begins_so, end_is_taken, front_is}
+use Rattle.lrc_lang.specs.Positions.{TakesHere}
+use Rattle.lrc_lang.proofs.Located.{end_here}
 use Rattle.lrc_lang.proofs.lexer.lexeme_at.Goals as goal
 
 pub returns-in-empty-clause-taken : goal.returns-in-empty-clause-taken
@@ -44,3 +46,17 @@ pub returns-in-len1-up-3-clause-shorter : goal.returns-in-len1-up-3-clause-short
 returns-in-len1-up-3-clause-shorter c =
     subst (λ text. IsShorter (lexeme_of c.sign_at.result.0) text c.sign_at.result.1.now)
     (sym (front_is c.args.text.now c.in-len1-up.len_at_least)) c.sign_at.ensures.shorter
+
+pub returns-in-empty-clause-here : goal.returns-in-empty-clause-here
+returns-in-empty-clause-here c = end_here c.args.text.now c.args.text.now c.in-empty.len_below
+
+pub returns-in-len1-up-clause-here : goal.returns-in-len1-up-clause-here
+returns-in-len1-up-clause-here c = c.number_at.ensures.here
+
+pub returns-in-len1-up-2-clause-here : goal.returns-in-len1-up-2-clause-here
+returns-in-len1-up-2-clause-here c = c.word_at.ensures.here
+
+pub returns-in-len1-up-3-clause-here : goal.returns-in-len1-up-3-clause-here
+returns-in-len1-up-3-clause-here c =
+    subst (λ text. TakesHere text (lexeme_of c.sign_at.result.0) c.sign_at.result.1.now)
+    (sym (front_is c.args.text.now c.in-len1-up.len_at_least)) c.sign_at.ensures.here

@@ -1,5 +1,6 @@
 use Rattle.std.proofs.Common.{refl, inl, inr, arith}
 use Rattle.lrc_lang.proofs.LexemesSteps.{number_is_taken, bad_number_is_taken}
+use Rattle.lrc_lang.proofs.Located.{number_here, bad_number_here}
 use Rattle.lrc_lang.proofs.lexer.number_at.Goals as goal
 
 pub returns-then-begins_with_letter-clause-taken : goal.returns-then-begins_with_letter-clause-taken
@@ -14,3 +15,16 @@ pub returns-in-None-clause-taken : goal.returns-in-None-clause-taken
 returns-in-None-clause-taken c =
     let over = c.in-None.ensures in
     bad_number_is_taken c.requires c.split_front.ensures (inl (omega (arith, over)))
+
+pub returns-then-begins_with_letter-clause-here : goal.returns-then-begins_with_letter-clause-here
+returns-then-begins_with_letter-clause-here c =
+    bad_number_here c.requires c.split_front.ensures (inr (c.if-begins_with_letter.ensures.0 refl))
+
+pub returns-in-Some-clause-here : goal.returns-in-Some-clause-here
+returns-in-Some-clause-here c =
+    number_here c.requires c.split_front.ensures (λ h. let t = c.if-begins_with_letter.ensures.1 h in absurd (cc)) c.in-Some.ensures
+
+pub returns-in-None-clause-here : goal.returns-in-None-clause-here
+returns-in-None-clause-here c =
+    let over = c.in-None.ensures in
+    bad_number_here c.requires c.split_front.ensures (inl (omega (arith, over)))

@@ -1,0 +1,58 @@
+-- What is answered.
+use Rattle.std.proofs.Common.{◌≡◌, ℕ, List, [], ◌∷◌, ◌++◌, sym, ◌∙◌, subst, append-nil}
+use Rattle.std.specs.Prelude.{Some, None, Result, Ok, Err, OnOk}
+use Rattle.lrc_lang.specs.declared.program.Program.{Program}
+use Rattle.lrc_trace.specs.declared.act.Act.{Act}
+use Rattle.lrc_consistency_laws.specs.Follows.{nodes_of_acts}
+use Rattle.lrc_consistency_laws.specs.Racing.{HasNoRace}
+use Rattle.lrc_explore.specs.declared.search.ExploreFault.{ExploreFault}
+use Rattle.lrc_explore.specs.Meeting.{Meet}
+use Rattle.lrc_explore.specs.Stuck.{GetsStuck, IsStuck}
+use Rattle.lrc_explore.specs.Verdict.{EndsInRace, NeverStuck}
+use Rattle.lrc_explore.proofs.Searching.{copy_same}
+use Rattle.lrc_explore.proofs.Ways.{noted_copy}
+use Rattle.lrc_settled.proofs.GoingOn.{back}
+use Rattle.lrc_settled.proofs.Settled.{ends_in_race}
+use Rattle.lrc_breadth.specs.declared.task.Task.{Task}
+use Rattle.lrc_breadth.specs.declared.task.Found.{Found}
+use Rattle.lrc_breadth.specs.declared.task.End.TheVariants.{Meeting, Through}
+use Rattle.lrc_breadth.specs.Answers.{IsEnd, IsFault, IsFaultOf, looked_at}
+use Rattle.lrc_breadth.specs.Reached.{AreFound, HasStart, IsTask}
+use Rattle.lrc_breadth.specs.Told.{LeadTo}
+use Rattle.lrc_breadth.proofs.Alike.{meet_alike}
+use Rattle.lrc_breadth.proofs.Reaching.{gets_stuck, never_stuck, no_race}
+
+pub race_answer : (task : Task) (found : Found) (place p q : ℕ) (acts : List Act) (order : List ℕ) → LeadTo task found place acts
+    → IsEnd task found (Meeting place p q) → order ≡ nodes_of_acts acts ++ p ∷ q ∷ [] → EndsInRace task.program.now task.flat.nodes order
+race_answer task found place p q acts order led end is =
+    let same = copy_same task.flat end.0.state led.key.state (noted_copy found.states place end.0 led.key end.1 led.there).state in
+    let meet = meet_alike (back led.alike) p q (subst (λ m. Meet m p q) same end.2) in
+    subst (EndsInRace task.program.now task.flat.nodes) (sym is) (ends_in_race task.program.now task.flat.nodes acts led.machine p q led.led meet)
+
+pub stuck_answer : (task : Task) (found : Found) (place : ℕ) (acts : List Act) (order : List ℕ) → AreFound task found → HasStart task found.states
+    → LeadTo task found place acts → IsEnd task found (Through (Some place)) → order ≡ nodes_of_acts acts ++ []
+    → HasNoRace task.program.now task.flat.nodes × GetsStuck task.program.now task.flat.nodes order
+stuck_answer task found place acts order f start led end is =
+    let key = end.2.0 in
+    let same = copy_same task.flat key.state led.key.state (noted_copy found.states place key led.key end.2.1 led.there).state in (
+      no_race task found.states f.reached start end.1 end.0,
+      subst (GetsStuck task.program.now task.flat.nodes) (sym (is ∙ append-nil (nodes_of_acts acts)))
+          (gets_stuck task led.key (f.reached.each place led.key led.there) acts led.machine led.led led.alike (subst IsStuck same end.2.2)),
+    )
+
+pub free_answer : (task : Task) (found : Found) → AreFound task found → HasStart task found.states → IsEnd task found (Through None)
+    → HasNoRace task.program.now task.flat.nodes × NeverStuck task.program.now task.flat.nodes
+free_answer task found f start end =
+    (no_race task found.states f.reached start end.1 end.0, never_stuck task found.states f.reached start end.1 end.2)
+
+pub fault_of_task : (task : Task) (program : Program) (nodes most : ℕ) (fault : ExploreFault) → IsTask task → task.program.now ≡ program
+    → task.flat.nodes ≡ nodes → task.most ≡ most → task.looked ≡ looked_at most → IsFault task fault → IsFaultOf program nodes most fault
+fault_of_task task program nodes most fault is p n m l f = record {
+  nodes_in_range = f.nodes;
+  many = λ e. record { task = task; is = is; program_is = p; nodes_are = n; most_is = m; looked_is = l; many = f.many e };
+}
+
+-- what four facts on success say together
+pub ok_four : {T E A B C D P : Type 0} (r : Result T E) → (A → B → C → D → P) → OnOk r A → OnOk r B → OnOk r C → OnOk r D → OnOk r P
+ok_four (Ok v) f a b c d = f a b c d
+ok_four (Err e) f a b c d = tt

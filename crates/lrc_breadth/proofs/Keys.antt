@@ -1,0 +1,328 @@
+-- Keys that are put to those that were found.
+use Rattle.std.proofs.Common.{◌≡◌, ℕ, zero, suc, ◌+◌, ◌<◌, ◌≤◌, List, [], ◌∷◌, ◌++◌, Bool, true, false, inl, inr, length, get_or, map, take, refl, sym, ap, ◌∙◌, subst, arith, add-one}
+use Rattle.std.specs.Prelude.{Some, slice_get, if◌then◌else◌}
+use Rattle.std.proofs.lemmas.Bool.{cases_lt, cases_eq}
+use Rattle.std.proofs.lemmas.List.{length-map, length_push}
+use Rattle.lrc_trace.specs.declared.act.Act.{Act}
+use Rattle.lrc_trace.proofs.Positions.{slice_get-seam}
+use Rattle.lrc_exec.specs.Plain.{Plain}
+use Rattle.lrc_exec.specs.Spots.{spot_thread}
+use Rattle.lrc_explore.specs.declared.noted.Noted.{Noted}
+use Rattle.lrc_explore.specs.declared.noted.NotedStates.{NotedStates}
+use Rattle.lrc_explore.specs.declared.state.State.{State}
+use Rattle.lrc_explore.specs.Kept.{Grows, IsAddedAt}
+use Rattle.lrc_explore.specs.Noted.{AreNotedDistinct, IsNotedAt, WidensNoted, noted_count}
+use Rattle.lrc_explore.specs.Notes.{notes_of, notes_with}
+use Rattle.lrc_explore.specs.States.{plain_at, IsCopy}
+use Rattle.lrc_explore.proofs.Keeping.{grows_again, grows_not, stands_on}
+use Rattle.lrc_explore.proofs.Searching.{copy_same, copy_state}
+use Rattle.lrc_explore.proofs.Standing.{step_within}
+use Rattle.lrc_explore.proofs.Stores.{added_all, full_more}
+use Rattle.lrc_explore.proofs.Ways.{IsNotedCopy, noted_grows, noted_store, noted_within, widens_further}
+use Rattle.lrc_settled.specs.Rows.{AreAlike}
+use Rattle.lrc_settled.specs.Steps.{beginning}
+use Rattle.lrc_settled.proofs.GoingOn.{back}
+use Rattle.lrc_settled.proofs.Rounds.{one_settling}
+use Rattle.lrc_steps.specs.declared.step.Step.{Step}
+use Rattle.lrc_steps.specs.declared.step.Step.TheVariants.{Alone, Together}
+use Rattle.lrc_steps.specs.Taking.{count_of, IsCounted, Takes, TakesTo, alone}
+use Rattle.lrc_breadth.specs.declared.task.Task.{Task}
+use Rattle.lrc_breadth.specs.declared.task.Origin.{Origin}
+use Rattle.lrc_breadth.specs.declared.task.Found.{Found}
+use Rattle.lrc_breadth.specs.Reached.{AreFound, CannotTake, ComesFrom, HasAfter, HasReached, HasStart, HasTakenTo, IsExpanded, IsFirstKey, IsFound}
+use Rattle.lrc_breadth.specs.Reached.{IsFrom, IsKept, IsKeyOf, IsMore, IsReached, SettlesStart, noted_on}
+use Rattle.lrc_breadth.proofs.Alike.{alike_on, alike_same, takes_once}
+use Rattle.lrc_breadth.proofs.Reaching.{Further, further, notes_on, notes_start}
+
+-- one act more
+noted_next : (acts : List Act) (i : ℕ) (d : Act) (notes : List Act) → i < length acts
+    → noted_on notes (take (suc i) acts) ≡ notes_with (noted_on notes (take i acts)) (get_or acts i d)
+noted_next [] i d notes lt = absurd (omega arith)
+noted_next (x ∷ xs) zero d notes lt = refl
+noted_next (x ∷ xs) (suc i) d notes lt = noted_next xs i d (notes_with notes x) (omega arith)
+
+pub noted_more : (acts : List Act) (i : ℕ) (d : Act) (notes : List Act) → i < length acts
+    → noted_on notes (take (i + 1) acts) ≡ notes_with (noted_on notes (take i acts)) (get_or acts i d)
+noted_more acts i d notes lt = ap (λ n. noted_on notes (take n acts)) (add-one i) ∙ noted_next acts i d notes lt
+
+-- ---- copies
+
+copy_counted : (a b : State) → IsCopy a b → IsCounted b → IsCounted a
+copy_counted a b c is =
+    c.arrivals ∙ is ∙ ap (λ spots. map count_of spots) (sym c.spots)
+
+reached_copy : (task : Task) (copy key : Noted) → IsNotedCopy copy key → IsReached task key → IsReached task copy
+reached_copy task copy key c r = record {
+  valid = copy_state task.flat copy.state key.state c.state r.valid;
+  counted = copy_counted copy.state key.state c.state r.counted;
+  acts = r.acts;
+  machine = r.machine;
+  led = r.led;
+  alike = alike_same r.alike (sym (copy_same task.flat copy.state key.state c.state));
+  noted = λ e. r.noted e ∙ sym c.notes;
+}
+
+takes_copy : (task : Task) (from : Plain) (step : Step) (acts : List Act) (copy key : Noted) → IsNotedCopy copy key
+    → TakesTo from step acts (plain_at task.flat key.state) → TakesTo from step acts (plain_at task.flat copy.state)
+takes_copy task from step acts copy key c t = record {
+  there = t.there;
+  takes = t.takes;
+  alike = alike_same t.alike (sym (copy_same task.flat copy.state key.state c.state));
+}
+
+from_copy : (task : Task) (all : NotedStates) (origin : Origin) (copy key : Noted) → IsNotedCopy copy key → IsFrom task all origin key
+    → IsFrom task all origin copy
+from_copy task all origin copy key c f = record {
+  before = f.before;
+  there = f.there;
+  acts = f.acts;
+  takes = takes_copy task (plain_at task.flat f.before.state) origin.step f.acts copy key c f.takes;
+}
+
+from_grown : (task : Task) (old new : NotedStates) (origin : Origin) (key : Noted) → WidensNoted old new → IsFrom task old origin key
+    → IsFrom task new origin key
+from_grown task old new origin key w f = record {
+  before = f.before;
+  there = noted_grows old new origin.parent f.before w f.there;
+  acts = f.acts;
+  takes = f.takes;
+}
+
+first_copy : (task : Task) (copy key : Noted) → IsNotedCopy copy key → IsFirstKey task key → IsFirstKey task copy
+first_copy task copy key c f = (f.0, f.1, f.2, alike_same f.3 (sym (copy_same task.flat copy.state key.state c.state)))
+
+-- ---- what was found
+
+pub found_none : (task : Task) (found : Found) → noted_count found.states ≡ 0 → AreNotedDistinct found.states → found.origins.items ≡ [] → AreFound task found
+found_none task found none distinct origins = record {
+  reached = record {
+    full = λ k lt. absurd (omega (arith, lt, none));
+    distinct = distinct;
+    each = λ k key at. let within = noted_within found.states k key at in absurd (omega (arith, within, none));
+  };
+  even = ap (λ l. length l) origins ∙ sym none;
+  from = λ k key pos at. let within = noted_within found.states k key at in absurd (omega (arith, within, none));
+  first = λ key at. let within = noted_within found.states 0 key at in absurd (omega (arith, within, none));
+}
+
+origins_grow : (b : Bool) (old new : List Origin) (origin : Origin) → new ≡ (if b then old ++ origin ∷ [] else old) → Grows old new
+origins_grow true old new origin is = record { more = origin ∷ []; is = is }
+origins_grow false old new origin is = grows_not old new is
+
+even_put : (b : Bool) (old new : NotedStates) (place : ℕ) (before after : List Origin) (origin : Origin)
+    → IsAddedAt (noted_count old) (noted_count new) place b → after ≡ (if b then before ++ origin ∷ [] else before)
+    → length before ≡ noted_count old → length after ≡ noted_count new
+even_put true old new place before after origin put is e =
+    ap (λ l. length l) is ∙ length_push before origin ∙ ap (λ n. n + 1) e ∙ sym put.1
+even_put false old new place before after origin put is e = ap (λ l. length l) is ∙ e ∙ sym put
+
+module _ (task : Task) (old new : Found) (key : Noted) (origin : Origin) (place : ℕ) (added : Bool) (f : AreFound task old) (r : IsReached task key)
+    (from : ComesFrom task old origin key) (w : WidensNoted old.states new.states) (distinct : AreNotedDistinct new.states)
+    (put : IsAddedAt (noted_count old.states) (noted_count new.states) place added) (at : IsNotedAt new.states place key)
+    (origins : new.origins.items ≡ (if added then old.origins.items ++ origin ∷ [] else old.origins.items)) where
+  pub more_put : IsMore old new
+  more_put = record { states = w; origins = origins_grow added old.origins.items new.origins.items origin origins }
+
+  seam : added ≡ true → slice_get new.origins.items (noted_count old.states) ≡ Some origin
+  seam e =
+      ap (λ l. slice_get l (noted_count old.states)) (origins ∙ ap (λ b. if b then old.origins.items ++ origin ∷ [] else old.origins.items) e)
+      ∙ ap (slice_get (old.origins.items ++ origin ∷ [])) (sym f.even)
+      ∙ slice_get-seam old.origins.items origin []
+
+  found_at : (k : ℕ) (x : Noted) → IsNotedAt new.states k x → 0 < k → IsFound task new k x
+  found_at k x there pos =
+      added_all IsNotedAt noted_count WidensNoted IsNotedCopy noted_store old.states new.states place added key w f.reached.full put at
+      (λ n y. 0 < n → IsFound task new n y)
+      (λ n y here positive.
+      let o = f.from n y positive here in
+      record {
+        origin = o.origin;
+        there = stands_on n o.origin more_put.origins o.there;
+        earlier = o.earlier;
+        from = from_grown task old.states new.states o.origin y w o.from;
+      })
+      (λ e copy c positive.
+      let o = from.0 positive in
+      record {
+        origin = origin;
+        there = seam e;
+        earlier = o.0;
+        from = from_copy task new.states origin copy key c (from_grown task old.states new.states origin key w o.1);
+      }) k x there pos
+
+  first_at : (k : ℕ) (x : Noted) → IsNotedAt new.states k x → k ≡ 0 → IsFirstKey task x
+  first_at =
+      added_all IsNotedAt noted_count WidensNoted IsNotedCopy noted_store old.states new.states place added key w f.reached.full put at
+      (λ n y. n ≡ 0 → IsFirstKey task y)
+      (λ n y here e. f.first y (subst (λ m. IsNotedAt old.states m y) e here))
+      (λ e copy c none. first_copy task copy key c (from.1 none))
+
+  pub found_put : AreFound task new
+  found_put = record {
+    reached = record {
+      full = full_more IsNotedAt noted_count WidensNoted IsNotedCopy noted_store old.states new.states place added key w f.reached.full put at;
+      distinct = distinct;
+      each =
+          added_all IsNotedAt noted_count WidensNoted IsNotedCopy noted_store old.states new.states place added key w f.reached.full put at
+          (λ n y. IsReached task y) f.reached.each (λ e copy c. reached_copy task copy key c r);
+    };
+    even = even_put added old.states new.states place old.origins.items new.origins.items origin put origins f.even;
+    from = λ k x pos there. found_at k x there pos;
+    first = λ x there. first_at 0 x there refl;
+  }
+
+-- ---- the key of the start
+
+module _ (task : Task) (state : State) (acts : List Act) (key : Noted) (s : SettlesStart task [] acts state) (k : IsKeyOf task state [] acts key) where
+  made : s.acts ≡ acts
+  made = sym s.made
+
+  start_noted : task.noting ≡ true → notes_of task.flat.nodes s.acts ≡ key.notes.items
+  start_noted e =
+      notes_start task.program.now task.flat.nodes s.acts s.settles.there (beginning s.acts s.settles.there s.settles.settles)
+      ∙ ap (noted_on []) made ∙ sym (k.noted e)
+
+  pub start_reached : IsReached task key
+  start_reached = record {
+    valid = k.valid;
+    counted = k.counted;
+    acts = s.acts;
+    machine = s.settles.there;
+    led = beginning s.acts s.settles.there s.settles.settles;
+    alike = alike_on s.settles.alike (back k.alike);
+    noted = start_noted;
+  }
+
+  pub start_first : IsFirstKey task key
+  start_first = (s.acts, s.settles.there, s.settles.settles, alike_on s.settles.alike (back k.alike))
+
+  pub has_start : (all : NotedStates) → IsKept all key → HasStart task all
+  has_start all kept others machine settles =
+      let one = one_settling settles s.settles.settles in
+      record {
+        place = kept.0;
+        key = key;
+        there = kept.1;
+        alike = alike_on (subst (λ m. AreAlike machine m) one.1 (record { memory = refl; holders = refl; threads = refl }))
+            (alike_on s.settles.alike (back k.alike));
+        noted = λ e. sym (start_noted e) ∙ ap (notes_of task.flat.nodes) (sym one.0);
+      }
+
+-- ---- the key of a step
+
+module _ (task : Task) (before : Noted) (step : Step) (acts : List Act) (state : State) (key : Noted) (r : IsReached task before)
+    (t : HasTakenTo task before.state step [] acts state) (k : IsKeyOf task state before.notes.items acts key) where
+  on : Further task (r.acts ++ t.acts) (plain_at task.flat state)
+  on = further task before r r.acts r.machine r.led r.alike step t.acts (plain_at task.flat state) t.takes
+
+  same : t.acts ≡ acts
+  same = sym t.made
+
+  pub next_reached : IsReached task key
+  next_reached = record {
+    valid = k.valid;
+    counted = k.counted;
+    acts = r.acts ++ t.acts;
+    machine = on.machine;
+    led = on.led;
+    alike = alike_on on.alike (back k.alike);
+    noted = λ e.
+        notes_on task.program.now task.flat.nodes r.acts t.acts on.machine on.led
+        ∙ ap (λ n. noted_on n t.acts) (r.noted e) ∙ ap (noted_on before.notes.items) same ∙ sym (k.noted e);
+  }
+
+  pub next_takes : TakesTo (plain_at task.flat before.state) step t.acts (plain_at task.flat key.state)
+  next_takes = record { there = t.takes.there; takes = t.takes.takes; alike = alike_on t.takes.alike (back k.alike) }
+
+  pub next_from : (found : Found) (place : ℕ) (origin : Origin) → origin ≡ record { parent = place; step = step } → IsNotedAt found.states place before
+      → ComesFrom task found origin key
+  next_from found place origin is at =
+      let within = noted_within found.states place before at in
+      subst (λ o. ComesFrom task found o key) (sym is) (
+        λ pos. (within, record { before = before; there = at; acts = t.acts; takes = next_takes }),
+        λ none. absurd (omega (arith, within, none)),
+      )
+
+  pub has_after : (all : NotedStates) → IsKept all key → HasAfter task all before step
+  has_after all kept others after takes =
+      let one = takes_once takes t.takes.takes in
+      record {
+        place = kept.0;
+        key = key;
+        there = kept.1;
+        alike = alike_on (subst (λ m. AreAlike after m) one.1 (record { memory = refl; holders = refl; threads = refl }))
+            (alike_on t.takes.alike (back k.alike));
+        noted = λ e. k.noted e ∙ ap (noted_on before.notes.items) (sym (one.0 ∙ same));
+      }
+
+pub has_none : (task : Task) (all : NotedStates) (before : Noted) (step : Step) → CannotTake task before.state step → HasAfter task all before step
+has_none task all before step cannot acts after takes = absurd (cannot acts after takes)
+
+reached_grown : (task : Task) (old new : NotedStates) (machine : Plain) (notes : List Act) → WidensNoted old new → HasReached task old machine notes
+    → HasReached task new machine notes
+reached_grown task old new machine notes w h = record {
+  place = h.place;
+  key = h.key;
+  there = noted_grows old new h.place h.key w h.there;
+  alike = h.alike;
+  noted = h.noted;
+}
+
+pub after_grown : (task : Task) (old new : NotedStates) (key : Noted) (step : Step) → WidensNoted old new → HasAfter task old key step
+    → HasAfter task new key step
+after_grown task old new key step w h acts after takes = reached_grown task old new after (noted_on key.notes.items acts) w (h acts after takes)
+
+pub start_grown : (task : Task) (old new : NotedStates) → WidensNoted old new → HasStart task old → HasStart task new
+start_grown task old new w h acts machine settles = reached_grown task old new machine (notes_of task.flat.nodes acts) w (h acts machine settles)
+
+pub expanded_grown : (task : Task) (old new : NotedStates) (key : Noted) → WidensNoted old new → IsExpanded task old key → IsExpanded task new key
+expanded_grown task old new key w h step = after_grown task old new key step w (h step)
+
+pub expanded_copy : (task : Task) (all : NotedStates) (copy key : Noted) → IsNotedCopy copy key → IsExpanded task all key → IsExpanded task all copy
+expanded_copy task all copy key c h step acts after takes =
+    let from = subst (λ m. Takes m step acts after) (copy_same task.flat copy.state key.state c.state) takes in
+    let r = h step acts after from in
+    record {
+      place = r.place;
+      key = r.key;
+      there = r.there;
+      alike = r.alike;
+      noted = λ e. r.noted e ∙ ap (λ n. noted_on n acts) (sym c.notes);
+    }
+
+-- past the nodes there is none that takes a step
+no_node : (task : Task) (state : State) (node : ℕ) → length state.spots.items ≤ node → CannotTake task state (Alone node)
+no_node task state node past acts after (alone machine mid _ _ deed more kind step settles) =
+    let within = step_within (plain_at task.flat state) node (deed, mid) step in
+    omega (arith, past, within, length-map state.spots.items (spot_thread task.flat))
+
+pub expanded_all : (task : Task) (all : NotedStates) (key : Noted) (last : ℕ) → length key.state.spots.items ≤ last → HasAfter task all key Together
+    → ((node : ℕ) → node < last → HasAfter task all key (Alone node)) → IsExpanded task all key
+expanded_all task all key last le all_together each Together = all_together
+expanded_all task all key last le all_together each (Alone node) = elim (cases_lt node last) [
+  | inl lt ↦ each node lt
+  | inr past ↦ has_none task all key (Alone node) (no_node task key.state node (omega (arith, le, past)))
+]
+
+pub more_again : {a b c : Found} → IsMore a b → IsMore b c → IsMore a c
+more_again v w = record { states = widens_further v.states w.states; origins = grows_again v.origins w.origins }
+
+pub more_same : (found : Found) → IsMore found found
+more_same found = record {
+  states = record {
+    states = record {
+      shared = grows_not found.states.states.shared.keys found.states.states.shared.keys refl;
+      spots = grows_not found.states.states.spots.keys found.states.states.spots.keys refl;
+      kept = grows_not found.states.states.kept.keys found.states.states.kept.keys refl;
+    };
+    ways = grows_not found.states.ways.keys found.states.ways.keys refl;
+  };
+  origins = grows_not found.origins.items found.origins.items refl;
+}
+
+pub each_more : (task : Task) (old new : NotedStates) (key : Noted) (node : ℕ) → WidensNoted old new
+    → ((k : ℕ) → k < node → HasAfter task old key (Alone k)) → HasAfter task new key (Alone node) → (k : ℕ) → k < node + 1 → HasAfter task new key (Alone k)
+each_more task old new key node w each here k lt = elim (cases_eq k node) [
+  | inl same ↦ subst (λ n. HasAfter task new key (Alone n)) (sym same) here
+  | inr apart ↦ after_grown task old new key (Alone k) w (each k (omega (arith, lt, apart)))
+]

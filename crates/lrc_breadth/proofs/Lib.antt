@@ -1,0 +1,6 @@
+pub mod Alike
+pub mod Reaching
+pub mod Keys
+pub mod Seeking
+pub mod Telling
+pub mod Answering

@@ -1,0 +1,263 @@
+-- A search that goes through what was found.
+use Rattle.std.proofs.Common.{◌≡◌, ℕ, ◌+◌, ◌<◌, ◌≤◌, List, [], true, inl, inr, refl, sym, ap, ◌∙◌, subst, arith}
+use Rattle.std.specs.Prelude.{◌↔◌, Option, Some, None, slice_get}
+use Rattle.std.specs.Option.{option_or}
+use Rattle.std.proofs.lemmas.Bool.{cases_eq}
+use Rattle.lrc_trace.specs.declared.act.Act.{Act}
+use Rattle.lrc_explore.specs.declared.noted.Noted.{Noted}
+use Rattle.lrc_explore.specs.declared.noted.NotedStates.{NotedStates}
+use Rattle.lrc_explore.specs.declared.outcomes.Outcome.{Outcome}
+use Rattle.lrc_explore.specs.contracts.noted.NotedPartialEq.TheImpl.{eq-value as noted_eq}
+use Rattle.lrc_explore.specs.Kept.{Grows}
+use Rattle.lrc_explore.specs.Meeting.{IsCalm}
+use Rattle.lrc_explore.specs.Noted.{IsNotedAt, WidensNoted, noted_count}
+use Rattle.lrc_explore.specs.Outcome.{HasOutcome, IsOutcome}
+use Rattle.lrc_explore.specs.States.{machine_begun, plain_at}
+use Rattle.lrc_explore.specs.Stuck.{IsAtRest, IsStuck}
+use Rattle.lrc_explore.proofs.Keeping.{stands_on}
+use Rattle.lrc_explore.proofs.Searching.{copy_same}
+use Rattle.lrc_explore.proofs.Stores.{before, listed, listed_apart}
+use Rattle.lrc_explore.proofs.Ways.{IsNotedCopy, noted_apart, noted_copy, noted_grows, noted_store, noted_within}
+use Rattle.lrc_explore.specs.declared.state.State.{State}
+use Rattle.lrc_explore.specs.declared.search.ExploreFault.{ExploreFault}
+use Rattle.lrc_explore.specs.declared.search.ExploreFault.TheVariants.{BadNodes, TooMany}
+use Rattle.lrc_exec.specs.Plain.{plain_start, thread_in}
+use Rattle.lrc_search.specs.Settling.{MakesFree}
+use Rattle.lrc_settled.specs.Steps.{IsSettledOutcome}
+use Rattle.lrc_settled.proofs.GoingOn.{back, state_fine}
+use Rattle.lrc_settled.proofs.Settled.{outcomes}
+use Rattle.lrc_breadth.specs.declared.task.Task.{Task}
+use Rattle.lrc_breadth.specs.declared.task.Found.{Found}
+use Rattle.lrc_breadth.specs.Reached.{AreCalm, AreExpanded, AreFound, AreNowhereStuck, AreReached, HasStart, IsExpanded, IsMore, IsReached, IsTask}
+use Rattle.lrc_breadth.specs.Answers.{AddsOnly, AreGathered, AreSound, HasMoreSettled, IsFault, IsLongFault, starts_long, settles_long, has_more, IsGathered, IsGatheredAt, IsSeen, IsStuckFirst}
+use Rattle.lrc_breadth.proofs.Alike.{rest_alike}
+use Rattle.lrc_breadth.proofs.Keys.{expanded_copy, expanded_grown, more_again, more_same}
+use Rattle.lrc_breadth.proofs.Reaching.{all_reached, fine_key}
+
+-- what is at an old place was there
+was_there : (old new : NotedStates) (k : ℕ) (key : Noted) → WidensNoted old new → ((n : ℕ) → n < noted_count old → (x : Noted) × IsNotedAt old n x)
+    → k < noted_count old → IsNotedAt new k key → IsNotedAt old k key
+was_there old new k key w full lt at = before IsNotedAt noted_count WidensNoted IsNotedCopy noted_store old new k key w (full k lt) at
+
+same_plain : (task : Task) (all : NotedStates) (k : ℕ) (a b : Noted) → IsNotedAt all k a → IsNotedAt all k b
+    → plain_at task.flat a.state ≡ plain_at task.flat b.state
+same_plain task all k a b x y = copy_same task.flat a.state b.state (noted_copy all k a b x y).state
+
+-- ---- for a meeting
+
+abbrev pub IsStuckSoFar : Task → NotedStates → (index : ℕ) → Option ℕ → Type 0
+IsStuckSoFar task all index None = AreNowhereStuck task all index
+IsStuckSoFar task all index (Some place) = (key : Noted) × IsNotedAt all place key × IsStuck (plain_at task.flat key.state)
+
+pub record Seeking (task : Task) (first now : Found) (place : ℕ) (stuck : Option ℕ) : Type 0 where
+  pub found : AreFound task now
+  pub more : IsMore first now
+  pub calm : AreCalm task now.states place
+  pub expanded : AreExpanded task now.states place
+  pub halted : IsStuckSoFar task now.states place stuck
+
+pub seeking_first : (task : Task) (found : Found) → AreFound task found → Seeking task found found 0 None
+seeking_first task found f = record {
+  found = f;
+  more = more_same found;
+  calm = λ k key lt at. absurd (omega (arith, lt));
+  expanded = λ k lt. absurd (omega (arith, lt));
+  halted = λ k key lt at. absurd (omega (arith, lt));
+}
+
+module _ (task : Task) (first old new : Found) (place : ℕ) (stuck : Option ℕ) (s : Seeking task first old place stuck) (f : AreFound task new)
+    (m : IsMore old new) (within : place < noted_count old.states) where
+  old_at : (k : ℕ) (key : Noted) → k < place → IsNotedAt new.states k key → IsNotedAt old.states k key
+  old_at k key lt at = was_there old.states new.states k key m.states s.found.reached.full (omega (arith, lt, within)) at
+
+  pub expanded_on : AreExpanded task new.states place
+  expanded_on k lt key at = expanded_grown task old.states new.states key m.states (s.expanded k lt key (old_at k key lt at))
+
+  seen_expanded : IsSeen task new place → AreExpanded task new.states (place + 1)
+  seen_expanded seen k lt key at = elim (cases_eq k place) [
+    | inl same ↦
+        expanded_copy task new.states key seen.key
+        (noted_copy new.states place key seen.key (subst (λ n. IsNotedAt new.states n key) same at) seen.there) seen.expanded
+    | inr apart ↦ expanded_on k (omega (arith, lt, apart)) key at
+  ]
+
+  seen_calm : IsSeen task new place → AreCalm task new.states (place + 1)
+  seen_calm seen k key lt at = elim (cases_eq k place) [
+    | inl same ↦
+        subst IsCalm (same_plain task new.states place seen.key key seen.there (subst (λ n. IsNotedAt new.states n key) same at)) seen.calm
+    | inr apart ↦ s.calm k key (omega (arith, lt, apart)) (old_at k key (omega (arith, lt, apart)) at)
+  ]
+
+  nowhere_on : (seen : IsSeen task new place) → (IsStuck (plain_at task.flat seen.key.state) → ⊥) → AreNowhereStuck task old.states place
+      → AreNowhereStuck task new.states (place + 1)
+  nowhere_on seen never nowhere k key lt at = elim (cases_eq k place) [
+    | inl same ↦ λ halted.
+        never (subst IsStuck (same_plain task new.states place key seen.key (subst (λ n. IsNotedAt new.states n key) same at) seen.there) halted)
+    | inr apart ↦ nowhere k key (omega (arith, lt, apart)) (old_at k key (omega (arith, lt, apart)) at)
+  ]
+
+  past_on : (seen : IsSeen task new place) → (IsStuck (plain_at task.flat seen.key.state) → ⊥) → (o : Option ℕ) → IsStuckSoFar task old.states place o
+      → IsStuckSoFar task new.states (place + 1) o
+  past_on seen never None nowhere = nowhere_on seen never nowhere
+  past_on seen never (Some at) is = (is.0, noted_grows old.states new.states at is.0 m.states is.1, is.2)
+
+  stuck_on : (seen : IsSeen task new place) → IsStuck (plain_at task.flat seen.key.state) → (o : Option ℕ) → IsStuckSoFar task old.states place o
+      → IsStuckSoFar task new.states (place + 1) (option_or o (Some place))
+  stuck_on seen halted None nowhere = (seen.key, seen.there, halted)
+  stuck_on seen halted (Some at) is = (is.0, noted_grows old.states new.states at is.0 m.states is.1, is.2)
+
+  pub seeking_past : (seen : IsSeen task new place) → (IsStuck (plain_at task.flat seen.key.state) → ⊥) → Seeking task first new (place + 1) stuck
+  seeking_past seen never = record {
+    found = f;
+    more = more_again s.more m;
+    calm = seen_calm seen;
+    expanded = seen_expanded seen;
+    halted = past_on seen never stuck s.halted;
+  }
+
+  pub seeking_stuck : (seen : IsSeen task new place) → IsStuck (plain_at task.flat seen.key.state)
+      → Seeking task first new (place + 1) (option_or stuck (Some place))
+  seeking_stuck seen halted = record {
+    found = f;
+    more = more_again s.more m;
+    calm = seen_calm seen;
+    expanded = seen_expanded seen;
+    halted = stuck_on seen halted stuck s.halted;
+  }
+
+pub stuck_end : (task : Task) (all : NotedStates) (index : ℕ) → noted_count all ≤ index → (o : Option ℕ) → IsStuckSoFar task all index o → IsStuckFirst task all o
+stuck_end task all index le None nowhere = λ k key lt at. nowhere k key (omega (arith, lt, le)) at
+stuck_end task all index le (Some place) is = is
+
+-- ---- for outcomes
+
+pub record Gathering (task : Task) (first now : Found) (outcomes : List Outcome) (place : ℕ) : Type 0 where
+  pub found : AreFound task now
+  pub more : IsMore first now
+  pub sound : AreSound task outcomes
+  pub done : AreGathered task now.states outcomes place
+
+abbrev nothing : List Outcome
+nothing = []
+
+none_in : (k : ℕ) (outcome : Outcome) → slice_get nothing k ≡ Some outcome → ⊥
+none_in k outcome e = cc
+
+pub gathering_first : (task : Task) (found : Found) (outcomes : List Outcome) → AreFound task found → outcomes ≡ [] → Gathering task found found outcomes 0
+gathering_first task found outcomes f none = record {
+  found = f;
+  more = more_same found;
+  sound = λ k outcome at. absurd (none_in k outcome (ap (λ l. slice_get l k) (sym none) ∙ at));
+  done = λ k lt. absurd (omega (arith, lt));
+}
+
+gathered_grown : (task : Task) (old new : NotedStates) (some more : List Outcome) (key : Noted) → WidensNoted old new → Grows some more
+    → IsGathered task old some key → IsGathered task new more key
+gathered_grown task old new some more key w g d = record {
+  expanded = expanded_grown task old new key w d.expanded;
+  gathered = λ still.
+      let o = d.gathered still in
+      record { place = o.place; outcome = o.outcome; there = stands_on o.place o.outcome g o.there; same = o.same };
+}
+
+pub gathering_on : (task : Task) (first old new : Found) (some more : List Outcome) (place : ℕ) → Gathering task first old some place → AreFound task new
+    → IsMore old new → Grows some more → AreSound task more → IsGatheredAt task new.states more place → place < noted_count old.states
+    → Gathering task first new more (place + 1)
+gathering_on task first old new some more place g f m grown sound here within = record {
+  found = f;
+  more = more_again g.more m;
+  sound = sound;
+  done = λ k lt key at. elim (cases_eq k place) [
+    | inl same ↦ here key (subst (λ n. IsNotedAt new.states n key) same at)
+    | inr apart ↦
+        let there = was_there old.states new.states k key m.states g.found.reached.full (omega (arith, lt, apart, within)) at in
+        gathered_grown task old.states new.states some more key m.states grown (g.done k (omega (arith, lt, apart)) key there)
+  ];
+}
+
+pub gathered_at : (task : Task) (old new : NotedStates) (outcomes : List Outcome) (place : ℕ) (key : Noted) → WidensNoted old new → IsNotedAt old place key
+    → IsExpanded task new key → (IsAtRest (plain_at task.flat key.state) → HasOutcome outcomes key.notes.items) → IsGatheredAt task new outcomes place
+gathered_at task old new outcomes place key w there expanded gathered other at =
+    let copy = noted_copy new place other key at (noted_grows old new place key w there) in
+    record {
+      expanded = expanded_copy task new other key copy expanded;
+      gathered = λ still.
+          let o = gathered (subst IsAtRest (copy_same task.flat other.state key.state copy.state) still) in
+          record { place = o.place; outcome = o.outcome; there = o.there; same = o.same ∙ sym copy.notes };
+    }
+
+pub sound_on : (task : Task) (old new : List Outcome) (key : Noted) → AreSound task old → AddsOnly old new key.notes.items → IsReached task key
+    → IsAtRest (plain_at task.flat key.state) → AreSound task new
+sound_on task old new key sound adds r still k outcome at noting = elim (adds k outcome at) [
+  | inl there ↦ sound k outcome there noting
+  | inr same ↦ record {
+    acts = r.acts;
+    machine = r.machine;
+    led = r.led;
+    still = rest_alike (plain_at task.flat key.state) r.machine (fine_key task key r) (state_fine r.led) (back r.alike) still;
+    are = r.noted noting ∙ sym same;
+  }
+]
+
+pub exact : (task : Task) (all : NotedStates) (found : List Outcome) → AreReached task all → HasStart task all → AreSound task found
+    → AreGathered task all found (noted_count all) → task.noting ≡ true → (notes : List Act)
+    → (HasOutcome found notes ↔ IsOutcome task.program.now task.flat.nodes notes)
+exact task all found reached start sound done noting notes =
+    let law = outcomes task.program.now task.flat.nodes notes in (
+      λ has. law.1 (subst (IsSettledOutcome task.program.now task.flat.nodes) has.same (sound has.place has.outcome has.there noting)),
+      λ is.
+          let o = law.0 is in
+          let has = all_reached task all reached start (λ k lt key at. (done k lt key at).expanded) o.led in
+          let key = has.key in
+          let still = rest_alike o.machine (plain_at task.flat key.state) (state_fine o.led) (fine_key task key (reached.each has.place key has.there))
+          has.alike o.still in
+          let h = (done has.place (noted_within all has.place key has.there) key has.there).gathered still in
+          record { place = h.place; outcome = h.outcome; there = h.there; same = h.same ∙ has.noted noting ∙ o.are },
+    )
+
+-- ---- too many states
+
+pub has_more_settled : (task : Task) (all : NotedStates) (most : ℕ) → AreReached task all → most < noted_count all → HasMoreSettled task most
+has_more_settled task all most reached many =
+    let items = listed IsNotedAt noted_count WidensNoted IsNotedCopy noted_store all reached.full in
+    record {
+      keys = items.list;
+      many = subst (λ n. most < n) (sym items.long) many;
+      distinct = listed_apart IsNotedAt noted_count WidensNoted IsNotedCopy noted_store noted_eq.it all (noted_apart all reached.distinct) items;
+      each = λ k key there. reached.each k key (items.at k key there);
+    }
+
+pub too_many_states : (task : Task) (all : NotedStates) → AreReached task all → task.most < noted_count all → IsFault task TooMany
+too_many_states task all reached many = record {
+  nodes = λ e. cc;
+  many = λ e. has_more (has_more_settled task all task.most reached many);
+}
+
+-- a fault of a step
+pub fault_of : (task : Task) (key : Noted) (fault : ExploreFault) → IsReached task key → IsLongFault task key.state fault → IsFault task fault
+fault_of task key fault r f = record {
+  nodes = f.nodes;
+  many = λ e. settles_long (record {
+    acts = r.acts;
+    machine = r.machine;
+    led = r.led;
+    like = plain_at task.flat key.state;
+    alike = r.alike;
+    long = f.many e;
+  });
+}
+
+-- the fault of the start
+pub long_start : (task : Task) (state : State) → IsTask task → plain_at task.flat state ≡ machine_begun task.flat task.start
+    → (k : ℕ) × MakesFree task.looked (thread_in (plain_at task.flat state) k) → (fault : ExploreFault) → fault ≡ TooMany → IsFault task fault
+long_start task state is begun makes fault too_many = record {
+  nodes = λ e. let x : TooMany ≡ BadNodes = sym too_many ∙ e in cc;
+  many = λ e. starts_long (record {
+    order = [];
+    acts = [];
+    there = plain_start task.program.now task.flat.nodes;
+    led = refl;
+    node = makes.0;
+    makes = subst (λ m. MakesFree task.looked (thread_in m makes.0)) (begun ∙ is.begun) makes.1;
+  });
+}

@@ -1,0 +1,23 @@
+use Rattle.std.proofs.Common.{List}
+use Rattle.std.specs.Prelude.{◌↔◌}
+use Rattle.lrc_trace.specs.declared.act.Act.{Act}
+use Rattle.lrc_explore.specs.Noted.{noted_count}
+use Rattle.lrc_explore.specs.Outcome.{HasOutcome, IsOutcome}
+use Rattle.lrc_breadth.specs.Answers.{AreGathered, AreSound}
+use Rattle.lrc_breadth.specs.Reached.{AreFound, IsMore}
+use Rattle.lrc_breadth.proofs.Answering.{ok_four}
+use Rattle.lrc_breadth.proofs.Keys.{start_grown}
+use Rattle.lrc_breadth.proofs.Seeking.{exact}
+use Rattle.lrc_breadth.proofs.task.Found.all_outcomes.Goals as goal
+
+pub returns-clause-exact : goal.returns-clause-exact
+returns-clause-exact c =
+    let task = c.args.task.now in
+    let old = c.begin.new.self in
+    let new = c.gather.new.self in
+    let found = c.gather.new.outcomes.keys in
+    let e = c.gather.ensures in
+    let say = λ (f : AreFound task new) (m : IsMore old new) (s : AreSound task found) (d : AreGathered task new.states found (noted_count new.states)) (notes : List Act).
+    exact task new.states found f.reached (start_grown task old.states new.states m.states c.in_ok-begin.ensures.start) s d c.requires.noting notes in
+    ok_four {A = AreFound task new} {B = IsMore old new} {C = AreSound task found} {D = AreGathered task new.states found (noted_count new.states)}
+    {P = (notes : List Act) → (HasOutcome found notes ↔ IsOutcome task.program.now task.flat.nodes notes)} c.gather.result say e.found e.more e.sound e.done

@@ -1,0 +1,151 @@
+-- States that a search through the settled states has found.
+use Rattle.std.specs.Prelude.{◌≡◌, ℕ, ◌<◌, ◌≤◌, true, List, [], ◌∷◌, ◌++◌, Some, length, slice_get}
+use Rattle.lrc_trace.specs.declared.act.Act.{Act}
+use Rattle.lrc_exec.specs.Plain.{Plain, plain_start}
+use Rattle.lrc_exec.specs.Spots.{IsFlat}
+use Rattle.lrc_explore.specs.declared.noted.Noted.{Noted}
+use Rattle.lrc_explore.specs.declared.noted.NotedStates.{NotedStates}
+use Rattle.lrc_explore.specs.Noted.{AreNotedDistinct, AreNotedFull, IsNotedAt, WidensNoted, noted_count}
+use Rattle.lrc_explore.specs.declared.state.State.{State}
+use Rattle.lrc_explore.specs.Notes.{notes_of, notes_with}
+use Rattle.lrc_explore.specs.Kept.{Grows}
+use Rattle.lrc_explore.specs.Meeting.{IsCalm}
+use Rattle.lrc_explore.specs.States.{machine_begun, plain_at, IsStateOf}
+use Rattle.lrc_explore.specs.Stuck.{IsStuck}
+use Rattle.lrc_settled.specs.Rows.{AreAlike}
+use Rattle.lrc_settled.specs.Settling.{Settles}
+use Rattle.lrc_settled.specs.Steps.{IsSettledState}
+use Rattle.lrc_steps.specs.declared.step.Step.{Step}
+use Rattle.lrc_steps.specs.Gone.{SettlesTo}
+use Rattle.lrc_steps.specs.Taking.{IsCounted, Takes, TakesTo}
+use Rattle.lrc_breadth.specs.declared.task.Task.{Task}
+use Rattle.lrc_breadth.specs.declared.task.Origin.{Origin}
+use Rattle.lrc_breadth.specs.declared.task.Found.{Found}
+
+-- the code is the program's
+pub record IsTask (task : Task) : Type 0 where
+  pub flat : IsFlat task.flat
+  pub placed : task.start ≤ length task.flat.code.now
+  pub begun : machine_begun task.flat task.start ≡ plain_start task.program.now task.flat.nodes
+
+-- notes with several acts more
+abbrev pub noted_on : List Act → List Act → List Act
+noted_on notes [] = notes
+noted_on notes (act ∷ acts) = noted_on (notes_with notes act) acts
+
+-- a settled state of the program stands behind what is kept: the same words, holders of locks and threads, and if notes are kept
+-- the notes of the acts that lead there
+pub record IsReached (task : Task) (key : Noted) : Type 0 where
+  pub valid : IsStateOf task.flat key.state
+  pub counted : IsCounted key.state
+  pub acts : List Act
+  pub machine : Plain
+  pub led : IsSettledState task.program.now task.flat.nodes acts machine
+  pub alike : AreAlike machine (plain_at task.flat key.state)
+  pub noted : task.noting ≡ true → notes_of task.flat.nodes acts ≡ key.notes.items
+
+-- so it is of all, and each stands once
+pub record AreReached (task : Task) (all : NotedStates) : Type 0 where
+  pub full : AreNotedFull all
+  pub distinct : AreNotedDistinct all
+  pub each : (k : ℕ) (key : Noted) → IsNotedAt all k key → IsReached task key
+
+-- one of the states stands for this one, with these notes if notes are kept
+pub record HasReached (task : Task) (all : NotedStates) (machine : Plain) (notes : List Act) : Type 0 where
+  pub place : ℕ
+  pub key : Noted
+  pub there : IsNotedAt all place key
+  pub alike : AreAlike machine (plain_at task.flat key.state)
+  pub noted : task.noting ≡ true → key.notes.items ≡ notes
+
+-- the states have what this step leads to from one of them
+abbrev pub HasAfter : Task → NotedStates → Noted → Step → Type 0
+HasAfter task all key step = (acts : List Act) (after : Plain) → Takes (plain_at task.flat key.state) step acts after
+    → HasReached task all after (noted_on key.notes.items acts)
+
+-- they have what every step leads to from it
+abbrev pub IsExpanded : Task → NotedStates → Noted → Type 0
+IsExpanded task all key = (step : Step) → HasAfter task all key step
+
+-- they have it from that at a place, and from those before an index
+abbrev pub IsExpandedAt : Task → NotedStates → (place : ℕ) → Type 0
+IsExpandedAt task all place = (key : Noted) → IsNotedAt all place key → IsExpanded task all key
+
+abbrev pub AreExpanded : Task → NotedStates → (index : ℕ) → Type 0
+AreExpanded task all index = (k : ℕ) → k < index → IsExpandedAt task all k
+
+-- they have the settled start of the program
+abbrev pub HasStart : Task → NotedStates → Type 0
+HasStart task all = (acts : List Act) (machine : Plain) → Settles (plain_start task.program.now task.flat.nodes) acts machine
+    → HasReached task all machine (notes_of task.flat.nodes acts)
+
+-- a step leads from an earlier state to this one
+pub record IsFrom (task : Task) (all : NotedStates) (origin : Origin) (key : Noted) : Type 0 where
+  pub before : Noted
+  pub there : IsNotedAt all origin.parent before
+  pub acts : List Act
+  pub takes : TakesTo (plain_at task.flat before.state) origin.step acts (plain_at task.flat key.state)
+
+-- how the state at this place was found
+pub record IsFound (task : Task) (found : Found) (place : ℕ) (key : Noted) : Type 0 where
+  pub origin : Origin
+  pub there : slice_get found.origins.items place ≡ Some origin
+  pub earlier : origin.parent < place
+  pub from : IsFrom task found.states origin key
+
+-- the first state is where the program's start settles
+abbrev pub IsFirstKey : Task → Noted → Type 0
+IsFirstKey task key = (acts : List Act) × (machine : Plain) × Settles (plain_start task.program.now task.flat.nodes) acts machine
+    × AreAlike machine (plain_at task.flat key.state)
+
+-- all that was found stands for settled states, and of each but the first it is known from where it was found
+pub record AreFound (task : Task) (found : Found) : Type 0 where
+  pub reached : AreReached task found.states
+  pub even : length found.origins.items ≡ noted_count found.states
+  pub from : (k : ℕ) (key : Noted) → 0 < k → IsNotedAt found.states k key → IsFound task found k key
+  pub first : (key : Noted) → IsNotedAt found.states 0 key → IsFirstKey task key
+
+-- what was found stays at its places, and there may be more
+pub record IsMore (old new : Found) : Type 0 where
+  pub states : WidensNoted old.states new.states
+  pub origins : Grows old.origins.items new.origins.items
+
+-- a step makes these acts, put to those before, and leads from this state to that one
+pub record HasTakenTo (task : Task) (state : State) (step : Step) (before after : List Act) (new : State) : Type 0 where
+  pub valid : IsStateOf task.flat new
+  pub acts : List Act
+  pub takes : TakesTo (plain_at task.flat state) step acts (plain_at task.flat new)
+  pub made : after ≡ before ++ acts
+
+-- no step does
+abbrev pub CannotTake : Task → State → Step → Type 0
+CannotTake task state step = (acts : List Act) (after : Plain) → ¬ Takes (plain_at task.flat state) step acts after
+
+-- the key stands for a state, and has its notes with these acts if notes are kept
+pub record IsKeyOf (task : Task) (state : State) (notes acts : List Act) (key : Noted) : Type 0 where
+  pub valid : IsStateOf task.flat key.state
+  pub counted : IsCounted key.state
+  pub alike : AreAlike (plain_at task.flat key.state) (plain_at task.flat state)
+  pub noted : task.noting ≡ true → key.notes.items ≡ noted_on notes acts
+
+-- some place keeps it
+abbrev pub IsKept : NotedStates → Noted → Type 0
+IsKept all key = (place : ℕ) × IsNotedAt all place key
+
+-- the program's start settles to this state: the acts were put to those before
+pub record SettlesStart (task : Task) (before after : List Act) (state : State) : Type 0 where
+  pub acts : List Act
+  pub settles : SettlesTo (plain_start task.program.now task.flat.nodes) acts (plain_at task.flat state)
+  pub made : after ≡ before ++ acts
+
+-- from where it was found, if it is not the first
+abbrev pub ComesFrom : Task → Found → Origin → Noted → Type 0
+ComesFrom task found origin key = (0 < noted_count found.states → (origin.parent < noted_count found.states) × IsFrom task found.states origin key)
+    × (noted_count found.states ≡ 0 → IsFirstKey task key)
+
+-- no two nodes meet at the states before an index, and the program is stuck at none of them
+abbrev pub AreCalm : Task → NotedStates → (index : ℕ) → Type 0
+AreCalm task all index = (k : ℕ) (key : Noted) → k < index → IsNotedAt all k key → IsCalm (plain_at task.flat key.state)
+
+abbrev pub AreNowhereStuck : Task → NotedStates → (index : ℕ) → Type 0
+AreNowhereStuck task all index = (k : ℕ) (key : Noted) → k < index → IsNotedAt all k key → ¬ IsStuck (plain_at task.flat key.state)

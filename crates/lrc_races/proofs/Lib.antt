@@ -1,0 +1,5 @@
+mod ActLemmas
+mod NamingLemmas
+mod TextLemmas
+mod JudgedLemmas
+mod SessionLemmas

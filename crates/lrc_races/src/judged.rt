@@ -1,0 +1,137 @@
+// A trace as it is judged, one event after another.
+ghost use Rattle.std.specs.Prelude.{◌≡◌, ◌+◌, [], Bool, IfErr, IfOk, OnErr, OnOk};
+ghost use Rattle.lrc_names.specs.Line.{saying_of};
+ghost use Rattle.lrc_races.specs.declared.fault.Fault.TheVariants.{NoMemory};
+ghost use Rattle.lrc_races.specs.declared.form.Form.{Form as AnyForm};
+ghost use Rattle.lrc_races.specs.Tables.{naming_of};
+ghost use Rattle.lrc_races.specs.Judged.{HasJudged, HasJudgedOne, HasToldAll, IsTelling};
+
+use crate::fault::Fault;
+use crate::form::Form;
+use crate::naming::Names;
+use crate::spelling::{push_end, push_pairs};
+use lrc_names::line::Named;
+use lrc_std::event::{Event, Pair};
+use lrc_stream::detector::Detector;
+use lrc_stream::fault_finder::FaultFinder;
+use lrc_stream::groups::Groups;
+use std::alloc::{AllocError, Global};
+
+/// What is known of the events so far.
+#[derive(Drop)]
+pub struct Judged {
+    pub names: Names,
+    pub detector: Detector,
+    pub finder: FaultFinder,
+    pub groups: Groups,
+    /// How many pairs are told.
+    pub races: u64,
+    /// The pairs that are told of the last event.
+    pub told: Vec<Pair>,
+    /// What is to be printed next.
+    pub text: Vec<u8>,
+}
+
+// Adds the lines of pairs, or puts the pairs into their groups.
+fn tell(
+    groups: &mut Groups,
+    text: &mut Vec<u8>,
+    out: &mut Vec<u8>,
+    form: Form,
+    group: bool,
+    names: &Names,
+    told: &[Pair],
+) -> Result<(), AllocError>
+    ensures ok { OnOk result (IsTelling form group (naming_of names.now) told.now groups.old groups.new out.old.items out.new.items) }
+    ensures err { OnErr result (out.new.items ≡ out.old.items) }
+{
+    if group {
+        groups.take(told)?;
+        return Ok(());
+    }
+    text.clear();
+    push_pairs(text, form, names, told)?;
+    out.extend_from_slice(text.as_slice())?;
+    Ok(())
+}
+
+// The sum of two numbers.
+fn sum(one: u64, other: u64) -> Result<u64, Fault>
+    ensures ok { IfOk result (λ both. both ≡ one + other) }
+    ensures err { IfErr result (λ fault. fault ≡ NoMemory) }
+{
+    match one.checked_add(other) {
+        Some(both) => Ok(both),
+        None => Err(Fault::NoMemory),
+    }
+}
+
+impl Judged {
+    /// Before any event.
+    pub fn new(alloc: Global) -> Judged
+        ensures { (form : AnyForm) (group : Bool) → HasJudged form group [] [] result }
+    {
+        Judged {
+            names: Names::new(alloc),
+            detector: Detector::new(alloc),
+            finder: FaultFinder::new(alloc),
+            groups: Groups::new(alloc),
+            races: 0,
+            told: Vec::new(alloc),
+            text: Vec::new(alloc),
+        }
+    }
+
+    /// Takes the event that a line names, and adds the lines of the races that are told of it, or puts them into their groups.
+    pub fn take(
+        &mut self,
+        form: Form,
+        group: bool,
+        named: Named<'_>,
+        line: u64,
+        out: &mut Vec<u8>,
+    ) -> Result<(), Fault>
+        ensures ok { OnOk result (HasJudgedOne form group (record { line = line; saying = saying_of named.entry }) self.old out.old.items self.new out.new.items) }
+        ensures err { OnErr result (out.new.items ≡ out.old.items) }
+        ensures memory { IfErr result (λ fault. fault ≡ NoMemory) }
+    {
+        if self.detector.position >= u64::MAX - 1 {
+            return Err(Fault::NoMemory);
+        }
+        let event = self.names.event(named, line)?;
+        self.detector.take(event, &mut self.told)?;
+        self.finder.take(event)?;
+        self.races = sum(self.races, self.told.len() as u64)?;
+        tell(
+            &mut self.groups,
+            &mut self.text,
+            out,
+            form,
+            group,
+            &self.names,
+            self.told.as_slice(),
+        )?;
+        Ok(())
+    }
+
+    /// Adds what is told at the end: the groups, what is not well formed, and the last line. Answers the status of the program:
+    /// 3 where a race was told, else 0.
+    pub fn end(&mut self, form: Form, out: &mut Vec<u8>) -> Result<u8, AllocError>
+        ensures ok { IfOk result (HasToldAll form self.old out.old.items out.new.items) }
+        ensures err { OnErr result (out.new.items ≡ out.old.items) }
+    {
+        let races = self.races;
+        self.text.clear();
+        push_end(
+            &mut self.text,
+            form,
+            &self.names,
+            self.groups.list(),
+            self.finder.fault(),
+            races,
+            self.detector.position,
+        )?;
+        out.extend_from_slice(self.text.as_slice())?;
+        Ok(if races == 0 { 0 } else { 3 })
+    }
+}

@@ -1,0 +1,11 @@
+//! What `races` prints of a trace, block by block: the events of its lines, the races that are told of them, groups of races, and
+//! the first event that no program would give.
+#![tactic(auto)]
+
+pub mod acts;
+pub mod fault;
+pub mod form;
+pub mod judged;
+pub mod naming;
+pub mod session;
+pub mod spelling;

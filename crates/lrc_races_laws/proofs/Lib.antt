@@ -1,0 +1,9 @@
+pub mod Operations
+pub mod Episodes
+pub mod Orders
+pub mod Racing
+pub mod StepRaces
+pub mod StepDeeds
+pub mod Holding
+pub mod Formed
+pub mod StepsFormed

@@ -1,0 +1,5 @@
+pub mod OneNode
+pub mod Parts
+pub mod SoFar
+pub mod Departing
+pub mod Taken

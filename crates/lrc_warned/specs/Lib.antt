@@ -1,0 +1,13 @@
+pub mod Access
+pub mod Blocks
+pub mod Constant
+pub mod Derived
+pub mod Found
+pub mod Held
+pub mod Inside
+pub mod Locks
+pub mod Names
+pub mod Operations
+pub mod Places
+pub mod Words
+pub mod Under

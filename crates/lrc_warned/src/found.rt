@@ -1,0 +1,73 @@
+// What is warned of, and where.
+
+ghost use Rattle.std.specs.Prelude.{◌≡◌, ◌++◌, OnOk};
+ghost use Rattle.lrc_warned.specs.Found.{found_at};
+
+use lrc_lang::program::{Expression, Statement};
+use std::alloc::AllocError;
+
+/// What is warned of. Words and locks are told by number, names by the number that they have in the program.
+#[derive(Clone, Copy)]
+pub enum Kind {
+    /// A name that some expression reads and no statement sets.
+    NeverSet(u8),
+    /// A name that some statement sets and no expression reads.
+    NeverRead(u8),
+    /// A shared access of a constant that is not below the number of words.
+    NoSuchWord(u64),
+    /// An acquire or a release of a constant that is not below the number of locks.
+    NoSuchLock(u64),
+    /// A division by the constant 0.
+    DivisionByZero,
+    /// A comparison that says of a value whether it is below 0: whether it always holds.
+    BelowZero(bool),
+    /// A word that is read and that no statement writes.
+    NeverWritten(u32),
+    /// An acquire of a lock that is held there.
+    HeldAlready(u8),
+    /// A release of a lock that is not held there.
+    NotHeld(u8),
+    /// A barrier where a lock is held, the least.
+    HeldAtBarrier(u8),
+    /// A lock that is acquired and that no statement releases.
+    NeverReleased(u8),
+    /// An `if` on `me` whose blocks have not as many barriers.
+    UnevenBarriers,
+    /// A `while` on `me` with a barrier in it.
+    UncertainRounds,
+    /// A `while` in which nothing changes its condition.
+    UnchangedCondition,
+    /// A `while` that waits for a shared word, without an acquire or a barrier in it.
+    LearnsNothing,
+}
+
+/// A warning, and the token at which it stands, by its place among the tokens of the text, from 0.
+#[derive(Clone, Copy)]
+pub struct Found {
+    pub at: usize,
+    pub kind: Kind,
+}
+
+/// A statement of a program, and the place of its first token.
+#[derive(Clone, Copy)]
+pub struct StatementAt<'p> {
+    pub at: u32,
+    pub statement: &'p Statement,
+}
+
+/// A part of an expression, and the place of its token: of a part that joins two operands, of the sign between them.
+#[derive(Clone, Copy)]
+pub struct NodeAt<'p> {
+    pub at: u32,
+    pub node: &'p Expression,
+}
+
+/// Adds a warning at this place, if there is one.
+pub fn push_found(out: &mut Vec<Found>, at: usize, kind: Option<Kind>) -> Result<(), AllocError>
+    ensures { OnOk result (out.new.items ≡ out.old.items ++ found_at at kind) }
+{
+    if let Some(kind) = kind {
+        out.push(Found { at, kind })?;
+    }
+    Ok(())
+}

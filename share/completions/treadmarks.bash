@@ -1,0 +1,56 @@
+# Completion of the words of treadmarks for bash: `source share/completions/treadmarks.bash`.
+
+# The options of a command.
+_treadmarks_options() {
+    case $1 in
+    plain) echo "--nodes --steps" ;;
+    sim) echo "--nodes --steps --collect --order --page --events --seed" ;;
+    run) echo "--nodes --steps --collect --order --page" ;;
+    trace) echo "--nodes --steps --collect --order --page --events --seed --threads --as --messages" ;;
+    explain) echo "--nodes --steps --collect --order --page --events --seed --threads" ;;
+    why) echo "--nodes --steps --collect --order --page --events --seed --acts --act --and" ;;
+    stats) echo "--nodes --steps --collect --order --page --events --seed --threads" ;;
+    chart) echo "--nodes --steps --collect --order --page --events --seed --threads --text --from --to" ;;
+    judge) echo "--nodes --pairs" ;;
+    races) echo "--as --group" ;;
+    explore) echo "--nodes --most --outcomes" ;;
+    esac
+}
+
+# The words that an option of a command takes, where they are listed; `FILE` stands for a file.
+_treadmarks_values() {
+    case $1,$2 in
+    run,--order) echo "oldest newest twice" ;;
+    trace,--as) echo "acts events json rapid" ;;
+    races,--as) echo "std acts" ;;
+    *,--order) echo "oldest newest twice random" ;;
+    *,--page) echo "64 256" ;;
+    *,--events | *,--acts) echo FILE ;;
+    *,--threads | *,--messages | *,--text | *,--pairs | *,--group | *,--outcomes) ;;
+    *,--*) echo NUMBER ;;
+    esac
+}
+
+_treadmarks() {
+    local word=${COMP_WORDS[COMP_CWORD]} before=${COMP_WORDS[COMP_CWORD - 1]} command=${COMP_WORDS[1]} values
+    local commands="check lint plain sim run trace explain why stats chart judge races explore help version"
+    COMPREPLY=()
+    if ((COMP_CWORD == 1)) || [[ $command == help ]]; then
+        COMPREPLY=($(compgen -W "$commands" -- "$word"))
+        return
+    fi
+    values=$(_treadmarks_values "$command" "$before")
+    case $values in
+    NUMBER) ;;
+    FILE) COMPREPLY=($(compgen -f -- "$word")) ;;
+    "")
+        if [[ $word == -* ]]; then
+            COMPREPLY=($(compgen -W "$(_treadmarks_options "$command") --help" -- "$word"))
+        else
+            COMPREPLY=($(compgen -f -- "$word"))
+        fi
+        ;;
+    *) COMPREPLY=($(compgen -W "$values" -- "$word")) ;;
+    esac
+}
+complete -o filenames -F _treadmarks treadmarks ./run
