@@ -12,7 +12,7 @@ use Rattle.lrc_why.specs.declared.reasons.Reasons.{Reasons}
 use Rattle.lrc_why.specs.declared.reasons.Relation.{Relation}
 use Rattle.lrc_why.specs.Whole.{AreReasons, IsRelation}
 use Rattle.lrc_why_text.specs.declared.fault.WhyFault.{WhyFault}
-use Rattle.lrc_why_text.specs.declared.fault.WhyFault.TheVariants.{BadAct, NoAct, NoMemory}
+use Rattle.lrc_why_text.specs.declared.fault.WhyFault.TheVariants.{BadAct, NoAct, NoMemory, TooLong}
 use Rattle.lrc_why_text.specs.declared.asked.Asked.{Asked}
 use Rattle.lrc_why_text.specs.declared.shown.Shown.{Shown}
 use Rattle.lrc_labels.specs.declared.cut.Divider.TheVariants.{LineFeed}
@@ -87,6 +87,7 @@ IsMissing act (Some other) count position =
 
 -- why a text of acts is not answered
 abbrev pub RefusesActs : Option ℕ → Asked → List ℕ → WhyFault → Type 0
+RefusesActs nodes asked text TooLong = ReadsActs nodes text (Err faults.TooLong)
 RefusesActs nodes asked text (BadAct line) = ReadsActs nodes text (Err (faults.BadAct line))
 RefusesActs nodes asked text (NoAct position) =
     (lined : LinedActs) × ReadsActs nodes text (Ok lined) × IsMissing asked.act asked.and (length lined.acts.items) position

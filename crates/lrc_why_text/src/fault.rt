@@ -10,6 +10,8 @@ use std::alloc::AllocError;
 /// Why a text of acts is not answered.
 #[derive(Clone, Copy, Debug, PartialEq, Eq)]
 pub enum WhyFault {
+    /// The text is longer than any text of acts.
+    TooLong,
     /// The line of this number, counted from 1, says no act.
     BadAct(u32),
     /// There is no act at this position.
@@ -23,6 +25,7 @@ impl From<ActsFault> for WhyFault {
 
     fn from(fault: ActsFault) -> WhyFault {
         match fault {
+            ActsFault::TooLong => WhyFault::TooLong,
             ActsFault::BadAct(line) => WhyFault::BadAct(line),
             ActsFault::NoMemory => WhyFault::NoMemory,
         }
