@@ -19,8 +19,13 @@ first_behind before [] rest tokens line kind are h =
     subst (λ b. IsFirstFault b rest line kind) (ap (λ ts. before ++ ts) are ∙ append-nil before) h
 first_behind before (next ∷ passed) rest [] line kind are h = absurd are
 first_behind before (next ∷ passed) rest (t ∷ tokens) line kind are h =
-    inr (t, are.0, are.1, first_behind (before ++ t ∷ []) passed rest tokens line kind are.2
-    (subst (λ b. IsFirstFault b rest line kind) (sym (append_assoc before (t ∷ []) tokens)) h))
+    inr (
+      t,
+      are.0,
+      are.1,
+      first_behind (before ++ t ∷ []) passed rest tokens line kind are.2
+          (subst (λ b. IsFirstFault b rest line kind) (sym (append_assoc before (t ∷ []) tokens)) h),
+    )
 
 pub first_of_text : (text : List ℕ) (all : List Located) (index : ℕ) (kind : FaultKind) (may_stand : List Kind) → length text ≤ 65536 → HasLocated text all
     → (first : IsFirstFaultOf all index kind may_stand) → HasFirstFault text first.has.found.line kind

@@ -143,7 +143,7 @@ module _ (numbers : Numbers) (nodes : ℕ) (acts : List Act) (events : List Even
           let s = stay p in
           elim (cases_eq p q) [
             | inl same ↦ let b : departs_before acts p (n + 1) ≡ departs_before acts p n + 1 =
-            subst (λ x. departs_before acts x (n + 1) ≡ departs_before acts x n + 1) (sym same) gone-here in omega arith
+                subst (λ x. departs_before acts x (n + 1) ≡ departs_before acts x n + 1) (sym same) gone-here in omega arith
             | inr other ↦ let b = gone-others p other in omega arith
           ]
 

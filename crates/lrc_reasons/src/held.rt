@@ -1,6 +1,6 @@
 // What a node holds at a position, and how often it has departed.
 ghost use Rattle.std.specs.Prelude.{◌≡◌, ℕ, ◌≤◌, IfOk, length};
-ghost use Rattle.lrc_trace.specs.Run.{departs_before};
+ghost use Rattle.lrc_trace.specs.Run.{arrives_before, departs_before};
 ghost use Rattle.lrc_reasons.specs.Held.{AreHeld};
 
 use crate::NAMES;
@@ -38,5 +38,16 @@ pub fn departs_at(acts: &[Act], node: u8, position: usize) -> usize
     acts[..position]
         .iter()
         .filter(|act| act.node == node && act.deed == Deed::Depart)
+        .count()
+}
+
+/// How often the node has arrived at a barrier before the position.
+pub fn arrives_at(acts: &[Act], node: u8, position: usize) -> usize
+    requires { position ≤ length acts.now }
+    ensures { result ≡ arrives_before acts.now node position }
+{
+    acts[..position]
+        .iter()
+        .filter(|act| act.node == node && act.deed == Deed::Arrive)
         .count()
 }

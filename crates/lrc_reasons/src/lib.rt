@@ -7,7 +7,7 @@ pub mod chains;
 pub mod held;
 pub mod known;
 pub mod laws;
-mod numbers;
+pub mod numbers;
 mod onward;
 mod starts;
 pub mod writes;

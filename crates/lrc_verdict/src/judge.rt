@@ -48,8 +48,8 @@ pub fn judge(
     Ok(printout)
 }
 
-// As many nodes as are given, or else as act.
-fn nodes_of(nodes: Option<u32>, acts: &[Act]) -> u8
+/// As many nodes as are given, or else as act.
+pub fn nodes_of(nodes: Option<u32>, acts: &[Act]) -> u8
     requires nodes { IfSome nodes (λ count. count ≤ NODES) }
     requires acts { All (λ act. act.node < NODES) acts.now }
     ensures nodes { CountsNodes nodes acts.now result }

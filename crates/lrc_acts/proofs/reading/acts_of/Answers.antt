@@ -78,8 +78,7 @@ loop-line-preserved c =
 pub returns-in-None-act_on-clause-err : goal.returns-in-None-act_on-clause-err
 returns-in-None-act_on-clause-err c =
     let turn = YieldsList-turn (YieldsList-from_slice_split _ (λ byte. byte == 10) c.args.text.now (cc) (cc) (cc) (λ x b q k. search (rules, tests)))
-    c.loop-line.yielded _ c.loop-line.yielded_by _ _ c.in-Some.line c.in-Some.is c.next.ensures.steps in
-    (
+    c.loop-line.yielded _ c.loop-line.yielded_by _ _ c.in-Some.line c.in-Some.is c.next.ensures.steps in (
       c.if-text-gt-MOST_BYTES.false,
       first_bad c.args.nodes (lines_of c.args.text.now) c.loop-line.number _ c.in-Some.line.now c.loop-line.lined.acts.items c.loop-line.lined.lines.items
           c.loop-line.invariant.counted turn c.loop-line.invariant.said

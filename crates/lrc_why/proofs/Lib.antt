@@ -1,0 +1,4 @@
+pub mod Conflicts
+pub mod Lists
+pub mod Newness
+pub mod Telling

@@ -1,0 +1,9 @@
+pub mod Since
+pub mod Sources
+pub mod About
+pub mod Deeds
+pub mod Positions
+pub mod Parting
+pub mod Known
+pub mod Spread
+pub mod Whole

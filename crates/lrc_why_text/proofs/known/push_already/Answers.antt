@@ -1,0 +1,15 @@
+use Rattle.std.proofs.Common.{refl}
+use Rattle.std.proofs.lemmas.Result.{on_ok_weaker}
+use Rattle.lrc_text.proofs.Pushed.{and_then, number_is, slice_ok, then_ok, extended_ok}
+use Rattle.lrc_why_text.specs.Knowing.{already_line}
+use Rattle.lrc_why_text.proofs.known.push_already.Goals as goal
+
+pub returns : goal.returns
+unfolding already_line
+returns c =
+    let old = c.args.text.now.items in
+    let e1 = number_is old _ _ _ _ c.in_ok-push_number.ensures.ok refl in
+    let e2 = and_then old _ _ _ e1 _ (number_is _ _ _ _ _ c.in_ok-push_number-2.ensures.ok c.interval_at.ensures) in
+    let e3 = and_then old _ _ _ e2 _ c.in_ok-extend_from_slice.ensures.items in
+    let e4 = and_then old _ _ _ e3 _ c.in_ok-push_since.ensures in
+    slice_ok old _ _ _ e4 c.extend_from_slice-2.result _ c.extend_from_slice-2.ensures.items

@@ -1,0 +1,13 @@
+// What the lines are told of: acts, each with its line and its interval, and labels.
+
+use lrc_labels::label::Label;
+use lrc_trace::act::Act;
+
+/// Acts, the line and the interval of each, and names of words and locks.
+#[derive(Clone, Copy)]
+pub struct Shown<'a> {
+    pub acts: &'a [Act],
+    pub lines: &'a [u32],
+    pub intervals: &'a [u64],
+    pub labels: &'a [Label<'a>],
+}
