@@ -14,9 +14,9 @@ use Rattle.clap.specs.Faults.{check_fault, defaults_fault, entered_fault, fault_
 use Rattle.clap.specs.declared.builder.value_parser.ValueParser.TheVariants.{Unsigned, Bool as BoolParser}
 use Rattle.clap.specs.declared.error.kind.ErrorKind.TheVariants.{InvalidValue, ValueValidation}
 use Rattle.clap.proofs.ValueTestLemmas.{accepts-Accepts}
-use Rattle.lrc_args.specs.CommandLine.{IsCommandTaken}
-use Rattle.lrc_args.specs.Commands.{bare_number, chart_command, check_command, collect, explain_command, explore_command, flag_option, form, judge_command, nodes, number_option, order, page}
-use Rattle.lrc_args.specs.Commands.{plain_command, run_command, sim_command, stats_command, steps, trace_command, treadmarks, treadmarks_shape}
+use Rattle.lrc_args.specs.CommandLine.{IsRequestTaken}
+use Rattle.lrc_args.specs.Commands.{bare_number, chart_command, check_command, collect, explain_command, explore_command, flag_option, form, help_command, judge_command, nodes, number_option, order, page}
+use Rattle.lrc_args.specs.Commands.{plain_command, run_command, sim_command, stats_command, steps, trace_command, treadmarks, treadmarks_shape, version_command}
 use Rattle.lrc_args.specs.Options.{HasValue, IsBareNumber, IsChartTaken, IsExploreTaken, IsFlagOption, IsJudgeTaken, IsNumberOption, IsPlainTaken, IsRunTaken}
 use Rattle.lrc_args.specs.Options.{IsShowingTaken, IsSimTaken, IsTraceTaken}
 use Rattle.lrc_args.proofs.RowLemmas.{IsKeyed, IsLevel, first_passes, given_some, level_good, neither, required_given, same_bytes}
@@ -50,6 +50,12 @@ judge_built = built_leaf (inherited treadmarks_shape judge_command.top)
 
 abbrev explore_built : Shape
 explore_built = built_leaf (inherited treadmarks_shape explore_command.top)
+
+abbrev help_built : Shape
+help_built = built_leaf (inherited treadmarks_shape help_command.top)
+
+abbrev version_built : Shape
+version_built = built_leaf (inherited treadmarks_shape version_command.top)
 
 check_keyed : AllByRecursion (IsKeyed check_built.rules) check_built.rules
 check_keyed = (
@@ -493,39 +499,42 @@ explore_taken words none =
 abbrev top_built : App
 top_built = record {
   top = built_leaf (record treadmarks_shape { is_leaf = false });
-  subs = check_built ∷ plain_built ∷ sim_built ∷ run_built ∷ trace_built ∷ explain_built ∷ stats_built ∷ chart_built ∷ judge_built ∷ explore_built ∷ [];
+  subs = check_built ∷ plain_built ∷ sim_built ∷ run_built ∷ trace_built ∷ explain_built ∷ stats_built ∷ chart_built ∷ judge_built ∷ explore_built ∷ help_built ∷ version_built ∷ [];
 }
 
 one_named : (rows : List Row) (stop : Option (Text × List Text)) → entered_fault top_built stop ≡ []
     → check_fault top_built.top rows (is_some (entered top_built stop)) ≡ []
-    → IsCommandTaken (entered top_built stop)
+    → IsRequestTaken (entered top_built stop)
 one_named rows None none checked = absurd cc
 one_named rows (Some p) none checked =
     go (answers_to p.0 (label_of check_built)) (answers_to p.0 (label_of plain_built)) (answers_to p.0 (label_of sim_built)) (answers_to p.0 (label_of run_built))
     (answers_to p.0 (label_of trace_built)) (answers_to p.0 (label_of explain_built)) (answers_to p.0 (label_of stats_built)) (answers_to p.0 (label_of chart_built))
-    (answers_to p.0 (label_of judge_built)) (answers_to p.0 (label_of explore_built)) none checked
+    (answers_to p.0 (label_of judge_built)) (answers_to p.0 (label_of explore_built)) (answers_to p.0 (label_of help_built)) (answers_to p.0 (label_of version_built)) none checked
   where
-    shape : Bool → Bool → Bool → Bool → Bool → Bool → Bool → Bool → Bool → Bool → Option Shape
-    shape a b d f h i k l m n =
+    shape : Bool → Bool → Bool → Bool → Bool → Bool → Bool → Bool → Bool → Bool → Bool → Bool → Option Shape
+    shape a b d f h i k l m n o q =
         cond a (Some check_built) (cond b (Some plain_built) (cond d (Some sim_built) (cond f (Some run_built) (cond h (Some trace_built)
-        (cond i (Some explain_built) (cond k (Some stats_built) (cond l (Some chart_built) (cond m (Some judge_built) (cond n (Some explore_built) None)))))))))
+        (cond i (Some explain_built) (cond k (Some stats_built) (cond l (Some chart_built) (cond m (Some judge_built) (cond n (Some explore_built)
+        (cond o (Some help_built) (cond q (Some version_built) (None))))))))))))
 
-    go : (a b d f h i k l m n : Bool) → option_map_or (λ s. level_fault s [] nothing_held p.1 false []) (shape a b d f h i k l m n) [] ≡ []
-        → check_fault top_built.top rows (is_some (option_map (λ s. rows_at s p.1) (shape a b d f h i k l m n))) ≡ []
-        → IsCommandTaken (option_map (λ s. rows_at s p.1) (shape a b d f h i k l m n))
-    go true b d f h i k l m n e checked = inl (refl, check_taken p.1 e)
-    go false true d f h i k l m n e checked = inr (inl (refl, plain_taken p.1 e))
-    go false false true f h i k l m n e checked = inr (inr (inr (inr (inl (refl, sim_taken p.1 e)))))
-    go false false false true h i k l m n e checked = inr (inr (inr (inr (inr (inl (refl, run_taken p.1 e))))))
-    go false false false false true i k l m n e checked = inr (inr (inr (inr (inr (inr (inl (refl, trace_taken p.1 e)))))))
-    go false false false false false true k l m n e checked = inr (inr (inr (inr (inr (inr (inr (inl (refl, explain_taken p.1 e))))))))
-    go false false false false false false true l m n e checked = inr (inr (inr (inr (inr (inr (inr (inr (inl (refl, stats_taken p.1 e)))))))))
-    go false false false false false false false true m n e checked = inr (inr (inr (inr (inr (inr (inr (inr (inr (refl, chart_taken p.1 e)))))))))
-    go false false false false false false false false true n e checked = inr (inr (inl (refl, judge_taken p.1 e)))
-    go false false false false false false false false false true e checked = inr (inr (inr (inl (refl, explore_taken p.1 e))))
-    go false false false false false false false false false false e checked = absurd cc
+    go : (a b d f h i k l m n o q : Bool) → option_map_or (λ s. level_fault s [] nothing_held p.1 false []) (shape a b d f h i k l m n o q) [] ≡ []
+        → check_fault top_built.top rows (is_some (option_map (λ s. rows_at s p.1) (shape a b d f h i k l m n o q))) ≡ []
+        → IsRequestTaken (option_map (λ s. rows_at s p.1) (shape a b d f h i k l m n o q))
+    go true b d f h i k l m n o q e checked = inr (inl (refl, check_taken p.1 e))
+    go false true d f h i k l m n o q e checked = inr (inr (inl (refl, plain_taken p.1 e)))
+    go false false true f h i k l m n o q e checked = inr (inr (inr (inr (inr (inl (refl, sim_taken p.1 e))))))
+    go false false false true h i k l m n o q e checked = inr (inr (inr (inr (inr (inr (inl (refl, run_taken p.1 e)))))))
+    go false false false false true i k l m n o q e checked = inr (inr (inr (inr (inr (inr (inr (inl (refl, trace_taken p.1 e))))))))
+    go false false false false false true k l m n o q e checked = inr (inr (inr (inr (inr (inr (inr (inr (inl (refl, explain_taken p.1 e)))))))))
+    go false false false false false false true l m n o q e checked = inr (inr (inr (inr (inr (inr (inr (inr (inr (inl (refl, stats_taken p.1 e))))))))))
+    go false false false false false false false true m n o q e checked = inr (inr (inr (inr (inr (inr (inr (inr (inr (inr (refl, chart_taken p.1 e))))))))))
+    go false false false false false false false false true n o q e checked = inr (inr (inr (inl (refl, judge_taken p.1 e))))
+    go false false false false false false false false false true o q e checked = inr (inr (inr (inr (inl (refl, explore_taken p.1 e)))))
+    go false false false false false false false false false false true q e checked = inl (inl refl)
+    go false false false false false false false false false false false true e checked = inl (inr refl)
+    go false false false false false false false false false false false false e checked = absurd cc
 
-pub taken : (words : List Text) → fault_of treadmarks words ≡ [] → IsCommandTaken (subcommand_of treadmarks words)
+pub taken : (words : List Text) → fault_of treadmarks words ≡ [] → IsRequestTaken (subcommand_of treadmarks words)
 unfolding treadmarks
 taken words none =
     let stop = stop_after top_built.top.rules (names_of top_built) words in

@@ -4,7 +4,7 @@ use Rattle.std.specs.Int.{IsOutOfRange}
 use Rattle.clap.specs.Words.{IsAmong, Row, Text, fault_of, first_of, kind_of, subcommand_of}
 use Rattle.clap.specs.declared.error.Error.{Error}
 use Rattle.clap.specs.declared.error.kind.ErrorKind.{ErrorKind}
-use Rattle.clap.specs.declared.error.kind.ErrorKind.TheVariants.{ArgumentConflict, InvalidValue, OutOfMemory}
+use Rattle.clap.specs.declared.error.kind.ErrorKind.TheVariants.{ArgumentConflict, InvalidSubcommand, InvalidValue, OutOfMemory}
 use Rattle.lrc_envelope.specs.declared.picker.Picker.{Picker}
 use Rattle.lrc_args.specs.declared.choice.Charting.{Charting}
 use Rattle.lrc_args.specs.declared.choice.Choice.{Choice}
@@ -15,13 +15,17 @@ use Rattle.lrc_args.specs.declared.choice.Exploring.{Exploring}
 use Rattle.lrc_args.specs.declared.choice.Form.{Form}
 use Rattle.lrc_args.specs.declared.choice.Judging.{Judging}
 use Rattle.lrc_args.specs.declared.choice.PlainRun.{PlainRun}
+use Rattle.lrc_args.specs.declared.choice.Request.{Request}
+use Rattle.lrc_args.specs.declared.choice.Request.TheVariants.{About, Answer}
 use Rattle.lrc_args.specs.declared.choice.RunChoice.{RunChoice}
 use Rattle.lrc_args.specs.declared.choice.Shape.{Shape}
 use Rattle.lrc_args.specs.declared.choice.Shape.TheVariants.{Report, Trace, Explain, Stats, Chart}
+use Rattle.lrc_args.specs.declared.choice.Topic.{Topic}
+use Rattle.lrc_args.specs.declared.choice.Topic.TheVariants.{Commands, Command, Version}
 use Rattle.lrc_args.specs.declared.choice.Way.{Way}
 use Rattle.lrc_args.specs.declared.misfit.Misfit.{Misfit}
-use Rattle.lrc_args.specs.declared.misfit.Misfit.TheVariants.{Order, RunOrder, Page, Form as FormMisfit, Seed, Threads, Messages, Number}
-use Rattle.lrc_args.specs.Commands.{treadmarks}
+use Rattle.lrc_args.specs.declared.misfit.Misfit.TheVariants.{Order, RunOrder, Page, Form as FormMisfit, Seed, Threads, Messages, Topic as TopicMisfit, Number}
+use Rattle.lrc_args.specs.Commands.{is_command, treadmarks}
 use Rattle.lrc_args.specs.Options.{AreOptions, AreRunOptions, HasBadCount, HasFormMisfitIn, HasOptionsMisfit, HasValue, HasWayMisfitIn, IsChartTaken}
 use Rattle.lrc_args.specs.Options.{IsExploreTaken, IsFlag, IsFormIn, IsJudgeTaken, IsPicker, IsPlainTaken, IsRunTaken, IsShowingTaken}
 use Rattle.lrc_args.specs.Options.{IsSimTaken, IsThreadsWayIn, IsTraceTaken, IsWayIn, most_in, nodes_in, some_number_in}
@@ -54,6 +58,14 @@ IsCommandTaken (Some found) = ((found.0 ≡ codes "check") × HasValue (codes "F
     ⊎ ((found.0 ≡ codes "judge") × IsJudgeTaken found.1)
     ⊎ ((found.0 ≡ codes "explore") × IsExploreTaken found.1)
     ⊎ IsShowTaken found
+
+-- the command says something of the program
+abbrev pub IsTopicTaken : Text × List Row → Type 0
+IsTopicTaken found = (found.0 ≡ codes "help") ⊎ (found.0 ≡ codes "version")
+
+-- any command
+abbrev pub IsRequestTaken : Option (Text × List Row) → Type 0
+IsRequestTaken found = IsSomeAnd found IsTopicTaken ⊎ IsCommandTaken found
 
 -- ---- the choice that the matches make
 
@@ -112,6 +124,17 @@ IsChoice found (Show run shape) = IsShowChoice found run shape
 IsChoice found (Judge judging) = (found.0 ≡ codes "judge") × IsJudging found.1 judging
 IsChoice found (Explore exploring) = (found.0 ≡ codes "explore") × IsExploring found.1 exploring
 
+-- what the program is to say of itself
+abbrev pub IsTopic : Text × List Row → Topic → Type 0
+IsTopic found Commands = (found.0 ≡ codes "help") × (first_of (codes "COMMAND") found.1 ≡ None)
+IsTopic found (Command command) = (found.0 ≡ codes "help") × (first_of (codes "COMMAND") found.1 ≡ Some command.name.now)
+IsTopic found Version = found.0 ≡ codes "version"
+
+-- what the command that clap found asks for, with its matches
+abbrev pub IsRequest : Text × List Row → Request → Type 0
+IsRequest found (About topic) = IsTopic found topic
+IsRequest found (Answer choice) = IsChoice found choice
+
 -- ---- what does not fit
 
 abbrev pub HasPlainMisfit : List Row → Misfit → Type 0
@@ -157,6 +180,14 @@ HasMisfit found misfit = ((found.0 ≡ codes "plain") × HasPlainMisfit found.1 
     ⊎ ((found.0 ≡ codes "explore") × HasExploreMisfit found.1 misfit)
     ⊎ HasShowMisfit found misfit
 
+-- help is wanted on a word that is no command
+abbrev pub HasTopicMisfit : Text × List Row → Misfit → Type 0
+HasTopicMisfit found misfit =
+    (found.0 ≡ codes "help") × (misfit ≡ TopicMisfit) × IsSomeAnd (first_of (codes "COMMAND") found.1) (λ word. is_command word ≡ false)
+
+abbrev pub HasRequestMisfit : Text × List Row → Misfit → Type 0
+HasRequestMisfit found misfit = HasTopicMisfit found misfit ⊎ HasMisfit found misfit
+
 -- ---- faults
 
 -- the kind of the usage text on what does not fit: a word that an option does not take, or options that do not stand together
@@ -168,6 +199,7 @@ IsUsageKind FormMisfit kind = kind ≡ InvalidValue
 IsUsageKind Seed kind = kind ≡ ArgumentConflict
 IsUsageKind Threads kind = kind ≡ ArgumentConflict
 IsUsageKind Messages kind = kind ≡ ArgumentConflict
+IsUsageKind TopicMisfit kind = kind ≡ InvalidSubcommand
 IsUsageKind Number kind = ⊥
 
 -- the fault of what does not fit
@@ -192,12 +224,12 @@ IsFoundFault words NoMemory = Unit {0}
 
 -- clap finds no fault in the words, and this does not fit in what it found
 abbrev pub AreMisfits : List Text → Misfit → Type 0
-AreMisfits words misfit = (fault_of treadmarks words ≡ []) × IsSomeAnd (subcommand_of treadmarks words) (λ found. HasMisfit found misfit)
+AreMisfits words misfit = (fault_of treadmarks words ≡ []) × IsSomeAnd (subcommand_of treadmarks words) (λ found. HasRequestMisfit found misfit)
 
--- What the words come to: where clap finds no fault in them, the choice that it read, or words that do not fit, or a number
+-- What the words come to: where clap finds no fault in them, the request that it read, or words that do not fit, or a number
 -- that is out of range; where it finds one, that fault. Memory may run out at any words.
-abbrev pub Chooses : List Text → Result Choice ChooseFault → Type 0
-Chooses words (Ok choice) = (fault_of treadmarks words ≡ []) × IsSomeAnd (subcommand_of treadmarks words) (λ found. IsChoice found choice)
+abbrev pub Chooses : List Text → Result Request ChooseFault → Type 0
+Chooses words (Ok request) = (fault_of treadmarks words ≡ []) × IsSomeAnd (subcommand_of treadmarks words) (λ found. IsRequest found request)
 Chooses words (Err BadNumber) = AreMisfits words Number
 Chooses words (Err (Usage error)) = IsAmong (kind_of error) (fault_of treadmarks words)
     ⊎ ((misfit : Misfit) × AreMisfits words misfit × IsUsageKind misfit (kind_of error))

@@ -1,5 +1,7 @@
 -- The commands and their options, as clap sees them.
-use Rattle.std.specs.Prelude.{true, [], ◌∷◌, Some, codes}
+use Rattle.std.specs.Prelude.{Bool, true, List, [], ◌∷◌, Some, codes, map}
+use Rattle.std.specs.List.{list_any}
+use Rattle.std.specs.Str.{bytes_eq}
 use Rattle.clap.specs.Words.{App, Rule, Shape, Text, new_app, new_rule, with_rule, with_subcommand}
 use Rattle.clap.specs.declared.builder.action.ArgAction.TheVariants.{SetTrue}
 use Rattle.clap.specs.declared.builder.value_parser.ValueParser.TheVariants.{Unsigned}
@@ -95,6 +97,13 @@ judge_command = with_rule (with_rule (with_rule (new_app (codes "judge")) file) 
 abbrev pub explore_command : App
 explore_command = with_rule (with_rule (with_rule (with_rule (new_app (codes "explore")) file) nodes) most) (flag_option (codes "outcomes"))
 
+-- what help is wanted on need not be given
+abbrev pub help_command : App
+help_command = with_rule (new_app (codes "help")) (new_rule (codes "COMMAND"))
+
+abbrev pub version_command : App
+version_command = new_app (codes "version")
+
 -- The words begin with no program's name, and name one of the commands; the program has a version.
 abbrev pub treadmarks_shape : Shape
 treadmarks_shape = record (new_app (codes "treadmarks")).top {
@@ -111,5 +120,15 @@ abbrev pub with_questions : App → App
 with_questions command = with_subcommand (with_subcommand (with_subcommand (with_subcommand
     (with_subcommand (with_subcommand command trace_command.top) explain_command.top) stats_command.top) chart_command.top) judge_command.top) explore_command.top
 
+abbrev pub with_topics : App → App
+with_topics command = with_subcommand (with_subcommand command help_command.top) version_command.top
+
 unfoldable pub treadmarks : App
-treadmarks = with_questions (with_reports (record { top = treadmarks_shape; subs = [] }))
+treadmarks = with_topics (with_questions (with_reports (record { top = treadmarks_shape; subs = [] })))
+
+-- what the commands are called
+unfoldable pub command_names : List Text
+command_names = map (λ command. command.name) treadmarks.subs
+
+abbrev pub is_command : Text → Bool
+is_command word = list_any (λ name. bytes_eq name word) command_names

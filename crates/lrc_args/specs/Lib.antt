@@ -2,3 +2,4 @@ pub mod Commands
 pub mod Options
 pub mod CommandLine
 pub mod Files
+pub mod Topics

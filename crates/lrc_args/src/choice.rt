@@ -1,6 +1,7 @@
 // What the words of the command line ask for.
 
-ghost use Rattle.std.specs.Prelude.{◌≤◌};
+ghost use Rattle.std.specs.Prelude.{◌≡◌, ◌≤◌, true};
+ghost use Rattle.lrc_args.specs.Commands.{is_command};
 
 use lrc_envelope::Picker;
 use lrc_page::Size;
@@ -126,7 +127,7 @@ pub struct Exploring<'w> {
     pub outcomes: bool,
 }
 
-/// What the words ask for.
+/// What is asked of the texts in files, each of which is read to its end.
 #[derive(Clone, Copy)]
 pub enum Choice<'w> {
     /// Whether the text in this file is a program; `-` is standard input.
@@ -141,7 +142,34 @@ pub enum Choice<'w> {
     Explore(Exploring<'w>),
 }
 
-/// Why there is no choice.
+/// The name of a command.
+#[derive(Clone, Copy)]
+pub struct CommandName<'w> {
+    pub name: &'w str,
+    pub ghost known: { is_command name.now ≡ true },
+}
+
+/// What the program can say of itself.
+#[derive(Clone, Copy)]
+pub enum Topic<'w> {
+    /// Its commands: what `--help` writes.
+    Commands,
+    /// A command and its options: what `--help` behind its name writes.
+    Command(CommandName<'w>),
+    /// Its version: what `--version` writes.
+    Version,
+}
+
+/// What the words ask for.
+#[derive(Clone, Copy)]
+pub enum Request<'w> {
+    /// What the program says of itself.
+    About(Topic<'w>),
+    /// What is answered to the texts in files.
+    Answer(Choice<'w>),
+}
+
+/// Why there is no request.
 #[derive(Debug, Drop, Error)]
 pub enum ChooseFault {
     /// The words are no command, or ask for help. The error is the text to show.

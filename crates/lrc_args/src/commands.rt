@@ -3,9 +3,9 @@
 ghost use Rattle.std.specs.Prelude.{◌≡◌, [], IfOk, false};
 ghost use Rattle.clap.specs.Words.{App, Rule, app_of, rule_of, with_rule, with_subcommand};
 ghost use Rattle.clap.specs.declared.builder.command.Command.TheViews.{out-Command as fields_of};
-ghost use Rattle.lrc_args.specs.Commands.{bare_number, chart_command, check_command, collect, explain_command, explore_command, file, flag_option, form, judge_command, most, nodes, number_option, option, order};
-ghost use Rattle.lrc_args.specs.Commands.{page, plain_command, run_command, sim_command, stats_command, steps, trace_command, treadmarks, treadmarks_shape};
-ghost use Rattle.lrc_args.specs.Commands.{with_questions, with_reports, with_run_options, with_showing_options, with_way_options};
+ghost use Rattle.lrc_args.specs.Commands.{bare_number, chart_command, check_command, collect, explain_command, explore_command, file, flag_option, form, help_command, judge_command, most, nodes, number_option, option, order};
+ghost use Rattle.lrc_args.specs.Commands.{page, plain_command, run_command, sim_command, stats_command, steps, trace_command, treadmarks, treadmarks_shape, version_command};
+ghost use Rattle.lrc_args.specs.Commands.{with_questions, with_reports, with_run_options, with_showing_options, with_topics, with_way_options};
 
 use clap::{Arg, ArgAction, Command, value_parser};
 use std::alloc::{AllocError, Global};
@@ -59,15 +59,17 @@ const MOST_HELP: &str = "How many states the search may meet: 1 to 100000000";
 
 const OUTCOMES_HELP: &str = "Shows every outcome of the orders, and looks for no race";
 
+const COMMAND_HELP: &str = "The command. Left out, the commands are listed";
+
 // The version of the program. The message bytes have versions of their own.
 const VERSION: &str = "0.1.0";
 
 // What the help says of the exit status, and of the one line that cannot say which option it means.
 const STATUSES: &str = "Exit status:
   0  all nodes ended, and no race was found (check: the text is a program; chart: the run was drawn; judge, explore:
-     nothing was found)
+     nothing was found; help, version: always)
   1  a fault of the text, a file, the events, memory or the output
-  2  a fault of the words, or a help text. `number out of range` says that a number is not in the range that the help of
+  2  a fault of the words, or `--help` or `--version`. `number out of range` says that a number is not in the range that the help of
      its command gives
   3  a race was found
   4  no race, and a node trapped or is unfinished (judge: the acts are of no run; explore: some order gets stuck)";
@@ -76,7 +78,8 @@ const STATUSES: &str = "Exit status:
 pub(crate) fn command_line<'w>(alloc: Global) -> Result<Command<'w>, AllocError>
     ensures { IfOk result (λ command. app_of command ≡ treadmarks) }
 {
-    taking_questions(alloc, taking_reports(alloc, bare_command_line(alloc)?)?)
+    let command = taking_reports(alloc, bare_command_line(alloc)?)?;
+    taking_topics(alloc, taking_questions(alloc, command)?)
 }
 
 // The command line without its commands.
@@ -113,6 +116,14 @@ fn taking_questions<'w>(alloc: Global, command: Command<'w>) -> Result<Command<'
     let command = having(command, chart_command(alloc));
     let command = having(command, judge_command(alloc));
     having(command, explore_command(alloc))
+}
+
+// Adds those that say something of the program.
+fn taking_topics<'w>(alloc: Global, command: Command<'w>) -> Result<Command<'w>, AllocError>
+    ensures { IfOk result (λ given. app_of given ≡ with_topics (app_of command.entry)) }
+{
+    let command = having(Ok(command), help_command(alloc));
+    having(command, Ok(version_command(alloc)))
 }
 
 // The command with another one below it, where memory lasted for both.
@@ -251,6 +262,22 @@ fn explore_command<'w>(alloc: Global) -> Result<Command<'w>, AllocError>
     let command = taking(command, nodes(alloc));
     let command = taking(command, number_option(alloc, "most", "1000000", MOST_HELP));
     taking(command, flag_option(alloc, "outcomes", OUTCOMES_HELP))
+}
+
+fn help_command<'w>(alloc: Global) -> Result<Command<'w>, AllocError>
+    ensures app { IfOk result (λ command. app_of command ≡ help_command) }
+    ensures local { IfOk result (λ command. (fields_of command).has_globals ≡ false) }
+{
+    Command::new(alloc, "help")
+        .about("Prints the help of a command, or this page")
+        .arg(Arg::new(alloc, "COMMAND").help(COMMAND_HELP))
+}
+
+fn version_command<'w>(alloc: Global) -> Command<'w>
+    ensures app { app_of result ≡ version_command }
+    ensures local { (fields_of result).has_globals ≡ false }
+{
+    Command::new(alloc, "version").about("Prints the version of the program")
 }
 
 // Adds what the commands have in common that show something of a run in any way.

@@ -8,5 +8,7 @@ mod files;
 mod misfit;
 mod reading;
 mod runs;
+mod topics;
 
 pub use command_line::choose;
+pub use topics::about;

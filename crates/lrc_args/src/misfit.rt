@@ -27,6 +27,8 @@ const BAD_THREADS: &str =
 const BAD_MESSAGES: &str =
     "the argument '--messages' cannot be used with a form other than '--as acts'";
 
+const BAD_TOPIC: &str = "invalid value for '[COMMAND]': it is none of the commands";
+
 /// Why the options that clap read are no choice.
 #[derive(Clone, Copy)]
 pub(crate) enum Misfit {
@@ -44,6 +46,8 @@ pub(crate) enum Misfit {
     Threads,
     /// Messages are asked for, and so is another form than that of acts.
     Messages,
+    /// Help is wanted on a word that is no command.
+    Topic,
     /// A number is not in its option's range.
     Number,
 }
@@ -82,6 +86,7 @@ fn usage_kind(misfit: Misfit) -> ErrorKind
 {
     match misfit {
         Misfit::Seed | Misfit::Threads | Misfit::Messages => ErrorKind::ArgumentConflict,
+        Misfit::Topic => ErrorKind::InvalidSubcommand,
         _ => ErrorKind::InvalidValue,
     }
 }
@@ -95,6 +100,7 @@ fn message_of(misfit: Misfit) -> &'static str {
         Misfit::Seed => IDLE_SEED,
         Misfit::Threads => BAD_THREADS,
         Misfit::Messages => BAD_MESSAGES,
+        Misfit::Topic => BAD_TOPIC,
         Misfit::Number => "number out of range",
     }
 }
