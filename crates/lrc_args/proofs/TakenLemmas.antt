@@ -15,8 +15,8 @@ use Rattle.clap.specs.declared.builder.value_parser.ValueParser.TheVariants.{Uns
 use Rattle.clap.specs.declared.error.kind.ErrorKind.TheVariants.{InvalidValue, ValueValidation}
 use Rattle.clap.proofs.ValueTestLemmas.{accepts-Accepts}
 use Rattle.lrc_args.specs.CommandLine.{IsRequestTaken}
-use Rattle.lrc_args.specs.Commands.{bare_number, chart_command, check_command, collect, explain_command, explore_command, flag_option, form, help_command, judge_command, nodes, number_option, order, page}
-use Rattle.lrc_args.specs.Commands.{plain_command, run_command, sim_command, stats_command, steps, trace_command, treadmarks, treadmarks_shape, version_command}
+use Rattle.lrc_commands.specs.Commands.{bare_number, chart_command, check_command, collect, explain_command, explore_command, flag_option, form, help_command, judge_command, nodes, number_option, order, page}
+use Rattle.lrc_commands.specs.Commands.{plain_command, run_command, sim_command, stats_command, steps, trace_command, treadmarks, treadmarks_shape, version_command}
 use Rattle.lrc_args.specs.Options.{HasValue, IsBareNumber, IsChartTaken, IsExploreTaken, IsFlagOption, IsJudgeTaken, IsNumberOption, IsPlainTaken, IsRunTaken}
 use Rattle.lrc_args.specs.Options.{IsShowingTaken, IsSimTaken, IsTraceTaken}
 use Rattle.lrc_args.proofs.RowLemmas.{IsKeyed, IsLevel, first_passes, given_some, level_good, neither, required_given, same_bytes}

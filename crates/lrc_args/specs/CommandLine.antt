@@ -25,7 +25,7 @@ use Rattle.lrc_args.specs.declared.choice.Topic.TheVariants.{Commands, Command, 
 use Rattle.lrc_args.specs.declared.choice.Way.{Way}
 use Rattle.lrc_args.specs.declared.misfit.Misfit.{Misfit}
 use Rattle.lrc_args.specs.declared.misfit.Misfit.TheVariants.{Order, RunOrder, Page, Form as FormMisfit, Seed, Threads, Messages, Topic as TopicMisfit, Number}
-use Rattle.lrc_args.specs.Commands.{is_command, treadmarks}
+use Rattle.lrc_commands.specs.Commands.{is_command, treadmarks}
 use Rattle.lrc_args.specs.Options.{AreOptions, AreRunOptions, HasBadCount, HasFormMisfitIn, HasOptionsMisfit, HasValue, HasWayMisfitIn, IsChartTaken}
 use Rattle.lrc_args.specs.Options.{IsExploreTaken, IsFlag, IsFormIn, IsJudgeTaken, IsPicker, IsPlainTaken, IsRunTaken, IsShowingTaken}
 use Rattle.lrc_args.specs.Options.{IsSimTaken, IsThreadsWayIn, IsTraceTaken, IsWayIn, most_in, nodes_in, some_number_in}

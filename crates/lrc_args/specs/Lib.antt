@@ -1,4 +1,3 @@
-pub mod Commands
 pub mod Options
 pub mod CommandLine
 pub mod Files

@@ -1,7 +1,7 @@
 // What the words of the command line ask for.
 
 ghost use Rattle.std.specs.Prelude.{◌≡◌, ◌≤◌, true};
-ghost use Rattle.lrc_args.specs.Commands.{is_command};
+ghost use Rattle.lrc_commands.specs.Commands.{is_command};
 
 use lrc_envelope::Picker;
 use lrc_page::Size;

@@ -3,7 +3,7 @@
 ghost use Rattle.std.specs.Prelude.{◌≡◌, [], IfErr, IfOk, IsSomeAnd, Ok, OnOk, Err, codes, map, option_map};
 ghost use Rattle.std.specs.Int.{IsOutOfRange};
 ghost use Rattle.clap.specs.Words.{fault_of, found_of, rows_of, subcommand_of, subcommand_rows_of};
-ghost use Rattle.lrc_args.specs.Commands.{treadmarks};
+ghost use Rattle.lrc_commands.specs.Commands.{treadmarks};
 ghost use Rattle.lrc_args.specs.CommandLine.{Chooses, HasExploreMisfit, HasJudgeMisfit, HasMisfit, HasPlainMisfit, HasRequestMisfit, HasShowMisfit};
 ghost use Rattle.lrc_args.specs.CommandLine.{HasTopicMisfit, IsRequest, IsRequestTaken, IsTopic};
 ghost use Rattle.lrc_args.specs.CommandLine.{IsAskTaken, IsChoice, IsFoundFault, IsShowTaken};
@@ -15,15 +15,14 @@ ghost use Rattle.lrc_args.specs.declared.misfit.Misfit.TheVariants.{Number};
 use crate::choice::{
     Choice, ChooseFault, CommandName, Exploring, Judging, Nodes, PlainRun, Request, Shape, Topic,
 };
-use crate::commands::command_line;
 use crate::misfit::{Misfit, fault_of_misfit};
 use crate::reading::{
     is_named, most_of, nodes_of, so_many_nodes, some_number_of, steps_of, text_of,
 };
 use crate::runs::{chart_choice, run_choice, showing_choice, threads_run, trace_choice};
-use crate::topics::is_command;
 use clap::ArgMatches;
 use clap::error::ErrorKind;
+use lrc_commands::{command_line, is_command};
 use std::alloc::{AllocError, Global};
 use std::convert::AsStr;
 

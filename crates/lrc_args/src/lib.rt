@@ -3,7 +3,6 @@
 
 pub mod choice;
 mod command_line;
-mod commands;
 mod files;
 mod misfit;
 mod reading;

@@ -6,8 +6,8 @@ ghost use Rattle.lrc_args.specs.CommandLine.{IsMisfitFault, IsUsageKind};
 ghost use Rattle.lrc_args.specs.declared.misfit.Misfit.TheVariants.{Number};
 
 use crate::choice::ChooseFault;
-use crate::commands::command_line;
 use clap::error::ErrorKind;
+use lrc_commands::command_line;
 use std::alloc::{AllocError, Global};
 
 const BAD_ORDER: &str =

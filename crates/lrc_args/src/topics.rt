@@ -2,25 +2,12 @@
 
 ghost use Rattle.std.specs.Prelude.{◌≡◌, ◌≢◌, [], IfOk, map};
 ghost use Rattle.clap.specs.Words.{IsAmong, fault_of, kind_of};
-ghost use Rattle.lrc_args.specs.Commands.{command_names, is_command, treadmarks};
+ghost use Rattle.lrc_commands.specs.Commands.{treadmarks};
 ghost use Rattle.lrc_args.specs.Topics.{topic_kind, topic_words};
 
 use crate::choice::{ChooseFault, Topic};
 use crate::command_line::matches_of;
 use std::alloc::{AllocError, Global};
-
-// The names of the commands.
-static COMMANDS: [&str; 12] = [
-    "check", "plain", "sim", "run", "trace", "explain", "stats", "chart", "judge", "explore",
-    "help", "version",
-];
-
-/// Whether a command is called so.
-pub(crate) fn is_command(word: &str) -> bool
-    ensures { result ≡ is_command word.now }
-{
-    COMMANDS.contains(&word)
-}
 
 /// What the program says of a topic, as clap's answer to the words that ask for it; its text is what is printed.
 pub fn about(alloc: Global, topic: &Topic<'_>) -> Result<clap::Error, AllocError>

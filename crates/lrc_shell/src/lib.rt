@@ -7,6 +7,7 @@ mod progress;
 mod refusal;
 mod sources;
 mod starting;
+mod topic;
 
 pub use played::play;
 pub use progress::{Late, LateLine, Watch};

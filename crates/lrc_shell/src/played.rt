@@ -11,7 +11,8 @@ ghost use Rattle.lrc_shell.specs.Plays.{AreEventsRead, IsEventsCause, IsPlayed, 
 use crate::progress::{Late, Watch};
 use crate::refusal::{refuse, refuse_file};
 use crate::sources::Sources;
-use lrc_args::choice::Choice;
+use crate::topic::tell_topic;
+use lrc_args::choice::{Choice, Request};
 use lrc_args::choose;
 use lrc_cli::answer::Printout;
 use lrc_cli::fault::Fault;
@@ -56,7 +57,8 @@ where
         (W.contents out.old) (W.contents out.new) (E.contents err.old) (E.contents err.new) result }
 {
     match choose(rt.alloc(), words_of(arguments)) {
-        Ok(choice) => play_choice(rt, &choice, sources, late, out, err),
+        Ok(Request::Answer(choice)) => play_choice(rt, &choice, sources, late, out, err),
+        Ok(Request::About(topic)) => tell_topic(rt.alloc(), &topic, out, err),
         Err(fault) => refuse(&fault, err),
     }
 }

@@ -2,7 +2,7 @@
 
 ghost use Rattle.std.specs.Prelude.{◌≡◌};
 ghost use Rattle.std.specs.IoError.{error_kind};
-ghost use Rattle.lrc_shell.specs.Plays.{IsRefusal, IsTold, argument_line, argument_status, read_line};
+ghost use Rattle.lrc_shell.specs.Plays.{IsRefusal, IsTold, argument_line, argument_status, memory_line, read_line};
 
 use lrc_args::choice::ChooseFault;
 use lrc_report::output::{Output, put};
@@ -64,11 +64,17 @@ pub(crate) fn refuse<E: Write>(fault: &ChooseFault, err: &mut E) -> u8
             tell_line(BAD_NUMBER, err);
             USAGE
         }
-        ChooseFault::NoMemory => {
-            tell_line(NO_MEMORY, err);
-            FAULT
-        }
+        ChooseFault::NoMemory => refuse_memory(err),
     }
+}
+
+/// Says that memory ran out.
+pub(crate) fn refuse_memory<E: Write>(err: &mut E) -> u8
+    ensures told { IsTold (E.contents err.old) (E.contents err.new) memory_line }
+    ensures status { result ≡ 1 }
+{
+    tell_line(NO_MEMORY, err);
+    FAULT
 }
 
 /// Says why a file cannot be read.

@@ -1,7 +1,7 @@
 use Rattle.std.proofs.Common.{◌≡◌, ◌∙◌, Option, None, Some, IsSomeAnd, ap, codes, false, option_map, refl, subst, sym}
 use Rattle.clap.specs.Words.{Text, first_of, found_of, rows_of}
 use Rattle.clap.proofs.WalkLemmas.{first_value-rows}
-use Rattle.lrc_args.specs.Commands.{is_command}
+use Rattle.lrc_commands.specs.Commands.{is_command}
 use Rattle.lrc_args.proofs.command_line.help_request.Goals as goal
 
 pub returns-in-None-clause-ok : goal.returns-in-None-clause-ok

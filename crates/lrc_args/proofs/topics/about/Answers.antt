@@ -1,7 +1,7 @@
 use Rattle.std.proofs.Common.{◌≡◌, ◌∙◌, [], ◌∷◌, ap, map, sym}
 use Rattle.std.proofs.lemmas.Result.{IfOk-weaker}
 use Rattle.clap.specs.Words.{fault_of, kind_of}
-use Rattle.lrc_args.specs.Commands.{treadmarks}
+use Rattle.lrc_commands.specs.Commands.{treadmarks}
 use Rattle.lrc_args.specs.Topics.{topic_kind, topic_words}
 use Rattle.lrc_args.specs.declared.choice.Topic.{Topic}
 use Rattle.lrc_args.specs.declared.choice.Topic.TheVariants.{Commands, Command, Version}
