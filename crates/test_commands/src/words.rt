@@ -2,7 +2,8 @@
 
 use crate::checks::passes;
 use lrc_args::choice::{
-    Charting, Choice, ChooseFault, Exploring, Form, Judging, PlainRun, RunOptions, Shape, Way,
+    Charting, Choice, ChooseFault, Exploring, Form, Judging, PlainRun, Request, RunOptions, Shape,
+    Topic, Way,
 };
 use lrc_args::choose;
 use lrc_envelope::Picker;
@@ -32,6 +33,11 @@ enum Wanted {
     Judge(&'static str, Option<u32>, bool),
     /// With so many nodes and states, by outcomes or not.
     Explore(&'static str, u32, u32, bool),
+    /// The list of commands.
+    Commands,
+    /// The help of this command.
+    Help(&'static str),
+    Version,
     BadNumber,
     Usage,
 }
@@ -113,6 +119,21 @@ fn is_wanted(made: &Choice<'_>, wanted: &Wanted) -> bool {
     }
 }
 
+fn is_wanted_topic(made: &Topic<'_>, wanted: &Wanted) -> bool {
+    match (made, wanted) {
+        (Topic::Commands, Wanted::Commands) | (Topic::Version, Wanted::Version) => true,
+        (Topic::Command(made), Wanted::Help(name)) => made.name == *name,
+        _ => false,
+    }
+}
+
+fn is_wanted_request(made: &Request<'_>, wanted: &Wanted) -> bool {
+    match made {
+        Request::About(topic) => is_wanted_topic(topic, wanted),
+        Request::Answer(choice) => is_wanted(choice, wanted),
+    }
+}
+
 fn is_wanted_fault(fault: &ChooseFault, wanted: &Wanted) -> bool {
     match fault {
         ChooseFault::BadNumber => matches!(wanted, Wanted::BadNumber),
@@ -124,7 +145,7 @@ fn is_wanted_fault(fault: &ChooseFault, wanted: &Wanted) -> bool {
 /// Whether the words make what is wanted.
 fn make(alloc: Global, words: &[&str], wanted: &Wanted) -> bool {
     match choose(alloc, words) {
-        Ok(made) => is_wanted(&made, wanted),
+        Ok(made) => is_wanted_request(&made, wanted),
         Err(fault) => is_wanted_fault(&fault, wanted),
     }
 }
@@ -288,6 +309,11 @@ const CHOICES: &[Row] = &[
         "explore a.tm --nodes=3 --most=7 --outcomes",
         Wanted::Explore("a.tm", 3, 7, true),
     ),
+    // What the program says of itself.
+    ("help", Wanted::Commands),
+    ("help explore", Wanted::Help("explore")),
+    ("help -- help", Wanted::Help("help")),
+    ("version", Wanted::Version),
     // Charts.
     (
         "chart a.tm",
@@ -432,6 +458,13 @@ const REFUSED: &[Row] = &[
     ("chart a.tm --as json", Wanted::Usage),
     ("stats a.tm --from 1", Wanted::Usage),
     ("explore a.tm --steps 5", Wanted::Usage),
+    ("help plan", Wanted::Usage),
+    ("help Sim", Wanted::Usage),
+    ("help sim run", Wanted::Usage),
+    ("help -- --help", Wanted::Usage),
+    ("help --nodes 1", Wanted::Usage),
+    ("version sim", Wanted::Usage),
+    ("--version sim", Wanted::Usage),
 ];
 
 #[test]
