@@ -8,6 +8,7 @@ mod misfit;
 mod reading;
 mod runs;
 mod topics;
+mod why;
 
 pub use command_line::choose;
 pub use topics::about;

@@ -58,16 +58,22 @@ check_command = with_rule (new_app (codes "check")) file
 abbrev pub plain_command : App
 plain_command = with_rule (with_rule (with_rule (new_app (codes "plain")) file) nodes) steps
 
--- what all runs of the nodes have in common
+-- the options that all runs of the nodes have in common
+abbrev pub with_counts : App → App
+with_counts command = with_rule (with_rule (with_rule (with_rule (with_rule command nodes) steps) collect) order) page
+
 abbrev pub with_run_options : App → App
-with_run_options command = with_rule (with_rule (with_rule (with_rule (with_rule (with_rule command file) nodes) steps) collect) order) page
+with_run_options command = with_counts (with_rule command file)
 
 abbrev pub run_command : App
 run_command = with_run_options (new_app (codes "run"))
 
 -- what those have beside it that may go on by events, or at random
+abbrev pub with_ways : App → App
+with_ways command = with_rule (with_rule command (option (codes "events"))) (bare_number (codes "seed"))
+
 abbrev pub with_way_options : App → App
-with_way_options command = with_rule (with_rule (with_run_options command) (option (codes "events"))) (bare_number (codes "seed"))
+with_way_options command = with_ways (with_run_options command)
 
 abbrev pub sim_command : App
 sim_command = with_way_options (new_app (codes "sim"))
@@ -97,6 +103,26 @@ judge_command = with_rule (with_rule (with_rule (new_app (codes "judge")) file) 
 abbrev pub explore_command : App
 explore_command = with_rule (with_rule (with_rule (with_rule (new_app (codes "explore")) file) nodes) most) (flag_option (codes "outcomes"))
 
+-- a FILE need not be given where there is a file of acts, and an act has to be
+abbrev pub optional_file : Rule
+optional_file = new_rule (codes "FILE")
+
+abbrev pub act : Rule
+act = record (bare_number (codes "act")) { required = true }
+
+abbrev pub why_command : App
+why_command = with_rule (with_rule (with_rule (with_ways (with_counts (with_rule (new_app (codes "why")) optional_file)))
+    (option (codes "acts"))) act) (bare_number (codes "and"))
+
+abbrev pub lint_command : App
+lint_command = with_rule (new_app (codes "lint")) file
+
+abbrev pub trace_form : Rule
+trace_form = defaulted (codes "as") (codes "std")
+
+abbrev pub races_command : App
+races_command = with_rule (with_rule (with_rule (new_app (codes "races")) file) trace_form) (flag_option (codes "group"))
+
 -- what help is wanted on need not be given
 abbrev pub help_command : App
 help_command = with_rule (new_app (codes "help")) (new_rule (codes "COMMAND"))
@@ -120,11 +146,14 @@ abbrev pub with_questions : App → App
 with_questions command = with_subcommand (with_subcommand (with_subcommand (with_subcommand
     (with_subcommand (with_subcommand command trace_command.top) explain_command.top) stats_command.top) chart_command.top) judge_command.top) explore_command.top
 
+abbrev pub with_hints : App → App
+with_hints command = with_subcommand (with_subcommand (with_subcommand command why_command.top) lint_command.top) races_command.top
+
 abbrev pub with_topics : App → App
 with_topics command = with_subcommand (with_subcommand command help_command.top) version_command.top
 
 unfoldable pub treadmarks : App
-treadmarks = with_topics (with_questions (with_reports (record { top = treadmarks_shape; subs = [] })))
+treadmarks = with_topics (with_hints (with_questions (with_reports (record { top = treadmarks_shape; subs = [] }))))
 
 -- what the commands are called
 unfoldable pub command_names : List Text

@@ -3,9 +3,9 @@
 ghost use Rattle.std.specs.Prelude.{◌≡◌, [], IfOk, false};
 ghost use Rattle.clap.specs.Words.{App, Rule, app_of, rule_of, with_rule, with_subcommand};
 ghost use Rattle.clap.specs.declared.builder.command.Command.TheViews.{out-Command as fields_of};
-ghost use Rattle.lrc_commands.specs.Commands.{bare_number, chart_command, check_command, collect, explain_command, explore_command, file, flag_option, form, help_command, judge_command, most, nodes, number_option, option, order};
-ghost use Rattle.lrc_commands.specs.Commands.{page, plain_command, run_command, sim_command, stats_command, steps, trace_command, treadmarks, treadmarks_shape, version_command};
-ghost use Rattle.lrc_commands.specs.Commands.{is_command};
+ghost use Rattle.lrc_commands.specs.Commands.{act, bare_number, chart_command, check_command, collect, explain_command, explore_command, file, flag_option, form, help_command, judge_command, lint_command, most, nodes, number_option, option, order};
+ghost use Rattle.lrc_commands.specs.Commands.{optional_file, page, plain_command, races_command, run_command, sim_command, stats_command, steps, trace_command, trace_form, treadmarks, treadmarks_shape, version_command, why_command};
+ghost use Rattle.lrc_commands.specs.Commands.{is_command, with_counts, with_hints, with_ways};
 ghost use Rattle.lrc_commands.specs.Commands.{with_questions, with_reports, with_run_options, with_showing_options, with_topics, with_way_options};
 
 use clap::{Arg, ArgAction, Command, value_parser};
@@ -60,6 +60,22 @@ const MOST_HELP: &str = "How many states the search may meet: 1 to 100000000";
 
 const OUTCOMES_HELP: &str = "Shows every outcome of the orders, and looks for no race";
 
+const ACTS_HELP: &str =
+    "A file of acts, in place of FILE; `-` is standard input. It goes with `--nodes` and `--page` alone, and `--nodes` left out is one more than the greatest that acts";
+
+const ACT_HELP: &str = "The position of the act, counted from 0";
+
+const AND_HELP: &str = "That of another act: says how the two are ordered";
+
+const TRACE_HELP: &str =
+    "The trace; `-` is standard input, and its races are told as its lines come";
+
+const TRACE_FORM_HELP: &str =
+    "The form of the trace: std (an event `THREAD|OP(TARGET)|LOCATION` on each line) or acts (as `judge` reads it)";
+
+const GROUP_HELP: &str =
+    "Tells the races by their locations, with how often each was told, when the trace has ended";
+
 const COMMAND_HELP: &str = "The command. Left out, the commands are listed";
 
 // The version of the program. The message bytes have versions of their own.
@@ -68,17 +84,17 @@ const VERSION: &str = "0.1.0";
 // What the help says of the exit status, and of the one line that cannot say which option it means.
 const STATUSES: &str = "Exit status:
   0  all nodes ended, and no race was found (check: the text is a program; chart: the run was drawn; judge, explore:
-     nothing was found; help, version: always)
-  1  a fault of the text, a file, the events, memory or the output
+     nothing was found; races: no race was told; lint: the text is a program; why, help, version: always)
+  1  a fault of the text, a file, the events, memory or the output (lint: the text is no program)
   2  a fault of the words, or `--help` or `--version`. `number out of range` says that a number is not in the range that the help of
      its command gives
   3  a race was found
   4  no race, and a node trapped or is unfinished (judge: the acts are of no run; explore: some order gets stuck)";
 
 // The names of the commands.
-static COMMANDS: [&str; 12] = [
+static COMMANDS: [&str; 15] = [
     "check", "plain", "sim", "run", "trace", "explain", "stats", "chart", "judge", "explore",
-    "help", "version",
+    "why", "lint", "races", "help", "version",
 ];
 
 /// Whether a command is called so.
@@ -93,7 +109,8 @@ pub fn command_line<'w>(alloc: Global) -> Result<Command<'w>, AllocError>
     ensures { IfOk result (λ command. app_of command ≡ treadmarks) }
 {
     let command = taking_reports(alloc, bare_command_line(alloc)?)?;
-    taking_topics(alloc, taking_questions(alloc, command)?)
+    let command = taking_questions(alloc, command)?;
+    taking_topics(alloc, taking_hints(alloc, command)?)
 }
 
 // The command line without its commands.
@@ -130,6 +147,15 @@ fn taking_questions<'w>(alloc: Global, command: Command<'w>) -> Result<Command<'
     let command = having(command, chart_command(alloc));
     let command = having(command, judge_command(alloc));
     having(command, explore_command(alloc))
+}
+
+// Adds those that say why acts are as they are, and what is wrong with texts and traces.
+fn taking_hints<'w>(alloc: Global, command: Command<'w>) -> Result<Command<'w>, AllocError>
+    ensures { IfOk result (λ given. app_of given ≡ with_hints (app_of command.entry)) }
+{
+    let command = having(Ok(command), why_command(alloc));
+    let command = having(command, lint_command(alloc));
+    having(command, races_command(alloc))
 }
 
 // Adds those that say something of the program.
@@ -278,6 +304,41 @@ fn explore_command<'w>(alloc: Global) -> Result<Command<'w>, AllocError>
     taking(command, flag_option(alloc, "outcomes", OUTCOMES_HELP))
 }
 
+fn why_command<'w>(alloc: Global) -> Result<Command<'w>, AllocError>
+    ensures app { IfOk result (λ command. app_of command ≡ why_command) }
+    ensures local { IfOk result (λ command. (fields_of command).has_globals ≡ false) }
+{
+    let command = Command::new(alloc, "why").about(
+        "Says why an act of a run, or of acts from anywhere, is as it is, or how two acts are ordered",
+    );
+    let command = taking(Ok(command), optional_file(alloc));
+    let command = taking_ways(alloc, taking_counts(alloc, command, ORDER_HELP));
+    let command = taking(command, text(alloc, "acts", "PATH", ACTS_HELP));
+    let command = taking(command, act(alloc));
+    taking(command, bare_number(alloc, "and", "Q", AND_HELP))
+}
+
+fn lint_command<'w>(alloc: Global) -> Result<Command<'w>, AllocError>
+    ensures app { IfOk result (λ command. app_of command ≡ lint_command) }
+    ensures local { IfOk result (λ command. (fields_of command).has_globals ≡ false) }
+{
+    Command::new(alloc, "lint")
+        .about("Says what is wrong with the text of FILE, or warns of what is likely to be")
+        .arg(file(alloc, FILE_HELP))
+}
+
+fn races_command<'w>(alloc: Global) -> Result<Command<'w>, AllocError>
+    ensures app { IfOk result (λ command. app_of command ≡ races_command) }
+    ensures local { IfOk result (λ command. (fields_of command).has_globals ≡ false) }
+{
+    let command = Command::new(alloc, "races").about(
+        "Finds the races in a trace of any length and of any number of threads, as it is read",
+    );
+    let command = taking(Ok(command), file(alloc, TRACE_HELP));
+    let command = taking(command, trace_form(alloc));
+    taking(command, flag_option(alloc, "group", GROUP_HELP))
+}
+
 fn help_command<'w>(alloc: Global) -> Result<Command<'w>, AllocError>
     ensures app { IfOk result (λ command. app_of command ≡ help_command) }
     ensures local { IfOk result (λ command. (fields_of command).has_globals ≡ false) }
@@ -313,7 +374,18 @@ fn taking_way_options<'w>(alloc: Global, command: Command<'w>) -> Result<Command
     ensures app { IfOk result (λ given. app_of given ≡ with_way_options (app_of command.entry)) }
     ensures local { IfOk result (λ given. (fields_of given).has_globals ≡ false) }
 {
-    let command = taking_run_options(alloc, command, ORDER_HELP);
+    taking_ways(alloc, taking_run_options(alloc, command, ORDER_HELP))
+}
+
+// Adds what says how a run goes on.
+fn taking_ways<'w>(
+    alloc: Global,
+    command: Result<Command<'w>, AllocError>,
+) -> Result<Command<'w>, AllocError>
+    ensures app { (app : App) → IfOk command.entry (λ command. app_of command ≡ app) → IfOk result (λ given. app_of given ≡ with_ways app) }
+    ensures local { IfOk command.entry (λ command. (fields_of command).has_globals ≡ false)
+        → IfOk result (λ given. (fields_of given).has_globals ≡ false) }
+{
     let command = taking(command, text(alloc, "events", "PATH", EVENTS_HELP));
     taking(command, bare_number(alloc, "seed", "X", SEED_HELP))
 }
@@ -328,7 +400,19 @@ fn taking_run_options<'w>(
     ensures app { IfOk result (λ given. app_of given ≡ with_run_options (app_of command.entry)) }
     ensures local { IfOk result (λ given. (fields_of given).has_globals ≡ false) }
 {
-    let command = taking(Ok(command), file(alloc, FILE_HELP));
+    taking_counts(alloc, taking(Ok(command), file(alloc, FILE_HELP)), orders)
+}
+
+// Adds the options that all runs of the nodes have in common.
+fn taking_counts<'w>(
+    alloc: Global,
+    command: Result<Command<'w>, AllocError>,
+    orders: &'w str,
+) -> Result<Command<'w>, AllocError>
+    ensures app { (app : App) → IfOk command.entry (λ command. app_of command ≡ app) → IfOk result (λ given. app_of given ≡ with_counts app) }
+    ensures local { IfOk command.entry (λ command. (fields_of command).has_globals ≡ false)
+        → IfOk result (λ given. (fields_of given).has_globals ≡ false) }
+{
     let command = taking(command, nodes(alloc));
     let command = taking(command, steps(alloc));
     let command = taking(command, collect(alloc));
@@ -408,6 +492,27 @@ fn form<'w>(alloc: Global) -> Arg<'w>
     ensures local { result.global ≡ false }
 {
     text(alloc, "as", "FORM", FORM_HELP).default_value("acts")
+}
+
+fn trace_form<'w>(alloc: Global) -> Arg<'w>
+    ensures rule { rule_of result ≡ trace_form }
+    ensures local { result.global ≡ false }
+{
+    text(alloc, "as", "FORM", TRACE_FORM_HELP).default_value("std")
+}
+
+fn optional_file<'w>(alloc: Global) -> Arg<'w>
+    ensures rule { rule_of result ≡ optional_file }
+    ensures local { result.global ≡ false }
+{
+    Arg::new(alloc, "FILE").help(FILE_HELP)
+}
+
+fn act<'w>(alloc: Global) -> Arg<'w>
+    ensures rule { rule_of result ≡ act }
+    ensures local { result.global ≡ false }
+{
+    bare_number(alloc, "act", "P", ACT_HELP).required(true)
 }
 
 fn flag_option<'w>(alloc: Global, name: &'w str, help: &'w str) -> Arg<'w>

@@ -1,8 +1,8 @@
 use Rattle.std.proofs.Common.{List, Ok, Err, map, ap, subst}
 use Rattle.clap.specs.Words.{Text}
 use Rattle.lrc_args.specs.CommandLine.{Chooses, words_meant}
-use Rattle.lrc_args.specs.declared.choice.Request.TheVariants.{About, Answer}
-use Rattle.lrc_shell.specs.Plays.{played, refused, spoken}
+use Rattle.lrc_args.specs.declared.choice.Request.TheVariants.{About, Races, Answer}
+use Rattle.lrc_shell.specs.Plays.{played, raced, refused, spoken}
 use Rattle.lrc_shell.proofs.PlayLemmas.{same}
 use Rattle.lrc_shell.proofs.played.play.Goals as goal
 
@@ -12,6 +12,13 @@ returns-in-Answer g c =
     (subst (λ (words : List Text). Chooses words (Ok (Answer c.in-Answer.choice)))
     (ap (λ words. words_meant (map g.S.AsStr.text words)) c.words_of.ensures) c.in-Answer.ensures)
     c.play_choice.ensures
+
+pub returns-in-Races : goal.returns-in-Races
+returns-in-Races g c =
+    raced c.in-Races.racing
+    (subst (λ (words : List Text). Chooses words (Ok (Races c.in-Races.racing)))
+    (ap (λ words. words_meant (map g.S.AsStr.text words)) c.words_of.ensures) c.in-Races.ensures)
+    c.tell_races.ensures
 
 pub returns-in-About : goal.returns-in-About
 returns-in-About g c =

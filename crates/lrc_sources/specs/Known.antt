@@ -1,5 +1,5 @@
 -- What is known of the files that a program reads.
-use Rattle.std.specs.Prelude.{◌≡◌, ℕ, List, take}
+use Rattle.std.specs.Prelude.{◌≡◌, ◌++◌, ℕ, List, [], take}
 use Rattle.std.specs.declared.io.ErrorKind.{ErrorKind}
 use Rattle.std.specs.declared.io.ErrorKind.TheVariants.{OutOfMemory}
 
@@ -28,3 +28,16 @@ abbrev pub IsCause : Held → ErrorKind → Type 0
 IsCause unknown kind = Unit {0}
 IsCause unreadable kind = Unit {0}
 IsCause (holds text) kind = kind ≡ OutOfMemory
+
+-- What is left of a file behind these bytes: where it is known what the file holds, it begins with them; of one that cannot be read
+-- there are none.
+abbrev pub IsReadOff : Held → List ℕ → Held → Type 0
+IsReadOff unknown bytes left = left ≡ unknown
+IsReadOff unreadable bytes left = (bytes ≡ []) × (left ≡ unreadable)
+IsReadOff (holds text) bytes left = (rest : List ℕ) × (text ≡ bytes ++ rest) × (left ≡ holds rest)
+
+-- as far as it is known, no byte is left
+abbrev pub IsAtEnd : Held → Type 0
+IsAtEnd unknown = Unit {0}
+IsAtEnd unreadable = ⊥
+IsAtEnd (holds text) = text ≡ []

@@ -2,8 +2,9 @@
 
 ghost use Rattle.std.specs.Prelude.{◌≡◌, IfErr, IfOk, IfSome, take};
 ghost use Rattle.std.specs.IoError.{error_kind};
-ghost use Rattle.lrc_shell.specs.Known.{IsCause, IsFront, Known, nothing_known};
+ghost use Rattle.lrc_sources.specs.Known.{IsCause, IsFront, Known, nothing_known};
 
+use crate::blocks::{Blocks, Reading};
 use std::alloc::Global;
 use std::fs::Files;
 use std::io::{Input, Read};
@@ -11,8 +12,23 @@ use std::{fs, io};
 
 /// Where files are read from, each by its path, and standard input.
 pub trait Sources {
+    /// A file that is read block by block.
+    type File: Blocks + Drop;
+
+    /// Standard input, read so.
+    type Input: Blocks + Drop;
+
     /// What is known of what the files hold.
     ghost known: { Self → Known } = { λ _. nothing_known };
+
+    /// A file, to be read block by block.
+    fn open(&self, path: &str) -> io::Result<Self::File>
+        ensures ok { IfOk result (λ file. Self.File.left file ≡ (known self.now).files path.now) }
+        ensures err { IfErr result (λ error. IsCause ((known self.now).files path.now) (error_kind error)) };
+
+    /// Standard input, to be read block by block.
+    fn open_input(&self) -> Self::Input
+        ensures { Self.Input.left result ≡ (known self.now).input };
 
     /// The bytes of a file, up to `most` of them.
     fn file(&self, alloc: Global, path: &str, most: u64) -> io::Result<Vec<u8>>
@@ -33,6 +49,22 @@ pub struct System<'r, R> {
 }
 
 impl<'r, R: Files + Input> Sources for System<'r, R> {
+    type File = Reading<R::File>;
+
+    type Input = Reading<R::Reader>;
+
+    fn open(&self, path: &str) -> io::Result<Reading<R::File>> {
+        Ok(Reading {
+            reader: fs::open(self.rt, path)?,
+        })
+    }
+
+    fn open_input(&self) -> Reading<R::Reader> {
+        Reading {
+            reader: self.rt.reader(),
+        }
+    }
+
     fn file(&self, alloc: Global, path: &str, most: u64) -> io::Result<Vec<u8>> {
         read_up_to(alloc, fs::open(self.rt, path)?, most)
     }
