@@ -3,7 +3,7 @@ use Rattle.std.proofs.Common.{◌≡◌, ◌∙◌, ◌++◌, ◌+◌, ◌≤◌
 use Rattle.std.proofs.Math.Seq.{take-append-add}
 use Rattle.std.proofs.lemmas.List.{append_assoc, append-nil, take-append-le}
 use Rattle.std.proofs.Common.{Bool}
-use Rattle.std.specs.Io.KnownBytes.{Appends}
+use Rattle.std.specs.Io.KnownBytes.{Appends, Keeps}
 use Rattle.std.specs.declared.io.ErrorKind.{ErrorKind}
 use Rattle.lrc_races.specs.Session.{HasEnded, HasFailed, HasGoneOn, HasRead, IsStoppedAt}
 use Rattle.lrc_races.specs.declared.fault.Fault.{Fault}
@@ -148,3 +148,8 @@ take_front (suc n) (suc m) (x ∷ xs) fits = ap (λ rest. x ∷ rest) (take_fron
 -- the front of a block that was written back
 pub block_front : (count len : ℕ) (new rest : List ℕ) → count ≤ length new → count ≤ len → take count (take len (new ++ rest)) ≡ take count new
 block_front count len new rest fits room = take_front count len (new ++ rest) room ∙ take-append-le count new rest fits
+
+-- a writer to which nothing is written keeps its bytes
+pub nothing_said : (held : Option (List ℕ)) → Keeps held held
+nothing_said None = tt
+nothing_said (Some bytes) = refl

@@ -48,7 +48,7 @@ fn play_trace<B: Blocks + Drop, W: Write, E: Write>(
     out: &mut W,
     err: &mut E,
 ) -> u8
-    ensures { (outcome : AnyOutcome) × Comes form group (B.left trace.entry) (W.contents out.old) (W.contents out.new) outcome
+    ensures { (outcome : AnyOutcome) × Comes form group (B.left trace) (W.contents out.old) (W.contents out.new) outcome
         × IsConcluded outcome (E.contents err.old) (E.contents err.new) result }
 {
     let mut trace = trace;
