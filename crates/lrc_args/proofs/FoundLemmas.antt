@@ -8,8 +8,9 @@ use Rattle.clap.specs.Words.{Row, Text}
 use Rattle.clap.specs.Simple.{subcommand_rows}
 use Rattle.clap.specs.declared.parser.matches.ArgMatches.TheViews.{out-SubCommand}
 use Rattle.clap.specs.declared.parser.matches.SubCommand.{SubCommand}
-use Rattle.lrc_args.specs.CommandLine.{IsAskTaken, IsCommandTaken, IsShowTaken}
-use Rattle.lrc_args.specs.Options.{HasValue, IsChartTaken, IsExploreTaken, IsJudgeTaken, IsPlainTaken, IsRunTaken, IsShowingTaken, IsSimTaken, IsTraceTaken}
+use Rattle.lrc_args.specs.CommandLine.{IsAnswerTaken, IsAskTaken, IsCommandTaken, IsRequestTaken, IsShowTaken}
+use Rattle.lrc_args.specs.Options.{HasValue, IsChartTaken, IsExploreTaken, IsJudgeTaken, IsPlainTaken, IsRacesTaken, IsRunTaken, IsShowingTaken, IsSimTaken, IsTraceTaken}
+use Rattle.lrc_args.specs.Options.{IsWhyTaken}
 use Rattle.lrc_args.specs.declared.misfit.Misfit.{Misfit}
 
 module _ {Z : Type 0} where
@@ -55,6 +56,11 @@ one_or false A B = B
 -- what clap makes sure of in the rows of the command with this name
 abbrev taken_as : Text → List Row → Type 0
 taken_as name rows =
+    one_or (bytes_eq name (codes "help")) (Unit {0}) (
+    one_or (bytes_eq name (codes "version")) (Unit {0}) (
+    one_or (bytes_eq name (codes "races")) (IsRacesTaken rows) (
+    one_or (bytes_eq name (codes "lint")) (HasValue (codes "FILE") rows) (
+    one_or (bytes_eq name (codes "why")) (IsWhyTaken rows) (
     one_or (bytes_eq name (codes "check")) (HasValue (codes "FILE") rows) (
     one_or (bytes_eq name (codes "plain")) (IsPlainTaken rows) (
     one_or (bytes_eq name (codes "judge")) (IsJudgeTaken rows) (
@@ -63,12 +69,17 @@ taken_as name rows =
     one_or (bytes_eq name (codes "run")) (IsRunTaken rows) (
     one_or (bytes_eq name (codes "trace")) (IsTraceTaken rows) (
     one_or (bytes_eq name (codes "chart")) (IsChartTaken rows) (
-    IsShowingTaken rows))))))))
+    IsShowingTaken rows)))))))))))))
 
 -- the rows of a command whose name is known are as clap makes sure of for it
 named_rows : (found : Option (Text × List Row)) (name : Text) (rows : List Row) → option_map (λ p. p.0) found ≡ Some name
-    → option_map (λ p. p.1) found ≡ Some rows → IsCommandTaken found → taken_as name rows
-named_rows None name rows named held taken = absurd taken
+    → option_map (λ p. p.1) found ≡ Some rows → IsRequestTaken found → taken_as name rows
+named_rows None name rows named held taken = elim taken [
+  | inl t ↦ absurd t
+  | inr (inl t) ↦ absurd t
+  | inr (inr (inl t)) ↦ absurd t
+  | inr (inr (inr t)) ↦ absurd t
+]
 named_rows (Some f) name rows named held taken =
     let name_is : Some f.0 ≡ Some name = named in
     let rows_is : Some f.1 ≡ Some rows = held in
@@ -76,48 +87,85 @@ named_rows (Some f) name rows named held taken =
     let same_rows : f.1 ≡ rows = cc in
     let as_named = λ (n : Text) (e : f.0 ≡ n) (h : taken_as n f.1). subst (λ (m : Text). taken_as m f.1) (sym e) h in
     subst (λ (n : Text). taken_as n rows) same_name (subst (taken_as f.0) same_rows (elim taken [
-      | inl t ↦ as_named (codes "check") t.0 t.1
-      | inr (inl t) ↦ as_named (codes "plain") t.0 t.1
-      | inr (inr (inl t)) ↦ as_named (codes "judge") t.0 t.1
-      | inr (inr (inr (inl t))) ↦ as_named (codes "explore") t.0 t.1
-      | inr (inr (inr (inr (inl t)))) ↦ as_named (codes "sim") t.0 t.1
-      | inr (inr (inr (inr (inr (inl t))))) ↦ as_named (codes "run") t.0 t.1
-      | inr (inr (inr (inr (inr (inr (inl t)))))) ↦ as_named (codes "trace") t.0 t.1
-      | inr (inr (inr (inr (inr (inr (inr (inl t))))))) ↦ as_named (codes "explain") t.0 t.1
-      | inr (inr (inr (inr (inr (inr (inr (inr (inl t)))))))) ↦ as_named (codes "stats") t.0 t.1
-      | inr (inr (inr (inr (inr (inr (inr (inr (inr t)))))))) ↦ as_named (codes "chart") t.0 t.1
+      | inl (inl t) ↦ as_named (codes "help") t tt
+      | inl (inr t) ↦ as_named (codes "version") t tt
+      | inr (inl t) ↦ as_named (codes "races") t.0 t.1
+      | inr (inr (inl (inl t))) ↦ as_named (codes "lint") t.0 t.1
+      | inr (inr (inl (inr t))) ↦ as_named (codes "why") t.0 t.1
+      | inr (inr (inr (inl t))) ↦ as_named (codes "check") t.0 t.1
+      | inr (inr (inr (inr (inl t)))) ↦ as_named (codes "plain") t.0 t.1
+      | inr (inr (inr (inr (inr (inl t))))) ↦ as_named (codes "judge") t.0 t.1
+      | inr (inr (inr (inr (inr (inr (inl t)))))) ↦ as_named (codes "explore") t.0 t.1
+      | inr (inr (inr (inr (inr (inr (inr (inl t))))))) ↦ as_named (codes "sim") t.0 t.1
+      | inr (inr (inr (inr (inr (inr (inr (inr (inl t)))))))) ↦ as_named (codes "run") t.0 t.1
+      | inr (inr (inr (inr (inr (inr (inr (inr (inr (inl t))))))))) ↦ as_named (codes "trace") t.0 t.1
+      | inr (inr (inr (inr (inr (inr (inr (inr (inr (inr (inl t)))))))))) ↦ as_named (codes "explain") t.0 t.1
+      | inr (inr (inr (inr (inr (inr (inr (inr (inr (inr (inr (inl t))))))))))) ↦ as_named (codes "stats") t.0 t.1
+      | inr (inr (inr (inr (inr (inr (inr (inr (inr (inr (inr (inr t))))))))))) ↦ as_named (codes "chart") t.0 t.1
     ]))
 
 module _ (found : Option (Text × List Row)) (rows : List Row) (held : option_map (λ p. p.1) found ≡ Some rows) (taken : IsCommandTaken found) where
   pub check_rows : option_map (λ p. p.0) found ≡ Some (codes "check") → HasValue (codes "FILE") rows
-  check_rows named = named_rows found (codes "check") rows named held taken
+  check_rows named = named_rows found (codes "check") rows named held (inr (inr (inr taken)))
 
   pub plain_rows : option_map (λ p. p.0) found ≡ Some (codes "plain") → IsPlainTaken rows
-  plain_rows named = named_rows found (codes "plain") rows named held taken
+  plain_rows named = named_rows found (codes "plain") rows named held (inr (inr (inr taken)))
 
   pub judge_rows : option_map (λ p. p.0) found ≡ Some (codes "judge") → IsJudgeTaken rows
-  judge_rows named = named_rows found (codes "judge") rows named held taken
+  judge_rows named = named_rows found (codes "judge") rows named held (inr (inr (inr taken)))
 
   pub explore_rows : option_map (λ p. p.0) found ≡ Some (codes "explore") → IsExploreTaken rows
-  explore_rows named = named_rows found (codes "explore") rows named held taken
+  explore_rows named = named_rows found (codes "explore") rows named held (inr (inr (inr taken)))
 
   pub sim_rows : option_map (λ p. p.0) found ≡ Some (codes "sim") → IsSimTaken rows
-  sim_rows named = named_rows found (codes "sim") rows named held taken
+  sim_rows named = named_rows found (codes "sim") rows named held (inr (inr (inr taken)))
 
   pub run_rows : option_map (λ p. p.0) found ≡ Some (codes "run") → IsRunTaken rows
-  run_rows named = named_rows found (codes "run") rows named held taken
+  run_rows named = named_rows found (codes "run") rows named held (inr (inr (inr taken)))
 
   pub trace_rows : option_map (λ p. p.0) found ≡ Some (codes "trace") → IsTraceTaken rows
-  trace_rows named = named_rows found (codes "trace") rows named held taken
+  trace_rows named = named_rows found (codes "trace") rows named held (inr (inr (inr taken)))
 
   pub explain_rows : option_map (λ p. p.0) found ≡ Some (codes "explain") → IsShowingTaken rows
-  explain_rows named = named_rows found (codes "explain") rows named held taken
+  explain_rows named = named_rows found (codes "explain") rows named held (inr (inr (inr taken)))
 
   pub stats_rows : option_map (λ p. p.0) found ≡ Some (codes "stats") → IsShowingTaken rows
-  stats_rows named = named_rows found (codes "stats") rows named held taken
+  stats_rows named = named_rows found (codes "stats") rows named held (inr (inr (inr taken)))
 
   pub chart_rows : option_map (λ p. p.0) found ≡ Some (codes "chart") → IsChartTaken rows
-  chart_rows named = named_rows found (codes "chart") rows named held taken
+  chart_rows named = named_rows found (codes "chart") rows named held (inr (inr (inr taken)))
+
+module _ (found : Option (Text × List Row)) (rows : List Row) (held : option_map (λ p. p.1) found ≡ Some rows) where
+  pub races_rows : IsRequestTaken found → option_map (λ p. p.0) found ≡ Some (codes "races") → IsRacesTaken rows
+  races_rows taken named = named_rows found (codes "races") rows named held taken
+
+  pub lint_rows : IsAnswerTaken found → option_map (λ p. p.0) found ≡ Some (codes "lint") → HasValue (codes "FILE") rows
+  lint_rows taken named = named_rows found (codes "lint") rows named held (inr (inr taken))
+
+  pub why_rows : IsAnswerTaken found → option_map (λ p. p.0) found ≡ Some (codes "why") → IsWhyTaken rows
+  why_rows taken named = named_rows found (codes "why") rows named held (inr (inr taken))
+
+-- a command that is none of the first three is answered to the texts in files
+pub answer_left : (found : Option (Text × List Row)) → (option_map (λ p. p.0) found ≡ Some (codes "help") → false ≡ true)
+    → (option_map (λ p. p.0) found ≡ Some (codes "version") → false ≡ true) → (option_map (λ p. p.0) found ≡ Some (codes "races") → false ≡ true)
+    → IsRequestTaken found → IsAnswerTaken found
+answer_left None help version races taken = elim taken [ inl t ↦ absurd t | inr (inl t) ↦ absurd t | inr (inr t) ↦ t ]
+answer_left (Some f) help version races taken = elim taken [
+  | inl (inl t) ↦ let bad : false ≡ true = help (ap Some t) in absurd cc
+  | inl (inr t) ↦ let bad : false ≡ true = version (ap Some t) in absurd cc
+  | inr (inl t) ↦ let bad : false ≡ true = races (ap Some t.0) in absurd cc
+  | inr (inr t) ↦ t
+]
+
+-- and one of these that is neither `lint` nor `why` is one of the others
+pub choice_left : (found : Option (Text × List Row)) → (option_map (λ p. p.0) found ≡ Some (codes "lint") → false ≡ true)
+    → (option_map (λ p. p.0) found ≡ Some (codes "why") → false ≡ true) → IsAnswerTaken found → IsCommandTaken found
+choice_left None lint why taken = elim taken [ inl t ↦ absurd t | inr t ↦ t ]
+choice_left (Some f) lint why taken = elim taken [
+  | inl (inl t) ↦ let bad : false ≡ true = lint (ap Some t.0) in absurd cc
+  | inl (inr t) ↦ let bad : false ≡ true = why (ap Some t.0) in absurd cc
+  | inr t ↦ t
+]
 
 -- a command that shows something of a run is one of all commands
 pub show_taken : (found : Option (Text × List Row)) → IsSomeAnd found IsShowTaken → IsCommandTaken found

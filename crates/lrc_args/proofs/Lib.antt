@@ -1,3 +1,4 @@
 pub mod FoundLemmas
 pub mod RowLemmas
 pub mod TakenLemmas
+pub mod TopicLemmas

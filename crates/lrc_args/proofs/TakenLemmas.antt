@@ -14,11 +14,12 @@ use Rattle.clap.specs.Faults.{check_fault, defaults_fault, entered_fault, fault_
 use Rattle.clap.specs.declared.builder.value_parser.ValueParser.TheVariants.{Unsigned, Bool as BoolParser}
 use Rattle.clap.specs.declared.error.kind.ErrorKind.TheVariants.{InvalidValue, ValueValidation}
 use Rattle.clap.proofs.ValueTestLemmas.{accepts-Accepts}
-use Rattle.lrc_args.specs.CommandLine.{IsCommandTaken}
-use Rattle.lrc_args.specs.Commands.{bare_number, chart_command, check_command, collect, explain_command, explore_command, flag_option, form, judge_command, nodes, number_option, order, page}
-use Rattle.lrc_args.specs.Commands.{plain_command, run_command, sim_command, stats_command, steps, trace_command, treadmarks, treadmarks_shape}
+use Rattle.lrc_args.specs.CommandLine.{IsRequestTaken}
+use Rattle.lrc_commands.specs.Commands.{act, bare_number, chart_command, check_command, collect, explain_command, explore_command, flag_option, form, help_command, judge_command, lint_command, nodes, number_option, order, page}
+use Rattle.lrc_commands.specs.Commands.{plain_command, races_command, run_command, sim_command, stats_command, steps, trace_command, trace_form, treadmarks, treadmarks_shape, version_command}
+use Rattle.lrc_commands.specs.Commands.{why_command}
 use Rattle.lrc_args.specs.Options.{HasValue, IsBareNumber, IsChartTaken, IsExploreTaken, IsFlagOption, IsJudgeTaken, IsNumberOption, IsPlainTaken, IsRunTaken}
-use Rattle.lrc_args.specs.Options.{IsShowingTaken, IsSimTaken, IsTraceTaken}
+use Rattle.lrc_args.specs.Options.{IsRacesTaken, IsShowingTaken, IsSimTaken, IsTraceTaken, IsWhyTaken}
 use Rattle.lrc_args.proofs.RowLemmas.{IsKeyed, IsLevel, first_passes, given_some, level_good, neither, required_given, same_bytes}
 
 abbrev check_built : Shape
@@ -50,6 +51,21 @@ judge_built = built_leaf (inherited treadmarks_shape judge_command.top)
 
 abbrev explore_built : Shape
 explore_built = built_leaf (inherited treadmarks_shape explore_command.top)
+
+abbrev why_built : Shape
+why_built = built_leaf (inherited treadmarks_shape why_command.top)
+
+abbrev lint_built : Shape
+lint_built = built_leaf (inherited treadmarks_shape lint_command.top)
+
+abbrev races_built : Shape
+races_built = built_leaf (inherited treadmarks_shape races_command.top)
+
+abbrev help_built : Shape
+help_built = built_leaf (inherited treadmarks_shape help_command.top)
+
+abbrev version_built : Shape
+version_built = built_leaf (inherited treadmarks_shape version_command.top)
 
 check_keyed : AllByRecursion (IsKeyed check_built.rules) check_built.rules
 check_keyed = (
@@ -309,6 +325,15 @@ explore_keyed = (
   ),
 )
 
+why_keyed : AllByRecursion (IsKeyed why_built.rules) why_built.rules
+why_keyed = (record { own = refl; acts = inl (refl, lit< tt) }, (record { own = refl; acts = inl (refl, lit< tt) }, (record { own = refl; acts = inl (refl, lit< tt) }, (record { own = refl; acts = inl (refl, lit< tt) }, (record { own = refl; acts = inl (refl, lit< tt) }, (record { own = refl; acts = inl (refl, lit< tt) }, (record { own = refl; acts = inl (refl, lit< tt) }, (record { own = refl; acts = inl (refl, lit< tt) }, (record { own = refl; acts = inl (refl, lit< tt) }, (record { own = refl; acts = inl (refl, lit< tt) }, (record { own = refl; acts = inl (refl, lit< tt) }, (record { own = refl; acts = inr (inr refl) }, tt))))))))))))
+
+lint_keyed : AllByRecursion (IsKeyed lint_built.rules) lint_built.rules
+lint_keyed = (record { own = refl; acts = inl (refl, lit< tt) }, (record { own = refl; acts = inr (inr refl) }, tt))
+
+races_keyed : AllByRecursion (IsKeyed races_built.rules) races_built.rules
+races_keyed = (record { own = refl; acts = inl (refl, lit< tt) }, (record { own = refl; acts = inl (refl, lit< tt) }, (record { own = refl; acts = inr (inl (refl, lit< tt)) }, (record { own = refl; acts = inr (inr refl) }, tt))))
+
 -- a value that the parser of numbers let through
 bare_passed : (text : Option Text) → IfSome text (λ t. value_kinds false (Unsigned 0 18446744073709551615) t ≡ [])
     → IfSome text (IsUnsignedIn 0 18446744073709551615)
@@ -489,43 +514,85 @@ explore_taken words none =
       outcomes = flag_taken explore_built rows level (codes "outcomes") refl;
     }
 
+lint_taken : (words : List Text) → level_fault lint_built [] nothing_held words false [] ≡ [] → HasValue (codes "FILE") (rows_after lint_built.rules [] words)
+lint_taken words none =
+    let rows = rows_after lint_built.rules [] words in
+    let level = level_good lint_built words lint_keyed none in
+    given_some lint_built.rules (codes "FILE") rows level.good ((required_given lint_built rows level.checked).0 refl)
+
+races_taken : (words : List Text) → level_fault races_built [] nothing_held words false [] ≡ [] → IsRacesTaken (rows_after races_built.rules [] words)
+races_taken words none =
+    let rows = rows_after races_built.rules [] words in
+    let level = level_good races_built words races_keyed none in
+    record {
+      file = given_some races_built.rules (codes "FILE") rows level.good ((required_given races_built rows level.checked).0 refl);
+      form = level.there (filled trace_form) refl (lit< tt);
+      group = flag_taken races_built rows level (codes "group") refl;
+    }
+
+why_taken : (words : List Text) → level_fault why_built [] nothing_held words false [] ≡ [] → IsWhyTaken (rows_after why_built.rules [] words)
+why_taken words none =
+    let rows = rows_after why_built.rules [] words in
+    let level = level_good why_built words why_keyed none in
+    let asked = given_some why_built.rules (codes "act") rows level.good ((required_given why_built rows level.checked).1.1.1.1.1.1.1.1.1.0 refl) in
+    let first = first_passes why_built.rules (filled act) rows level.good refl in
+    record {
+      nodes = number_taken why_built rows level (codes "nodes") (codes "1") refl;
+      page = level.there (filled page) refl (lit< tt);
+      act = record {
+        number = number_passed (first_of (codes "act") rows) asked (bare_passed (first_of (codes "act") rows) first.0);
+        as_written = first.1 ∙ same_text (first_of (codes "act") rows);
+      };
+      other = bare_taken why_built rows level (codes "and") refl;
+      run = λ file.
+          all_sim_taken why_built rows level (all_run_taken why_built rows level (all_plain_taken why_built rows level file refl refl) refl refl refl) refl;
+    }
+
 -- the top of the command line, as clap builds it
 abbrev top_built : App
 top_built = record {
   top = built_leaf (record treadmarks_shape { is_leaf = false });
-  subs = check_built ∷ plain_built ∷ sim_built ∷ run_built ∷ trace_built ∷ explain_built ∷ stats_built ∷ chart_built ∷ judge_built ∷ explore_built ∷ [];
+  subs = check_built ∷ plain_built ∷ sim_built ∷ run_built ∷ trace_built ∷ explain_built ∷ stats_built ∷ chart_built ∷ judge_built ∷ explore_built ∷ why_built ∷ lint_built ∷ races_built ∷ help_built ∷ version_built ∷ [];
 }
 
 one_named : (rows : List Row) (stop : Option (Text × List Text)) → entered_fault top_built stop ≡ []
     → check_fault top_built.top rows (is_some (entered top_built stop)) ≡ []
-    → IsCommandTaken (entered top_built stop)
+    → IsRequestTaken (entered top_built stop)
 one_named rows None none checked = absurd cc
 one_named rows (Some p) none checked =
     go (answers_to p.0 (label_of check_built)) (answers_to p.0 (label_of plain_built)) (answers_to p.0 (label_of sim_built)) (answers_to p.0 (label_of run_built))
     (answers_to p.0 (label_of trace_built)) (answers_to p.0 (label_of explain_built)) (answers_to p.0 (label_of stats_built)) (answers_to p.0 (label_of chart_built))
-    (answers_to p.0 (label_of judge_built)) (answers_to p.0 (label_of explore_built)) none checked
+    (answers_to p.0 (label_of judge_built)) (answers_to p.0 (label_of explore_built)) (answers_to p.0 (label_of why_built)) (answers_to p.0 (label_of lint_built))
+    (answers_to p.0 (label_of races_built)) (answers_to p.0 (label_of help_built)) (answers_to p.0 (label_of version_built)) none checked
   where
-    shape : Bool → Bool → Bool → Bool → Bool → Bool → Bool → Bool → Bool → Bool → Option Shape
-    shape a b d f h i k l m n =
+    shape : Bool → Bool → Bool → Bool → Bool → Bool → Bool → Bool → Bool → Bool → Bool → Bool → Bool → Bool → Bool → Option Shape
+    shape a b d f h i k l m n o q t u w =
         cond a (Some check_built) (cond b (Some plain_built) (cond d (Some sim_built) (cond f (Some run_built) (cond h (Some trace_built)
-        (cond i (Some explain_built) (cond k (Some stats_built) (cond l (Some chart_built) (cond m (Some judge_built) (cond n (Some explore_built) None)))))))))
+        (cond i (Some explain_built) (cond k (Some stats_built) (cond l (Some chart_built) (cond m (Some judge_built) (cond n (Some explore_built)
+        (cond o (Some why_built) (cond q (Some lint_built) (cond t (Some races_built) (cond u (Some help_built)
+        (cond w (Some version_built) None))))))))))))))
 
-    go : (a b d f h i k l m n : Bool) → option_map_or (λ s. level_fault s [] nothing_held p.1 false []) (shape a b d f h i k l m n) [] ≡ []
-        → check_fault top_built.top rows (is_some (option_map (λ s. rows_at s p.1) (shape a b d f h i k l m n))) ≡ []
-        → IsCommandTaken (option_map (λ s. rows_at s p.1) (shape a b d f h i k l m n))
-    go true b d f h i k l m n e checked = inl (refl, check_taken p.1 e)
-    go false true d f h i k l m n e checked = inr (inl (refl, plain_taken p.1 e))
-    go false false true f h i k l m n e checked = inr (inr (inr (inr (inl (refl, sim_taken p.1 e)))))
-    go false false false true h i k l m n e checked = inr (inr (inr (inr (inr (inl (refl, run_taken p.1 e))))))
-    go false false false false true i k l m n e checked = inr (inr (inr (inr (inr (inr (inl (refl, trace_taken p.1 e)))))))
-    go false false false false false true k l m n e checked = inr (inr (inr (inr (inr (inr (inr (inl (refl, explain_taken p.1 e))))))))
-    go false false false false false false true l m n e checked = inr (inr (inr (inr (inr (inr (inr (inr (inl (refl, stats_taken p.1 e)))))))))
-    go false false false false false false false true m n e checked = inr (inr (inr (inr (inr (inr (inr (inr (inr (refl, chart_taken p.1 e)))))))))
-    go false false false false false false false false true n e checked = inr (inr (inl (refl, judge_taken p.1 e)))
-    go false false false false false false false false false true e checked = inr (inr (inr (inl (refl, explore_taken p.1 e))))
-    go false false false false false false false false false false e checked = absurd cc
+    go : (a b d f h i k l m n o q t u w : Bool) → option_map_or (λ s. level_fault s [] nothing_held p.1 false []) (shape a b d f h i k l m n o q t u w) [] ≡ []
+        → check_fault top_built.top rows (is_some (option_map (λ s. rows_at s p.1) (shape a b d f h i k l m n o q t u w))) ≡ []
+        → IsRequestTaken (option_map (λ s. rows_at s p.1) (shape a b d f h i k l m n o q t u w))
+    go true b d f h i k l m n o q t u w e checked = inr (inr (inr (inl (refl, check_taken p.1 e))))
+    go false true d f h i k l m n o q t u w e checked = inr (inr (inr (inr (inl (refl, plain_taken p.1 e)))))
+    go false false true f h i k l m n o q t u w e checked = inr (inr (inr (inr (inr (inr (inr (inl (refl, sim_taken p.1 e))))))))
+    go false false false true h i k l m n o q t u w e checked = inr (inr (inr (inr (inr (inr (inr (inr (inl (refl, run_taken p.1 e)))))))))
+    go false false false false true i k l m n o q t u w e checked = inr (inr (inr (inr (inr (inr (inr (inr (inr (inl (refl, trace_taken p.1 e))))))))))
+    go false false false false false true k l m n o q t u w e checked = inr (inr (inr (inr (inr (inr (inr (inr (inr (inr (inl (refl, explain_taken p.1 e)))))))))))
+    go false false false false false false true l m n o q t u w e checked = inr (inr (inr (inr (inr (inr (inr (inr (inr (inr (inr (inl (refl, stats_taken p.1 e))))))))))))
+    go false false false false false false false true m n o q t u w e checked = inr (inr (inr (inr (inr (inr (inr (inr (inr (inr (inr (inr (refl, chart_taken p.1 e))))))))))))
+    go false false false false false false false false true n o q t u w e checked = inr (inr (inr (inr (inr (inl (refl, judge_taken p.1 e))))))
+    go false false false false false false false false false true o q t u w e checked = inr (inr (inr (inr (inr (inr (inl (refl, explore_taken p.1 e)))))))
+    go false false false false false false false false false false true q t u w e checked = inr (inr (inl (inr (refl, why_taken p.1 e))))
+    go false false false false false false false false false false false true t u w e checked = inr (inr (inl (inl (refl, lint_taken p.1 e))))
+    go false false false false false false false false false false false false true u w e checked = inr (inl (refl, races_taken p.1 e))
+    go false false false false false false false false false false false false false true w e checked = inl (inl refl)
+    go false false false false false false false false false false false false false false true e checked = inl (inr refl)
+    go false false false false false false false false false false false false false false false e checked = absurd cc
 
-pub taken : (words : List Text) → fault_of treadmarks words ≡ [] → IsCommandTaken (subcommand_of treadmarks words)
+pub taken : (words : List Text) → fault_of treadmarks words ≡ [] → IsRequestTaken (subcommand_of treadmarks words)
 unfolding treadmarks
 taken words none =
     let stop = stop_after top_built.top.rules (names_of top_built) words in

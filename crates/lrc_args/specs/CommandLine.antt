@@ -1,30 +1,37 @@
 -- The words of the command line, as clap reads them, and the choice that they make.
-use Rattle.std.specs.Prelude.{◌≡◌, ◌≢◌, ◌⊎◌, Bool, false, List, [], ◌∷◌, Option, None, Some, Result, Ok, Err, IsSomeAnd, codes, option_map}
+use Rattle.std.specs.Prelude.{◌≡◌, ◌≢◌, ◌⊎◌, Bool, false, List, [], ◌∷◌, Option, None, Some, Result, Ok, Err, IsSome, IsSomeAnd, codes, option_map}
 use Rattle.std.specs.Int.{IsOutOfRange}
 use Rattle.clap.specs.Words.{IsAmong, Row, Text, fault_of, first_of, kind_of, subcommand_of}
 use Rattle.clap.specs.declared.error.Error.{Error}
 use Rattle.clap.specs.declared.error.kind.ErrorKind.{ErrorKind}
-use Rattle.clap.specs.declared.error.kind.ErrorKind.TheVariants.{ArgumentConflict, InvalidValue, OutOfMemory}
+use Rattle.clap.specs.declared.error.kind.ErrorKind.TheVariants.{ArgumentConflict, InvalidSubcommand, InvalidValue, MissingRequiredArgument, OutOfMemory}
 use Rattle.lrc_envelope.specs.declared.picker.Picker.{Picker}
+use Rattle.lrc_args.specs.declared.choice.Asking.{Asking}
 use Rattle.lrc_args.specs.declared.choice.Charting.{Charting}
 use Rattle.lrc_args.specs.declared.choice.Choice.{Choice}
-use Rattle.lrc_args.specs.declared.choice.Choice.TheVariants.{Check, Plain, Show, Judge, Explore}
+use Rattle.lrc_args.specs.declared.choice.Choice.TheVariants.{Check, Plain, Show, Judge, Explore, Lint, Why, WhyActs}
 use Rattle.lrc_args.specs.declared.choice.ChooseFault.{ChooseFault}
 use Rattle.lrc_args.specs.declared.choice.ChooseFault.TheVariants.{Usage, BadNumber, NoMemory}
 use Rattle.lrc_args.specs.declared.choice.Exploring.{Exploring}
+use Rattle.lrc_args.specs.declared.choice.ForeignActs.{ForeignActs}
 use Rattle.lrc_args.specs.declared.choice.Form.{Form}
 use Rattle.lrc_args.specs.declared.choice.Judging.{Judging}
 use Rattle.lrc_args.specs.declared.choice.PlainRun.{PlainRun}
+use Rattle.lrc_args.specs.declared.choice.Racing.{Racing}
+use Rattle.lrc_args.specs.declared.choice.Request.{Request}
+use Rattle.lrc_args.specs.declared.choice.Request.TheVariants.{About, Races, Answer}
 use Rattle.lrc_args.specs.declared.choice.RunChoice.{RunChoice}
 use Rattle.lrc_args.specs.declared.choice.Shape.{Shape}
 use Rattle.lrc_args.specs.declared.choice.Shape.TheVariants.{Report, Trace, Explain, Stats, Chart}
+use Rattle.lrc_args.specs.declared.choice.Topic.{Topic}
+use Rattle.lrc_args.specs.declared.choice.Topic.TheVariants.{Commands, Command, Version}
 use Rattle.lrc_args.specs.declared.choice.Way.{Way}
 use Rattle.lrc_args.specs.declared.misfit.Misfit.{Misfit}
-use Rattle.lrc_args.specs.declared.misfit.Misfit.TheVariants.{Order, RunOrder, Page, Form as FormMisfit, Seed, Threads, Messages, Number}
-use Rattle.lrc_args.specs.Commands.{treadmarks}
-use Rattle.lrc_args.specs.Options.{AreOptions, AreRunOptions, HasBadCount, HasFormMisfitIn, HasOptionsMisfit, HasValue, HasWayMisfitIn, IsChartTaken}
-use Rattle.lrc_args.specs.Options.{IsExploreTaken, IsFlag, IsFormIn, IsJudgeTaken, IsPicker, IsPlainTaken, IsRunTaken, IsShowingTaken}
-use Rattle.lrc_args.specs.Options.{IsSimTaken, IsThreadsWayIn, IsTraceTaken, IsWayIn, most_in, nodes_in, some_number_in}
+use Rattle.lrc_args.specs.declared.misfit.Misfit.TheVariants.{Order, RunOrder, Page, Form as FormMisfit, Seed, Threads, Messages, Topic as TopicMisfit, TraceForm, SameAct, Sources, NoSource, RunOption, Number}
+use Rattle.lrc_commands.specs.Commands.{is_command, treadmarks}
+use Rattle.lrc_args.specs.Options.{AreForeignActs, AreOptions, AreRunOptions, HasBadCount, HasForeignMisfit, HasFormMisfitIn, HasOptionsMisfit, HasRacesMisfit, HasValue, HasWayMisfitIn, IsAsking, IsChartTaken}
+use Rattle.lrc_args.specs.Options.{IsExploreTaken, IsFlag, IsFormIn, IsJudgeTaken, IsPicker, IsPlainTaken, IsRacesTaken, IsRunTaken, IsShowingTaken}
+use Rattle.lrc_args.specs.Options.{IsSimTaken, IsThreadsWayIn, IsTraceForm, IsTraceTaken, IsWayIn, IsWhyTaken, most_in, nodes_in, option_number, some_number_in}
 
 -- no words at all stand for `sim -`
 abbrev pub words_meant : List Text → List Text
@@ -54,6 +61,26 @@ IsCommandTaken (Some found) = ((found.0 ≡ codes "check") × HasValue (codes "F
     ⊎ ((found.0 ≡ codes "judge") × IsJudgeTaken found.1)
     ⊎ ((found.0 ≡ codes "explore") × IsExploreTaken found.1)
     ⊎ IsShowTaken found
+
+-- the command says something of the program
+abbrev pub IsTopicTaken : Text × List Row → Type 0
+IsTopicTaken found = (found.0 ≡ codes "help") ⊎ (found.0 ≡ codes "version")
+
+-- the command that looks for the races of a trace
+abbrev pub IsRacesFound : Text × List Row → Type 0
+IsRacesFound found = (found.0 ≡ codes "races") × IsRacesTaken found.1
+
+-- the command that says what is wrong with a text, or why an act is as it is
+abbrev pub IsHintTaken : Text × List Row → Type 0
+IsHintTaken found = ((found.0 ≡ codes "lint") × HasValue (codes "FILE") found.1) ⊎ ((found.0 ≡ codes "why") × IsWhyTaken found.1)
+
+-- the command that is answered to the texts in files
+abbrev pub IsAnswerTaken : Option (Text × List Row) → Type 0
+IsAnswerTaken found = IsSomeAnd found IsHintTaken ⊎ IsCommandTaken found
+
+-- any command
+abbrev pub IsRequestTaken : Option (Text × List Row) → Type 0
+IsRequestTaken found = IsSomeAnd found IsTopicTaken ⊎ IsSomeAnd found IsRacesFound ⊎ IsAnswerTaken found
 
 -- ---- the choice that the matches make
 
@@ -104,6 +131,18 @@ IsShowChoice found run Explain = (found.0 ≡ codes "explain") × IsShowingRun f
 IsShowChoice found run Stats = (found.0 ≡ codes "stats") × IsShowingRun found.1 run
 IsShowChoice found run (Chart charting) = (found.0 ≡ codes "chart") × IsCharting found.1 charting × IsShowingRun found.1 run
 
+-- Why an act of a run is as it is.
+pub record IsWhy (rows : List Row) (run : RunChoice) (asking : Asking) : Type 0 where
+  pub acts : first_of (codes "acts") rows ≡ None
+  pub run_is : IsRun false rows run
+  pub asking_is : IsAsking rows asking
+
+-- Why an act from anywhere is as it is.
+pub record IsWhyActs (rows : List Row) (acts : ForeignActs) (asking : Asking) : Type 0 where
+  pub file : first_of (codes "FILE") rows ≡ None
+  pub acts_are : AreForeignActs rows acts
+  pub asking_is : IsAsking rows asking
+
 -- the choice is the command that clap found, with its matches
 abbrev pub IsChoice : Text × List Row → Choice → Type 0
 IsChoice found (Check text) = (found.0 ≡ codes "check") × (first_of (codes "FILE") found.1 ≡ Some text.now)
@@ -111,6 +150,27 @@ IsChoice found (Plain run) = (found.0 ≡ codes "plain") × IsPlainRun found.1 r
 IsChoice found (Show run shape) = IsShowChoice found run shape
 IsChoice found (Judge judging) = (found.0 ≡ codes "judge") × IsJudging found.1 judging
 IsChoice found (Explore exploring) = (found.0 ≡ codes "explore") × IsExploring found.1 exploring
+IsChoice found (Lint file) = (found.0 ≡ codes "lint") × (first_of (codes "FILE") found.1 ≡ Some file.now)
+IsChoice found (Why run asking) = (found.0 ≡ codes "why") × IsWhy found.1 run asking
+IsChoice found (WhyActs acts asking) = (found.0 ≡ codes "why") × IsWhyActs found.1 acts asking
+
+-- what the program is to say of itself
+abbrev pub IsTopic : Text × List Row → Topic → Type 0
+IsTopic found Commands = (found.0 ≡ codes "help") × (first_of (codes "COMMAND") found.1 ≡ None)
+IsTopic found (Command command) = (found.0 ≡ codes "help") × (first_of (codes "COMMAND") found.1 ≡ Some command.name.now)
+IsTopic found Version = found.0 ≡ codes "version"
+
+-- which races are looked for
+pub record IsRacing (rows : List Row) (racing : Racing) : Type 0 where
+  pub file : first_of (codes "FILE") rows ≡ Some racing.file.now
+  pub form : IsTraceForm (first_of (codes "as") rows) racing.form
+  pub group : IsFlag (codes "group") racing.group rows
+
+-- what the command that clap found asks for, with its matches
+abbrev pub IsRequest : Text × List Row → Request → Type 0
+IsRequest found (About topic) = IsTopic found topic
+IsRequest found (Races racing) = (found.0 ≡ codes "races") × IsRacing found.1 racing
+IsRequest found (Answer choice) = IsChoice found choice
 
 -- ---- what does not fit
 
@@ -157,6 +217,29 @@ HasMisfit found misfit = ((found.0 ≡ codes "plain") × HasPlainMisfit found.1 
     ⊎ ((found.0 ≡ codes "explore") × HasExploreMisfit found.1 misfit)
     ⊎ HasShowMisfit found misfit
 
+-- Of `why`: of which acts it is asked; then where they are from, a FILE or a file of acts; then what does not fit of these.
+pub record HasWhyMisfit (rows : List Row) (misfit : Misfit) : Type 0 where
+  pub why : ((misfit ≡ SameAct) × (some_number_in (codes "and") rows ≡ Some (option_number (codes "act") rows)))
+      ⊎ ((misfit ≡ Sources) × IsSome (first_of (codes "FILE") rows) × IsSome (first_of (codes "acts") rows))
+      ⊎ ((misfit ≡ NoSource) × (first_of (codes "FILE") rows ≡ None) × (first_of (codes "acts") rows ≡ None))
+      ⊎ ((asking : Asking) × IsAsking rows asking × IsSome (first_of (codes "FILE") rows) × (first_of (codes "acts") rows ≡ None)
+      × HasMisfitOfRun false rows misfit)
+      ⊎ ((asking : Asking) × IsAsking rows asking × (first_of (codes "FILE") rows ≡ None) × IsSome (first_of (codes "acts") rows)
+      × HasForeignMisfit rows misfit)
+
+-- what does not fit in what is answered to the texts in files
+abbrev pub HasAnswerMisfit : Text × List Row → Misfit → Type 0
+HasAnswerMisfit found misfit = ((found.0 ≡ codes "why") × HasWhyMisfit found.1 misfit) ⊎ HasMisfit found misfit
+
+-- help is wanted on a word that is no command
+abbrev pub HasTopicMisfit : Text × List Row → Misfit → Type 0
+HasTopicMisfit found misfit =
+    (found.0 ≡ codes "help") × (misfit ≡ TopicMisfit) × IsSomeAnd (first_of (codes "COMMAND") found.1) (λ word. is_command word ≡ false)
+
+abbrev pub HasRequestMisfit : Text × List Row → Misfit → Type 0
+HasRequestMisfit found misfit = HasTopicMisfit found misfit ⊎ ((found.0 ≡ codes "races") × HasRacesMisfit found.1 misfit)
+    ⊎ HasAnswerMisfit found misfit
+
 -- ---- faults
 
 -- the kind of the usage text on what does not fit: a word that an option does not take, or options that do not stand together
@@ -168,6 +251,12 @@ IsUsageKind FormMisfit kind = kind ≡ InvalidValue
 IsUsageKind Seed kind = kind ≡ ArgumentConflict
 IsUsageKind Threads kind = kind ≡ ArgumentConflict
 IsUsageKind Messages kind = kind ≡ ArgumentConflict
+IsUsageKind TopicMisfit kind = kind ≡ InvalidSubcommand
+IsUsageKind TraceForm kind = kind ≡ InvalidValue
+IsUsageKind SameAct kind = kind ≡ ArgumentConflict
+IsUsageKind Sources kind = kind ≡ ArgumentConflict
+IsUsageKind NoSource kind = kind ≡ MissingRequiredArgument
+IsUsageKind RunOption kind = kind ≡ ArgumentConflict
 IsUsageKind Number kind = ⊥
 
 -- the fault of what does not fit
@@ -192,12 +281,12 @@ IsFoundFault words NoMemory = Unit {0}
 
 -- clap finds no fault in the words, and this does not fit in what it found
 abbrev pub AreMisfits : List Text → Misfit → Type 0
-AreMisfits words misfit = (fault_of treadmarks words ≡ []) × IsSomeAnd (subcommand_of treadmarks words) (λ found. HasMisfit found misfit)
+AreMisfits words misfit = (fault_of treadmarks words ≡ []) × IsSomeAnd (subcommand_of treadmarks words) (λ found. HasRequestMisfit found misfit)
 
--- What the words come to: where clap finds no fault in them, the choice that it read, or words that do not fit, or a number
+-- What the words come to: where clap finds no fault in them, the request that it read, or words that do not fit, or a number
 -- that is out of range; where it finds one, that fault. Memory may run out at any words.
-abbrev pub Chooses : List Text → Result Choice ChooseFault → Type 0
-Chooses words (Ok choice) = (fault_of treadmarks words ≡ []) × IsSomeAnd (subcommand_of treadmarks words) (λ found. IsChoice found choice)
+abbrev pub Chooses : List Text → Result Request ChooseFault → Type 0
+Chooses words (Ok request) = (fault_of treadmarks words ≡ []) × IsSomeAnd (subcommand_of treadmarks words) (λ found. IsRequest found request)
 Chooses words (Err BadNumber) = AreMisfits words Number
 Chooses words (Err (Usage error)) = IsAmong (kind_of error) (fault_of treadmarks words)
     ⊎ ((misfit : Misfit) × AreMisfits words misfit × IsUsageKind misfit (kind_of error))

@@ -1,4 +1,4 @@
-pub mod Commands
 pub mod Options
 pub mod CommandLine
 pub mod Files
+pub mod Topics

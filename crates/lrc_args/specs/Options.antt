@@ -1,17 +1,23 @@
 -- What the options of a command say, by the matches that clap made of its words.
-use Rattle.std.specs.Prelude.{◌≡◌, ◌≢◌, ◌⊎◌, ℕ, Bool, false, true, List, Option, None, Some, IfSome, IsSome, IsSomeAnd, codes, option_map, unwrap_or}
+use Rattle.std.specs.Prelude.{◌≡◌, ◌≢◌, ◌⊎◌, ℕ, Bool, false, true, List, [], ◌∷◌, Option, None, Some, IfSome, IsSome, IsSomeAnd, codes, if◌then◌else◌, option_map, unwrap_or}
 use Rattle.std.specs.Int.{IsOutOfRange}
+use Rattle.std.specs.List.{list_any}
 use Rattle.std.specs.Option.{option_map_or}
 use Rattle.std.specs.Str.Parse.{digits_value, without_leading_plus}
 use Rattle.clap.specs.Values.{bool_text}
+use Rattle.clap.specs.Takes.{is_given}
 use Rattle.clap.specs.Words.{IsUnsignedIn, Row, Text, first_of, one_of}
 use Rattle.lrc_page.specs.declared.size.Size.{Size}
 use Rattle.lrc_page.specs.declared.size.Size.TheVariants.{Words64, Words256}
 use Rattle.lrc_envelope.specs.declared.picker.Picker.{Picker}
 use Rattle.lrc_envelope.specs.declared.picker.Picker.TheVariants.{Oldest, Newest, Twice}
+use Rattle.lrc_args.specs.declared.choice.Asking.{Asking}
+use Rattle.lrc_args.specs.declared.choice.ForeignActs.{ForeignActs}
 use Rattle.lrc_args.specs.declared.choice.Form.{Form}
 use Rattle.lrc_args.specs.declared.choice.Form.TheVariants as forms
 use Rattle.lrc_args.specs.declared.choice.RunOptions.{RunOptions}
+use Rattle.lrc_args.specs.declared.choice.TraceForm.{TraceForm}
+use Rattle.lrc_args.specs.declared.choice.TraceForm.TheVariants.{Std, Acts}
 use Rattle.lrc_args.specs.declared.choice.Way.{Way}
 use Rattle.lrc_args.specs.declared.choice.Way.TheVariants as ways
 use Rattle.lrc_args.specs.declared.misfit.Misfit.{Misfit}
@@ -44,6 +50,10 @@ collect_in = option_number (codes "collect")
 
 abbrev pub most_in : List Row → ℕ
 most_in = option_number (codes "most")
+
+-- the number that the words give an option: a default is none
+abbrev pub given_number : Text → List Row → Option ℕ
+given_number name rows = if is_given name rows then some_number_in name rows else None
 
 -- whether the words name this flag
 abbrev pub IsFlag : Text → Bool → List Row → Type 0
@@ -115,6 +125,20 @@ pub record IsExploreTaken (rows : List Row) : Type 0 where
   pub most : IsNumberOption (codes "most") rows
   pub outcomes : IsFlagOption (codes "outcomes") rows
 
+-- of `races`
+pub record IsRacesTaken (rows : List Row) : Type 0 where
+  pub file : HasValue (codes "FILE") rows
+  pub form : HasValue (codes "as") rows
+  pub group : IsFlagOption (codes "group") rows
+
+-- of `why`: a FILE need not be there
+pub record IsWhyTaken (rows : List Row) : Type 0 where
+  pub nodes : IsNumberOption (codes "nodes") rows
+  pub page : HasValue (codes "page") rows
+  pub act : IsNumberOption (codes "act") rows
+  pub other : IsBareNumber (codes "and") rows
+  pub run : HasValue (codes "FILE") rows → IsSimTaken rows
+
 -- ---- words and what they name
 
 -- the order of deliveries that a word names
@@ -140,6 +164,11 @@ IsForm word messages forms.Messages = (word ≡ Some (codes "acts")) × (message
 IsForm word messages forms.Events = (word ≡ Some (codes "events")) × (messages ≡ false)
 IsForm word messages forms.Json = (word ≡ Some (codes "json")) × (messages ≡ false)
 IsForm word messages forms.Rapid = (word ≡ Some (codes "rapid")) × (messages ≡ false)
+
+-- the form of a trace that a word names
+abbrev pub IsTraceForm : Option Text → TraceForm → Type 0
+IsTraceForm word Std = word ≡ Some (codes "std")
+IsTraceForm word Acts = word ≡ Some (codes "acts")
 
 -- How a run goes on in this order, with such a seed and such a file of events, on threads or not. A seed is of a random
 -- order alone. Where a file of events is named, the order is not used. On threads there is neither a file of events nor a
@@ -207,6 +236,24 @@ pub record IsFormIn (rows : List Row) (form : Form) : Type 0 where
   pub asked : IsFlag (codes "messages") messages rows
   pub named : IsForm (first_of (codes "as") rows) messages form
 
+-- Of which acts it is asked: the second is another than the first.
+pub record IsAsking (rows : List Row) (asking : Asking) : Type 0 where
+  pub act : option_number (codes "act") rows ≡ asking.act
+  pub other : some_number_in (codes "and") rows ≡ asking.other
+  pub differ : asking.other ≢ Some asking.act
+
+-- the words give an option that only a run of the nodes has
+abbrev pub has_run_option : List Row → Bool
+has_run_option rows = list_any (λ name. is_given name rows)
+    (codes "steps" ∷ codes "collect" ∷ codes "order" ∷ codes "events" ∷ codes "seed" ∷ [])
+
+-- acts from anywhere are chosen by these matches
+pub record AreForeignActs (rows : List Row) (acts : ForeignActs) : Type 0 where
+  pub file : first_of (codes "acts") rows ≡ Some acts.file.now
+  pub nodes : given_number (codes "nodes") rows ≡ option_map (λ nodes. nodes.count) acts.nodes
+  pub size : IsPageSize (first_of (codes "page") rows) acts.size
+  pub alone : has_run_option rows ≡ false
+
 -- ---- what does not fit in the matches
 
 -- the number of nodes is not 1 to 16, or that of steps not 1 to 1,000,000
@@ -237,3 +284,14 @@ HasWayMisfitIn threads rows misfit =
 abbrev pub HasFormMisfitIn : List Row → Misfit → Type 0
 HasFormMisfitIn rows misfit =
     (messages : Bool) × IsFlag (codes "messages") messages rows × HasWordMisfit (first_of (codes "as") rows) messages misfit
+
+-- of `races`: no form has the word of the option
+abbrev pub HasRacesMisfit : List Row → Misfit → Type 0
+HasRacesMisfit rows misfit = (misfit ≡ unfit.TraceForm) × ((form : TraceForm) → ¬ IsTraceForm (first_of (codes "as") rows) form)
+
+-- of acts from anywhere: words are looked at before numbers
+abbrev pub HasForeignMisfit : List Row → Misfit → Type 0
+HasForeignMisfit rows misfit = ((misfit ≡ unfit.RunOption) × (has_run_option rows ≡ true))
+    ⊎ ((misfit ≡ unfit.Page) × HasBadPage rows)
+    ⊎ ((misfit ≡ unfit.Number) × (has_run_option rows ≡ false) × ((size : Size) × IsPageSize (first_of (codes "page") rows) size)
+    × IsSomeAnd (given_number (codes "nodes") rows) (IsOutOfRange 1 16))

@@ -1,6 +1,7 @@
 // What the words of the command line ask for.
 
-ghost use Rattle.std.specs.Prelude.{◌≤◌};
+ghost use Rattle.std.specs.Prelude.{◌≡◌, ◌≤◌, true};
+ghost use Rattle.lrc_commands.specs.Commands.{is_command};
 
 use lrc_envelope::Picker;
 use lrc_page::Size;
@@ -126,7 +127,46 @@ pub struct Exploring<'w> {
     pub outcomes: bool,
 }
 
-/// What the words ask for.
+/// The form of a trace whose races are looked for.
+#[derive(Clone, Copy)]
+pub enum TraceForm {
+    /// That of the race detectors' framework RAPID, with words for more that orders.
+    Std,
+    /// That of `judge`.
+    Acts,
+}
+
+/// The options of `races`.
+#[derive(Clone, Copy)]
+pub struct Racing<'w> {
+    /// The file of the trace; `-` is standard input.
+    pub file: &'w str,
+    pub form: TraceForm,
+    /// Whether the races are told by groups, when the trace has ended.
+    pub group: bool,
+}
+
+/// Of which acts it is asked why they are as they are: of one, or how it and another are ordered.
+#[derive(Clone, Copy)]
+pub struct Asking {
+    /// The position of an act, counted from 0.
+    pub act: u64,
+    /// That of another act.
+    pub other: Option<u64>,
+}
+
+/// Acts from anywhere of which it is asked why they are as they are.
+#[derive(Clone, Copy)]
+pub struct ForeignActs<'w> {
+    /// The file of the text of acts; `-` is standard input.
+    pub file: &'w str,
+    /// How many nodes there are; where it is left out, one more than the greatest node that acts.
+    pub nodes: Option<Nodes>,
+    /// The size of a page.
+    pub size: Size,
+}
+
+/// What is asked of the texts in files, each of which is read to its end.
 #[derive(Clone, Copy)]
 pub enum Choice<'w> {
     /// Whether the text in this file is a program; `-` is standard input.
@@ -139,9 +179,44 @@ pub enum Choice<'w> {
     Judge(Judging<'w>),
     /// What every order of the plain machine comes to.
     Explore(Exploring<'w>),
+    /// What is wrong with the text in this file, and what is likely to be; `-` is standard input.
+    Lint(&'w str),
+    /// Why an act of a run of the nodes is as it is, or how two are ordered.
+    Why(RunChoice<'w>, Asking),
+    /// The same of acts from anywhere.
+    WhyActs(ForeignActs<'w>, Asking),
 }
 
-/// Why there is no choice.
+/// The name of a command.
+#[derive(Clone, Copy)]
+pub struct CommandName<'w> {
+    pub name: &'w str,
+    pub ghost known: { is_command name.now ≡ true },
+}
+
+/// What the program can say of itself.
+#[derive(Clone, Copy)]
+pub enum Topic<'w> {
+    /// Its commands: what `--help` writes.
+    Commands,
+    /// A command and its options: what `--help` behind its name writes.
+    Command(CommandName<'w>),
+    /// Its version: what `--version` writes.
+    Version,
+}
+
+/// What the words ask for.
+#[derive(Clone, Copy)]
+pub enum Request<'w> {
+    /// What the program says of itself.
+    About(Topic<'w>),
+    /// The races of a trace, which are told as it is read.
+    Races(Racing<'w>),
+    /// What is answered to the texts in files.
+    Answer(Choice<'w>),
+}
+
+/// Why there is no request.
 #[derive(Debug, Drop, Error)]
 pub enum ChooseFault {
     /// The words are no command, or ask for help. The error is the text to show.

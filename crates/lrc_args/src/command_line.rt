@@ -1,25 +1,30 @@
 // The words of the command line, read by clap.
 
-ghost use Rattle.std.specs.Prelude.{◌≡◌, [], IfErr, IfOk, IsSomeAnd, Ok, OnOk, Err, codes, map, option_map};
+ghost use Rattle.std.specs.Prelude.{◌≡◌, [], IfErr, IfOk, IsSomeAnd, Ok, OnOk, Err, Some, codes, map};
 ghost use Rattle.std.specs.Int.{IsOutOfRange};
 ghost use Rattle.clap.specs.Words.{fault_of, found_of, rows_of, subcommand_of, subcommand_rows_of};
-ghost use Rattle.lrc_args.specs.Commands.{treadmarks};
-ghost use Rattle.lrc_args.specs.CommandLine.{Chooses, HasExploreMisfit, HasJudgeMisfit, HasMisfit, HasPlainMisfit, HasShowMisfit};
+ghost use Rattle.lrc_commands.specs.Commands.{treadmarks};
+ghost use Rattle.lrc_args.specs.CommandLine.{Chooses, HasExploreMisfit, HasJudgeMisfit, HasMisfit, HasPlainMisfit, HasRequestMisfit, HasShowMisfit};
+ghost use Rattle.lrc_args.specs.CommandLine.{HasAnswerMisfit, HasTopicMisfit, IsAnswerTaken, IsRequest, IsRequestTaken};
 ghost use Rattle.lrc_args.specs.CommandLine.{IsAskTaken, IsChoice, IsFoundFault, IsShowTaken};
 ghost use Rattle.lrc_args.specs.CommandLine.{IsCommandTaken, fault_from, words_meant};
-ghost use Rattle.lrc_args.specs.Options.{IsExploreTaken, IsJudgeTaken, IsPlainTaken};
+ghost use Rattle.lrc_args.specs.Options.{HasRacesMisfit, IsExploreTaken, IsJudgeTaken, IsPlainTaken, IsRacesTaken, IsTraceForm};
+ghost use Rattle.lrc_args.specs.declared.choice.TraceForm.{TraceForm as AnyTraceForm};
 ghost use Rattle.lrc_args.specs.declared.choice.ChooseFault.TheVariants.{NoMemory};
 ghost use Rattle.lrc_args.specs.declared.misfit.Misfit.TheVariants.{Number};
+ghost use Rattle.lrc_args.specs.declared.misfit.Misfit.TheVariants as unfit;
 
-use crate::choice::{Choice, ChooseFault, Exploring, Judging, Nodes, PlainRun, Shape};
-use crate::commands::command_line;
-use crate::misfit::{Misfit, fault_of_misfit};
-use crate::reading::{
-    is_named, most_of, nodes_of, so_many_nodes, some_number_of, steps_of, text_of,
+use crate::choice::{
+    Choice, ChooseFault, CommandName, Exploring, Judging, PlainRun, Racing, Request, Shape, Topic,
+    TraceForm,
 };
+use crate::misfit::{Misfit, fault_of_misfit};
+use crate::reading::{is_named, most_of, nodes_of, some_nodes, some_number_of, steps_of, text_of};
 use crate::runs::{chart_choice, run_choice, showing_choice, threads_run, trace_choice};
+use crate::why::why_choice;
 use clap::ArgMatches;
 use clap::error::ErrorKind;
+use lrc_commands::{command_line, is_command};
 use std::alloc::{AllocError, Global};
 use std::convert::AsStr;
 
@@ -27,24 +32,28 @@ use std::convert::AsStr;
 static NO_WORDS: [&str; 2] = ["sim", "-"];
 
 /// Reads the words that follow the program's name. No words at all ask for `sim -`.
-pub fn choose<'w, S: AsStr>(alloc: Global, words: &'w [S]) -> Result<Choice<'w>, ChooseFault>
+pub fn choose<'w, S: AsStr>(alloc: Global, words: &'w [S]) -> Result<Request<'w>, ChooseFault>
     ensures { Chooses (words_meant (map S.text words.entry.now)) result }
 {
     if words.is_empty() {
-        choice_in(alloc, NO_WORDS.as_slice())
+        request_in(alloc, NO_WORDS.as_slice())
     } else {
-        choice_in(alloc, words)
+        request_in(alloc, words)
     }
 }
 
-fn choice_in<'w, S: AsStr>(alloc: Global, words: &'w [S]) -> Result<Choice<'w>, ChooseFault>
+fn request_in<'w, S: AsStr>(alloc: Global, words: &'w [S]) -> Result<Request<'w>, ChooseFault>
     ensures { Chooses (map S.text words.entry.now) result }
 {
     let matches = matches_of(alloc, words)?;
-    choice_from(&matches).map_err(|misfit| fault_of_misfit(alloc, misfit))
+    request_from(&matches).map_err(|misfit| fault_of_misfit(alloc, misfit))
 }
 
-fn matches_of<'w, S: AsStr>(alloc: Global, words: &'w [S]) -> Result<ArgMatches<'w>, ChooseFault>
+/// What clap reads in the words.
+pub(crate) fn matches_of<'w, S: AsStr>(
+    alloc: Global,
+    words: &'w [S],
+) -> Result<ArgMatches<'w>, ChooseFault>
     ensures free { OnOk result (fault_of treadmarks (map S.text words.entry.now) ≡ []) }
     ensures rows { IfOk result (λ matches.
         subcommand_rows_of matches ≡ subcommand_of treadmarks (map S.text words.entry.now)) }
@@ -52,6 +61,76 @@ fn matches_of<'w, S: AsStr>(alloc: Global, words: &'w [S]) -> Result<ArgMatches<
 {
     let command = command_line(alloc)?;
     Ok(command.try_get_matches_from(words)?)
+}
+
+fn request_from<'w>(matches: &ArgMatches<'w>) -> Result<Request<'w>, Misfit>
+    requires { IsRequestTaken (subcommand_rows_of matches.now) }
+    ensures ok { IfOk result (λ request. IsSomeAnd (subcommand_rows_of matches.now) (λ found. IsRequest found request)) }
+    ensures err { IfErr result (λ misfit. IsSomeAnd (subcommand_rows_of matches.now) (λ found. HasRequestMisfit found misfit)) }
+{
+    if let Some(options) = matches.subcommand_matches("help") {
+        return help_request(options);
+    }
+    if matches.subcommand_matches("version").is_some() {
+        return Ok(Request::About(Topic::Version));
+    }
+    if let Some(options) = matches.subcommand_matches("races") {
+        return races_request(options);
+    }
+    Ok(Request::Answer(answer_from(matches)?))
+}
+
+// What a command asks for that is answered to the texts in files.
+fn answer_from<'w>(matches: &ArgMatches<'w>) -> Result<Choice<'w>, Misfit>
+    requires { IsAnswerTaken (subcommand_rows_of matches.now) }
+    ensures ok { IfOk result (λ choice. IsSomeAnd (subcommand_rows_of matches.now) (λ found. IsChoice found choice)) }
+    ensures err { IfErr result (λ misfit. IsSomeAnd (subcommand_rows_of matches.now) (λ found. HasAnswerMisfit found misfit)) }
+{
+    if let Some(options) = matches.subcommand_matches("lint") {
+        return Ok(Choice::Lint(text_of(options, "FILE")));
+    }
+    if let Some(options) = matches.subcommand_matches("why") {
+        return why_choice(options);
+    }
+    choice_from(matches)
+}
+
+fn help_request<'w>(options: &ArgMatches<'w>) -> Result<Request<'w>, Misfit>
+    ensures ok { IfOk result (IsRequest (codes "help", rows_of (found_of options.now))) }
+    ensures err { IfErr result (HasTopicMisfit (codes "help", rows_of (found_of options.now))) }
+{
+    match options.get_str("COMMAND") {
+        None => Ok(Request::About(Topic::Commands)),
+        Some(name) if is_command(name) => {
+            Ok(Request::About(Topic::Command(CommandName { name })))
+        }
+        Some(_) => Err(Misfit::Topic),
+    }
+}
+
+fn races_request<'w>(options: &ArgMatches<'w>) -> Result<Request<'w>, Misfit>
+    requires { IsRacesTaken (rows_of (found_of options.now)) }
+    ensures ok { IfOk result (IsRequest (codes "races", rows_of (found_of options.now))) }
+    ensures err { IfErr result (HasRacesMisfit (rows_of (found_of options.now))) }
+{
+    Ok(Request::Races(Racing {
+        file: text_of(options, "FILE"),
+        form: trace_form_named(text_of(options, "as"))?,
+        group: is_named(options, "group"),
+    }))
+}
+
+fn trace_form_named(word: &str) -> Result<TraceForm, Misfit>
+    ensures ok { IfOk result (IsTraceForm (Some word.now)) }
+    ensures err { IfErr result (λ misfit. (misfit ≡ unfit.TraceForm) × ((form : AnyTraceForm) → ¬ IsTraceForm (Some word.now) form)) }
+{
+    if word == "std" {
+        Ok(TraceForm::Std)
+    } else if word == "acts" {
+        Ok(TraceForm::Acts)
+    } else {
+        Err(Misfit::TraceForm)
+    }
 }
 
 fn choice_from<'w>(matches: &ArgMatches<'w>) -> Result<Choice<'w>, Misfit>
@@ -131,16 +210,6 @@ fn judge_choice<'w>(options: &ArgMatches<'w>) -> Result<Choice<'w>, Misfit>
         nodes,
         pairs: is_named(options, "pairs"),
     }))
-}
-
-fn some_nodes(count: Option<u64>) -> Result<Option<Nodes>, Misfit>
-    ensures ok { IfOk result (λ nodes. count ≡ option_map (λ nodes. nodes.count) nodes) }
-    ensures err { IfErr result (λ misfit. (misfit ≡ Number) × IsSomeAnd count (IsOutOfRange 1 16)) }
-{
-    match count {
-        Some(count) => Ok(Some(so_many_nodes(count)?)),
-        None => Ok(None),
-    }
 }
 
 fn explore_choice<'w>(options: &ArgMatches<'w>) -> Result<Choice<'w>, Misfit>

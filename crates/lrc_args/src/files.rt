@@ -16,6 +16,9 @@ impl<'w> Choice<'w> {
             Choice::Show(run, _) => run.options.file,
             Choice::Judge(judging) => judging.file,
             Choice::Explore(exploring) => exploring.file,
+            Choice::Lint(file) => *file,
+            Choice::Why(run, _) => run.options.file,
+            Choice::WhyActs(acts, _) => acts.file,
         }
     }
 
@@ -23,7 +26,7 @@ impl<'w> Choice<'w> {
     pub fn reads_acts(&self) -> bool
         ensures { result ≡ reads_acts self.now }
     {
-        matches!(self, Choice::Judge(_))
+        matches!(self, Choice::Judge(_) | Choice::WhyActs(_, _))
     }
 
     /// The file of the events, if one is named.
@@ -31,8 +34,8 @@ impl<'w> Choice<'w> {
         ensures { option_map (λ path. path.now) result ≡ events_of self.now }
     {
         match self {
-            Choice::Show(run, _) => run.way.events(),
-            Choice::Check(_) | Choice::Plain(_) | Choice::Judge(_) | Choice::Explore(_) => None,
+            Choice::Show(run, _) | Choice::Why(run, _) => run.way.events(),
+            _ => None,
         }
     }
 }

@@ -3,10 +3,12 @@
 
 pub mod choice;
 mod command_line;
-mod commands;
 mod files;
 mod misfit;
 mod reading;
 mod runs;
+mod topics;
+mod why;
 
 pub use command_line::choose;
+pub use topics::about;

@@ -6,8 +6,8 @@ ghost use Rattle.lrc_args.specs.CommandLine.{IsMisfitFault, IsUsageKind};
 ghost use Rattle.lrc_args.specs.declared.misfit.Misfit.TheVariants.{Number};
 
 use crate::choice::ChooseFault;
-use crate::commands::command_line;
 use clap::error::ErrorKind;
+use lrc_commands::command_line;
 use std::alloc::{AllocError, Global};
 
 const BAD_ORDER: &str =
@@ -27,6 +27,19 @@ const BAD_THREADS: &str =
 const BAD_MESSAGES: &str =
     "the argument '--messages' cannot be used with a form other than '--as acts'";
 
+const BAD_TOPIC: &str = "invalid value for '[COMMAND]': it is none of the commands";
+
+const BAD_TRACE_FORM: &str = "invalid value for '--as <FORM>': it is std or acts";
+
+const SAME_ACT: &str = "the argument '--and <Q>' cannot be the act of '--act <P>'";
+
+const BAD_SOURCES: &str = "the argument '[FILE]' cannot be used with '--acts <PATH>'";
+
+const NO_SOURCE: &str = "one of '[FILE]' and '--acts <PATH>' has to be given";
+
+const BAD_RUN_OPTION: &str =
+    "with '--acts <PATH>' there are no options but '--act <P>', '--and <Q>', '--nodes <N>' and '--page <WORDS>'";
+
 /// Why the options that clap read are no choice.
 #[derive(Clone, Copy)]
 pub(crate) enum Misfit {
@@ -44,6 +57,18 @@ pub(crate) enum Misfit {
     Threads,
     /// Messages are asked for, and so is another form than that of acts.
     Messages,
+    /// Help is wanted on a word that is no command.
+    Topic,
+    /// The `--as` of `races` has no word that it takes.
+    TraceForm,
+    /// It is asked how an act and the same act are ordered.
+    SameAct,
+    /// There is a FILE, and so is a file of acts.
+    Sources,
+    /// There is neither a FILE nor a file of acts.
+    NoSource,
+    /// Acts are from a file of acts, and an option is given that a run has.
+    RunOption,
     /// A number is not in its option's range.
     Number,
 }
@@ -81,7 +106,14 @@ fn usage_kind(misfit: Misfit) -> ErrorKind
     ensures { IsUsageKind misfit result }
 {
     match misfit {
-        Misfit::Seed | Misfit::Threads | Misfit::Messages => ErrorKind::ArgumentConflict,
+        Misfit::Seed
+        | Misfit::Threads
+        | Misfit::Messages
+        | Misfit::SameAct
+        | Misfit::Sources
+        | Misfit::RunOption => ErrorKind::ArgumentConflict,
+        Misfit::Topic => ErrorKind::InvalidSubcommand,
+        Misfit::NoSource => ErrorKind::MissingRequiredArgument,
         _ => ErrorKind::InvalidValue,
     }
 }
@@ -95,6 +127,12 @@ fn message_of(misfit: Misfit) -> &'static str {
         Misfit::Seed => IDLE_SEED,
         Misfit::Threads => BAD_THREADS,
         Misfit::Messages => BAD_MESSAGES,
+        Misfit::Topic => BAD_TOPIC,
+        Misfit::TraceForm => BAD_TRACE_FORM,
+        Misfit::SameAct => SAME_ACT,
+        Misfit::Sources => BAD_SOURCES,
+        Misfit::NoSource => NO_SOURCE,
+        Misfit::RunOption => BAD_RUN_OPTION,
         Misfit::Number => "number out of range",
     }
 }

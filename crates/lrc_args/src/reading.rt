@@ -1,16 +1,20 @@
 // The options of a command, one by one, as clap read them.
 
-ghost use Rattle.std.specs.Prelude.{◌≡◌, IfErr, IfOk, Some, codes, option_map};
+ghost use Rattle.std.specs.Prelude.{◌≡◌, IfErr, IfOk, IsSomeAnd, Some, codes, option_map};
 ghost use Rattle.std.specs.Int.{IsOutOfRange};
+ghost use Rattle.std.specs.List.{list_any};
+ghost use Rattle.clap.specs.Facts.{explicit_source};
+ghost use Rattle.clap.specs.Takes.{is_given};
 ghost use Rattle.clap.specs.Words.{first_of, found_of, rows_of};
 ghost use Rattle.lrc_args.specs.Options.{HasBadPage, HasValue, IsBareNumber, IsFlag, IsFlagOption, IsNumberOption, IsPageSize};
-ghost use Rattle.lrc_args.specs.Options.{collect_in, most_in, nodes_in, option_number, some_number_in, steps_in};
+ghost use Rattle.lrc_args.specs.Options.{collect_in, given_number, most_in, nodes_in, option_number, some_number_in, steps_in};
 ghost use Rattle.lrc_args.specs.declared.misfit.Misfit.TheVariants as unfit;
 ghost use Rattle.lrc_page.specs.declared.size.Size.{Size};
 
 use crate::choice::{Collect, Most, Nodes, Steps};
 use crate::misfit::Misfit;
 use clap::ArgMatches;
+use clap::parser::ValueSource;
 use lrc_page::Size;
 
 /// The value of an option or argument.
@@ -27,6 +31,53 @@ pub(crate) fn is_named(options: &ArgMatches<'_>, name: &str) -> bool
     ensures { IsFlag name.now result (rows_of (found_of options.now)) }
 {
     options.get_flag(name)
+}
+
+/// Whether the words give an option or argument a value: a default is none.
+pub(crate) fn is_given(options: &ArgMatches<'_>, name: &str) -> bool
+    ensures { result ≡ is_given name.now (rows_of (found_of options.now)) }
+{
+    options.contains_id(name) && is_explicit(options.value_source(name))
+}
+
+// Whether a value is from the words.
+fn is_explicit(source: Option<ValueSource>) -> bool
+    ensures { result ≡ explicit_source source }
+{
+    match source {
+        Some(ValueSource::DefaultValue) => false,
+        Some(ValueSource::CommandLine) | None => true,
+    }
+}
+
+/// Whether the words give one of these a value.
+pub(crate) fn is_any_given(options: &ArgMatches<'_>, names: &[&str]) -> bool
+    ensures { result ≡ list_any (λ name. is_given name.now (rows_of (found_of options.now))) names.now }
+{
+    names.iter().any(|name| is_given(options, name))
+}
+
+/// The number that the words give an option.
+pub(crate) fn given_number_of(options: &ArgMatches<'_>, name: &str) -> Option<u64>
+    requires { IsBareNumber name.now (rows_of (found_of options.now)) }
+    ensures { result ≡ given_number name.now (rows_of (found_of options.now)) }
+{
+    if is_given(options, name) {
+        some_number_of(options, name)
+    } else {
+        None
+    }
+}
+
+/// So many nodes, where it is said how many.
+pub(crate) fn some_nodes(count: Option<u64>) -> Result<Option<Nodes>, Misfit>
+    ensures ok { IfOk result (λ nodes. count ≡ option_map (λ nodes. nodes.count) nodes) }
+    ensures err { IfErr result (λ misfit. (misfit ≡ unfit.Number) × IsSomeAnd count (IsOutOfRange 1 16)) }
+{
+    match count {
+        Some(count) => Ok(Some(so_many_nodes(count)?)),
+        None => Ok(None),
+    }
 }
 
 /// The number of an option that has one.

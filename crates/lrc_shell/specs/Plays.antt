@@ -1,6 +1,6 @@
 -- What the program does with its words and the files that they name.
 use Rattle.std.specs.Prelude.{◌≡◌, ◌≢◌, ◌⊎◌, ℕ, Bool, true, false, List, Option, None, Some, Result, Ok, Err, codes, drop}
-use Rattle.std.specs.Io.KnownBytes.{Appends, Keeps}
+use Rattle.std.specs.Io.KnownBytes.{Keeps}
 use Rattle.std.specs.declared.io.ErrorKind.{ErrorKind}
 use Rattle.std.specs.declared.io.ErrorKind.TheVariants.{OutOfMemory}
 use Rattle.clap.specs.Words.{Text}
@@ -9,9 +9,17 @@ use Rattle.lrc_args.specs.Files.{events_of, file_of, reads_acts}
 use Rattle.lrc_args.specs.declared.choice.Choice.{Choice}
 use Rattle.lrc_args.specs.declared.choice.ChooseFault.{ChooseFault}
 use Rattle.lrc_args.specs.declared.choice.ChooseFault.TheVariants.{BadNumber, NoMemory, Usage}
-use Rattle.lrc_report.specs.Output.{AppendsFront}
-use Rattle.lrc_cli.specs.Performance.{Performs}
-use Rattle.lrc_shell.specs.Known.{IsCause, IsFront, Known}
+use Rattle.lrc_args.specs.declared.choice.Racing.{Racing}
+use Rattle.lrc_args.specs.declared.choice.Request.TheVariants.{About, Races, Answer}
+use Rattle.lrc_args.specs.declared.choice.Topic.{Topic}
+use Rattle.lrc_args.specs.declared.choice.TraceForm.{TraceForm}
+use Rattle.lrc_args.specs.declared.choice.TraceForm.TheVariants as args
+use Rattle.lrc_cli.specs.Performance.{IsWritten, Performs}
+use Rattle.lrc_races.specs.declared.form.Form.{Form}
+use Rattle.lrc_races.specs.declared.form.Form.TheVariants as races
+use Rattle.lrc_races_told.specs.Plays.{IsRacesPlayed}
+use Rattle.lrc_sources.specs.Known.{IsCause, IsFront, Known}
+use Rattle.lrc_sources.specs.Lines.{IsTold, memory_line, read_line}
 
 -- of a text one byte more than the longest has is read: of one of acts, or of a program,
 abbrev pub most_read : Bool → ℕ
@@ -42,18 +50,9 @@ abbrev pub IsEventsCause : Known → Option (List ℕ) → ErrorKind → Type 0
 IsEventsCause known None kind = ⊥
 IsEventsCause known (Some path) kind = IsCause (known.files path) kind
 
--- a line is written, or a front of it
-abbrev pub IsTold : Option (List ℕ) → Option (List ℕ) → List ℕ → Type 0
-IsTold old new line = Appends old new line ⊎ AppendsFront old new line
-
--- the line where a file cannot be read
-abbrev pub read_line : ErrorKind → List ℕ
-read_line OutOfMemory = codes "treadmarks: out of memory\n"
-read_line _ = codes "treadmarks: cannot read file\n"
-
 -- the line and the status where the arguments cannot be read
 abbrev pub argument_line : ErrorKind → List ℕ
-argument_line OutOfMemory = codes "treadmarks: out of memory\n"
+argument_line OutOfMemory = memory_line
 argument_line _ = codes "error: invalid UTF-8 was detected in one or more arguments\n"
 
 abbrev pub argument_status : ErrorKind → ℕ
@@ -65,7 +64,12 @@ argument_status _ = 2
 abbrev pub IsRefusal : ChooseFault → Option (List ℕ) → Option (List ℕ) → ℕ → Type 0
 IsRefusal (Usage error) err err' status = status ≡ 2
 IsRefusal BadNumber err err' status = IsTold err err' (codes "treadmarks: number out of range\n") × (status ≡ 2)
-IsRefusal NoMemory err err' status = IsTold err err' (codes "treadmarks: out of memory\n") × (status ≡ 1)
+IsRefusal NoMemory err err' status = IsTold err err' memory_line × (status ≡ 1)
+
+-- What comes of a topic: what is said of it is written, with status 0, or memory ran out. (Its text is clap's, which promises nothing of it.)
+abbrev pub IsTopicTold : Option (List ℕ) → Option (List ℕ) → Option (List ℕ) → Option (List ℕ) → ℕ → Type 0
+IsTopicTold out out' err err' status = ((text : List ℕ) × IsWritten out out' text 0 status × Keeps err err')
+    ⊎ (IsTold err err' memory_line × Keeps out out' × (status ≡ 1))
 
 -- What comes of a choice, by what `out` and `err` have before and after:
 pub data IsPlayed (known : Known) (choice : Choice) (out out' err err' : Option (List ℕ)) (status : ℕ) : Type 0 where
@@ -77,11 +81,20 @@ pub data IsPlayed (known : Known) (choice : Choice) (out out' err err' : Option 
       → AreEventsRead known (events_of choice) events → Performs choice text events out out' err err' status
       → IsPlayed known choice out out' err err' status
 
--- What comes of the words: they are no choice, and nothing is printed, or what comes of the choice.
+-- the form of a trace that the words name
+abbrev pub form_of : TraceForm → Form
+form_of args.Std = races.Std
+form_of args.Acts = races.Acts
+
+-- What comes of the words: they ask for nothing, and nothing is printed, or what comes of the topic, the trace or the choice that they
+-- ask for.
 pub data Plays (known : Known) (words : List Text) (out out' err err' : Option (List ℕ)) (status : ℕ) : Type 0 where
   refused : (fault : ChooseFault) → Chooses words (Err fault) → IsRefusal fault err err' status → Keeps out out'
       → Plays known words out out' err err' status
-  played : (choice : Choice) → Chooses words (Ok choice) → IsPlayed known choice out out' err err' status
+  spoken : (topic : Topic) → Chooses words (Ok (About topic)) → IsTopicTold out out' err err' status → Plays known words out out' err err' status
+  raced : (racing : Racing) → Chooses words (Ok (Races racing))
+      → IsRacesPlayed known racing.file.now (form_of racing.form) racing.group out out' err err' status → Plays known words out out' err err' status
+  played : (choice : Choice) → Chooses words (Ok (Answer choice)) → IsPlayed known choice out out' err err' status
       → Plays known words out out' err err' status
 
 -- What comes of a start, by the arguments of the program, the first of which is its name: what comes of the words behind it, or

@@ -4,11 +4,12 @@
 
 mod played;
 mod progress;
+mod races;
 mod refusal;
-mod sources;
 mod starting;
+mod topic;
 
+pub use lrc_sources::sources::{Sources, System, read_up_to};
 pub use played::play;
 pub use progress::{Late, LateLine, Watch};
-pub use sources::{Sources, System, read_up_to};
 pub use starting::start;

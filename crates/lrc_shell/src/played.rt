@@ -9,13 +9,16 @@ ghost use Rattle.lrc_args.specs.Files.{events_of, file_of, names_events, reads_a
 ghost use Rattle.lrc_shell.specs.Plays.{AreEventsRead, IsEventsCause, IsPlayed, IsTextCause, IsTextRead, Plays, most_read};
 
 use crate::progress::{Late, Watch};
-use crate::refusal::{refuse, refuse_file};
-use crate::sources::Sources;
-use lrc_args::choice::Choice;
+use crate::races::tell_races;
+use crate::refusal::refuse;
+use crate::topic::tell_topic;
+use lrc_args::choice::{Choice, Request};
 use lrc_args::choose;
 use lrc_cli::answer::Printout;
 use lrc_cli::fault::Fault;
 use lrc_cli::{answer_any, tell};
+use lrc_sources::refusal::refuse_file;
+use lrc_sources::sources::Sources;
 use std::alloc::Global;
 use std::convert::AsStr;
 use std::io::Write;
@@ -56,7 +59,9 @@ where
         (W.contents out.old) (W.contents out.new) (E.contents err.old) (E.contents err.new) result }
 {
     match choose(rt.alloc(), words_of(arguments)) {
-        Ok(choice) => play_choice(rt, &choice, sources, late, out, err),
+        Ok(Request::Answer(choice)) => play_choice(rt, &choice, sources, late, out, err),
+        Ok(Request::Races(racing)) => tell_races(rt.alloc(), &racing, sources, out, err),
+        Ok(Request::About(topic)) => tell_topic(rt.alloc(), &topic, out, err),
         Err(fault) => refuse(&fault, err),
     }
 }

@@ -2,22 +2,16 @@
 
 ghost use Rattle.std.specs.Prelude.{◌≡◌};
 ghost use Rattle.std.specs.IoError.{error_kind};
-ghost use Rattle.lrc_shell.specs.Plays.{IsRefusal, IsTold, argument_line, argument_status, read_line};
+ghost use Rattle.lrc_shell.specs.Plays.{IsRefusal, argument_line, argument_status};
+ghost use Rattle.lrc_sources.specs.Lines.{IsTold};
 
 use lrc_args::choice::ChooseFault;
-use lrc_report::output::{Output, put};
+use lrc_sources::refusal::{FAULT, NO_MEMORY, refuse_memory, tell_line};
 use std::io;
 use std::io::{ErrorKind, Write};
 
-// The status after a fault of a file or of memory.
-const FAULT: u8 = 1;
-
 // The status after words that ask for nothing that can be done.
 const USAGE: u8 = 2;
-
-const NO_MEMORY: &[u8] = b"treadmarks: out of memory\n";
-
-const CANNOT_READ: &[u8] = b"treadmarks: cannot read file\n";
 
 const BAD_NUMBER: &[u8] = b"treadmarks: number out of range\n";
 
@@ -64,35 +58,6 @@ pub(crate) fn refuse<E: Write>(fault: &ChooseFault, err: &mut E) -> u8
             tell_line(BAD_NUMBER, err);
             USAGE
         }
-        ChooseFault::NoMemory => {
-            tell_line(NO_MEMORY, err);
-            FAULT
-        }
+        ChooseFault::NoMemory => refuse_memory(err),
     }
-}
-
-/// Says why a file cannot be read.
-pub(crate) fn refuse_file<E: Write>(error: &io::Error, err: &mut E) -> u8
-    ensures told { IsTold (E.contents err.old) (E.contents err.new) (read_line (error_kind error.now)) }
-    ensures status { result ≡ 1 }
-{
-    tell_line(read_line(error.kind()), err);
-    FAULT
-}
-
-fn read_line(kind: ErrorKind) -> &'static [u8]
-    ensures { result.now ≡ read_line kind }
-{
-    match kind {
-        ErrorKind::OutOfMemory => NO_MEMORY,
-        _ => CANNOT_READ,
-    }
-}
-
-// Writes a line, or a front of it where a write fails.
-fn tell_line<E: Write>(line: &[u8], err: &mut E)
-    ensures { IsTold (E.contents err.old) (E.contents err.new) line.now }
-{
-    let mut output = Output::new(err);
-    let _written = put(&mut output, line);
 }

@@ -2,7 +2,9 @@
 
 use crate::checks::passes;
 use lrc_args::choice::{
-    Charting, Choice, ChooseFault, Exploring, Form, Judging, PlainRun, RunOptions, Shape, Way,
+    Asking,
+    Charting, Choice, ChooseFault, Exploring, ForeignActs, Form, Judging, PlainRun, Racing, Request, RunOptions, Shape,
+    Topic, TraceForm, Way,
 };
 use lrc_args::choose;
 use lrc_envelope::Picker;
@@ -24,6 +26,13 @@ struct Run {
 /// What is to come of a line of words.
 #[derive(Clone, Copy)]
 enum Wanted {
+    Lint(&'static str),
+    /// The races of a trace, in the form of acts or not, by groups or not.
+    Races(&'static str, bool, bool),
+    /// Of a run: of which act it is asked, and of which other.
+    Why(Run, u64, Option<u64>),
+    /// The same of acts from a file, of so many nodes, with pages of this size.
+    WhyActs(&'static str, Option<u32>, Size, u64, Option<u64>),
     Check(&'static str),
     /// With so many nodes and steps.
     Plain(&'static str, u32, u32),
@@ -32,6 +41,11 @@ enum Wanted {
     Judge(&'static str, Option<u32>, bool),
     /// With so many nodes and states, by outcomes or not.
     Explore(&'static str, u32, u32, bool),
+    /// The list of commands.
+    Commands,
+    /// The help of this command.
+    Help(&'static str),
+    Version,
     BadNumber,
     Usage,
 }
@@ -92,8 +106,36 @@ fn is_exploring(made: &Exploring<'_>, nodes: u32, most: u32, outcomes: bool) -> 
     made.nodes.count == nodes && made.most.count == most && made.outcomes == outcomes
 }
 
+fn is_asking(made: Asking, act: u64, other: Option<u64>) -> bool {
+    made.act == act && made.other == other
+}
+
+fn is_foreign(made: &ForeignActs<'_>, file: &str, nodes: Option<u32>, size: Size) -> bool {
+    made.file == file && made.nodes.map(|nodes| nodes.count) == nodes && made.size == size
+}
+
+fn is_racing(made: &Racing<'_>, file: &str, acts: bool, group: bool) -> bool {
+    made.file == file && matches!(made.form, TraceForm::Acts) == acts && made.group == group
+}
+
+fn is_wanted_why(made: &Choice<'_>, wanted: &Wanted) -> bool {
+    match (made, wanted) {
+        (Choice::Why(made, asking), Wanted::Why(run, act, other)) => {
+            are_options(&made.options, run)
+                && is_same_way(made.way, run.way)
+                && is_asking(*asking, *act, *other)
+        }
+        (Choice::WhyActs(made, asking), Wanted::WhyActs(file, nodes, size, act, other)) => {
+            is_foreign(made, file, *nodes, *size) && is_asking(*asking, *act, *other)
+        }
+        _ => false,
+    }
+}
+
 fn is_wanted(made: &Choice<'_>, wanted: &Wanted) -> bool {
     match (made, wanted) {
+        (Choice::Lint(made), Wanted::Lint(file)) => made == file,
+        (Choice::Why(..) | Choice::WhyActs(..), _) => is_wanted_why(made, wanted),
         (Choice::Check(made), Wanted::Check(file)) => made == file,
         (Choice::Plain(made), Wanted::Plain(file, nodes, steps)) => {
             is_plain(made, file, *nodes, *steps)
@@ -113,6 +155,25 @@ fn is_wanted(made: &Choice<'_>, wanted: &Wanted) -> bool {
     }
 }
 
+fn is_wanted_topic(made: &Topic<'_>, wanted: &Wanted) -> bool {
+    match (made, wanted) {
+        (Topic::Commands, Wanted::Commands) | (Topic::Version, Wanted::Version) => true,
+        (Topic::Command(made), Wanted::Help(name)) => made.name == *name,
+        _ => false,
+    }
+}
+
+fn is_wanted_request(made: &Request<'_>, wanted: &Wanted) -> bool {
+    match made {
+        Request::About(topic) => is_wanted_topic(topic, wanted),
+        Request::Races(racing) => match wanted {
+            Wanted::Races(file, acts, group) => is_racing(racing, file, *acts, *group),
+            _ => false,
+        },
+        Request::Answer(choice) => is_wanted(choice, wanted),
+    }
+}
+
 fn is_wanted_fault(fault: &ChooseFault, wanted: &Wanted) -> bool {
     match fault {
         ChooseFault::BadNumber => matches!(wanted, Wanted::BadNumber),
@@ -124,7 +185,7 @@ fn is_wanted_fault(fault: &ChooseFault, wanted: &Wanted) -> bool {
 /// Whether the words make what is wanted.
 fn make(alloc: Global, words: &[&str], wanted: &Wanted) -> bool {
     match choose(alloc, words) {
-        Ok(made) => is_wanted(&made, wanted),
+        Ok(made) => is_wanted_request(&made, wanted),
         Err(fault) => is_wanted_fault(&fault, wanted),
     }
 }
@@ -288,6 +349,56 @@ const CHOICES: &[Row] = &[
         "explore a.tm --nodes=3 --most=7 --outcomes",
         Wanted::Explore("a.tm", 3, 7, true),
     ),
+    // What is wrong with texts and traces, and why acts are as they are.
+    ("lint a.tm", Wanted::Lint("a.tm")),
+    ("lint -", Wanted::Lint("-")),
+    ("races -", Wanted::Races("-", false, false)),
+    ("races t.std --as std --group", Wanted::Races("t.std", false, true)),
+    ("races --as=acts t.acts", Wanted::Races("t.acts", true, false)),
+    ("why a.tm --act 3", Wanted::Why(A_RUN, 3, None)),
+    (
+        "why --act=0 - --nodes 3 --and 18446744073709551615",
+        Wanted::Why(OF_THREE, 0, Some(u64::MAX)),
+    ),
+    (
+        "why a.tm --act 3 --and 0 --order=random --seed 9 --nodes=3 --steps=5 --collect=7 --page=256",
+        Wanted::Why(
+            Run {
+                nodes: 3,
+                steps: 5,
+                collect: 7,
+                size: Size::Words256,
+                way: Way::Random(9),
+                ..A_RUN
+            },
+            3,
+            Some(0),
+        ),
+    ),
+    (
+        "why a.tm --act 3 --events e",
+        Wanted::Why(
+            Run {
+                way: Way::Events("e"),
+                ..A_RUN
+            },
+            3,
+            None,
+        ),
+    ),
+    (
+        "why --acts a.acts --act 3",
+        Wanted::WhyActs("a.acts", None, Size::Words64, 3, None),
+    ),
+    (
+        "why --acts - --act 3 --and 1 --nodes 1 --page 256",
+        Wanted::WhyActs("-", Some(1), Size::Words256, 3, Some(1)),
+    ),
+    // What the program says of itself.
+    ("help", Wanted::Commands),
+    ("help explore", Wanted::Help("explore")),
+    ("help -- help", Wanted::Help("help")),
+    ("version", Wanted::Version),
     // Charts.
     (
         "chart a.tm",
@@ -432,6 +543,35 @@ const REFUSED: &[Row] = &[
     ("chart a.tm --as json", Wanted::Usage),
     ("stats a.tm --from 1", Wanted::Usage),
     ("explore a.tm --steps 5", Wanted::Usage),
+    ("why a.tm --act 0 --nodes 17", Wanted::BadNumber),
+    ("why --acts a.acts --act 0 --nodes 0", Wanted::BadNumber),
+    ("why a.tm", Wanted::Usage),
+    ("why --act 0", Wanted::Usage),
+    ("why a.tm --acts a.acts --act 0", Wanted::Usage),
+    ("why a.tm --act 3 --and 3 --nodes 17", Wanted::Usage),
+    ("why --acts a.acts --act 3 --and 03", Wanted::Usage),
+    ("why --acts a.acts --act 0 --steps 1000000", Wanted::Usage),
+    ("why --acts a.acts --act 0 --collect 0", Wanted::Usage),
+    ("why --acts a.acts --act 0 --order oldest", Wanted::Usage),
+    ("why --acts a.acts --act 0 --events e", Wanted::Usage),
+    ("why --acts a.acts --act 0 --seed 0 --nodes 17", Wanted::Usage),
+    ("why --acts a.acts --act 0 --page 128", Wanted::Usage),
+    ("why a.tm --act 0 --threads", Wanted::Usage),
+    ("why a.tm --act 0 --order latest", Wanted::Usage),
+    ("why a.tm --act -1", Wanted::Usage),
+    ("lint", Wanted::Usage),
+    ("lint a.tm b.tm", Wanted::Usage),
+    ("lint a.tm --nodes 2", Wanted::Usage),
+    ("races t --as rapid", Wanted::Usage),
+    ("races t --group --group", Wanted::Usage),
+    ("races t --nodes 2", Wanted::Usage),
+    ("help plan", Wanted::Usage),
+    ("help Sim", Wanted::Usage),
+    ("help sim run", Wanted::Usage),
+    ("help -- --help", Wanted::Usage),
+    ("help --nodes 1", Wanted::Usage),
+    ("version sim", Wanted::Usage),
+    ("--version sim", Wanted::Usage),
 ];
 
 #[test]

@@ -14,10 +14,10 @@ meant_by_some f (word ∷ words) is = refl
 
 pub returns-then-is_empty : goal.returns-then-is_empty
 returns-then-is_empty g c =
-    subst (λ (t : List Text). Chooses t c.choice_in.result)
-    (sym (meant_by_none g.S.AsStr.text c.args.words.now (sym c.is_empty.ensures ∙ c.if-is_empty.true))) (rw c.as_slice.ensures at c.choice_in.ensures)
+    subst (λ (t : List Text). Chooses t c.request_in.result)
+    (sym (meant_by_none g.S.AsStr.text c.args.words.now (sym c.is_empty.ensures ∙ c.if-is_empty.true))) (rw c.as_slice.ensures at c.request_in.ensures)
 
 pub returns-else-is_empty : goal.returns-else-is_empty
 returns-else-is_empty g c =
-    subst (λ (t : List Text). Chooses t c.choice_in-else-is_empty.result)
-    (sym (meant_by_some g.S.AsStr.text c.args.words.now (sym c.is_empty.ensures ∙ c.if-is_empty.false))) c.choice_in-else-is_empty.ensures
+    subst (λ (t : List Text). Chooses t c.request_in-else-is_empty.result)
+    (sym (meant_by_some g.S.AsStr.text c.args.words.now (sym c.is_empty.ensures ∙ c.if-is_empty.false))) c.request_in-else-is_empty.ensures

@@ -6,7 +6,7 @@ use Rattle.clap.specs.declared.error.kind.ErrorKind.TheVariants.{OutOfMemory}
 use Rattle.clap.proofs.OnLiterals.{clap_on_literals}
 use Rattle.lrc_args.specs.declared.choice.ChooseFault.{ChooseFault}
 use Rattle.lrc_args.specs.CommandLine.{IsFoundFault, choose_fault, fault_from}
-use Rattle.lrc_args.specs.Commands.{treadmarks}
+use Rattle.lrc_commands.specs.Commands.{treadmarks}
 use Rattle.lrc_args.proofs.command_line.matches_of.Goals as goal
 
 simple : is_simple treadmarks ≡ true

@@ -10,5 +10,5 @@ returns-in-BadNumber g c =
 
 pub returns-in-NoMemory : goal.returns-in-NoMemory
 returns-in-NoMemory g c =
-    subst (λ (fault : ChooseFault). IsRefusal fault (g.E.Write.contents c.args.err.now) (g.E.Write.contents c.tell_line-in-NoMemory.new.err) 1)
-    (sym c.in-NoMemory.is) (c.tell_line-in-NoMemory.ensures, refl)
+    subst (λ (fault : ChooseFault). IsRefusal fault (g.E.Write.contents c.args.err.now) (g.E.Write.contents c.refuse_memory.new.err) c.refuse_memory.result)
+    (sym c.in-NoMemory.is) (c.refuse_memory.ensures.told, c.refuse_memory.ensures.status)

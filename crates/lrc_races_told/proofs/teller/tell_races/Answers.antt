@@ -1,0 +1,7 @@
+use Rattle.lrc_races_told.proofs.TellerLemmas.{begun, out_of_memory}
+use Rattle.lrc_races_told.proofs.teller.tell_races.Goals as goal
+
+pub returns-in-Err : goal.returns-in-Err
+returns-in-Err g c =
+    out_of_memory c.args.form c.args.group (g.B.Blocks.left c.args.trace.now) (g.B.Blocks.left c.args.trace.now) (g.W.Write.contents c.args.out.now) (g.W.Write.contents c.args.out.now)
+    c.new-session.result (begun c.args.form c.args.group (g.B.Blocks.left c.args.trace.now) (g.W.Write.contents c.args.out.now) c.new-session.result c.new-session.ensures)

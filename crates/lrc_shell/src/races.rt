@@ -1,0 +1,43 @@
+// The races of a trace, told as it is read.
+
+ghost use Rattle.std.specs.Prelude.{◌≡◌};
+ghost use Rattle.lrc_races_told.specs.Plays.{IsRacesPlayed};
+ghost use Rattle.lrc_shell.specs.Plays.{form_of};
+
+use lrc_args::choice::{Racing, TraceForm};
+use lrc_races::form::Form;
+use lrc_races_told::play_races;
+use lrc_sources::sources::Sources;
+use std::alloc::Global;
+use std::io::Write;
+
+/// Tells the races of a trace as it is read, and gives the exit status.
+pub(crate) fn tell_races<F: Sources, W: Write, E: Write>(
+    alloc: Global,
+    racing: &Racing<'_>,
+    sources: &F,
+    out: &mut W,
+    err: &mut E,
+) -> u8
+    ensures { IsRacesPlayed (F.known sources.now) racing.now.file.now (form_of racing.now.form) racing.now.group
+        (W.contents out.old) (W.contents out.new) (E.contents err.old) (E.contents err.new) result }
+{
+    play_races(
+        alloc,
+        racing.file,
+        form_of(racing.form),
+        racing.group,
+        sources,
+        out,
+        err,
+    )
+}
+
+fn form_of(form: TraceForm) -> Form
+    ensures { result ≡ form_of form }
+{
+    match form {
+        TraceForm::Std => Form::Std,
+        TraceForm::Acts => Form::Acts,
+    }
+}
