@@ -1,5 +1,5 @@
 -- The run that a choice asks for: the events that it is made of and what came of it, or why there is none.
-use Rattle.std.specs.Prelude.{◌≡◌, ◌<◌, ◌≤◌, ℕ, Bool, false, true, List, length, map, MatchOption, Option, None, Some, Ok, Err}
+use Rattle.std.specs.Prelude.{◌≡◌, ◌<◌, ◌≤◌, ℕ, false, List, length, map, MatchOption, Option, None, Some, Ok, Err}
 use Rattle.lrc_lang.specs.declared.program.Program.{Program}
 use Rattle.lrc_judge.specs.Races.{AreNamedRaces}
 use Rattle.lrc_trace.specs.Conflict.{IsFirstRace, IsRaceFree}
@@ -15,11 +15,15 @@ use Rattle.lrc_world.specs.Random.{IsWandering, WanderingWearsOut}
 use Rattle.lrc_world.specs.Report.{AreAll, IsWornBy, end_of_logged}
 use Rattle.lrc_world.specs.Rounds.{AreRounds, RoundsWearOut}
 use Rattle.lrc_world.specs.Turned.{turned_of}
-use Rattle.lrc_world.specs.World.{sends_long}
-use Rattle.lrc_world.specs.declared.report.Brief.{Brief}
+use Rattle.lrc_world.specs.World.{kept_log, sends_long}
+use Rattle.lrc_world.specs.declared.keep.Keep.{Keep}
 use Rattle.lrc_world.specs.declared.report.Report.{Report}
+use Rattle.lrc_world.specs.declared.run.Run.{Run as MadeRun}
 use Rattle.lrc_world.specs.declared.turned.Turned.{Turned}
-use Rattle.lrc_run.specs.Run.{AreWiresOf, IsWovenReport, WearsOutSoon, turns_of_nodes}
+use Rattle.lrc_run.specs.Run.{AreWiresOf, IsWovenReport, turns_of_nodes}
+use Rattle.lrc_run.specs.Halts.{IsHalt}
+use Rattle.lrc_run.specs.declared.halt.Halt.{Halt}
+use Rattle.lrc_run.specs.declared.halt.Halt.TheVariants as halts
 use Rattle.lrc_events.specs.EventsText.{ReadsEvents}
 use Rattle.lrc_events.specs.declared.events.EventsFault.TheVariants.{BadEvent}
 use Rattle.lrc_args.specs.declared.choice.RunOptions.{RunOptions}
@@ -41,25 +45,19 @@ pub record Account : Type 0 where
   pub logs : List (List EntryRecord)
   pub first_race : Option ℕ
 
--- what a report says
-abbrev pub account_of : Report → Account
-account_of report = record {
+-- what a report says, where these are the turns of the nodes
+abbrev pub account_with : Report → List (List EntryRecord) → Account
+account_with report logs = record {
   acts = report.acts.items;
   ends = report.ends.items;
   races = report.races.items;
-  logs = turns_of_nodes report;
+  logs = logs;
   first_race = report.first_race;
 }
 
--- what a report without the turns of the nodes says, where they are these
-abbrev pub account_with : Brief → List (List EntryRecord) → Account
-account_with brief logs = record {
-  acts = brief.acts.items;
-  ends = brief.ends.items;
-  races = brief.races.items;
-  logs = logs;
-  first_race = brief.first_race;
-}
+-- the same where its logs are whole
+abbrev pub account_of : Report → Account
+account_of report = account_with report (turns_of_nodes report)
 
 -- this came of the run
 pub record IsAccount (account : Account) (run : Run) : Type 0 where
@@ -112,19 +110,11 @@ abbrev pub IsRunOfWay : Way → Program → RunOptions → Option (List ℕ) →
 IsRunOfWay way program options events_text events account =
     AreEventsOfWay way program options events_text account events × IsReported program options events account
 
--- the run goes on in rounds or in a random order
-abbrev pub is_led : Way → Bool
-is_led (ways.Events file) = false
-is_led (ways.Rounds order) = true
-is_led (ways.Random seed) = true
-is_led (ways.Threads order) = false
-
--- what came of such a run, without the turns of its nodes
-pub record IsBriefRun (way : Way) (program : Program) (options : RunOptions) (events_text : Option (List ℕ)) (brief : Brief) : Type 0 where
-  pub events : List Event
+-- A run that goes on in some way, which keeps so much of the turns of its nodes: with all turns, it came of the program.
+pub record IsRunMade (way : Way) (program : Program) (options : RunOptions) (events_text : Option (List ℕ)) (keep : Keep) (run : MadeRun) : Type 0 where
   pub logs : List (List EntryRecord)
-  pub come : AreEventsOfWay way program options events_text (account_with brief logs) events
-  pub reported : IsReported program options events (account_with brief logs)
+  pub kept : turns_of_nodes run.report ≡ map (kept_log keep) logs
+  pub ran : IsRunOfWay way program options events_text run.events.items (account_with run.report logs)
 
 -- ---- faults
 
@@ -143,13 +133,19 @@ IsLedFault WearsOut Worn = WearsOut
 IsLedFault WearsOut NoMemory = Unit {0}
 IsLedFault WearsOut _ = ⊥
 
--- Why a run on threads answers none: a number or a message becomes too large at one of fewer than 2^64 events of some run of the
--- program; or the logs differ from what went through the post. Which thread goes on when is not known, and so is no more of its faults.
-abbrev pub IsThreadedFault : Program → RunOptions → Fault → Type 0
-IsThreadedFault program options Worn = WearsOutSoon program options.nodes.count (options_of options)
-IsThreadedFault program options Mismatch = Unit {0}
-IsThreadedFault program options NoMemory = Unit {0}
-IsThreadedFault program options _ = ⊥
+-- what is said of a run on threads that halted: that a number or a message became too large; that what its nodes left does not tell of one
+-- run; or that memory ran out
+abbrev pub halt_said : Halt → Fault
+halt_said (halts.Worn worn) = Worn
+halt_said (halts.Refused left) = NoMemory
+halt_said (halts.Mismatch left) = Mismatch
+halt_said halts.NoMemory = NoMemory
+
+-- Why a run on threads answers none: it halted so. Of a node that wore out, its own turns and those of the others up to there tell so. Which
+-- thread goes on when is not known.
+abbrev pub IsThreadedFault : Program → RunOptions → Picker → Fault → Type 0
+IsThreadedFault program options order fault =
+    (halt : Halt) × IsHalt program options.nodes.count (options_of options) order halt × (fault ≡ halt_said halt)
 
 abbrev pub IsRunFault : Way → Program → RunOptions → Option (List ℕ) → Fault → Type 0
 IsRunFault (ways.Events file) program options None fault = ⊥
@@ -158,4 +154,4 @@ IsRunFault (ways.Rounds order) program options events_text fault =
     IsLedFault (RoundsWearOut program options.nodes.count (options_of options) order) fault
 IsRunFault (ways.Random seed) program options events_text fault =
     IsLedFault (WanderingWearsOut program options.nodes.count (options_of options) seed) fault
-IsRunFault (ways.Threads order) program options events_text fault = IsThreadedFault program options fault
+IsRunFault (ways.Threads order) program options events_text fault = IsThreadedFault program options order fault
