@@ -1,16 +1,22 @@
 -- What is answered of a run that halts, and of one that does not.
-use Rattle.std.proofs.Common.{◌≡◌, ◌∙◌, ◌≤◌, ℕ, List, Option, Result, Ok, Err, IfErr, IsErrAnd, ap, arith, length, map, subst, sym}
-use Rattle.std.specs.Prelude.{All}
+use Rattle.std.proofs.Common.{◌≡◌, ◌∙◌, ◌<◌, ◌≤◌, ◌⊎◌, inl, inr, ℕ, zero, suc, List, [], ◌∷◌, Option, Some, Result, Ok, Err, IfErr, IsErrAnd, ap, arith, length, map, refl, subst, sym}
+use Rattle.std.specs.Prelude.{All, slice_get}
 use Rattle.std.proofs.lemmas.List.{length-map}
+use Rattle.std.proofs.lemmas.Option.{slice_get_within}
 use Rattle.lrc_lang.specs.declared.program.Program.{Program}
 use Rattle.lrc_envelope.specs.declared.picker.Picker.{Picker}
 use Rattle.lrc_judge.specs.Races.{AreNamedRaces}
 use Rattle.lrc_post.specs.Mailbox.{MailboxRecord, IsAllGiven}
 use Rattle.lrc_post.specs.Post.{AreOf, AreWires}
 use Rattle.lrc_protocol.specs.declared.event.Event.{Event}
-use Rattle.lrc_protocol.specs.Node.{OptionsRecord}
+use Rattle.lrc_protocol.specs.Node.{OptionsRecord, fresh_node}
 use Rattle.lrc_protocol.specs.Run.{EntryRecord}
+use Rattle.lrc_threads.specs.declared.life.Failure.{Failure}
 use Rattle.lrc_threads.specs.declared.stop.Stop.{Stop}
+use Rattle.lrc_threads.specs.declared.stop.Stop.TheVariants as stops
+use Rattle.lrc_threads.specs.Threads.{IsFirstFailure}
+use Rattle.lrc_weave.specs.declared.fault.WeaveFault.{WeaveFault}
+use Rattle.lrc_weave.specs.declared.fault.WeaveFault.TheVariants as weaving
 use Rattle.lrc_weave.specs.Logs.{AreLogs}
 use Rattle.lrc_weave.specs.Matched.{AreMatched}
 use Rattle.lrc_world.specs.declared.report.Report.{Report}
@@ -19,8 +25,8 @@ use Rattle.lrc_run.specs.declared.fault.RunFault.TheVariants.{BadNodes, BadSteps
 use Rattle.lrc_run.specs.declared.halt.Halt.{Halt}
 use Rattle.lrc_run.specs.declared.halt.Halt.TheVariants.{Worn, Refused, Mismatch, NoMemory}
 use Rattle.lrc_run.specs.declared.halt.Left.{Left}
-use Rattle.lrc_run.specs.declared.told.Told.{Told}
-use Rattle.lrc_run.specs.Halts.{AreLeft, Differ, IsHalt, IsLeft, IsMismatch, IsRunFault, fault_of, logs_left}
+use Rattle.lrc_run.specs.declared.told.ToldRun.{ToldRun}
+use Rattle.lrc_run.specs.Halts.{AreLeft, Differ, IsHalt, IsLeft, IsMismatch, IsRefused, IsRunFault, StoppedWith, fault_of, logs_left}
 use Rattle.lrc_run.specs.Run.{IsThreadedRun, IsTold, IsWovenReport, Reports}
 
 module _ (program : Program) (nodes : ℕ) (options : OptionsRecord) (picker : Picker) where
@@ -56,7 +62,7 @@ module _ (program : Program) (nodes : ℕ) (options : OptionsRecord) (picker : P
     }
 
   -- a run of which all is told
-  pub threaded_run : (logs : List (List EntryRecord)) (told : Told) (report : Report) (wires : List MailboxRecord) (events : List Event)
+  pub threaded_run : (logs : List (List EntryRecord)) (told : ToldRun) (report : Report) (wires : List MailboxRecord) (events : List Event)
       → IsTold program nodes options logs told → Reports logs told report → events ≡ told.events.items → AreMatched logs wires → All IsAllGiven wires
       → length wires ≡ nodes → AreWires wires → AreOf picker wires → IsThreadedRun program nodes options picker report wires events
   threaded_run logs told report wires events is reports same matched taken count legal picked = record {
@@ -84,3 +90,38 @@ in_range (Worn worn) = (λ e. cc, λ e. cc)
 in_range (Refused left) = (λ e. cc, λ e. cc)
 in_range (Mismatch left) = (λ e. cc, λ e. cc)
 in_range NoMemory = (λ e. cc, λ e. cc)
+
+-- a fault that is handed on
+pub same_fault : {T : Type 0} (r : Result T WeaveFault) (fault : WeaveFault) → IsErrAnd r (λ f. f ≡ fault) → r ≡ Err weaving.Mismatch
+    → (let failed : Result T WeaveFault = Err fault in failed ≡ Err weaving.Mismatch)
+same_fault (Ok x) fault is e = absurd is
+same_fault (Err f) fault is e = ap Err (sym is) ∙ e
+
+-- ---- nodes whose threads stopped
+
+-- what is at a place inside
+there : {A : Type 0} (items : List A) (n : ℕ) → n < length items → (one : A) × (slice_get items n ≡ Some one)
+there [] n inside = absurd (omega arith)
+there (x ∷ items) zero inside = (x, refl)
+there (x ∷ items) (suc n) inside = there items n (omega arith)
+
+-- no thread fails because the post is closed
+not_closed : (program : Program) (nodes : ℕ) (options : OptionsRecord) (picker : Picker) (left : Left) (failure : Failure)
+    → IsLeft program nodes options picker left → IsFirstFailure left.stops.items failure → failure.stop ≡ stops.Closed → ⊥
+not_closed program nodes options picker left failure is first closed =
+    let inside : failure.node < length left.stops.items = slice_get_within left.stops.items failure.node (Some failure.stop) first.here in
+    let at = there (logs_left left) failure.node (omega (arith, inside, is.count, is.turns.count)) in
+    let stopped = is.each failure.node at.0 (Some failure.stop) at.1 first.here in
+    subst (λ stop. StoppedWith (fresh_node program nodes options failure.node) at.0 (Some stop)) closed stopped
+
+-- the lowest one that failed had no memory
+pub refused_so : (program : Program) (nodes : ℕ) (options : OptionsRecord) (picker : Picker) (left : Left) (failure : Failure)
+    → IsLeft program nodes options picker left → IsFirstFailure left.stops.items failure
+    → (failure.stop ≡ stops.Closed) ⊎ (failure.stop ≡ stops.NoMemory) → IsRefused program nodes options picker left
+refused_so program nodes options picker left failure is first (inl closed) =
+    absurd (not_closed program nodes options picker left failure is first closed)
+refused_so program nodes options picker left failure is first (inr short) = record {
+  left_so = is;
+  node = failure.node;
+  first = subst (λ stop. IsFirstFailure left.stops.items (record { node = failure.node; stop = stop })) short first;
+}

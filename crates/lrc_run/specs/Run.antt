@@ -17,7 +17,7 @@ use Rattle.lrc_world.specs.Report.{AreAll, IsReportOf}
 use Rattle.lrc_world.specs.World.{sends_long}
 use Rattle.lrc_threads.specs.Threads.{is_any_ready_after, traces_of_logs}
 use Rattle.lrc_threads.specs.Worker.{AreShort}
-use Rattle.lrc_run.specs.declared.told.Told.{Told}
+use Rattle.lrc_run.specs.declared.told.ToldRun.{ToldRun}
 
 -- the turns of each node of a report, from node 0 up
 abbrev pub turns_of_nodes : Report → List (List EntryRecord)
@@ -69,7 +69,7 @@ pub record AreWhole (program : Program) (nodes : ℕ) (options : OptionsRecord) 
   pub ready_is : ready ≡ is_any_ready_after program nodes options logs
 
 -- a report has these turns, and what is told beside them
-pub record Reports (logs : List (List EntryRecord)) (told : Told) (report : Report) : Type 0 where
+pub record Reports (logs : List (List EntryRecord)) (told : ToldRun) (report : Report) : Type 0 where
   pub turns : turns_of_nodes report ≡ logs
   pub acts : report.acts ≡ told.acts
   pub ends : report.ends ≡ told.ends
@@ -77,7 +77,7 @@ pub record Reports (logs : List (List EntryRecord)) (told : Told) (report : Repo
   pub first : report.first_race ≡ told.first_race
 
 -- what is told beside the turns of nodes makes a report of them, in which the races are those named, and of which the theorem holds
-pub record IsTold (program : Program) (nodes : ℕ) (options : OptionsRecord) (logs : List (List EntryRecord)) (told : Told) : Type 0 where
+pub record IsTold (program : Program) (nodes : ℕ) (options : OptionsRecord) (logs : List (List EntryRecord)) (told : ToldRun) : Type 0 where
   pub woven : (report : Report) → Reports logs told report → IsWovenReport program nodes options told.events.items report
   pub races : AreNamedRaces told.acts.items told.races.items
   pub theorem : IsConsistent program nodes told.acts.items

@@ -12,7 +12,7 @@ ghost use Rattle.lrc_run.specs.Run.{AreWhole, IsThreadedRun, Reports};
 
 use crate::failure::halt_at;
 use crate::halt::{Halt, Left};
-use crate::told::{Told, told};
+use crate::told::{ToldRun, told};
 use lrc_envelope::Picker;
 use lrc_exec::code::Code;
 use lrc_post::{Post, Wires};
@@ -111,12 +111,12 @@ fn finished(
 }
 
 // The run whose nodes left these turns, with what is told beside them.
-fn reported(parts: Parts, wires: Wires, told: Told) -> ThreadedRun
+fn reported(parts: Parts, wires: Wires, told: ToldRun) -> ThreadedRun
     ensures report { Reports (map (λ log. log.items) parts.logs.items) told result.report }
     ensures wires { result.wires ≡ wires }
     ensures events { result.events ≡ told.events }
 {
-    let Told {
+    let ToldRun {
         events,
         acts,
         ends,

@@ -26,7 +26,7 @@ use std::alloc::{AllocError, Global};
 
 /// What is told of a run beside the turns of its nodes.
 #[derive(Drop)]
-pub(crate) struct Told {
+pub(crate) struct ToldRun {
     pub events: Vec<Event>,
     pub acts: Vec<Act>,
     pub ends: Vec<End>,
@@ -50,7 +50,7 @@ pub(crate) fn told(
     setting: &Setting<'_>,
     parts: &Parts,
     wires: &[Mailbox],
-) -> Result<Told, WeaveFault>
+) -> Result<ToldRun, WeaveFault>
     requires few { setting.now.nodes ≤ 16 }
     requires turns { AreLogs setting.now.program.now setting.now.nodes setting.now.options (map (λ log. log.items) parts.now.logs.items) }
     requires whole { AreWhole setting.now.program.now setting.now.nodes setting.now.options
@@ -105,7 +105,7 @@ fn findings_of(
 }
 
 // A run, and what is found in it.
-fn with_findings(run: WovenRun, found: Findings) -> Told
+fn with_findings(run: WovenRun, found: Findings) -> ToldRun
     ensures events { result.events ≡ run.events }
     ensures acts { result.acts ≡ run.acts }
     ensures ends { result.ends ≡ found.ends }
@@ -118,7 +118,7 @@ fn with_findings(run: WovenRun, found: Findings) -> Told
         races,
         first_race,
     } = found;
-    Told {
+    ToldRun {
         events,
         acts,
         ends,

@@ -4,7 +4,7 @@ use Rattle.std.proofs.lemmas.Bool.{ltb-true}
 use Rattle.std.proofs.lemmas.Option.{slice_get-get_or, slice_get_past}
 use Rattle.lrc_node.specs.Logged.{seen_input}
 use Rattle.lrc_run.specs.Halts.{AreEventsOf, AreUnmatched}
-use Rattle.lrc_run.specs.Unfinished.{input_of, next_taken, unfinished}
+use Rattle.lrc_run.specs.Unfinished.{input_of, next_taken}
 use Rattle.lrc_run.proofs.Behind.{no_log, no_mailbox, one_behind}
 use Rattle.lrc_run.proofs.failure.events_until.Goals as goal
 

@@ -1,10 +1,9 @@
-use Rattle.std.proofs.Common.{◌≡◌, ◌∙◌, ◌≤◌, ◌⊎◌, inl, inr, false, true, ap, map, sym, subst, rules}
+use Rattle.std.proofs.Common.{◌≡◌, ◌∙◌, ◌<◌, ◌≤◌, ◌⊎◌, inl, inr, false, true, ap, map, sym, subst, rules}
 use Rattle.std.specs.Prelude.{All, MatchOption}
 use Rattle.lrc_judge.specs.Races.{AreNamedRaces}
 use Rattle.lrc_trace.specs.Conflict.{IsFirstRace, IsRaceFree}
 use Rattle.lrc_world.specs.Promises.{IsConsistent}
 use Rattle.lrc_world.specs.Ends.{ends_of}
-use Rattle.lrc_threads.specs.Threads.{traces_of_logs}
 use Rattle.lrc_run.specs.Run.{IsUntold, IsWovenReport}
 use Rattle.lrc_run.proofs.Telling.{acts_told, left_over, over_told, raceless_told, races_told, report_told, run_told, theorem_told, traces_told}
 use Rattle.lrc_run.proofs.Telling.{weave_told, woven_told}
