@@ -6,10 +6,12 @@ use Rattle.lrc_lang.specs.declared.fault.FaultKind.{FaultKind}
 use Rattle.lrc_lang.specs.declared.fault.FaultKind.TheVariants as faults
 use Rattle.lrc_lang.specs.declared.fault.ParseFault.{ParseFault}
 use Rattle.lrc_lang.specs.declared.program.Program.{Program}
+use Rattle.lrc_protocol.specs.Run.{EntryRecord}
 use Rattle.lrc_protocol.specs.declared.event.Event.{Event}
+use Rattle.lrc_world.specs.declared.report.Brief.{Brief}
 use Rattle.lrc_cli.specs.Answer.{Answers, IsFault, IsTextFault, IsTextOf, Prints}
 use Rattle.lrc_cli.specs.FaultLine.{fault_of_kind, fault_of_text}
-use Rattle.lrc_cli.specs.Runs.{Account, IsRunOfWay}
+use Rattle.lrc_cli.specs.Runs.{Account, IsBriefRun, IsRunOfWay, account_with}
 use Rattle.lrc_cli.specs.Shown.{IsShowFault, IsShown, shown_status}
 use Rattle.lrc_text.specs.Parts.{whole_text}
 use Rattle.lrc_cli.specs.declared.answer.Printout.{Printout}
@@ -72,6 +74,18 @@ pub printed_of : (run : RunChoice) (shape : Shape) (text : List ℕ) (events_tex
 printed_of run shape text events_text program events account (Ok printout) is ran shown ended =
     (program, is, record { events = events; account = account; ran = ran; shown = shown; ended = ended })
 printed_of run shape text events_text program events account (Err fault) is ran shown ended = tt
+
+-- also where the turns of the nodes are not known
+pub told_of : (run : RunChoice) (shape : Shape) (text : List ℕ) (events_text : Option (List ℕ)) (program : Program) (brief : Brief)
+    (r : Result Printout Fault) → IsTextOf text program → IsBriefRun run.way program run.options events_text brief
+    → IfOk r (λ printout. (events : List Event) (logs : List (List EntryRecord))
+    → IsShown shape run text program events (account_with brief logs) (whole_text printout.parts.items))
+    → IfOk r (λ printout. printout.status ≡ shown_status shape brief.first_race brief.ends.items)
+    → IfOk r (λ printout. Prints (Show run shape) text events_text (whole_text printout.parts.items) printout.status)
+told_of run shape text events_text program brief (Ok printout) is ran shown ended =
+    printed_of run shape text events_text program ran.events (account_with brief ran.logs) (Ok printout) is (ran.come, ran.reported)
+    (shown ran.events ran.logs) ended
+told_of run shape text events_text program brief (Err fault) is ran shown ended = tt
 
 -- and why it is not shown is the fault
 pub unshown_of : (run : RunChoice) (shape : Shape) (text : List ℕ) (events_text : Option (List ℕ)) (program : Program) (events : List Event)

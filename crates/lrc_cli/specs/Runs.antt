@@ -1,5 +1,5 @@
 -- The run that a choice asks for: the events that it is made of and what came of it, or why there is none.
-use Rattle.std.specs.Prelude.{◌≡◌, ◌<◌, ◌≤◌, ℕ, false, List, length, map, MatchOption, Option, None, Some, Ok, Err}
+use Rattle.std.specs.Prelude.{◌≡◌, ◌<◌, ◌≤◌, ℕ, Bool, false, true, List, length, map, MatchOption, Option, None, Some, Ok, Err}
 use Rattle.lrc_lang.specs.declared.program.Program.{Program}
 use Rattle.lrc_judge.specs.Races.{AreNamedRaces}
 use Rattle.lrc_trace.specs.Conflict.{IsFirstRace, IsRaceFree}
@@ -15,10 +15,9 @@ use Rattle.lrc_world.specs.Random.{IsWandering, WanderingWearsOut}
 use Rattle.lrc_world.specs.Report.{AreAll, IsWornBy, end_of_logged}
 use Rattle.lrc_world.specs.Rounds.{AreRounds, RoundsWearOut}
 use Rattle.lrc_world.specs.Turned.{turned_of}
-use Rattle.lrc_world.specs.World.{kept_log, sends_long}
-use Rattle.lrc_world.specs.declared.keep.Keep.{Keep}
+use Rattle.lrc_world.specs.World.{sends_long}
+use Rattle.lrc_world.specs.declared.report.Brief.{Brief}
 use Rattle.lrc_world.specs.declared.report.Report.{Report}
-use Rattle.lrc_world.specs.declared.run.Run.{Run as MadeRun}
 use Rattle.lrc_world.specs.declared.turned.Turned.{Turned}
 use Rattle.lrc_run.specs.Run.{AreWiresOf, IsWovenReport, turns_of_nodes}
 use Rattle.lrc_run.specs.Halts.{IsHalt}
@@ -45,19 +44,25 @@ pub record Account : Type 0 where
   pub logs : List (List EntryRecord)
   pub first_race : Option ℕ
 
--- what a report says, where these are the turns of the nodes
-abbrev pub account_with : Report → List (List EntryRecord) → Account
-account_with report logs = record {
+-- what a report says
+abbrev pub account_of : Report → Account
+account_of report = record {
   acts = report.acts.items;
   ends = report.ends.items;
   races = report.races.items;
-  logs = logs;
+  logs = turns_of_nodes report;
   first_race = report.first_race;
 }
 
--- the same where its logs are whole
-abbrev pub account_of : Report → Account
-account_of report = account_with report (turns_of_nodes report)
+-- what a report without the turns of the nodes says, where they are these
+abbrev pub account_with : Brief → List (List EntryRecord) → Account
+account_with brief logs = record {
+  acts = brief.acts.items;
+  ends = brief.ends.items;
+  races = brief.races.items;
+  logs = logs;
+  first_race = brief.first_race;
+}
 
 -- this came of the run
 pub record IsAccount (account : Account) (run : Run) : Type 0 where
@@ -110,11 +115,19 @@ abbrev pub IsRunOfWay : Way → Program → RunOptions → Option (List ℕ) →
 IsRunOfWay way program options events_text events account =
     AreEventsOfWay way program options events_text account events × IsReported program options events account
 
--- A run that goes on in some way, which keeps so much of the turns of its nodes: with all turns, it came of the program.
-pub record IsRunMade (way : Way) (program : Program) (options : RunOptions) (events_text : Option (List ℕ)) (keep : Keep) (run : MadeRun) : Type 0 where
+-- the run goes on in rounds or in a random order
+abbrev pub is_led : Way → Bool
+is_led (ways.Events file) = false
+is_led (ways.Rounds order) = true
+is_led (ways.Random seed) = true
+is_led (ways.Threads order) = false
+
+-- what came of such a run, without the turns of its nodes
+pub record IsBriefRun (way : Way) (program : Program) (options : RunOptions) (events_text : Option (List ℕ)) (brief : Brief) : Type 0 where
+  pub events : List Event
   pub logs : List (List EntryRecord)
-  pub kept : turns_of_nodes run.report ≡ map (kept_log keep) logs
-  pub ran : IsRunOfWay way program options events_text run.events.items (account_with run.report logs)
+  pub come : AreEventsOfWay way program options events_text (account_with brief logs) events
+  pub reported : IsReported program options events (account_with brief logs)
 
 -- ---- faults
 

@@ -1,5 +1,5 @@
 -- What is shown of a run.
-use Rattle.std.specs.Prelude.{◌≡◌, ℕ, List, Option, length, map}
+use Rattle.std.specs.Prelude.{◌≡◌, ℕ, Bool, false, List, Option, length, map}
 use Rattle.lrc_clock.specs.Keeping.{KeepsTime}
 use Rattle.lrc_lang.specs.Lines.{HasLines}
 use Rattle.lrc_lang.specs.Tree.{program_of}
@@ -16,8 +16,6 @@ use Rattle.lrc_judge.specs.FirstPairs.{AreFirstPairs}
 use Rattle.lrc_judge.specs.declared.lanes.Pair.{Pair}
 use Rattle.lrc_report.specs.ReportText.{run_status_of, run_text}
 use Rattle.lrc_stats.specs.StatsText.{stats_text}
-use Rattle.lrc_world.specs.declared.keep.Keep.{Keep}
-use Rattle.lrc_world.specs.declared.keep.Keep.TheVariants.{All, Newest}
 use Rattle.lrc_turns_text.specs.TurnsText.{messages_text}
 use Rattle.lrc_args.specs.declared.choice.Form.{Form}
 use Rattle.lrc_args.specs.declared.choice.Form.TheVariants.{Acts, Events, Json, Messages, Rapid}
@@ -26,9 +24,10 @@ use Rattle.lrc_args.specs.declared.choice.RunOptions.{RunOptions}
 use Rattle.lrc_args.specs.declared.choice.Shape.{Shape}
 use Rattle.lrc_args.specs.declared.choice.Shape.TheVariants as shapes
 use Rattle.lrc_args.specs.declared.choice.Shape.TheVariants.{Chart, Explain, Stats, Trace}
+use Rattle.lrc_args.specs.declared.choice.Way.{Way}
 use Rattle.lrc_cli.specs.Charted.{IsCharted, IsTooLong}
 use Rattle.lrc_cli.specs.Lines.{AreLinesIn}
-use Rattle.lrc_cli.specs.Runs.{Account, turns_in}
+use Rattle.lrc_cli.specs.Runs.{Account, is_led, turns_in}
 use Rattle.lrc_cli.specs.declared.fault.Fault.{Fault}
 use Rattle.lrc_cli.specs.declared.fault.Fault.TheVariants.{NoMemory, TooLong}
 
@@ -70,13 +69,13 @@ IsShowFault shape run text program events account NoMemory = Unit {0}
 IsShowFault (Chart charting) run text program events account TooLong = IsTooLong charting run.options text program events account
 IsShowFault shape run text program events account fault = ⊥
 
--- What is kept of the turns of the nodes while a run goes on that is shown so: what a report and one with reasons show says nothing of them.
-abbrev pub keep_for : Shape → Keep
-keep_for shapes.Report = Newest
-keep_for (Trace form) = All
-keep_for Explain = Newest
-keep_for Stats = All
-keep_for (Chart charting) = All
+-- the run is led, and what is shown of it says nothing of the turns of the nodes
+abbrev pub is_brief : Way → Shape → Bool
+is_brief way shapes.Report = is_led way
+is_brief way (Trace form) = false
+is_brief way Explain = is_led way
+is_brief way Stats = false
+is_brief way (Chart charting) = false
 
 -- The status behind what is shown: that of the run. A chart says nothing for or against a run, and its status is 0.
 abbrev pub shown_status : Shape → Option ℕ → List End → ℕ

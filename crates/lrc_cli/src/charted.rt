@@ -12,6 +12,7 @@ ghost use Rattle.lrc_args.specs.declared.choice.Shape.TheVariants.{Chart};
 
 use crate::answer::in_one;
 use crate::fault::Fault;
+use crate::runs::Run;
 use crate::trace::lines_in;
 use lrc_args::choice::{Charting, RunChoice};
 use lrc_chart_build::{Course, Part, portrait_of};
@@ -24,7 +25,6 @@ use lrc_lang::program::Program;
 use lrc_svg::document_part;
 use lrc_timed::times::times_of_acts;
 use lrc_title::title_of;
-use lrc_world::run::Run;
 use lrc_world::turned::turned_events;
 use std::alloc::{AllocError, Global};
 

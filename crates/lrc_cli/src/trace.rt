@@ -12,6 +12,7 @@ ghost use Rattle.lrc_text.specs.Parts.{whole_text};
 ghost use Rattle.lrc_turns_text.specs.TurnsText.{messages_text};
 
 use crate::answer::in_one;
+use crate::runs::Run;
 use lrc_acts_text::{acts_part, json_part, rapid_part};
 use lrc_args::choice::{Form, RunOptions};
 use lrc_events::events_part;
@@ -24,7 +25,6 @@ use lrc_protocol::Event;
 use lrc_timed::times::times_of_acts;
 use lrc_trace::act::Act;
 use lrc_turns_text::messages_part;
-use lrc_world::run::Run;
 use lrc_world::turned::{Turned, turned_events};
 use std::alloc::{AllocError, Global};
 
