@@ -8,8 +8,6 @@ use Rattle.lrc_acts.specs.declared.reading.ActsFault.TheVariants.{BadAct}
 use Rattle.lrc_acts.specs.declared.reading.ActsFault.TheVariants as acts_faults
 use Rattle.lrc_world.specs.declared.report.SimFault.{SimFault}
 use Rattle.lrc_world.specs.declared.report.SimFault.TheVariants.{Worn}
-use Rattle.lrc_run.specs.declared.fault.RunFault.{RunFault}
-use Rattle.lrc_run.specs.declared.fault.RunFault.TheVariants as threads
 use Rattle.lrc_chart_build.specs.declared.portrait.PortraitFault.{PortraitFault}
 use Rattle.lrc_chart_build.specs.declared.portrait.PortraitFault.TheVariants as portraits
 use Rattle.lrc_events.specs.declared.events.EventsFault.{EventsFault}
@@ -18,7 +16,7 @@ use Rattle.lrc_events.specs.declared.events.EventsFault.TheVariants as events_fa
 use Rattle.lrc_cli.specs.declared.fault.Fault.{Fault}
 use Rattle.lrc_cli.specs.declared.fault.Fault.TheVariants as faults
 
--- the fault of a text, of a text of events, of a text of acts, of a run, and of a run on threads
+-- the fault of a text, of a text of events, of a text of acts, and of a run
 abbrev pub fault_of_kind : ℕ → FaultKind → Fault
 fault_of_kind line NoMemory = faults.NoMemory
 fault_of_kind line kind = faults.Text line kind
@@ -38,11 +36,6 @@ fault_of_acts acts_faults.NoMemory = faults.NoMemory
 abbrev pub fault_of_run : SimFault → Fault
 fault_of_run Worn = faults.Worn
 fault_of_run _ = faults.NoMemory
-
-abbrev pub fault_of_threads : RunFault → Fault
-fault_of_threads threads.Worn = faults.Worn
-fault_of_threads threads.Mismatch = faults.Mismatch
-fault_of_threads _ = faults.NoMemory
 
 -- and that of a picture
 abbrev pub fault_of_portrait : PortraitFault → Fault

@@ -19,7 +19,10 @@ use Rattle.lrc_world.specs.World.{sends_long}
 use Rattle.lrc_world.specs.declared.report.Brief.{Brief}
 use Rattle.lrc_world.specs.declared.report.Report.{Report}
 use Rattle.lrc_world.specs.declared.turned.Turned.{Turned}
-use Rattle.lrc_run.specs.Run.{AreWiresOf, IsWovenReport, WearsOutSoon, turns_of_nodes}
+use Rattle.lrc_run.specs.Run.{AreWiresOf, IsWovenReport, turns_of_nodes}
+use Rattle.lrc_run.specs.Halts.{IsHalt}
+use Rattle.lrc_run.specs.declared.halt.Halt.{Halt}
+use Rattle.lrc_run.specs.declared.halt.Halt.TheVariants as halts
 use Rattle.lrc_events.specs.EventsText.{ReadsEvents}
 use Rattle.lrc_events.specs.declared.events.EventsFault.TheVariants.{BadEvent}
 use Rattle.lrc_args.specs.declared.choice.RunOptions.{RunOptions}
@@ -143,13 +146,19 @@ IsLedFault WearsOut Worn = WearsOut
 IsLedFault WearsOut NoMemory = Unit {0}
 IsLedFault WearsOut _ = ⊥
 
--- Why a run on threads answers none: a number or a message becomes too large at one of fewer than 2^64 events of some run of the
--- program; or the logs differ from what went through the post. Which thread goes on when is not known, and so is no more of its faults.
-abbrev pub IsThreadedFault : Program → RunOptions → Fault → Type 0
-IsThreadedFault program options Worn = WearsOutSoon program options.nodes.count (options_of options)
-IsThreadedFault program options Mismatch = Unit {0}
-IsThreadedFault program options NoMemory = Unit {0}
-IsThreadedFault program options _ = ⊥
+-- what is said of a run on threads that halted: that a number or a message became too large; that what its nodes left does not tell of one
+-- run; or that memory ran out
+abbrev pub halt_said : Halt → Fault
+halt_said (halts.Worn worn) = Worn
+halt_said (halts.Refused left) = NoMemory
+halt_said (halts.Mismatch left) = Mismatch
+halt_said halts.NoMemory = NoMemory
+
+-- Why a run on threads answers none: it halted so. Of a node that wore out, its own turns and those of the others up to there tell so. Which
+-- thread goes on when is not known.
+abbrev pub IsThreadedFault : Program → RunOptions → Picker → Fault → Type 0
+IsThreadedFault program options order fault =
+    (halt : Halt) × IsHalt program options.nodes.count (options_of options) order halt × (fault ≡ halt_said halt)
 
 abbrev pub IsRunFault : Way → Program → RunOptions → Option (List ℕ) → Fault → Type 0
 IsRunFault (ways.Events file) program options None fault = ⊥
@@ -158,4 +167,4 @@ IsRunFault (ways.Rounds order) program options events_text fault =
     IsLedFault (RoundsWearOut program options.nodes.count (options_of options) order) fault
 IsRunFault (ways.Random seed) program options events_text fault =
     IsLedFault (WanderingWearsOut program options.nodes.count (options_of options) seed) fault
-IsRunFault (ways.Threads order) program options events_text fault = IsThreadedFault program options fault
+IsRunFault (ways.Threads order) program options events_text fault = IsThreadedFault program options order fault

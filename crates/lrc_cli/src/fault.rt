@@ -2,14 +2,13 @@
 
 ghost use Rattle.std.specs.Prelude.{◌≡◌, ◌≢◌, IfOk, Some};
 ghost use Rattle.std.specs.String.{string_bytes};
-ghost use Rattle.lrc_cli.specs.FaultLine.{fault_line, fault_of_acts, fault_of_events, fault_of_portrait, fault_of_run, fault_of_text, fault_of_threads, fault_words, kind_words};
+ghost use Rattle.lrc_cli.specs.FaultLine.{fault_line, fault_of_acts, fault_of_events, fault_of_portrait, fault_of_run, fault_of_text, fault_words, kind_words};
 ghost use Rattle.lrc_cli.specs.declared.fault.Fault.TheVariants.{NoMemory};
 
 use lrc_acts::reading::ActsFault;
 use lrc_chart_build::PortraitFault;
 use lrc_events::events::EventsFault;
 use lrc_lang::fault::{FaultKind, ParseFault};
-use lrc_run::RunFault;
 use lrc_world::report::SimFault;
 use std::alloc::{AllocError, AllocFailed, Global};
 use std::error::Error;
@@ -133,20 +132,6 @@ pub(crate) fn fault_of_run(fault: SimFault) -> Fault
         SimFault::Worn => Fault::Worn,
         SimFault::NoMemory => Fault::NoMemory,
         SimFault::BadNodes | SimFault::BadSteps => unreachable!(),
-    }
-}
-
-/// The fault of a run on threads whose options are in range.
-pub(crate) fn fault_of_threads(fault: RunFault) -> Fault
-    requires nodes { fault ≢ RunFault.BadNodes }
-    requires steps { fault ≢ RunFault.BadSteps }
-    ensures { result ≡ fault_of_threads fault }
-{
-    match fault {
-        RunFault::Worn => Fault::Worn,
-        RunFault::Mismatch => Fault::Mismatch,
-        RunFault::NoMemory => Fault::NoMemory,
-        RunFault::BadNodes | RunFault::BadSteps => unreachable!(),
     }
 }
 

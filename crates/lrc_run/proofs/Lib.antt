@@ -1,3 +1,4 @@
 mod Telling
 mod Behind
-mod Worn
+mod Stopped
+mod Halting

@@ -12,7 +12,6 @@ use Rattle.lrc_trace.specs.Trace.{TraceRecord}
 use Rattle.lrc_envelope.specs.Envelope.{EnvelopeRecord}
 use Rattle.lrc_judge.specs.Races.{AreNamedRaces}
 use Rattle.lrc_race.specs.Races.{AreRacesOf, AreTracesOf}
-use Rattle.lrc_post.specs.Mailbox.{MailboxRecord}
 use Rattle.lrc_protocol.specs.declared.event.Event.{Event}
 use Rattle.lrc_protocol.specs.Follows.{inputs_of, turns_of}
 use Rattle.lrc_protocol.specs.Node.{OptionsRecord, fresh_node}
@@ -27,7 +26,6 @@ use Rattle.lrc_wire.specs.Runs.{runs_of}
 use Rattle.lrc_wire.specs.Spelling.{body}
 use Rattle.lrc_weave.proofs.Places.{some_same}
 use Rattle.lrc_weave.specs.Logs.{AreLogs}
-use Rattle.lrc_weave.specs.Matched.{AreMatched}
 use Rattle.lrc_weave.specs.Whole.{MakesRun}
 use Rattle.lrc_weave.specs.Woven.{AreWoven}
 use Rattle.lrc_world.specs.declared.report.Report.{Report}
@@ -195,11 +193,6 @@ module _ (program : Program) (nodes : ℕ) (options : OptionsRecord) (logs : Lis
     over = over;
     short = short_told short;
   }
-
--- what agrees with the logs agrees with a report that has them
-pub still_matched : (logs : List (List EntryRecord)) (report : Report) → turns_of_nodes report ≡ logs → (wires : List MailboxRecord)
-    → AreMatched logs wires → AreMatched (turns_of_nodes report) wires
-still_matched logs report same wires matched = subst (λ turns. AreMatched turns wires) (sym same) matched
 
 -- the run of logs that are read as a slice
 pub run_told : {A : Type 0} (seen : A → List EntryRecord) (found all : List A) → found ≡ all → (program : Program) (nodes : ℕ) (options : OptionsRecord)

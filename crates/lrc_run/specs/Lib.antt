@@ -1,3 +1,3 @@
 pub mod Run
 pub mod Unfinished
-pub mod Faults
+pub mod Halts

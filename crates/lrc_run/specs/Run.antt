@@ -1,21 +1,23 @@
 -- What a run of nodes on threads answers.
-use Rattle.std.specs.Prelude.{◌≡◌, ℕ, ◌<◌, ◌^◌, ◌⊎◌, false, Some, List, All, Any, length, map}
+use Rattle.std.specs.Prelude.{◌≡◌, ℕ, ◌⊎◌, Bool, false, Some, List, All, Any, length, map}
 use Rattle.lrc_lang.specs.declared.program.Program.{Program}
+use Rattle.lrc_trace.specs.Trace.{TraceRecord}
+use Rattle.lrc_judge.specs.Races.{AreNamedRaces}
 use Rattle.lrc_envelope.specs.declared.picker.Picker.{Picker}
 use Rattle.lrc_post.specs.Mailbox.{MailboxRecord, IsAllGiven}
 use Rattle.lrc_post.specs.Post.{AreOf, AreWires}
 use Rattle.lrc_protocol.specs.declared.event.Event.{Event}
 use Rattle.lrc_protocol.specs.Node.{OptionsRecord}
 use Rattle.lrc_protocol.specs.Run.{EntryRecord, Flying, World, run_of}
-use Rattle.lrc_weave.specs.declared.fault.WeaveFault.{WeaveFault}
-use Rattle.lrc_weave.specs.declared.fault.WeaveFault.TheVariants as weaving
 use Rattle.lrc_weave.specs.Matched.{AreMatched}
 use Rattle.lrc_weave.specs.Woven.{AreWoven}
 use Rattle.lrc_world.specs.declared.report.Report.{Report}
-use Rattle.lrc_world.specs.Report.{AreAll, IsReportOf, IsWornBy}
+use Rattle.lrc_world.specs.Promises.{IsConsistent}
+use Rattle.lrc_world.specs.Report.{AreAll, IsReportOf}
 use Rattle.lrc_world.specs.World.{sends_long}
-use Rattle.lrc_run.specs.declared.fault.RunFault.{RunFault}
-use Rattle.lrc_run.specs.declared.fault.RunFault.TheVariants.{BadNodes, BadSteps, Worn, Mismatch, NoMemory}
+use Rattle.lrc_threads.specs.Threads.{is_any_ready_after, traces_of_logs}
+use Rattle.lrc_threads.specs.Worker.{AreShort}
+use Rattle.lrc_run.specs.declared.told.ToldRun.{ToldRun}
 
 -- the turns of each node of a report, from node 0 up
 abbrev pub turns_of_nodes : Report → List (List EntryRecord)
@@ -40,6 +42,15 @@ pub record AreWiresOf (nodes : ℕ) (picker : Picker) (report : Report) (wires :
   pub matched : AreMatched (turns_of_nodes report) wires
   pub taken : All IsAllGiven wires
 
+-- A run on threads: its report is that of these events, and it is told by what the mailboxes kept. Its races are those that its acts name,
+-- and the sequential-consistency theorem holds of the acts.
+pub record IsThreadedRun (program : Program) (nodes : ℕ) (options : OptionsRecord) (picker : Picker) (report : Report) (wires : List MailboxRecord)
+    (events : List Event) : Type 0 where
+  pub woven : IsWovenReport program nodes options events report
+  pub posted : AreWiresOf nodes picker report wires
+  pub races : AreNamedRaces report.acts.items report.races.items
+  pub theorem : IsConsistent program nodes report.acts.items
+
 -- Logs and mailboxes that no report comes of: they tell of different messages, or after the events that make all turns of the logs a
 -- node is ready or a message in flight, or a mailbox has a parcel that is still to be given.
 abbrev pub IsUntold : Program → ℕ → OptionsRecord → List (List EntryRecord) → List MailboxRecord → Type 0
@@ -47,30 +58,26 @@ IsUntold program nodes options logs wires = (AreMatched logs wires → ⊥)
     ⊎ ((events : List Event) × (flight : List Flying) × AreWoven logs events flight × (AreAll program nodes options events → ⊥))
     ⊎ Any (λ (mailbox : MailboxRecord). IsAllGiven mailbox → ⊥) wires
 
--- ---- faults
+-- ---- the steps of a call
 
--- A number, an interval's index or a stamp becomes too large, or a message too long, at one of fewer than 2^64 events of a program's
--- run. (So many takes of one message alone would use its receiver's stamps up.)
-abbrev pub WearsOutSoon : Program → ℕ → OptionsRecord → Type 0
-WearsOutSoon program nodes options = (events : List Event) × (length events < 2 ^ 64) × IsWornBy program nodes options events
+-- what is known of the nodes of a run none of whose threads failed: none of their messages was too long; the traces are those of their
+-- turns, and so is whether any node would go on
+pub record AreWhole (program : Program) (nodes : ℕ) (options : OptionsRecord) (logs : List (List EntryRecord)) (traces : List TraceRecord) (ready : Bool)
+    : Type 0 where
+  pub short : All AreShort logs
+  pub traces_are : traces ≡ traces_of_logs program nodes options logs
+  pub ready_is : ready ≡ is_any_ready_after program nodes options logs
 
--- what is said of a weave that failed
-abbrev pub of_weaving : WeaveFault → RunFault
-of_weaving weaving.Mismatch = Mismatch
-of_weaving weaving.NoMemory = NoMemory
+-- a report has these turns, and what is told beside them
+pub record Reports (logs : List (List EntryRecord)) (told : ToldRun) (report : Report) : Type 0 where
+  pub turns : turns_of_nodes report ≡ logs
+  pub acts : report.acts ≡ told.acts
+  pub ends : report.ends ≡ told.ends
+  pub races : report.races ≡ told.races
+  pub first : report.first_race ≡ told.first_race
 
--- a fault that is met only once nodes and steps are found in range
-abbrev pub IsLate : RunFault → Type 0
-IsLate BadNodes = ⊥
-IsLate BadSteps = ⊥
-IsLate Worn = Unit {0}
-IsLate Mismatch = Unit {0}
-IsLate NoMemory = Unit {0}
-
--- a fault that is met only once all nodes have ended
-abbrev pub IsOfTelling : RunFault → Type 0
-IsOfTelling BadNodes = ⊥
-IsOfTelling BadSteps = ⊥
-IsOfTelling Worn = ⊥
-IsOfTelling Mismatch = Unit {0}
-IsOfTelling NoMemory = Unit {0}
+-- what is told beside the turns of nodes makes a report of them, in which the races are those named, and of which the theorem holds
+pub record IsTold (program : Program) (nodes : ℕ) (options : OptionsRecord) (logs : List (List EntryRecord)) (told : ToldRun) : Type 0 where
+  pub woven : (report : Report) → Reports logs told report → IsWovenReport program nodes options told.events.items report
+  pub races : AreNamedRaces told.acts.items told.races.items
+  pub theorem : IsConsistent program nodes told.acts.items

@@ -1,17 +1,18 @@
-// The fault of a run in which a node failed.
+// What is answered of a run in which a node wore out.
 
-ghost use Rattle.std.specs.Prelude.{◌≡◌, ◌≤◌, ◌<◌, ◌^◌, Err, IfOk, List, MatchOption, None, Some, count_by, length, map};
+ghost use Rattle.std.specs.Prelude.{◌≡◌, ◌≤◌, ◌<◌, ◌^◌, Err, IfOk, MatchOption, None, OnOk, Some, count_by, length, map};
+ghost use Rattle.lrc_envelope.specs.declared.picker.Picker.{Picker as AnyPicker};
 ghost use Rattle.lrc_exec.specs.Nodes.{AreNodes};
-ghost use Rattle.lrc_protocol.specs.declared.event.Event.{Event as AnyEvent};
 ghost use Rattle.lrc_node.specs.Logged.{seen_input};
+ghost use Rattle.lrc_threads.specs.Threads.{IsFirstFailure};
+ghost use Rattle.lrc_threads.specs.declared.stop.Stop.TheVariants as stops;
 ghost use Rattle.lrc_weave.specs.declared.fault.WeaveFault.TheVariants as weaving;
 ghost use Rattle.lrc_world.specs.Range.{AreSteps};
 ghost use Rattle.lrc_world.specs.Report.{IsWornBy};
-ghost use Rattle.lrc_run.specs.Faults.{AnswersEvents, AnswersStop, AnswersWorn, AreEventsOf, AreUnmatched, of_playing};
-ghost use Rattle.lrc_run.specs.Run.{IsLate, WearsOutSoon};
+ghost use Rattle.lrc_run.specs.Halts.{AreEventsOf, AreUnmatched, IsHalt, IsLeft, IsPlayedOut, IsUntoldWearing, IsWearing};
 ghost use Rattle.lrc_run.specs.Unfinished.{input_of, is_take, next_taken, put_at, unfinished};
 
-use crate::fault::RunFault;
+use crate::halt::{Halt, Left, WornOut};
 use bytes::Bytes;
 use lrc_node::{Entry, Input};
 use lrc_post::{Mailbox, Wire};
@@ -19,90 +20,85 @@ use lrc_protocol::Event;
 use lrc_threads::{Failure, Setting, Stop};
 use lrc_weave::{WeaveFault, events_of, events_with};
 use lrc_wire::{WireFault, decode};
+use lrc_world::keep::Keep;
 use lrc_world::report::SimFault;
-use lrc_world::simulate::replay_briefly;
+use lrc_world::run::Order;
+use lrc_world::simulate::run_checked;
 use std::alloc::{AllocError, Global};
 
-/// What nodes left behind: their turns, and the mailboxes of the post between them.
-#[derive(Drop)]
-pub(crate) struct Remains<'w> {
-    pub logs: Vec<Vec<Entry>>,
-    pub wires: &'w [Mailbox],
-}
-
-/// The fault of a run whose first failure is this one. Where the node wore out, all turns are made once more as one run, with what
-/// wore it out behind them: the fault is `Worn` only where that run wears out too, and `Mismatch` only where it does not. It does,
-/// since the nodes made these turns.
-pub(crate) fn fault_of(
-    alloc: Global,
-    setting: &Setting<'_>,
-    remains: Remains<'_>,
-    failure: Failure,
-) -> RunFault
-    requires few { length remains.logs.items ≤ 16 }
+/// Why a run has no report whose first failure is this one.
+pub(crate) fn halt_at(alloc: Global, setting: &Setting<'_>, left: Left, failure: Failure) -> Halt
     requires range { AreNodes setting.now.nodes × AreSteps setting.now.options.steps }
-    ensures worn { result ≡ RunFault.Worn
-        → (events : List AnyEvent) × IsWornBy setting.now.program.now setting.now.nodes setting.now.options events }
-    ensures soon { result ≡ RunFault.Worn → WearsOutSoon setting.now.program.now setting.now.nodes setting.now.options }
-    ensures late { IsLate result }
-    ensures stop { AnswersStop setting.now.program.now setting.now.nodes setting.now.options
-        (map (λ log. log.items) remains.entry.logs.items) remains.entry.wires.now failure.node failure.stop result }
+    requires few { length left.logs.items ≤ 16 }
+    requires first { IsFirstFailure left.stops.items failure }
+    ensures { (picker : AnyPicker) → IsLeft setting.now.program.now setting.now.nodes setting.now.options picker left
+        → IsHalt setting.now.program.now setting.now.nodes setting.now.options picker result }
 {
     match failure.stop {
-        Stop::Worn => worn_out(alloc, setting, remains, failure.node),
-        Stop::Closed | Stop::NoMemory => RunFault::NoMemory,
+        Stop::Worn => worn_out(alloc, setting, left, failure.node),
+        // No thread fails because the post is closed.
+        Stop::Closed | Stop::NoMemory => Halt::Refused(left),
     }
 }
 
-// The fault of a run in which this node wore out.
-fn worn_out(alloc: Global, setting: &Setting<'_>, remains: Remains<'_>, node: usize) -> RunFault
-    requires few { length remains.logs.items ≤ 16 }
+// The same, where this node wore out. All turns are made once more as one run, with what wore it out behind them. That run wears out too,
+// since the nodes made these turns; and where it does not, what they left does not tell of one run.
+fn worn_out(alloc: Global, setting: &Setting<'_>, left: Left, node: usize) -> Halt
     requires range { AreNodes setting.now.nodes × AreSteps setting.now.options.steps }
-    ensures { AnswersWorn setting.now.program.now setting.now.nodes setting.now.options
-        (map (λ log. log.items) remains.entry.logs.items) remains.entry.wires.now node result }
+    requires few { length left.logs.items ≤ 16 }
+    requires first { IsFirstFailure left.stops.items (record { node = node; stop = stops.Worn }) }
+    ensures { (picker : AnyPicker) → IsLeft setting.now.program.now setting.now.nodes setting.now.options picker left
+        → IsHalt setting.now.program.now setting.now.nodes setting.now.options picker result }
 {
-    let events = match events_until(alloc, remains, node) {
-        Ok(events) => events,
-        Err(fault) => return RunFault::from(fault),
-    };
-    let turns = events.as_slice();
+    match wearing(alloc, setting, left.logs.as_slice(), left.wires.mailboxes(), node) {
+        Ok(events) => Halt::Worn(WornOut { left, node, events }),
+        Err(WeaveFault::Mismatch) => Halt::Mismatch(left),
+        Err(WeaveFault::NoMemory) => Halt::NoMemory,
+    }
+}
+
+// The events at which a node wore out that left these turns. `Mismatch` only where they tell of no such events.
+fn wearing(
+    alloc: Global,
+    setting: &Setting<'_>,
+    logs: &[Vec<Entry>],
+    wires: &[Mailbox],
+    node: usize,
+) -> Result<Vec<Event>, WeaveFault>
+    requires few { length logs.now ≤ 16 }
+    requires range { AreNodes setting.now.nodes × AreSteps setting.now.options.steps }
+    ensures worn { IfOk result (λ events. IsWearing setting.now.program.now setting.now.nodes setting.now.options
+        (map (λ log. log.items) logs.now) wires.now node events.items) }
+    ensures mismatch { result ≡ Err weaving.Mismatch → IsUntoldWearing setting.now.program.now setting.now.nodes setting.now.options
+        (map (λ log. log.items) logs.now) wires.now node }
+{
+    let events = events_until(alloc, logs, wires, node)?;
+    wears_out(alloc, setting, events.as_slice())?;
+    Ok(events)
+}
+
+// Whether a run of these events wears out: an error where it does not.
+fn wears_out(alloc: Global, setting: &Setting<'_>, events: &[Event]) -> Result<(), WeaveFault>
+    requires range { AreNodes setting.now.nodes × AreSteps setting.now.options.steps }
+    ensures worn { OnOk result (IsWornBy setting.now.program.now setting.now.nodes setting.now.options events.now) }
+    ensures few { OnOk result (length events.now < 2 ^ 64) }
+    ensures mismatch { result ≡ Err weaving.Mismatch
+        → IsPlayedOut setting.now.program.now setting.now.nodes setting.now.options events.now }
+{
     // For the proof: there are fewer than 2^64.
-    let _count = count_of(turns);
-    fault_of_events(alloc, setting, turns)
-}
-
-// The fault of a run in which a node wore out at one of these events.
-fn fault_of_events(alloc: Global, setting: &Setting<'_>, events: &[Event]) -> RunFault
-    requires range { AreNodes setting.now.nodes × AreSteps setting.now.options.steps }
-    ensures { AnswersEvents setting.now.program.now setting.now.nodes setting.now.options events.now result }
-{
-    let fault = match replay_briefly(
-        alloc,
-        setting.program,
-        u32::from(setting.nodes),
-        &setting.options,
-        events,
-    ) {
+    let _count = count_of(events);
+    let nodes = u32::from(setting.nodes);
+    let order = Order::Events(events);
+    match run_checked(alloc, setting.program, nodes, &setting.options, order, Keep::Newest) {
+        Err(SimFault::Worn) => Ok(()),
         // The nodes made these turns on their threads, so this does not come.
-        Ok(_) => return RunFault::Mismatch,
-        Err(fault) => fault,
-    };
-    fault_of_play(fault)
-}
-
-// What is said of a run of events that was refused.
-fn fault_of_play(fault: SimFault) -> RunFault
-    ensures { result ≡ of_playing fault }
-{
-    match fault {
-        SimFault::Worn => RunFault::Worn,
-        SimFault::NoMemory => RunFault::NoMemory,
-        SimFault::BadNodes | SimFault::BadSteps => RunFault::Mismatch,
+        Ok(_) => Err(WeaveFault::Mismatch),
+        Err(_fault) => Err(WeaveFault::NoMemory),
     }
 }
 
-/// How many events there are. As of anything in memory, there are fewer than 2^64.
-pub(crate) fn count_of(events: &[Event]) -> usize
+// How many events there are. As of anything in memory, there are fewer than 2^64.
+fn count_of(events: &[Event]) -> usize
     ensures count { result ≡ length events.now }
     ensures few { length events.now < 2 ^ 64 }
 {
@@ -110,15 +106,14 @@ pub(crate) fn count_of(events: &[Event]) -> usize
 }
 
 // The events that make all turns, and behind them the one of the turn that the node did not finish.
-fn events_until(alloc: Global, remains: Remains<'_>, node: usize) -> Result<Vec<Event>, WeaveFault>
-    requires few { length remains.logs.items ≤ 16 }
-    ensures events { IfOk result (λ events. AreEventsOf (map (λ log. log.items) remains.entry.logs.items) node
-        (unfinished (map (λ log. log.items) remains.entry.logs.items) remains.entry.wires.now node) events.items) }
-    ensures mismatch { result ≡ Err weaving.Mismatch → AreUnmatched (map (λ log. log.items) remains.entry.logs.items)
-        (unfinished (map (λ log. log.items) remains.entry.logs.items) remains.entry.wires.now node) }
+fn events_until(alloc: Global, logs: &[Vec<Entry>], wires: &[Mailbox], node: usize) -> Result<Vec<Event>, WeaveFault>
+    requires few { length logs.now ≤ 16 }
+    ensures events { IfOk result (λ events. AreEventsOf (map (λ log. log.items) logs.now) node
+        (unfinished (map (λ log. log.items) logs.now) wires.now node) events.items) }
+    ensures mismatch { result ≡ Err weaving.Mismatch → AreUnmatched (map (λ log. log.items) logs.now)
+        (unfinished (map (λ log. log.items) logs.now) wires.now node) }
 {
-    let logs = remains.logs.as_slice();
-    let Some(mailbox) = remains.wires.get(node) else {
+    let Some(mailbox) = wires.get(node) else {
         return events_of(alloc, logs);
     };
     let Some(log) = logs.get(node) else {

@@ -2,9 +2,7 @@
 
 ghost use Rattle.std.specs.Prelude.{◌≡◌};
 ghost use Rattle.lrc_run.specs.declared.fault.RunFault.TheVariants.{NoMemory};
-ghost use Rattle.lrc_run.specs.Run.{of_weaving};
 
-use lrc_weave::WeaveFault;
 use std::alloc::AllocError;
 use thiserror::Error;
 
@@ -34,16 +32,5 @@ impl From<AllocError> for RunFault {
 
     fn from(_error: AllocError) -> RunFault {
         RunFault::NoMemory
-    }
-}
-
-impl From<WeaveFault> for RunFault {
-    ghost from_gives = { λ fault e. e ≡ of_weaving fault };
-
-    fn from(fault: WeaveFault) -> RunFault {
-        match fault {
-            WeaveFault::Mismatch => RunFault::Mismatch,
-            WeaveFault::NoMemory => RunFault::NoMemory,
-        }
     }
 }

@@ -3,9 +3,13 @@
 
 mod failure;
 mod fault;
+mod halt;
+mod live;
 mod runs;
 mod told;
 
 pub use fault::RunFault;
-pub use lrc_threads::{Gate, Line, Mail, Stop, work};
-pub use runs::{run, run_gated, run_with_events};
+pub use halt::{Halt, Left, WornOut};
+pub use live::{ThreadedRun, run_on_threads};
+pub use lrc_threads::{Gate, Line, Mail, OpenGate, Setting, Stop, work};
+pub use runs::{run, run_gated};

@@ -1,20 +1,16 @@
-// The report of a run, as what its nodes left tells of it.
+// What is told of a run by what its nodes left.
 
-ghost use Rattle.std.specs.Prelude.{◌≡◌, ◌≤◌, ◌<◌, ◌↔◌, [], All, Any, Err, IfErr, IfOk, IsTrue, MatchOption, false, length, map};
+ghost use Rattle.std.specs.Prelude.{◌≡◌, ◌≤◌, ◌<◌, ◌↔◌, [], All, Any, Err, IfOk, IsTrue, MatchOption, OnOk, false, length, map};
 ghost use Rattle.lrc_trace.specs.Conflict.{IsFirstRace, IsRaceFree};
 ghost use Rattle.lrc_judge.specs.declared.TheConstants.{NODES};
-ghost use Rattle.lrc_judge.specs.Races.{AreNamedRaces};
 ghost use Rattle.lrc_race.specs.Races.{AreRacesOf, AreTracesOf};
 ghost use Rattle.lrc_post.specs.Mailbox.{IsAllGiven};
+ghost use Rattle.lrc_weave.specs.declared.fault.WeaveFault.TheVariants.{Mismatch};
 ghost use Rattle.lrc_weave.specs.Logs.{AreLogs};
 ghost use Rattle.lrc_weave.specs.Matched.{AreMatched};
 ghost use Rattle.lrc_world.specs.Ends.{ends_of};
-ghost use Rattle.lrc_world.specs.Promises.{IsConsistent};
-ghost use Rattle.lrc_run.specs.Run.{IsOfTelling, IsUntold, IsWovenReport, turns_of_nodes};
-ghost use Rattle.lrc_threads.specs.Threads.{is_any_ready_after, traces_of_logs};
-ghost use Rattle.lrc_threads.specs.Worker.{AreShort};
+ghost use Rattle.lrc_run.specs.Run.{AreWhole, IsTold, IsUntold};
 
-use crate::fault::RunFault;
 use lrc_node::End;
 use lrc_post::Mailbox;
 use lrc_protocol::Event;
@@ -23,11 +19,20 @@ use lrc_threads::{Parts, Setting};
 use lrc_trace::act::Act;
 use lrc_trace::race::Race;
 use lrc_trace::trace::Trace;
-use lrc_weave::{WovenRun, weave_run};
+use lrc_weave::{WeaveFault, WovenRun, weave_run};
 use lrc_world::ends::ends;
 use lrc_world::first::first_of;
-use lrc_world::report::Report;
 use std::alloc::{AllocError, Global};
+
+/// What is told of a run beside the turns of its nodes.
+#[derive(Drop)]
+pub(crate) struct ToldRun {
+    pub events: Vec<Event>,
+    pub acts: Vec<Act>,
+    pub ends: Vec<End>,
+    pub races: Vec<Race>,
+    pub first_race: Option<usize>,
+}
 
 // What is found in the acts of a run and in the traces of its nodes.
 #[derive(Drop)]
@@ -37,45 +42,34 @@ struct Findings {
     first_race: Option<usize>,
 }
 
-/// The report of the nodes' turns and the events that make them. `Mismatch` only where what the post kept does not agree with them, or
+/// What is told of the nodes' turns, and the events that make them. `Mismatch` only where what the post kept does not agree with them, or
 /// something was left to do or to be given. No event is played again: the acts are those of the turns, and the races those of the nodes'
 /// traces.
 pub(crate) fn told(
     alloc: Global,
     setting: &Setting<'_>,
-    parts: Parts,
+    parts: &Parts,
     wires: &[Mailbox],
-) -> Result<(Report, Vec<Event>), RunFault>
+) -> Result<ToldRun, WeaveFault>
     requires few { setting.now.nodes ≤ 16 }
-    requires logs { AreLogs setting.now.program.now setting.now.nodes setting.now.options (map (λ log. log.items) parts.logs.items) }
-    requires short { All AreShort (map (λ log. log.items) parts.logs.items) }
-    requires traces { parts.traces.items
-        ≡ traces_of_logs setting.now.program.now setting.now.nodes setting.now.options (map (λ log. log.items) parts.logs.items) }
-    requires ready { parts.is_any_ready
-        ≡ is_any_ready_after setting.now.program.now setting.now.nodes setting.now.options (map (λ log. log.items) parts.logs.items) }
+    requires turns { AreLogs setting.now.program.now setting.now.nodes setting.now.options (map (λ log. log.items) parts.now.logs.items) }
+    requires whole { AreWhole setting.now.program.now setting.now.nodes setting.now.options
+        (map (λ log. log.items) parts.now.logs.items) parts.now.traces.items parts.now.is_any_ready }
     requires wires { length wires.now ≡ setting.now.nodes }
-    ensures woven { IfOk result (λ told.
-        IsWovenReport setting.now.program.now setting.now.nodes setting.now.options told.1.items told.0) }
-    ensures matched { IfOk result (λ told. AreMatched (turns_of_nodes told.0) wires.now) }
-    ensures taken { IfOk result (λ told. All IsAllGiven wires.now) }
-    ensures races { IfOk result (λ told. AreNamedRaces told.0.acts.items told.0.races.items) }
-    ensures theorem { IfOk result (λ told. IsConsistent setting.now.program.now setting.now.nodes told.0.acts.items) }
-
-    ensures mismatch { result ≡ Err RunFault.Mismatch
-        → IsUntold setting.now.program.now setting.now.nodes setting.now.options (map (λ log. log.items) parts.logs.items) wires.now }
-    ensures telling { IfErr result IsOfTelling }
+    ensures told { IfOk result (IsTold setting.now.program.now setting.now.nodes setting.now.options
+        (map (λ log. log.items) parts.now.logs.items)) }
+    ensures matched { OnOk result (AreMatched (map (λ log. log.items) parts.now.logs.items) wires.now) }
+    ensures taken { OnOk result (All IsAllGiven wires.now) }
+    ensures mismatch { result ≡ Err Mismatch → IsUntold setting.now.program.now setting.now.nodes setting.now.options
+        (map (λ log. log.items) parts.now.logs.items) wires.now }
 {
     let run = weave_run(alloc, parts.logs.as_slice(), wires)?;
     if parts.is_any_ready || run.in_flight > 0 || !are_all_given(wires) {
-        return Err(RunFault::Mismatch);
+        return Err(WeaveFault::Mismatch);
     }
-    let found = findings_of(
-        alloc,
-        setting.nodes,
-        run.acts.as_slice(),
-        parts.traces.as_slice(),
-    )?;
-    Ok(reported(parts, run, found))
+    let acts = run.acts.as_slice();
+    let found = findings_of(alloc, setting.nodes, acts, parts.traces.as_slice())?;
+    Ok(with_findings(run, found))
 }
 
 // Whether nothing is in flight in any mailbox.
@@ -110,28 +104,25 @@ fn findings_of(
     })
 }
 
-// The report of a run with what is found in it, and its events.
-fn reported(parts: Parts, run: WovenRun, found: Findings) -> (Report, Vec<Event>)
-    ensures acts { result.0.acts ≡ run.acts }
-    ensures ends { result.0.ends ≡ found.ends }
-    ensures races { result.0.races ≡ found.races }
-    ensures logs { result.0.logs ≡ parts.logs }
-    ensures first { result.0.first_race ≡ found.first_race }
-    ensures events { result.1 ≡ run.events }
+// A run, and what is found in it.
+fn with_findings(run: WovenRun, found: Findings) -> ToldRun
+    ensures events { result.events ≡ run.events }
+    ensures acts { result.acts ≡ run.acts }
+    ensures ends { result.ends ≡ found.ends }
+    ensures races { result.races ≡ found.races }
+    ensures first { result.first_race ≡ found.first_race }
 {
-    let Parts { logs, .. } = parts;
     let WovenRun { events, acts, .. } = run;
     let Findings {
         ends,
         races,
         first_race,
     } = found;
-    let report = Report {
+    ToldRun {
+        events,
         acts,
         ends,
         races,
-        logs,
         first_race,
-    };
-    (report, events)
+    }
 }

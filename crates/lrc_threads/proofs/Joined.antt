@@ -1,5 +1,5 @@
 -- Threads that are joined in order.
-use Rattle.std.proofs.Common.{◌≡◌, ◌∙◌, ℕ, zero, suc, ◌+◌, List, [], ◌∷◌, ◌++◌, Option, None, Some, IfNone}
+use Rattle.std.proofs.Common.{◌≡◌, ◌∙◌, ℕ, zero, suc, ◌+◌, List, [], ◌∷◌, ◌++◌, Some}
 use Rattle.std.proofs.Common.{refl, sym, ap, subst, arith, length, map}
 use Rattle.std.specs.Prelude.{slice_get}
 use Rattle.std.proofs.lemmas.List.{length-map, length_push, map-append}
@@ -7,7 +7,7 @@ use Rattle.lrc_lang.specs.declared.program.Program.{Program}
 use Rattle.lrc_protocol.specs.Node.{OptionsRecord, fresh_node}
 use Rattle.lrc_threads.specs.declared.life.Past.{Past}
 use Rattle.lrc_threads.specs.declared.nodes.PastOf.{PastOf}
-use Rattle.lrc_threads.specs.Threads.{AreFirstPasts, AreOwedFrom, ArePastsOf, IsOwed, IsPast}
+use Rattle.lrc_threads.specs.Threads.{AreFirstPasts, AreOwedFrom, IsOwed, IsPast}
 
 -- what holds of each of a list, and of one more, holds of each of the longer list
 pub each_more : {X : Type 0} (P : ℕ → X → Type 0) (xs : List X) (x : X) → ((n : ℕ) (y : X) → slice_get xs n ≡ Some y → P n y) → P (length xs) x
@@ -46,18 +46,13 @@ module _ (program : Program) (nodes : ℕ) (options : OptionsRecord) where
             subst (λ n. IsOwed program nodes options n other) next (so_far.1 (suc place) other at),
       )
 
-  -- one thread more is joined
-  pub joined_more : {H F S : Type 0} (promise : H → PastOf) (handle : H) (rest : List H) (before all : List Past) (one : Past)
-      (old new : Option F) (fault : Option S) → IfNone new ((old ≡ None) × (fault ≡ None) × (all ≡ before ++ one ∷ []))
-      → IfNone old (AreSoFar before (map promise (handle ∷ rest)))
-      → IfNone fault (let owed = promise handle in
-      IsPast (fresh_node owed.program.now owed.member.nodes owed.member.options owed.member.me) one)
-      → IfNone new (AreSoFar all (map promise rest))
-  joined_more promise handle rest before all one old (Some failure) fault none so_far its = tt
-  joined_more promise handle rest before all one (Some failure) None fault none so_far its = let no = none.0 in cc
-  joined_more promise handle rest before all one None None (Some stop) none so_far its = let no = none.1 in cc
-  joined_more promise handle rest before all one None None None none so_far its =
-      so_far_more before all one (promise handle) (map promise rest) none.2 so_far its
+  -- one past more of the nodes
+  pub past_more : (pasts all : List Past) (past : Past) (me : ℕ) → all ≡ pasts ++ past ∷ [] → length pasts ≡ me → AreFirstPasts program nodes options pasts
+      → IsPast (fresh_node program nodes options me) past → AreFirstPasts program nodes options all
+  past_more pasts all past me is count each its =
+      subst (AreFirstPasts program nodes options) (sym is)
+      (each_more (λ n p. IsPast (fresh_node program nodes options n) p) pasts past each
+      (subst (λ n. IsPast (fresh_node program nodes options n) past) (sym count) its))
 
   owed_more : (owed : List PastOf) (one : PastOf) → AreOwedFrom program nodes options 0 owed → IsOwed program nodes options (length owed) one
       → AreOwedFrom program nodes options 0 (owed ++ one ∷ [])
@@ -75,14 +70,3 @@ module _ (program : Program) (nodes : ℕ) (options : OptionsRecord) where
         subst (AreOwedFrom program nodes options 0) (sym (ap (map promise) is ∙ map-append promise threads (thread ∷ [])))
             (owed_more (map promise threads) (promise thread) owed (subst (λ n. IsOwed program nodes options n (promise thread)) here one)),
       )
-
-  -- the pasts of all nodes
-  pub all_pasts : {B F : Type 0} (items : B → List Past) (before all : B) (old new : Option F)
-      → IfNone new ((old ≡ None) × (all ≡ before) × (length (items all) ≡ nodes))
-      → IfNone old (AreFirstPasts program nodes options (items before)) → IfNone new (ArePastsOf program nodes options (items all))
-  all_pasts items before all old (Some failure) none first = tt
-  all_pasts items before all (Some failure) None none first = let no = none.0 in cc
-  all_pasts items before all None None none first = record {
-    count = none.2;
-    each = subst (λ pasts. AreFirstPasts program nodes options (items pasts)) (sym none.1) first;
-  }

@@ -5,7 +5,7 @@ use Rattle.lrc_protocol.specs.Node.{Node}
 use Rattle.lrc_protocol.specs.Run.{Input, EntryRecord, Logged, logged, logs}
 use Rattle.lrc_node.proofs.Leading.{entry_of}
 use Rattle.lrc_weave.specs.Logs.{MayCome, GoesOnBy}
-use Rattle.lrc_threads.specs.Worker.{AreShort, SendsShort, Turns, none, more, no_turn_yet}
+use Rattle.lrc_threads.specs.Worker.{AreShort, SendsShort, Turns, none, more, Stops, after_turns, in_turn, no_turn_yet}
 
 -- a node with its log goes on by these entries to another state of it
 abbrev LeadsTo : Logged → List EntryRecord → Logged → Type 0
@@ -45,6 +45,20 @@ goes_on_by l j (entry ∷ others) leads = (leads.0, leads.1, leads.2, leads.3, g
 pub log_goes_on : (start : Node) (j : Logged) → Turns (no_turn_yet start) j → GoesOnBy (no_turn_yet start) j.log
 log_goes_on start j turns =
     let led = leads_on turns in subst (GoesOnBy (no_turn_yet start)) (sym led.1) (goes_on_by (no_turn_yet start) j led.0 led.2)
+
+-- with one turn more
+pub one_goes_on : (start : Node) (k j : Logged) (entry : EntryRecord) (input : Input) (came : ℕ) → Turns (no_turn_yet start) k → MayCome input came
+    → logs k input came ≡ logged entry j → GoesOnBy (no_turn_yet start) j.log
+one_goes_on start k j entry input came turns may turn =
+    let led = leads_on turns in
+    let log : j.log ≡ led.0 ++ entry ∷ [] = (entry_of k input came entry j turn).log_is ∙ ap (λ log. log ++ entry ∷ []) led.1 in
+    subst (GoesOnBy (no_turn_yet start)) (sym log)
+    (goes_on_by (no_turn_yet start) j (led.0 ++ entry ∷ []) (one_more (no_turn_yet start) k j led.0 entry input came led.2 may turn))
+
+-- the log of a node that was refused memory
+pub stopped_goes_on : (start : Node) {log : List EntryRecord} → Stops (no_turn_yet start) log → GoesOnBy (no_turn_yet start) log
+stopped_goes_on start (after_turns {k = k} turns) = log_goes_on start k turns
+stopped_goes_on start (in_turn {k = k} {j = j} {entry = entry} input came turns may turn) = one_goes_on start k j entry input came turns may turn
 
 -- turns add no message that is too long
 pub short_after : {l j : Logged} → Turns l j → AreShort l.log → AreShort j.log

@@ -1,14 +1,16 @@
 -- What the threads of a run owe.
-use Rattle.std.specs.Prelude.{◌≡◌, ℕ, ◌+◌, Bool, Some, List, length, map, slice_get}
+use Rattle.std.specs.Prelude.{◌≡◌, ◌<◌, ℕ, ◌+◌, Bool, Option, None, Some, List, length, map, slice_get}
 use Rattle.std.specs.List.{enumerate_from, list_any}
 use Rattle.lrc_lang.specs.declared.program.Program.{Program}
 use Rattle.lrc_trace.specs.Trace.{TraceRecord}
 use Rattle.lrc_protocol.specs.Node.{Node, OptionsRecord, fresh_node}
 use Rattle.lrc_protocol.specs.Run.{EntryRecord}
 use Rattle.lrc_protocol.specs.Traced.{trace_of}
+use Rattle.lrc_threads.specs.declared.life.Failure.{Failure}
 use Rattle.lrc_threads.specs.declared.life.Past.{Past}
 use Rattle.lrc_threads.specs.declared.nodes.PastOf.{PastOf}
-use Rattle.lrc_threads.specs.Worker.{IsPastOf, is_ready_after}
+use Rattle.lrc_threads.specs.declared.stop.Stop.{Stop}
+use Rattle.lrc_threads.specs.Worker.{Leaves, is_ready_after}
 
 -- a thread owes the past of this node
 pub record IsOwed (program : Program) (nodes : ℕ) (options : OptionsRecord) (n : ℕ) (owed : PastOf) : Type 0 where
@@ -22,9 +24,9 @@ abbrev pub AreOwedFrom : Program → ℕ → OptionsRecord → ℕ → List Past
 AreOwedFrom program nodes options first owed =
     (place : ℕ) (one : PastOf) → slice_get owed place ≡ Some one → IsOwed program nodes options (first + place) one
 
--- this is what a node that started like this did on its thread
+-- this is what is left of a node that started like this and lived on a thread
 abbrev pub IsPast : Node → Past → Type 0
-IsPast start past = IsPastOf start past.log.items past.trace past.is_ready
+IsPast start past = Leaves start past.log.items past.trace past.is_ready past.stop
 
 -- pasts of the nodes of a program, as many as there are, from node 0 up
 abbrev pub AreFirstPasts : Program → ℕ → OptionsRecord → List Past → Type 0
@@ -35,6 +37,15 @@ AreFirstPasts program nodes options pasts =
 pub record ArePastsOf (program : Program) (nodes : ℕ) (options : OptionsRecord) (pasts : List Past) : Type 0 where
   pub count : length pasts ≡ nodes
   pub each : AreFirstPasts program nodes options pasts
+
+-- no thread failed, and each could be started
+abbrev pub HaveNoFailure : List (Option Stop) → Type 0
+HaveNoFailure stops = (n : ℕ) → n < length stops → slice_get stops n ≡ Some None
+
+-- the lowest node whose thread failed, or could not be started, and why
+pub record IsFirstFailure (stops : List (Option Stop)) (failure : Failure) : Type 0 where
+  pub here : slice_get stops failure.node ≡ Some (Some failure.stop)
+  pub before : (n : ℕ) → n < failure.node → slice_get stops n ≡ Some None
 
 -- the traces of a program's nodes that have these logs, from node 0 up
 abbrev pub traces_of_logs : Program → ℕ → OptionsRecord → List (List EntryRecord) → List TraceRecord

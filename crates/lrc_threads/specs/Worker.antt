@@ -99,19 +99,27 @@ pub data Gives {S : Type 0} (takes : S → Parcel → S → Type 0) (s : S) : In
   message : {t : S} {parcel : Parcel} {envelope : EnvelopeRecord}
       → takes s parcel t → envelope_of parcel.bytes ≡ Ok envelope → Gives takes s (taken envelope) parcel.stamp
 
--- Why a thread wears out, after any number of steps: the node's next turn is too large, or one of the messages of that turn is too long.
-pub data WearsOut {S : Type 0} (puts : S → List Parcel → S → Type 0) (takes : S → Parcel → S → Type 0) (s : S) (l : Logged) : Type 0 where
+-- Why a thread wears out, after any number of steps, and what its node's log is then: the node's next turn is too large; or one of the
+-- messages of that turn, which is in the log, is too long.
+pub data WearsOut {S : Type 0} (puts : S → List Parcel → S → Type 0) (takes : S → Parcel → S → Type 0) (s : S) (l : Logged)
+    : List EntryRecord → Type 0 where
   outgrows : {m : S} {k : Logged} {input : Input} {came : ℕ}
-      → GoesThrough puts takes s l m k → Gives takes m input came → logs k input came ≡ too_large → WearsOut puts takes s l
+      → GoesThrough puts takes s l m k → Gives takes m input came → logs k input came ≡ too_large → WearsOut puts takes s l k.log
   overflows : {m : S} {k j : Logged} {input : Input} {came : ℕ} {entry : EntryRecord}
       → GoesThrough puts takes s l m k → Gives takes m input came → logs k input came ≡ logged entry j → SendsTooLong entry
-      → WearsOut puts takes s l
+      → WearsOut puts takes s l j.log
 
 -- any number of turns of a node with its log, none of whose messages is too long
 pub data Turns (l : Logged) : Logged → Type 0 where
   none : Turns l l
   more : {k j : Logged} {entry : EntryRecord} (input : Input) (came : ℕ)
       → Turns l k → MayCome input came → logs k input came ≡ logged entry j → SendsShort entry → Turns l j
+
+-- The log of a node that was refused memory: any number of turns, and maybe one more, whose messages were not all put.
+pub data Stops (l : Logged) : List EntryRecord → Type 0 where
+  after_turns : {k : Logged} → Turns l k → Stops l k.log
+  in_turn : {k j : Logged} {entry : EntryRecord} (input : Input) (came : ℕ)
+      → Turns l k → MayCome input came → logs k input came ≡ logged entry j → Stops l j.log
 
 -- a node that has made no turn
 abbrev pub no_turn_yet : Node → Logged
@@ -122,13 +130,14 @@ abbrev pub IsLogOf : Node → List EntryRecord → Type 0
 IsLogOf start log = GoesOnBy (no_turn_yet start) log
 
 -- What comes of a thread's steps: its log tells what it put and took. Where the post was closed while the node had messages to
--- send, its log is still that of its turns. Where the thread is worn, it has worn out. Where no memory is left, nothing more is said.
+-- send, its log is still that of its turns. Where the thread is worn, it has worn out. Where no memory is left, its log is that of its
+-- turns, and maybe of one more.
 abbrev pub GoesTo : {S A : Type 0} → (S → List Parcel → S → Type 0) → (S → Parcel → S → Type 0)
     → S → Logged → S → LoggedNode → Result A Stop → Type 0
 GoesTo puts takes s l t new (Ok done) = (j : Logged) × (new ≡ sound j) × GoesThrough puts takes s l t j
 GoesTo puts takes s l t new (Err Closed) = (j : Logged) × (new ≡ sound j) × Turns l j
-GoesTo puts takes s l t new (Err Worn) = WearsOut puts takes s l
-GoesTo puts takes s l t new (Err NoMemory) = Unit {0}
+GoesTo puts takes s l t new (Err Worn) = WearsOut puts takes s l new.log
+GoesTo puts takes s l t new (Err NoMemory) = Stops l new.log
 
 -- What came of a node that started like this, where its thread goes on or the post was closed: its log leads to it from there, and
 -- its trace is that of the log's turns.
@@ -153,6 +162,22 @@ pub record IsPastOf (start : Node) (log : List EntryRecord) (trace : TraceRecord
   pub short : AreShort log
   pub trace_is : trace ≡ trace_of start log
   pub ready_is : ready ≡ is_ready_after start log
+
+-- A node that started like this is worn out, and this is its log: after the turns of the log, none of whose messages is too long, its
+-- next one is too large by an input; or the newest turn of the log, which it made by an input, has a message that is too long.
+pub data IsWorn (start : Node) : List EntryRecord → Type 0 where
+  outgrown : {k : Logged} (input : Input) (came : ℕ)
+      → Turns (no_turn_yet start) k → MayCome input came → logs k input came ≡ too_large → IsWorn start k.log
+  overflown : {k j : Logged} {entry : EntryRecord} (input : Input) (came : ℕ)
+      → Turns (no_turn_yet start) k → MayCome input came → logs k input came ≡ logged entry j → SendsTooLong entry → IsWorn start j.log
+
+-- What a node that started like this leaves, whose thread stopped so: it went on until the post was closed; or it is worn out; or no
+-- memory was left for it. Its log is that of its turns in each case. No thread fails because the post is closed.
+abbrev pub Leaves : Node → List EntryRecord → TraceRecord → Bool → Option Stop → Type 0
+Leaves start log trace ready None = IsPastOf start log trace ready
+Leaves start log trace ready (Some Worn) = IsLogOf start log × IsWorn start log
+Leaves start log trace ready (Some NoMemory) = IsLogOf start log
+Leaves start log trace ready (Some Closed) = ⊥
 
 -- a node that has not failed and would not go on by itself
 abbrev pub IsIdle : LoggedNode → Type 0

@@ -13,10 +13,10 @@ mod thread;
 mod worker;
 
 pub use coded::Coded;
-pub use gate::Gate;
-pub use life::{Failure, Lives, Parts, Past, parts_of};
+pub use gate::{Gate, OpenGate};
+pub use life::{Failure, Parts, Past, first_failure, parts_of};
 pub use mail::{Line, Mail};
-pub use nodes::lives_of;
+pub use nodes::pasts_of;
 pub use setting::Setting;
 pub use stop::Stop;
 pub use worker::work;

@@ -1,14 +1,15 @@
 // What is left of nodes that lived on threads.
 
-ghost use Rattle.std.specs.Prelude.{◌≡◌, ◌≤◌, ◌+◌, ◌++◌, [], ◌∷◌, true, None, Some, IfNone, IfOk, IfSome, length, map};
+ghost use Rattle.std.specs.Prelude.{◌≡◌, IfOk, MatchOption, map};
 ghost use Rattle.std.specs.List.{list_any};
+ghost use Rattle.lrc_threads.specs.Threads.{HaveNoFailure, IsFirstFailure};
 
 use crate::stop::Stop;
 use lrc_node::Entry;
 use lrc_trace::trace::Trace;
 use std::alloc::{AllocError, Global};
 
-/// What a node did on its thread, and whether it would go on.
+/// What a node did on its thread, whether it would go on, and why its thread stopped.
 #[derive(Drop)]
 pub struct Past {
     /// Its turns with their stamps.
@@ -17,13 +18,8 @@ pub struct Past {
     pub trace: Trace,
     /// Whether it would go on if it were named.
     pub is_ready: bool,
-}
-
-/// What a node's thread leaves: what the node did, and why it stopped, where it did not go on until the post was closed.
-#[derive(Drop)]
-pub(crate) struct Life {
-    pub past: Past,
-    pub fault: Option<Stop>,
+    /// Why its thread stopped, where it did not go on until the post was closed.
+    pub stop: Option<Stop>,
 }
 
 /// A node whose thread failed, or could not be started, and why.
@@ -35,16 +31,7 @@ pub struct Failure {
     pub stop: Stop,
 }
 
-/// What the threads of a run leave: what the nodes from 0 up did, and the first failure, by the nodes' numbers.
-#[derive(Drop)]
-pub struct Lives {
-    /// What each node did, from node 0 up.
-    pub pasts: Vec<Past>,
-    /// That of the lowest node that had one.
-    pub failure: Option<Failure>,
-}
-
-/// The turns of all nodes, their traces, and whether any of them would go on.
+/// The turns of all nodes, their traces, whether any of them would go on, and why their threads stopped.
 #[derive(Drop)]
 pub struct Parts {
     /// The turns of each node with their stamps, from node 0 up.
@@ -53,63 +40,8 @@ pub struct Parts {
     pub traces: Vec<Trace>,
     /// Whether a node would go on if it were named.
     pub is_any_ready: bool,
-}
-
-/// What is left of one node more. The failure of a lower node stays.
-pub(crate) fn added(lives: Lives, life: Life) -> Lives
-    ensures first { IfSome lives.failure (λ failure. result.failure ≡ Some failure) }
-    ensures next { IfNone lives.failure (IfSome life.fault (λ stop. result.failure ≡ Some (record { node = length lives.pasts.items; stop = stop }))) }
-    ensures none { IfNone result.failure
-        ((lives.failure ≡ None) × (life.fault ≡ None) × (result.pasts.items ≡ lives.pasts.items ++ life.past ∷ [])) }
-    ensures count { length result.pasts.items ≤ length lives.pasts.items + 1 }
-{
-    let Lives { mut pasts, failure } = lives;
-    let Life { past, fault } = life;
-    let node = pasts.len();
-    let is_added = pasts.push(past).is_ok();
-    Lives {
-        pasts,
-        failure: first_of(failure, fault, node, is_added),
-    }
-}
-
-// The first failure: an earlier one, or that of this node, which fails too where there was no memory for what it did.
-fn first_of(
-    earlier: Option<Failure>,
-    fault: Option<Stop>,
-    node: usize,
-    is_added: bool,
-) -> Option<Failure>
-    ensures first { IfSome earlier (λ failure. result ≡ Some failure) }
-    ensures next { IfNone earlier (IfSome fault (λ stop. result ≡ Some (record { node = node; stop = stop }))) }
-    ensures none { IfNone result ((earlier ≡ None) × (fault ≡ None) × (is_added ≡ true)) }
-{
-    if earlier.is_some() {
-        return earlier;
-    }
-    match fault {
-        Some(stop) => Some(Failure { node, stop }),
-        None if is_added => None,
-        None => Some(Failure {
-            node,
-            stop: Stop::NoMemory,
-        }),
-    }
-}
-
-/// The same, where each of so many nodes should have had a thread. There was no memory for the first that had none.
-pub(crate) fn of_all(lives: Lives, nodes: u8) -> Lives
-    ensures first { IfSome lives.failure (λ failure. result.failure ≡ Some failure) }
-    ensures none { IfNone result.failure ((lives.failure ≡ None) × (result.pasts ≡ lives.pasts) × (length result.pasts.items ≡ nodes)) }
-    ensures pasts { result.pasts ≡ lives.pasts }
-{
-    let Lives { pasts, failure } = lives;
-    let node = pasts.len();
-    let is_whole = node == usize::from(nodes);
-    Lives {
-        pasts,
-        failure: first_of(failure, None, node, is_whole),
-    }
+    /// Why the thread of each node stopped, where it did not go on until the post was closed, from node 0 up.
+    pub stops: Vec<Option<Stop>>,
 }
 
 /// What the nodes did, taken apart. An error where there is no memory for the lists.
@@ -117,17 +49,33 @@ pub fn parts_of(alloc: Global, pasts: Vec<Past>) -> Result<Parts, AllocError>
     ensures logs { IfOk result (λ parts. map (λ log. log.items) parts.logs.items ≡ map (λ past. past.log.items) pasts.items) }
     ensures traces { IfOk result (λ parts. parts.traces.items ≡ map (λ past. past.trace) pasts.items) }
     ensures ready { IfOk result (λ parts. parts.is_any_ready ≡ list_any (λ past. past.is_ready) pasts.items) }
+    ensures stops { IfOk result (λ parts. parts.stops.items ≡ map (λ past. past.stop) pasts.items) }
 {
     let is_any_ready = pasts.iter().any(|past| past.is_ready);
     let mut logs = Vec::with_capacity(alloc, pasts.len())?;
     let mut traces = Vec::with_capacity(alloc, pasts.len())?;
+    let mut stops = Vec::with_capacity(alloc, pasts.len())?;
     for past in pasts {
         logs.push(past.log)?;
         traces.push(past.trace)?;
+        stops.push(past.stop)?;
     }
     Ok(Parts {
         logs,
         traces,
         is_any_ready,
+        stops,
     })
+}
+
+/// The lowest node whose thread failed, or could not be started.
+pub fn first_failure(stops: &[Option<Stop>]) -> Option<Failure>
+    ensures { MatchOption result (HaveNoFailure stops.now) (IsFirstFailure stops.now) }
+{
+    for (node, stop) in stops.iter().enumerate() {
+        if let Some(stop) = *stop {
+            return Some(Failure { node, stop });
+        }
+    }
+    None
 }

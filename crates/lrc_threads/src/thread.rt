@@ -1,15 +1,16 @@
 // A node on a thread of its own.
 
-ghost use Rattle.std.specs.Prelude.{◌≡◌, ◌<◌, ◌≤◌, [], Some, IfNone, IfOk};
+ghost use Rattle.std.specs.Prelude.{◌≡◌, ◌<◌, ◌≤◌, [], Some, IfOk};
 ghost use Rattle.lrc_protocol.specs.Node.{fresh_node};
 ghost use Rattle.lrc_protocol.specs.Run.{Logged as LogRecord};
 ghost use Rattle.lrc_protocol.specs.Turn.{is_ready};
 ghost use Rattle.lrc_node.specs.Logged.{LeadsFrom, sound};
 ghost use Rattle.lrc_threads.specs.declared.stop.Stop.TheVariants.{NoMemory};
-ghost use Rattle.lrc_threads.specs.Worker.{IsPastOf, no_turn_yet};
+ghost use Rattle.lrc_threads.specs.Threads.{IsPast};
+ghost use Rattle.lrc_threads.specs.Worker.{no_turn_yet};
 
 use crate::gate::Gate;
-use crate::life::{Life, Past};
+use crate::life::Past;
 use crate::mail::Line;
 use crate::setting::Member;
 use crate::stop::Stop;
@@ -29,32 +30,30 @@ pub(crate) fn on_thread<G: Gate, R: Wait>(
     member: Member,
     post: &Post,
     gate: &G,
-) -> Life
+) -> Past
     requires here { member.me < member.nodes }
     requires few { member.nodes ≤ 16 }
-    ensures { IfNone result.fault (IsPastOf (fresh_node code.now member.nodes member.options member.me)
-        result.past.log.items result.past.trace result.past.is_ready) }
+    ensures { IsPast (fresh_node code.now member.nodes member.options member.me) result }
 {
-    let life = life_of(rt, alloc, code, member, post, gate);
-    if life.fault.is_some() {
+    let past = past_of(rt, alloc, code, member, post, gate);
+    if past.stop.is_some() {
         post.close(rt);
     }
-    life
+    past
 }
 
 // The same, but a node that fails leaves the post as it is.
-fn life_of<G: Gate, R: Wait>(
+fn past_of<G: Gate, R: Wait>(
     rt: &R,
     alloc: Global,
     code: &Code<'_>,
     member: Member,
     post: &Post,
     gate: &G,
-) -> Life
+) -> Past
     requires here { member.me < member.nodes }
     requires few { member.nodes ≤ 16 }
-    ensures { IfNone result.fault (IsPastOf (fresh_node code.now member.nodes member.options member.me)
-        result.past.log.items result.past.trace result.past.is_ready) }
+    ensures { IsPast (fresh_node code.now member.nodes member.options member.me) result }
 {
     let me = member.me;
     let Ok(mut node) = fresh(alloc, code, member) else {
@@ -68,36 +67,33 @@ fn life_of<G: Gate, R: Wait>(
     }
 }
 
-// What a node leaves.
-fn ended(node: Logged<'_>, fault: Option<Stop>) -> Life
-    ensures log { result.past.log.items ≡ node.entry.logged.log }
-    ensures trace { result.past.trace ≡ node.entry.trace }
-    ensures ready { (l : LogRecord) → node.entry.logged ≡ sound l → result.past.is_ready ≡ is_ready l.node }
-    ensures fault { result.fault ≡ fault }
+// What a node leaves whose thread stopped so.
+fn ended(node: Logged<'_>, stop: Option<Stop>) -> Past
+    ensures log { result.log.items ≡ node.entry.logged.log }
+    ensures trace { result.trace ≡ node.entry.trace }
+    ensures ready { (l : LogRecord) → node.entry.logged ≡ sound l → result.is_ready ≡ is_ready l.node }
+    ensures stop { result.stop ≡ stop }
 {
     let is_ready = node.ready();
     let (log, trace) = node.into_parts();
-    Life {
-        past: Past {
-            log,
-            trace,
-            is_ready,
-        },
-        fault,
+    Past {
+        log,
+        trace,
+        is_ready,
+        stop,
     }
 }
 
-// What is left of a node for which there was no memory.
-fn unborn(alloc: Global, member: &Member) -> Life
-    ensures { result.fault ≡ Some NoMemory }
+/// What is left of a node for which there was no memory.
+pub(crate) fn unborn(alloc: Global, member: &Member) -> Past
+    ensures log { result.log.items ≡ [] }
+    ensures stop { result.stop ≡ Some NoMemory }
 {
-    Life {
-        past: Past {
-            log: Vec::new(alloc),
-            trace: Trace::new(alloc, member.me, member.options.size),
-            is_ready: false,
-        },
-        fault: Some(Stop::NoMemory),
+    Past {
+        log: Vec::new(alloc),
+        trace: Trace::new(alloc, member.me, member.options.size),
+        is_ready: false,
+        stop: Some(Stop::NoMemory),
     }
 }
 

@@ -477,6 +477,13 @@ const ROWS: &[Row] = &[
         then: &[Step::Newer(&[1, 0, 0], &[2, 1, 0], &[(0, 2), (1, 1)])],
     },
     Row {
+        name: "the last interval of a node that has none is 0",
+        nodes: 3,
+        pages: 2,
+        first: WORKED,
+        then: &[Step::Count(3), Step::Last(2, 0), Step::Last(0, 2)],
+    },
+    Row {
         name: "what is discarded is gone",
         nodes: 3,
         pages: 2,

@@ -8,6 +8,8 @@ mod checks;
 #[cfg(test)]
 mod gates;
 #[cfg(test)]
+mod halts;
+#[cfg(test)]
 mod letters;
 #[cfg(test)]
 mod refusals;

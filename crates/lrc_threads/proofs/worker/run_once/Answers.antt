@@ -16,7 +16,7 @@ pub returns-in_err-is_made-clause-goes : goal.returns-in_err-is_made-clause-goes
 returns-in_err-is_made-clause-goes g c = λ l is.
     let made : made_of c.run.result ≡ Err c.in_err-is_made.field-0.0 = search rules in
     failed g.M.Mail.puts g.M.Mail.takes c.args.mail.now c.args.mail.now l log.run 0 c.args.node.now.logged c.run.new.self.logged c.run.result
-    c.in_err-is_made.field-0.0 c.from_residual.result c.run.ensures.logs is made c.from_residual.ensures.1 nothing
+    c.in_err-is_made.field-0.0 c.from_residual.result c.run.ensures.logs c.run.ensures.kept is made c.from_residual.ensures.1 nothing
 
 pub returns-else-branch-clause-goes : goal.returns-else-branch-clause-goes
 returns-else-branch-clause-goes g c = λ l is.

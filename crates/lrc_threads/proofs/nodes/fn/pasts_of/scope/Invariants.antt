@@ -1,6 +1,6 @@
 use Rattle.std.proofs.Common.{◌≡◌, ◌≤◌, length, map}
 use Rattle.lrc_threads.specs.Threads.{AreOwedFrom}
-use Rattle.lrc_threads.proofs.nodes.fn.lives_of.scope.Given as goal
+use Rattle.lrc_threads.proofs.nodes.fn.pasts_of.scope.Given as goal
 
 -- the threads so far owe the pasts of the nodes so far
 abbrev pub invariant-loop-me : goal.invariant-loop-me

@@ -2,9 +2,9 @@ use Rattle.std.proofs.Common.{◌≡◌, ◌∙◌, ◌≤◌, ◌++◌, [], ◌
 use Rattle.lrc_threads.specs.declared.nodes.PastOf.{PastOf}
 use Rattle.lrc_threads.specs.declared.setting.Member.{Member}
 use Rattle.lrc_threads.specs.Threads.{AreOwedFrom}
-use Rattle.lrc_threads.proofs.Joined.{started_more, all_pasts}
-use Rattle.lrc_threads.proofs.nodes.fn.lives_of.scope.Goals.{else-loop-me-test, then-loop-me-test+in_default, then-loop-me-test+in-Ok+then-is_err}
-use Rattle.lrc_threads.proofs.nodes.fn.lives_of.scope.Goals as goal
+use Rattle.lrc_threads.proofs.Joined.{started_more}
+use Rattle.lrc_threads.proofs.nodes.fn.pasts_of.scope.Goals.{else-loop-me-test, then-loop-me-test+in_default, then-loop-me-test+in-Ok+then-is_err}
+use Rattle.lrc_threads.proofs.nodes.fn.pasts_of.scope.Goals as goal
 
 pub loop-me-preserved : goal.loop-me-preserved
 loop-me-preserved g c =
@@ -22,7 +22,8 @@ loop-me-preserved g c =
 
 pub joined-requires : goal.joined-requires
 joined-requires g c = record {
-  none = c.in_ok-pasts.ensures.items;
+  none = c.in_ok-room.ensures.items;
+  room = let same : c.from.result ≡ c.captures.nodes = search rules in omega (arith, same, c.in_ok-room.ensures.capacity);
   owed = elim c.loop-me-test.branch [
     | else-loop-me-test w ↦ subst (λ threads. AreOwedFrom c.captures.program.now c.captures.nodes c.captures.options.now 0
         (map (λ handle. handle.promise) threads.items))
@@ -44,11 +45,4 @@ joined-requires g c = record {
         let items : c.loop-me-test.threads.items ≡ c.loop-me.threads.items = search rules in
         subst (λ threads. length threads ≤ c.captures.nodes) (sym items) (omega (arith, c.loop-me.invariant.0, c.loop-me.invariant.2))
   ];
-}
-
-pub returns : goal.returns
-returns g c = record {
-  pasts = all_pasts c.captures.program.now c.captures.nodes c.captures.options.now (λ pasts. pasts.items) c.joined.result.pasts c.of_all.result.pasts
-      c.joined.result.failure c.of_all.result.failure c.of_all.ensures.none c.joined.ensures.pasts;
-  few = subst (λ pasts. length pasts.items ≤ c.captures.nodes) (sym c.of_all.ensures.pasts) c.joined.ensures.few;
 }

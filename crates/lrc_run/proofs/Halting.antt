@@ -1,0 +1,127 @@
+-- What is answered of a run that halts, and of one that does not.
+use Rattle.std.proofs.Common.{◌≡◌, ◌∙◌, ◌<◌, ◌≤◌, ◌⊎◌, inl, inr, ℕ, zero, suc, List, [], ◌∷◌, Option, Some, Result, Ok, Err, IfErr, IsErrAnd, ap, arith, length, map, refl, subst, sym}
+use Rattle.std.specs.Prelude.{All, slice_get}
+use Rattle.std.proofs.lemmas.List.{length-map}
+use Rattle.std.proofs.lemmas.Option.{slice_get_within}
+use Rattle.lrc_lang.specs.declared.program.Program.{Program}
+use Rattle.lrc_envelope.specs.declared.picker.Picker.{Picker}
+use Rattle.lrc_judge.specs.Races.{AreNamedRaces}
+use Rattle.lrc_post.specs.Mailbox.{MailboxRecord, IsAllGiven}
+use Rattle.lrc_post.specs.Post.{AreOf, AreWires}
+use Rattle.lrc_protocol.specs.declared.event.Event.{Event}
+use Rattle.lrc_protocol.specs.Node.{OptionsRecord, fresh_node}
+use Rattle.lrc_protocol.specs.Run.{EntryRecord}
+use Rattle.lrc_threads.specs.declared.life.Failure.{Failure}
+use Rattle.lrc_threads.specs.declared.stop.Stop.{Stop}
+use Rattle.lrc_threads.specs.declared.stop.Stop.TheVariants as stops
+use Rattle.lrc_threads.specs.Threads.{IsFirstFailure}
+use Rattle.lrc_weave.specs.declared.fault.WeaveFault.{WeaveFault}
+use Rattle.lrc_weave.specs.declared.fault.WeaveFault.TheVariants as weaving
+use Rattle.lrc_weave.specs.Logs.{AreLogs}
+use Rattle.lrc_weave.specs.Matched.{AreMatched}
+use Rattle.lrc_world.specs.declared.report.Report.{Report}
+use Rattle.lrc_world.specs.Promises.{IsConsistent}
+use Rattle.lrc_run.specs.declared.fault.RunFault.TheVariants.{BadNodes, BadSteps}
+use Rattle.lrc_run.specs.declared.halt.Halt.{Halt}
+use Rattle.lrc_run.specs.declared.halt.Halt.TheVariants.{Worn, Refused, Mismatch, NoMemory}
+use Rattle.lrc_run.specs.declared.halt.Left.{Left}
+use Rattle.lrc_run.specs.declared.told.ToldRun.{ToldRun}
+use Rattle.lrc_run.specs.Halts.{AreLeft, Differ, IsHalt, IsLeft, IsMismatch, IsRefused, IsRunFault, StoppedWith, fault_of, logs_left}
+use Rattle.lrc_run.specs.Run.{IsThreadedRun, IsTold, IsWovenReport, Reports}
+
+module _ (program : Program) (nodes : ℕ) (options : OptionsRecord) (picker : Picker) where
+  -- what is answered of it is a fault of the run
+  pub of_halt : (halt : Halt) → IsHalt program nodes options picker halt → IsRunFault program nodes options picker (fault_of halt)
+  of_halt (Worn worn) is = (worn, is)
+  of_halt (Refused left) is = tt
+  of_halt (Mismatch left) is = (left, is)
+  of_halt NoMemory is = tt
+
+  -- memory may run out at any time
+  pub ran_out : {T : Type 0} (r : Result T Halt) → IsErrAnd r (λ halt. halt ≡ NoMemory) → IfErr r (IsHalt program nodes options picker)
+  ran_out (Ok x) is = tt
+  ran_out (Err halt) is = subst (IsHalt program nodes options picker) (sym is) tt
+
+  module _ (left : Left) (logs : List (List EntryRecord)) (stops : List (Option Stop)) (wires : List MailboxRecord) (logs_are : logs_left left ≡ logs)
+      (stops_are : left.stops.items ≡ stops) (wires_are : left.wires ≡ wires) where
+    -- what is handed back is what the nodes left
+    pub is_left : AreLeft program nodes options picker logs stops wires → IsLeft program nodes options picker left
+    is_left are =
+        subst (λ l. AreLeft program nodes options picker l left.stops.items left.wires) (sym logs_are)
+        (subst (λ s. AreLeft program nodes options picker logs s left.wires) (sym stops_are)
+        (subst (AreLeft program nodes options picker logs stops) (sym wires_are) are))
+
+    -- also where it does not tell of one run
+    pub is_mismatch : AreLeft program nodes options picker logs stops wires → Differ program nodes options logs stops wires
+        → IsMismatch program nodes options picker left
+    is_mismatch are differ = record {
+      left_so = is_left are;
+      differ = subst (λ l. Differ program nodes options l left.stops.items left.wires) (sym logs_are)
+          (subst (λ s. Differ program nodes options logs s left.wires) (sym stops_are)
+          (subst (Differ program nodes options logs stops) (sym wires_are) differ));
+    }
+
+  -- a run of which all is told
+  pub threaded_run : (logs : List (List EntryRecord)) (told : ToldRun) (report : Report) (wires : List MailboxRecord) (events : List Event)
+      → IsTold program nodes options logs told → Reports logs told report → events ≡ told.events.items → AreMatched logs wires → All IsAllGiven wires
+      → length wires ≡ nodes → AreWires wires → AreOf picker wires → IsThreadedRun program nodes options picker report wires events
+  threaded_run logs told report wires events is reports same matched taken count legal picked = record {
+    woven = subst (λ e. IsWovenReport program nodes options e report) (sym same) (is.woven report reports);
+    posted = record {
+      count = count;
+      legal = legal;
+      picked = picked;
+      matched = subst (λ turns. AreMatched turns wires) (sym reports.turns) matched;
+      taken = taken;
+    };
+    races = subst (λ acts. AreNamedRaces acts.items report.races.items) (sym reports.acts)
+        (subst (λ races. AreNamedRaces told.acts.items races.items) (sym reports.races) is.races);
+    theorem = subst (λ acts. IsConsistent program nodes acts.items) (sym reports.acts) is.theorem;
+  }
+
+  -- there are no more logs than nodes
+  pub few_left : {A : Type 0} (seen : A → List EntryRecord) (logs : List A) → AreLogs program nodes options (map seen logs) → nodes ≤ 16
+      → length logs ≤ 16
+  few_left seen logs are few = omega (arith, sym (length-map logs seen) ∙ are.count)
+
+-- no fault of a run that halted is one of its numbers
+pub in_range : (halt : Halt) → (fault_of halt ≡ BadNodes → ⊥) × (fault_of halt ≡ BadSteps → ⊥)
+in_range (Worn worn) = (λ e. cc, λ e. cc)
+in_range (Refused left) = (λ e. cc, λ e. cc)
+in_range (Mismatch left) = (λ e. cc, λ e. cc)
+in_range NoMemory = (λ e. cc, λ e. cc)
+
+-- a fault that is handed on
+pub same_fault : {T : Type 0} (r : Result T WeaveFault) (fault : WeaveFault) → IsErrAnd r (λ f. f ≡ fault) → r ≡ Err weaving.Mismatch
+    → (let failed : Result T WeaveFault = Err fault in failed ≡ Err weaving.Mismatch)
+same_fault (Ok x) fault is e = absurd is
+same_fault (Err f) fault is e = ap Err (sym is) ∙ e
+
+-- ---- nodes whose threads stopped
+
+-- what is at a place inside
+there : {A : Type 0} (items : List A) (n : ℕ) → n < length items → (one : A) × (slice_get items n ≡ Some one)
+there [] n inside = absurd (omega arith)
+there (x ∷ items) zero inside = (x, refl)
+there (x ∷ items) (suc n) inside = there items n (omega arith)
+
+-- no thread fails because the post is closed
+not_closed : (program : Program) (nodes : ℕ) (options : OptionsRecord) (picker : Picker) (left : Left) (failure : Failure)
+    → IsLeft program nodes options picker left → IsFirstFailure left.stops.items failure → failure.stop ≡ stops.Closed → ⊥
+not_closed program nodes options picker left failure is first closed =
+    let inside : failure.node < length left.stops.items = slice_get_within left.stops.items failure.node (Some failure.stop) first.here in
+    let at = there (logs_left left) failure.node (omega (arith, inside, is.count, is.turns.count)) in
+    let stopped = is.each failure.node at.0 (Some failure.stop) at.1 first.here in
+    subst (λ stop. StoppedWith (fresh_node program nodes options failure.node) at.0 (Some stop)) closed stopped
+
+-- the lowest one that failed had no memory
+pub refused_so : (program : Program) (nodes : ℕ) (options : OptionsRecord) (picker : Picker) (left : Left) (failure : Failure)
+    → IsLeft program nodes options picker left → IsFirstFailure left.stops.items failure
+    → (failure.stop ≡ stops.Closed) ⊎ (failure.stop ≡ stops.NoMemory) → IsRefused program nodes options picker left
+refused_so program nodes options picker left failure is first (inl closed) =
+    absurd (not_closed program nodes options picker left failure is first closed)
+refused_so program nodes options picker left failure is first (inr short) = record {
+  left_so = is;
+  node = failure.node;
+  first = subst (λ stop. IsFirstFailure left.stops.items (record { node = failure.node; stop = stop })) short first;
+}

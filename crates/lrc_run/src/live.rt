@@ -1,0 +1,148 @@
+// The run of a program whose nodes are on threads.
+
+ghost use Rattle.std.specs.Prelude.{◌≡◌, IfErr, IfOk, length, map};
+ghost use Rattle.lrc_envelope.specs.declared.picker.Picker.{Picker as AnyPicker};
+ghost use Rattle.lrc_exec.specs.Nodes.{AreNodes};
+ghost use Rattle.lrc_post.specs.Post.{AreOf};
+ghost use Rattle.lrc_threads.specs.Threads.{HaveNoFailure};
+ghost use Rattle.lrc_weave.specs.Logs.{AreLogs};
+ghost use Rattle.lrc_world.specs.Range.{AreSteps};
+ghost use Rattle.lrc_run.specs.Halts.{AreLeft, IsHalt};
+ghost use Rattle.lrc_run.specs.Run.{AreWhole, IsThreadedRun, Reports};
+
+use crate::failure::halt_at;
+use crate::halt::{Halt, Left};
+use crate::told::{ToldRun, told};
+use lrc_envelope::Picker;
+use lrc_exec::code::Code;
+use lrc_post::{Post, Wires};
+use lrc_protocol::Event;
+use lrc_threads::{Gate, Parts, Setting, first_failure, parts_of, pasts_of};
+use lrc_weave::WeaveFault;
+use lrc_world::report::Report;
+use std::alloc::{AllocError, Global};
+use std::sync::Wait;
+use std::thread::Threads;
+
+/// A run on threads.
+#[derive(Drop)]
+pub struct ThreadedRun {
+    /// What came of it.
+    pub report: Report,
+    /// What the post between the nodes kept.
+    pub wires: Wires,
+    /// The events that make the turns of its nodes, put in one order by their stamps.
+    pub events: Vec<Event>,
+}
+
+/// A run in which each node lives on a thread of its own, with a post between them. `picker` says which of its messages a node is given
+/// next. Before each of its turns a node passes the gate.
+///
+/// Where there is no report, what the nodes left is handed back, with why there is none: the lowest node that failed wore out, by these
+/// turns, or had no memory; or none failed, and the turns and what the post kept do not tell of one run to its end.
+pub fn run_on_threads<G: Gate + Sync, R: Threads + Wait + Sync>(
+    rt: &R,
+    alloc: Global,
+    setting: &Setting<'_>,
+    picker: Picker,
+    gate: &G,
+) -> Result<ThreadedRun, Halt>
+    requires range { AreNodes setting.now.nodes × AreSteps setting.now.options.steps }
+    ensures run { IfOk result (λ run. IsThreadedRun setting.now.program.now setting.now.nodes setting.now.options picker
+        run.report run.wires run.events.items) }
+    ensures halt { IfErr result (IsHalt setting.now.program.now setting.now.nodes setting.now.options picker) }
+{
+    let (parts, wires) = live(rt, alloc, setting, picker, gate)?;
+    match first_failure(parts.stops.as_slice()) {
+        None => finished(alloc, setting, parts, wires),
+        Some(failure) => Err(halt_at(alloc, setting, left_of(parts, wires), failure)),
+    }
+}
+
+// The turns of all nodes, their traces, whether any of them would go on, and why their threads stopped; and what the post between them
+// kept.
+fn live<G: Gate + Sync, R: Threads + Wait + Sync>(
+    rt: &R,
+    alloc: Global,
+    setting: &Setting<'_>,
+    picker: Picker,
+    gate: &G,
+) -> Result<(Parts, Wires), AllocError>
+    requires range { AreNodes setting.now.nodes × AreSteps setting.now.options.steps }
+    ensures left { IfOk result (λ lived. AreLeft setting.now.program.now setting.now.nodes setting.now.options picker
+        (map (λ log. log.items) lived.0.logs.items) lived.0.stops.items lived.1) }
+    ensures whole { IfOk result (λ lived. HaveNoFailure lived.0.stops.items
+        → AreWhole setting.now.program.now setting.now.nodes setting.now.options
+        (map (λ log. log.items) lived.0.logs.items) lived.0.traces.items lived.0.is_any_ready) }
+{
+    let post = Post::new(alloc, setting.nodes, picker)?;
+    let code = Code::new(alloc, setting.program)?;
+    let pasts = pasts_of(rt, alloc, setting, &code, &post, gate)?;
+    let wires = post.into_wires();
+    let parts = parts_of(alloc, pasts)?;
+    Ok((parts, wires))
+}
+
+// The run of nodes none of whose threads failed, if what they left tells of one to its end.
+fn finished(
+    alloc: Global,
+    setting: &Setting<'_>,
+    parts: Parts,
+    wires: Wires,
+) -> Result<ThreadedRun, Halt>
+    requires range { AreNodes setting.now.nodes × AreSteps setting.now.options.steps }
+    requires turns { AreLogs setting.now.program.now setting.now.nodes setting.now.options (map (λ log. log.items) parts.logs.items) }
+    requires mailboxes { length wires ≡ setting.now.nodes }
+    requires unfailed { HaveNoFailure parts.stops.items }
+    requires whole { AreWhole setting.now.program.now setting.now.nodes setting.now.options
+        (map (λ log. log.items) parts.logs.items) parts.traces.items parts.is_any_ready }
+    ensures run { (picker : AnyPicker) → AreOf picker wires
+        → IfOk result (λ run. IsThreadedRun setting.now.program.now setting.now.nodes setting.now.options picker
+        run.report run.wires run.events.items) }
+    ensures halt { (picker : AnyPicker) → AreLeft setting.now.program.now setting.now.nodes setting.now.options picker
+        (map (λ log. log.items) parts.logs.items) parts.stops.items wires
+        → IfErr result (IsHalt setting.now.program.now setting.now.nodes setting.now.options picker) }
+{
+    match told(alloc, setting, &parts, wires.mailboxes()) {
+        Ok(told) => Ok(reported(parts, wires, told)),
+        Err(WeaveFault::Mismatch) => Err(Halt::Mismatch(left_of(parts, wires))),
+        Err(WeaveFault::NoMemory) => Err(Halt::NoMemory),
+    }
+}
+
+// The run whose nodes left these turns, with what is told beside them.
+fn reported(parts: Parts, wires: Wires, told: ToldRun) -> ThreadedRun
+    ensures report { Reports (map (λ log. log.items) parts.logs.items) told result.report }
+    ensures wires { result.wires ≡ wires }
+    ensures events { result.events ≡ told.events }
+{
+    let ToldRun {
+        events,
+        acts,
+        ends,
+        races,
+        first_race,
+    } = told;
+    let report = Report {
+        acts,
+        ends,
+        races,
+        logs: parts.logs,
+        first_race,
+    };
+    ThreadedRun {
+        report,
+        wires,
+        events,
+    }
+}
+
+// What is handed back of what the nodes left.
+fn left_of(parts: Parts, wires: Wires) -> Left
+    ensures logs { result.logs ≡ parts.logs }
+    ensures stops { result.stops ≡ parts.stops }
+    ensures wires { result.wires ≡ wires }
+{
+    let Parts { logs, stops, .. } = parts;
+    Left { logs, stops, wires }
+}
