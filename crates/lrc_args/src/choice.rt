@@ -1,6 +1,6 @@
 // What the words of the command line ask for.
 
-ghost use Rattle.std.specs.Prelude.{◌≡◌, ◌≤◌, true};
+ghost use Rattle.std.specs.Prelude.{◌≡◌, ◌≢◌, ◌≤◌, Some, true};
 ghost use Rattle.lrc_commands.specs.Commands.{is_command};
 
 use lrc_envelope::Picker;
@@ -153,6 +153,7 @@ pub struct Asking {
     pub act: u64,
     /// That of another act.
     pub other: Option<u64>,
+    pub ghost apart: { other ≢ Some act },
 }
 
 /// Acts from anywhere of which it is asked why they are as they are.

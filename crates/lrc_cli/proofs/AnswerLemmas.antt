@@ -1,5 +1,5 @@
 -- What is answered to a choice: what is printed, or a fault.
-use Rattle.std.proofs.Common.{◌≡◌, ◌⊎◌, inl, inr, ℕ, List, Option, Result, Ok, Err, IfErr, IfOk, IsErrAnd, sym, subst}
+use Rattle.std.proofs.Common.{◌≡◌, ◌⊎◌, inl, inr, ℕ, List, Option, Result, Ok, Err, IfErr, IfOk, IsErrAnd, refl, sym, subst}
 use Rattle.lrc_lang.specs.Faults.{HasFirstFault}
 use Rattle.lrc_lang.specs.Parser.SeenParser.{IsOutOfMemory}
 use Rattle.lrc_lang.specs.declared.fault.FaultKind.{FaultKind}
@@ -16,7 +16,7 @@ use Rattle.lrc_cli.specs.Shown.{IsShowFault, IsShown, shown_status}
 use Rattle.lrc_text.specs.Parts.{whole_text}
 use Rattle.lrc_cli.specs.declared.answer.Printout.{Printout}
 use Rattle.lrc_args.specs.declared.choice.Choice.{Choice}
-use Rattle.lrc_args.specs.declared.choice.Choice.TheVariants.{Check, Plain, Show, Judge, Explore}
+use Rattle.lrc_args.specs.declared.choice.Choice.TheVariants.{Check, Plain, Show, Judge, Explore, Lint, Why, WhyActs}
 use Rattle.lrc_args.specs.declared.choice.RunChoice.{RunChoice}
 use Rattle.lrc_args.specs.declared.choice.Shape.{Shape}
 use Rattle.lrc_cli.specs.declared.fault.Fault.{Fault}
@@ -41,6 +41,9 @@ memory_ran_out (Plain run) text events = tt
 memory_ran_out (Show run shape) text events = inl tt
 memory_ran_out (Judge judging) text events = tt
 memory_ran_out (Explore exploring) text events = inl tt
+memory_ran_out (Lint file) text events = refl
+memory_ran_out (Why run asking) text events = inr refl
+memory_ran_out (WhyActs acts asking) text events = tt
 
 -- the first fault of a text, as it is told
 text_fault_at : (text : List ℕ) (line : ℕ) (kind : FaultKind) → ((kind ≡ faults.NoMemory) × (line ≡ 0)) ⊎ HasFirstFault text line kind

@@ -12,19 +12,26 @@ use Rattle.lrc_text.specs.Parts.{whole_text}
 use Rattle.lrc_explore_text.specs.Explored.{Explores, MeetsFew, MeetsTooMany}
 use Rattle.lrc_protocol.specs.declared.event.Event.{Event}
 use Rattle.lrc_verdict.specs.Judgement.{Judges}
+use Rattle.lrc_lint.specs.Told.{TellsNoProgram}
+use Rattle.lrc_linted.specs.Linted.{LintsProgram}
+use Rattle.lrc_why_text.specs.Answers.{AnswersActs, RefusesActs}
+use Rattle.lrc_why_text.specs.declared.asked.Asked.{Asked}
+use Rattle.lrc_why_text.specs.declared.fault.WhyFault.TheVariants as why_faults
 use Rattle.lrc_world.specs.Ends.{ends_of}
 use Rattle.lrc_report.specs.ReportText.{report_text, status_of}
 use Rattle.lrc_cli.specs.Runs.{Account, IsRunFault, IsRunOfWay}
 use Rattle.lrc_cli.specs.Shown.{IsShowFault, IsShown, shown_status}
 use Rattle.lrc_cli.specs.declared.answer.Printout.{Printout}
 use Rattle.lrc_args.specs.declared.choice.Choice.{Choice}
-use Rattle.lrc_args.specs.declared.choice.Choice.TheVariants.{Check, Plain, Show, Judge, Explore}
+use Rattle.lrc_args.specs.declared.choice.Choice.TheVariants.{Check, Plain, Show, Judge, Explore, Lint, Why, WhyActs}
+use Rattle.lrc_args.specs.declared.choice.Asking.{Asking}
+use Rattle.lrc_args.specs.declared.choice.ForeignActs.{ForeignActs}
 use Rattle.lrc_args.specs.declared.choice.Exploring.{Exploring}
 use Rattle.lrc_args.specs.declared.choice.Judging.{Judging}
 use Rattle.lrc_args.specs.declared.choice.RunChoice.{RunChoice}
 use Rattle.lrc_args.specs.declared.choice.Shape.{Shape}
 use Rattle.lrc_cli.specs.declared.fault.Fault.{Fault}
-use Rattle.lrc_cli.specs.declared.fault.Fault.TheVariants.{Text, Acts, LongActs, TooManyStates, NoMemory}
+use Rattle.lrc_cli.specs.declared.fault.Fault.TheVariants.{ActsAlone, Text, Acts, LongActs, NoAct, TooManyStates, NoMemory}
 
 -- the text is this program's
 abbrev pub IsTextOf : List ℕ → Program → Type 0
@@ -64,6 +71,21 @@ IsExploration exploring text program out status = (places : List ℕ) × HasLine
     × Explores program exploring.nodes.count places exploring.outcomes out status
     × MeetsFew program exploring.nodes.count exploring.most.count exploring.outcomes status
 
+-- the text and the status are what `lint` says of the text of this file: that it is no program, or its warnings
+abbrev pub IsLinted : List ℕ → List ℕ → List ℕ → ℕ → Type 0
+IsLinted file text out status = (TellsNoProgram file text out × (status ≡ 1)) ⊎ (LintsProgram file text out × (status ≡ 0))
+
+-- how many nodes the acts are of, where that is said, and what is asked of them
+abbrev pub foreign_nodes : ForeignActs → Option ℕ
+foreign_nodes acts = option_map (λ nodes. nodes.count) acts.nodes
+
+abbrev pub asked_of : Asking → Asked
+asked_of asking = record { act = asking.act; and = asking.other }
+
+-- the text is what is answered of the acts
+abbrev pub IsReasoned : ForeignActs → Asking → List ℕ → List ℕ → ℕ → Type 0
+IsReasoned acts asking text out status = AnswersActs (foreign_nodes acts) acts.size (asked_of asking) text out × (status ≡ 0)
+
 -- What is printed, with the status: `ok` where the text is a program's, the report of what the program does in rounds on
 -- the plain machine, what is shown of its run, a judgement of acts, or what every order of the program comes to.
 abbrev pub Prints : Choice → List ℕ → Option (List ℕ) → List ℕ → ℕ → Type 0
@@ -76,6 +98,9 @@ Prints (Show run shape) text events_text out status =
 Prints (Judge judging) text events_text out status = Judges (judged_nodes judging) judging.pairs text out status
 Prints (Explore exploring) text events_text out status =
     (program : Program) × IsTextOf text program × IsExploration exploring text program out status
+Prints (Lint file) text events_text out status = IsLinted file.now text out status
+Prints (Why run asking) text events_text out status = ⊥
+Prints (WhyActs acts asking) text events_text out status = IsReasoned acts asking text out status
 
 -- the fault of a text that is no program
 abbrev pub IsTextFault : List ℕ → Fault → Type 0
@@ -89,6 +114,14 @@ IsActsFault nodes text LongActs = ReadsActs nodes text (Err TooLong)
 IsActsFault nodes text (Acts line) = ReadsActs nodes text (Err (BadAct line))
 IsActsFault nodes text NoMemory = Unit {0}
 IsActsFault nodes text _ = ⊥
+
+-- why it is not answered of acts why one is as it is: the text of acts, or no act at a position
+abbrev pub IsWhyFault : ForeignActs → Asking → List ℕ → Fault → Type 0
+IsWhyFault acts asking text LongActs = RefusesActs (foreign_nodes acts) (asked_of asking) text why_faults.TooLong
+IsWhyFault acts asking text (Acts line) = RefusesActs (foreign_nodes acts) (asked_of asking) text (why_faults.BadAct line)
+IsWhyFault acts asking text (NoAct position) = RefusesActs (foreign_nodes acts) (asked_of asking) text (why_faults.NoAct position)
+IsWhyFault acts asking text NoMemory = Unit {0}
+IsWhyFault acts asking text _ = ⊥
 
 -- the fault of a search through every order: it met more states than it might
 abbrev pub IsSearchFault : Exploring → Program → Fault → Type 0
@@ -115,6 +148,9 @@ IsFault (Show run shape) text events_text fault = IsTextFault text fault
 IsFault (Judge judging) text events_text fault = IsActsFault (judged_nodes judging) text fault
 IsFault (Explore exploring) text events_text fault = IsTextFault text fault
     ⊎ ((program : Program) × IsTextOf text program × IsSearchFault exploring program fault)
+IsFault (Lint file) text events_text fault = fault ≡ NoMemory
+IsFault (Why run asking) text events_text fault = (fault ≡ ActsAlone) ⊎ (fault ≡ NoMemory)
+IsFault (WhyActs acts asking) text events_text fault = IsWhyFault acts asking text fault
 
 -- What is answered to a choice: what is printed, or the first fault.
 abbrev pub Answers : Choice → List ℕ → Option (List ℕ) → Result Printout Fault → Type 0

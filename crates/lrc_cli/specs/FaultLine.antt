@@ -6,6 +6,8 @@ use Rattle.lrc_lang.specs.declared.fault.ParseFault.{ParseFault}
 use Rattle.lrc_acts.specs.declared.reading.ActsFault.{ActsFault}
 use Rattle.lrc_acts.specs.declared.reading.ActsFault.TheVariants.{BadAct}
 use Rattle.lrc_acts.specs.declared.reading.ActsFault.TheVariants as acts_faults
+use Rattle.lrc_why_text.specs.declared.fault.WhyFault.{WhyFault}
+use Rattle.lrc_why_text.specs.declared.fault.WhyFault.TheVariants as why_faults
 use Rattle.lrc_world.specs.declared.report.SimFault.{SimFault}
 use Rattle.lrc_world.specs.declared.report.SimFault.TheVariants.{Worn}
 use Rattle.lrc_chart_build.specs.declared.portrait.PortraitFault.{PortraitFault}
@@ -33,6 +35,12 @@ fault_of_acts acts_faults.TooLong = faults.LongActs
 fault_of_acts (BadAct line) = faults.Acts line
 fault_of_acts acts_faults.NoMemory = faults.NoMemory
 
+abbrev pub fault_of_why : WhyFault → Fault
+fault_of_why why_faults.TooLong = faults.LongActs
+fault_of_why (why_faults.BadAct line) = faults.Acts line
+fault_of_why (why_faults.NoAct position) = faults.NoAct position
+fault_of_why why_faults.NoMemory = faults.NoMemory
+
 abbrev pub fault_of_run : SimFault → Fault
 fault_of_run Worn = faults.Worn
 fault_of_run _ = faults.NoMemory
@@ -58,6 +66,8 @@ fault_words (faults.Events line) = codes "events line " ++ decimal line ++ codes
 fault_words (faults.Acts line) = codes "acts line " ++ decimal line ++ codes ": bad act"
 fault_words (faults.TooManyStates most) = codes "more than " ++ decimal most ++ codes " states"
 fault_words faults.LongActs = codes "acts line 1: text too long"
+fault_words (faults.NoAct position) = codes "no act " ++ decimal position
+fault_words faults.ActsAlone = codes "why needs --acts"
 fault_words faults.Worn = codes "message numbers used up"
 fault_words faults.TooLong = codes "too long for a chart"
 fault_words faults.Mismatch = codes "logs and wires differ"

@@ -10,6 +10,8 @@ ghost use Rattle.lrc_args.specs.declared.choice.Choice.TheVariants.{Plain};
 use crate::explored::explored;
 use crate::fault::Fault;
 use crate::judged::judged;
+use crate::linted::linted;
+use crate::reasoned::reasoned;
 use crate::shown::show;
 use lrc_args::choice::{Choice, PlainRun};
 use lrc_exec::rounds::plain_rounds;
@@ -48,6 +50,9 @@ pub fn answer(
         Choice::Show(run, shape) => show(alloc, run, *shape, text, events),
         Choice::Judge(judging) => judged(alloc, judging, text),
         Choice::Explore(exploring) => explored(alloc, exploring, text),
+        Choice::Lint(file) => linted(alloc, file, text),
+        Choice::Why(_run, _asking) => Err(Fault::ActsAlone),
+        Choice::WhyActs(acts, asking) => reasoned(alloc, acts, asking, text),
     }
 }
 

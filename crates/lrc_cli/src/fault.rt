@@ -2,13 +2,14 @@
 
 ghost use Rattle.std.specs.Prelude.{◌≡◌, ◌≢◌, IfOk, Some};
 ghost use Rattle.std.specs.String.{string_bytes};
-ghost use Rattle.lrc_cli.specs.FaultLine.{fault_line, fault_of_acts, fault_of_events, fault_of_portrait, fault_of_run, fault_of_text, fault_words, kind_words};
+ghost use Rattle.lrc_cli.specs.FaultLine.{fault_line, fault_of_acts, fault_of_events, fault_of_portrait, fault_of_run, fault_of_text, fault_of_why, fault_words, kind_words};
 ghost use Rattle.lrc_cli.specs.declared.fault.Fault.TheVariants.{NoMemory};
 
 use lrc_acts::reading::ActsFault;
 use lrc_chart_build::PortraitFault;
 use lrc_events::events::EventsFault;
 use lrc_lang::fault::{FaultKind, ParseFault};
+use lrc_why_text::fault::WhyFault;
 use lrc_world::report::SimFault;
 use std::alloc::{AllocError, AllocFailed, Global};
 use std::error::Error;
@@ -26,6 +27,10 @@ pub enum Fault {
     Acts(u32),
     /// The text of acts is longer than any may be.
     LongActs,
+    /// There is no act at this position.
+    NoAct(usize),
+    /// Reasons are told of a list of acts alone.
+    ActsAlone,
     /// The numbers of messages were used up.
     Worn,
     /// A search through every order met more states than this, which it might.
@@ -50,6 +55,8 @@ impl Display for Fault {
             Fault::Events(line) => write!(f, "events line {line}: bad event"),
             Fault::Acts(line) => write!(f, "acts line {line}: bad act"),
             Fault::LongActs => write!(f, "acts line 1: text too long"),
+            Fault::NoAct(position) => write!(f, "no act {position}"),
+            Fault::ActsAlone => write!(f, "why needs --acts"),
             Fault::Worn => write!(f, "message numbers used up"),
             Fault::TooManyStates(most) => write!(f, "more than {most} states"),
             Fault::TooLong => write!(f, "too long for a chart"),
@@ -91,6 +98,19 @@ impl From<ActsFault> for Fault {
             ActsFault::TooLong => Fault::LongActs,
             ActsFault::BadAct(line) => Fault::Acts(line),
             ActsFault::NoMemory => Fault::NoMemory,
+        }
+    }
+}
+
+impl From<WhyFault> for Fault {
+    ghost from_gives = { λ fault made. made ≡ fault_of_why fault };
+
+    fn from(fault: WhyFault) -> Fault {
+        match fault {
+            WhyFault::TooLong => Fault::LongActs,
+            WhyFault::BadAct(line) => Fault::Acts(line),
+            WhyFault::NoAct(position) => Fault::NoAct(position),
+            WhyFault::NoMemory => Fault::NoMemory,
         }
     }
 }

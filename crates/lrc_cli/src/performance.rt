@@ -73,9 +73,13 @@ pub fn answer_any<R: Threads + Wait + Sync>(
 {
     match choice {
         Choice::Show(run, shape) => show_any(rt, alloc, run, *shape, text, events),
-        Choice::Check(_) | Choice::Plain(_) | Choice::Judge(_) | Choice::Explore(_) => {
-            answer(alloc, choice, text, events)
-        }
+        Choice::Check(_)
+        | Choice::Plain(_)
+        | Choice::Judge(_)
+        | Choice::Explore(_)
+        | Choice::Lint(_)
+        | Choice::Why(_, _)
+        | Choice::WhyActs(_, _) => answer(alloc, choice, text, events),
     }
 }
 

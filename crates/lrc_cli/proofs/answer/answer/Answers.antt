@@ -42,3 +42,19 @@ returns-in-Judge-clause-ok c =
 pub returns-in-Judge-clause-err : goal.returns-in-Judge-clause-err
 returns-in-Judge-clause-err c =
     faulty_for c.judged.result _ _ c.args.text.now (option_map (λ (e : Bor (List ℕ)). e.now) c.args.events) c.in-Judge.is c.judged.ensures.err
+
+pub returns-in-Lint-clause-ok : goal.returns-in-Lint-clause-ok
+returns-in-Lint-clause-ok c =
+    printed_for c.linted.result _ _ c.args.text.now (option_map (λ (e : Bor (List ℕ)). e.now) c.args.events) c.in-Lint.is c.linted.ensures.ok
+
+pub returns-in-Lint-clause-err : goal.returns-in-Lint-clause-err
+returns-in-Lint-clause-err c =
+    faulty_for c.linted.result _ _ c.args.text.now (option_map (λ (e : Bor (List ℕ)). e.now) c.args.events) c.in-Lint.is c.linted.ensures.err
+
+pub returns-in-WhyActs-clause-ok : goal.returns-in-WhyActs-clause-ok
+returns-in-WhyActs-clause-ok c =
+    printed_for c.reasoned.result _ _ c.args.text.now (option_map (λ (e : Bor (List ℕ)). e.now) c.args.events) c.in-WhyActs.is c.reasoned.ensures.ok
+
+pub returns-in-WhyActs-clause-err : goal.returns-in-WhyActs-clause-err
+returns-in-WhyActs-clause-err c =
+    faulty_for c.reasoned.result _ _ c.args.text.now (option_map (λ (e : Bor (List ℕ)). e.now) c.args.events) c.in-WhyActs.is c.reasoned.ensures.err

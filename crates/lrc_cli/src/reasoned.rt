@@ -1,0 +1,53 @@
+// What the program answers to the command `why` of acts.
+
+ghost use Rattle.std.specs.Prelude.{◌≡◌, ◌≢◌, ◌≤◌, IfErr, IfOk, IfSome};
+ghost use Rattle.lrc_cli.specs.Answer.{IsReasoned, IsWhyFault, asked_of, foreign_nodes};
+ghost use Rattle.lrc_text.specs.Parts.{whole_text};
+
+use crate::answer::Printout;
+use crate::fault::Fault;
+use lrc_args::choice::{Asking, ForeignActs};
+use lrc_why_text::acts::why_acts;
+use lrc_why_text::asked::Asked;
+use std::alloc::Global;
+
+/// Answers the command `why` with a text of acts.
+pub(crate) fn reasoned(
+    alloc: Global,
+    acts: &ForeignActs<'_>,
+    asking: &Asking,
+    text: &[u8],
+) -> Result<Printout, Fault>
+    ensures ok { IfOk result (λ printout. IsReasoned acts.now asking.now text.now (whole_text printout.parts.items) printout.status) }
+    ensures err { IfErr result (IsWhyFault acts.now asking.now text.now) }
+{
+    let parts = why_acts(alloc, text, nodes_of(acts), acts.size, asked_of(asking))?;
+    Ok(Printout { parts, status: 0 })
+}
+
+// How many nodes the acts are of, where that is said.
+fn nodes_of(acts: &ForeignActs<'_>) -> Option<u32>
+    ensures value { result ≡ foreign_nodes acts.now }
+    ensures few { IfSome result (λ count. count ≤ 16) }
+{
+    match acts.nodes {
+        Some(nodes) => Some(nodes.count),
+        None => None,
+    }
+}
+
+// What is asked, by places.
+fn asked_of(asking: &Asking) -> Asked
+    ensures value { result ≡ asked_of asking.now }
+    ensures apart { IfSome result.and (λ other. other ≢ result.act) }
+{
+    let asking = *asking;
+    let and = match asking.other {
+        Some(other) => Some(other as usize),
+        None => None,
+    };
+    Asked {
+        act: asking.act as usize,
+        and,
+    }
+}

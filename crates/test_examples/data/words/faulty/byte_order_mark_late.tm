@@ -1,0 +1,1 @@
+ ﻿words 4; locks 2;

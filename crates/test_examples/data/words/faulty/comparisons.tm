@@ -1,0 +1,2 @@
+words 4; locks 2;
+if 0 < x < 4 { }

@@ -1,0 +1,3 @@
+words 4; locks 2;
+x = 1
+y = 2;

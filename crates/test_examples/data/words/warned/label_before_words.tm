@@ -1,0 +1,3 @@
+#: word 0 a
+#: word 1 b
+words 1; locks 0;
