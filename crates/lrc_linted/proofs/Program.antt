@@ -1,5 +1,5 @@
 -- What is told of a program, from what was found; and how many tokens a text has.
-use Rattle.std.proofs.Common.{◌≡◌, ◌<◌, ◌≤◌, ◌+◌, inl, ◌∙◌, ℕ, List, [], ◌∷◌, ◌++◌, length, map, refl, sym, ap, subst, arith, length-append, Result, Ok, Err, OnOk, Bor}
+use Rattle.std.proofs.Common.{◌≡◌, ◌<◌, ◌≤◌, ◌+◌, inl, ◌∙◌, ℕ, List, [], ◌∷◌, ◌++◌, length, map, ap, subst, arith, length-append}
 use Rattle.std.specs.Prelude.{IsPermutation, IsSortedByKey}
 use Rattle.std.proofs.lemmas.List.{length-map}
 use Rattle.lrc_lang.specs.declared.positions.Located as code_located
@@ -8,7 +8,6 @@ use Rattle.lrc_lang.specs.declared.token.Sign.{Sign}
 use Rattle.lrc_lang.specs.declared.token.Sign.TheVariants as signs
 use Rattle.lrc_lang.specs.Counts.{names_of}
 use Rattle.lrc_lang.specs.Faults.{IsText}
-use Rattle.lrc_lang.specs.FirstFault.{placed}
 use Rattle.lrc_lang.specs.Lexemes.{BeginsWith, IsLetter, IsLetterOrDigit, sign_text, Lexes, passes_blank, passes_line_feed, passes_comment, takes_number, takes_keyword}
 use Rattle.lrc_lang.specs.Lexemes.{takes_name, takes_sign, stops_at_number, stops_at_byte, stops_at_end}
 use Rattle.lrc_lang.specs.Parser.Located.{located_of}

@@ -1,5 +1,5 @@
 -- What is told of a program: its warnings, and how many they are.
-use Rattle.std.specs.Prelude.{◌≡◌, ℕ, List, [], ◌++◌, codes, length, map, IsPermutation, IsSortedByKey}
+use Rattle.std.specs.Prelude.{◌≡◌, ℕ, List, ◌++◌, codes, length, map, IsPermutation, IsSortedByKey}
 use Rattle.std.specs.List.{flat_map}
 use Rattle.lrc_lang.specs.Counts.{names_of}
 use Rattle.lrc_lang.specs.Faults.{IsText}

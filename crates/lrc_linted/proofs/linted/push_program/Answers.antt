@@ -6,7 +6,6 @@ use Rattle.lrc_lang.specs.Parser.Located.{located_of}
 use Rattle.lrc_lang.specs.Parser.View.{token_of}
 use Rattle.lrc_lang.specs.Tree.{program_of}
 use Rattle.lrc_labels.specs.declared.cut.Divider.TheVariants.{LineFeed}
-use Rattle.lrc_labels.specs.declared.label.Label as code_label
 use Rattle.lrc_labels.specs.Cut.{cut, divides}
 use Rattle.lrc_labels.specs.Reading.{idle_of, label_seen, labels_of}
 use Rattle.lrc_lint.proofs.Telling.{on_ok}
