@@ -1,30 +1,34 @@
 use Rattle.std.proofs.Common.{List, Ok, Err, map, ap, subst}
 use Rattle.clap.specs.Words.{Text}
 use Rattle.lrc_args.specs.CommandLine.{Chooses, words_meant}
+use Rattle.lrc_args.specs.declared.choice.Request.{Request}
 use Rattle.lrc_args.specs.declared.choice.Request.TheVariants.{About, Races, Answer}
 use Rattle.lrc_shell.specs.Plays.{played, raced, refused, spoken}
 use Rattle.lrc_shell.proofs.PlayLemmas.{same}
 use Rattle.lrc_shell.proofs.played.play.Goals as goal
 
-pub returns-in-Answer : goal.returns-in-Answer
-returns-in-Answer g c =
-    played c.in-Answer.choice
-    (subst (λ (words : List Text). Chooses words (Ok (Answer c.in-Answer.choice)))
-    (ap (λ words. words_meant (map g.S.AsStr.text words)) c.words_of.ensures) c.in-Answer.ensures)
+pub returns-in-Ok-Answer : goal.returns-in-Ok-Answer
+returns-in-Ok-Answer g c =
+    played c.in-Ok-Answer.choice
+    (subst (λ (words : List Text). Chooses words (Ok (Answer c.in-Ok-Answer.choice)))
+    (ap (λ words. words_meant (map g.S.AsStr.text words)) c.words_of.ensures)
+    (subst (λ (request : Request). Chooses (words_meant (map g.S.AsStr.text c.words_of.result.now)) (Ok request)) c.in-Ok-Answer.field-0-is c.in-Ok-Answer.ensures))
     c.play_choice.ensures
 
-pub returns-in-Races : goal.returns-in-Races
-returns-in-Races g c =
-    raced c.in-Races.racing
-    (subst (λ (words : List Text). Chooses words (Ok (Races c.in-Races.racing)))
-    (ap (λ words. words_meant (map g.S.AsStr.text words)) c.words_of.ensures) c.in-Races.ensures)
+pub returns-in-Ok-Races : goal.returns-in-Ok-Races
+returns-in-Ok-Races g c =
+    raced c.in-Ok-Races.racing
+    (subst (λ (words : List Text). Chooses words (Ok (Races c.in-Ok-Races.racing)))
+    (ap (λ words. words_meant (map g.S.AsStr.text words)) c.words_of.ensures)
+    (subst (λ (request : Request). Chooses (words_meant (map g.S.AsStr.text c.words_of.result.now)) (Ok request)) c.in-Ok-Races.field-0-is c.in-Ok-Races.ensures))
     c.tell_races.ensures
 
-pub returns-in-About : goal.returns-in-About
-returns-in-About g c =
-    spoken c.in-About.topic
-    (subst (λ (words : List Text). Chooses words (Ok (About c.in-About.topic)))
-    (ap (λ words. words_meant (map g.S.AsStr.text words)) c.words_of.ensures) c.in-About.ensures)
+pub returns-in-Ok-About : goal.returns-in-Ok-About
+returns-in-Ok-About g c =
+    spoken c.in-Ok-About.topic
+    (subst (λ (words : List Text). Chooses words (Ok (About c.in-Ok-About.topic)))
+    (ap (λ words. words_meant (map g.S.AsStr.text words)) c.words_of.ensures)
+    (subst (λ (request : Request). Chooses (words_meant (map g.S.AsStr.text c.words_of.result.now)) (Ok request)) c.in-Ok-About.field-0-is c.in-Ok-About.ensures))
     c.tell_topic.ensures
 
 pub returns-in-Err : goal.returns-in-Err
