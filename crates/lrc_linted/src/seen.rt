@@ -14,10 +14,7 @@ use lrc_warnings::warning::Spot;
 use std::alloc::{AllocError, Global};
 
 /// The tokens of a program.
-pub fn tokens_of<'t>(
-    alloc: Global,
-    all: &[Located<'t>],
-) -> Result<Vec<Token<'t>>, AllocError>
+pub fn tokens_of<'t>(alloc: Global, all: &[Located<'t>]) -> Result<Vec<Token<'t>>, AllocError>
     ensures { IfOk result (λ tokens. map token_of tokens.items ≡ tokens_of (map located_of all.now)) }
 {
     let mut tokens = Vec::new(alloc);
@@ -52,10 +49,7 @@ pub fn spots_of(alloc: Global, all: &[Located<'_>]) -> Result<Vec<Spot>, AllocEr
 }
 
 /// The different private names, in the order in which they first come.
-pub fn names_of<'t>(
-    alloc: Global,
-    tokens: &[Token<'t>],
-) -> Result<Vec<&'t [u8]>, AllocError>
+pub fn names_of<'t>(alloc: Global, tokens: &[Token<'t>]) -> Result<Vec<&'t [u8]>, AllocError>
     ensures { IfOk result (λ names. map (λ name. name.now) names.items ≡ names_of (map token_of tokens.now)) }
 {
     let mut names = Vec::new(alloc);

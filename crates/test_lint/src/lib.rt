@@ -8,4 +8,6 @@ mod faults;
 #[cfg(test)]
 mod labels;
 #[cfg(test)]
+mod warnings;
+#[cfg(test)]
 mod words;
