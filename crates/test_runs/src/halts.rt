@@ -32,9 +32,9 @@ const ROWS: &[Row] = &[
 ];
 
 fn is_left_so(worn: &WornOut, row: &Row) -> bool {
-    let mut turns = 1;
+    let mut turns: usize = 1;
     for log in &worn.left.logs {
-        turns += log.len();
+        turns = turns.saturating_add(log.len());
     }
     let stops = worn.left.stops.as_slice();
     let Some(stop) = stops.get(row.node) else {
