@@ -9,8 +9,13 @@ use Rattle.lrc_lang.specs.declared.program.Program.{Program}
 use Rattle.lrc_protocol.specs.Run.{EntryRecord}
 use Rattle.lrc_protocol.specs.declared.event.Event.{Event}
 use Rattle.lrc_world.specs.declared.report.Brief.{Brief}
-use Rattle.lrc_cli.specs.Answer.{Answers, IsFault, IsTextFault, IsTextOf, Prints}
-use Rattle.lrc_cli.specs.FaultLine.{fault_of_kind, fault_of_text}
+use Rattle.lrc_args.specs.declared.choice.Asking.{Asking}
+use Rattle.lrc_args.specs.declared.choice.ForeignActs.{ForeignActs}
+use Rattle.lrc_why_text.specs.Answers.{RefusesActs}
+use Rattle.lrc_why_text.specs.declared.fault.WhyFault.{WhyFault}
+use Rattle.lrc_why_text.specs.declared.fault.WhyFault.TheVariants as why_faults
+use Rattle.lrc_cli.specs.Answer.{Answers, IsFault, IsTextFault, IsTextOf, IsWhyFault, Prints, asked_of, foreign_nodes}
+use Rattle.lrc_cli.specs.FaultLine.{fault_of_kind, fault_of_text, fault_of_why}
 use Rattle.lrc_cli.specs.Runs.{Account, IsBriefRun, IsRunOfWay, account_with}
 use Rattle.lrc_cli.specs.Shown.{IsShowFault, IsShown, shown_status}
 use Rattle.lrc_text.specs.Parts.{whole_text}
@@ -55,6 +60,14 @@ text_fault_at text line _ (inr h) = h
 pub text_fault : (text : List ℕ) (fault : ParseFault) → IsOutOfMemory fault ⊎ HasFirstFault text fault.line fault.kind
     → IsTextFault text (fault_of_text fault)
 text_fault text fault h = text_fault_at text fault.line fault.kind h
+
+-- why a text of acts is not answered, as it is told
+pub why_fault : (acts : ForeignActs) (asking : Asking) (text : List ℕ) (fault : WhyFault)
+    → RefusesActs (foreign_nodes acts) (asked_of asking) text fault → IsWhyFault acts asking text (fault_of_why fault)
+why_fault acts asking text why_faults.TooLong h = h
+why_fault acts asking text (why_faults.BadAct line) h = h
+why_fault acts asking text (why_faults.NoAct position) h = h
+why_fault acts asking text why_faults.NoMemory h = tt
 
 -- what holds for a choice holds for the same choice
 pub printed_for : (r : Result Printout Fault) (choice other : Choice) (text : List ℕ) (events : Option (List ℕ)) → choice ≡ other

@@ -50,7 +50,13 @@ fn worn_out(alloc: Global, setting: &Setting<'_>, left: Left, node: usize) -> Ha
     ensures { (picker : AnyPicker) → IsLeft setting.now.program.now setting.now.nodes setting.now.options picker left
         → IsHalt setting.now.program.now setting.now.nodes setting.now.options picker result }
 {
-    match wearing(alloc, setting, left.logs.as_slice(), left.wires.mailboxes(), node) {
+    match wearing(
+        alloc,
+        setting,
+        left.logs.as_slice(),
+        left.wires.mailboxes(),
+        node,
+    ) {
         Ok(events) => Halt::Worn(WornOut { left, node, events }),
         Err(WeaveFault::Mismatch) => Halt::Mismatch(left),
         Err(WeaveFault::NoMemory) => Halt::NoMemory,
@@ -89,7 +95,14 @@ fn wears_out(alloc: Global, setting: &Setting<'_>, events: &[Event]) -> Result<(
     let _count = count_of(events);
     let nodes = u32::from(setting.nodes);
     let order = Order::Events(events);
-    match run_checked(alloc, setting.program, nodes, &setting.options, order, Keep::Newest) {
+    match run_checked(
+        alloc,
+        setting.program,
+        nodes,
+        &setting.options,
+        order,
+        Keep::Newest,
+    ) {
         Err(SimFault::Worn) => Ok(()),
         // The nodes made these turns on their threads, so this does not come.
         Ok(_) => Err(WeaveFault::Mismatch),
@@ -106,7 +119,12 @@ fn count_of(events: &[Event]) -> usize
 }
 
 // The events that make all turns, and behind them the one of the turn that the node did not finish.
-fn events_until(alloc: Global, logs: &[Vec<Entry>], wires: &[Mailbox], node: usize) -> Result<Vec<Event>, WeaveFault>
+fn events_until(
+    alloc: Global,
+    logs: &[Vec<Entry>],
+    wires: &[Mailbox],
+    node: usize,
+) -> Result<Vec<Event>, WeaveFault>
     requires few { length logs.now ≤ 16 }
     ensures events { IfOk result (λ events. AreEventsOf (map (λ log. log.items) logs.now) node
         (unfinished (map (λ log. log.items) logs.now) wires.now node) events.items) }

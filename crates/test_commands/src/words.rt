@@ -2,9 +2,8 @@
 
 use crate::checks::passes;
 use lrc_args::choice::{
-    Asking,
-    Charting, Choice, ChooseFault, Exploring, ForeignActs, Form, Judging, PlainRun, Racing, Request, RunOptions, Shape,
-    Topic, TraceForm, Way,
+    Asking, Charting, Choice, ChooseFault, Exploring, ForeignActs, Form, Judging, PlainRun, Racing,
+    Request, RunOptions, Shape, Topic, TraceForm, Way,
 };
 use lrc_args::choose;
 use lrc_envelope::Picker;
@@ -353,8 +352,14 @@ const CHOICES: &[Row] = &[
     ("lint a.tm", Wanted::Lint("a.tm")),
     ("lint -", Wanted::Lint("-")),
     ("races -", Wanted::Races("-", false, false)),
-    ("races t.std --as std --group", Wanted::Races("t.std", false, true)),
-    ("races --as=acts t.acts", Wanted::Races("t.acts", true, false)),
+    (
+        "races t.std --as std --group",
+        Wanted::Races("t.std", false, true),
+    ),
+    (
+        "races --as=acts t.acts",
+        Wanted::Races("t.acts", true, false),
+    ),
     ("why a.tm --act 3", Wanted::Why(A_RUN, 3, None)),
     (
         "why --act=0 - --nodes 3 --and 18446744073709551615",
@@ -554,7 +559,10 @@ const REFUSED: &[Row] = &[
     ("why --acts a.acts --act 0 --collect 0", Wanted::Usage),
     ("why --acts a.acts --act 0 --order oldest", Wanted::Usage),
     ("why --acts a.acts --act 0 --events e", Wanted::Usage),
-    ("why --acts a.acts --act 0 --seed 0 --nodes 17", Wanted::Usage),
+    (
+        "why --acts a.acts --act 0 --seed 0 --nodes 17",
+        Wanted::Usage,
+    ),
     ("why --acts a.acts --act 0 --page 128", Wanted::Usage),
     ("why a.tm --act 0 --threads", Wanted::Usage),
     ("why a.tm --act 0 --order latest", Wanted::Usage),

@@ -46,12 +46,7 @@ fn is_left_so(worn: &WornOut, row: &Row) -> bool {
         && worn.events.len() == turns
 }
 
-fn halts_so<R: Threads + Wait + Sync>(
-    rt: &R,
-    alloc: Global,
-    program: &Program,
-    row: &Row,
-) -> bool {
+fn halts_so<R: Threads + Wait + Sync>(rt: &R, alloc: Global, program: &Program, row: &Row) -> bool {
     let setting = Setting {
         program,
         nodes: 2,
