@@ -1,5 +1,6 @@
 -- The text of a run's acts says just its acts.
-use Rattle.std.proofs.Common.{◌≡◌, ℕ, ◌+◌, ◌^◌, ◌<◌, ◌≤◌, ◌==◌, List, [], ◌∷◌, ◌++◌, length, drop, inl, sym, subst, refl, ◌∙◌, ap, arith, append_assoc, append-nil, length-append, All, None}
+use Rattle.std.proofs.Common.{◌≡◌, ℕ, ◌+◌, ◌^◌, ◌<◌, ◌≤◌, ◌==◌, List, [], ◌∷◌, ◌++◌, length, drop, inl, sym, subst, refl, ◌∙◌, ap, arith}
+use Rattle.std.proofs.Common.{append_assoc, append-nil, length-append, All, None}
 use Rattle.std.specs.Prelude.{true, codes, decimal, flat_map, slice_index}
 use Rattle.std.specs.List.{before_first, slice_split, enumerate_from}
 use Rattle.std.specs.Str.Parse.{AllDigits}

@@ -1,5 +1,6 @@
 -- What bytes the digits of numbers and fixed words have.
-use Rattle.std.proofs.Common.{◌≡◌, ◌≢◌, ℕ, ◌^◌, ◌<◌, ◌≤◌, ◌==◌, ◌&&◌, ◌||◌, Bool, true, false, List, [], ◌∷◌, length, sym, refl, ◌∙◌, ap, arith, inl, inr, All}
+use Rattle.std.proofs.Common.{◌≡◌, ◌≢◌, ℕ, ◌^◌, ◌<◌, ◌≤◌, ◌==◌, ◌&&◌, ◌||◌, Bool, true, false, List, [], ◌∷◌, length, sym, refl, ◌∙◌, ap, arith, inl}
+use Rattle.std.proofs.Common.{inr, All}
 use Rattle.std.specs.Prelude.{decimal}
 use Rattle.std.proofs.Math.Dec.{ltb}
 use Rattle.std.proofs.lemmas.Bool.{ltb-true, eqb-true, and_parts}

@@ -12,7 +12,8 @@ use Rattle.lrc_names.specs.declared.line.Kind.{Kind}
 use Rattle.lrc_acts_text.specs.Rapid.{RapidStep}
 use Rattle.lrc_acts_text_laws.specs.Traces.{DoesStep}
 use Rattle.lrc_races.specs.Says.{Said}
-use Rattle.lrc_races.specs.Naming.{Naming, IsOperation, IsEvent, IsLocated, AreEvents, no_events, event_more, IsTrace, Numbers, read, write, acquire, release}
+use Rattle.lrc_races.specs.Naming.{Naming, IsOperation, IsEvent, IsLocated, AreEvents, no_events, event_more, IsTrace, Numbers, read, write, acquire}
+use Rattle.lrc_races.specs.Naming.{release}
 use Rattle.lrc_races.specs.Spelled.{place_name}
 use Rattle.lrc_races_laws.specs.Traces.{Numbers as Numbering, Locks, operation_of}
 use Rattle.lrc_races_laws.specs.Steps.{AreEventsOfSteps, Words}
@@ -167,7 +168,8 @@ said_of before lines (more_done done rest) (suc k) t node deed at e =
 pub are_said : (lines : List ℕ) {steps : List RapidStep} {acts : List Act} → AreDone steps acts → AreSaid lines steps (steps_said 0 lines steps acts)
 are_said lines done = record {
   long = said_many 0 lines done;
-  each = λ k node deed does. said_of 0 lines done k does.step node deed does.stands (does.is (record { locks = 0; nodes = 0; arrived = 0; departed = 0 }))
+  each = λ k node deed does.
+      said_of 0 lines done k does.step node deed does.stands (does.is (record { locks = 0; nodes = 0; arrived = 0; departed = 0 }))
       ∙ ap (λ l. Some (let s : Said = record { line = l; saying = saying_in_rapid (slice_index lines does.step.position) node deed } in s)) (let e : 0 + k + 1 ≡ k + 1 = omega arith in e);
 }
 

@@ -76,7 +76,9 @@ module _ (program : Program) (nodes : ℕ) (acts : List Act) (lines : List ℕ) 
     pub rapid_said : (parts : List (List ℕ)) (rest : List ℕ) (said : List Said) → IsCut (rapid_text program.locks nodes acts lines) parts rest
         → (Say Std 1 parts said → AreSaid lines steps said) × (AreSaid lines steps said → Say Std 1 parts said)
     rapid_said parts rest said cut =
-        let both = said_alone Std (rapid_text program.locks nodes acts lines) (bodies lines steps done) (steps_said 0 lines steps done) rapid_good parts rest said cut in (
+        let both =
+        said_alone Std (rapid_text program.locks nodes acts lines) (bodies lines steps done) (steps_said 0 lines steps done) rapid_good
+        parts rest said cut in (
           λ says. subst (λ (s : List Said). AreSaid lines steps s) (sym (both.0 says)) (of_steps.are_said lines are_done),
           λ are. both.1 (of_steps.said_alone lines said are_done does are),
         )

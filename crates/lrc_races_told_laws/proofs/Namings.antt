@@ -1,5 +1,6 @@
 -- What is said has one list of names of each kind, and so one trace.
-use Rattle.std.proofs.Common.{◌≡◌, ◌≢◌, ℕ, zero, suc, ◌<◌, ◌≤◌, ◌⊎◌, List, [], ◌∷◌, length, get_or, take, inl, inr, sym, subst, refl, ◌∙◌, ap, ap₂, arith}
+use Rattle.std.proofs.Common.{◌≡◌, ◌≢◌, ℕ, zero, suc, ◌<◌, ◌≤◌, ◌⊎◌, List, [], ◌∷◌, length, get_or, take, inl, inr, sym, subst, refl, ◌∙◌, ap, ap₂}
+use Rattle.std.proofs.Common.{arith}
 use Rattle.std.specs.Prelude.{Option, Some, None, AllPairs, Contains, slice_get}
 use Rattle.std.proofs.lemmas.Bool.{cases_lt}
 use Rattle.std.proofs.lemmas.Option.{slice_get_within, get_or_from_slice_get}
@@ -9,7 +10,8 @@ use Rattle.lrc_std.specs.declared.event.Operation.{Operation}
 use Rattle.lrc_std.specs.declared.event.Operation.TheVariants as Op
 use Rattle.lrc_names.specs.declared.line.Kind.{Kind}
 use Rattle.lrc_races.specs.Says.{Said}
-use Rattle.lrc_races.specs.Naming.{AreFirstNamed, Numbers, Naming, IsNaming, IsOperation, IsLocated, IsEvent, AreEvents, no_events, event_more, IsTrace}
+use Rattle.lrc_races.specs.Naming.{AreFirstNamed, Numbers, Naming, IsNaming, IsOperation, IsLocated, IsEvent, AreEvents, no_events, event_more}
+use Rattle.lrc_races.specs.Naming.{IsTrace}
 use Rattle.lrc_races.specs.Naming.{read, write, acquire, release, post, wait, fork, join, arrive, depart, idle}
 use Rattle.lrc_races_told_laws.proofs.Pairs.{first_or, later, first, none_in, in_order_one}
 

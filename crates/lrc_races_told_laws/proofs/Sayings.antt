@@ -6,14 +6,16 @@ use Rattle.std.proofs.lemmas.Bool.{ltb-true, and_parts}
 use Rattle.std.proofs.lemmas.List.Elements.{All-head, All-tail}
 use Rattle.lrc_names.specs.declared.line.Kind.{Kind}
 use Rattle.lrc_names.specs.declared.line.Kind.TheVariants.{Read, Write, Acquire, Release, Post, Wait, Fork, Join, Arrive, Depart, Idle}
-use Rattle.lrc_names.specs.Line.{Saying, Says as SaysStd, SaysNothing as SaysNoStd, SpellsOperation, with_target, alone, with_text, IsIdleWord, begins, ends as idle_ends, enters, exits, requests, branches}
+use Rattle.lrc_names.specs.Line.{Saying, Says as SaysStd, SaysNothing as SaysNoStd, SpellsOperation, with_target, alone, with_text, IsIdleWord}
+use Rattle.lrc_names.specs.Line.{begins, ends as idle_ends, enters, exits, requests, branches}
 use Rattle.lrc_names.specs.Line.{SpellsEvent, unplaced, placed, IsName, IsText, IsBlank, word}
 use Rattle.lrc_names.proofs.Spelled.{seam-not-lacking, seam-unique, last-unique, spelled-open, spelled-lacks, idle-no_kind}
 use Rattle.lrc_names.proofs.Spelled.{all-lacks, one_body}
 use Rattle.lrc_names.specs.Lacking.{Lacks}
 use Rattle.lrc_races.specs.declared.form.Form.{Form}
 use Rattle.lrc_races.specs.declared.form.Form.TheVariants.{Std, Acts}
-use Rattle.lrc_races.specs.Acts.{IsNamed, IsAccess, IsOnLock, SaysOperation, IsDigit, EndsDigits, SaysLine, IsLocation, SaysNoAct, SaysAct, IsIdle, quiet, ends, prints, traps}
+use Rattle.lrc_races.specs.Acts.{IsNamed, IsAccess, IsOnLock, SaysOperation, IsDigit, EndsDigits, SaysLine, IsLocation, SaysNoAct, SaysAct, IsIdle}
+use Rattle.lrc_races.specs.Acts.{quiet, ends, prints, traps}
 use Rattle.lrc_races.specs.Says.{Said, Say, no_line, blank_line, event_line, Says, SaysNothing}
 
 pub same_saying : (a b : Saying) → a.thread ≡ b.thread → a.kind ≡ b.kind → a.target ≡ b.target → a.location ≡ b.location → a ≡ b
