@@ -1,0 +1,12 @@
+pub mod Absent
+pub mod Counted
+pub mod Held
+pub mod Learning
+pub mod Listed
+pub mod Loops
+pub mod Made
+pub mod Moves
+pub mod Names
+pub mod Reached
+pub mod Traps
+pub mod Values
