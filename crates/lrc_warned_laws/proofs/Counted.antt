@@ -18,7 +18,7 @@ use Rattle.lrc_warned_laws.proofs.Listed.{to_mapped, to_zipped}
 use Rattle.lrc_warned.specs.Places.{statement_at}
 use Rattle.lrc_warned_laws.specs.Comes.{statements_of_text}
 
-same_sum : {A B : Type 0} (a c : List A) (b d : List B) → length a ≡ length b → length c ≡ length d → length (a ++ c) ≡ length (b ++ d)
+pub same_sum : {A B : Type 0} (a c : List A) (b d : List B) → length a ≡ length b → length c ≡ length d → length (a ++ c) ≡ length (b ++ d)
 same_sum a c b d one other = omega (arith, length-append a c, length-append b d)
 
 mutual

@@ -1,5 +1,6 @@
 -- A lock is held, or is not, wherever a node comes to what stands under an acquire, or a release, of it.
-use Rattle.std.proofs.Common.{◌≡◌, inl, inr, ◌∙◌, ◌<◌, ◌+◌, ℕ, zero, suc, Bool, true, false, Some, List, [], ◌∷◌, ◌++◌, append-nil, append_assoc, drop, length, replicate, refl, sym, ap, ap₂, subst, arith}
+use Rattle.std.proofs.Common.{◌≡◌, inl, inr, ◌∙◌, ◌<◌, ◌+◌, ℕ, zero, suc, Bool, true, false, Some, List, [], ◌∷◌, ◌++◌, append-nil, append_assoc}
+use Rattle.std.proofs.Common.{drop, length, replicate, refl, sym, ap, ap₂, subst, arith}
 use Rattle.std.specs.Prelude.{◌||◌, if◌then◌else◌, not, slice_index_or, slice_set}
 use Rattle.std.specs.List.{list_any}
 use Rattle.std.proofs.lemmas.Bool.{cases_eq}
@@ -23,7 +24,8 @@ use Rattle.lrc_warned.specs.Held.{Path, at_start, beside, enters, passes as pass
 use Rattle.lrc_warned.specs.Inside.{statements_in, within}
 use Rattle.lrc_warned.specs.Words.{may_be}
 use Rattle.lrc_warned_laws.proofs.Absent.{not_other}
-use Rattle.lrc_warned_laws.proofs.Moves.{IsPlain, Moved, Moves, a_barrier, a_print, a_write, along, assigns, reads, acquires, releases, passes, branches, loops}
+use Rattle.lrc_warned_laws.proofs.Moves.{IsPlain, Moved, Moves, a_barrier, a_print, a_write, along, assigns, reads, acquires, releases, passes}
+use Rattle.lrc_warned_laws.proofs.Moves.{branches, loops}
 use Rattle.lrc_warned_laws.proofs.Reached.{row_is}
 use Rattle.lrc_warned_laws.proofs.Values.{constant_is, constant_value}
 

@@ -1,5 +1,6 @@
 -- What is in lists that are made of others, and the places of tokens.
-use Rattle.std.proofs.Common.{◌≡◌, inl, inr, ◌∙◌, ◌<◌, ◌≤◌, ◌+◌, ℕ, zero, suc, Bool, true, false, Option, Some, None, List, [], ◌∷◌, ◌++◌, length, map, drop, refl, sym, ap, ap₂, subst, arith}
+use Rattle.std.proofs.Common.{◌≡◌, inl, inr, ◌∙◌, ◌<◌, ◌≤◌, ◌+◌, ℕ, zero, suc, Bool, true, false, Option, Some, None, List, [], ◌∷◌, ◌++◌, length}
+use Rattle.std.proofs.Common.{map, drop, refl, sym, ap, ap₂, subst, arith}
 use Rattle.std.specs.Prelude.{◌||◌, if◌then◌else◌, slice_get, slice_index_or}
 use Rattle.std.specs.List.{Contains, enumerate_from, flat_map, list_any, range_with_len, zip}
 use Rattle.std.proofs.lemmas.List.Elements.{Contains-append_cases}
@@ -36,7 +37,7 @@ in_flat f (x ∷ xs) y c =
       | inr h ↦ let one = in_flat f xs y h in record { k = suc one.k; x = one.x; at = one.at; has = one.has }
     ]
 
-enumerated : {A : Type 0} (n : ℕ) (xs : List A) (k : ℕ) (p : ℕ × A) → slice_get (enumerate_from n xs) k ≡ Some p
+pub enumerated : {A : Type 0} (n : ℕ) (xs : List A) (k : ℕ) (p : ℕ × A) → slice_get (enumerate_from n xs) k ≡ Some p
     → (p.0 ≡ n + k) × (slice_get xs k ≡ Some p.1)
 enumerated n [] k p is = cc
 enumerated n (x ∷ xs) zero p is =
@@ -59,7 +60,7 @@ in_each f xs y c =
     let h = enumerated 0 xs one.k one.x one.at in
     record { k = one.k; x = one.x.1; at = h.1; has = subst (λ n. Contains (f n one.x.1) y) (h.0 ∙ zero_more one.k) one.has }
 
-in_range_from : (n many k : ℕ) (x : ℕ) → slice_get (range_with_len n many) k ≡ Some x → (x ≡ n + k) × (k < many)
+pub in_range_from : (n many k : ℕ) (x : ℕ) → slice_get (range_with_len n many) k ≡ Some x → (x ≡ n + k) × (k < many)
 in_range_from n zero k x is = cc
 in_range_from n (suc many) zero x is = (sym (same_Some n x is) ∙ omega arith, omega arith)
 in_range_from n (suc many) (suc k) x is = let h = in_range_from (n + 1) many k x is in (omega (arith, h.0), omega (arith, h.1))

@@ -1,5 +1,6 @@
 -- What holds of a node as long as it goes round a loop.
-use Rattle.std.proofs.Common.{◌≡◌, ◌⊎◌, inl, inr, ◌∙◌, ℕ, Bool, true, false, Some, List, [], ◌∷◌, ◌++◌, append_assoc, drop, refl, sym, ap, ap₂, subst, arith}
+use Rattle.std.proofs.Common.{◌≡◌, ◌⊎◌, inl, inr, ◌∙◌, ℕ, Bool, true, false, Some, List, [], ◌∷◌, ◌++◌, append_assoc, drop, refl, sym, ap, ap₂}
+use Rattle.std.proofs.Common.{subst, arith}
 use Rattle.std.specs.Prelude.{◌==◌, ◌&&◌, ◌||◌, not, slice_index, slice_set}
 use Rattle.std.specs.List.{AllByRecursion, Contains, list_any}
 use Rattle.std.proofs.lemmas.Bool.{eqb-false}
@@ -32,7 +33,8 @@ use Rattle.lrc_warned.specs.Places.{places_in}
 use Rattle.lrc_warned_laws.specs.Comes.{IsAt, statements_of_text, thread_to, walk_to}
 use Rattle.lrc_warned_laws.specs.Loops.{IsInLoop, condition_value}
 use Rattle.lrc_warned_laws.proofs.Listed.{in_flat, in_found_at}
-use Rattle.lrc_warned_laws.proofs.Moves.{IsPlain, a_barrier, a_print, a_write, Moved, Moves, along_from, assigns, reads, acquires, releases, passes, branches, loops, statements}
+use Rattle.lrc_warned_laws.proofs.Moves.{IsPlain, a_barrier, a_print, a_write, Moved, Moves, along_from, assigns, reads, acquires, releases, passes}
+use Rattle.lrc_warned_laws.proofs.Moves.{branches, loops, statements}
 use Rattle.lrc_warned_laws.proofs.Reached.{comes_to, row_is}
 
 -- ---- what no statement in the loop does

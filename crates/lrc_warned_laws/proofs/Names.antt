@@ -85,7 +85,8 @@ module _ (program : Program) (tokens : List Token) (name : ℕ)
       (λ walk after agrees stand zeroed moved.
       kept_by walk.thread after.thread moved.task moved.more after.todo
       (unset (places_in Statements tokens) moved.task
-      (All-head (StandsAmong (in_order program.statements.items) (places_in Statements tokens)) moved.task moved.more (subst (All (StandsAmong (in_order program.statements.items) (places_in Statements tokens))) moved.todo stand)))
+      (All-head (StandsAmong (in_order program.statements.items) (places_in Statements tokens)) moved.task moved.more
+      (subst (All (StandsAmong (in_order program.statements.items) (places_in Statements tokens))) moved.todo stand)))
       moved.moves zeroed)
       (starts_zero 32 name) acts
 

@@ -88,7 +88,8 @@ module _ (program : Program) (tokens : List Token) where
       let all : All (StandsAmong (in_order program.statements.items) (places_in Statements tokens)) (here.task ∷ here.more) =
       subst (All (StandsAmong (in_order program.statements.items) (places_in Statements tokens))) here.todo
       (stand_behind program nodes (places_in Statements tokens) acts node) in
-      let stands : StandsAmong (in_order program.statements.items) (places_in Statements tokens) here.task = All-head (StandsAmong (in_order program.statements.items) (places_in Statements tokens)) here.task here.more all in (
+      let stands : StandsAmong (in_order program.statements.items) (places_in Statements tokens) here.task =
+      All-head (StandsAmong (in_order program.statements.items) (places_in Statements tokens)) here.task here.more all in (
         stands,
         place_once Statements 6 true (drop 6 tokens) (length stands.before) k at
             (first_dropped (length stands.before) (places_in Statements tokens) at

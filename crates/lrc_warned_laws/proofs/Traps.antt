@@ -1,5 +1,6 @@
 -- What traps where a node comes to a statement of which that is said.
-use Rattle.std.proofs.Common.{◌≡◌, ◌⊎◌, inl, inr, ◌∙◌, ◌<◌, ◌+◌, ℕ, drop, zero, suc, Bool, true, false, Option, Some, None, List, [], ◌∷◌, ◌++◌, length, take, refl, sym, ap, subst, arith}
+use Rattle.std.proofs.Common.{◌≡◌, ◌⊎◌, inl, inr, ◌∙◌, ◌<◌, ◌+◌, ℕ, drop, zero, suc, Bool, true, false, Option, Some, None, List, [], ◌∷◌, ◌++◌}
+use Rattle.std.proofs.Common.{length, take, refl, sym, ap, subst, arith}
 use Rattle.std.specs.Prelude.{◌&&◌, if◌then◌else◌, is_some, nat_lt, not, option_map, slice_get, slice_index_or}
 use Rattle.std.specs.List.{Contains, flat_map, range_with_len, zip}
 use Rattle.std.proofs.lemmas.Bool.{lt-ltb}
@@ -12,13 +13,15 @@ use Rattle.lrc_lang.specs.declared.program.Program.{Program}
 use Rattle.lrc_lang.specs.declared.program.Statement.{Statement}
 use Rattle.lrc_lang.specs.declared.program.Statement.TheVariants.{Assign, Read, Write, Acquire, Release, Barrier, Print, If', While'}
 use Rattle.lrc_lang.specs.Grammar.{IsProgram}
-use Rattle.lrc_lang.specs.Statements.{Expression as Part, Statement as Tree, assign, read, write, acquire, release, barrier, print, if_else, while_do, expression_of, statement_of, block_of}
+use Rattle.lrc_lang.specs.Statements.{Expression as Part, Statement as Tree, assign, read, write, acquire, release, barrier, print, if_else}
+use Rattle.lrc_lang.specs.Statements.{while_do, expression_of, statement_of, block_of}
 use Rattle.lrc_lang.specs.Token.{Token}
 use Rattle.lrc_lang.specs.Tree.{program_of}
 use Rattle.lrc_trace.specs.declared.act.Act.{Act}
 use Rattle.lrc_trace.specs.declared.act.Cause.{Cause}
 use Rattle.lrc_trace.specs.declared.act.Cause.TheVariants as causes
-use Rattle.lrc_exec.specs.Meaning.{Thread, Next, reads, writes, acquires, releases, traps, holds, if_below, next_of_statement, one_if, or_trap, then_does, then_holds, then_keeps, value_in}
+use Rattle.lrc_exec.specs.Meaning.{Thread, Next, reads, writes, acquires, releases, traps, holds, if_below, next_of_statement, one_if, or_trap}
+use Rattle.lrc_exec.specs.Meaning.{then_does, then_holds, then_keeps, value_in}
 use Rattle.lrc_lines.proofs.Agreeing.{agrees_behind}
 use Rattle.lrc_warned.specs.declared.found.Found.{Found}
 use Rattle.lrc_warned.specs.declared.found.Kind.{Kind}
@@ -30,7 +33,8 @@ use Rattle.lrc_warned.specs.Access.{lock_beyond, no_such_lock, no_such_lock_at, 
 use Rattle.lrc_warned.specs.Blocks.{is_barrier}
 use Rattle.lrc_warned.specs.Constant.{constant_of}
 use Rattle.lrc_warned.specs.Found.{NodeAt, StatementAt, found_at}
-use Rattle.lrc_warned.specs.Held.{Path, held_already, held_already_at, held_at_barrier, held_at_barrier_at, is_under, least_held, not_held, not_held_at, with_path}
+use Rattle.lrc_warned.specs.Held.{Path, held_already, held_already_at, held_at_barrier, held_at_barrier_at, is_under, least_held, not_held}
+use Rattle.lrc_warned.specs.Held.{not_held_at, with_path}
 use Rattle.lrc_warned.specs.Inside.{nodes_of, statements_in}
 use Rattle.lrc_warned.specs.Locks as lock_specs
 use Rattle.lrc_warned.specs.Operations.{below_zero, below_zero_kind, division_by_zero, division_kind}
@@ -39,7 +43,8 @@ use Rattle.lrc_warned_laws.specs.Comes.{IsAt, TrapsAt, nodes_of_text, paths_of_t
 use Rattle.lrc_warned_laws.specs.Traps.{IsPartAt, TrapsBehind, trap_of_access, trap_of_first}
 use Rattle.lrc_warned_laws.proofs.Counted.{placed}
 use Rattle.lrc_warned_laws.proofs.Held.{Chained, fact, first, known_at, known_behind}
-use Rattle.lrc_warned_laws.proofs.Listed.{first_dropped, in_each, in_flat, in_found_at, in_found_if, in_none, in_range, index_or, length_range, zero_more, joined, mapped, place_once, zipped}
+use Rattle.lrc_warned_laws.proofs.Listed.{first_dropped, in_each, in_flat, in_found_at, in_found_if, in_none, in_range, index_or, length_range}
+use Rattle.lrc_warned_laws.proofs.Listed.{zero_more, joined, mapped, place_once, zipped}
 use Rattle.lrc_warned_laws.proofs.Moves.{statements}
 use Rattle.lrc_warned_laws.proofs.Reached.{comes_to, numbered, setting_is, traps_at}
 use Rattle.lrc_warned_laws.proofs.Values.{below_zero_is, constant_is, constant_value, division_traps}
@@ -423,15 +428,15 @@ module _ (program : Program) (tokens : List Token) where
 
 -- ---- parts of expressions
 
-record InFlat {A B : Type 0} (f : A → List B) (xs : List A) (j : ℕ) (y : B) : Type 0 where
-  k : ℕ
-  x : A
-  m : ℕ
-  at : slice_get xs k ≡ Some x
-  has : slice_get (f x) m ≡ Some y
-  number : length (flat_map f (take k xs)) + m ≡ j
+pub record InFlat {A B : Type 0} (f : A → List B) (xs : List A) (j : ℕ) (y : B) : Type 0 where
+  pub k : ℕ
+  pub x : A
+  pub m : ℕ
+  pub at : slice_get xs k ≡ Some x
+  pub has : slice_get (f x) m ≡ Some y
+  pub number : length (flat_map f (take k xs)) + m ≡ j
 
-split_at : {A : Type 0} (a b : List A) (j : ℕ) (y : A) → slice_get (a ++ b) j ≡ Some y
+pub split_at : {A : Type 0} (a b : List A) (j : ℕ) (y : A) → slice_get (a ++ b) j ≡ Some y
     → (slice_get a j ≡ Some y) ⊎ ((i : ℕ) × (slice_get b i ≡ Some y) × (length a + i ≡ j))
 split_at [] b j y is = inr (j, is, zero_more j)
 split_at (x ∷ a) b zero y is = inl is
@@ -440,7 +445,7 @@ split_at (x ∷ a) b (suc j) y is = elim (split_at a b j y is) [
   | inr (i, h, same) ↦ inr (i, h, omega (arith, same))
 ]
 
-in_flat_at : {A B : Type 0} (f : A → List B) (xs : List A) (j : ℕ) (y : B) → slice_get (flat_map f xs) j ≡ Some y → InFlat f xs j y
+pub in_flat_at : {A B : Type 0} (f : A → List B) (xs : List A) (j : ℕ) (y : B) → slice_get (flat_map f xs) j ≡ Some y → InFlat f xs j y
 in_flat_at f [] j y is = cc
 in_flat_at f (x ∷ xs) j y is = elim (split_at (f x) (flat_map f xs) j y is) [
   | inl h ↦ record { k = 0; x = x; m = j; at = refl; has = h; number = zero_more j }
