@@ -7,6 +7,8 @@ pub mod Loops
 pub mod Made
 pub mod Moves
 pub mod Names
+pub mod PartsCounted
 pub mod Reached
 pub mod Traps
+pub mod Unread
 pub mod Values

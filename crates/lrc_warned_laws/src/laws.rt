@@ -2,7 +2,7 @@
 //
 // Where nodes come, acts lead them, whatever the reads among them give: acts of the plain machine, of the nodes, or of any memory.
 
-ghost use Rattle.std.specs.Prelude.{◌≡◌, ◌≢◌, ◌<◌, ◌≤◌, ◌⊎◌, ◌++◌, ℕ, Bool, true, false, List, slice_index};
+ghost use Rattle.std.specs.Prelude.{◌≡◌, ◌≢◌, ◌<◌, ◌≤◌, ◌⊎◌, ◌↔◌, ◌++◌, ℕ, Bool, true, false, List, Some, slice_index, slice_set};
 ghost use Rattle.std.specs.List.{Contains};
 ghost use Rattle.lrc_lang.specs.declared.program.Expression as code;
 ghost use Rattle.lrc_lang.specs.declared.program.Program.{Program};
@@ -20,15 +20,15 @@ ghost use Rattle.lrc_trace.specs.Run.{Does, IsDone};
 ghost use Rattle.lrc_exec.specs.Condition.{condition_holds};
 ghost use Rattle.lrc_exec.specs.Meaning.{Thread, holds, one_if, value_in};
 ghost use Rattle.lrc_exec.specs.Plain.{plain};
-ghost use Rattle.lrc_consistency_laws.specs.Follows.{FollowsText};
+ghost use Rattle.lrc_consistency_laws.specs.Follows.{FollowsText, Makes};
 ghost use Rattle.lrc_warned.specs.declared.found.Kind.TheVariants.{BelowZero, DivisionByZero, HeldAlready, HeldAtBarrier, LearnsNothing};
-ghost use Rattle.lrc_warned.specs.declared.found.Kind.TheVariants.{NeverReleased};
+ghost use Rattle.lrc_warned.specs.declared.found.Kind.TheVariants.{NeverRead, NeverReleased};
 ghost use Rattle.lrc_warned.specs.declared.found.Kind.TheVariants.{NeverSet, NeverWritten, NoSuchLock, NoSuchWord, NotHeld, UnchangedCondition};
 ghost use Rattle.lrc_warned.specs.Access.{no_such_lock, no_such_word};
 ghost use Rattle.lrc_warned.specs.Blocks.{learning_nothing, unchanged_conditions};
 ghost use Rattle.lrc_warned.specs.Held.{held_already, held_at_barrier, not_held};
 ghost use Rattle.lrc_warned.specs.Locks.{never_released};
-ghost use Rattle.lrc_warned.specs.Names.{never_set};
+ghost use Rattle.lrc_warned.specs.Names.{never_read, never_set};
 ghost use Rattle.lrc_warned.specs.Operations.{below_zero, division_by_zero};
 ghost use Rattle.lrc_warned.specs.Words.{never_written};
 ghost use Rattle.lrc_warned_laws.specs.Comes.{IsAt, TrapsAt, nodes_of_text, paths_of_text, statements_of_text, thread_to, walk_to};
@@ -160,4 +160,14 @@ pub fn a_loop_that_learns_nothing_knows_no_more()
         → (nodes node : ℕ) (acts : List Act) → FollowsText program nodes acts → node < nodes → (i j : ℕ) → GoesRound program tokens nodes acts node at i j
         → ReadsLazily acts → (k word earlier value : ℕ) → i ≤ k → k ≤ j → Does acts k node (Read word earlier) → Does acts j node (Read word value)
         → ((l own : ℕ) → k ≤ l → l ≤ j → ¬ Does acts l node (Write word own)) → AreOrdered acts k word → earlier ≡ value }
+{}
+
+/// The value of a name of which it is said that it is set and never read changes nothing: wherever acts lead a node, its thread makes the
+/// same deeds from there on, whatever the name has as its value.
+pub fn a_name_that_is_never_read_changes_nothing()
+    ensures { (program : Program) (tokens : List Token) (at name : ℕ) → IsProgram (program_of program) tokens
+        → Contains (never_read (nodes_of_text program tokens) (statements_of_text program tokens)) (record { at = at; kind = NeverRead name })
+        → (nodes : ℕ) (acts : List Act) (node value : ℕ) (deeds : List Deed)
+        → let thread = thread_to program tokens nodes acts node in
+        Makes (Some thread) deeds ↔ Makes (Some (record thread { privates = slice_set thread.privates name value })) deeds }
 {}
