@@ -1,5 +1,5 @@
 -- As many parts of expressions have places as there are.
-use Rattle.std.proofs.Common.{◌≡◌, ◌∙◌, ◌+◌, ℕ, suc, List, [], ◌∷◌, ◌++◌, append-nil, length, refl, sym, ap, arith}
+use Rattle.std.proofs.Common.{◌≡◌, ◌∙◌, List, [], ◌∷◌, ◌++◌, append-nil, length, refl, sym, ap, arith}
 use Rattle.std.specs.List.{flat_map}
 use Rattle.std.proofs.lemmas.Grind.{flat_map-append}
 use Rattle.std.proofs.lemmas.List.{length-append, length-map}
@@ -15,7 +15,6 @@ use Rattle.lrc_warned.specs.Inside.{nodes_in, nodes_of, statements_in, within}
 use Rattle.lrc_warned.specs.Places.{places_in}
 use Rattle.lrc_warned.proofs.Derived.{nodes_stand}
 use Rattle.lrc_warned_laws.proofs.Counted.{same_sum}
-
 
 same_join : {A B : Type 0} (a : List A) (x : List B) (c : List A) (y : List B) (p : A) (n : B) → length a ≡ length x → length c ≡ length y
     → length (a ++ p ∷ c) ≡ length (x ++ n ∷ y)

@@ -1,7 +1,7 @@
 -- A name that no expression reads: threads that differ in it alone make the same deeds.
-use Rattle.std.proofs.Common.{◌≡◌, ◌≢◌, ◌↔◌, ◌⊎◌, inl, inr, ◌∙◌, ◌<◌, ◌≤◌, ◌+◌, ℕ, zero, suc, Bool, true, false, Option, Some, None, List, [], ◌∷◌, ◌++◌}
-use Rattle.std.proofs.Common.{append-nil, drop, length, map, refl, sym, ap, ap₂, subst, arith}
-use Rattle.std.specs.Prelude.{◌==◌, ◌||◌, if◌then◌else◌, find, nat_lt, option_map, slice_get, slice_index, slice_index_or, slice_set}
+use Rattle.std.proofs.Common.{◌≡◌, ◌≢◌, ◌↔◌, ◌∙◌, ℕ, zero, suc, Bool, true, false, Option, Some, None, List, [], ◌∷◌, ◌++◌}
+use Rattle.std.proofs.Common.{append-nil, length, map, refl, sym, ap, subst, arith}
+use Rattle.std.specs.Prelude.{◌||◌, if◌then◌else◌, find, nat_lt, option_map, slice_index, slice_index_or, slice_set}
 use Rattle.std.specs.List.{All, AllByRecursion, Contains, flat_map, list_any, range_with_len, zip}
 use Rattle.std.proofs.lemmas.Bool.{eq-eqb}
 use Rattle.std.proofs.lemmas.List.{map-append}
@@ -14,10 +14,9 @@ use Rattle.lrc_lang.specs.declared.program.Statement.{Statement, Row_of-Statemen
 use Rattle.lrc_lang.specs.declared.program.Statement.TheVariants.{Assign, Read, Write, Acquire, Release, Barrier, Print, If', While'}
 use Rattle.lrc_lang.specs.Statements.{Expression as Part, private, Statement as Tree, expression_of, statement_of, row_of, block_of}
 use Rattle.lrc_trace.specs.declared.act.Cause.{Cause}
-use Rattle.lrc_trace.specs.declared.act.Cause.TheVariants as causes
 use Rattle.lrc_trace.specs.declared.act.Deed.{Deed}
 use Rattle.lrc_exec.specs.Meaning.{Thread, Next, quiet, prints, reads, writes, acquires, releases, arrives, departs, traps, ends}
-use Rattle.lrc_exec.specs.Meaning.{block, chosen, first_act, holds, if_below, next_of, next_of_statement, or_trap, value_in, value_of}
+use Rattle.lrc_exec.specs.Meaning.{block, chosen, first_act, holds, next_of, next_of_statement, or_trap, value_in, value_of}
 use Rattle.lrc_consistency_laws.specs.Follows.{Goes, Makes, nothing_more, and_then, quietly, printing, reading, writing, acquiring, releasing, arriving, departing, trapping, ending}
 use Rattle.lrc_lang.specs.Grammar.{IsProgram}
 use Rattle.lrc_lang.specs.Token.{Token}
@@ -182,13 +181,22 @@ module _ (name : ℕ) where
 
     after_set : (k v : ℕ) → Twins (record t { rest = rest; privates = slice_set t.privates k v }) (record u { rest = rest; privates = slice_set u.privates k v })
     after_set k v = record {
-      setting = setting; rest = refl; held = held; arrived = stays;
-      privates = but_set name k v t.privates u.privates privates; unread = others;
+      setting = setting;
+      rest = refl;
+      held = held;
+      arrived = stays;
+      privates = but_set name k v t.privates u.privates privates;
+      unread = others;
     }
 
     after_held : (l : ℕ) (b : Bool) → Twins (record t { rest = rest; held = slice_set t.held l b }) (record u { rest = rest; held = slice_set u.held l b })
     after_held l b = record {
-      setting = setting; rest = refl; held = ap (λ h. slice_set h l b) held; arrived = stays; privates = privates; unread = others;
+      setting = setting;
+      rest = refl;
+      held = ap (λ h. slice_set h l b) held;
+      arrived = stays;
+      privates = privates;
+      unread = others;
     }
 
     chosen_both : (v : ℕ) (a b : List Statement) → AllUnread a → AllUnread b → AllUnread (chosen v a b)
@@ -250,7 +258,12 @@ module _ (name : ℕ) where
   next_alike t u twins =
       if_both t.arrived u.arrived _ _ _ _ twins.arrived
       (depart_both (record {
-        setting = twins.setting; rest = twins.rest; held = twins.held; arrived = refl; privates = twins.privates; unread = twins.unread;
+        setting = twins.setting;
+        rest = twins.rest;
+        held = twins.held;
+        arrived = refl;
+        privates = twins.privates;
+        unread = twins.unread;
       }))
       (subst (λ l. Alike (first_act t t.rest) (first_act u l)) twins.rest (first_alike t u twins t.rest twins.unread))
 
@@ -312,9 +325,10 @@ module _ (program : Program) (tokens : List Token) (name : ℕ)
 
   todo_unread : (lines : List ℕ) (todo : List Task) → All (StandsAmong (in_order program.statements.items) lines) todo → AllUnread name (statements todo)
   todo_unread lines [] stand = tt
-  todo_unread lines (task ∷ todo) stand =
-      (task_unread lines task (All-head (StandsAmong (in_order program.statements.items) lines) task todo stand),
-      todo_unread lines todo (All-tail (StandsAmong (in_order program.statements.items) lines) task todo stand))
+  todo_unread lines (task ∷ todo) stand = (
+    task_unread lines task (All-head (StandsAmong (in_order program.statements.items) lines) task todo stand),
+    todo_unread lines todo (All-tail (StandsAmong (in_order program.statements.items) lines) task todo stand),
+  )
 
   same_deeds : (nodes : ℕ) (acts : List Act) (node value : ℕ) (deeds : List Deed)
       → let t = thread_to program tokens nodes acts node in Makes (Some t) deeds ↔ Makes (Some (record t { privates = slice_set t.privates name value })) deeds
@@ -329,8 +343,12 @@ module _ (program : Program) (tokens : List Token) (name : ℕ)
             (record { setting = refl; rest = refl; held = refl; arrived = refl; privates = but_here name value t.privates; unread = unread }),
         twins_make name u t deeds
             (record {
-              setting = refl; rest = refl; held = refl; arrived = refl;
-              privates = but_sym name t.privates u.privates (but_here name value t.privates); unread = unread;
+              setting = refl;
+              rest = refl;
+              held = refl;
+              arrived = refl;
+              privates = but_sym name t.privates u.privates (but_here name value t.privates);
+              unread = unread;
             }),
       )
 
