@@ -5,18 +5,21 @@ ghost use Rattle.lrc_judge.specs.declared.TheConstants.{NODES};
 ghost use Rattle.lrc_text.specs.Parts.{whole_text};
 ghost use Rattle.lrc_exec.specs.Plain.{plain};
 ghost use Rattle.lrc_exec.specs.Nodes.{AreNodes};
-ghost use Rattle.lrc_explore.specs.Limit.{FitsIn, HasMoreStates};
+ghost use Rattle.lrc_breadth.specs.Answers.{FitsSettled, IsAnswer, MetTooMany};
 ghost use Rattle.lrc_explore.specs.Stuck.{GetsStuck};
-ghost use Rattle.lrc_explore.specs.Verdict.{FindsNoRace, IsVerdict, LeadsToRace, NeverStuck, NeverStuckBefore};
+ghost use Rattle.lrc_explore.specs.Verdict.{EndsInRace, FindsNoRace, NeverStuck};
+ghost use Rattle.lrc_causes.specs.Told.{TellsRace};
+ghost use Rattle.lrc_trace.specs.declared.act.Act.{Act as ActType};
 ghost use Rattle.lrc_consistency_laws.specs.Racing.{HasNoRace};
 ghost use Rattle.lrc_explore_text.specs.Orders.{TellsOrders, ends_text, order_text};
 
 use crate::explored::Printout;
 use crate::last_races::races_at;
 use lrc_acts_text::acts_part;
+use lrc_breadth::answers::explore;
 use lrc_exec::code::Code;
 use lrc_exec::plain::plain_run;
-use lrc_explore::search::{ExploreFault, Verdict, explore};
+use lrc_explore::search::{ExploreFault, Verdict};
 use lrc_lang::program::Program;
 use lrc_lines::walks::lines_of_acts;
 use lrc_stuck::stuck_part;
@@ -34,9 +37,9 @@ pub(crate) fn orders_told(
 ) -> Result<Printout, ExploreFault>
     requires { AreNodes nodes }
     ensures ok { IfOk result (λ printout. TellsOrders program.now nodes lines.now (whole_text printout.parts.items) printout.status) }
-    ensures fits { IfOk result (λ printout. printout.status ≢ 3 → FitsIn program.now nodes most) }
+    ensures fits { IfOk result (λ printout. printout.status ≢ 3 → FitsSettled program.now nodes most) }
     ensures nodes { IfErr result (λ fault. fault ≢ ExploreFault.BadNodes) }
-    ensures too_many { IfErr result (λ fault. fault ≡ ExploreFault.TooMany → HasMoreStates program.now nodes most) }
+    ensures too_many { IfErr result (λ fault. fault ≡ ExploreFault.TooMany → MetTooMany program.now nodes most) }
 {
     let verdict = explore(alloc, program, nodes, most)?;
     let printout = verdict_told(alloc, program, lines, nodes as u8, &verdict)?;
@@ -51,7 +54,7 @@ fn verdict_told(
     verdict: &Verdict,
 ) -> Result<Printout, AllocError>
     requires nodes { AreNodes nodes }
-    requires verdict { IsVerdict program.now nodes verdict.now }
+    requires verdict { IsAnswer program.now nodes verdict.now }
     ensures ok { IfOk result (λ printout. TellsOrders program.now nodes lines.now (whole_text printout.parts.items) printout.status) }
     ensures free { IfOk result (λ printout. printout.status ≢ 3 → FindsNoRace verdict.now) }
 {
@@ -91,7 +94,6 @@ fn stuck_told(
     requires nodes { AreNodes nodes }
     requires free { HasNoRace program.now nodes }
     requires stuck { GetsStuck program.now nodes order.now }
-    requires fewest { NeverStuckBefore program.now nodes order.now }
     ensures { IfOk result (λ printout. TellsOrders program.now nodes lines.now (whole_text printout.parts.items) printout.status) }
 {
     let acts = acts_of(alloc, program, nodes, order)?;
@@ -102,7 +104,7 @@ fn stuck_told(
     Ok(Printout { parts, status: 4 })
 }
 
-// An order that races, and its race.
+// What the earliest race of an order comes of.
 fn race_told(
     alloc: Global,
     program: &Program,
@@ -111,15 +113,16 @@ fn race_told(
     order: &[usize],
 ) -> Result<Printout, AllocError>
     requires nodes { AreNodes nodes }
-    requires leads { LeadsToRace program.now nodes order.now }
+    requires ends { EndsInRace program.now nodes order.now }
     ensures ok { IfOk result (λ printout. TellsOrders program.now nodes lines.now (whole_text printout.parts.items) printout.status) }
     ensures status { IfOk result (λ printout. printout.status ≡ 3) }
 {
-    let acts = acts_of(alloc, program, nodes, order)?;
+    let raced = acts_of(alloc, program, nodes, order)?;
+    let acts = lrc_causes::told::race_told(alloc, program, nodes, &raced)?;
     last_race_told(alloc, program, lines, nodes, &acts)
 }
 
-// The acts of an order whose last act races, and its races.
+// What an earliest race comes of, and its races.
 fn last_race_told(
     alloc: Global,
     program: &Program,
@@ -128,7 +131,7 @@ fn last_race_told(
     acts: &[Act],
 ) -> Result<Printout, AllocError>
     requires in_range { All (λ act. act.node < NODES) acts.now }
-    requires leads { (order : List ℕ) × (leads : LeadsToRace program.now nodes order) × (leads.run ≡ acts.now) }
+    requires tells { (order : List ℕ) × (run : List ActType) × (plain program.now nodes order ≡ Some run) × TellsRace program.now nodes run acts.now }
     ensures ok { IfOk result (λ printout. TellsOrders program.now nodes lines.now (whole_text printout.parts.items) printout.status) }
     ensures status { IfOk result (λ printout. printout.status ≡ 3) }
 {

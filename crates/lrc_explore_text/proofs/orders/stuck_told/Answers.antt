@@ -17,7 +17,7 @@ returns c =
     let ends = c.in_ok-ends.ends.items in
     let told_is = c.in_ok-told.ensures ∙ ap (λ (a : List Act). order_text program nodes lines a) c.deref.ensures.value in
     let ends_is = c.in_ok-ends.ensures ∙ ap (λ (a : List Act). ends_text program nodes lines a) c.deref-2.ensures.value in
-    of_stuck program nodes lines c.args.order.now acts c.in_ok-acts.ensures.acts c.requires.free c.requires.stuck c.requires.fewest
+    of_stuck program nodes lines c.args.order.now acts c.in_ok-acts.ensures.acts c.requires.free c.requires.stuck
     (whole_text c.in_ok-parts.parts.items)
     (c.in_ok-parts.ensures ∙ ap (λ (h : List ℕ). h ++ told ++ ends) c.in_ok-head.ensures.items
     ∙ ap (λ (t : List ℕ). head ++ t ++ ends) told_is ∙ ap (λ (e : List ℕ). head ++ order_text program nodes lines acts ++ e) ends_is)
