@@ -1,3 +1,4 @@
+pub mod Blanks
 pub mod Painted
 pub mod Placed
 pub mod Points

@@ -1,9 +1,10 @@
 -- How far things stand from the top of a picture, in pixels.
-use Rattle.std.specs.Prelude.{ℕ, ◌+◌, ◌-◌, ◌*◌, List, decimal, length, min, take}
+use Rattle.std.specs.Prelude.{ℕ, ◌+◌, ◌-◌, ◌*◌, List, decimal, length, max, min, take}
 use Rattle.lrc_chart_model.specs.declared.picture.Band.{Band}
 use Rattle.lrc_chart_model.specs.declared.picture.Picture.{Picture}
 use Rattle.lrc_chart_svg.specs.Frames.{frame_at, rows_foot}
 use Rattle.lrc_chart_svg.specs.Plan.{Plan}
+use Rattle.lrc_chart_svg.specs.Source.{source_foot}
 
 -- the height of the middle of a row's first line
 abbrev pub height : Plan → (row : ℕ) → ℕ
@@ -41,7 +42,10 @@ columns_top = 84
 abbrev pub columns_foot : Plan → Picture → ℕ
 columns_foot plan picture = rows_foot plan.frames + 10 + 20 * length picture.lost.items
 
--- how high the whole is: below the rows is a line for each message that was never taken, for each group of races and for each circle of waiting
+-- how high the run is: below the rows is a line for each message that was never taken, for each group of races and for each circle of waiting
+abbrev pub run_high : Plan → Picture → ℕ
+run_high plan picture = line_height plan (length picture.lost.items + length picture.races.items + length picture.deadlocks.items)
+
+-- how high the whole is: as high as this, and as the program's text
 abbrev pub picture_high : Plan → Picture → ℕ
-picture_high plan picture =
-    line_height plan (length picture.lost.items + length picture.races.items + length picture.deadlocks.items)
+picture_high plan picture = max (run_high plan picture) (source_foot (length picture.source.items))

@@ -8,5 +8,6 @@ pub mod Rooms
 pub mod Root
 pub mod Shown
 pub mod Sizes
+pub mod Source
 pub mod Ways
 pub mod Widths

@@ -1,10 +1,10 @@
 -- What a picture shows, in order: the title, the legend, barriers, columns, messages, races, rows, the kinds of messages that were never taken,
--- and circles of waiting. Each row, each message and each group of races is one element with one hint, each of the latter with one straight
+-- and circles of waiting, and the program's text. Each row, each message and each group of races is one element with one hint, each of the latter with one straight
 -- line, between the heights of its rows, and a sign at each end of it. A message that is taken again is dashed, one that is never taken ends in
 -- a cross, and a row's box has the border of its kind, and stands in the column of its node. The number of a group of races stands at both ends
 -- of its line and before its words. A barrier's band goes from its first row to its last, and across the picture. Below all these is the
 -- ground, as large as the picture.
-use Rattle.std.specs.Prelude.{ℕ, ◌+◌, ◌-◌, ◌==◌, Bool, true, false, List, [], ◌∷◌, ◌++◌, codes, decimal, if◌then◌else◌, length, nat_lt, take, Vec}
+use Rattle.std.specs.Prelude.{ℕ, ◌+◌, ◌-◌, ◌*◌, ◌/◌, ◌==◌, Bool, true, false, List, [], ◌∷◌, ◌++◌, codes, decimal, if◌then◌else◌, length, nat_lt, take, Vec}
 use Rattle.std.specs.declared.alloc.Global.{Global}
 use Rattle.std.specs.List.{flat_map}
 use Rattle.lrc_text.specs.Each.{each}
@@ -16,6 +16,7 @@ use Rattle.lrc_chart_model.specs.declared.picture.Lost.{Lost}
 use Rattle.lrc_chart_model.specs.declared.picture.Picture.{Picture}
 use Rattle.lrc_chart_model.specs.declared.picture.Race.{Race}
 use Rattle.lrc_chart_model.specs.declared.picture.Row.{Row}
+use Rattle.lrc_chart_model.specs.declared.picture.SourceLine.{SourceLine}
 use Rattle.lrc_chart_svg.specs.declared.flow.Flow.{Flow}
 use Rattle.lrc_chart_svg.specs.declared.frames.Frame.{Frame}
 use Rattle.lrc_chart_svg.specs.declared.style.Anchor.{Anchor}
@@ -27,7 +28,8 @@ use Rattle.lrc_chart_svg.specs.Heights.{band_high, band_top, columns_foot, colum
 use Rattle.lrc_chart_svg.specs.Marks.{Mark, begins, box, ends, hint, path, stroke, word}
 use Rattle.lrc_chart_svg.specs.Plan.{Plan, plan_of}
 use Rattle.lrc_chart_svg.specs.Rooms.{room_of}
-use Rattle.lrc_chart_svg.specs.Sizes.{picture_wide}
+use Rattle.lrc_chart_svg.specs.Sizes.{base_wide, picture_wide}
+use Rattle.lrc_chart_svg.specs.Source.{blanks, source_foot, source_wide}
 use Rattle.lrc_chart_svg.specs.Ways.{beside, beside_anchor, beyond, beyond_anchor, end_side, head, left, right, start_side, tail}
 
 -- the dashes of a line that runs through, and of a message
@@ -272,6 +274,23 @@ race_marks plan used place race =
 abbrev pub deadlock_marks : Plan → (used : ℕ) → ℕ → Vec ℕ Global → List Mark
 deadlock_marks plan used place words = words_from 8 (line_foot plan (used + place)) words.items ∷ []
 
+-- ---- the program's text
+
+-- around a line that an act of the rows shown is of, is a box
+abbrev pub line_box : (left foot wide : ℕ) → (marked : Bool) → List Mark
+line_box left foot wide true = framed (left + 4) (foot - 12) (wide - 8) 16 ∷ []
+line_box left foot wide false = []
+
+-- a line with its number before it, behind as many blanks as it begins with
+abbrev pub line_words : (left foot place : ℕ) → (words : List ℕ) → List Mark
+line_words left foot place words =
+    word (decimal (left + 44)) (decimal foot) (anchor_word End) (decimal (place + 1))
+    ∷ words_from (left + 54 + blanks words * 73 / 10) (decimal foot) words ∷ []
+
+abbrev pub source_marks : (left wide : ℕ) → (place : ℕ) → SourceLine → List Mark
+source_marks left wide place line =
+    line_box left (source_foot place) wide line.marked ++ line_words left (source_foot place) place line.words.items
+
 -- ---- all of it
 
 -- barriers, and columns over them
@@ -292,17 +311,22 @@ foot_marks plan picture =
     each (lost_label plan) picture.lost.items
     ++ each (deadlock_marks plan (length picture.lost.items + length picture.races.items)) picture.deadlocks.items
 
+-- these, and the program's text to the right of all else
+abbrev pub side_marks : Plan → (left : ℕ) → Picture → List Mark
+side_marks plan left picture =
+    foot_marks plan picture ++ each (source_marks left (source_wide picture.source.items)) picture.source.items
+
 -- the ground and the title
 abbrev pub title_marks : (wide high : ℕ) → List ℕ → List Mark
 title_marks wide high title = unframed 0 0 wide high ∷ words_from 8 (decimal 24) title ∷ []
 
--- all of it, by where columns and rows stand, by how wide and how high it is, and by where its columns end
-abbrev pub marks_by : Plan → (wide high foot : ℕ) → Picture → List Mark
-marks_by plan wide high foot picture =
+-- all of it, by where columns and rows stand, by how wide and how high it is, by where its columns end, and by where the program's text begins
+abbrev pub marks_by : Plan → (wide high foot left : ℕ) → Picture → List Mark
+marks_by plan wide high foot left picture =
     title_marks wide high picture.title.items
-    ++ legend_marks ++ ground_marks plan wide foot picture ++ run_marks plan picture ++ foot_marks plan picture
+    ++ legend_marks ++ ground_marks plan wide foot picture ++ run_marks plan picture ++ side_marks plan left picture
 
 abbrev pub picture_marks : Picture → List Mark
 picture_marks picture =
     let plan = plan_of picture in
-    marks_by plan (picture_wide plan picture) (picture_high plan picture) (columns_foot plan picture) picture
+    marks_by plan (picture_wide plan picture) (picture_high plan picture) (columns_foot plan picture) (base_wide plan picture) picture

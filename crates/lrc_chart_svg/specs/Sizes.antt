@@ -4,6 +4,7 @@ use Rattle.lrc_chart_model.specs.declared.picture.Picture.{Picture}
 use Rattle.lrc_chart_svg.specs.Flow.{letters, wide}
 use Rattle.lrc_chart_svg.specs.Plan.{Plan}
 use Rattle.lrc_chart_svg.specs.Rooms.{gap_of}
+use Rattle.lrc_chart_svg.specs.Source.{source_wide}
 use Rattle.lrc_chart_svg.specs.Widths.{next_left}
 
 -- the most letters of a group of races, and of these and a circle of waiting
@@ -23,7 +24,11 @@ title_right picture = wide (length picture.title.items) + 16
 abbrev pub legend_wide : ℕ
 legend_wide = 1092
 
--- how wide the whole is: there is room for these, and for each column and the gap behind it
-abbrev pub picture_wide : Plan → Picture → ℕ
-picture_wide plan picture =
+-- how wide it is without the program's text: there is room for these, and for each column and the gap behind it
+abbrev pub base_wide : Plan → Picture → ℕ
+base_wide plan picture =
     max (max (next_left (gap_of (length picture.columns.items)) plan.lanes) (max (words_right picture) (title_right picture))) legend_wide
+
+-- how wide the whole is: the program's text stands to the right of all else
+abbrev pub picture_wide : Plan → Picture → ℕ
+picture_wide plan picture = base_wide plan picture + source_wide picture.source.items

@@ -13,6 +13,7 @@ mod picture;
 mod races;
 mod rows;
 mod sizes;
+mod source;
 mod style;
 mod ways;
 

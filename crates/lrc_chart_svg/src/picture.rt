@@ -1,11 +1,12 @@
 // A picture as a document.
 
-ghost use Rattle.std.specs.Prelude.{◌≡◌, ◌++◌, ◌∷◌, [], IfOk, OnOk, codes, decimal, true};
+ghost use Rattle.std.specs.Prelude.{◌≡◌, ◌<◌, ◌^◌, ◌++◌, ◌∷◌, [], IfOk, OnOk, codes, decimal, true};
 ghost use Rattle.lrc_chart_svg.specs.Attributes.{said};
 ghost use Rattle.lrc_chart_svg.specs.Plan.{plan_in};
 ghost use Rattle.lrc_chart_svg.specs.Marks.{all_marks, is_space, named_once, attribute_value};
 ghost use Rattle.lrc_chart_svg.specs.Root.{IsRootOf, whole_said};
-ghost use Rattle.lrc_chart_svg.specs.Shown.{foot_marks, ground_marks, marks_by, picture_marks, run_marks};
+ghost use Rattle.lrc_chart_svg.specs.Shown.{foot_marks, ground_marks, marks_by, picture_marks, run_marks, side_marks};
+ghost use Rattle.lrc_chart_svg.specs.Source.{source_wide};
 
 use crate::arrows::{push_all_lost, push_arrows, push_lost_labels};
 use crate::heading::{push_columns, push_legend, push_title};
@@ -14,6 +15,7 @@ use crate::paint::{Point, push_attribute, push_pixels, push_point, push_value};
 use crate::races::{push_bands, push_deadlocks, push_races};
 use crate::rows::push_rows;
 use crate::sizes::Size;
+use crate::source::push_source;
 use lrc_chart_model::Picture;
 use lrc_svg::{Attribute, Content, Document, Key};
 use std::alloc::{AllocError, Global};
@@ -129,6 +131,29 @@ fn push_foot(
     push_deadlocks(alloc, contents, layout, used, picture.deadlocks.as_slice())
 }
 
+// Adds these, and the program's text.
+fn push_side(
+    alloc: Global,
+    contents: &mut Vec<Content>,
+    layout: &Layout,
+    size: Size,
+    picture: &Picture,
+) -> Result<(), AllocError>
+    requires near { size.left < 2 ^ 70 }
+    requires source { size.source ≡ source_wide picture.now.source.items }
+    ensures { OnOk result (all_marks contents.new.items
+        ≡ all_marks contents.old.items ++ side_marks (plan_in layout.now) size.left picture.now) }
+{
+    push_foot(alloc, contents, layout, picture)?;
+    push_source(
+        alloc,
+        contents,
+        size.left,
+        size.source,
+        picture.source.as_slice(),
+    )
+}
+
 // Adds all that a picture shows.
 fn push_picture(
     alloc: Global,
@@ -137,14 +162,16 @@ fn push_picture(
     size: Size,
     picture: &Picture,
 ) -> Result<(), AllocError>
-    ensures { OnOk result (all_marks contents.new.items
-        ≡ all_marks contents.old.items ++ marks_by (plan_in layout.now) size.whole.x size.whole.y size.foot picture.now) }
+    requires near { size.left < 2 ^ 70 }
+    requires source { size.source ≡ source_wide picture.now.source.items }
+    ensures { OnOk result (all_marks contents.new.items ≡ all_marks contents.old.items
+        ++ marks_by (plan_in layout.now) size.whole.x size.whole.y size.foot size.left picture.now) }
 {
     push_title(alloc, contents, size.whole, picture.title.as_slice())?;
     push_legend(alloc, contents)?;
     push_ground(alloc, contents, layout, size, picture)?;
     push_run(alloc, contents, layout, picture)?;
-    push_foot(alloc, contents, layout, picture)
+    push_side(alloc, contents, layout, size, picture)
 }
 
 /// The picture as a document: what it shows, in order, and how large it is, are the definitions'. Its elements are those of scalable vector
