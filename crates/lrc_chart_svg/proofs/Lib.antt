@@ -1,4 +1,5 @@
 pub mod Painted
+pub mod Placed
 pub mod Points
 pub mod Said
-pub mod Ways
+pub mod Signs

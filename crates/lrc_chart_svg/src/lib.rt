@@ -3,12 +3,17 @@
 #![tactic(auto)]
 
 mod arrows;
+mod flow;
+mod frames;
 mod heading;
+mod lanes;
 mod layout;
 mod paint;
 mod picture;
 mod races;
 mod rows;
+mod sizes;
 mod style;
+mod ways;
 
 pub use picture::document_of;
