@@ -87,6 +87,10 @@ pub struct Charting {
     /// The positions of the first and of the last act that it shows, where they are given.
     pub from: Option<u64>,
     pub to: Option<u64>,
+    /// Whether it leaves out the rows that have nothing but a quiet act.
+    pub hides_quiet: bool,
+    /// Whether the program's text stands beside it.
+    pub source: bool,
 }
 
 /// What is shown of a run.
@@ -167,6 +171,15 @@ pub struct ForeignActs<'w> {
     pub size: Size,
 }
 
+/// Acts from anywhere that are charted.
+#[derive(Clone, Copy)]
+pub struct ChartedActs<'w> {
+    /// The file of the text of acts; `-` is standard input.
+    pub file: &'w str,
+    /// How many nodes there are; where it is left out, one more than the greatest node that acts.
+    pub nodes: Option<Nodes>,
+}
+
 /// What is asked of the texts in files, each of which is read to its end.
 #[derive(Clone, Copy)]
 pub enum Choice<'w> {
@@ -186,6 +199,8 @@ pub enum Choice<'w> {
     Why(RunChoice<'w>, Asking),
     /// The same of acts from anywhere.
     WhyActs(ForeignActs<'w>, Asking),
+    /// A picture of acts from anywhere.
+    ChartActs(ChartedActs<'w>, Charting),
 }
 
 /// The name of a command.

@@ -19,6 +19,7 @@ impl<'w> Choice<'w> {
             Choice::Lint(file) => *file,
             Choice::Why(run, _) => run.options.file,
             Choice::WhyActs(acts, _) => acts.file,
+            Choice::ChartActs(acts, _) => acts.file,
         }
     }
 
@@ -26,7 +27,10 @@ impl<'w> Choice<'w> {
     pub fn reads_acts(&self) -> bool
         ensures { result ≡ reads_acts self.now }
     {
-        matches!(self, Choice::Judge(_) | Choice::WhyActs(_, _))
+        matches!(
+            self,
+            Choice::Judge(_) | Choice::WhyActs(_, _) | Choice::ChartActs(_, _)
+        )
     }
 
     /// The file of the events, if one is named.
