@@ -3,6 +3,7 @@ use Rattle.std.proofs.Common.{◌≡◌, ℕ, ◌+◌, ◌-◌, List, [], ◌++�
 use Rattle.std.specs.Prelude.{◌≢◌, Some, codes}
 use Rattle.std.proofs.lemmas.Option.{same_Some}
 use Rattle.lrc_lang.specs.declared.program.Program.{Program}
+use Rattle.lrc_labels.specs.Reading.{Label}
 use Rattle.lrc_trace.specs.declared.act.Act.{Act}
 use Rattle.lrc_trace.specs.declared.race.Race.{Race}
 use Rattle.lrc_trace.specs.Conflict.{IsFirstRace}
@@ -25,18 +26,18 @@ use Rattle.lrc_explore_text.proofs.Led.{plain_stuck}
 
 -- ---- either question
 
-module _ (program : Program) (nodes : ℕ) (lines : List ℕ) (outcomes : Bool) where
+module _ (labels : List Label) (program : Program) (nodes : ℕ) (lines : List ℕ) (outcomes : Bool) where
   pub of_outcomes : (r : Result Printout ExploreFault) → outcomes ≡ true → IfOk r (λ p. TellsOutcomes program nodes (whole_text p.parts.items))
-      → IfOk r (λ p. p.status ≡ 0) → IfOk r (λ p. Explores program nodes lines outcomes (whole_text p.parts.items) p.status)
+      → IfOk r (λ p. p.status ≡ 0) → IfOk r (λ p. Explores labels program nodes lines outcomes (whole_text p.parts.items) p.status)
   of_outcomes (Err fault) is text status = tt
   of_outcomes (Ok p) is text status =
-      subst (λ b. Explores program nodes lines b (whole_text p.parts.items) p.status) (sym is)
-      (subst (λ s. Explores program nodes lines true (whole_text p.parts.items) s) (sym status) (tells_outcomes text))
+      subst (λ b. Explores labels program nodes lines b (whole_text p.parts.items) p.status) (sym is)
+      (subst (λ s. Explores labels program nodes lines true (whole_text p.parts.items) s) (sym status) (tells_outcomes text))
 
-  pub of_orders : (r : Result Printout ExploreFault) → outcomes ≡ false → IfOk r (λ p. TellsOrders program nodes lines (whole_text p.parts.items) p.status)
-      → IfOk r (λ p. Explores program nodes lines outcomes (whole_text p.parts.items) p.status)
+  pub of_orders : (r : Result Printout ExploreFault) → outcomes ≡ false → IfOk r (λ p. TellsOrders labels program nodes lines (whole_text p.parts.items) p.status)
+      → IfOk r (λ p. Explores labels program nodes lines outcomes (whole_text p.parts.items) p.status)
   of_orders (Err fault) is text = tt
-  of_orders (Ok p) is text = subst (λ b. Explores program nodes lines b (whole_text p.parts.items) p.status) (sym is) (tells_orders text)
+  of_orders (Ok p) is text = subst (λ b. Explores labels program nodes lines b (whole_text p.parts.items) p.status) (sym is) (tells_orders text)
 
 module _ (program : Program) (nodes most : ℕ) (outcomes : Bool) (r : Result Printout ExploreFault) where
   pub more_noted : outcomes ≡ true → IfErr r (λ f. f ≡ TooMany → HasMoreNoted program nodes most)
@@ -55,17 +56,17 @@ module _ (program : Program) (nodes most : ℕ) (outcomes : Bool) (r : Result Pr
 
 -- ---- one order
 
-module _ (program : Program) (nodes : ℕ) (lines : List ℕ) (order : List ℕ) (acts : List Act) (led : plain program nodes order ≡ Some acts) where
+module _ (labels : List Label) (program : Program) (nodes : ℕ) (lines : List ℕ) (order : List ℕ) (acts : List Act) (led : plain program nodes order ≡ Some acts) where
   pub of_stuck : HasNoRace program nodes → (gets : GetsStuck program nodes order) → NeverStuckBefore program nodes order → (out : List ℕ)
-      → out ≡ codes "race free in every order\nsome order gets stuck:\n" ++ order_text program nodes lines acts ++ ends_text program nodes lines acts
-      → TellsOrders program nodes lines out 4
+      → out ≡ codes "race free in every order\nsome order gets stuck:\n" ++ order_text program nodes lines acts ++ ends_text labels program nodes lines acts
+      → TellsOrders labels program nodes lines out 4
   of_stuck free gets fewest out is =
       let same : acts ≡ gets.acts = same_Some acts gets.acts (sym led ∙ plain_stuck program nodes order gets) in
-      let whole = is ∙ ap (λ a. codes "race free in every order\nsome order gets stuck:\n" ++ order_text program nodes lines a ++ ends_text program nodes lines a) same in
-      subst (λ o. TellsOrders program nodes lines o 4) (sym whole) (stuck free gets fewest)
+      let whole = is ∙ ap (λ a. codes "race free in every order\nsome order gets stuck:\n" ++ order_text program nodes lines a ++ ends_text labels program nodes lines a) same in
+      subst (λ o. TellsOrders labels program nodes lines o 4) (sym whole) (stuck free gets fewest)
 
   pub of_race : LeadsToRace program nodes order → (last : ℕ) (races : List Race) → last ≡ length acts - 1 → AreRacesAt acts last races → (out : List ℕ)
-      → out ≡ order_text program nodes lines acts ++ races_text races ++ first_race_text (Some last) → TellsOrders program nodes lines out 3
+      → out ≡ order_text program nodes lines acts ++ races_text races ++ first_race_text (Some last) → TellsOrders labels program nodes lines out 3
   of_race leads last races at are out is =
       let same : acts ≡ leads.run = same_Some acts leads.run (sym led ∙ leads.is) in
       let long = leads.last in
@@ -77,4 +78,4 @@ module _ (program : Program) (nodes : ℕ) (lines : List ℕ) (order : List ℕ)
       subst (λ n. AreRacesAt leads.run n races) place (subst (λ a. AreRacesAt a last races) same are) in
       let is_first : IsFirstRace leads.run (leads.first + 1) =
       record { with = leads.first; races = leads.races; least = λ i j race. leads.earliest order leads.run i j leads.is race } in
-      subst (λ o. TellsOrders program nodes lines o 3) (sym whole) (racy leads is_first are')
+      subst (λ o. TellsOrders labels program nodes lines o 3) (sym whole) (racy leads is_first are')
