@@ -19,6 +19,7 @@ use Rattle.lrc_why_text.specs.declared.asked.Asked.{Asked}
 use Rattle.lrc_why_text.specs.declared.fault.WhyFault.TheVariants as why_faults
 use Rattle.lrc_world.specs.Ends.{ends_of}
 use Rattle.lrc_report.specs.ReportText.{report_text, status_of}
+use Rattle.lrc_cli.specs.Labels.{labels_in}
 use Rattle.lrc_cli.specs.Runs.{Account, IsRunFault, IsRunOfWay}
 use Rattle.lrc_cli.specs.Shown.{IsShowFault, IsShown, shown_status}
 use Rattle.lrc_cli.specs.declared.answer.Printout.{Printout}
@@ -64,11 +65,11 @@ pub record IsShowing (run : RunChoice) (shape : Shape) (text : List ℕ) (events
 abbrev pub judged_nodes : Judging → Option ℕ
 judged_nodes judging = option_map (λ nodes. nodes.count) judging.nodes
 
--- The text and the status are what is said of every order of the program that this text is of, and the search met no more states than it
--- may.
+-- The text and the status are what is said of every order of the program that this text is of, with the labels of the text, and the
+-- search met no more states than it may.
 abbrev pub IsExploration : Exploring → List ℕ → Program → List ℕ → ℕ → Type 0
 IsExploration exploring text program out status = (places : List ℕ) × HasLines text (program_of program) places
-    × Explores program exploring.nodes.count places exploring.outcomes out status
+    × Explores (labels_in text program) program exploring.nodes.count places exploring.outcomes out status
     × MeetsFew program exploring.nodes.count exploring.most.count exploring.outcomes status
 
 -- the text and the status are what `lint` says of the text of this file: that it is no program, or its warnings

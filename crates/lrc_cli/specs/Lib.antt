@@ -1,6 +1,7 @@
 pub mod Answer
 pub mod Charted
 pub mod FaultLine
+pub mod Labels
 pub mod Lines
 pub mod Performance
 pub mod Runs

@@ -26,34 +26,35 @@ use Rattle.lrc_args.specs.declared.choice.Shape.TheVariants as shapes
 use Rattle.lrc_args.specs.declared.choice.Shape.TheVariants.{Chart, Explain, Stats, Trace}
 use Rattle.lrc_args.specs.declared.choice.Way.{Way}
 use Rattle.lrc_cli.specs.Charted.{IsCharted, IsTooLong}
+use Rattle.lrc_cli.specs.Labels.{labels_in}
 use Rattle.lrc_cli.specs.Lines.{AreLinesIn}
 use Rattle.lrc_cli.specs.Runs.{Account, is_led, turns_in}
 use Rattle.lrc_cli.specs.declared.fault.Fault.{Fault}
 use Rattle.lrc_cli.specs.declared.fault.Fault.TheVariants.{NoMemory, TooLong}
 
--- A run in one of the forms, where the acts are of these lines: its acts, also with the messages among them, or as JSON with the time
--- that its node has just after each, or as accesses and their order; or its events that are not skipped.
-abbrev pub IsWrittenAs : Form → Program → RunOptions → List Event → Account → (lines out : List ℕ) → Type 0
-IsWrittenAs Acts program options events account lines out = out ≡ acts_text account.acts lines
-IsWrittenAs Messages program options events account lines out =
+-- A run in one of the forms, where the acts are of these lines: its acts, also with the messages among them, or as JSON with the labels of
+-- the text and the time that its node has just after each, or as accesses and their order; or its events that are not skipped.
+abbrev pub IsWrittenAs : Form → List ℕ → Program → RunOptions → List Event → Account → (lines out : List ℕ) → Type 0
+IsWrittenAs Acts text program options events account lines out = out ≡ acts_text account.acts lines
+IsWrittenAs Messages text program options events account lines out =
     out ≡ messages_text account.logs (map (λ turn. turn.node) (turns_in program options events)) lines
-IsWrittenAs Events program options events account lines out = out ≡ events_text (map (λ turn. turn.event) (turns_in program options events))
-IsWrittenAs Json program options events account lines out =
-    (times : List (List ℕ)) × KeepsTime options.nodes.count account.acts times × (out ≡ json_of_acts account.acts lines times)
-IsWrittenAs Rapid program options events account lines out =
+IsWrittenAs Events text program options events account lines out = out ≡ events_text (map (λ turn. turn.event) (turns_in program options events))
+IsWrittenAs Json text program options events account lines out =
+    (times : List (List ℕ)) × KeepsTime options.nodes.count account.acts times × (out ≡ json_of_acts (labels_in text program) account.acts lines times)
+IsWrittenAs Rapid text program options events account lines out =
     out ≡ rapid_text program.locks options.nodes.count account.acts lines
 
 -- a trace of a run of the program that this text is of
 abbrev pub IsTraceShown : Form → List ℕ → Program → RunOptions → List Event → Account → List ℕ → Type 0
 IsTraceShown form text program options events account out =
     (lines : List ℕ) × AreLinesIn text program options.nodes.count account.acts lines
-    × IsWrittenAs form program options events account lines out
+    × IsWrittenAs form text program options events account lines out
 
--- the report of such a run with reasons
+-- the report of such a run with reasons, and with the labels of the text
 abbrev pub IsExplained : List ℕ → Program → RunOptions → List Act → Option ℕ → List ℕ → Type 0
 IsExplained text program options acts first_race out = (places : List ℕ) × HasLines text (program_of program) places
     × ((pairs : List Pair) × AreFirstPairs acts pairs
-    × (out ≡ explain_text program options.nodes.count places options.steps.count acts pairs first_race))
+    × (out ≡ explain_text (labels_in text program) program options.nodes.count places options.steps.count acts pairs first_race))
 
 -- what is shown of a run of that program
 abbrev pub IsShown : Shape → RunChoice → List ℕ → Program → List Event → Account → List ℕ → Type 0

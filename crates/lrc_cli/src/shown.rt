@@ -20,6 +20,7 @@ use crate::trace::trace_parts;
 use lrc_args::choice::{RunChoice, RunOptions, Shape};
 use lrc_exec::code::Code;
 use lrc_explain::explain;
+use lrc_labels::read_labels;
 use lrc_lang::lines::lines_of;
 use lrc_lang::parse;
 use lrc_lang::program::Program;
@@ -208,7 +209,7 @@ fn parts_of(
     }
 }
 
-// The report of a run with reasons.
+// The report of a run with reasons, and with the labels of the text.
 fn explained(
     alloc: Global,
     text: &[u8],
@@ -223,8 +224,10 @@ fn explained(
 {
     let places = lines_of(alloc, text)?;
     let code = Code::new(alloc, program)?;
+    let labels = read_labels(alloc, text, program.words, program.locks)?;
     explain(
         alloc,
+        &labels.said,
         &code,
         &places,
         options.nodes.count as u8,

@@ -1,6 +1,7 @@
 -- Whether an order of a program races or gets stuck, as it is printed.
 use Rattle.std.specs.Prelude.{◌≡◌, ◌+◌, ℕ, None, Some, List, ◌++◌, codes, length}
 use Rattle.lrc_lang.specs.declared.program.Program.{Program}
+use Rattle.lrc_labels.specs.Reading.{Label}
 use Rattle.lrc_trace.specs.declared.act.Act.{Act}
 use Rattle.lrc_trace.specs.declared.race.Race.{Race}
 use Rattle.lrc_text.specs.RaceText.{first_race_text, races_text}
@@ -19,20 +20,21 @@ use Rattle.lrc_explore_text.specs.LastRaces.{AreRacesAt}
 abbrev pub order_text : Program → (nodes : ℕ) → (lines : List ℕ) → List Act → List ℕ
 order_text program nodes lines acts = acts_text acts (act_lines program nodes lines acts)
 
--- of each node that is unfinished after the acts how it ended and what comes next of it, and the circles of waiting
-abbrev pub ends_text : Program → (nodes : ℕ) → (lines : List ℕ) → List Act → List ℕ
-ends_text program nodes lines acts = stuck_text (stands_of program nodes lines None acts)
+-- of each node that is unfinished after the acts how it ended and what comes next of it, with the labels of words and of locks, and the
+-- circles of waiting
+abbrev pub ends_text : List Label → Program → (nodes : ℕ) → (lines : List ℕ) → List Act → List ℕ
+ends_text labels program nodes lines acts = stuck_text labels (stands_of program nodes lines None acts)
 
 -- What is printed of the orders of a program, and the status after it:
-pub data TellsOrders (program : Program) (nodes : ℕ) (lines : List ℕ) : (out : List ℕ) → (status : ℕ) → Type 0 where
+pub data TellsOrders (labels : List Label) (program : Program) (nodes : ℕ) (lines : List ℕ) : (out : List ℕ) → (status : ℕ) → Type 0 where
   -- no order races, and none gets stuck;
   free : HasNoRace program nodes → NeverStuck program nodes
-      → TellsOrders program nodes lines (codes "race free in every order\nno order gets stuck\n") 0
+      → TellsOrders labels program nodes lines (codes "race free in every order\nno order gets stuck\n") 0
   -- or none races, and this one gets stuck;
   stuck : {order : List ℕ} → HasNoRace program nodes → (gets : GetsStuck program nodes order)
-      → TellsOrders program nodes lines (codes "race free in every order\nsome order gets stuck:\n" ++ order_text program nodes lines gets.acts
-      ++ ends_text program nodes lines gets.acts) 4
+      → TellsOrders labels program nodes lines (codes "race free in every order\nsome order gets stuck:\n" ++ order_text program nodes lines gets.acts
+      ++ ends_text labels program nodes lines gets.acts) 4
   -- or one races: what its earliest race comes of, whose last act is its first race, with these races
   racy : (order : List ℕ) {run told : List Act} {races : List Race} → plain program nodes order ≡ Some run → (tells : TellsRace program nodes run told)
       → AreRacesAt told (length tells.before + 1) races
-      → TellsOrders program nodes lines (order_text program nodes lines told ++ races_text races ++ first_race_text (Some (length tells.before + 1))) 3
+      → TellsOrders labels program nodes lines (order_text program nodes lines told ++ races_text races ++ first_race_text (Some (length tells.before + 1))) 3
