@@ -1,0 +1,4 @@
+pub mod Once
+pub mod Spaced
+pub mod Together
+pub mod Turns
