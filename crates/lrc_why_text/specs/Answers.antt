@@ -17,7 +17,7 @@ use Rattle.lrc_why_text.specs.declared.asked.Asked.{Asked}
 use Rattle.lrc_why_text.specs.declared.shown.Shown.{Shown}
 use Rattle.lrc_labels.specs.declared.cut.Divider.TheVariants.{LineFeed}
 use Rattle.lrc_labels.specs.Cut.{cut, divides}
-use Rattle.lrc_why_text.specs.Named.{AreLinesTold}
+use Rattle.lrc_told_lines.specs.Named.{AreLinesTold}
 use Rattle.lrc_why_text.specs.Knowing.{all_news_text, interval_text}
 use Rattle.lrc_why_text.specs.Learning.{forward_text}
 use Rattle.lrc_why_text.specs.Ordered.{relation_text}

@@ -7,6 +7,5 @@ pub mod Racing
 pub mod Knowing
 pub mod Learning
 pub mod Ordered
-pub mod Named
 pub mod Faults
 pub mod Answers

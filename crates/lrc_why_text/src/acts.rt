@@ -9,7 +9,6 @@ ghost use Rattle.lrc_why_text.specs.Answers.{AnswersActs, IsMissing, IsShownPlai
 
 use crate::asked::Asked;
 use crate::fault::WhyFault;
-use crate::named::act_lines;
 use crate::shown::Shown;
 use crate::whole::why_part;
 use lrc_acts::reading::acts_of;
@@ -17,6 +16,7 @@ use lrc_judge::intervals_of;
 use lrc_judge::order::happens_before;
 use lrc_labels::label::Label;
 use lrc_page::Size;
+use lrc_told_lines::act_lines;
 use lrc_trace::act::Act;
 use lrc_verdict::judge::nodes_of;
 use std::alloc::{AllocError, Global};

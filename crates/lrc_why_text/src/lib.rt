@@ -10,7 +10,6 @@ mod forward;
 mod known;
 mod lists;
 mod look;
-mod named;
 mod opponents;
 mod pages;
 mod places;

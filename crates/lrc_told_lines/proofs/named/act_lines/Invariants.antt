@@ -1,8 +1,8 @@
 -- The lines of the acts so far.
 use Rattle.std.proofs.Common.{◌≡◌, ◌<◌, ◌-◌, ℕ, [], get_or, length, map}
 use Rattle.std.specs.Prelude.{slice_index}
-use Rattle.lrc_why_text.specs.Named.{IsLineTold}
-use Rattle.lrc_why_text.proofs.named.act_lines.Given as goal
+use Rattle.lrc_told_lines.specs.Named.{IsLineTold}
+use Rattle.lrc_told_lines.proofs.named.act_lines.Given as goal
 
 abbrev pub invariant-loop-at : goal.invariant-loop-at
 invariant-loop-at l = record {

@@ -5,7 +5,7 @@ ghost use Rattle.std.specs.Char.{is_ascii_digit};
 ghost use Rattle.std.specs.List.{position_or_len};
 ghost use Rattle.lrc_labels.specs.declared.cut.Divider.TheVariants.{LineFeed};
 ghost use Rattle.lrc_labels.specs.Cut.{cut, divides};
-ghost use Rattle.lrc_why_text.specs.Named.{AreLinesTold, IsLineTold, Names, comment_of, digits_in, front_digits};
+ghost use Rattle.lrc_told_lines.specs.Named.{AreLinesTold, IsLineTold, Names, comment_of, digits_in, front_digits};
 
 use lrc_labels::cut::{Divider, cut};
 use lrc_text::read_number;
@@ -100,7 +100,7 @@ fn told_at(lines: &[&[u8]], number: u32) -> u32
 }
 
 /// The line that is told of each act, of acts on these lines of the text.
-pub(crate) fn act_lines(alloc: Global, text: &[u8], numbers: &[u32]) -> Result<Vec<u32>, AllocError>
+pub fn act_lines(alloc: Global, text: &[u8], numbers: &[u32]) -> Result<Vec<u32>, AllocError>
     ensures { IfOk result (λ told. AreLinesTold (cut (divides LineFeed) text.now) numbers.now told.items) }
 {
     let lines = cut(alloc, Divider::LineFeed, text)?;
