@@ -79,7 +79,6 @@ pub fn answer_any<R: Threads + Wait + Sync>(
         | Choice::Explore(_)
         | Choice::Lint(_)
         | Choice::WhyActs(_, _) => answer(alloc, choice, text, events),
-        Choice::Why(_, _) => Err(Fault::ActsAlone),
     }
 }
 
