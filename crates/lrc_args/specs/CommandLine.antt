@@ -10,7 +10,7 @@ use Rattle.lrc_args.specs.declared.choice.Asking.{Asking}
 use Rattle.lrc_args.specs.declared.choice.ChartedActs.{ChartedActs}
 use Rattle.lrc_args.specs.declared.choice.Charting.{Charting}
 use Rattle.lrc_args.specs.declared.choice.Choice.{Choice}
-use Rattle.lrc_args.specs.declared.choice.Choice.TheVariants.{Check, Plain, Show, Judge, Explore, Lint, Why, WhyActs, ChartActs}
+use Rattle.lrc_args.specs.declared.choice.Choice.TheVariants.{Check, Plain, Show, Judge, Explore, Lint, WhyActs, ChartActs}
 use Rattle.lrc_args.specs.declared.choice.ChooseFault.{ChooseFault}
 use Rattle.lrc_args.specs.declared.choice.ChooseFault.TheVariants.{Usage, BadNumber, NoMemory}
 use Rattle.lrc_args.specs.declared.choice.Exploring.{Exploring}
@@ -23,7 +23,7 @@ use Rattle.lrc_args.specs.declared.choice.Request.{Request}
 use Rattle.lrc_args.specs.declared.choice.Request.TheVariants.{About, Races, Answer}
 use Rattle.lrc_args.specs.declared.choice.RunChoice.{RunChoice}
 use Rattle.lrc_args.specs.declared.choice.Shape.{Shape}
-use Rattle.lrc_args.specs.declared.choice.Shape.TheVariants.{Report, Trace, Explain, Stats, Chart}
+use Rattle.lrc_args.specs.declared.choice.Shape.TheVariants.{Report, Trace, Explain, Stats, Chart, Why}
 use Rattle.lrc_args.specs.declared.choice.Topic.{Topic}
 use Rattle.lrc_args.specs.declared.choice.Topic.TheVariants.{Commands, Command, Version}
 use Rattle.lrc_args.specs.declared.choice.Way.{Way}
@@ -139,6 +139,12 @@ pub record IsActsChart (rows : List Row) (acts : ChartedActs) (charting : Charti
   pub acts_are : AreChartedActs rows acts
   pub charting_is : IsCharting rows charting
 
+-- Why an act of a run is as it is.
+pub record IsWhy (rows : List Row) (run : RunChoice) (asking : Asking) : Type 0 where
+  pub acts : first_of (codes "acts") rows ≡ None
+  pub run_is : IsRun false rows run
+  pub asking_is : IsAsking rows asking
+
 -- what is shown of a run is chosen by the command that clap found, with its matches
 abbrev pub IsShowChoice : Text × List Row → RunChoice → Shape → Type 0
 IsShowChoice found run Report = ((found.0 ≡ codes "sim") × IsRun false found.1 run) ⊎ ((found.0 ≡ codes "run") × IsThreadsRun found.1 run)
@@ -146,12 +152,7 @@ IsShowChoice found run (Trace form) = (found.0 ≡ codes "trace") × IsFormIn fo
 IsShowChoice found run Explain = (found.0 ≡ codes "explain") × IsShowingRun found.1 run
 IsShowChoice found run Stats = (found.0 ≡ codes "stats") × IsShowingRun found.1 run
 IsShowChoice found run (Chart charting) = (found.0 ≡ codes "chart") × IsRunChart found.1 run charting
-
--- Why an act of a run is as it is.
-pub record IsWhy (rows : List Row) (run : RunChoice) (asking : Asking) : Type 0 where
-  pub acts : first_of (codes "acts") rows ≡ None
-  pub run_is : IsRun false rows run
-  pub asking_is : IsAsking rows asking
+IsShowChoice found run (Why asking) = (found.0 ≡ codes "why") × IsWhy found.1 run asking
 
 -- Why an act from anywhere is as it is.
 pub record IsWhyActs (rows : List Row) (acts : ForeignActs) (asking : Asking) : Type 0 where
@@ -167,7 +168,6 @@ IsChoice found (Show run shape) = IsShowChoice found run shape
 IsChoice found (Judge judging) = (found.0 ≡ codes "judge") × IsJudging found.1 judging
 IsChoice found (Explore exploring) = (found.0 ≡ codes "explore") × IsExploring found.1 exploring
 IsChoice found (Lint file) = (found.0 ≡ codes "lint") × (first_of (codes "FILE") found.1 ≡ Some file.now)
-IsChoice found (Why run asking) = (found.0 ≡ codes "why") × IsWhy found.1 run asking
 IsChoice found (WhyActs acts asking) = (found.0 ≡ codes "why") × IsWhyActs found.1 acts asking
 IsChoice found (ChartActs acts charting) = (found.0 ≡ codes "chart") × IsActsChart found.1 acts charting
 

@@ -1,7 +1,7 @@
 -- The files that a choice names, and whether it starts threads.
 use Rattle.std.specs.Prelude.{ℕ, Bool, false, true, List, Option, None, Some, is_some}
 use Rattle.lrc_args.specs.declared.choice.Choice.{Choice}
-use Rattle.lrc_args.specs.declared.choice.Choice.TheVariants.{Check, Plain, Show, Judge, Explore, Lint, Why, WhyActs, ChartActs}
+use Rattle.lrc_args.specs.declared.choice.Choice.TheVariants.{Check, Plain, Show, Judge, Explore, Lint, WhyActs, ChartActs}
 use Rattle.lrc_args.specs.declared.choice.Way.{Way}
 use Rattle.lrc_args.specs.declared.choice.Way.TheVariants.{Events, Rounds, Random, Threads}
 
@@ -13,7 +13,6 @@ file_of (Show run shape) = run.options.file.now
 file_of (Judge judging) = judging.file.now
 file_of (Explore exploring) = exploring.file.now
 file_of (Lint file) = file.now
-file_of (Why run asking) = run.options.file.now
 file_of (WhyActs acts asking) = acts.file.now
 file_of (ChartActs acts charting) = acts.file.now
 
@@ -25,7 +24,6 @@ reads_acts (Show run shape) = false
 reads_acts (Judge judging) = true
 reads_acts (Explore exploring) = false
 reads_acts (Lint file) = false
-reads_acts (Why run asking) = false
 reads_acts (WhyActs acts asking) = true
 reads_acts (ChartActs acts charting) = true
 
@@ -44,7 +42,6 @@ events_of (Show run shape) = events_along run.way
 events_of (Judge judging) = None
 events_of (Explore exploring) = None
 events_of (Lint file) = None
-events_of (Why run asking) = events_along run.way
 events_of (WhyActs acts asking) = None
 events_of (ChartActs acts charting) = None
 
@@ -65,6 +62,5 @@ starts_threads (Show run shape) = is_on_threads run.way
 starts_threads (Judge judging) = false
 starts_threads (Explore exploring) = false
 starts_threads (Lint file) = false
-starts_threads (Why run asking) = is_on_threads run.way
 starts_threads (WhyActs acts asking) = false
 starts_threads (ChartActs acts charting) = false

@@ -93,6 +93,16 @@ pub struct Charting {
     pub source: bool,
 }
 
+/// Of which acts it is asked why they are as they are: of one, or how it and another are ordered.
+#[derive(Clone, Copy)]
+pub struct Asking {
+    /// The position of an act, counted from 0.
+    pub act: u64,
+    /// That of another act.
+    pub other: Option<u64>,
+    pub ghost apart: { other ≢ Some act },
+}
+
 /// What is shown of a run.
 #[derive(Clone, Copy)]
 pub enum Shape {
@@ -106,6 +116,8 @@ pub enum Shape {
     Stats,
     /// A picture of it.
     Chart(Charting),
+    /// Why an act of it is as it is, or how two are ordered.
+    Why(Asking),
 }
 
 /// The options of `judge`.
@@ -150,16 +162,6 @@ pub struct Racing<'w> {
     pub group: bool,
 }
 
-/// Of which acts it is asked why they are as they are: of one, or how it and another are ordered.
-#[derive(Clone, Copy)]
-pub struct Asking {
-    /// The position of an act, counted from 0.
-    pub act: u64,
-    /// That of another act.
-    pub other: Option<u64>,
-    pub ghost apart: { other ≢ Some act },
-}
-
 /// Acts from anywhere of which it is asked why they are as they are.
 #[derive(Clone, Copy)]
 pub struct ForeignActs<'w> {
@@ -195,9 +197,7 @@ pub enum Choice<'w> {
     Explore(Exploring<'w>),
     /// What is wrong with the text in this file, and what is likely to be; `-` is standard input.
     Lint(&'w str),
-    /// Why an act of a run of the nodes is as it is, or how two are ordered.
-    Why(RunChoice<'w>, Asking),
-    /// The same of acts from anywhere.
+    /// Why an act from anywhere is as it is, or how two are ordered.
     WhyActs(ForeignActs<'w>, Asking),
     /// A picture of acts from anywhere.
     ChartActs(ChartedActs<'w>, Charting),

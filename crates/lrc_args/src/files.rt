@@ -17,7 +17,6 @@ impl<'w> Choice<'w> {
             Choice::Judge(judging) => judging.file,
             Choice::Explore(exploring) => exploring.file,
             Choice::Lint(file) => *file,
-            Choice::Why(run, _) => run.options.file,
             Choice::WhyActs(acts, _) => acts.file,
             Choice::ChartActs(acts, _) => acts.file,
         }
@@ -38,7 +37,7 @@ impl<'w> Choice<'w> {
         ensures { option_map (λ path. path.now) result ≡ events_of self.now }
     {
         match self {
-            Choice::Show(run, _) | Choice::Why(run, _) => run.way.events(),
+            Choice::Show(run, _) => run.way.events(),
             _ => None,
         }
     }

@@ -18,7 +18,7 @@ use Rattle.lrc_cli.specs.Lines.{AreLinesIn}
 use Rattle.lrc_cli.specs.Runs.{Account, turns_in}
 use Rattle.lrc_cli.specs.Shown.{IsShowFault}
 use Rattle.lrc_cli.specs.declared.fault.Fault.{Fault}
-use Rattle.lrc_cli.specs.declared.fault.Fault.TheVariants.{ActsAlone, LongActs, NoAct, Text, Events, Acts, Worn, TooManyStates, TooLong, Mismatch, NoMemory}
+use Rattle.lrc_cli.specs.declared.fault.Fault.TheVariants.{LongActs, NoAct, Text, Events, Acts, Worn, TooManyStates, TooLong, Mismatch, NoMemory}
 
 -- what was found of a run's acts is known of the run
 pub course_of_run : (text : List ℕ) (program : Program) (options : RunOptions) (events : List Event) (account : Account)
@@ -55,4 +55,3 @@ chart_unshown charting run text program events account course (TooManyStates mos
 chart_unshown charting run text program events account course Mismatch known h = h
 chart_unshown charting run text program events account course LongActs known h = h
 chart_unshown charting run text program events account course (NoAct position) known h = h
-chart_unshown charting run text program events account course ActsAlone known h = h

@@ -15,16 +15,16 @@ use Rattle.lrc_verdict.specs.Judgement.{Judges}
 use Rattle.lrc_lint.specs.Told.{TellsNoProgram}
 use Rattle.lrc_linted.specs.Linted.{LintsProgram}
 use Rattle.lrc_why_text.specs.Answers.{AnswersActs, RefusesActs}
-use Rattle.lrc_why_text.specs.declared.asked.Asked.{Asked}
 use Rattle.lrc_why_text.specs.declared.fault.WhyFault.TheVariants as why_faults
 use Rattle.lrc_world.specs.Ends.{ends_of}
 use Rattle.lrc_report.specs.ReportText.{report_text, status_of}
 use Rattle.lrc_cli.specs.Labels.{labels_in}
+use Rattle.lrc_cli.specs.Reasoned.{asked_of}
 use Rattle.lrc_cli.specs.Runs.{Account, IsRunFault, IsRunOfWay}
 use Rattle.lrc_cli.specs.Shown.{IsShowFault, IsShown, shown_status}
 use Rattle.lrc_cli.specs.declared.answer.Printout.{Printout}
 use Rattle.lrc_args.specs.declared.choice.Choice.{Choice}
-use Rattle.lrc_args.specs.declared.choice.Choice.TheVariants.{Check, Plain, Show, Judge, Explore, Lint, Why, WhyActs, ChartActs}
+use Rattle.lrc_args.specs.declared.choice.Choice.TheVariants.{Check, Plain, Show, Judge, Explore, Lint, WhyActs, ChartActs}
 use Rattle.lrc_args.specs.declared.choice.Asking.{Asking}
 use Rattle.lrc_args.specs.declared.choice.ChartedActs.{ChartedActs}
 use Rattle.lrc_args.specs.declared.choice.Charting.{Charting}
@@ -39,7 +39,7 @@ use Rattle.lrc_args.specs.declared.choice.Judging.{Judging}
 use Rattle.lrc_args.specs.declared.choice.RunChoice.{RunChoice}
 use Rattle.lrc_args.specs.declared.choice.Shape.{Shape}
 use Rattle.lrc_cli.specs.declared.fault.Fault.{Fault}
-use Rattle.lrc_cli.specs.declared.fault.Fault.TheVariants.{ActsAlone, Text, Acts, LongActs, NoAct, TooManyStates, NoMemory}
+use Rattle.lrc_cli.specs.declared.fault.Fault.TheVariants.{Text, Acts, LongActs, NoAct, TooManyStates, NoMemory}
 use Rattle.lrc_cli.specs.declared.fault.Fault.TheVariants as printout_faults
 
 -- the text is this program's
@@ -84,12 +84,9 @@ IsExploration exploring text program out status = (places : List ℕ) × HasLine
 abbrev pub IsLinted : List ℕ → List ℕ → List ℕ → ℕ → Type 0
 IsLinted file text out status = (TellsNoProgram file text out × (status ≡ 1)) ⊎ (LintsProgram file text out × (status ≡ 0))
 
--- how many nodes the acts are of, where that is said, and what is asked of them
+-- how many nodes acts from anywhere are of, where that is said
 abbrev pub foreign_nodes : ForeignActs → Option ℕ
 foreign_nodes acts = option_map (λ nodes. nodes.count) acts.nodes
-
-abbrev pub asked_of : Asking → Asked
-asked_of asking = record { act = asking.act; and = asking.other }
 
 -- the text is what is answered of the acts
 abbrev pub IsReasoned : ForeignActs → Asking → List ℕ → List ℕ → ℕ → Type 0
@@ -119,7 +116,6 @@ Prints (Judge judging) text events_text out status = Judges (judged_nodes judgin
 Prints (Explore exploring) text events_text out status =
     (program : Program) × IsTextOf text program × IsExploration exploring text program out status
 Prints (Lint file) text events_text out status = IsLinted file.now text out status
-Prints (Why run asking) text events_text out status = ⊥
 Prints (WhyActs acts asking) text events_text out status = IsReasoned acts asking text out status
 Prints (ChartActs acts charting) text events_text out status = IsActsCharted acts charting text out status
 
@@ -178,7 +174,6 @@ IsFault (Judge judging) text events_text fault = IsActsFault (judged_nodes judgi
 IsFault (Explore exploring) text events_text fault = IsTextFault text fault
     ⊎ ((program : Program) × IsTextOf text program × IsSearchFault exploring program fault)
 IsFault (Lint file) text events_text fault = fault ≡ NoMemory
-IsFault (Why run asking) text events_text fault = (fault ≡ ActsAlone) ⊎ (fault ≡ NoMemory)
 IsFault (WhyActs acts asking) text events_text fault = IsWhyFault acts asking text fault
 IsFault (ChartActs acts charting) text events_text fault = IsActsChartFault acts charting text fault
 

@@ -1,3 +1,4 @@
+pub mod Reasoned
 pub mod Answer
 pub mod Charted
 pub mod FaultLine

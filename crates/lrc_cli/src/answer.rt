@@ -52,7 +52,6 @@ pub fn answer(
         Choice::Judge(judging) => judged(alloc, judging, text),
         Choice::Explore(exploring) => explored(alloc, exploring, text),
         Choice::Lint(file) => linted(alloc, file, text),
-        Choice::Why(_run, _asking) => Err(Fault::ActsAlone),
         Choice::WhyActs(acts, asking) => reasoned(alloc, acts, asking, text),
         Choice::ChartActs(acts, charting) => pictured(alloc, acts, charting, text),
     }

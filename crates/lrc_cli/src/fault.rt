@@ -30,8 +30,6 @@ pub enum Fault {
     LongActs,
     /// There is no act at this position.
     NoAct(usize),
-    /// Reasons are told of a list of acts alone.
-    ActsAlone,
     /// The numbers of messages were used up.
     Worn,
     /// A search through every order met more states than this, which it might.
@@ -57,7 +55,6 @@ impl Display for Fault {
             Fault::Acts(line) => write!(f, "acts line {line}: bad act"),
             Fault::LongActs => write!(f, "acts line 1: text too long"),
             Fault::NoAct(position) => write!(f, "no act {position}"),
-            Fault::ActsAlone => write!(f, "why needs --acts"),
             Fault::Worn => write!(f, "message numbers used up"),
             Fault::TooManyStates(most) => write!(f, "more than {most} states"),
             Fault::TooLong => write!(f, "too long for a chart"),

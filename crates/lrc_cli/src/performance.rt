@@ -80,7 +80,6 @@ pub fn answer_any<R: Threads + Wait + Sync>(
         | Choice::Lint(_)
         | Choice::WhyActs(_, _)
         | Choice::ChartActs(_, _) => answer(alloc, choice, text, events),
-        Choice::Why(_, _) => Err(Fault::ActsAlone),
     }
 }
 

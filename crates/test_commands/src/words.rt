@@ -129,7 +129,7 @@ fn is_racing(made: &Racing<'_>, file: &str, acts: bool, group: bool) -> bool {
 
 fn is_wanted_why(made: &Choice<'_>, wanted: &Wanted) -> bool {
     match (made, wanted) {
-        (Choice::Why(made, asking), Wanted::Why(run, act, other)) => {
+        (Choice::Show(made, Shape::Why(asking)), Wanted::Why(run, act, other)) => {
             are_options(&made.options, run)
                 && is_same_way(made.way, run.way)
                 && is_asking(*asking, *act, *other)
@@ -144,7 +144,7 @@ fn is_wanted_why(made: &Choice<'_>, wanted: &Wanted) -> bool {
 fn is_wanted(made: &Choice<'_>, wanted: &Wanted) -> bool {
     match (made, wanted) {
         (Choice::Lint(made), Wanted::Lint(file)) => made == file,
-        (Choice::Why(..) | Choice::WhyActs(..), _) => is_wanted_why(made, wanted),
+        (Choice::Show(_, Shape::Why(_)) | Choice::WhyActs(..), _) => is_wanted_why(made, wanted),
         (Choice::ChartActs(made, charting), Wanted::ChartActs(file, nodes, wanted)) => {
             are_charted(made, file, *nodes) && is_same_charting(*charting, *wanted)
         }
