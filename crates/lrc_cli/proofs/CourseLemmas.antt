@@ -13,7 +13,8 @@ use Rattle.lrc_args.specs.declared.choice.Charting.{Charting}
 use Rattle.lrc_args.specs.declared.choice.RunChoice.{RunChoice}
 use Rattle.lrc_args.specs.declared.choice.RunOptions.{RunOptions}
 use Rattle.lrc_args.specs.declared.choice.Shape.TheVariants.{Chart}
-use Rattle.lrc_cli.specs.Charted.{AreWaitsIn, IsChartFault, IsCourse, labels_in}
+use Rattle.lrc_cli.specs.Charted.{AreWaitsIn, IsChartFault, IsCourse}
+use Rattle.lrc_cli.specs.Labels.{labels_in}
 use Rattle.lrc_cli.specs.Lines.{AreLinesIn}
 use Rattle.lrc_cli.specs.Runs.{Account, turns_in}
 use Rattle.lrc_cli.specs.Shown.{IsShowFault}

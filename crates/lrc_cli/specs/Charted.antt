@@ -5,9 +5,6 @@ use Rattle.lrc_chart_svg.specs.Marks.{all_marks, is_space, named_once, attribute
 use Rattle.lrc_chart_svg.specs.Root.{IsRootOf}
 use Rattle.lrc_chart_svg.specs.Shown.{picture_marks}
 use Rattle.lrc_judge.specs.FirstPairs.{AreFirstPairs}
-use Rattle.lrc_labels.specs.Cut.{cut, divides}
-use Rattle.lrc_labels.specs.Reading.{Label, labels_of}
-use Rattle.lrc_labels.specs.declared.cut.Divider.TheVariants.{LineFeed}
 use Rattle.lrc_lang.specs.Lines.{HasLines}
 use Rattle.lrc_lang.specs.Tree.{program_of}
 use Rattle.lrc_lang.specs.declared.program.Program.{Program}
@@ -27,14 +24,11 @@ use Rattle.lrc_turns_text.specs.Turns.{turns_told}
 use Rattle.lrc_args.specs.declared.choice.Charting.{Charting}
 use Rattle.lrc_args.specs.declared.choice.RunChoice.{RunChoice}
 use Rattle.lrc_args.specs.declared.choice.RunOptions.{RunOptions}
+use Rattle.lrc_cli.specs.Labels.{labels_in}
 use Rattle.lrc_cli.specs.Lines.{AreLinesIn}
 use Rattle.lrc_cli.specs.Runs.{Account, turns_in}
 use Rattle.lrc_cli.specs.declared.fault.Fault.{Fault}
 use Rattle.lrc_cli.specs.declared.fault.Fault.TheVariants.{NoMemory, TooLong}
-
--- what the label lines of a program's text say
-abbrev pub labels_in : List ℕ → Program → List Label
-labels_in text program = labels_of program.words program.locks (cut (divides LineFeed) text)
 
 -- for whom each node waits when a run of the program that this text is of has made these acts
 abbrev pub AreWaitsIn : List ℕ → Program → RunOptions → List Act → List (Option ℕ) → Type 0

@@ -1,3 +1,4 @@
+pub mod Idle
 pub mod Once
 pub mod Spaced
 pub mod Together
