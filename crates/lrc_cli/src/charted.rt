@@ -52,24 +52,34 @@ pub(crate) fn charted(
     ensures err { IfErr result (IsShowFault (Chart charting) choice.now text.now program.now run.now.events.items (account_of run.now.report)) }
 {
     let nodes = choice.options.nodes.count as u8;
+    // The labels borrow the text that they are read from, and all that the course has is borrowed for one time: so they are read from a copy.
+    let bytes = Vec::from_slice(alloc, text)?;
+    let source = bytes.as_slice();
+    let labelling = read_labels(alloc, source, program.words, program.locks)?;
+    let labels = labelling.said.as_slice();
     let acts = run.report.acts.as_slice();
-    let lines = lines_in(alloc, text, program, nodes, acts)?;
-    let times = times_of_acts(alloc, acts, nodes)?;
-    let pairs = first_pairs(alloc, acts)?;
-    let labels = read_labels(alloc, text, program.words, program.locks)?;
+    let places = lines_in(alloc, text, program, nodes, acts)?;
+    let lines = places.as_slice();
+    let clocks = times_of_acts(alloc, acts, nodes)?;
+    let times = clocks.as_slice();
+    let found = first_pairs(alloc, acts)?;
+    let pairs = found.as_slice();
     let order = order_of(alloc, run)?;
-    let turns = turns_of(alloc, &run.report.logs, &order)?;
-    let waits = waits_in(alloc, text, program, &choice.options, acts)?;
+    let made = turns_of(alloc, &run.report.logs, &order)?;
+    let turns = made.as_slice();
+    let standing = waits_in(alloc, text, program, &choice.options, acts)?;
+    let waits = standing.as_slice();
+    let known = Known {
+        acts,
+        lines,
+        times,
+        pairs,
+        labels,
+    };
     let course = Course {
-        turns: &turns,
-        known: Known {
-            acts,
-            lines: &lines,
-            times: &times,
-            pairs: &pairs,
-            labels: &labels.said,
-        },
-        waits: &waits,
+        turns,
+        known,
+        waits,
     };
     let title = title_of(alloc, choice, &charting)?;
     let part = chart_part(alloc, charting, &title, nodes, &course, text)?;

@@ -1,7 +1,9 @@
-use Rattle.std.proofs.Common.{◌∙◌, ap}
+use Rattle.std.proofs.Common.{◌≡◌, List, Some, subst}
 use Rattle.std.proofs.lemmas.Result.{IfOk-weaker}
 use Rattle.lrc_stuck.specs.Circles.{waits_of}
 use Rattle.lrc_stuck.specs.Followed.{AreFollowed}
+use Rattle.lrc_stuck.specs.Stand.{stands_of}
+use Rattle.lrc_stuck.specs.declared.stand.Stand.{Stand}
 use Rattle.lrc_cli.proofs.charted.waits_behind.Goals as goal
 
 pub returns : goal.returns
@@ -13,5 +15,10 @@ returns c =
       walks_are = c.in_ok-followed.ensures.walks;
       end_is = c.in_ok-followed.ensures.end;
     } in
-    IfOk-weaker c.waits_of.result _ _
-    (λ waits is. is ∙ ap waits_of (c.deref.ensures.value ∙ c.in_ok-stands.ensures program lines are)) c.waits_of.ensures
+    let made : c.in_ok-stands.stands.items ≡ stands_of program c.args.nodes lines (Some c.args.steps) c.args.acts.now =
+    c.in_ok-stands.ensures program lines are in
+    let lent : c.deref.result.now ≡ c.in_ok-stands.stands.items = c.deref.ensures.value in
+    IfOk-weaker c.waits_of.result (λ waits. waits.items ≡ waits_of c.deref.result.now)
+    (λ waits. waits.items ≡ waits_of (stands_of program c.args.nodes lines (Some c.args.steps) c.args.acts.now))
+    (λ waits is. subst (λ (stands : List Stand). waits.items ≡ waits_of stands) made
+    (subst (λ (stands : List Stand). waits.items ≡ waits_of stands) lent is)) c.waits_of.ensures
