@@ -1,5 +1,5 @@
 # Each node adds 1 to word 0, with no lock: all but one addition may be lost. Compare examples/counter.tm.
-words 1;
+words 1;  #: word 0 count
 locks 0;
 x = [0];
 [0] = x + 1;

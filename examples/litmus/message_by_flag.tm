@@ -1,6 +1,6 @@
 # Node 0 writes a message and then a flag; node 1 looks at the flag ten times, with no lock. It never sees it: nobody told it.
-words 2;
-locks 0;
+words 2;  #: word 0 message
+locks 0;  #: word 1 flag
 if me == 0 {
     [0] = 42;
     [1] = 1;

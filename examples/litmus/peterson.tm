@@ -1,7 +1,7 @@
 # Peterson's algorithm, with at most ten looks: word 0 and 1 say who wants to enter, word 2 whose turn it is, word 3 counts.
-words 4;
-locks 0;
-[me] = 1;
+words 4;  #: words 0 1 wants
+locks 0;  #: word 2 turn
+[me] = 1;  #: word 3 count
 [2] = 1 - me;
 waits = 1;
 while waits == 1 {

@@ -1,7 +1,7 @@
 # Word 0 is the next piece of work, word 1 what all pieces came to. A lock guards both, so each piece is done once.
-words 2;
-locks 1;
-while mine < 6 {
+words 2;  #: word 0 next
+locks 1;  #: word 1 total
+while mine < 6 {  #: lock 0 mutex
     acquire 0;
     mine = [0];
     [0] = mine + 1;

@@ -10,7 +10,7 @@ _treadmarks_options() {
     explain) echo "--nodes --steps --collect --order --page --events --seed --threads" ;;
     why) echo "--nodes --steps --collect --order --page --events --seed --acts --act --and" ;;
     stats) echo "--nodes --steps --collect --order --page --events --seed --threads" ;;
-    chart) echo "--nodes --steps --collect --order --page --events --seed --threads --text --from --to" ;;
+    chart) echo "--nodes --steps --collect --order --page --events --seed --threads --acts --text --from --to --hide --source" ;;
     judge) echo "--nodes --pairs" ;;
     races) echo "--as --group" ;;
     explore) echo "--nodes --most --outcomes" ;;
@@ -25,8 +25,9 @@ _treadmarks_values() {
     races,--as) echo "std acts" ;;
     *,--order) echo "oldest newest twice random" ;;
     *,--page) echo "64 256" ;;
+    *,--hide) echo "quiet" ;;
     *,--events | *,--acts) echo FILE ;;
-    *,--threads | *,--messages | *,--text | *,--pairs | *,--group | *,--outcomes) ;;
+    *,--threads | *,--messages | *,--text | *,--source | *,--pairs | *,--group | *,--outcomes) ;;
     *,--*) echo NUMBER ;;
     esac
 }

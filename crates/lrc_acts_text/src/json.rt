@@ -1,28 +1,32 @@
 // Acts as JSON.
 
-ghost use Rattle.std.specs.Prelude.{◌≡◌, ◌++◌, IfOk, OnErr, OnOk, length};
+ghost use Rattle.std.specs.Prelude.{◌≡◌, ◌++◌, IfOk, OnErr, OnOk, length, map};
+ghost use Rattle.lrc_labels.specs.Reading.{label_seen};
 ghost use Rattle.lrc_text.specs.Front.{BeginsWith};
 ghost use Rattle.lrc_trace.specs.Interval.{closes};
-ghost use Rattle.lrc_acts_text.specs.Json.{access_members, act_json, deed_json, deed_members, deed_name, entry_text};
+ghost use Rattle.lrc_acts_text.specs.Json.{access_members, act_json, deed_json, deed_members, deed_name, entry_text, lock_members};
 ghost use Rattle.lrc_acts_text.specs.Json.{json_line, json_of_acts, place_json, time_json, with_commas};
 
 use crate::tally::Tally;
+use lrc_labels::label::Label;
+use lrc_labels::{push_lock_member, push_word_member};
 use lrc_text::push_number;
 use lrc_time::Time;
 use lrc_trace::act::{Act, Deed};
 use std::alloc::{AllocError, Global};
 
 /// An object for each act, in order, each on a line of its own: with the line of the program's text that the act is of, its
-/// interval, and its node's time just after it.
+/// interval, and its node's time just after it. The label of a word or of a lock is a member behind its number.
 pub fn json_part(
     alloc: Global,
+    labels: &[Label<'_>],
     acts: &[Act],
     lines: &[u32],
     times: &[Time],
 ) -> Result<Vec<u8>, AllocError>
     requires lined { length lines.now ≡ length acts.now }
     requires timed { length times.now ≡ length acts.now }
-    ensures { IfOk result (λ part. part.items ≡ json_of_acts acts.now lines.now times.now) }
+    ensures { IfOk result (λ part. part.items ≡ json_of_acts (map label_seen labels.now) acts.now lines.now times.now) }
 {
     let mut text = Vec::new(alloc);
     let mut closes = Tally::new();
@@ -32,7 +36,7 @@ pub fn json_part(
             line: lines[position],
             interval: 1 + closes.of(act.node),
         };
-        push_json_line(&mut text, *act, place, &times[position])?;
+        push_json_line(&mut text, labels, *act, place, &times[position])?;
         closes.note(act.node, closes_interval(act.deed));
     }
     Ok(text)
@@ -52,22 +56,33 @@ fn closes_interval(deed: Deed) -> bool
     matches!(deed, Deed::Acquire(_) | Deed::Release(_) | Deed::Arrive)
 }
 
-fn push_json_line(text: &mut Vec<u8>, act: Act, place: Place, time: &Time) -> Result<(), AllocError>
-    ensures { OnOk result (text.new.items ≡ text.old.items ++ json_line place.position act place.line place.interval time.now) }
+fn push_json_line(
+    text: &mut Vec<u8>,
+    labels: &[Label<'_>],
+    act: Act,
+    place: Place,
+    time: &Time,
+) -> Result<(), AllocError>
+    ensures { OnOk result (text.new.items ≡ text.old.items ++ json_line (map label_seen labels.now) place.position act place.line place.interval time.now) }
 {
     text.extend_from_slice(b"{")?;
-    push_act(text, act, place.position)?;
+    push_act(text, labels, act, place.position)?;
     push_place(text, place)?;
     push_time(text, time)?;
     text.extend_from_slice(b"}\n")
 }
 
-fn push_act(text: &mut Vec<u8>, act: Act, position: u64) -> Result<(), AllocError>
-    ensures { OnOk result (text.new.items ≡ text.old.items ++ act_json position act) }
+fn push_act(
+    text: &mut Vec<u8>,
+    labels: &[Label<'_>],
+    act: Act,
+    position: u64,
+) -> Result<(), AllocError>
+    ensures { OnOk result (text.new.items ≡ text.old.items ++ act_json (map label_seen labels.now) position act) }
 {
     push_number(text, b"\"act\":", position)?;
     push_number(text, b",\"node\":", u64::from(act.node))?;
-    push_deed(text, act.deed)
+    push_deed(text, labels, act.deed)
 }
 
 fn push_place(text: &mut Vec<u8>, place: Place) -> Result<(), AllocError>
@@ -78,13 +93,13 @@ fn push_place(text: &mut Vec<u8>, place: Place) -> Result<(), AllocError>
 }
 
 // Adds the name of a deed, and what it has.
-fn push_deed(text: &mut Vec<u8>, deed: Deed) -> Result<(), AllocError>
-    ensures { OnOk result (text.new.items ≡ text.old.items ++ deed_json deed) }
+fn push_deed(text: &mut Vec<u8>, labels: &[Label<'_>], deed: Deed) -> Result<(), AllocError>
+    ensures { OnOk result (text.new.items ≡ text.old.items ++ deed_json (map label_seen labels.now) deed) }
 {
     text.extend_from_slice(b",\"deed\":\"")?;
     text.extend_from_slice(name_of(deed))?;
     text.extend_from_slice(b"\"")?;
-    push_members(text, deed)
+    push_members(text, labels, deed)
 }
 
 fn name_of(deed: Deed) -> &'static [u8]
@@ -104,26 +119,37 @@ fn name_of(deed: Deed) -> &'static [u8]
     }
 }
 
-fn push_members(text: &mut Vec<u8>, deed: Deed) -> Result<(), AllocError>
-    ensures { OnOk result (text.new.items ≡ text.old.items ++ deed_members deed) }
+fn push_members(text: &mut Vec<u8>, labels: &[Label<'_>], deed: Deed) -> Result<(), AllocError>
+    ensures { OnOk result (text.new.items ≡ text.old.items ++ deed_members (map label_seen labels.now) deed) }
 {
     match deed {
         Deed::Print(value) => push_number(text, b",\"value\":", value),
-        Deed::Read(word, value) | Deed::Write(word, value) => push_access(text, word, value),
-        Deed::Acquire(lock) | Deed::Release(lock) => push_number(
-            text,
-            b",\"lock\":",
-            u64::from(lock),
-        ),
+        Deed::Read(word, value) | Deed::Write(word, value) => {
+            push_access(text, labels, word, value)
+        }
+        Deed::Acquire(lock) | Deed::Release(lock) => push_lock(text, labels, lock),
         Deed::Trap(cause) => push_number(text, b",\"cause\":", u64::from(cause as u8)),
         _ => Ok(()),
     }
 }
 
-fn push_access(text: &mut Vec<u8>, word: u32, value: u64) -> Result<(), AllocError>
-    ensures { OnOk result (text.new.items ≡ text.old.items ++ access_members word value) }
+fn push_lock(text: &mut Vec<u8>, labels: &[Label<'_>], lock: u8) -> Result<(), AllocError>
+    ensures { OnOk result (text.new.items ≡ text.old.items ++ lock_members (map label_seen labels.now) lock) }
+{
+    push_number(text, b",\"lock\":", u64::from(lock))?;
+    push_lock_member(text, labels, lock)
+}
+
+fn push_access(
+    text: &mut Vec<u8>,
+    labels: &[Label<'_>],
+    word: u32,
+    value: u64,
+) -> Result<(), AllocError>
+    ensures { OnOk result (text.new.items ≡ text.old.items ++ access_members (map label_seen labels.now) word value) }
 {
     push_number(text, b",\"word\":", u64::from(word))?;
+    push_word_member(text, labels, word)?;
     push_number(text, b",\"value\":", value)
 }
 

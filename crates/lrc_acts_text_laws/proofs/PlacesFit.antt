@@ -1,4 +1,4 @@
--- The lines of the acts of a program that a text is of fit 64 bits: none is greater than the text is long, and one.
+-- The lines of the acts of a program that a text is of are few: none is greater than the text is long, and one. So they fit 64 bits.
 use Rattle.std.proofs.Common.{◌≤◌, ◌+◌, ℕ, zero, suc, Bool, true, false, List, [], ◌∷◌, ◌++◌, sym, subst, ap, arith, length}
 use Rattle.std.proofs.Common.{map, drop, fold}
 use Rattle.std.proofs.Common.{length-append}
@@ -17,13 +17,12 @@ use Rattle.lrc_lines.specs.Places.{StandsAmong, in_order}
 use Rattle.lrc_lines.specs.Tasks.{Task, next_line}
 use Rattle.lrc_lines.specs.Walks.{act_lines, end_line, line_at, line_behind, lines_behind, walk_behind}
 use Rattle.lrc_lines.proofs.Placing.{stand_behind}
-use Rattle.lrc_acts.specs.Printed.{IsValue}
 use Rattle.lrc_acts_text_laws.proofs.Values.{AreValues}
 
 -- ---- what stands in a text
 
 -- each of these lines is at most so great
-abbrev AreUpTo : ℕ → List ℕ → Type 0
+abbrev pub AreUpTo : ℕ → List ℕ → Type 0
 AreUpTo most lines = (k : ℕ) → slice_index lines k ≤ most
 
 up_to_more : (most x : ℕ) (xs : List ℕ) → x ≤ most → AreUpTo most xs → AreUpTo most (x ∷ xs)
@@ -63,56 +62,63 @@ lines_up_to {line} {text} stops_at_end = up_to_more (line + length text) line []
 
 -- ---- the lines of statements
 
-mapped : (f : List Symbol → ℕ) (places : List (List Symbol)) → ((place : List Symbol) → IsValue (f place)) → AreValues (map f places)
-mapped f [] each k = omega arith
-mapped f (place ∷ places) each zero = each place
-mapped f (place ∷ places) each (suc k) = mapped f places each k
+mapped : (most : ℕ) (f : List Symbol → ℕ) (places : List (List Symbol)) → ((place : List Symbol) → f place ≤ most) → AreUpTo most (map f places)
+mapped most f [] each k = omega arith
+mapped most f (place ∷ places) each zero = each place
+mapped most f (place ∷ places) each (suc k) = mapped most f places each k
 
 -- the lines of the statements of a text that is not too long
-pub places_fit : (text : List ℕ) (p : ProgramTree) (places : List ℕ) → length text ≤ 65536 → HasLines text p places → AreValues places
-places_fit text p places fits has =
-    subst AreValues (sym has.each) (mapped (line_of has.lexemes) _ (λ place.
+pub places_few : (text : List ℕ) (p : ProgramTree) (places : List ℕ) → length text ≤ 65536 → HasLines text p places → AreUpTo 65537 places
+places_few text p places fits has =
+    subst (AreUpTo 65537) (sym has.each) (mapped 65537 (line_of has.lexemes) _ (λ place.
     let here : line_of has.lexemes place ≤ 1 + length text = lines_up_to has.lexed _ in
     omega (arith, here, fits)))
 
+pub places_fit : (text : List ℕ) (p : ProgramTree) (places : List ℕ) → length text ≤ 65536 → HasLines text p places → AreValues places
+places_fit text p places fits has = up_to_greater 65537 18446744073709551615 places (omega arith) (places_few text p places fits has)
+
 -- ---- the lines of acts
 
-module _ (lines : List ℕ) (are : AreValues lines) where
-  last_fits : (from : ℕ) (left : List ℕ) → IsValue from → AreValues left → IsValue (fold (λ _ line. line) from left)
+module _ (most : ℕ) (lines : List ℕ) (are : AreUpTo most lines) where
+  last_fits : (from : ℕ) (left : List ℕ) → from ≤ most → AreUpTo most left → fold (λ _ line. line) from left ≤ most
   last_fits from [] here each = here
   last_fits from (x ∷ left) here each = last_fits x left (each 0) (λ k. each (suc k))
 
-  end_fits : IsValue (end_line lines)
+  end_fits : end_line lines ≤ most
   end_fits = last_fits 0 lines (omega arith) are
 
-front_fits : (n end : ℕ) (left : List ℕ) → IsValue end → AreValues left → IsValue (slice_index_or (drop n left) 0 end)
-front_fits zero end [] here each = here
-front_fits zero end (x ∷ left) here each = each 0
-front_fits (suc n) end [] here each = here
-front_fits (suc n) end (x ∷ left) here each = front_fits n end left here (λ k. each (suc k))
+front_fits : (most n end : ℕ) (left : List ℕ) → end ≤ most → AreUpTo most left → slice_index_or (drop n left) 0 end ≤ most
+front_fits most zero end [] here each = here
+front_fits most zero end (x ∷ left) here each = each 0
+front_fits most (suc n) end [] here each = here
+front_fits most (suc n) end (x ∷ left) here each = front_fits most n end left here (λ k. each (suc k))
 
-module _ (program : Program) (nodes : ℕ) (lines : List ℕ) (are : AreValues lines) where
+module _ (program : Program) (nodes most : ℕ) (lines : List ℕ) (are : AreUpTo most lines) where
   next_fits : (todo : List Task) → All (StandsAmong (in_order program.statements.items) lines) todo
-      → IsValue (next_line (end_line lines) todo)
-  next_fits [] stand = end_fits lines are
+      → next_line (end_line lines) todo ≤ most
+  next_fits [] stand = end_fits most lines are
   next_fits (first ∷ rest) stand =
       let here : StandsAmong (in_order program.statements.items) lines first = stand 0 first (omega arith) in
-      subst (λ left. IsValue (slice_index_or left 0 (end_line lines))) (sym here.lines_from)
-      (front_fits (length here.before) (end_line lines) lines (end_fits lines are) are)
+      subst (λ left. slice_index_or left 0 (end_line lines) ≤ most) (sym here.lines_from)
+      (front_fits most (length here.before) (end_line lines) lines (end_fits most lines are) are)
 
-  one_of : (test : Bool) (x y : ℕ) → IsValue x → IsValue y → IsValue (if test then x else y)
+  one_of : (test : Bool) (x y : ℕ) → x ≤ most → y ≤ most → (if test then x else y) ≤ most
   one_of true x y h k = h
   one_of false x y h k = k
 
-  line_fits : (before : List Act) (node : ℕ) → IsValue (line_behind program nodes lines before node)
+  line_fits : (before : List Act) (node : ℕ) → line_behind program nodes lines before node ≤ most
   line_fits before node =
       one_of (nat_lt node nodes) (line_at (end_line lines) (walk_behind program nodes lines before node)) (end_line lines)
-      (next_fits (walk_behind program nodes lines before node).todo (stand_behind program nodes lines before node)) (end_fits lines are)
+      (next_fits (walk_behind program nodes lines before node).todo (stand_behind program nodes lines before node)) (end_fits most lines are)
 
-  behind_fit : (before acts : List Act) → AreValues (lines_behind program nodes lines before acts)
+  behind_fit : (before acts : List Act) → AreUpTo most (lines_behind program nodes lines before acts)
   behind_fit before [] k = omega arith
   behind_fit before (act ∷ acts) zero = line_fits before act.node
   behind_fit before (act ∷ acts) (suc k) = behind_fit (before ++ act ∷ []) acts k
 
-  pub act_lines_fit : (acts : List Act) → AreValues (act_lines program nodes lines acts)
-  act_lines_fit acts = behind_fit [] acts
+  pub act_lines_few : (acts : List Act) → AreUpTo most (act_lines program nodes lines acts)
+  act_lines_few acts = behind_fit [] acts
+
+pub act_lines_fit : (program : Program) (nodes : ℕ) (lines : List ℕ) → AreValues lines → (acts : List Act)
+    → AreValues (act_lines program nodes lines acts)
+act_lines_fit program nodes lines are acts = act_lines_few program nodes 18446744073709551615 lines are acts

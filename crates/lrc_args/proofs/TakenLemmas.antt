@@ -251,46 +251,7 @@ stats_keyed = (
 )
 
 chart_keyed : AllByRecursion (IsKeyed chart_built.rules) chart_built.rules
-chart_keyed = (
-  record { own = refl; acts = inl (refl, lit< tt) },
-  (
-    record { own = refl; acts = inl (refl, lit< tt) },
-    (
-      record { own = refl; acts = inl (refl, lit< tt) },
-      (
-        record { own = refl; acts = inl (refl, lit< tt) },
-        (
-          record { own = refl; acts = inl (refl, lit< tt) },
-          (
-            record { own = refl; acts = inl (refl, lit< tt) },
-            (
-              record { own = refl; acts = inl (refl, lit< tt) },
-              (
-                record { own = refl; acts = inl (refl, lit< tt) },
-                (
-                  record { own = refl; acts = inr (inl (refl, lit< tt)) },
-                  (
-                    record { own = refl; acts = inr (inl (refl, lit< tt)) },
-                    (
-                      record { own = refl; acts = inl (refl, lit< tt) },
-                      (
-                        record { own = refl; acts = inl (refl, lit< tt) },
-                        (
-                          record { own = refl; acts = inr (inr refl) },
-                          tt,
-                        ),
-                      ),
-                    ),
-                  ),
-                ),
-              ),
-            ),
-          ),
-        ),
-      ),
-    ),
-  ),
-)
+chart_keyed = (record { own = refl; acts = inl (refl, lit< tt) }, (record { own = refl; acts = inl (refl, lit< tt) }, (record { own = refl; acts = inl (refl, lit< tt) }, (record { own = refl; acts = inl (refl, lit< tt) }, (record { own = refl; acts = inl (refl, lit< tt) }, (record { own = refl; acts = inl (refl, lit< tt) }, (record { own = refl; acts = inl (refl, lit< tt) }, (record { own = refl; acts = inl (refl, lit< tt) }, (record { own = refl; acts = inr (inl (refl, lit< tt)) }, (record { own = refl; acts = inl (refl, lit< tt) }, (record { own = refl; acts = inr (inl (refl, lit< tt)) }, (record { own = refl; acts = inl (refl, lit< tt) }, (record { own = refl; acts = inl (refl, lit< tt) }, (record { own = refl; acts = inl (refl, lit< tt) }, (record { own = refl; acts = inr (inl (refl, lit< tt)) }, (record { own = refl; acts = inr (inr refl) }, tt))))))))))))))))
 
 judge_keyed : AllByRecursion (IsKeyed judge_built.rules) judge_built.rules
 judge_keyed = (
@@ -482,13 +443,16 @@ chart_taken : (words : List Text) → level_fault chart_built [] nothing_held wo
 chart_taken words none =
     let rows = rows_after chart_built.rules [] words in
     let level = level_good chart_built words chart_keyed none in
-    let file = given_some chart_built.rules (codes "FILE") rows level.good ((required_given chart_built rows level.checked).0 refl) in
-    let run = all_run_taken chart_built rows level (all_plain_taken chart_built rows level file refl refl) refl refl refl in
     record {
-      showing = all_showing_taken chart_built rows level (all_sim_taken chart_built rows level run refl) refl;
+      nodes = number_taken chart_built rows level (codes "nodes") (codes "1") refl;
+      run = λ file.
+          all_showing_taken chart_built rows level
+          (all_sim_taken chart_built rows level (all_run_taken chart_built rows level (all_plain_taken chart_built rows level file refl refl) refl refl refl) refl)
+          refl;
       text = flag_taken chart_built rows level (codes "text") refl;
       from = bare_taken chart_built rows level (codes "from") refl;
       to = bare_taken chart_built rows level (codes "to") refl;
+      source = flag_taken chart_built rows level (codes "source") refl;
     }
 
 judge_taken : (words : List Text) → level_fault judge_built [] nothing_held words false [] ≡ [] → IsJudgeTaken (rows_after judge_built.rules [] words)

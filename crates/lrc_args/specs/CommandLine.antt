@@ -1,5 +1,5 @@
 -- The words of the command line, as clap reads them, and the choice that they make.
-use Rattle.std.specs.Prelude.{◌≡◌, ◌≢◌, ◌⊎◌, Bool, false, List, [], ◌∷◌, Option, None, Some, Result, Ok, Err, IsSome, IsSomeAnd, codes, option_map}
+use Rattle.std.specs.Prelude.{◌≡◌, ◌≢◌, ◌⊎◌, Bool, true, false, List, [], ◌∷◌, Option, None, Some, Result, Ok, Err, IsSome, IsSomeAnd, codes, option_map}
 use Rattle.std.specs.Int.{IsOutOfRange}
 use Rattle.clap.specs.Words.{IsAmong, Row, Text, fault_of, first_of, kind_of, subcommand_of}
 use Rattle.clap.specs.declared.error.Error.{Error}
@@ -7,9 +7,10 @@ use Rattle.clap.specs.declared.error.kind.ErrorKind.{ErrorKind}
 use Rattle.clap.specs.declared.error.kind.ErrorKind.TheVariants.{ArgumentConflict, InvalidSubcommand, InvalidValue, MissingRequiredArgument, OutOfMemory}
 use Rattle.lrc_envelope.specs.declared.picker.Picker.{Picker}
 use Rattle.lrc_args.specs.declared.choice.Asking.{Asking}
+use Rattle.lrc_args.specs.declared.choice.ChartedActs.{ChartedActs}
 use Rattle.lrc_args.specs.declared.choice.Charting.{Charting}
 use Rattle.lrc_args.specs.declared.choice.Choice.{Choice}
-use Rattle.lrc_args.specs.declared.choice.Choice.TheVariants.{Check, Plain, Show, Judge, Explore, Lint, Why, WhyActs}
+use Rattle.lrc_args.specs.declared.choice.Choice.TheVariants.{Check, Plain, Show, Judge, Explore, Lint, WhyActs, ChartActs}
 use Rattle.lrc_args.specs.declared.choice.ChooseFault.{ChooseFault}
 use Rattle.lrc_args.specs.declared.choice.ChooseFault.TheVariants.{Usage, BadNumber, NoMemory}
 use Rattle.lrc_args.specs.declared.choice.Exploring.{Exploring}
@@ -22,14 +23,14 @@ use Rattle.lrc_args.specs.declared.choice.Request.{Request}
 use Rattle.lrc_args.specs.declared.choice.Request.TheVariants.{About, Races, Answer}
 use Rattle.lrc_args.specs.declared.choice.RunChoice.{RunChoice}
 use Rattle.lrc_args.specs.declared.choice.Shape.{Shape}
-use Rattle.lrc_args.specs.declared.choice.Shape.TheVariants.{Report, Trace, Explain, Stats, Chart}
+use Rattle.lrc_args.specs.declared.choice.Shape.TheVariants.{Report, Trace, Explain, Stats, Chart, Why}
 use Rattle.lrc_args.specs.declared.choice.Topic.{Topic}
 use Rattle.lrc_args.specs.declared.choice.Topic.TheVariants.{Commands, Command, Version}
 use Rattle.lrc_args.specs.declared.choice.Way.{Way}
 use Rattle.lrc_args.specs.declared.misfit.Misfit.{Misfit}
-use Rattle.lrc_args.specs.declared.misfit.Misfit.TheVariants.{Order, RunOrder, Page, Form as FormMisfit, Seed, Threads, Messages, Topic as TopicMisfit, TraceForm, SameAct, Sources, NoSource, RunOption, Number}
+use Rattle.lrc_args.specs.declared.misfit.Misfit.TheVariants.{Order, RunOrder, Page, Form as FormMisfit, Seed, Threads, Messages, Topic as TopicMisfit, TraceForm, Hide, TextSource, SameAct, Sources, NoSource, RunOption, ChartRunOption, Number}
 use Rattle.lrc_commands.specs.Commands.{is_command, treadmarks}
-use Rattle.lrc_args.specs.Options.{AreForeignActs, AreOptions, AreRunOptions, HasBadCount, HasForeignMisfit, HasFormMisfitIn, HasOptionsMisfit, HasRacesMisfit, HasValue, HasWayMisfitIn, IsAsking, IsChartTaken}
+use Rattle.lrc_args.specs.Options.{AreChartedActs, AreForeignActs, AreOptions, AreRunOptions, HasBadCount, HasChartedActsMisfit, HasForeignMisfit, HasFormMisfitIn, HasOptionsMisfit, HasRacesMisfit, HasValue, HasWayMisfitIn, IsAsking, IsChartTaken, IsHiding}
 use Rattle.lrc_args.specs.Options.{IsExploreTaken, IsFlag, IsFormIn, IsJudgeTaken, IsPicker, IsPlainTaken, IsRacesTaken, IsRunTaken, IsShowingTaken}
 use Rattle.lrc_args.specs.Options.{IsSimTaken, IsThreadsWayIn, IsTraceForm, IsTraceTaken, IsWayIn, IsWhyTaken, most_in, nodes_in, option_number, some_number_in}
 
@@ -109,6 +110,9 @@ pub record IsCharting (rows : List Row) (charting : Charting) : Type 0 where
   pub text : IsFlag (codes "text") charting.text rows
   pub from : some_number_in (codes "from") rows ≡ charting.from
   pub to : some_number_in (codes "to") rows ≡ charting.to
+  pub hiding : IsHiding (first_of (codes "hide") rows) charting.hides_quiet
+  pub source : IsFlag (codes "source") charting.source rows
+  pub apart : charting.text ≡ true → charting.source ≡ false
 
 -- what is to be judged
 pub record IsJudging (rows : List Row) (judging : Judging) : Type 0 where
@@ -123,19 +127,32 @@ pub record IsExploring (rows : List Row) (exploring : Exploring) : Type 0 where
   pub most : most_in rows ≡ exploring.most.count
   pub outcomes : IsFlag (codes "outcomes") exploring.outcomes rows
 
--- what is shown of a run is chosen by the command that clap found, with its matches
-abbrev pub IsShowChoice : Text × List Row → RunChoice → Shape → Type 0
-IsShowChoice found run Report = ((found.0 ≡ codes "sim") × IsRun false found.1 run) ⊎ ((found.0 ≡ codes "run") × IsThreadsRun found.1 run)
-IsShowChoice found run (Trace form) = (found.0 ≡ codes "trace") × IsFormIn found.1 form × IsShowingRun found.1 run
-IsShowChoice found run Explain = (found.0 ≡ codes "explain") × IsShowingRun found.1 run
-IsShowChoice found run Stats = (found.0 ≡ codes "stats") × IsShowingRun found.1 run
-IsShowChoice found run (Chart charting) = (found.0 ≡ codes "chart") × IsCharting found.1 charting × IsShowingRun found.1 run
+-- a chart of a run
+pub record IsRunChart (rows : List Row) (run : RunChoice) (charting : Charting) : Type 0 where
+  pub acts : first_of (codes "acts") rows ≡ None
+  pub run_is : IsShowingRun rows run
+  pub charting_is : IsCharting rows charting
+
+-- a chart of acts from anywhere
+pub record IsActsChart (rows : List Row) (acts : ChartedActs) (charting : Charting) : Type 0 where
+  pub file : first_of (codes "FILE") rows ≡ None
+  pub acts_are : AreChartedActs rows acts
+  pub charting_is : IsCharting rows charting
 
 -- Why an act of a run is as it is.
 pub record IsWhy (rows : List Row) (run : RunChoice) (asking : Asking) : Type 0 where
   pub acts : first_of (codes "acts") rows ≡ None
   pub run_is : IsRun false rows run
   pub asking_is : IsAsking rows asking
+
+-- what is shown of a run is chosen by the command that clap found, with its matches
+abbrev pub IsShowChoice : Text × List Row → RunChoice → Shape → Type 0
+IsShowChoice found run Report = ((found.0 ≡ codes "sim") × IsRun false found.1 run) ⊎ ((found.0 ≡ codes "run") × IsThreadsRun found.1 run)
+IsShowChoice found run (Trace form) = (found.0 ≡ codes "trace") × IsFormIn found.1 form × IsShowingRun found.1 run
+IsShowChoice found run Explain = (found.0 ≡ codes "explain") × IsShowingRun found.1 run
+IsShowChoice found run Stats = (found.0 ≡ codes "stats") × IsShowingRun found.1 run
+IsShowChoice found run (Chart charting) = (found.0 ≡ codes "chart") × IsRunChart found.1 run charting
+IsShowChoice found run (Why asking) = (found.0 ≡ codes "why") × IsWhy found.1 run asking
 
 -- Why an act from anywhere is as it is.
 pub record IsWhyActs (rows : List Row) (acts : ForeignActs) (asking : Asking) : Type 0 where
@@ -151,8 +168,8 @@ IsChoice found (Show run shape) = IsShowChoice found run shape
 IsChoice found (Judge judging) = (found.0 ≡ codes "judge") × IsJudging found.1 judging
 IsChoice found (Explore exploring) = (found.0 ≡ codes "explore") × IsExploring found.1 exploring
 IsChoice found (Lint file) = (found.0 ≡ codes "lint") × (first_of (codes "FILE") found.1 ≡ Some file.now)
-IsChoice found (Why run asking) = (found.0 ≡ codes "why") × IsWhy found.1 run asking
 IsChoice found (WhyActs acts asking) = (found.0 ≡ codes "why") × IsWhyActs found.1 acts asking
+IsChoice found (ChartActs acts charting) = (found.0 ≡ codes "chart") × IsActsChart found.1 acts charting
 
 -- what the program is to say of itself
 abbrev pub IsTopic : Text × List Row → Topic → Type 0
@@ -190,6 +207,21 @@ pub record HasShowingMisfit (rows : List Row) (misfit : Misfit) : Type 0 where
 pub record HasTraceMisfit (rows : List Row) (misfit : Misfit) : Type 0 where
   pub why : HasFormMisfitIn rows misfit ⊎ ((form : Form) × IsFormIn rows form × HasShowingMisfit rows misfit)
 
+-- of which part of a run is charted, and how
+abbrev pub HasChartingMisfit : List Row → Misfit → Type 0
+HasChartingMisfit rows misfit = ((misfit ≡ Hide) × ((hides : Bool) → ¬ IsHiding (first_of (codes "hide") rows) hides))
+    ⊎ ((misfit ≡ TextSource) × IsFlag (codes "text") true rows × IsFlag (codes "source") true rows)
+
+-- Of `chart`: how it is charted; then where the acts are from, a FILE or a file of acts; then what does not fit of these.
+pub record HasChartMisfit (rows : List Row) (misfit : Misfit) : Type 0 where
+  pub why : HasChartingMisfit rows misfit
+      ⊎ ((misfit ≡ Sources) × IsSome (first_of (codes "FILE") rows) × IsSome (first_of (codes "acts") rows))
+      ⊎ ((misfit ≡ NoSource) × (first_of (codes "FILE") rows ≡ None) × (first_of (codes "acts") rows ≡ None))
+      ⊎ ((charting : Charting) × IsCharting rows charting × IsSome (first_of (codes "FILE") rows) × (first_of (codes "acts") rows ≡ None)
+      × HasShowingMisfit rows misfit)
+      ⊎ ((charting : Charting) × IsCharting rows charting × (first_of (codes "FILE") rows ≡ None) × IsSome (first_of (codes "acts") rows)
+      × HasChartedActsMisfit rows misfit)
+
 -- of the command `run`
 pub record HasThreadsMisfit (rows : List Row) (misfit : Misfit) : Type 0 where
   pub why : ((misfit ≡ RunOrder) × ((picker : Picker) → ¬ IsPicker (first_of (codes "order") rows) picker))
@@ -208,7 +240,7 @@ HasShowMisfit found misfit = ((found.0 ≡ codes "sim") × HasMisfitOfRun false 
     ⊎ ((found.0 ≡ codes "trace") × HasTraceMisfit found.1 misfit)
     ⊎ ((found.0 ≡ codes "explain") × HasShowingMisfit found.1 misfit)
     ⊎ ((found.0 ≡ codes "stats") × HasShowingMisfit found.1 misfit)
-    ⊎ ((found.0 ≡ codes "chart") × HasShowingMisfit found.1 misfit)
+    ⊎ ((found.0 ≡ codes "chart") × HasChartMisfit found.1 misfit)
 
 -- what does not fit in what clap found
 abbrev pub HasMisfit : Text × List Row → Misfit → Type 0
@@ -253,10 +285,13 @@ IsUsageKind Threads kind = kind ≡ ArgumentConflict
 IsUsageKind Messages kind = kind ≡ ArgumentConflict
 IsUsageKind TopicMisfit kind = kind ≡ InvalidSubcommand
 IsUsageKind TraceForm kind = kind ≡ InvalidValue
+IsUsageKind Hide kind = kind ≡ InvalidValue
+IsUsageKind TextSource kind = kind ≡ ArgumentConflict
 IsUsageKind SameAct kind = kind ≡ ArgumentConflict
 IsUsageKind Sources kind = kind ≡ ArgumentConflict
 IsUsageKind NoSource kind = kind ≡ MissingRequiredArgument
 IsUsageKind RunOption kind = kind ≡ ArgumentConflict
+IsUsageKind ChartRunOption kind = kind ≡ ArgumentConflict
 IsUsageKind Number kind = ⊥
 
 -- the fault of what does not fit

@@ -12,6 +12,7 @@ use Rattle.lrc_page.specs.declared.size.Size.TheVariants.{Words64, Words256}
 use Rattle.lrc_envelope.specs.declared.picker.Picker.{Picker}
 use Rattle.lrc_envelope.specs.declared.picker.Picker.TheVariants.{Oldest, Newest, Twice}
 use Rattle.lrc_args.specs.declared.choice.Asking.{Asking}
+use Rattle.lrc_args.specs.declared.choice.ChartedActs.{ChartedActs}
 use Rattle.lrc_args.specs.declared.choice.ForeignActs.{ForeignActs}
 use Rattle.lrc_args.specs.declared.choice.Form.{Form}
 use Rattle.lrc_args.specs.declared.choice.Form.TheVariants as forms
@@ -105,12 +106,14 @@ pub record IsTraceTaken (rows : List Row) : Type 0 where
   pub form : HasValue (codes "as") rows
   pub messages : IsFlagOption (codes "messages") rows
 
--- of `chart`
+-- of `chart`: a FILE need not be there
 pub record IsChartTaken (rows : List Row) : Type 0 where
-  pub showing : IsShowingTaken rows
+  pub nodes : IsNumberOption (codes "nodes") rows
+  pub run : HasValue (codes "FILE") rows → IsShowingTaken rows
   pub text : IsFlagOption (codes "text") rows
   pub from : IsBareNumber (codes "from") rows
   pub to : IsBareNumber (codes "to") rows
+  pub source : IsFlagOption (codes "source") rows
 
 -- of `judge`
 pub record IsJudgeTaken (rows : List Row) : Type 0 where
@@ -169,6 +172,11 @@ IsForm word messages forms.Rapid = (word ≡ Some (codes "rapid")) × (messages 
 abbrev pub IsTraceForm : Option Text → TraceForm → Type 0
 IsTraceForm word Std = word ≡ Some (codes "std")
 IsTraceForm word Acts = word ≡ Some (codes "acts")
+
+-- whether a word says that rows of quiet acts are left out; without one they are not
+abbrev pub IsHiding : Option Text → Bool → Type 0
+IsHiding None hides = hides ≡ false
+IsHiding (Some word) hides = (word ≡ codes "quiet") × (hides ≡ true)
 
 -- How a run goes on in this order, with such a seed and such a file of events, on threads or not. A seed is of a random
 -- order alone. Where a file of events is named, the order is not used. On threads there is neither a file of events nor a
@@ -254,6 +262,17 @@ pub record AreForeignActs (rows : List Row) (acts : ForeignActs) : Type 0 where
   pub size : IsPageSize (first_of (codes "page") rows) acts.size
   pub alone : has_run_option rows ≡ false
 
+-- the words give an option that only a chart of a run has
+abbrev pub names_run_option : List Row → Bool
+names_run_option rows = list_any (λ name. is_given name rows)
+    (codes "steps" ∷ codes "collect" ∷ codes "order" ∷ codes "page" ∷ codes "events" ∷ codes "seed" ∷ codes "threads" ∷ codes "source" ∷ [])
+
+-- the acts from anywhere that are charted are chosen by these matches
+pub record AreChartedActs (rows : List Row) (acts : ChartedActs) : Type 0 where
+  pub file : first_of (codes "acts") rows ≡ Some acts.file.now
+  pub nodes : given_number (codes "nodes") rows ≡ option_map (λ nodes. nodes.count) acts.nodes
+  pub alone : names_run_option rows ≡ false
+
 -- ---- what does not fit in the matches
 
 -- the number of nodes is not 1 to 16, or that of steps not 1 to 1,000,000
@@ -295,3 +314,8 @@ HasForeignMisfit rows misfit = ((misfit ≡ unfit.RunOption) × (has_run_option 
     ⊎ ((misfit ≡ unfit.Page) × HasBadPage rows)
     ⊎ ((misfit ≡ unfit.Number) × (has_run_option rows ≡ false) × ((size : Size) × IsPageSize (first_of (codes "page") rows) size)
     × IsSomeAnd (given_number (codes "nodes") rows) (IsOutOfRange 1 16))
+
+-- of acts from anywhere that are charted
+abbrev pub HasChartedActsMisfit : List Row → Misfit → Type 0
+HasChartedActsMisfit rows misfit = ((misfit ≡ unfit.ChartRunOption) × (names_run_option rows ≡ true))
+    ⊎ ((misfit ≡ unfit.Number) × (names_run_option rows ≡ false) × IsSomeAnd (given_number (codes "nodes") rows) (IsOutOfRange 1 16))

@@ -87,6 +87,20 @@ pub struct Charting {
     /// The positions of the first and of the last act that it shows, where they are given.
     pub from: Option<u64>,
     pub to: Option<u64>,
+    /// Whether it leaves out the rows that have nothing but a quiet act.
+    pub hides_quiet: bool,
+    /// Whether the program's text stands beside it.
+    pub source: bool,
+}
+
+/// Of which acts it is asked why they are as they are: of one, or how it and another are ordered.
+#[derive(Clone, Copy)]
+pub struct Asking {
+    /// The position of an act, counted from 0.
+    pub act: u64,
+    /// That of another act.
+    pub other: Option<u64>,
+    pub ghost apart: { other ≢ Some act },
 }
 
 /// What is shown of a run.
@@ -102,6 +116,8 @@ pub enum Shape {
     Stats,
     /// A picture of it.
     Chart(Charting),
+    /// Why an act of it is as it is, or how two are ordered.
+    Why(Asking),
 }
 
 /// The options of `judge`.
@@ -146,16 +162,6 @@ pub struct Racing<'w> {
     pub group: bool,
 }
 
-/// Of which acts it is asked why they are as they are: of one, or how it and another are ordered.
-#[derive(Clone, Copy)]
-pub struct Asking {
-    /// The position of an act, counted from 0.
-    pub act: u64,
-    /// That of another act.
-    pub other: Option<u64>,
-    pub ghost apart: { other ≢ Some act },
-}
-
 /// Acts from anywhere of which it is asked why they are as they are.
 #[derive(Clone, Copy)]
 pub struct ForeignActs<'w> {
@@ -165,6 +171,15 @@ pub struct ForeignActs<'w> {
     pub nodes: Option<Nodes>,
     /// The size of a page.
     pub size: Size,
+}
+
+/// Acts from anywhere that are charted.
+#[derive(Clone, Copy)]
+pub struct ChartedActs<'w> {
+    /// The file of the text of acts; `-` is standard input.
+    pub file: &'w str,
+    /// How many nodes there are; where it is left out, one more than the greatest node that acts.
+    pub nodes: Option<Nodes>,
 }
 
 /// What is asked of the texts in files, each of which is read to its end.
@@ -182,10 +197,10 @@ pub enum Choice<'w> {
     Explore(Exploring<'w>),
     /// What is wrong with the text in this file, and what is likely to be; `-` is standard input.
     Lint(&'w str),
-    /// Why an act of a run of the nodes is as it is, or how two are ordered.
-    Why(RunChoice<'w>, Asking),
-    /// The same of acts from anywhere.
+    /// Why an act from anywhere is as it is, or how two are ordered.
     WhyActs(ForeignActs<'w>, Asking),
+    /// A picture of acts from anywhere.
+    ChartActs(ChartedActs<'w>, Charting),
 }
 
 /// The name of a command.

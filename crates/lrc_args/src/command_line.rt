@@ -14,13 +14,14 @@ ghost use Rattle.lrc_args.specs.declared.choice.ChooseFault.TheVariants.{NoMemor
 ghost use Rattle.lrc_args.specs.declared.misfit.Misfit.TheVariants.{Number};
 ghost use Rattle.lrc_args.specs.declared.misfit.Misfit.TheVariants as unfit;
 
+use crate::chart::chart_choice;
 use crate::choice::{
     Choice, ChooseFault, CommandName, Exploring, Judging, PlainRun, Racing, Request, Shape, Topic,
     TraceForm,
 };
 use crate::misfit::{Misfit, fault_of_misfit};
 use crate::reading::{is_named, most_of, nodes_of, some_nodes, some_number_of, steps_of, text_of};
-use crate::runs::{chart_choice, run_choice, showing_choice, threads_run, trace_choice};
+use crate::runs::{run_choice, showing_choice, threads_run, trace_choice};
 use crate::why::why_choice;
 use clap::ArgMatches;
 use clap::error::ErrorKind;

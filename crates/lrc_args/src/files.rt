@@ -17,8 +17,8 @@ impl<'w> Choice<'w> {
             Choice::Judge(judging) => judging.file,
             Choice::Explore(exploring) => exploring.file,
             Choice::Lint(file) => *file,
-            Choice::Why(run, _) => run.options.file,
             Choice::WhyActs(acts, _) => acts.file,
+            Choice::ChartActs(acts, _) => acts.file,
         }
     }
 
@@ -26,7 +26,10 @@ impl<'w> Choice<'w> {
     pub fn reads_acts(&self) -> bool
         ensures { result ≡ reads_acts self.now }
     {
-        matches!(self, Choice::Judge(_) | Choice::WhyActs(_, _))
+        matches!(
+            self,
+            Choice::Judge(_) | Choice::WhyActs(_, _) | Choice::ChartActs(_, _)
+        )
     }
 
     /// The file of the events, if one is named.
@@ -34,7 +37,7 @@ impl<'w> Choice<'w> {
         ensures { option_map (λ path. path.now) result ≡ events_of self.now }
     {
         match self {
-            Choice::Show(run, _) | Choice::Why(run, _) => run.way.events(),
+            Choice::Show(run, _) => run.way.events(),
             _ => None,
         }
     }

@@ -1,6 +1,7 @@
 //! The words of the command line of `treadmarks`, and the choice that they make.
 #![tactic(auto)]
 
+mod chart;
 pub mod choice;
 mod command_line;
 mod files;

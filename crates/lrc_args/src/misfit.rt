@@ -29,6 +29,10 @@ const BAD_MESSAGES: &str =
 
 const BAD_TOPIC: &str = "invalid value for '[COMMAND]': it is none of the commands";
 
+const BAD_HIDE: &str = "invalid value for '--hide <WHAT>': it is quiet";
+
+const BAD_SOURCE: &str = "the argument '--source' cannot be used with '--text'";
+
 const BAD_TRACE_FORM: &str = "invalid value for '--as <FORM>': it is std or acts";
 
 const SAME_ACT: &str = "the argument '--and <Q>' cannot be the act of '--act <P>'";
@@ -39,6 +43,9 @@ const NO_SOURCE: &str = "one of '[FILE]' and '--acts <PATH>' has to be given";
 
 const BAD_RUN_OPTION: &str =
     "with '--acts <PATH>' there are no options but '--act <P>', '--and <Q>', '--nodes <N>' and '--page <WORDS>'";
+
+const BAD_CHART_OPTION: &str =
+    "with '--acts <PATH>' there are no options but '--nodes <N>', '--text', '--from <P>', '--to <Q>' and '--hide <WHAT>'";
 
 /// Why the options that clap read are no choice.
 #[derive(Clone, Copy)]
@@ -61,6 +68,10 @@ pub(crate) enum Misfit {
     Topic,
     /// The `--as` of `races` has no word that it takes.
     TraceForm,
+    /// `--hide` has no word that it takes.
+    Hide,
+    /// The program's text is asked for, and so is a chart for a terminal.
+    TextSource,
     /// It is asked how an act and the same act are ordered.
     SameAct,
     /// There is a FILE, and so is a file of acts.
@@ -69,6 +80,8 @@ pub(crate) enum Misfit {
     NoSource,
     /// Acts are from a file of acts, and an option is given that a run has.
     RunOption,
+    /// Acts are charted from a file of acts, and an option is given that a chart of a run has.
+    ChartRunOption,
     /// A number is not in its option's range.
     Number,
 }
@@ -109,9 +122,11 @@ fn usage_kind(misfit: Misfit) -> ErrorKind
         Misfit::Seed
         | Misfit::Threads
         | Misfit::Messages
+        | Misfit::TextSource
         | Misfit::SameAct
         | Misfit::Sources
-        | Misfit::RunOption => ErrorKind::ArgumentConflict,
+        | Misfit::RunOption
+        | Misfit::ChartRunOption => ErrorKind::ArgumentConflict,
         Misfit::Topic => ErrorKind::InvalidSubcommand,
         Misfit::NoSource => ErrorKind::MissingRequiredArgument,
         _ => ErrorKind::InvalidValue,
@@ -129,10 +144,13 @@ fn message_of(misfit: Misfit) -> &'static str {
         Misfit::Messages => BAD_MESSAGES,
         Misfit::Topic => BAD_TOPIC,
         Misfit::TraceForm => BAD_TRACE_FORM,
+        Misfit::Hide => BAD_HIDE,
+        Misfit::TextSource => BAD_SOURCE,
         Misfit::SameAct => SAME_ACT,
         Misfit::Sources => BAD_SOURCES,
         Misfit::NoSource => NO_SOURCE,
         Misfit::RunOption => BAD_RUN_OPTION,
+        Misfit::ChartRunOption => BAD_CHART_OPTION,
         Misfit::Number => "number out of range",
     }
 }

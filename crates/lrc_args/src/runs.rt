@@ -4,16 +4,16 @@ ghost use Rattle.std.specs.Prelude.{◌≡◌, Bool, IfErr, IfOk, IfSome, None, 
 ghost use Rattle.clap.specs.Words.{first_of, found_of, rows_of};
 ghost use Rattle.lrc_envelope.specs.declared.picker.Picker.{Picker as AnyPicker};
 ghost use Rattle.lrc_args.specs.CommandLine.{HasMisfitOfRun, HasShowingMisfit, HasThreadsMisfit, HasTraceMisfit, IsRun, IsShowingRun, IsThreadsRun};
-ghost use Rattle.lrc_args.specs.CommandLine.{IsCharting, IsChoice};
+ghost use Rattle.lrc_args.specs.CommandLine.{IsChoice};
 ghost use Rattle.lrc_args.specs.Options.{AreRunOptions, HasFormMisfitIn, HasOptionsMisfit, HasValue, HasWayMisfit, HasWayMisfitIn};
 ghost use Rattle.lrc_args.specs.Options.{HasWordMisfit, IsForm, IsFormIn, IsOrder, IsPicker, IsRunTaken, IsShowingTaken, IsSimTaken};
-ghost use Rattle.lrc_args.specs.Options.{IsChartTaken, IsTraceTaken, IsWay, IsWayIn};
+ghost use Rattle.lrc_args.specs.Options.{IsTraceTaken, IsWay, IsWayIn};
 ghost use Rattle.lrc_args.specs.declared.misfit.Misfit.TheVariants as unfit;
 ghost use Rattle.lrc_args.specs.declared.choice.Form.{Form as AnyForm};
 ghost use Rattle.lrc_args.specs.declared.choice.RunChoice.{RunChoice as AnyRun};
 ghost use Rattle.lrc_args.specs.declared.runs.Order.{Order as AnyOrder};
 
-use crate::choice::{Charting, Choice, Form, RunChoice, RunOptions, Shape, Way};
+use crate::choice::{Choice, Form, RunChoice, RunOptions, Shape, Way};
 use crate::misfit::Misfit;
 use crate::reading::{collect_of, is_named, nodes_of, size_of, some_number_of, steps_of, text_of};
 use clap::ArgMatches;
@@ -28,8 +28,8 @@ pub(crate) enum Order {
     Random,
 }
 
-// The run of a command that has a flag for threads.
-fn showing_run<'w>(options: &ArgMatches<'w>) -> Result<RunChoice<'w>, Misfit>
+/// The run of a command that has a flag for threads.
+pub(crate) fn showing_run<'w>(options: &ArgMatches<'w>) -> Result<RunChoice<'w>, Misfit>
     requires { IsShowingTaken (rows_of (found_of options.now)) }
     ensures ok { IfOk result (IsShowingRun (rows_of (found_of options.now))) }
     ensures err { IfErr result (HasShowingMisfit (rows_of (found_of options.now))) }
@@ -61,15 +61,6 @@ pub(crate) fn trace_choice<'w>(options: &ArgMatches<'w>) -> Result<Choice<'w>, M
     Ok(Choice::Show(showing_run(options)?, Shape::Trace(form)))
 }
 
-/// The choice of `chart`.
-pub(crate) fn chart_choice<'w>(options: &ArgMatches<'w>) -> Result<Choice<'w>, Misfit>
-    requires { IsChartTaken (rows_of (found_of options.now)) }
-    ensures ok { IfOk result (IsChoice (codes "chart", rows_of (found_of options.now))) }
-    ensures err { IfErr result (HasShowingMisfit (rows_of (found_of options.now))) }
-{
-    Ok(Choice::Show(showing_run(options)?, Shape::Chart(charting_of(options))))
-}
-
 /// The choice of a command that has no options but those of its run.
 pub(crate) fn showing_choice<'w>(
     options: &ArgMatches<'w>,
@@ -80,17 +71,6 @@ pub(crate) fn showing_choice<'w>(
     ensures err { IfErr result (HasShowingMisfit (rows_of (found_of options.now))) }
 {
     Ok(Choice::Show(showing_run(options)?, shape))
-}
-
-fn charting_of(options: &ArgMatches<'_>) -> Charting
-    requires { IsChartTaken (rows_of (found_of options.now)) }
-    ensures { IsCharting (rows_of (found_of options.now)) result }
-{
-    Charting {
-        text: is_named(options, "text"),
-        from: some_number_of(options, "from"),
-        to: some_number_of(options, "to"),
-    }
 }
 
 /// A run of a command whose runs are all on threads.

@@ -6,7 +6,7 @@ ghost use Rattle.lrc_args.specs.CommandLine.{HasWhyMisfit, IsChoice};
 ghost use Rattle.lrc_args.specs.Options.{AreForeignActs, HasForeignMisfit, IsAsking, IsWhyTaken, has_run_option, option_number, some_number_in};
 ghost use Rattle.lrc_args.specs.declared.misfit.Misfit.TheVariants as unfit;
 
-use crate::choice::{Asking, Choice, ForeignActs};
+use crate::choice::{Asking, Choice, ForeignActs, Shape};
 use crate::misfit::Misfit;
 use crate::reading::{
     given_number_of, is_any_given, number_of, size_of, some_nodes, some_number_of,
@@ -25,7 +25,7 @@ pub(crate) fn why_choice<'w>(options: &ArgMatches<'w>) -> Result<Choice<'w>, Mis
 {
     let asking = asking_of(options)?;
     match (options.get_str("FILE"), options.get_str("acts")) {
-        (Some(_file), None) => Ok(Choice::Why(run_choice(options, false)?, asking)),
+        (Some(_file), None) => Ok(Choice::Show(run_choice(options, false)?, Shape::Why(asking))),
         (None, Some(file)) => Ok(Choice::WhyActs(foreign_acts(options, file)?, asking)),
         (Some(_file), Some(_acts)) => Err(Misfit::Sources),
         (None, None) => Err(Misfit::NoSource),

@@ -60,6 +60,7 @@ reached_copy task copy key c r = record {
   led = r.led;
   alike = alike_same r.alike (sym (copy_same task.flat copy.state key.state c.state));
   noted = λ e. r.noted e ∙ sym c.notes;
+  bare = λ e. c.notes ∙ r.bare e;
 }
 
 takes_copy : (task : Task) (from : Plain) (step : Step) (acts : List Act) (copy key : Noted) → IsNotedCopy copy key
@@ -191,6 +192,7 @@ module _ (task : Task) (state : State) (acts : List Act) (key : Noted) (s : Sett
     led = beginning s.acts s.settles.there s.settles.settles;
     alike = alike_on s.settles.alike (back k.alike);
     noted = start_noted;
+    bare = k.bare;
   }
 
   pub start_first : IsFirstKey task key
@@ -229,6 +231,7 @@ module _ (task : Task) (before : Noted) (step : Step) (acts : List Act) (state :
     noted = λ e.
         notes_on task.program.now task.flat.nodes r.acts t.acts on.machine on.led
         ∙ ap (λ n. noted_on n t.acts) (r.noted e) ∙ ap (noted_on before.notes.items) same ∙ sym (k.noted e);
+    bare = k.bare;
   }
 
   pub next_takes : TakesTo (plain_at task.flat before.state) step t.acts (plain_at task.flat key.state)

@@ -4,3 +4,4 @@ pub mod Keys
 pub mod Seeking
 pub mod Telling
 pub mod Answering
+pub mod Fitting

@@ -15,6 +15,7 @@ use Rattle.lrc_explore.specs.declared.search.ExploreFault.TheVariants.{BadNodes,
 use Rattle.lrc_exec.specs.Plain.{plain_start}
 use Rattle.lrc_explore.specs.Meeting.{IsCalm, Meet}
 use Rattle.lrc_explore.specs.Noted.{IsNotedAt, noted_count}
+use Rattle.lrc_explore.specs.Notes.{notes_of}
 use Rattle.lrc_explore.specs.States.{plain_at}
 use Rattle.lrc_explore.specs.Stuck.{GetsStuck, IsAtRest, IsStuck}
 use Rattle.lrc_explore.specs.Verdict.{EndsInRace, NeverStuck}
@@ -64,6 +65,13 @@ pub record FitsSettled (program : Program) (nodes most : ℕ) : Type 0 where
   pub few : length states ≤ most
   pub all : (acts : List Act) (machine : Plain) → IsSettledState program nodes acts machine
       → (like : Plain) × Contains states like × AreAlike machine like
+
+-- so it is of each with the notes of the acts that lead to it
+pub record FitsSettledNoted (program : Program) (nodes most : ℕ) : Type 0 where
+  pub states : List (Plain × List Act)
+  pub few : length states ≤ most
+  pub all : (acts : List Act) (machine : Plain) → IsSettledState program nodes acts machine
+      → (like : Plain) × Contains states (like, notes_of nodes acts) × AreAlike machine like
 
 -- why a search gives up: some node makes as many free acts as it may look at, or it met too many states; or it had no memory
 pub data IsTooMany (task : Task) : Type 0 where
@@ -135,3 +143,8 @@ abbrev pub IsEnd : Task → Found → End → Type 0
 IsEnd task found (end.Meeting place p q) = (key : Noted) × IsNotedAt found.states place key × Meet (plain_at task.flat key.state) p q
 IsEnd task found (end.Through stuck) =
     AreCalm task found.states (noted_count found.states) × AreExpanded task found.states (noted_count found.states) × IsStuckFirst task found.states stuck
+
+-- a search that went past all of its states met no more than it may
+abbrev pub FitsEnd : Task → Found → End → Type 0
+FitsEnd task found (end.Meeting place p q) = Unit {0}
+FitsEnd task found (end.Through stuck) = noted_count found.states ≤ task.most

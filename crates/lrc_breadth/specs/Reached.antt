@@ -1,5 +1,5 @@
 -- States that a search through the settled states has found.
-use Rattle.std.specs.Prelude.{◌≡◌, ℕ, ◌<◌, ◌≤◌, true, List, [], ◌∷◌, ◌++◌, Some, length, slice_get}
+use Rattle.std.specs.Prelude.{◌≡◌, ℕ, ◌<◌, ◌≤◌, true, false, List, [], ◌∷◌, ◌++◌, Some, length, slice_get}
 use Rattle.lrc_trace.specs.declared.act.Act.{Act}
 use Rattle.lrc_exec.specs.Plain.{Plain, plain_start}
 use Rattle.lrc_exec.specs.Spots.{IsFlat}
@@ -34,7 +34,7 @@ noted_on notes [] = notes
 noted_on notes (act ∷ acts) = noted_on (notes_with notes act) acts
 
 -- a settled state of the program stands behind what is kept: the same words, holders of locks and threads, and if notes are kept
--- the notes of the acts that lead there
+-- the notes of the acts that lead there, and else none
 pub record IsReached (task : Task) (key : Noted) : Type 0 where
   pub valid : IsStateOf task.flat key.state
   pub counted : IsCounted key.state
@@ -43,6 +43,7 @@ pub record IsReached (task : Task) (key : Noted) : Type 0 where
   pub led : IsSettledState task.program.now task.flat.nodes acts machine
   pub alike : AreAlike machine (plain_at task.flat key.state)
   pub noted : task.noting ≡ true → notes_of task.flat.nodes acts ≡ key.notes.items
+  pub bare : task.noting ≡ false → key.notes.items ≡ []
 
 -- so it is of all, and each stands once
 pub record AreReached (task : Task) (all : NotedStates) : Type 0 where
@@ -127,6 +128,7 @@ pub record IsKeyOf (task : Task) (state : State) (notes acts : List Act) (key : 
   pub counted : IsCounted key.state
   pub alike : AreAlike (plain_at task.flat key.state) (plain_at task.flat state)
   pub noted : task.noting ≡ true → key.notes.items ≡ noted_on notes acts
+  pub bare : task.noting ≡ false → key.notes.items ≡ []
 
 -- some place keeps it
 abbrev pub IsKept : NotedStates → Noted → Type 0

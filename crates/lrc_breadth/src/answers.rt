@@ -5,7 +5,8 @@ ghost use Rattle.lrc_trace.specs.declared.act.Act.{Act as ActType};
 ghost use Rattle.lrc_exec.specs.Nodes.{AreNodes};
 ghost use Rattle.lrc_consistency_laws.specs.Follows.{nodes_of_acts};
 ghost use Rattle.lrc_explore.specs.Outcome.{HasOutcome, IsOutcome};
-ghost use Rattle.lrc_breadth.specs.Answers.{IsAnswer, IsFaultOf, MetTooMany, looked_at};
+ghost use Rattle.lrc_breadth.specs.Answers.{FitsSettled, FitsSettledNoted, IsAnswer, IsFaultOf, MetTooMany, looked_at};
+ghost use Rattle.lrc_explore.specs.Verdict.{FindsNoRace};
 ghost use Rattle.lrc_breadth.specs.Reached.{IsTask};
 
 use crate::task::{End, Found, Task};
@@ -27,6 +28,7 @@ pub fn explore(
     most: usize,
 ) -> Result<Verdict, ExploreFault>
     ensures answer { IfOk result (IsAnswer program.now nodes) }
+    ensures fits { IfOk result (λ verdict. FindsNoRace verdict → FitsSettled program.now nodes most) }
     ensures bad_nodes { (result ≡ Err ExploreFault.BadNodes) ↔ (¬ AreNodes nodes) }
     ensures too_many { IfErr result (λ fault. fault ≡ ExploreFault.TooMany → MetTooMany program.now nodes most) }
 {
@@ -43,6 +45,7 @@ fn explore_code(
     most: usize,
 ) -> Result<Verdict, ExploreFault>
     ensures answer { IfOk result (IsAnswer code.now nodes) }
+    ensures fits { IfOk result (λ verdict. FindsNoRace verdict → FitsSettled code.now nodes most) }
     ensures faults { IfErr result (IsFaultOf code.now nodes most) }
 {
     let task = task_of(code, nodes, most, false);
@@ -59,6 +62,7 @@ pub fn outcomes(
     most: usize,
 ) -> Result<IndexSet<Outcome>, ExploreFault>
     ensures exact { IfOk result (λ found. (notes : List ActType) → (HasOutcome found.keys notes ↔ IsOutcome program.now nodes notes)) }
+    ensures fits { IfOk result (λ _. FitsSettledNoted program.now nodes most) }
     ensures bad_nodes { (result ≡ Err ExploreFault.BadNodes) ↔ (¬ AreNodes nodes) }
     ensures too_many { IfErr result (λ fault. fault ≡ ExploreFault.TooMany → MetTooMany program.now nodes most) }
 {
@@ -75,6 +79,7 @@ fn outcomes_of(
     most: usize,
 ) -> Result<IndexSet<Outcome>, ExploreFault>
     ensures exact { IfOk result (λ found. (notes : List ActType) → (HasOutcome found.keys notes ↔ IsOutcome code.now nodes notes)) }
+    ensures fits { IfOk result (λ _. FitsSettledNoted code.now nodes most) }
     ensures faults { IfErr result (IsFaultOf code.now nodes most) }
 {
     let task = task_of(code, nodes, most, true);
@@ -145,7 +150,8 @@ impl Found {
     ghost use Rattle.std.specs.Prelude.{◌≡◌, IfOk, IfErr, OnOk, [], true, Some};
     ghost use Rattle.lrc_explore.specs.Noted.{AreNotedDistinct, noted_count};
     ghost use Rattle.lrc_breadth.specs.Reached.{AreFound, HasStart, IsTask};
-    ghost use Rattle.lrc_breadth.specs.Answers.{IsAnswer, IsEnd, IsFault};
+    ghost use Rattle.lrc_breadth.specs.Answers.{FitsEnd, FitsSettled, FitsSettledNoted, IsAnswer, IsEnd, IsFault};
+    ghost use Rattle.lrc_explore.specs.Verdict.{FindsNoRace};
     ghost use Rattle.lrc_breadth.specs.declared.task.End.TheVariants.{Meeting, Through};
 
     // From the settled start on, where there are no states yet: what is answered.
@@ -155,6 +161,7 @@ impl Found {
         requires distinct { AreNotedDistinct self.old.states }
         requires origins { self.old.origins.items ≡ [] }
         ensures answer { IfOk result (IsAnswer task.now.program.now task.now.flat.nodes) }
+        ensures fits { IfOk result (λ verdict. FindsNoRace verdict → FitsSettled task.now.program.now task.now.flat.nodes task.now.most) }
         ensures faults { IfErr result (IsFault task.now) }
     {
         self.begin(alloc, task)?;
@@ -168,7 +175,9 @@ impl Found {
         requires found { AreFound task.now self.now }
         requires start { HasStart task.now self.now.states }
         requires end { IsEnd task.now self.now end }
+        requires few { FitsEnd task.now self.now end }
         ensures answer { IfOk result (IsAnswer task.now.program.now task.now.flat.nodes) }
+        ensures fits { IfOk result (λ verdict. FindsNoRace verdict → FitsSettled task.now.program.now task.now.flat.nodes task.now.most) }
         ensures faults { IfErr result (IsFault task.now) }
     {
         match end {
@@ -191,6 +200,7 @@ impl Found {
         requires found { AreFound task.now self.now }
         requires meeting { IsEnd task.now self.now (Meeting place p q) }
         ensures answer { IfOk result (IsAnswer task.now.program.now task.now.flat.nodes) }
+        ensures racy { IfOk result (λ verdict. ¬ FindsNoRace verdict) }
         ensures faults { IfErr result (IsFault task.now) }
     {
         let acts = self.acts_to(alloc, task, place)?;
@@ -231,6 +241,7 @@ impl Found {
         requires origins { self.old.origins.items ≡ [] }
         requires empty { outcomes.old.keys ≡ [] }
         ensures exact { OnOk result ((notes : List ActType) → (HasOutcome outcomes.new.keys notes ↔ IsOutcome task.now.program.now task.now.flat.nodes notes)) }
+        ensures fits { OnOk result (FitsSettledNoted task.now.program.now task.now.flat.nodes task.now.most) }
         ensures faults { IfErr result (IsFault task.now) }
     {
         self.begin(alloc, task)?;

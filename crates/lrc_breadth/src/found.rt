@@ -1,6 +1,6 @@
 // States that were found, and how.
 
-ghost use Rattle.std.specs.Prelude.{◌≡◌, ◌++◌, IfOk, IfErr, OnOk, MatchOption, MatchResult, true, false};
+ghost use Rattle.std.specs.Prelude.{◌≡◌, ◌++◌, [], IfOk, IfErr, OnOk, MatchOption, MatchResult, true, false};
 ghost use Rattle.lrc_explore.specs.declared.search.ExploreFault.TheVariants.{TooMany};
 ghost use Rattle.lrc_explore.specs.States.{plain_at, IsStateOf};
 ghost use Rattle.lrc_settled.specs.Settling.{IsSettled};
@@ -132,14 +132,15 @@ fn key_of(
     Ok(Noted { state, notes })
 }
 
-// Notes with several acts more, if notes are kept.
+// Notes with several acts more, if notes are kept, and else none.
 fn notes_on(
     alloc: Global,
     task: &Task<'_>,
     notes: &[Act],
     acts: &[Act],
 ) -> Result<Vec<Act>, AllocError>
-    ensures { IfOk result (λ all. task.now.noting ≡ true → all.items ≡ noted_on notes.now acts.now) }
+    ensures noted { IfOk result (λ all. task.now.noting ≡ true → all.items ≡ noted_on notes.now acts.now) }
+    ensures bare { IfOk result (λ all. task.now.noting ≡ false → all.items ≡ []) }
 {
     let mut all = Vec::new(alloc);
     if !task.noting {

@@ -27,7 +27,7 @@ impl Found {
     ghost use Rattle.lrc_explore.specs.Noted.{noted_count, WidensNoted};
     ghost use Rattle.lrc_explore.specs.Kept.{Grows};
     ghost use Rattle.lrc_breadth.specs.Reached.{AreExpanded, AreFound, IsExpandedAt, IsMore, IsTask};
-    ghost use Rattle.lrc_breadth.specs.Answers.{AreGathered, AreSound, IsEnd, IsFault, IsGatheredAt, IsVisit};
+    ghost use Rattle.lrc_breadth.specs.Answers.{AreGathered, AreSound, FitsEnd, IsEnd, IsFault, IsGatheredAt, IsVisit};
 
     /// Goes through the states, in the order in which they are found, up to one where two nodes meet.
     pub fn seek(&mut self, alloc: Global, task: &Task<'_>) -> Result<End, ExploreFault>
@@ -36,6 +36,7 @@ impl Found {
         ensures found { OnOk result (AreFound task.now self.new) }
         ensures more { OnOk result (IsMore self.old self.new) }
         ensures end { IfOk result (IsEnd task.now self.new) }
+        ensures fits { IfOk result (FitsEnd task.now self.new) }
         ensures faults { IfErr result (IsFault task.now) }
     {
         let mut stuck = None;

@@ -10,8 +10,8 @@ use Rattle.lrc_wire.specs.declared.kind.Kind.TheVariants as kinds
 use Rattle.lrc_messages.specs.MessageText.{kind_name, message_text}
 use Rattle.lrc_turns_text.specs.Turns.{Made}
 use Rattle.lrc_chart_rows.specs.Takers.{takers}
-use Rattle.lrc_chart_rows.specs.declared.row.Row.{Row}
 use Rattle.lrc_chart_build.specs.Seen.{SeenArrow, SeenLost}
+use Rattle.lrc_chart_build.specs.declared.part.Place.{Place}
 
 abbrev pub message_kind : Message → Kind
 message_kind (messages.LockRequest m) = kinds.LockRequest
@@ -30,7 +30,7 @@ abbrev pub label_text : Message → List ℕ
 label_text message = kind_name (message_kind message)
 
 -- the place of the row of the turn at a position, if it is shown
-abbrev pub place_of_turn : List Row → (turn : ℕ) → Option ℕ
+abbrev pub place_of_turn : List Place → (turn : ℕ) → Option ℕ
 place_of_turn rows turn = position (λ row. row.turn == turn) rows
 
 -- ---- messages that were taken
@@ -57,7 +57,7 @@ abbrev pub is_later : ℕ → Bool
 is_later place = not (place == 0)
 
 -- the arrows of a message to the turns that take it
-abbrev pub shown_message_arrows : List Row → (from : ℕ) → EnvelopeRecord → List ℕ → List SeenArrow
+abbrev pub shown_message_arrows : List Place → (from : ℕ) → EnvelopeRecord → List ℕ → List SeenArrow
 shown_message_arrows rows from envelope turns = each (λ place turn. arrow_if from envelope (is_later place) (place_of_turn rows turn)) turns
 
 -- the messages that a turn sends, if there is the turn
@@ -67,7 +67,7 @@ sent_in_turn (Some turn) = turn.entry.turn.out
 
 -- An arrow for each message and each turn that takes it, from the row of the turn that sends it to the row of that turn, where both
 -- are shown; all but the first taking are repeats.
-abbrev pub shown_arrows : List Made → List Row → List SeenArrow
+abbrev pub shown_arrows : List Made → List Place → List SeenArrow
 shown_arrows turns rows =
     each (λ from row. flat_map (λ envelope. shown_message_arrows rows from envelope (takers turns envelope)) (sent_in_turn (slice_get turns row.turn))) rows
 
@@ -88,6 +88,6 @@ lost_if from envelope [] = lost_one from envelope ∷ []
 lost_if from envelope (first ∷ more) = []
 
 -- each message that is shown to be sent, and that no turn of the run takes
-abbrev pub shown_lost : List Made → List Row → List SeenLost
+abbrev pub shown_lost : List Made → List Place → List SeenLost
 shown_lost turns rows =
     each (λ from row. flat_map (λ envelope. lost_if from envelope (takers turns envelope)) (sent_in_turn (slice_get turns row.turn))) rows

@@ -6,8 +6,8 @@ use Rattle.lrc_trace.specs.declared.act.Deed.{Deed}
 use Rattle.lrc_trace.specs.declared.act.Deed.TheVariants.{Arrive, Depart}
 use Rattle.lrc_trace.specs.Run.{arrives_before, departs_before}
 use Rattle.lrc_text.specs.Each.{each}
-use Rattle.lrc_chart_rows.specs.declared.row.Row.{Row}
 use Rattle.lrc_chart_build.specs.Seen.{SeenBand}
+use Rattle.lrc_chart_build.specs.declared.part.Place.{Place}
 
 -- the number, from 1, of the barrier that a node comes to or leaves at a position; 0 at another deed
 abbrev pub barrier_of : List Act → (position node : ℕ) → Deed → ℕ
@@ -24,7 +24,7 @@ barrier_at acts None = 0
 barrier_at acts (Some position) = barrier_of_act acts position (slice_get acts position)
 
 -- the barrier of each row
-abbrev pub barriers : List Act → List Row → List ℕ
+abbrev pub barriers : List Act → List Place → List ℕ
 barriers acts rows = map (λ row. barrier_at acts row.act) rows
 
 -- the places of a number
@@ -50,7 +50,7 @@ band_if numbers place number = if number == 0 then [] else band_at number place 
 
 -- A band for each barrier that a node comes to or leaves at a row, from the first such row to the last, in the order of the first
 -- ones.
-abbrev pub shown_bands : List Act → List Row → List SeenBand
+abbrev pub shown_bands : List Act → List Place → List SeenBand
 shown_bands acts rows = let numbers = barriers acts rows in each (band_if numbers) numbers
 
 -- ---- what that comes to

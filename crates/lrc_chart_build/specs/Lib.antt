@@ -1,8 +1,11 @@
 pub mod Seen
 pub mod Course
+pub mod Bands
 pub mod Words
+pub mod Waits
+pub mod Circles
 pub mod Rows
 pub mod Arrows
-pub mod Bands
 pub mod Races
+pub mod Source
 pub mod Portrait

@@ -1,29 +1,34 @@
--- The rows of a picture: one for each row of the run's part, by its turn.
-use Rattle.std.specs.Prelude.{ℕ, Option, None, Some, List, [], ◌∷◌, slice_get}
-use Rattle.std.specs.List.{flat_map}
+-- The rows of a picture: one for each row shown, by its turn.
+use Rattle.std.specs.Prelude.{ℕ, Option, None, Some, List, [], ◌∷◌, slice_get, take}
+use Rattle.lrc_text.specs.Each.{each}
 use Rattle.lrc_turns_text.specs.Turns.{Made}
-use Rattle.lrc_chart_rows.specs.declared.row.Row.{Row}
+use Rattle.lrc_chart_build.specs.Circles.{is_circled}
 use Rattle.lrc_chart_build.specs.Course.{CourseRecord}
 use Rattle.lrc_chart_build.specs.Seen.{SeenRow}
-use Rattle.lrc_chart_build.specs.Words.{act_place_text, hint_text, invalid_text, new_time_text, turn_closes, turn_kind, turn_words}
+use Rattle.lrc_chart_build.specs.Waits.{invalid_text, turn_kind, turn_words}
+use Rattle.lrc_chart_build.specs.Words.{act_closes, act_place_text, hint_text, new_time_text}
+use Rattle.lrc_chart_build.specs.declared.part.Place.{Place}
 
--- a row, and the turn that it is of
-abbrev pub shown_row : CourseRecord → Row → Made → SeenRow
-shown_row course row turn = record {
+-- the row at a place, and the turn that it is of
+abbrev pub shown_row : CourseRecord → (circled : List ℕ) → List Place → (at : ℕ) → Place → Made → SeenRow
+shown_row course circled places at place turn = record {
+  number = place.number;
   column = turn.node;
-  kind = turn_kind turn.entry.turn.act turn.entry.input;
-  words = turn_words turn.entry.turn.act turn.entry.input;
-  time = new_time_text course turn.node row.act;
-  invalid = invalid_text course.turns row.turn turn.entry.input;
-  place = act_place_text course turn.node row.act;
-  hint = hint_text course row.act;
-  closes = turn_closes turn.entry.turn.act;
+  kind = turn_kind course.turns place.turn turn;
+  words = turn_words course place turn;
+  time = new_time_text course.known (take at places) turn.node place.act;
+  invalid = invalid_text course.turns place.turn turn.entry.input;
+  place = act_place_text course.known turn.node place.act;
+  hint = hint_text course.known place.act;
+  closes = act_closes turn.entry.turn.act;
+  circled = is_circled course.turns circled places at place turn;
 }
 
 -- the same, if there is such a turn
-abbrev pub shown_if : CourseRecord → Row → Option Made → List SeenRow
-shown_if course row None = []
-shown_if course row (Some turn) = shown_row course row turn ∷ []
+abbrev pub shown_if : CourseRecord → (circled : List ℕ) → List Place → (at : ℕ) → Place → Option Made → List SeenRow
+shown_if course circled places at place None = []
+shown_if course circled places at place (Some turn) = shown_row course circled places at place turn ∷ []
 
-abbrev pub shown_rows : CourseRecord → List Row → List SeenRow
-shown_rows course rows = flat_map (λ row. shown_if course row (slice_get course.turns row.turn)) rows
+-- the rows shown, where these are the nodes of the circles of waiting
+abbrev pub shown_rows : CourseRecord → (circled : List ℕ) → List Place → List SeenRow
+shown_rows course circled places = each (λ at place. shown_if course circled places at place (slice_get course.turns place.turn)) places

@@ -6,8 +6,10 @@ use Rattle.lrc_chart_model.specs.declared.picture.Kind.{Kind}
 use Rattle.lrc_chart_model.specs.declared.picture.Lost.{Lost}
 use Rattle.lrc_chart_model.specs.declared.picture.Race.{Race}
 use Rattle.lrc_chart_model.specs.declared.picture.Row.{Row}
+use Rattle.lrc_chart_model.specs.declared.picture.SourceLine.{SourceLine}
 
 pub record SeenRow : Type 0 where
+  pub number : ℕ
   pub column : ℕ
   pub kind : Kind
   pub words : List ℕ
@@ -16,9 +18,11 @@ pub record SeenRow : Type 0 where
   pub place : List ℕ
   pub hint : List ℕ
   pub closes : Bool
+  pub circled : Bool
 
 abbrev pub seen_row : Row → SeenRow
 seen_row row = record {
+  number = row.number;
   column = row.column;
   kind = row.kind;
   words = row.words.items;
@@ -27,6 +31,7 @@ seen_row row = record {
   place = row.place.items;
   hint = row.hint.items;
   closes = row.closes;
+  circled = row.circled;
 }
 
 pub record SeenArrow : Type 0 where
@@ -74,6 +79,7 @@ abbrev pub seen_band : Band → SeenBand
 seen_band band = record { from = band.from; to = band.to; label = band.label.items }
 
 pub record SeenRace : Type 0 where
+  pub number : ℕ
   pub from : ℕ
   pub first : ℕ
   pub to : ℕ
@@ -83,6 +89,7 @@ pub record SeenRace : Type 0 where
 
 abbrev pub seen_race : Race → SeenRace
 seen_race race = record {
+  number = race.number;
   from = race.from;
   first = race.first;
   to = race.to;
@@ -90,3 +97,10 @@ seen_race race = record {
   label = race.label.items;
   hint = race.hint.items;
 }
+
+pub record SeenLine : Type 0 where
+  pub words : List ℕ
+  pub marked : Bool
+
+abbrev pub seen_line : SourceLine → SeenLine
+seen_line line = record { words = line.words.items; marked = line.marked }

@@ -8,9 +8,9 @@ ghost use Rattle.lrc_chart_build.specs.Arrows.{sent_in_turn, shown_arrows, shown
 ghost use Rattle.lrc_chart_build.specs.Seen.{seen_arrow, seen_lost};
 
 use crate::message::{label_text, message_text};
-use crate::rows::turn_at;
+use crate::part::{Place, turn_at};
 use lrc_chart_model::{Arrow, Lost};
-use lrc_chart_rows::{Row as Place, TurnOf, takers};
+use lrc_chart_rows::{TurnOf, takers};
 use lrc_envelope::Envelope;
 use std::alloc::{AllocError, Global};
 

@@ -7,8 +7,8 @@ ghost use Rattle.lrc_chart_build.specs.Bands.{last_or, places_of, shown_bands};
 ghost use Rattle.lrc_chart_build.specs.Seen.{seen_band};
 ghost use Rattle.lrc_text.specs.Each.{each};
 
+use crate::part::Place;
 use lrc_chart_model::Band;
-use lrc_chart_rows::Row as Place;
 use lrc_text::push_number;
 use lrc_trace::act::{Act, Deed};
 use std::alloc::{AllocError, Global};
@@ -65,7 +65,8 @@ fn barrier_of_act(acts: &[Act], position: usize) -> u64
     }
 }
 
-fn barrier_at(acts: &[Act], act: Option<usize>) -> u64
+/// The number of the barrier that the act at a position, if there is one, comes to or leaves; 0 at another deed.
+pub(crate) fn barrier_at(acts: &[Act], act: Option<usize>) -> u64
     ensures { result ≡ barrier_at acts.now act }
 {
     match act {
@@ -171,11 +172,7 @@ fn push_bands(alloc: Global, bands: &mut Vec<Band>, numbers: &[u64]) -> Result<(
 }
 
 /// A band for each barrier that a node comes to or leaves at one of these places.
-pub(crate) fn bands_of(
-    alloc: Global,
-    acts: &[Act],
-    places: &[Place],
-) -> Result<Vec<Band>, AllocError>
+pub fn bands_of(alloc: Global, acts: &[Act], places: &[Place]) -> Result<Vec<Band>, AllocError>
     ensures { IfOk result (λ bands. map seen_band bands.items ≡ shown_bands acts.now places.now) }
 {
     let numbers = barriers(alloc, acts, places)?;

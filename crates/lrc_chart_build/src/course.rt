@@ -2,19 +2,38 @@
 
 use lrc_chart_rows::TurnOf;
 use lrc_judge::first_pairs::Pair;
+use lrc_labels::label::Label;
 use lrc_time::Time;
 use lrc_trace::act::Act;
 use std::marker::Model;
 
-/// A run: its turns and its acts, in order; and by the positions of the acts the line of the program's text that each is of, and the
-/// time that its node has just after it; and of each race named the first pair of acts that it names.
+/// Acts, in order; by their positions the line of the program's text that each is of, and the time that its node has just after it; of
+/// each race named the first pair of acts that it names; and the labels of words and locks.
 #[derive(Drop)]
-pub struct Course<'a> {
-    pub turns: &'a [TurnOf<'a>],
+pub struct Known<'a> {
     pub acts: &'a [Act],
     pub lines: &'a [u32],
     pub times: &'a [Time],
     pub pairs: &'a [Pair],
+    pub labels: &'a [Label<'a>],
+}
+
+impl<'a> Model for Known<'a> {
+    ghost use Rattle.std.specs.Prelude.{map};
+    ghost use Rattle.lrc_labels.specs.Reading.{label_seen};
+    ghost use Rattle.lrc_chart_build.specs.Course.{KnownRecord};
+
+    ghost Value = { KnownRecord };
+
+    ghost view = { λ k. record { acts = k.acts.now; lines = k.lines.now; times = k.times.now; pairs = k.pairs.now; labels = map label_seen k.labels.now } };
+}
+
+/// A run: its turns, in order; its acts, and what is known of them; and for whom each node waits when the run has ended.
+#[derive(Drop)]
+pub struct Course<'a> {
+    pub turns: &'a [TurnOf<'a>],
+    pub known: Known<'a>,
+    pub waits: &'a [Option<usize>],
 }
 
 impl<'a> Model for Course<'a> {
@@ -22,5 +41,5 @@ impl<'a> Model for Course<'a> {
 
     ghost Value = { CourseRecord };
 
-    ghost view = { λ c. record { turns = c.turns.now; acts = c.acts.now; lines = c.lines.now; times = c.times.now; pairs = c.pairs.now } };
+    ghost view = { λ c. record { turns = c.turns.now; known = c.known; waits = c.waits.now } };
 }

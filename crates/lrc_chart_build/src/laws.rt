@@ -2,10 +2,10 @@
 
 ghost use Rattle.std.specs.Prelude.{List};
 ghost use Rattle.lrc_trace.specs.declared.act.Act.{Act};
-ghost use Rattle.lrc_chart_rows.specs.declared.row.Row.{Row};
+ghost use Rattle.lrc_chart_build.specs.declared.part.Place.{Place};
 ghost use Rattle.lrc_chart_build.specs.Bands.{AreBandsOf, barriers, shown_bands};
 
 /// Each barrier that a node comes to or leaves at a row has one band, from the first such row to the last, and there are no others.
 pub fn each_barrier_has_one_band()
-    ensures { (acts : List Act) (rows : List Row) → AreBandsOf (barriers acts rows) (shown_bands acts rows) }
+    ensures { (acts : List Act) (rows : List Place) → AreBandsOf (barriers acts rows) (shown_bands acts rows) }
 {}

@@ -3,6 +3,7 @@
 
 mod arrows;
 mod bands;
+mod circles;
 mod course;
 pub mod laws;
 mod message;
@@ -11,9 +12,15 @@ mod part;
 mod portrait;
 mod races;
 mod rows;
+mod source;
 mod times;
+mod waits;
 mod words;
 
-pub use course::Course;
-pub use part::Part;
-pub use portrait::{PortraitFault, portrait_of};
+pub use bands::bands_of;
+pub use course::{Course, Known};
+pub use part::{Part, Place};
+pub use portrait::{MOST_ROWS, PortraitFault, columns_of, portrait_of};
+pub use races::races_of;
+pub use times::{hint_text, new_time_text};
+pub use words::{act_closes, act_place_text, deed_kind, push_act_words};

@@ -3,8 +3,7 @@
 ghost use Rattle.std.specs.Prelude.{◌≡◌, ◌==◌, ◌∷◌, ◌++◌, [], IfOk, OnOk, if◌then◌else◌, take};
 ghost use Rattle.std.specs.List.{flat_map, list_any};
 ghost use Rattle.lrc_node.specs.Logged.{seen_input};
-ghost use Rattle.lrc_acts_text.specs.Json.{entry_text, with_commas};
-ghost use Rattle.lrc_chart_build.specs.Words.{each_once, invalid_text, invalid_words, named_in, taken_before, told_by};
+ghost use Rattle.lrc_chart_build.specs.Waits.{each_once, invalid_text, invalid_words, listed, named_in, taken_before, told_by};
 
 use lrc_chart_rows::{TurnOf, takes};
 use lrc_envelope::{Envelope, Message};
@@ -62,21 +61,12 @@ fn each_once(alloc: Global, pages: &[u16]) -> Result<Vec<u16>, AllocError>
     Ok(once)
 }
 
-fn push_listed(text: &mut Vec<u8>, place: usize, page: u16) -> Result<(), AllocError>
-    ensures { OnOk result (text.new.items ≡ text.old.items ++ entry_text place page) }
-{
-    if place == 0 {
-        push_number(text, b"", u64::from(page))
-    } else {
-        push_number(text, b",", u64::from(page))
-    }
-}
-
+// Adds further pages.
 fn push_pages(text: &mut Vec<u8>, pages: &[u16]) -> Result<(), AllocError>
-    ensures { OnOk result (text.new.items ≡ text.old.items ++ with_commas pages.now) }
+    ensures { OnOk result (text.new.items ≡ text.old.items ++ listed pages.now) }
 {
-    for (place, page) in pages.iter().enumerate() {
-        push_listed(text, place, *page)?;
+    for page in pages {
+        push_number(text, b", ", u64::from(*page))?;
     }
     Ok(())
 }
@@ -86,15 +76,20 @@ fn push_invalid(text: &mut Vec<u8>, pages: &[u16]) -> Result<(), AllocError>
 {
     match pages {
         [] => Ok(()),
-        [_, ..] => {
-            text.extend_from_slice(b"invalid ")?;
-            push_pages(text, pages)
+        [page] => {
+            push_number(text, b"page ", u64::from(*page))?;
+            text.extend_from_slice(b" invalid")
+        }
+        [page, others @ ..] => {
+            push_number(text, b"pages ", u64::from(*page))?;
+            push_pages(text, others)?;
+            text.extend_from_slice(b" invalid")
         }
     }
 }
 
-// Whether one of the turns before a position takes the message.
-fn taken_before(turns: &[TurnOf<'_>], position: usize, envelope: &Envelope) -> bool
+/// Whether one of the turns before a position takes the message.
+pub(crate) fn taken_before(turns: &[TurnOf<'_>], position: usize, envelope: &Envelope) -> bool
     ensures { result ≡ taken_before turns.now position envelope.now }
 {
     turns

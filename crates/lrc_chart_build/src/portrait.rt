@@ -1,28 +1,30 @@
 // A run as a picture.
 
-ghost use Rattle.std.specs.Prelude.{◌≡◌, ◌<◌, ◌≤◌, ◌∷◌, ◌++◌, [], IfErr, IfOk, OnOk, length, map};
+ghost use Rattle.std.specs.Prelude.{◌≡◌, ◌<◌, ◌≤◌, ◌∷◌, ◌++◌, [], IfErr, IfOk, OnOk, if◌then◌else◌, length, map, option_map};
 ghost use Rattle.lrc_chart_build.specs.declared.portrait.PortraitFault.TheVariants.{NoMemory, TooLong};
-ghost use Rattle.lrc_chart_build.specs.Portrait.{IsPortrait, MOST_SHOWN, column_name, column_names, rows_shown};
+ghost use Rattle.lrc_chart_build.specs.Course.{rows_shown};
+ghost use Rattle.lrc_chart_build.specs.Portrait.{IsPictureOf, IsPortrait, MOST_SHOWN, column_name, column_names};
 
 use crate::arrows::{arrows_of, lost_of};
 use crate::bands::bands_of;
+use crate::circles::{circled_nodes, deadlock_lines};
 use crate::course::Course;
-use crate::part::{Part, rows_in};
+use crate::part::{Part, Place, ends_in, kept_of, rows_in};
 use crate::races::races_of;
 use crate::rows::rows_of;
+use crate::source::source_of;
 use lrc_chart_model::Picture;
-use lrc_chart_rows::Row as Place;
 use lrc_text::push_number;
 use std::alloc::{AllocError, Global};
 use thiserror::Error;
 
-/// How many turns a picture shows at most.
+/// How many rows a picture shows at most.
 pub const MOST_ROWS: usize = 2000;
 
 /// Why there is no picture.
 #[derive(Clone, Copy, Debug, PartialEq, Eq, Error)]
 pub enum PortraitFault {
-    /// There are more turns than a picture shows.
+    /// There are more rows than a picture shows.
     #[error("too long for a chart")]
     TooLong,
     /// Memory ran out.
@@ -54,7 +56,8 @@ fn push_column(alloc: Global, columns: &mut Vec<Vec<u8>>, node: u8) -> Result<()
     Ok(())
 }
 
-fn columns_of(alloc: Global, nodes: u8) -> Result<Vec<Vec<u8>>, AllocError>
+/// The names of the columns of so many nodes.
+pub fn columns_of(alloc: Global, nodes: u8) -> Result<Vec<Vec<u8>>, AllocError>
     ensures { IfOk result (λ columns. map (λ name. name.items) columns.items ≡ column_names nodes) }
 {
     let mut columns = Vec::new(alloc);
@@ -64,43 +67,73 @@ fn columns_of(alloc: Global, nodes: u8) -> Result<Vec<Vec<u8>>, AllocError>
     Ok(columns)
 }
 
+// For whom nodes wait, where the end of the run is shown; else for nobody.
+fn waits_if<'a>(waits: &'a [Option<usize>], shows_end: bool) -> &'a [Option<usize>]
+    ensures { result.now ≡ (if shows_end then waits.now else []) }
+{
+    if shows_end { waits } else { &[] }
+}
+
+// What a picture has of these rows of a run, where nodes wait like this.
 fn picture_of(
     alloc: Global,
     title: &[u8],
     nodes: u8,
     course: &Course<'_>,
+    waits: &[Option<usize>],
     places: &[Place],
+    source: Option<&[u8]>,
 ) -> Result<Picture, AllocError>
-    ensures { IfOk result (IsPortrait title.now nodes course.now places.now) }
+    ensures { IfOk result (IsPictureOf title.now nodes course.now waits.now places.now (option_map (λ text. text.now) source.entry)) }
 {
+    let known = &course.known;
+    let circled = circled_nodes(alloc, waits)?;
     Ok(Picture {
         title: Vec::from_slice(alloc, title)?,
         columns: columns_of(alloc, nodes)?,
-        rows: rows_of(alloc, course, places)?,
+        rows: rows_of(alloc, course, circled.as_slice(), places)?,
         arrows: arrows_of(alloc, course.turns, places)?,
         lost: lost_of(alloc, course.turns, places)?,
-        bands: bands_of(alloc, course.acts, places)?,
-        races: races_of(alloc, course.acts, course.lines, course.pairs, places)?,
+        bands: bands_of(alloc, known.acts, places)?,
+        races: races_of(alloc, known, places)?,
+        deadlocks: deadlock_lines(alloc, waits)?,
+        source: source_of(alloc, known.lines, places, source)?,
     })
 }
 
-/// The picture of a part of a run of so many nodes, under this title. A message is shown where both its ends are among the rows, or
-/// where it is sent at one of them and no turn of the run takes it.
+/// The picture of a part of a run of so many nodes, under this title, and beside this text of the program, if one is given. A message is
+/// shown where both its ends are among the rows, or where it is sent at one of them and no turn of the run takes it. Circles of waiting
+/// are shown where no row stands behind the part.
 pub fn portrait_of(
     alloc: Global,
     title: &[u8],
     nodes: u8,
     course: &Course<'_>,
     part: Part,
+    source: Option<&[u8]>,
 ) -> Result<Picture, PortraitFault>
-    ensures ok { IfOk result (IsPortrait title.now nodes course.now (rows_shown course.now part)) }
+    ensures ok { IfOk result (IsPortrait title.now nodes course.now part (option_map (λ text. text.now) source.entry)) }
     ensures short { IfOk result (λ _. length (rows_shown course.now part) ≤ MOST_SHOWN) }
     ensures err { IfErr result (λ fault. fault ≡ TooLong → MOST_SHOWN < length (rows_shown course.now part)) }
 {
     let rows = lrc_chart_rows::rows_of(alloc, course.turns)?;
-    let places = rows_in(part, rows.as_slice());
+    let places = kept_of(
+        alloc,
+        course.turns,
+        part.hides_quiet,
+        rows_in(part, rows.as_slice()),
+    )?;
     if places.len() > MOST_ROWS {
         return Err(PortraitFault::TooLong);
     }
-    Ok(picture_of(alloc, title, nodes, course, places)?)
+    let waits = waits_if(course.waits, ends_in(part, rows.as_slice()));
+    Ok(picture_of(
+        alloc,
+        title,
+        nodes,
+        course,
+        waits,
+        places.as_slice(),
+        source,
+    )?)
 }

@@ -1,18 +1,20 @@
 // Races of a picture.
 
-ghost use Rattle.std.specs.Prelude.{◌≡◌, ◌++◌, [], IfOk, OnOk, if◌then◌else◌, map, take};
+ghost use Rattle.std.specs.Prelude.{◌≡◌, ◌+◌, ◌∷◌, ◌++◌, [], IfOk, OnOk, if◌then◌else◌, map, take};
 ghost use Rattle.std.specs.List.{list_any};
+ghost use Rattle.lrc_text.specs.Each.{each};
 ghost use Rattle.lrc_explain.specs.Groups.{access_kind_text, is_of_site};
 ghost use Rattle.lrc_explain.specs.declared.site.Site.{Site as SiteRecord};
-ghost use Rattle.lrc_chart_build.specs.Races.{comes_first, hint_of, label_of, race_at, race_between, race_if, shown_races};
+ghost use Rattle.lrc_chart_build.specs.Races.{comes_first, hint_by, hint_of, label_of, leads, race_at, race_between, race_if, shown_races};
 ghost use Rattle.lrc_chart_build.specs.Seen.{seen_race};
 
-use crate::part::row_of_act;
+use crate::course::Known;
+use crate::part::{Place, shown_act};
 use lrc_chart_model::Race;
-use lrc_chart_rows::Row as Place;
 use lrc_explain::{Site, act_at, site_of};
 use lrc_judge::first_pairs::Pair;
 use lrc_judge::races::word_of;
+use lrc_labels::push_word_label;
 use lrc_text::push_number;
 use lrc_trace::act::Act;
 use std::alloc::{AllocError, Global};
@@ -58,13 +60,14 @@ fn label_of(alloc: Global, site: Site) -> Result<Vec<u8>, AllocError>
     Ok(label)
 }
 
-// The word of two acts, and their positions.
-fn hint_of(alloc: Global, acts: &[Act], pair: Pair) -> Result<Vec<u8>, AllocError>
-    ensures { IfOk result (λ hint. hint.items ≡ hint_of acts.now pair) }
+// The word of two acts, with its label, and their positions.
+fn hint_of(alloc: Global, known: &Known<'_>, pair: Pair) -> Result<Vec<u8>, AllocError>
+    ensures { IfOk result (λ hint. hint.items ≡ hint_of known.now pair) }
 {
-    let word = word_of(act_at(acts, pair.later).deed);
+    let word = word_of(act_at(known.acts, pair.later).deed);
     let mut hint = Vec::new(alloc);
     push_number(&mut hint, b"word ", u64::from(word))?;
+    push_word_label(&mut hint, known.labels, word)?;
     push_number(&mut hint, b", act ", pair.earlier as u64)?;
     push_number(&mut hint, b", act ", pair.later as u64)?;
     Ok(hint)
@@ -72,21 +75,22 @@ fn hint_of(alloc: Global, acts: &[Act], pair: Pair) -> Result<Vec<u8>, AllocErro
 
 fn race_between(
     alloc: Global,
-    acts: &[Act],
-    lines: &[u32],
+    known: &Known<'_>,
+    number: usize,
     pair: Pair,
     from: usize,
     to: usize,
 ) -> Result<Race, AllocError>
-    ensures { IfOk result (λ race. seen_race race ≡ race_between acts.now lines.now pair from to) }
+    ensures { IfOk result (λ race. seen_race race ≡ race_between known.now number pair from to) }
 {
     Ok(Race {
+        number,
         from,
-        first: act_at(acts, pair.earlier).node,
+        first: act_at(known.acts, pair.earlier).node,
         to,
-        second: act_at(acts, pair.later).node,
-        label: label_of(alloc, site_of(acts, lines, pair))?,
-        hint: hint_of(alloc, acts, pair)?,
+        second: act_at(known.acts, pair.later).node,
+        label: label_of(alloc, site_of(known.acts, known.lines, pair))?,
+        hint: hint_of(alloc, known, pair)?,
     })
 }
 
@@ -94,18 +98,18 @@ fn race_between(
 fn push_between(
     alloc: Global,
     races: &mut Vec<Race>,
-    acts: &[Act],
-    lines: &[u32],
+    known: &Known<'_>,
+    number: usize,
     pair: Pair,
     from: Option<usize>,
     to: Option<usize>,
 ) -> Result<(), AllocError>
     ensures { OnOk result (map seen_race races.new.items
-        ≡ map seen_race races.old.items ++ race_if acts.now lines.now pair from to) }
+        ≡ map seen_race races.old.items ++ race_if known.now number pair from to) }
 {
     match (from, to) {
         (Some(from), Some(to)) => {
-            races.push(race_between(alloc, acts, lines, pair, from, to)?)?;
+            races.push(race_between(alloc, known, number, pair, from, to)?)?;
             Ok(())
         }
         _ => Ok(()),
@@ -115,52 +119,66 @@ fn push_between(
 fn push_race(
     alloc: Global,
     races: &mut Vec<Race>,
-    acts: &[Act],
-    lines: &[u32],
+    known: &Known<'_>,
     places: &[Place],
+    number: usize,
     pair: Pair,
 ) -> Result<(), AllocError>
     ensures { OnOk result (map seen_race races.new.items
-        ≡ map seen_race races.old.items ++ race_at acts.now lines.now places.now pair) }
+        ≡ map seen_race races.old.items ++ race_at known.now places.now number pair) }
 {
-    let from = row_of_act(places, pair.earlier);
-    let to = row_of_act(places, pair.later);
-    push_between(alloc, races, acts, lines, pair, from, to)
+    let from = shown_act(places, pair.earlier);
+    let to = shown_act(places, pair.later);
+    push_between(alloc, races, known, number, pair, from, to)
 }
 
-// Adds the race of a group, at the first of its pairs.
-fn push_first(
-    alloc: Global,
-    races: &mut Vec<Race>,
-    acts: &[Act],
-    lines: &[u32],
-    places: &[Place],
-    pair: Pair,
-    is_first: bool,
-) -> Result<(), AllocError>
-    ensures { OnOk result (map seen_race races.new.items ≡ map seen_race races.old.items
-        ++ (if is_first then race_at acts.now lines.now places.now pair else [])) }
+fn push_if(leads: &mut Vec<Pair>, pair: Pair, is_first: bool) -> Result<(), AllocError>
+    ensures { OnOk result (leads.new.items ≡ leads.old.items ++ (if is_first then pair ∷ [] else [])) }
 {
     if is_first {
-        push_race(alloc, races, acts, lines, places, pair)?;
+        leads.push(pair)?;
     }
     Ok(())
 }
 
-/// Of each group of races the two acts of its least pair, where both are at these places.
-pub(crate) fn races_of(
+// Of each group its least pair, in the order of the groups.
+fn leads_of(
     alloc: Global,
     acts: &[Act],
     lines: &[u32],
     pairs: &[Pair],
-    places: &[Place],
-) -> Result<Vec<Race>, AllocError>
-    ensures { IfOk result (λ races. map seen_race races.items ≡ shown_races acts.now lines.now pairs.now places.now) }
+) -> Result<Vec<Pair>, AllocError>
+    ensures { IfOk result (λ found. found.items ≡ leads acts.now lines.now pairs.now) }
 {
-    let mut races = Vec::new(alloc);
+    let mut found = Vec::new(alloc);
     for (at, pair) in pairs.iter().enumerate() {
         let is_first = comes_first(acts, lines, pairs, at, *pair);
-        push_first(alloc, &mut races, acts, lines, places, *pair, is_first)?;
+        push_if(&mut found, *pair, is_first)?;
+    }
+    Ok(found)
+}
+
+// The races of these pairs, which are numbered from 1, where both acts are at these places.
+fn races_between(
+    alloc: Global,
+    known: &Known<'_>,
+    found: &[Pair],
+    places: &[Place],
+) -> Result<Vec<Race>, AllocError>
+    ensures { IfOk result (λ races. map seen_race races.items
+        ≡ each (λ before pair. race_at known.now places.now (before + 1) pair) found.now) }
+{
+    let mut races = Vec::new(alloc);
+    for (before, pair) in found.iter().enumerate() {
+        push_race(alloc, &mut races, known, places, before + 1, *pair)?;
     }
     Ok(races)
+}
+
+/// Of each group of races the two acts of its least pair, where both are at these places.
+pub fn races_of(alloc: Global, known: &Known<'_>, places: &[Place]) -> Result<Vec<Race>, AllocError>
+    ensures { IfOk result (λ races. map seen_race races.items ≡ shown_races known.now places.now) }
+{
+    let found = leads_of(alloc, known.acts, known.lines, known.pairs)?;
+    races_between(alloc, known, found.as_slice(), places)
 }

@@ -1,46 +1,47 @@
 // Rows of a picture.
 
-ghost use Rattle.std.specs.Prelude.{◌≡◌, ◌++◌, IfOk, OnOk, map, option_map, slice_get};
-ghost use Rattle.lrc_turns_text.specs.Turns.{Made};
+ghost use Rattle.std.specs.Prelude.{◌≡◌, ◌<◌, ◌≤◌, ◌++◌, IfOk, OnOk, length, map, slice_get, take};
 ghost use Rattle.lrc_chart_build.specs.Rows.{shown_if, shown_row, shown_rows};
 ghost use Rattle.lrc_chart_build.specs.Seen.{seen_row};
 
+use crate::circles::is_circled;
 use crate::course::Course;
 use crate::pages::invalid_text;
+use crate::part::{Place, turn_at};
 use crate::times::{hint_text, new_time_text};
-use crate::words::{act_place_text, turn_closes, turn_kind, turn_words};
+use crate::waits::{turn_kind, turn_words};
+use crate::words::{act_closes, act_place_text};
 use lrc_chart_model::Row;
-use lrc_chart_rows::{Row as Place, TurnOf};
+use lrc_chart_rows::TurnOf;
 use std::alloc::{AllocError, Global};
 
-/// The turn at a position.
-pub(crate) fn turn_at<'a, 'e>(turns: &'a [TurnOf<'e>], position: usize) -> Option<&'a TurnOf<'e>>
-    ensures { option_map (λ turn. turn.now) result ≡ slice_get turns.now position }
-{
-    turns.get(position)
-}
-
-// The row of a turn.
+// The row at a place, which is of this turn.
 fn row_of(
     alloc: Global,
     course: &Course<'_>,
+    circled: &[usize],
+    places: &[Place],
+    at: usize,
     place: Place,
     turn: &TurnOf<'_>,
 ) -> Result<Row, AllocError>
-    ensures { IfOk result (λ row. seen_row row ≡ shown_row course.now place turn.now) }
+    requires { at < length places.now }
+    ensures { IfOk result (λ row. seen_row row ≡ shown_row course.now circled.now places.now at place turn.now) }
 {
     let entry = turn.entry;
+    let known = &course.known;
     let act = entry.turn.act;
-    let input = &entry.input;
     Ok(Row {
+        number: place.number,
         column: turn.node,
-        kind: turn_kind(act, input),
-        words: turn_words(alloc, act, input)?,
-        time: new_time_text(alloc, course, turn.node, place.act)?,
-        invalid: invalid_text(alloc, course.turns, place.turn, input)?,
-        place: act_place_text(alloc, course, turn.node, place.act)?,
-        hint: hint_text(alloc, course, place.act)?,
-        closes: turn_closes(act),
+        kind: turn_kind(course.turns, place.turn, turn),
+        words: turn_words(alloc, course, place, turn)?,
+        time: new_time_text(alloc, known, &places[..at], turn.node, place.act)?,
+        invalid: invalid_text(alloc, course.turns, place.turn, &entry.input)?,
+        place: act_place_text(alloc, known, turn.node, place.act)?,
+        hint: hint_text(alloc, known, place.act)?,
+        closes: act_closes(act),
+        circled: is_circled(course.turns, circled, places, at, place, turn),
     })
 }
 
@@ -48,28 +49,33 @@ fn push_row(
     alloc: Global,
     rows: &mut Vec<Row>,
     course: &Course<'_>,
+    circled: &[usize],
+    places: &[Place],
+    at: usize,
     place: Place,
 ) -> Result<(), AllocError>
-    ensures { OnOk result (map seen_row rows.new.items
-        ≡ map seen_row rows.old.items ++ shown_if course.now place (slice_get course.now.turns place.turn)) }
+    requires { at < length places.now }
+    ensures { OnOk result (map seen_row rows.new.items ≡ map seen_row rows.old.items
+        ++ shown_if course.now circled.now places.now at place (slice_get course.now.turns place.turn)) }
 {
     if let Some(turn) = turn_at(course.turns, place.turn) {
-        rows.push(row_of(alloc, course, place, turn)?)?;
+        rows.push(row_of(alloc, course, circled, places, at, place, turn)?)?;
     }
     Ok(())
 }
 
-/// The rows of turns at these places.
+/// The rows at these places, where these are the nodes of the circles of waiting.
 pub(crate) fn rows_of(
     alloc: Global,
     course: &Course<'_>,
+    circled: &[usize],
     places: &[Place],
 ) -> Result<Vec<Row>, AllocError>
-    ensures { IfOk result (λ rows. map seen_row rows.items ≡ shown_rows course.now places.now) }
+    ensures { IfOk result (λ rows. map seen_row rows.items ≡ shown_rows course.now circled.now places.now) }
 {
     let mut rows = Vec::new(alloc);
-    for place in places {
-        push_row(alloc, &mut rows, course, *place)?;
+    for (at, place) in places.iter().enumerate() {
+        push_row(alloc, &mut rows, course, circled, places, at, *place)?;
     }
     Ok(rows)
 }

@@ -2,9 +2,10 @@
 
 ghost use Rattle.std.specs.Prelude.{◌≡◌, ◌++◌, IfOk, OnOk, option_map, slice_get};
 ghost use Rattle.lrc_clock.specs.Times.{acts_at};
-ghost use Rattle.lrc_chart_build.specs.Words.{changes_since, entries_text, hint_text, hint_words, last_act, new_time_text, same_time};
+ghost use Rattle.lrc_chart_build.specs.Words.{changes_since, entries_text, hint_text, hint_words, is_act_of, last_act, new_time_text, same_time};
 
-use crate::course::Course;
+use crate::course::Known;
+use crate::part::Place;
 use crate::words::line_at;
 use lrc_acts_text::push_entries;
 use lrc_text::push_number;
@@ -28,14 +29,23 @@ fn acts_at(acts: &[Act], node: u8, position: usize) -> bool
     }
 }
 
-// The position of a node's last act before a position.
-fn last_act(acts: &[Act], node: u8, position: usize) -> Option<usize>
-    ensures { result ≡ last_act acts.now node position }
+fn is_act_of(acts: &[Act], node: u8, act: Option<usize>) -> bool
+    ensures { result ≡ is_act_of acts.now node act }
+{
+    match act {
+        Some(position) => acts_at(acts, node, position),
+        None => false,
+    }
+}
+
+// The position of the last act of a node in these rows.
+fn last_act(acts: &[Act], node: u8, places: &[Place]) -> Option<usize>
+    ensures { result ≡ last_act acts.now node places.now }
 {
     let mut last = None;
-    for at in 0..position {
-        if acts_at(acts, node, at) {
-            last = Some(at);
+    for place in places {
+        if is_act_of(acts, node, place.act) {
+            last = place.act;
         }
     }
     last
@@ -69,20 +79,22 @@ fn push_entries_if(text: &mut Vec<u8>, time: Option<&Time>) -> Result<(), AllocE
     }
 }
 
-/// The time that a node has just after its act at a position, at its first act and where it changes.
-pub(crate) fn new_time_text(
+/// The time that a node has just after its act at a position, at its first act shown and where it is another than at its act shown
+/// before; these rows are shown above it.
+pub fn new_time_text(
     alloc: Global,
-    course: &Course<'_>,
+    known: &Known<'_>,
+    before: &[Place],
     node: u8,
     act: Option<usize>,
 ) -> Result<Vec<u8>, AllocError>
-    ensures { IfOk result (λ text. text.items ≡ new_time_text course.now node act) }
+    ensures { IfOk result (λ text. text.items ≡ new_time_text known.now before.now node act) }
 {
     let mut text = Vec::new(alloc);
     if let Some(position) = act {
-        let before = last_act(course.acts, node, position);
-        if changes_since(course.times, position, before) {
-            push_entries_if(&mut text, time_at(course.times, position))?;
+        let last = last_act(known.acts, node, before);
+        if changes_since(known.times, position, last) {
+            push_entries_if(&mut text, time_at(known.times, position))?;
         }
     }
     Ok(text)
@@ -104,17 +116,17 @@ fn push_hint(
 }
 
 /// An act's position, its line, and its node's time just after it.
-pub(crate) fn hint_text(
+pub fn hint_text(
     alloc: Global,
-    course: &Course<'_>,
+    known: &Known<'_>,
     act: Option<usize>,
 ) -> Result<Vec<u8>, AllocError>
-    ensures { IfOk result (λ text. text.items ≡ hint_text course.now act) }
+    ensures { IfOk result (λ text. text.items ≡ hint_text known.now act) }
 {
     let mut text = Vec::new(alloc);
     if let Some(position) = act {
-        let line = line_at(course.lines, position);
-        push_hint(&mut text, position, line, time_at(course.times, position))?;
+        let line = line_at(known.lines, position);
+        push_hint(&mut text, position, line, time_at(known.times, position))?;
     }
     Ok(text)
 }

@@ -1,62 +1,82 @@
-// What is written at a row, but for its time and its pages.
+// What is written of an act, but for its time.
 
-ghost use Rattle.std.specs.Prelude.{◌≡◌, ◌++◌, IfOk, OnOk, slice_index, take};
-ghost use Rattle.lrc_node.specs.Logged.{seen_input};
+ghost use Rattle.std.specs.Prelude.{◌≡◌, ◌++◌, OnOk, map, take};
+ghost use Rattle.lrc_labels.specs.Reading.{label_seen};
 ghost use Rattle.lrc_trace.specs.Interval.{closes, interval_at};
 ghost use Rattle.lrc_trace.specs.Run.{count_of};
-ghost use Rattle.lrc_chart_build.specs.Words.{access_words, deed_kind, deed_words, idle_kind, idle_words};
-ghost use Rattle.lrc_chart_build.specs.Words.{act_place_text, place_words, turn_closes, turn_kind, turn_words};
+ghost use Rattle.std.specs.Prelude.{IfOk, slice_index};
+ghost use Rattle.lrc_chart_build.specs.Words.{access_words, act_closes, act_place_text, act_words, deed_kind, deed_words, lock_words, place_words};
 
-use crate::course::Course;
+use crate::bands::barrier_at;
+use crate::course::Known;
 use lrc_chart_model::Kind;
-use lrc_node::Input;
+use lrc_labels::label::Label;
+use lrc_labels::{push_lock_label, push_word_label};
 use lrc_text::{push_deed, push_number};
 use lrc_trace::act::{Act, Deed};
 use std::alloc::{AllocError, Global};
 
-fn push_access(text: &mut Vec<u8>, name: &[u8], word: u32, value: u64) -> Result<(), AllocError>
-    ensures { OnOk result (text.new.items ≡ text.old.items ++ access_words name.now word value) }
+fn push_access(
+    text: &mut Vec<u8>,
+    labels: &[Label<'_>],
+    name: &[u8],
+    word: u32,
+    value: u64,
+) -> Result<(), AllocError>
+    ensures { OnOk result (text.new.items ≡ text.old.items ++ access_words (map label_seen labels.now) name.now word value) }
 {
     push_number(text, name, u64::from(word))?;
+    push_word_label(text, labels, word)?;
     push_number(text, b": ", value)
 }
 
-fn push_deed_words(text: &mut Vec<u8>, deed: Deed) -> Result<(), AllocError>
-    ensures { OnOk result (text.new.items ≡ text.old.items ++ deed_words deed) }
+/// Adds what is done with a lock, and the lock with its label.
+pub(crate) fn push_lock(
+    text: &mut Vec<u8>,
+    labels: &[Label<'_>],
+    name: &[u8],
+    lock: u8,
+) -> Result<(), AllocError>
+    ensures { OnOk result (text.new.items ≡ text.old.items ++ lock_words (map label_seen labels.now) name.now lock) }
+{
+    push_number(text, name, u64::from(lock))?;
+    push_lock_label(text, labels, lock)
+}
+
+fn push_deed_words(
+    text: &mut Vec<u8>,
+    labels: &[Label<'_>],
+    barrier: u64,
+    deed: Deed,
+) -> Result<(), AllocError>
+    ensures { OnOk result (text.new.items ≡ text.old.items ++ deed_words (map label_seen labels.now) barrier deed) }
 {
     match deed {
-        Deed::Read(word, value) => push_access(text, b"read ", word, value),
-        Deed::Write(word, value) => push_access(text, b"write ", word, value),
+        Deed::Read(word, value) => push_access(text, labels, b"read ", word, value),
+        Deed::Write(word, value) => push_access(text, labels, b"write ", word, value),
+        Deed::Acquire(lock) => push_lock(text, labels, b"acquire ", lock),
+        Deed::Release(lock) => push_lock(text, labels, b"release ", lock),
+        Deed::Arrive => push_number(text, b"arrive ", barrier),
+        Deed::Depart => push_number(text, b"depart ", barrier),
         _ => push_deed(text, deed),
     }
 }
 
-fn push_idle_words(text: &mut Vec<u8>, input: &Input) -> Result<(), AllocError>
-    ensures { OnOk result (text.new.items ≡ text.old.items ++ idle_words (seen_input input.now)) }
+/// Adds the deed of the act at a position, in words.
+pub fn push_act_words(
+    text: &mut Vec<u8>,
+    known: &Known<'_>,
+    position: Option<usize>,
+    deed: Deed,
+) -> Result<(), AllocError>
+    ensures { OnOk result (text.new.items ≡ text.old.items ++ act_words known.now position deed) }
 {
-    match input {
-        Input::Run => text.extend_from_slice(b"waits"),
-        Input::Taken(_) => Ok(()),
-    }
+    let barrier = barrier_at(known.acts, position);
+    push_deed_words(text, known.labels, barrier, deed)
 }
 
-/// What a turn of this act, if it makes one, and of this input does, in words.
-pub(crate) fn turn_words(
-    alloc: Global,
-    act: Option<Act>,
-    input: &Input,
-) -> Result<Vec<u8>, AllocError>
-    ensures { IfOk result (λ words. words.items ≡ turn_words act (seen_input input.now)) }
-{
-    let mut words = Vec::new(alloc);
-    match act {
-        Some(act) => push_deed_words(&mut words, act.deed)?,
-        None => push_idle_words(&mut words, input)?,
-    }
-    Ok(words)
-}
-
-fn deed_kind(deed: Deed) -> Kind
+/// What kind of row an act has.
+pub fn deed_kind(deed: Deed) -> Kind
     ensures { result ≡ deed_kind deed }
 {
     match deed {
@@ -66,34 +86,15 @@ fn deed_kind(deed: Deed) -> Kind
     }
 }
 
-fn idle_kind(input: &Input) -> Kind
-    ensures { result ≡ idle_kind (seen_input input.now) }
-{
-    match input {
-        Input::Run => Kind::Wait,
-        Input::Taken(_) => Kind::Message,
-    }
-}
-
-/// What kind of row a turn has.
-pub(crate) fn turn_kind(act: Option<Act>, input: &Input) -> Kind
-    ensures { result ≡ turn_kind act (seen_input input.now) }
-{
-    match act {
-        Some(act) => deed_kind(act.deed),
-        None => idle_kind(input),
-    }
-}
-
 fn closes_interval(deed: Deed) -> bool
     ensures { result ≡ closes deed }
 {
     matches!(deed, Deed::Acquire(_) | Deed::Release(_) | Deed::Arrive)
 }
 
-/// Whether a turn closes an interval.
-pub(crate) fn turn_closes(act: Option<Act>) -> bool
-    ensures { result ≡ turn_closes act }
+/// Whether an act closes an interval.
+pub fn act_closes(act: Option<Act>) -> bool
+    ensures { result ≡ act_closes act }
 {
     match act {
         Some(act) => closes_interval(act.deed),
@@ -137,18 +138,18 @@ fn push_place(text: &mut Vec<u8>, line: u32, interval: u64) -> Result<(), AllocE
 }
 
 /// The line and the interval of a node's act at a position.
-pub(crate) fn act_place_text(
+pub fn act_place_text(
     alloc: Global,
-    course: &Course<'_>,
+    known: &Known<'_>,
     node: u8,
     act: Option<usize>,
 ) -> Result<Vec<u8>, AllocError>
-    ensures { IfOk result (λ text. text.items ≡ act_place_text course.now node act) }
+    ensures { IfOk result (λ text. text.items ≡ act_place_text known.now node act) }
 {
     let mut text = Vec::new(alloc);
     if let Some(position) = act {
-        let line = line_at(course.lines, position);
-        let interval = interval_at(course.acts, node, position);
+        let line = line_at(known.lines, position);
+        let interval = interval_at(known.acts, node, position);
         push_place(&mut text, line, interval)?;
     }
     Ok(text)

@@ -4,4 +4,4 @@
 
 mod picture;
 
-pub use picture::{Arrow, Band, Kind, Lost, Picture, Race, Row};
+pub use picture::{Arrow, Band, Kind, Lost, Picture, Race, Row, SourceLine};

@@ -1,4 +1,4 @@
-// The parts of a picture. Rows count from 0, from the top.
+// The parts of a picture. Where a part names a row, it is by the row's place among the rows that are shown: from 0, from the top.
 
 /// What a row's turn did.
 #[derive(Clone, Copy, Debug, PartialEq, Eq)]
@@ -15,17 +15,19 @@ pub enum Kind {
     Barrier,
 }
 
-/// A turn.
+/// A turn; in a chart of acts alone, an act.
 #[derive(Drop)]
 pub struct Row {
+    /// Its number: its place, from 0, among the rows of the part with those that are hidden.
+    pub number: usize,
     /// The column of its node.
     pub column: u8,
     pub kind: Kind,
     /// What was done.
     pub words: Vec<u8>,
-    /// The node's time, where it changed.
+    /// The node's time, where it is another than at its act shown before.
     pub time: Vec<u8>,
-    /// The pages that became invalid.
+    /// The pages that became invalid, as `page 0 invalid`; nothing where none did.
     pub invalid: Vec<u8>,
     /// The line and the interval.
     pub place: Vec<u8>,
@@ -33,20 +35,22 @@ pub struct Row {
     pub hint: Vec<u8>,
     /// Whether it closed an interval.
     pub closes: bool,
+    /// Whether its node is of a circle of waiting, and it is the last row of the node with an act or at which the node begins to wait.
+    pub circled: bool,
 }
 
-/// A message that was taken.
+/// A message that was taken; in a chart of acts alone, a lock that one node released and another acquired.
 #[derive(Drop)]
 pub struct Arrow {
-    /// The row and the column of the turn that sent it,
+    /// The row and the column of the turn that sent it (of the release),
     pub from: usize,
     pub sender: u8,
-    /// and of the turn that took it.
+    /// and of the turn that took it (of the acquire).
     pub to: usize,
     pub receiver: u8,
     /// Whether it was taken before.
     pub again: bool,
-    /// Its kind.
+    /// Its kind; the lock.
     pub label: Vec<u8>,
     /// What is shown to who points at it.
     pub hint: Vec<u8>,
@@ -77,6 +81,8 @@ pub struct Band {
 /// A group of races, by two acts that race.
 #[derive(Drop)]
 pub struct Race {
+    /// Its number: from 1, among all groups of the run, in the order of `explain`.
+    pub number: usize,
     /// The row and the column of the earlier act,
     pub from: usize,
     pub first: u8,
@@ -89,7 +95,16 @@ pub struct Race {
     pub hint: Vec<u8>,
 }
 
-/// A picture of a run.
+/// A line of the program's text.
+#[derive(Drop)]
+pub struct SourceLine {
+    /// The line as it stands there, without what ends it.
+    pub words: Vec<u8>,
+    /// Whether an act of a row that is shown is of this line.
+    pub marked: bool,
+}
+
+/// A picture of a run, or of acts alone.
 #[derive(Drop)]
 pub struct Picture {
     /// The command.
@@ -101,4 +116,8 @@ pub struct Picture {
     pub lost: Vec<Lost>,
     pub bands: Vec<Band>,
     pub races: Vec<Race>,
+    /// The circles of waiting, in the words of `explain`.
+    pub deadlocks: Vec<Vec<u8>>,
+    /// The lines of the program's text, from line 1; none where the text is not shown.
+    pub source: Vec<SourceLine>,
 }

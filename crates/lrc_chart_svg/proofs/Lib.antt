@@ -1,4 +1,6 @@
+pub mod Blanks
 pub mod Painted
+pub mod Placed
 pub mod Points
 pub mod Said
-pub mod Ways
+pub mod Signs

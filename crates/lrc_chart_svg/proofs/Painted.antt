@@ -13,7 +13,7 @@ use Rattle.lrc_svg.specs.declared.element.Content.{Content, Row_of-Content, end_
 use Rattle.lrc_svg.specs.declared.element.Content.{items-the_row-Content, items_hidden-the_row-Content-0}
 use Rattle.lrc_svg.specs.declared.element.Content.TheBlock.{hidden-the_row-Content-0}
 use Rattle.lrc_svg.specs.declared.element.Content.TheVariants.{Element}
-use Rattle.lrc_chart_svg.specs.Marks.{Mark, all_marks, all_words, behind, held, marks, named_once, own, plain_words, row_marks, row_words, shown_marks, unreadable}
+use Rattle.lrc_chart_svg.specs.Marks.{Mark, all_marks, all_words, begins, behind, ends, held, hint, marks, named_once, own, plain_words, row_marks, row_words, shown_marks, unreadable}
 
 row_marks_are : (n : _) (row : Row_of-Content n) → row_marks row ≡ all_marks (items-the_row-Content n row)
 row_marks_are _ end_of-Content = refl
@@ -74,3 +74,18 @@ five start one two three four end a b c d e first second third fourth last =
 
 pub joined : {X : Type 0} (start middle end a b : List X) → middle ≡ start ++ a → end ≡ middle ++ b → end ≡ start ++ (a ++ b)
 joined start middle end a b first second = second ∙ ap (λ l. l ++ b) first ∙ append_assoc start a b
+
+-- a group of a hint and other marks
+pub group_of_two : (old new none one two three : List Mark) (words : List ℕ) (a b : List Mark) → none ≡ [] → one ≡ none ++ hint words ∷ []
+    → two ≡ one ++ a → three ≡ two ++ b → new ≡ old ++ begins ∷ (three ++ ends ∷ []) → new ≡ old ++ begins ∷ hint words ∷ (a ++ b ++ ends ∷ [])
+group_of_two old new none one two three words a b empty first second third last =
+    last ∙ ap (λ (l : List Mark). old ++ begins ∷ (l ++ ends ∷ []))
+    (third ∙ ap (λ (l : List Mark). l ++ b) (second ∙ ap (λ (l : List Mark). l ++ a) (first ∙ ap (λ (l : List Mark). l ++ hint words ∷ []) empty)))
+
+pub group_of_three : (old new none one two three four : List Mark) (words : List ℕ) (a b c : List Mark) → none ≡ [] → one ≡ none ++ hint words ∷ []
+    → two ≡ one ++ a → three ≡ two ++ b → four ≡ three ++ c → new ≡ old ++ begins ∷ (four ++ ends ∷ [])
+    → new ≡ old ++ begins ∷ hint words ∷ (a ++ b ++ c ++ ends ∷ [])
+group_of_three old new none one two three four words a b c empty first second third fourth last =
+    last ∙ ap (λ (l : List Mark). old ++ begins ∷ (l ++ ends ∷ []))
+    (fourth ∙ ap (λ (l : List Mark). l ++ c)
+    (third ∙ ap (λ (l : List Mark). l ++ b) (second ∙ ap (λ (l : List Mark). l ++ a) (first ∙ ap (λ (l : List Mark). l ++ hint words ∷ []) empty))))

@@ -1,7 +1,13 @@
 pub mod Attributes
+pub mod Flow
+pub mod Frames
 pub mod Heights
 pub mod Marks
+pub mod Plan
+pub mod Rooms
 pub mod Root
 pub mod Shown
+pub mod Sizes
+pub mod Source
 pub mod Ways
 pub mod Widths

@@ -6,7 +6,8 @@ use Rattle.lrc_svg.specs.declared.name.Key.{Key}
 use Rattle.lrc_svg.specs.declared.name.Key.TheVariants as keys
 use Rattle.lrc_chart_svg.specs.Attributes.{said}
 use Rattle.lrc_chart_svg.specs.Heights.{picture_high}
-use Rattle.lrc_chart_svg.specs.Widths.{picture_wide}
+use Rattle.lrc_chart_svg.specs.Plan.{plan_of}
+use Rattle.lrc_chart_svg.specs.Sizes.{picture_wide}
 
 -- what is said of a whole of this size: all of it is shown, from its corner on, pixel by pixel, and words are 12 pixels high
 abbrev pub whole_said : (wide high : ℕ) → List (Key × List ℕ)
@@ -17,4 +18,4 @@ whole_said wide high =
 
 -- these are the attributes of the root, in order, and no other
 abbrev pub IsRootOf : Picture → List Attribute → Type 0
-IsRootOf picture attributes = said attributes ≡ whole_said (picture_wide picture) (picture_high picture)
+IsRootOf picture attributes = said attributes ≡ whole_said (picture_wide (plan_of picture) picture) (picture_high (plan_of picture) picture)

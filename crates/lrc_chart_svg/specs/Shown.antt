@@ -1,9 +1,10 @@
--- What a picture shows, in order: the title, the legend, barriers, columns, messages, races, rows, and the messages' kinds. Each row,
--- each message and each group of races is one element with one hint, each of the latter with one straight line, between the heights of
--- its rows, and a sign at each end of it. A message that is taken again is dashed, one that is never taken ends in a cross, and a row's
--- box has the border of its kind, and stands in the column of its node. A barrier's band goes from its first row to its last, and across
--- the picture. Below all these is the ground, as large as the picture.
-use Rattle.std.specs.Prelude.{ℕ, ◌+◌, ◌-◌, Bool, true, false, List, [], ◌∷◌, ◌++◌, codes, decimal, if◌then◌else◌, length, nat_lt, Vec}
+-- What a picture shows, in order: the title, the legend, barriers, columns, messages, races, rows, the kinds of messages that were never taken,
+-- and circles of waiting, and the program's text. Each row, each message and each group of races is one element with one hint, each of the latter with one straight
+-- line, between the heights of its rows, and a sign at each end of it. A message that is taken again is dashed, one that is never taken ends in
+-- a cross, and a row's box has the border of its kind, and stands in the column of its node. The number of a group of races stands at both ends
+-- of its line and before its words. A barrier's band goes from its first row to its last, and across the picture. Below all these is the
+-- ground, as large as the picture.
+use Rattle.std.specs.Prelude.{ℕ, ◌+◌, ◌-◌, ◌*◌, ◌/◌, ◌==◌, Bool, true, false, List, [], ◌∷◌, ◌++◌, codes, decimal, if◌then◌else◌, length, nat_lt, take, Vec}
 use Rattle.std.specs.declared.alloc.Global.{Global}
 use Rattle.std.specs.List.{flat_map}
 use Rattle.lrc_text.specs.Each.{each}
@@ -15,14 +16,21 @@ use Rattle.lrc_chart_model.specs.declared.picture.Lost.{Lost}
 use Rattle.lrc_chart_model.specs.declared.picture.Picture.{Picture}
 use Rattle.lrc_chart_model.specs.declared.picture.Race.{Race}
 use Rattle.lrc_chart_model.specs.declared.picture.Row.{Row}
-use Rattle.lrc_chart_svg.specs.declared.layout.Layout.{Layout}
+use Rattle.lrc_chart_model.specs.declared.picture.SourceLine.{SourceLine}
+use Rattle.lrc_chart_svg.specs.declared.flow.Flow.{Flow}
+use Rattle.lrc_chart_svg.specs.declared.frames.Frame.{Frame}
 use Rattle.lrc_chart_svg.specs.declared.style.Anchor.{Anchor}
 use Rattle.lrc_chart_svg.specs.declared.style.Anchor.TheVariants.{Start, End}
 use Rattle.lrc_chart_svg.specs.Attributes.{anchor_word}
-use Rattle.lrc_chart_svg.specs.Heights.{band_high, band_top, below, box_top, columns_foot, columns_top, foot, middle, picture_high}
+use Rattle.lrc_chart_svg.specs.Flow.{before, begun, done_flow, kinds_flow, labels_flow, letters, line_of, timed_flow, wide, words_flow}
+use Rattle.lrc_chart_svg.specs.Frames.{frame_at}
+use Rattle.lrc_chart_svg.specs.Heights.{band_high, band_top, columns_foot, columns_top, height, line_foot, line_height, middle, picture_high, word_foot}
 use Rattle.lrc_chart_svg.specs.Marks.{Mark, begins, box, ends, hint, path, stroke, word}
-use Rattle.lrc_chart_svg.specs.Ways.{beside, beside_anchor, beyond, beyond_anchor, end_side, head, start_side, tail}
-use Rattle.lrc_chart_svg.specs.Widths.{invalid_at, layout_of, left, picture_wide, right, time_at, wide}
+use Rattle.lrc_chart_svg.specs.Plan.{Plan, plan_of}
+use Rattle.lrc_chart_svg.specs.Rooms.{room_of}
+use Rattle.lrc_chart_svg.specs.Sizes.{base_wide, picture_wide}
+use Rattle.lrc_chart_svg.specs.Source.{blanks, source_foot, source_wide}
+use Rattle.lrc_chart_svg.specs.Ways.{beside, beside_anchor, beyond, beyond_anchor, end_side, head, left, right, start_side, tail}
 
 -- the dashes of a line that runs through, and of a message
 abbrev pub through : List ℕ
@@ -120,47 +128,109 @@ column_between left right foot name =
     framed left columns_top (right - left) (foot - columns_top) ∷ framed left columns_top (right - left) 20
     ∷ words_from (left + 6) (decimal 98) name.items ∷ []
 
-abbrev pub column_marks : Layout → (foot : ℕ) → ℕ → Vec ℕ Global → List Mark
-column_marks layout foot column name = column_between (left layout column) (right layout column) foot name
+abbrev pub column_marks : Plan → (foot : ℕ) → ℕ → Vec ℕ Global → List Mark
+column_marks plan foot column name = column_between (left plan column) (right plan column) foot name
 
 -- a barrier's band is as wide as the picture
-abbrev pub band_marks : (wide : ℕ) → Band → List Mark
-band_marks wide band =
-    framed 0 (band_top band) wide (band_high band) ∷ words_from 8 (foot band.from) band.label.items ∷ []
+abbrev pub band_marks : Plan → (wide : ℕ) → Band → List Mark
+band_marks plan wide band =
+    framed 0 (band_top plan band) wide (band_high plan band)
+    ∷ words_from 8 (decimal ((frame_at plan.frames band.from).top + 12)) band.label.items ∷ []
+
+-- ---- rows
 
 -- below the box of a row that closes an interval is another one
 abbrev pub rule_marks : (left top wide : ℕ) → (closes : Bool) → List Mark
 rule_marks left top wide true = unframed left top wide 3 ∷ []
 rule_marks left top wide false = []
 
--- what was done, the node's time, invalid pages, and the place, which ends at the column's right
-abbrev pub row_words_at : Layout → ℕ → Row → List Mark
-row_words_at layout position row =
-    words_from (left layout row.column + 6) (foot position) row.words.items
-    ∷ words_from (left layout row.column + time_at layout) (foot position) row.time.items
-    ∷ words_from (left layout row.column + invalid_at layout) (foot position) row.invalid.items
-    ∷ word (decimal (right layout row.column - 6)) (foot position) (anchor_word End) row.place.items ∷ []
+-- around the box of a row in a circle of waiting is another one
+abbrev pub circle_marks : (left top wide high : ℕ) → (circled : Bool) → List Mark
+circle_marks left top wide high true =
+    box (decimal (left - 4)) (decimal (top - 4)) (decimal (wide + 8)) (decimal (high + 8)) (codes "3") through ∷ []
+circle_marks left top wide high false = []
 
--- the box of a row between these sides, and the rule below it
-abbrev pub row_frame : (left right : ℕ) → (top : ℕ) → Kind → (closes : Bool) → List Mark
-row_frame left right top kind closes =
-    row_box left top (right - left) 18 kind ∷ rule_marks left (top + 18) (right - left) closes
+-- the box of a row, the rule below it, and the border around it
+abbrev pub frame_marks : (left top wide high : ℕ) → Kind → (closes circled : Bool) → List Mark
+frame_marks left top wide high kind closes circled =
+    row_box left top wide high kind ∷ (rule_marks left (top + high) wide closes ++ circle_marks left top wide high circled)
 
--- a row stands in the column of its node
-abbrev pub row_marks_at : Layout → ℕ → Row → List Mark
-row_marks_at layout position row =
-    begins ∷ hint row.hint.items
-    ∷ (row_frame (left layout row.column) (right layout row.column) (box_top position) row.kind row.closes
-    ++ row_words_at layout position row ++ ends ∷ [])
+-- words in a box behind others, if there are any
+abbrev pub phrase : (left top room : ℕ) → Flow → List ℕ → List Mark
+phrase left top room flow words =
+    if length words == 0 then []
+    else words_from (left + 6 + wide (before room flow (letters words))) (decimal (word_foot top (line_of room flow (letters words)))) words ∷ []
+
+-- words that end where the box does
+abbrev pub last_phrase : (right top room : ℕ) → Flow → List ℕ → List Mark
+last_phrase right top room flow words =
+    if length words == 0 then []
+    else word (decimal (right - 6)) (decimal (word_foot top (line_of room flow (letters words)))) (anchor_word End) words ∷ []
+
+-- what was done, the node's time behind it, and invalid pages
+abbrev pub own_words : (left top room : ℕ) → Row → List Mark
+own_words left top room row =
+    phrase left top room begun row.words.items ++ phrase left top room (done_flow room row) row.time.items
+    ++ phrase left top room (timed_flow room row) row.invalid.items
+
+-- the kind of a message, if it is taken at this row, behind other words
+abbrev pub kind_behind : (left top room : ℕ) → (number : ℕ) → Flow → Arrow → List Mark
+kind_behind left top room number flow arrow = if arrow.to == number then phrase left top room flow arrow.label.items else []
+
+-- the same behind the row's own words and the kinds before it
+abbrev pub kind_mark : (left top room : ℕ) → (number : ℕ) → Row → List Arrow → (place : ℕ) → Arrow → List Mark
+kind_mark left top room number row arrows place arrow = kind_behind left top room number (kinds_flow room number row (take place arrows)) arrow
+
+abbrev pub row_kinds : (left top room : ℕ) → (number : ℕ) → Row → List Arrow → List Mark
+row_kinds left top room number row arrows = each (kind_mark left top room number row arrows) arrows
+
+-- all words of a row: behind these the place
+abbrev pub row_words : (left right top room : ℕ) → (number : ℕ) → Row → List Arrow → List Mark
+row_words left right top room number row arrows =
+    own_words left top room row ++ row_kinds left top room number row arrows
+    ++ last_phrase right top room (kinds_flow room number row arrows) row.place.items
+
+-- a row stands in the column of its node: its box, and its words
+abbrev pub row_box_marks : Plan → (number : ℕ) → Row → List Mark
+row_box_marks plan number row =
+    let frame = frame_at plan.frames number in
+    frame_marks (left plan row.column) frame.top (right plan row.column - left plan row.column) frame.high row.kind row.closes row.circled
+
+abbrev pub row_word_marks : Plan → List Arrow → (number : ℕ) → Row → List Mark
+row_word_marks plan arrows number row =
+    row_words (left plan row.column) (right plan row.column) (frame_at plan.frames number).top (room_of (length plan.lanes)) number row arrows
+
+abbrev pub row_marks_at : Plan → List Arrow → (number : ℕ) → Row → List Mark
+row_marks_at plan arrows number row =
+    begins ∷ hint row.hint.items ∷ (row_box_marks plan number row ++ row_word_marks plan arrows number row ++ ends ∷ [])
+
+-- ---- messages
 
 -- an arrow leads from the column of the sender to that of the receiver
-abbrev pub arrow_marks : Layout → Arrow → List Mark
-arrow_marks layout arrow =
-    let from_left = decimal (tail layout arrow.sender arrow.receiver) in
-    let to_left = decimal (head layout arrow.sender arrow.receiver) in
-    begins ∷ hint arrow.hint.items ∷ stroke from_left (middle arrow.from) to_left (middle arrow.to) (message_dashes arrow.again)
-    ∷ path from_left (middle arrow.from) (leaving arrow.sender arrow.receiver) through
-    ∷ path to_left (middle arrow.to) (coming arrow.sender arrow.receiver) through ∷ ends ∷ []
+abbrev pub arrow_marks : Plan → Arrow → List Mark
+arrow_marks plan arrow =
+    let from_left = decimal (tail plan arrow.sender arrow.receiver) in
+    let to_left = decimal (head plan arrow.sender arrow.receiver) in
+    begins ∷ hint arrow.hint.items
+    ∷ stroke from_left (middle plan arrow.from) to_left (middle plan arrow.to) (message_dashes arrow.again)
+    ∷ path from_left (middle plan arrow.from) (leaving arrow.sender arrow.receiver) through
+    ∷ path to_left (middle plan arrow.to) (coming arrow.sender arrow.receiver) through ∷ ends ∷ []
+
+-- a message that was never taken ends below the rows, at a line of its own
+abbrev pub lost_marks : Plan → ℕ → Lost → List Mark
+lost_marks plan place lost =
+    let from_left = decimal (tail plan lost.sender lost.receiver) in
+    let to_left = decimal (head plan lost.sender lost.receiver) in
+    let end = decimal (line_height plan place) in
+    begins ∷ hint lost.hint.items ∷ stroke from_left (middle plan lost.from) to_left end through
+    ∷ path from_left (middle plan lost.from) (leaving lost.sender lost.receiver) through ∷ path to_left end cross through ∷ ends ∷ []
+
+abbrev pub lost_label : Plan → ℕ → Lost → List Mark
+lost_label plan place lost =
+    word (decimal (beyond plan lost.sender lost.receiver)) (line_foot plan place) (anchor_word (beyond_anchor lost.sender lost.receiver))
+    lost.label.items ∷ []
+
+-- ---- races
 
 -- where an area behind words begins that is so wide
 abbrev pub plate_left : Anchor → (left wide : ℕ) → ℕ
@@ -173,63 +243,90 @@ plated anchor left foot words =
     unframed (plate_left anchor left (wide (length words) + 4)) (foot - 10) (wide (length words) + 4) 13
     ∷ word (decimal left) (decimal foot) (anchor_word anchor) words ∷ []
 
-abbrev pub arrow_label : Layout → Arrow → List Mark
-arrow_label layout arrow =
-    plated (beside_anchor arrow.sender arrow.receiver) (beside layout arrow.sender arrow.receiver) (below arrow.to) arrow.label.items
-
--- a message that was never taken ends below the rows, at a line of its own
-abbrev pub lost_marks : Layout → (rows : ℕ) → ℕ → Lost → List Mark
-lost_marks layout rows place lost =
-    let from_left = decimal (tail layout lost.sender lost.receiver) in
-    let to_left = decimal (head layout lost.sender lost.receiver) in
-    begins ∷ hint lost.hint.items ∷ stroke from_left (middle lost.from) to_left (middle (rows + place)) through
-    ∷ path from_left (middle lost.from) (leaving lost.sender lost.receiver) through
-    ∷ path to_left (middle (rows + place)) cross through ∷ ends ∷ []
-
-abbrev pub lost_label : Layout → (rows : ℕ) → ℕ → Lost → List Mark
-lost_label layout rows place lost =
-    word (decimal (beyond layout lost.sender lost.receiver)) (foot (rows + place)) (anchor_word (beyond_anchor lost.sender lost.receiver))
-    lost.label.items ∷ []
-
 -- a line with a knot at each end
 abbrev pub knotted : (from_left from to_left to : List ℕ) → List Mark
 knotted from_left from to_left to =
     stroke from_left from to_left to through ∷ path from_left from knot through ∷ path to_left to knot through ∷ []
 
+abbrev pub race_name : (number : ℕ) → List ℕ
+race_name number = codes "race " ++ decimal number
+
+-- the number of a group of races beside both ends of its line: above the end where it begins, and below the other one
+abbrev pub race_ends : Plan → (from first to second : ℕ) → (name : List ℕ) → List Mark
+race_ends plan from first to second name =
+    plated (beside_anchor second first) (beside plan second first) (height plan from - 6) name
+    ++ plated (beside_anchor first second) (beside plan first second) (height plan to + 15) name
+
+-- the same before its words, on a line below the rows, which has this foot
+abbrev pub race_words : (foot : List ℕ) → (name words : List ℕ) → List Mark
+race_words foot name words = word (decimal 78) foot (anchor_word End) name ∷ words_from 84 foot words ∷ []
+
 -- a group of races leads from the column of its first act to that of its second; its words stand below all that, on a line of their own
-abbrev pub race_marks : Layout → (used : ℕ) → ℕ → Race → List Mark
-race_marks layout used place race =
+abbrev pub race_marks : Plan → (used : ℕ) → ℕ → Race → List Mark
+race_marks plan used place race =
     begins ∷ hint race.hint.items
-    ∷ (knotted (decimal (start_side layout race.first race.second)) (middle race.from)
-    (decimal (end_side layout race.first race.second)) (middle race.to)
-    ++ words_from 100 (foot (used + place)) race.label.items ∷ ends ∷ [])
+    ∷ (knotted (decimal (start_side plan race.first race.second)) (middle plan race.from)
+    (decimal (end_side plan race.first race.second)) (middle plan race.to)
+    ++ race_ends plan race.from race.first race.to race.second (race_name race.number)
+    ++ race_words (line_foot plan (used + place)) (race_name race.number) race.label.items ++ ends ∷ [])
+
+-- a circle of waiting, on a line below the rows and what is used there
+abbrev pub deadlock_marks : Plan → (used : ℕ) → ℕ → Vec ℕ Global → List Mark
+deadlock_marks plan used place words = words_from 8 (line_foot plan (used + place)) words.items ∷ []
+
+-- ---- the program's text
+
+-- around a line that an act of the rows shown is of, is a box
+abbrev pub line_box : (left foot wide : ℕ) → (marked : Bool) → List Mark
+line_box left foot wide true = framed (left + 4) (foot - 12) (wide - 8) 16 ∷ []
+line_box left foot wide false = []
+
+-- a line with its number before it, behind as many blanks as it begins with
+abbrev pub line_words : (left foot place : ℕ) → (words : List ℕ) → List Mark
+line_words left foot place words =
+    word (decimal (left + 44)) (decimal foot) (anchor_word End) (decimal (place + 1))
+    ∷ words_from (left + 54 + blanks words * 73 / 10) (decimal foot) words ∷ []
+
+abbrev pub source_marks : (left wide : ℕ) → (place : ℕ) → SourceLine → List Mark
+source_marks left wide place line =
+    line_box left (source_foot place) wide line.marked ++ line_words left (source_foot place) place line.words.items
+
+-- ---- all of it
 
 -- barriers, and columns over them
-abbrev pub ground_marks : Layout → (wide foot : ℕ) → Picture → List Mark
-ground_marks layout wide foot picture =
-    flat_map (band_marks wide) picture.bands.items ++ each (column_marks layout foot) picture.columns.items
+abbrev pub ground_marks : Plan → (wide foot : ℕ) → Picture → List Mark
+ground_marks plan wide foot picture =
+    flat_map (band_marks plan wide) picture.bands.items ++ each (column_marks plan foot) picture.columns.items
 
 -- lines, and rows over them, behind each of which a line goes on unseen
-abbrev pub run_marks : Layout → Picture → List Mark
-run_marks layout picture =
-    let rows = length picture.rows.items in
-    flat_map (arrow_marks layout) picture.arrows.items ++ each (lost_marks layout rows) picture.lost.items
-    ++ each (race_marks layout (rows + length picture.lost.items)) picture.races.items ++ each (row_marks_at layout) picture.rows.items
+abbrev pub run_marks : Plan → Picture → List Mark
+run_marks plan picture =
+    flat_map (arrow_marks plan) picture.arrows.items ++ each (lost_marks plan) picture.lost.items
+    ++ each (race_marks plan (length picture.lost.items)) picture.races.items
+    ++ each (row_marks_at plan picture.arrows.items) picture.rows.items
 
--- the kinds of messages
-abbrev pub kind_marks : Layout → Picture → List Mark
-kind_marks layout picture =
-    flat_map (arrow_label layout) picture.arrows.items ++ each (lost_label layout (length picture.rows.items)) picture.lost.items
+-- the kinds of messages that were never taken, and circles of waiting
+abbrev pub foot_marks : Plan → Picture → List Mark
+foot_marks plan picture =
+    each (lost_label plan) picture.lost.items
+    ++ each (deadlock_marks plan (length picture.lost.items + length picture.races.items)) picture.deadlocks.items
+
+-- these, and the program's text to the right of all else
+abbrev pub side_marks : Plan → (left : ℕ) → Picture → List Mark
+side_marks plan left picture =
+    foot_marks plan picture ++ each (source_marks left (source_wide picture.source.items)) picture.source.items
 
 -- the ground and the title
 abbrev pub title_marks : (wide high : ℕ) → List ℕ → List Mark
 title_marks wide high title = unframed 0 0 wide high ∷ words_from 8 (decimal 24) title ∷ []
 
--- all of it, by its layout, by how wide and how high it is, and by where its columns end
-abbrev pub marks_by : Layout → (wide high foot : ℕ) → Picture → List Mark
-marks_by layout wide high foot picture =
+-- all of it, by where columns and rows stand, by how wide and how high it is, by where its columns end, and by where the program's text begins
+abbrev pub marks_by : Plan → (wide high foot left : ℕ) → Picture → List Mark
+marks_by plan wide high foot left picture =
     title_marks wide high picture.title.items
-    ++ legend_marks ++ ground_marks layout wide foot picture ++ run_marks layout picture ++ kind_marks layout picture
+    ++ legend_marks ++ ground_marks plan wide foot picture ++ run_marks plan picture ++ side_marks plan left picture
 
 abbrev pub picture_marks : Picture → List Mark
-picture_marks picture = marks_by (layout_of picture) (picture_wide picture) (picture_high picture) (columns_foot picture) picture
+picture_marks picture =
+    let plan = plan_of picture in
+    marks_by plan (picture_wide plan picture) (picture_high plan picture) (columns_foot plan picture) (base_wide plan picture) picture

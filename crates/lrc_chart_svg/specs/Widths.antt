@@ -1,68 +1,50 @@
--- How wide things are, in pixels, and how far they stand from the left, by how many letters stand beside each other at most.
-use Rattle.std.specs.Prelude.{ℕ, ◌+◌, ◌*◌, ◌/◌, ◌==◌, List, fold, if◌then◌else◌, length, max, min}
+-- How wide columns are, and how far they stand from the left, in pixels.
+use Rattle.std.specs.Prelude.{ℕ, ◌+◌, ◌==◌, Vec, List, [], ◌∷◌, ◌++◌, fold, if◌then◌else◌, length, max, min, slice_index_or}
+use Rattle.std.specs.declared.alloc.Global.{Global}
+use Rattle.lrc_chart_model.specs.declared.picture.Lost.{Lost}
 use Rattle.lrc_chart_model.specs.declared.picture.Picture.{Picture}
-use Rattle.lrc_chart_svg.specs.declared.layout.Layout.{Layout}
+use Rattle.lrc_chart_svg.specs.declared.frames.Frame.{Frame}
+use Rattle.lrc_chart_svg.specs.declared.lanes.Lane.{Lane}
+use Rattle.lrc_chart_svg.specs.Flow.{letters, wide}
+use Rattle.lrc_chart_svg.specs.Frames.{frames_of}
+use Rattle.lrc_chart_svg.specs.Rooms.{gap_of}
 
--- how many letters are counted of words: no words of a run come to the bound
-abbrev pub letters : List ℕ → ℕ
-letters words = min (length words) 4294967295
+-- the most letters beside each other in the boxes of this column, and so many at least
+abbrev pub most_of_rows : (column least : ℕ) → List Frame → ℕ
+most_of_rows column least frames = fold (λ most frame. if frame.column == column then max most frame.letters else most) least frames
 
--- the most letters that such words of these have, and so many at least
-abbrev pub most : {X : Type 0} → (X → List ℕ) → (least : ℕ) → List X → ℕ
-most words least items = fold (λ so_far item. max so_far (letters (words item))) least items
+-- the same of the messages to it that were never taken
+abbrev pub most_of_lost : (column least : ℕ) → List Lost → ℕ
+most_of_lost column least all = fold (λ most lost. if lost.receiver == column then max most (letters lost.label.items) else most) least all
 
--- the most letters in what was done, in times, in invalid pages, in places, in kinds of messages, and in groups of races
-abbrev pub layout_of : Picture → Layout
-layout_of picture = record {
-  words = most (λ row. row.words.items) 8 picture.rows.items;
-  time = most (λ row. row.time.items) 0 picture.rows.items;
-  invalid = most (λ row. row.invalid.items) 0 picture.rows.items;
-  place = most (λ row. row.place.items) 0 picture.rows.items;
-  label = most (λ lost. lost.label.items) (most (λ arrow. arrow.label.items) 6 picture.arrows.items) picture.lost.items;
-  group = most (λ race. race.label.items) 0 picture.races.items;
+-- the most letters beside each other in a column: in its name, in its boxes, and of messages to it that were never taken
+abbrev pub lane_letters : (column : ℕ) → (name : List ℕ) → List Frame → List Lost → ℕ
+lane_letters column name frames lost = most_of_lost column (most_of_rows column (letters name) frames) lost
+
+-- where the next column begins behind these: a gap behind the last one; no picture comes to the bound
+abbrev pub next_left : (gap : ℕ) → List Lane → ℕ
+next_left gap lanes = fold (λ so_far lane. lane.right + gap) 84 lanes
+
+abbrev pub lane_from : (left letters : ℕ) → Lane
+lane_from left letters = record {
+  left = min left 18446744073709551615;
+  right = min (min left 18446744073709551615 + wide letters + 12) 18446744073709551615;
 }
 
--- how wide so many letters are, and with a gap of a letter behind them, where there are any
-abbrev pub wide : (letters : ℕ) → ℕ
-wide letters = letters * 73 / 10
+abbrev pub lane_behind : Picture → List Frame → List Lane → Vec ℕ Global → Lane
+lane_behind picture frames lanes name =
+    lane_from (next_left (gap_of (length picture.columns.items)) lanes) (lane_letters (length lanes) name.items frames picture.lost.items)
 
-abbrev pub part : (letters : ℕ) → ℕ
-part letters = if letters == 0 then 0 else wide (letters + 1)
+-- all columns, from the left
+abbrev pub lanes_by : Picture → List Frame → List Lane
+lanes_by picture frames = fold (λ lanes name. lanes ++ lane_behind picture frames lanes name ∷ []) [] picture.columns.items
 
--- in a row what was done comes first, then the node's time, invalid pages, and the place: where these two begin from the column's left, and
--- how wide a column is
-abbrev pub time_at : Layout → ℕ
-time_at layout = part layout.words + 6
+abbrev pub lanes_of : Picture → List Lane
+lanes_of picture = lanes_by picture (frames_of picture)
 
-abbrev pub invalid_at : Layout → ℕ
-invalid_at layout = time_at layout + part layout.time
+-- a column; past the last one a column of no width where the first one begins
+abbrev pub no_lane : Lane
+no_lane = record { left = 84; right = 84 }
 
-abbrev pub lane : Layout → ℕ
-lane layout = invalid_at layout + part layout.invalid + part layout.place
-
--- how far it is from a column's left to that of the next: between them are kinds of messages and the ends of their arrows
-abbrev pub pitch : Layout → ℕ
-pitch layout = lane layout + part layout.label + 36
-
--- where a column begins, and where it ends
-abbrev pub left : Layout → (column : ℕ) → ℕ
-left layout column = 100 + column * pitch layout
-
-abbrev pub right : Layout → (column : ℕ) → ℕ
-right layout column = left layout column + lane layout
-
--- where groups of races end, the title with a margin, and the legend
-abbrev pub groups_right : Layout → ℕ
-groups_right layout = 100 + part layout.group
-
-abbrev pub title_right : Picture → ℕ
-title_right picture = wide (length picture.title.items) + 16
-
-abbrev pub legend_wide : ℕ
-legend_wide = 1092
-
--- how wide the whole is: there is room for these, and for each column and what stands behind it
-abbrev pub picture_wide : Picture → ℕ
-picture_wide picture =
-    let layout = layout_of picture in
-    max (max (left layout (length picture.columns.items)) (max (groups_right layout) (title_right picture))) legend_wide
+abbrev pub lane_at : List Lane → (column : ℕ) → Lane
+lane_at lanes column = slice_index_or lanes column no_lane

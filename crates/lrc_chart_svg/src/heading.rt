@@ -1,20 +1,20 @@
 // What stands around the rows: the title, the legend and the columns.
 
-ghost use Rattle.std.specs.Prelude.{◌≡◌, ◌+◌, ◌++◌, ◌∷◌, ◌<◌, ◌≤◌, ◌^◌, [], OnOk, decimal, false};
+ghost use Rattle.std.specs.Prelude.{◌≡◌, ◌+◌, ◌++◌, ◌∷◌, [], OnOk, decimal, false};
 ghost use Rattle.lrc_text.specs.Each.{each};
 ghost use Rattle.lrc_chart_svg.specs.Marks.{all_marks, begins_with_digit};
+ghost use Rattle.lrc_chart_svg.specs.Plan.{plan_in};
 ghost use Rattle.lrc_chart_svg.specs.Shown.{column_between, column_marks, legend_marks, line, lines_named, sample, samples_named};
 ghost use Rattle.lrc_chart_svg.specs.Shown.{signs_named, title_marks, told, words_from, words_named};
 
-use crate::layout::{Lane, Layout};
+use crate::lanes::Lane;
+use crate::layout::Layout;
 use crate::paint::{Area, Point, push_box, push_label, push_path};
 use crate::style::{GROUND, HEAD, Hand, INK, INVALID, LANE, MESSAGE, PALE, RACE, Style, TIME};
 use lrc_chart_model::Kind;
 use lrc_svg::Content;
 use std::alloc::{AllocError, Global};
 
-/// How wide the legend is.
-pub(crate) const LEGEND_WIDTH: u128 = 1092;
 // Where columns begin.
 const TOP: u128 = 84;
 // The signs of lines in the legend.
@@ -208,15 +208,13 @@ fn push_column(
     foot: u128,
     name: &Vec<u8>,
 ) -> Result<(), AllocError>
-    requires order { lane.left ≤ lane.right }
-    requires far { lane.left < 2 ^ 104 }
     ensures { OnOk result (all_marks contents.new.items
         ≡ all_marks contents.old.items ++ column_between lane.left lane.right foot name.now) }
 {
     let whole = Area {
-        x: lane.left,
+        x: u128::from(lane.left),
         y: TOP,
-        width: lane.right - lane.left,
+        width: u128::from(lane.right).saturating_sub(u128::from(lane.left)),
         height: foot.saturating_sub(TOP),
     };
     push_box(alloc, contents, whole, Style::bordered(b"none", LANE, b"1"))?;
@@ -226,7 +224,7 @@ fn push_column(
     };
     push_box(alloc, contents, head, Style::bordered(HEAD, LANE, b"1"))?;
     let at = Point {
-        x: lane.left + 6,
+        x: u128::from(lane.left) + 6,
         y: 98,
     };
     push_label(alloc, contents, at, Hand::bold(), name.as_slice())
@@ -236,14 +234,14 @@ fn push_column(
 pub(crate) fn push_columns(
     alloc: Global,
     contents: &mut Vec<Content>,
-    layout: Layout,
+    layout: &Layout,
     foot: u128,
     names: &[Vec<u8>],
 ) -> Result<(), AllocError>
-    ensures { OnOk result (all_marks contents.new.items ≡ all_marks contents.old.items ++ each (column_marks layout foot) names.now) }
+    ensures { OnOk result (all_marks contents.new.items ≡ all_marks contents.old.items ++ each (column_marks (plan_in layout.now) foot) names.now) }
 {
     for (column, name) in names.iter().enumerate() {
-        push_column(alloc, contents, layout.column(column), foot, name)?;
+        push_column(alloc, contents, layout.lane(column), foot, name)?;
     }
     Ok(())
 }

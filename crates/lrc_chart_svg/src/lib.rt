@@ -3,12 +3,18 @@
 #![tactic(auto)]
 
 mod arrows;
+mod flow;
+mod frames;
 mod heading;
+mod lanes;
 mod layout;
 mod paint;
 mod picture;
 mod races;
 mod rows;
+mod sizes;
+mod source;
 mod style;
+mod ways;
 
 pub use picture::document_of;

@@ -4,9 +4,9 @@ ghost use Rattle.std.specs.Prelude.{◌≡◌, ◌+◌, ◌-◌, ◌++◌, ◌�
 ghost use Rattle.lrc_chart_svg.specs.Attributes.{anchor_word, said};
 ghost use Rattle.lrc_chart_svg.specs.Marks.{all_marks, all_words, begins, begins_with_digit, behind, box, ends, held, hint, named_once, own, path, stroke, word};
 ghost use Rattle.lrc_chart_svg.specs.Shown.{plate_left, plated};
-ghost use Rattle.lrc_chart_svg.specs.Widths.{wide};
+ghost use Rattle.lrc_chart_svg.specs.Flow.{wide};
 
-use crate::layout::width;
+use crate::flow::width;
 use crate::style::{Anchor, GROUND, Hand, Style};
 use itoa::Buffer;
 use lrc_svg::{Attribute, Content, Key, Tag};
@@ -28,8 +28,8 @@ pub(crate) struct Area {
     pub height: u128,
 }
 
-// Adds a number in decimal digits.
-fn push_number(text: &mut Vec<u8>, number: u128) -> Result<(), AllocError>
+/// Adds a number in decimal digits.
+pub(crate) fn push_number(text: &mut Vec<u8>, number: u128) -> Result<(), AllocError>
     ensures { OnOk result (text.new.items ≡ text.old.items ++ decimal number) }
 {
     let mut digits = Buffer::new();
@@ -54,7 +54,8 @@ fn pixels(alloc: Global, number: u128) -> Result<Vec<u8>, AllocError>
     Ok(text)
 }
 
-fn bytes(alloc: Global, words: &[u8]) -> Result<Vec<u8>, AllocError>
+/// A copy of these words.
+pub(crate) fn bytes(alloc: Global, words: &[u8]) -> Result<Vec<u8>, AllocError>
     ensures { IfOk result (λ text. text.items ≡ words.now) }
 {
     Vec::from_slice(alloc, words)

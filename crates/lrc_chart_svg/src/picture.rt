@@ -1,49 +1,24 @@
 // A picture as a document.
 
-ghost use Rattle.std.specs.Prelude.{◌≡◌, ◌++◌, ◌∷◌, [], IfOk, OnOk, codes, decimal, true};
+ghost use Rattle.std.specs.Prelude.{◌≡◌, ◌<◌, ◌^◌, ◌++◌, ◌∷◌, [], IfOk, OnOk, codes, decimal, true};
 ghost use Rattle.lrc_chart_svg.specs.Attributes.{said};
-ghost use Rattle.lrc_chart_svg.specs.Heights.{columns_foot, picture_high};
+ghost use Rattle.lrc_chart_svg.specs.Plan.{plan_in};
 ghost use Rattle.lrc_chart_svg.specs.Marks.{all_marks, is_space, named_once, attribute_value};
 ghost use Rattle.lrc_chart_svg.specs.Root.{IsRootOf, whole_said};
-ghost use Rattle.lrc_chart_svg.specs.Shown.{ground_marks, kind_marks, marks_by, picture_marks, run_marks};
-ghost use Rattle.lrc_chart_svg.specs.Widths.{layout_of, picture_wide};
+ghost use Rattle.lrc_chart_svg.specs.Shown.{foot_marks, ground_marks, marks_by, picture_marks, run_marks, side_marks};
+ghost use Rattle.lrc_chart_svg.specs.Source.{source_wide};
 
-use crate::arrows::{push_all_lost, push_arrow_labels, push_arrows, push_lost_labels};
-use crate::heading::{LEGEND_WIDTH, push_columns, push_legend, push_title};
-use crate::layout::{Layout, height_below, width};
+use crate::arrows::{push_all_lost, push_arrows, push_lost_labels};
+use crate::heading::{push_columns, push_legend, push_title};
+use crate::layout::Layout;
 use crate::paint::{Point, push_attribute, push_pixels, push_point, push_value};
-use crate::races::{push_bands, push_races};
+use crate::races::{push_bands, push_deadlocks, push_races};
 use crate::rows::push_rows;
+use crate::sizes::Size;
+use crate::source::push_source;
 use lrc_chart_model::Picture;
 use lrc_svg::{Attribute, Content, Document, Key};
 use std::alloc::{AllocError, Global};
-
-// How large a picture is, and down to where its columns go.
-#[derive(Clone, Copy)]
-struct Size {
-    whole: Point,
-    foot: u128,
-}
-
-impl Size {
-    fn of(layout: Layout, picture: &Picture) -> Size
-        requires { layout ≡ layout_of picture.now }
-        ensures wide { result.whole.x ≡ picture_wide picture.now }
-        ensures high { result.whole.y ≡ picture_high picture.now }
-        ensures foot { result.foot ≡ columns_foot picture.now }
-    {
-        let foot = height_below(picture.rows.len() as u128, picture.lost.len());
-        let columns = layout.left(picture.columns.len());
-        let words = layout.group().max(width(picture.title.len() as u64) + 16);
-        Size {
-            whole: Point {
-                x: columns.max(words).max(LEGEND_WIDTH),
-                y: foot + 24 * picture.races.len() as u128,
-            },
-            foot: foot - 10,
-        }
-    }
-}
 
 // Adds the part of the plane that is shown, from its corner on, and how large it is.
 fn push_size(alloc: Global, attributes: &mut Vec<Attribute>, size: Point) -> Result<(), AllocError>
@@ -92,14 +67,20 @@ fn attributes_of(alloc: Global, size: Point) -> Result<Vec<Attribute>, AllocErro
 fn push_ground(
     alloc: Global,
     contents: &mut Vec<Content>,
-    layout: Layout,
+    layout: &Layout,
     size: Size,
     picture: &Picture,
 ) -> Result<(), AllocError>
     ensures { OnOk result (all_marks contents.new.items
-        ≡ all_marks contents.old.items ++ ground_marks layout size.whole.x size.foot picture.now) }
+        ≡ all_marks contents.old.items ++ ground_marks (plan_in layout.now) size.whole.x size.foot picture.now) }
 {
-    push_bands(alloc, contents, size.whole.x, picture.bands.as_slice())?;
+    push_bands(
+        alloc,
+        contents,
+        layout,
+        size.whole.x,
+        picture.bands.as_slice(),
+    )?;
     push_columns(
         alloc,
         contents,
@@ -113,35 +94,63 @@ fn push_ground(
 fn push_run(
     alloc: Global,
     contents: &mut Vec<Content>,
-    layout: Layout,
+    layout: &Layout,
     picture: &Picture,
 ) -> Result<(), AllocError>
-    ensures { OnOk result (all_marks contents.new.items ≡ all_marks contents.old.items ++ run_marks layout picture.now) }
+    ensures { OnOk result (all_marks contents.new.items ≡ all_marks contents.old.items ++ run_marks (plan_in layout.now) picture.now) }
 {
-    let rows = picture.rows.len();
-    let used = rows as u128 + picture.lost.len() as u128;
     push_arrows(alloc, contents, layout, picture.arrows.as_slice())?;
-    push_all_lost(alloc, contents, layout, rows, picture.lost.as_slice())?;
-    push_races(alloc, contents, layout, used, picture.races.as_slice())?;
-    push_rows(alloc, contents, layout, picture.rows.as_slice())
-}
-
-// Adds the kinds of messages.
-fn push_kinds(
-    alloc: Global,
-    contents: &mut Vec<Content>,
-    layout: Layout,
-    picture: &Picture,
-) -> Result<(), AllocError>
-    ensures { OnOk result (all_marks contents.new.items ≡ all_marks contents.old.items ++ kind_marks layout picture.now) }
-{
-    push_arrow_labels(alloc, contents, layout, picture.arrows.as_slice())?;
-    push_lost_labels(
+    push_all_lost(alloc, contents, layout, picture.lost.as_slice())?;
+    push_races(
         alloc,
         contents,
         layout,
-        picture.rows.len(),
-        picture.lost.as_slice(),
+        picture.lost.len(),
+        picture.races.as_slice(),
+    )?;
+    push_rows(
+        alloc,
+        contents,
+        layout,
+        picture.arrows.as_slice(),
+        picture.rows.as_slice(),
+    )
+}
+
+// Adds the kinds of messages that were never taken, and circles of waiting.
+fn push_foot(
+    alloc: Global,
+    contents: &mut Vec<Content>,
+    layout: &Layout,
+    picture: &Picture,
+) -> Result<(), AllocError>
+    ensures { OnOk result (all_marks contents.new.items ≡ all_marks contents.old.items ++ foot_marks (plan_in layout.now) picture.now) }
+{
+    let used = picture.lost.len() as u128 + picture.races.len() as u128;
+    push_lost_labels(alloc, contents, layout, picture.lost.as_slice())?;
+    push_deadlocks(alloc, contents, layout, used, picture.deadlocks.as_slice())
+}
+
+// Adds these, and the program's text.
+fn push_side(
+    alloc: Global,
+    contents: &mut Vec<Content>,
+    layout: &Layout,
+    size: Size,
+    picture: &Picture,
+) -> Result<(), AllocError>
+    requires near { size.left < 2 ^ 70 }
+    requires source { size.source ≡ source_wide picture.now.source.items }
+    ensures { OnOk result (all_marks contents.new.items
+        ≡ all_marks contents.old.items ++ side_marks (plan_in layout.now) size.left picture.now) }
+{
+    push_foot(alloc, contents, layout, picture)?;
+    push_source(
+        alloc,
+        contents,
+        size.left,
+        size.source,
+        picture.source.as_slice(),
     )
 }
 
@@ -149,18 +158,20 @@ fn push_kinds(
 fn push_picture(
     alloc: Global,
     contents: &mut Vec<Content>,
-    layout: Layout,
+    layout: &Layout,
     size: Size,
     picture: &Picture,
 ) -> Result<(), AllocError>
-    ensures { OnOk result (all_marks contents.new.items
-        ≡ all_marks contents.old.items ++ marks_by layout size.whole.x size.whole.y size.foot picture.now) }
+    requires near { size.left < 2 ^ 70 }
+    requires source { size.source ≡ source_wide picture.now.source.items }
+    ensures { OnOk result (all_marks contents.new.items ≡ all_marks contents.old.items
+        ++ marks_by (plan_in layout.now) size.whole.x size.whole.y size.foot size.left picture.now) }
 {
     push_title(alloc, contents, size.whole, picture.title.as_slice())?;
     push_legend(alloc, contents)?;
     push_ground(alloc, contents, layout, size, picture)?;
     push_run(alloc, contents, layout, picture)?;
-    push_kinds(alloc, contents, layout, picture)
+    push_side(alloc, contents, layout, size, picture)
 }
 
 /// The picture as a document: what it shows, in order, and how large it is, are the definitions'. Its elements are those of scalable vector
@@ -171,10 +182,10 @@ pub fn document_of(alloc: Global, picture: &Picture) -> Result<Document, AllocEr
     ensures space { IfOk result (λ document. attribute_value is_space document.attributes.items ≡ codes "http://www.w3.org/2000/svg") }
     ensures root { IfOk result (λ document. IsRootOf picture.now document.attributes.items) }
 {
-    let layout = Layout::of(picture);
-    let size = Size::of(layout, picture);
+    let layout = Layout::of(alloc, picture)?;
+    let size = Size::of(&layout, picture);
     let mut inside = Vec::new(alloc);
-    push_picture(alloc, &mut inside, layout, size, picture)?;
+    push_picture(alloc, &mut inside, &layout, size, picture)?;
     Ok(Document {
         attributes: attributes_of(alloc, size.whole)?,
         inside,

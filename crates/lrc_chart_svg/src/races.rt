@@ -1,17 +1,21 @@
 // Groups of races, as lines between two acts, and barriers, as bands across the columns.
 
-ghost use Rattle.std.specs.Prelude.{◌≡◌, ◌<◌, ◌^◌, ◌++◌, OnOk, decimal};
+ghost use Rattle.std.specs.Prelude.{◌≡◌, ◌<◌, ◌+◌, ◌^◌, ◌++◌, IfOk, OnOk, decimal};
 ghost use Rattle.std.specs.List.{flat_map};
 ghost use Rattle.lrc_text.specs.Each.{each};
 ghost use Rattle.lrc_chart_svg.specs.Marks.{all_marks};
-ghost use Rattle.lrc_chart_svg.specs.Shown.{band_marks, knotted, race_marks};
+ghost use Rattle.lrc_chart_svg.specs.Heights.{line_foot, middle};
+ghost use Rattle.lrc_chart_svg.specs.Plan.{plan_in};
+ghost use Rattle.lrc_chart_svg.specs.Shown.{band_marks, deadlock_marks, knotted, plated, race_ends, race_marks, race_name, race_words};
+ghost use Rattle.lrc_chart_svg.specs.Ways.{beside, beside_anchor, end_side, start_side};
 
-use crate::arrows::Span;
-use crate::layout::{Layout, height, height_below};
+use crate::layout::Layout;
 use crate::paint::{
-    Area, Point, push_box, push_group, push_hint, push_label, push_line, push_path,
+    Area, Point, bytes, push_box, push_group, push_hint, push_label, push_line, push_number,
+    push_path, push_plated,
 };
-use crate::style::{BAND, EDGE, Hand, INK, RACE, Style};
+use crate::style::{Anchor, BAND, EDGE, Hand, INK, RACE, Style};
+use crate::ways::Span;
 use lrc_chart_model::{Band, Race};
 use lrc_svg::Content;
 use std::alloc::{AllocError, Global};
@@ -34,41 +38,117 @@ fn push_knotted(
     push_path(alloc, inside, to, KNOT, Style::plain(RACE))
 }
 
-// Adds the line of a group, and its words on a line below the rows and what is used there.
-fn push_race(
+// The name of a group.
+fn race_name(alloc: Global, number: usize) -> Result<Vec<u8>, AllocError>
+    ensures { IfOk result (λ name. name.items ≡ race_name number) }
+{
+    let mut name = bytes(alloc, b"race ")?;
+    push_number(&mut name, number as u128)?;
+    Ok(name)
+}
+
+// Adds a name beside the second of two columns, at this height.
+fn push_beside(
     alloc: Global,
-    contents: &mut Vec<Content>,
-    layout: Layout,
-    used: u128,
-    place: usize,
+    inside: &mut Vec<Content>,
+    layout: &Layout,
+    from: u8,
+    to: u8,
+    foot: u128,
+    name: &[u8],
+) -> Result<(), AllocError>
+    ensures { OnOk result (all_marks inside.new.items
+        ≡ all_marks inside.old.items ++ plated (beside_anchor from to) (beside (plan_in layout.now) from to) foot name.now) }
+{
+    let way = Span::between(layout, from, to);
+    let at = Point {
+        x: way.words,
+        y: foot,
+    };
+    push_plated(alloc, inside, at, Hand::anchored(way.anchor, RACE), name)
+}
+
+// Adds the name of a group at both ends of its line.
+fn push_race_ends(
+    alloc: Global,
+    inside: &mut Vec<Content>,
+    layout: &Layout,
+    race: &Race,
+    name: &[u8],
+) -> Result<(), AllocError>
+    ensures { OnOk result (all_marks inside.new.items ≡ all_marks inside.old.items
+        ++ race_ends (plan_in layout.now) race.now.from race.now.first race.now.to race.now.second name.now) }
+{
+    let above = layout.height(race.from) - 6;
+    let below = layout.height(race.to) + 15;
+    push_beside(alloc, inside, layout, race.second, race.first, above, name)?;
+    push_beside(alloc, inside, layout, race.first, race.second, below, name)
+}
+
+// Adds the words of a group, its name before them.
+fn push_race_words(
+    alloc: Global,
+    inside: &mut Vec<Content>,
+    foot: u128,
+    name: &[u8],
+    words: &[u8],
+) -> Result<(), AllocError>
+    ensures { OnOk result (all_marks inside.new.items ≡ all_marks inside.old.items ++ race_words (decimal foot) name.now words.now) }
+{
+    let before = Point { x: 78, y: foot };
+    let at = Point { x: 84, y: foot };
+    push_label(
+        alloc,
+        inside,
+        before,
+        Hand::anchored(Anchor::End, RACE),
+        name,
+    )?;
+    push_label(alloc, inside, at, Hand::plain(RACE), words)
+}
+
+// Adds the line of a group.
+fn push_race_line(
+    alloc: Global,
+    inside: &mut Vec<Content>,
+    layout: &Layout,
     race: &Race,
 ) -> Result<(), AllocError>
-    requires { used < 2 ^ 66 }
-    ensures { OnOk result (all_marks contents.new.items ≡ all_marks contents.old.items ++ race_marks layout used place race.now) }
+    ensures { OnOk result (all_marks inside.new.items ≡ all_marks inside.old.items
+        ++ knotted (decimal (start_side (plan_in layout.now) race.now.first race.now.second)) (middle (plan_in layout.now) race.now.from)
+        (decimal (end_side (plan_in layout.now) race.now.first race.now.second)) (middle (plan_in layout.now) race.now.to)) }
 {
     let way = Span::between(layout, race.first, race.second);
     let from = Point {
         x: way.start,
-        y: height(race.from),
+        y: layout.height(race.from),
     };
     let to = Point {
         x: way.end,
-        y: height(race.to),
+        y: layout.height(race.to),
     };
-    let words = Point {
-        x: 100,
-        y: height_below(used, place) + 4,
-    };
+    push_knotted(alloc, inside, from, to)
+}
+
+// Adds a group, its words on a line below the rows and what is used there.
+fn push_race(
+    alloc: Global,
+    contents: &mut Vec<Content>,
+    layout: &Layout,
+    used: usize,
+    place: usize,
+    race: &Race,
+) -> Result<(), AllocError>
+    ensures { OnOk result (all_marks contents.new.items
+        ≡ all_marks contents.old.items ++ race_marks (plan_in layout.now) used place race.now) }
+{
+    let foot = layout.line_height(used as u128 + place as u128) + 4;
+    let name = race_name(alloc, race.number)?;
     let mut inside = Vec::new(alloc);
     push_hint(alloc, &mut inside, race.hint.as_slice())?;
-    push_knotted(alloc, &mut inside, from, to)?;
-    push_label(
-        alloc,
-        &mut inside,
-        words,
-        Hand::plain(RACE),
-        race.label.as_slice(),
-    )?;
+    push_race_line(alloc, &mut inside, layout, race)?;
+    push_race_ends(alloc, &mut inside, layout, race, &name)?;
+    push_race_words(alloc, &mut inside, foot, &name, race.label.as_slice())?;
     push_group(alloc, contents, inside)
 }
 
@@ -76,12 +156,11 @@ fn push_race(
 pub(crate) fn push_races(
     alloc: Global,
     contents: &mut Vec<Content>,
-    layout: Layout,
-    used: u128,
+    layout: &Layout,
+    used: usize,
     races: &[Race],
 ) -> Result<(), AllocError>
-    requires { used < 2 ^ 66 }
-    ensures { OnOk result (all_marks contents.new.items ≡ all_marks contents.old.items ++ each (race_marks layout used) races.now) }
+    ensures { OnOk result (all_marks contents.new.items ≡ all_marks contents.old.items ++ each (race_marks (plan_in layout.now) used) races.now) }
 {
     for (place, race) in races.iter().enumerate() {
         push_race(alloc, contents, layout, used, place, race)?;
@@ -93,20 +172,25 @@ pub(crate) fn push_races(
 fn push_band(
     alloc: Global,
     contents: &mut Vec<Content>,
+    layout: &Layout,
     width: u128,
     band: &Band,
 ) -> Result<(), AllocError>
-    ensures { OnOk result (all_marks contents.new.items ≡ all_marks contents.old.items ++ band_marks width band.now) }
+    ensures { OnOk result (all_marks contents.new.items ≡ all_marks contents.old.items ++ band_marks (plan_in layout.now) width band.now) }
 {
-    let top = height(band.from);
+    let first = u128::from(layout.frame(band.from).top);
+    let top = first.saturating_sub(4);
     let area = Area {
         x: 0,
-        y: top - 12,
+        y: top,
         width,
-        height: height(band.to).saturating_sub(top) + 24,
+        height: layout.band_foot(band).saturating_sub(top),
     };
     push_box(alloc, contents, area, Style::bordered(BAND, EDGE, b"1"))?;
-    let at = Point { x: 8, y: top + 4 };
+    let at = Point {
+        x: 8,
+        y: first + 12,
+    };
     push_label(alloc, contents, at, Hand::plain(INK), band.label.as_slice())
 }
 
@@ -114,13 +198,52 @@ fn push_band(
 pub(crate) fn push_bands(
     alloc: Global,
     contents: &mut Vec<Content>,
+    layout: &Layout,
     width: u128,
     bands: &[Band],
 ) -> Result<(), AllocError>
-    ensures { OnOk result (all_marks contents.new.items ≡ all_marks contents.old.items ++ flat_map (band_marks width) bands.now) }
+    ensures { OnOk result (all_marks contents.new.items ≡ all_marks contents.old.items ++ flat_map (band_marks (plan_in layout.now) width) bands.now) }
 {
     for band in bands {
-        push_band(alloc, contents, width, band)?;
+        push_band(alloc, contents, layout, width, band)?;
+    }
+    Ok(())
+}
+
+// Adds a circle of waiting.
+fn push_deadlock(
+    alloc: Global,
+    contents: &mut Vec<Content>,
+    layout: &Layout,
+    used: u128,
+    place: usize,
+    words: &Vec<u8>,
+) -> Result<(), AllocError>
+    requires { used < 2 ^ 66 }
+    ensures { OnOk result (all_marks contents.new.items
+        ≡ all_marks contents.old.items ++ deadlock_marks (plan_in layout.now) used place words.now) }
+{
+    let at = Point {
+        x: 8,
+        y: layout.line_height(used + place as u128) + 4,
+    };
+    push_label(alloc, contents, at, Hand::plain(RACE), words.as_slice())
+}
+
+/// Adds circles of waiting.
+pub(crate) fn push_deadlocks(
+    alloc: Global,
+    contents: &mut Vec<Content>,
+    layout: &Layout,
+    used: u128,
+    deadlocks: &[Vec<u8>],
+) -> Result<(), AllocError>
+    requires { used < 2 ^ 66 }
+    ensures { OnOk result (all_marks contents.new.items
+        ≡ all_marks contents.old.items ++ each (deadlock_marks (plan_in layout.now) used) deadlocks.now) }
+{
+    for (place, words) in deadlocks.iter().enumerate() {
+        push_deadlock(alloc, contents, layout, used, place, words)?;
     }
     Ok(())
 }

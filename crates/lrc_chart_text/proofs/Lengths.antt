@@ -1,6 +1,6 @@
 -- How long lines are.
 use Rattle.std.proofs.Common.{◌≡◌, ◌≤◌, ◌<◌, ◌+◌, ◌*◌, ◌-◌, ℕ, zero, suc, List, [], ◌∷◌, ◌++◌, ap, arith, drop, length, map, refl, sym, take}
-use Rattle.std.specs.Prelude.{Bool, true, false, codes, cond, decimal, nat_le, replicate}
+use Rattle.std.specs.Prelude.{All, Bool, true, false, codes, cond, decimal, nat_le, replicate}
 use Rattle.std.specs.List.{enumerate_from, flat_map, range_with_len}
 use Rattle.std.proofs.Math.Nat.{mul-le-mul_right, suc-mul}
 use Rattle.std.proofs.lemmas.Bool.{le-leb, leb-true}
@@ -42,6 +42,18 @@ short_from {X} most n bound of (x ∷ items) within each_is =
 pub short_each : {X : Type 0} (most : ℕ) (of : ℕ → X → List (List ℕ)) (items : List X)
     → ((i : ℕ) (x : X) → i < length items → AreShort most (of i x)) → AreShort most (each of items)
 short_each most of items each_is = short_from most 0 (length items) of items (omega arith) each_is
+
+-- of items that are so
+short_where_from : {X : Type 0} (most n : ℕ) (P : X → Type 0) (of : ℕ → X → List (List ℕ)) (items : List X) → All P items
+    → ((i : ℕ) (x : X) → P x → AreShort most (of i x)) → AreShort most (flat_map (λ at. of at.0 at.1) (enumerate_from n items))
+short_where_from most n P of [] are each_is = short_none most
+short_where_from {X} most n P of (x ∷ items) are each_is =
+    short_both most (of n x) (flat_map (λ (at : ℕ × X). of at.0 at.1) (enumerate_from (n + 1) items)) (each_is n x (All-head P x items are))
+    (short_where_from most (n + 1) P of items (All-tail P x items are) each_is)
+
+pub short_where : {X : Type 0} (most : ℕ) (P : X → Type 0) (of : ℕ → X → List (List ℕ)) (items : List X) → All P items
+    → ((i : ℕ) (x : X) → P x → AreShort most (of i x)) → AreShort most (each of items)
+short_where most P of items are each_is = short_where_from most 0 P of items are each_is
 
 -- ---- phrases in lines
 

@@ -1,6 +1,8 @@
 -- No line of a picture is longer than a terminal.
 use Rattle.std.proofs.Common.{◌≤◌, ◌<◌, ℕ, List, [], ◌∷◌, ◌++◌, arith, length, refl}
-use Rattle.std.specs.Prelude.{◌==◌, Bool, true, false, codes}
+use Rattle.std.specs.Prelude.{◌==◌, Bool, true, false, Vec, codes}
+use Rattle.std.specs.declared.alloc.Global.{Global}
+use Rattle.std.specs.List.{flat_map}
 use Rattle.std.proofs.lemmas.Bool.{leb-true}
 use Rattle.lrc_chart_model.specs.declared.picture.Band.{Band}
 use Rattle.lrc_chart_model.specs.declared.picture.Picture.{Picture}
@@ -11,9 +13,9 @@ use Rattle.lrc_chart_text.specs.Columns.{band_margin, bars_margin, name_margin, 
 use Rattle.lrc_chart_text.specs.Lines.{paragraph}
 use Rattle.lrc_chart_text.specs.Phrases.{row_phrases, words_of_row}
 use Rattle.lrc_chart_text.specs.Short.{AreShort, NoLineIsLonger}
-use Rattle.lrc_chart_text.specs.Sketch.{all_race_lines, band_lines, begin_lines, end_lines, legend_lines, legend_messages, legend_others, legend_signs, lines_if}
+use Rattle.lrc_chart_text.specs.Sketch.{all_deadlock_lines, all_race_lines, band_lines, begin_lines, deadlock_lines, end_lines, legend_lines, legend_messages, legend_others, legend_signs, lines_if}
 use Rattle.lrc_chart_text.specs.Sketch.{loose_lines, name_lines, race_head, race_lines, row_lines, shape_of, title_lines, turn_lines}
-use Rattle.lrc_chart_text.proofs.Lengths.{band_fits, bars_fit, headed_short, name_fits, paragraph_short, row_fits, short_both, short_each, short_flat, short_more, short_none}
+use Rattle.lrc_chart_text.proofs.Lengths.{band_fits, bars_fit, headed_short, name_fits, paragraph_short, row_fits, short_both, short_each, short_flat, short_more, short_none, short_where}
 
 loose_short : (phrases : List (List ℕ)) → AreShort 100 (loose_lines 98 phrases)
 loose_short phrases = headed_short 100 98 [] (codes "  ") (paragraph 98 phrases) (omega arith) (omega arith) (paragraph_short 98 phrases)
@@ -32,9 +34,15 @@ if_short false lines are = short_none 100
 races_short : (rows : List Row) (races : List Race) → AreShort 100 (all_race_lines rows races)
 races_short rows [] = short_none 100
 races_short rows (race ∷ races) =
-    short_more 100 [] (each (race_lines rows) (race ∷ races)) (omega arith)
-    (short_each 100 (race_lines rows) (race ∷ races)
-    (λ position one within. loose_short (race_head position one ∷ words_of_row rows one.from ∷ words_of_row rows one.to ∷ one.label.items ∷ one.hint.items ∷ [])))
+    short_more 100 [] (flat_map (race_lines rows) (race ∷ races)) (omega arith)
+    (short_flat 100 (race_lines rows) (race ∷ races)
+    (λ one. loose_short (race_head rows one ∷ words_of_row rows one.from ∷ words_of_row rows one.to ∷ one.label.items ∷ one.hint.items ∷ [])))
+
+deadlocks_short : (deadlocks : List (Vec ℕ Global)) → AreShort 100 (all_deadlock_lines deadlocks)
+deadlocks_short [] = short_none 100
+deadlocks_short (words ∷ more) =
+    short_more 100 [] (flat_map deadlock_lines (words ∷ more)) (omega arith)
+    (short_flat 100 deadlock_lines (words ∷ more) (λ one. loose_short (one.items ∷ [])))
 
 module _ (picture : Picture) (few : length picture.columns.items ≤ 16) where
   abbrev columns : ℕ
@@ -46,14 +54,14 @@ module _ (picture : Picture) (few : length picture.columns.items ≤ 16) where
       headed_short 100 (room_of columns) (band_margin columns) (bars_margin columns) (paragraph (room_of columns) phrases) (band_fits columns few)
       (bars_fit columns few) (paragraph_short (room_of columns) phrases)
 
-  turn_short : (number : ℕ) (row : Row) → number < 10000 → AreShort 100 (turn_lines picture number row)
+  turn_short : (number : ℕ) (row : Row) → row.number < 10000 → AreShort 100 (turn_lines picture number row)
   turn_short number row low =
       let phrases = row_phrases picture number row in
       let shape = shape_of number row picture.arrows.items in
-      headed_short 100 (room_of columns) (row_margin columns number shape) (bars_margin columns) (paragraph (room_of columns) phrases)
-      (row_fits columns few number shape low) (bars_fit columns few) (paragraph_short (room_of columns) phrases)
+      headed_short 100 (room_of columns) (row_margin columns row.number shape) (bars_margin columns) (paragraph (room_of columns) phrases)
+      (row_fits columns few row.number shape low) (bars_fit columns few) (paragraph_short (room_of columns) phrases)
 
-  row_short : (number : ℕ) (row : Row) → number < 10000 → AreShort 100 (row_lines picture number row)
+  row_short : (number : ℕ) (row : Row) → row.number < 10000 → AreShort 100 (row_lines picture number row)
   row_short number row low =
       short_both 100 (begin_lines picture number ++ turn_lines picture number row) (end_lines picture number)
       (short_both 100 (begin_lines picture number) (turn_lines picture number row)
@@ -73,9 +81,10 @@ no_line_is_longer picture few low =
     let above = title_lines picture.title.items ++ legend_lines in
     let names = each (name_lines (length picture.columns.items)) picture.columns.items in
     let rows = each (row_lines picture) picture.rows.items in
-    short_both 100 (above ++ names ++ rows) (all_race_lines picture.rows.items picture.races.items)
+    short_both 100 (above ++ names ++ rows) (all_race_lines picture.rows.items picture.races.items ++ all_deadlock_lines picture.deadlocks.items)
     (short_both 100 (above ++ names) rows
     (short_both 100 above names
     (short_both 100 (title_lines picture.title.items) legend_lines (loose_short (picture.title.items ∷ [])) legend_short) (names_short picture few))
-    (short_each 100 (row_lines picture) picture.rows.items (λ number row within. row_short picture few number row (omega (arith, within, low)))))
-    (races_short picture.rows.items picture.races.items)
+    (short_where 100 (λ (row : Row). row.number < 10000) (row_lines picture) picture.rows.items low (row_short picture few)))
+    (short_both 100 (all_race_lines picture.rows.items picture.races.items) (all_deadlock_lines picture.deadlocks.items)
+    (races_short picture.rows.items picture.races.items) (deadlocks_short picture.deadlocks.items))

@@ -63,6 +63,10 @@ module _ {X : Type 0} (items view : List X) (same : view ≡ items) (i : ℕ) (i
       → new ≡ first ++ each of (take (i + 1) items)
   each_seen of first old new was now = each_pushed items i item inside there of first old new was now
 
+  pub flat_seen : {Y : Type 0} (of : X → List Y) (first old new : List Y) → old ≡ first ++ flat_map of (take i items) → new ≡ old ++ of item
+      → new ≡ first ++ flat_map of (take (i + 1) items)
+  flat_seen of first old new was now = flat_pushed items i item inside there of first old new was now
+
   pub each_lines : (of : ℕ → X → List (List ℕ)) (first old new : List ℕ) → old ≡ first ++ lines_text (each of (take i items))
       → new ≡ old ++ lines_text (of i item) → new ≡ first ++ lines_text (each of (take (i + 1) items))
   each_lines of first old new was now =

@@ -17,6 +17,10 @@ name_of_column columns column = slice_index_or (texts_of columns) column []
 abbrev pub words_of_row : List Row → (number : ℕ) → List ℕ
 words_of_row rows number = slice_index_or (map (λ row. row.words.items) rows) number []
 
+-- the number of a row that is to be shown; past the last one its place
+abbrev pub number_of_row : List Row → (place : ℕ) → ℕ
+number_of_row rows place = slice_index_or (map (λ row. row.number) rows) place place
+
 -- a phrase, if there is one
 abbrev pub only_if : Bool → List ℕ → List (List ℕ)
 only_if true phrase = phrase ∷ []
@@ -59,18 +63,23 @@ sent_phrases picture number =
 abbrev pub lost_phrases : Picture → (number : ℕ) → List (List ℕ)
 lost_phrases picture number = flat_map (λ lost. only_if (lost.from == number) (lost_phrase picture.columns.items lost)) picture.lost.items
 
--- ---- races, numbered from 1
+-- ---- races and circles of waiting
 
-abbrev pub race_name : (position : ℕ) → List ℕ
-race_name position = codes "race " ++ decimal (position + 1)
+abbrev pub race_name : (number : ℕ) → List ℕ
+race_name number = codes "race " ++ decimal number
 
 -- the groups of races of which the row has an act
 abbrev pub race_phrases : Picture → (number : ℕ) → List (List ℕ)
 race_phrases picture number =
-    each (λ position race. only_if ((race.from == number) || (race.to == number)) (race_name position)) picture.races.items
+    flat_map (λ race. only_if ((race.from == number) || (race.to == number)) (race_name race.number)) picture.races.items
+
+-- a row in a circle of waiting
+abbrev pub circle_phrases : Row → List (List ℕ)
+circle_phrases row = only_if row.circled (codes "deadlock")
 
 -- ---- all of these
 
 abbrev pub row_phrases : Picture → (number : ℕ) → Row → List (List ℕ)
 row_phrases picture number row =
     turn_phrases row ++ taken_phrases picture number ++ sent_phrases picture number ++ lost_phrases picture number ++ race_phrases picture number
+    ++ circle_phrases row

@@ -11,7 +11,7 @@ use Rattle.lrc_text.specs.Each.{each}
 use Rattle.lrc_chart_text.specs.declared.columns.Shape.{Shape}
 use Rattle.lrc_chart_text.specs.Columns.{band_margin, bars_margin, name_margin, room_of, row_margin}
 use Rattle.lrc_chart_text.specs.Lines.{headed, lines_text, paragraph}
-use Rattle.lrc_chart_text.specs.Phrases.{race_name, row_phrases, words_of_row}
+use Rattle.lrc_chart_text.specs.Phrases.{number_of_row, race_name, row_phrases, words_of_row}
 
 -- words that stand beside no column, in lines of this room
 abbrev pub loose_lines : (room : ℕ) → (phrases : List (List ℕ)) → List (List ℕ)
@@ -51,7 +51,7 @@ shape_of number row (arrow ∷ arrows) =
 abbrev pub turn_lines : Picture → (number : ℕ) → Row → List (List ℕ)
 turn_lines picture number row =
     let columns = length picture.columns.items in
-    headed (row_margin columns number (shape_of number row picture.arrows.items)) (bars_margin columns)
+    headed (row_margin columns row.number (shape_of number row picture.arrows.items)) (bars_margin columns)
     (paragraph (room_of columns) (row_phrases picture number row))
 
 -- a barrier, at the first and at the last row at which a node comes to it or leaves it
@@ -75,23 +75,37 @@ row_lines picture number row = begin_lines picture number ++ turn_lines picture 
 
 -- ---- races
 
-abbrev pub race_head : (position : ℕ) → Race → List ℕ
-race_head position race = race_name position ++ codes ": row " ++ decimal race.from ++ codes " and row " ++ decimal race.to
+abbrev pub race_head : List Row → Race → List ℕ
+race_head rows race =
+    race_name race.number ++ codes ": row " ++ decimal (number_of_row rows race.from) ++ codes " and row " ++ decimal (number_of_row rows race.to)
 
-abbrev pub race_lines : List Row → (position : ℕ) → Race → List (List ℕ)
-race_lines rows position race =
-    loose_lines 98 (race_head position race ∷ words_of_row rows race.from ∷ words_of_row rows race.to ∷ race.label.items ∷ race.hint.items ∷ [])
+abbrev pub race_lines : List Row → Race → List (List ℕ)
+race_lines rows race =
+    loose_lines 98 (race_head rows race ∷ words_of_row rows race.from ∷ words_of_row rows race.to ∷ race.label.items ∷ race.hint.items ∷ [])
 
 abbrev pub all_race_lines : List Row → List Race → List (List ℕ)
 all_race_lines rows [] = []
-all_race_lines rows (race ∷ races) = [] ∷ each (race_lines rows) (race ∷ races)
+all_race_lines rows (race ∷ races) = [] ∷ flat_map (race_lines rows) (race ∷ races)
+
+-- ---- circles of waiting
+
+abbrev pub deadlock_lines : Vec ℕ Global → List (List ℕ)
+deadlock_lines words = loose_lines 98 (words.items ∷ [])
+
+abbrev pub all_deadlock_lines : List (Vec ℕ Global) → List (List ℕ)
+all_deadlock_lines [] = []
+all_deadlock_lines (words ∷ more) = [] ∷ flat_map deadlock_lines (words ∷ more)
 
 -- ---- all of it
+
+-- below the rows
+abbrev pub foot_lines : Picture → List (List ℕ)
+foot_lines picture = all_race_lines picture.rows.items picture.races.items ++ all_deadlock_lines picture.deadlocks.items
 
 abbrev pub sketch_lines : Picture → List (List ℕ)
 sketch_lines picture =
     title_lines picture.title.items ++ legend_lines ++ each (name_lines (length picture.columns.items)) picture.columns.items
-    ++ each (row_lines picture) picture.rows.items ++ all_race_lines picture.rows.items picture.races.items
+    ++ each (row_lines picture) picture.rows.items ++ foot_lines picture
 
 abbrev pub sketch_text : Picture → List ℕ
 sketch_text picture = lines_text (sketch_lines picture)

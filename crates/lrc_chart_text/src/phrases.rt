@@ -2,7 +2,7 @@
 
 ghost use Rattle.std.specs.Prelude.{◌≡◌, ◌<◌, ◌==◌, ◌||◌, ◌-◌, ◌∷◌, ◌++◌, [], IfOk, OnOk, codes, if◌then◌else◌, replicate};
 ghost use Rattle.lrc_text.specs.Parts.{texts_of};
-ghost use Rattle.lrc_chart_text.specs.Phrases.{again_text, arrow_phrase, lost_phrase, lost_phrases, name_of_column, only_if, padded_words, race_name};
+ghost use Rattle.lrc_chart_text.specs.Phrases.{again_text, arrow_phrase, lost_phrase, lost_phrases, name_of_column, number_of_row, only_if, padded_words, race_name};
 ghost use Rattle.lrc_chart_text.specs.Phrases.{race_phrases, row_phrases, sent_phrase, sent_phrases, taken_phrase, taken_phrases, turn_phrases, words_of_row};
 
 use crate::columns::push_times;
@@ -27,6 +27,16 @@ pub(crate) fn words_of_row(rows: &[Row], number: usize) -> &[u8]
     match rows.get(number) {
         Some(row) => row.words.as_slice(),
         None => b"",
+    }
+}
+
+/// The number of a row that is to be shown; past the last one its place.
+pub(crate) fn number_of_row(rows: &[Row], place: usize) -> usize
+    ensures { result ≡ number_of_row rows.now place }
+{
+    match rows.get(place) {
+        Some(row) => row.number,
+        None => place,
     }
 }
 
@@ -230,30 +240,27 @@ fn push_all_lost(
     Ok(())
 }
 
-// ---- races
+// ---- races and circles of waiting
 
 /// Adds the name of a group of races.
-pub(crate) fn push_race_name(text: &mut Vec<u8>, position: usize) -> Result<(), AllocError>
-    requires { position < 18446744073709551615 }
-    ensures { OnOk result (text.new.items ≡ text.old.items ++ race_name position) }
+pub(crate) fn push_race_name(text: &mut Vec<u8>, number: usize) -> Result<(), AllocError>
+    ensures { OnOk result (text.new.items ≡ text.old.items ++ race_name number) }
 {
-    push_number(text, b"race ", position as u64 + 1)
+    push_number(text, b"race ", number as u64)
 }
 
 fn push_race(
     alloc: Global,
     phrases: &mut Vec<Vec<u8>>,
     number: usize,
-    position: usize,
     race: &Race,
 ) -> Result<(), AllocError>
-    requires { position < 18446744073709551615 }
     ensures { OnOk result (texts_of phrases.new.items
-        ≡ texts_of phrases.old.items ++ only_if ((race.now.from == number) || (race.now.to == number)) (race_name position)) }
+        ≡ texts_of phrases.old.items ++ only_if ((race.now.from == number) || (race.now.to == number)) (race_name race.now.number)) }
 {
     if race.from == number || race.to == number {
         let mut phrase = Vec::new(alloc);
-        push_race_name(&mut phrase, position)?;
+        push_race_name(&mut phrase, race.number)?;
         phrases.push(phrase)?;
     }
     Ok(())
@@ -268,8 +275,18 @@ fn push_all_races(
 ) -> Result<(), AllocError>
     ensures { OnOk result (texts_of phrases.new.items ≡ texts_of phrases.old.items ++ race_phrases picture.now number) }
 {
-    for (position, race) in picture.races.iter().enumerate() {
-        push_race(alloc, phrases, number, position, race)?;
+    for race in &picture.races {
+        push_race(alloc, phrases, number, race)?;
+    }
+    Ok(())
+}
+
+// Adds that a row is in a circle of waiting.
+fn push_circle(alloc: Global, phrases: &mut Vec<Vec<u8>>, circled: bool) -> Result<(), AllocError>
+    ensures { OnOk result (texts_of phrases.new.items ≡ texts_of phrases.old.items ++ only_if circled (codes "deadlock")) }
+{
+    if circled {
+        push_copy(alloc, phrases, b"deadlock")?;
     }
     Ok(())
 }
@@ -289,5 +306,6 @@ pub(crate) fn row_phrases(
     push_all_sent(alloc, &mut phrases, number, picture)?;
     push_all_lost(alloc, &mut phrases, number, picture)?;
     push_all_races(alloc, &mut phrases, number, picture)?;
+    push_circle(alloc, &mut phrases, row.circled)?;
     Ok(phrases)
 }

@@ -5,12 +5,12 @@ ghost use Rattle.lrc_text.specs.Each.{each};
 ghost use Rattle.lrc_text.specs.Parts.{texts_of};
 ghost use Rattle.lrc_chart_text.specs.Columns.{bars_margin};
 ghost use Rattle.lrc_chart_text.specs.Lines.{lines_text};
-ghost use Rattle.lrc_chart_text.specs.Sketch.{all_race_lines, band_lines, begin_lines, end_lines, legend_lines, lines_if, loose_lines, name_lines};
+ghost use Rattle.lrc_chart_text.specs.Sketch.{all_deadlock_lines, all_race_lines, band_lines, begin_lines, deadlock_lines, end_lines, foot_lines, legend_lines, lines_if, loose_lines, name_lines};
 ghost use Rattle.lrc_chart_text.specs.Sketch.{race_head, race_lines, row_lines, shape_of, sketch_text, title_lines, turn_lines};
 
 use crate::columns::{Shape, band_margin, bars_margin, name_margin, room_of, row_margin};
 use crate::lines::push_paragraph;
-use crate::phrases::{push_copy, push_race_name, row_phrases, words_of_row};
+use crate::phrases::{number_of_row, push_copy, push_race_name, row_phrases, words_of_row};
 use lrc_chart_model::{Arrow, Band, Picture, Race, Row};
 use lrc_text::push_number;
 use std::alloc::{AllocError, Global};
@@ -109,7 +109,7 @@ fn push_turn(
 {
     let columns = picture.columns.len();
     let shape = shape_of(number, row, picture.arrows.as_slice());
-    let first = row_margin(alloc, columns, number, shape)?;
+    let first = row_margin(alloc, columns, row.number, shape)?;
     let phrases = row_phrases(alloc, picture, number, row)?;
     push_paragraph(text, &first, margin, room_of(columns), &phrases)
 }
@@ -218,27 +218,19 @@ fn push_rows(alloc: Global, text: &mut Vec<u8>, picture: &Picture) -> Result<(),
 
 // ---- races
 
-fn push_race_head(text: &mut Vec<u8>, position: usize, race: &Race) -> Result<(), AllocError>
-    requires { position < 18446744073709551615 }
-    ensures { OnOk result (text.new.items ≡ text.old.items ++ race_head position race.now) }
+fn push_race_head(text: &mut Vec<u8>, rows: &[Row], race: &Race) -> Result<(), AllocError>
+    ensures { OnOk result (text.new.items ≡ text.old.items ++ race_head rows.now race.now) }
 {
-    push_race_name(text, position)?;
-    push_number(text, b": row ", race.from as u64)?;
-    push_number(text, b" and row ", race.to as u64)
+    push_race_name(text, race.number)?;
+    push_number(text, b": row ", number_of_row(rows, race.from) as u64)?;
+    push_number(text, b" and row ", number_of_row(rows, race.to) as u64)
 }
 
-fn push_race(
-    alloc: Global,
-    text: &mut Vec<u8>,
-    rows: &[Row],
-    position: usize,
-    race: &Race,
-) -> Result<(), AllocError>
-    requires { position < 18446744073709551615 }
-    ensures { OnOk result (text.new.items ≡ text.old.items ++ lines_text (race_lines rows.now position race.now)) }
+fn push_race(alloc: Global, text: &mut Vec<u8>, rows: &[Row], race: &Race) -> Result<(), AllocError>
+    ensures { OnOk result (text.new.items ≡ text.old.items ++ lines_text (race_lines rows.now race.now)) }
 {
     let mut head = Vec::new(alloc);
-    push_race_head(&mut head, position, race)?;
+    push_race_head(&mut head, rows, race)?;
     let mut phrases = Vec::new(alloc);
     phrases.push(head)?;
     push_copy(alloc, &mut phrases, words_of_row(rows, race.from))?;
@@ -261,10 +253,51 @@ fn push_races(
         return Ok(());
     }
     text.extend_from_slice(b"\n")?;
-    for (position, race) in races.iter().enumerate() {
-        push_race(alloc, text, rows, position, race)?;
+    for race in races {
+        push_race(alloc, text, rows, race)?;
     }
     Ok(())
+}
+
+// ---- circles of waiting
+
+fn push_deadlock(alloc: Global, text: &mut Vec<u8>, words: &Vec<u8>) -> Result<(), AllocError>
+    ensures { OnOk result (text.new.items ≡ text.old.items ++ lines_text (deadlock_lines words.now)) }
+{
+    let mut phrases = Vec::new(alloc);
+    push_copy(alloc, &mut phrases, words.as_slice())?;
+    push_loose(text, &phrases)
+}
+
+// Adds the circles of waiting, if there are any.
+fn push_deadlocks(
+    alloc: Global,
+    text: &mut Vec<u8>,
+    deadlocks: &[Vec<u8>],
+) -> Result<(), AllocError>
+    ensures { OnOk result (text.new.items ≡ text.old.items ++ lines_text (all_deadlock_lines deadlocks.now)) }
+{
+    if deadlocks.is_empty() {
+        return Ok(());
+    }
+    text.extend_from_slice(b"\n")?;
+    for words in deadlocks {
+        push_deadlock(alloc, text, words)?;
+    }
+    Ok(())
+}
+
+// Adds what stands below the rows.
+fn push_foot(alloc: Global, text: &mut Vec<u8>, picture: &Picture) -> Result<(), AllocError>
+    ensures { OnOk result (text.new.items ≡ text.old.items ++ lines_text (foot_lines picture.now)) }
+{
+    push_races(
+        alloc,
+        text,
+        picture.rows.as_slice(),
+        picture.races.as_slice(),
+    )?;
+    push_deadlocks(alloc, text, picture.deadlocks.as_slice())
 }
 
 /// A picture as text.
@@ -276,11 +309,6 @@ pub fn sketch(alloc: Global, picture: &Picture) -> Result<Vec<u8>, AllocError>
     push_legend(&mut text)?;
     push_names(alloc, &mut text, picture.columns.as_slice())?;
     push_rows(alloc, &mut text, picture)?;
-    push_races(
-        alloc,
-        &mut text,
-        picture.rows.as_slice(),
-        picture.races.as_slice(),
-    )?;
+    push_foot(alloc, &mut text, picture)?;
     Ok(text)
 }

@@ -1,8 +1,9 @@
 -- What is known of a run, and why there is no chart of it.
-use Rattle.std.proofs.Common.{◌≡◌, ℕ, List, map, subst}
+use Rattle.std.proofs.Common.{◌≡◌, ℕ, List, Option, map, subst}
 use Rattle.lrc_clock.specs.Keeping.{KeepsTime}
 use Rattle.lrc_judge.specs.FirstPairs.{AreFirstPairs}
 use Rattle.lrc_judge.specs.declared.lanes.Pair.{Pair}
+use Rattle.lrc_labels.specs.Reading.{Label}
 use Rattle.lrc_lang.specs.declared.program.Program.{Program}
 use Rattle.lrc_chart_build.specs.Course.{CourseRecord}
 use Rattle.lrc_protocol.specs.declared.event.Event.{Event}
@@ -12,25 +13,33 @@ use Rattle.lrc_args.specs.declared.choice.Charting.{Charting}
 use Rattle.lrc_args.specs.declared.choice.RunChoice.{RunChoice}
 use Rattle.lrc_args.specs.declared.choice.RunOptions.{RunOptions}
 use Rattle.lrc_args.specs.declared.choice.Shape.TheVariants.{Chart}
-use Rattle.lrc_cli.specs.Charted.{IsChartFault, IsCourse}
+use Rattle.lrc_cli.specs.Charted.{AreWaitsIn, IsChartFault, IsCourse}
+use Rattle.lrc_cli.specs.Labels.{labels_in}
 use Rattle.lrc_cli.specs.Lines.{AreLinesIn}
 use Rattle.lrc_cli.specs.Runs.{Account, turns_in}
 use Rattle.lrc_cli.specs.Shown.{IsShowFault}
 use Rattle.lrc_cli.specs.declared.fault.Fault.{Fault}
-use Rattle.lrc_cli.specs.declared.fault.Fault.TheVariants.{ActsAlone, LongActs, NoAct, Text, Events, Acts, Worn, TooManyStates, TooLong, Mismatch, NoMemory}
+use Rattle.lrc_cli.specs.declared.fault.Fault.TheVariants.{LongActs, NoAct, Text, Events, Acts, Worn, TooManyStates, TooLong, Mismatch, NoMemory}
 
 -- what was found of a run's acts is known of the run
 pub course_of_run : (text : List ℕ) (program : Program) (options : RunOptions) (events : List Event) (account : Account)
-    (turns : List Made) (acts : List Act) (lines : List ℕ) (times : List (List ℕ)) (pairs : List Pair)
+    (turns : List Made) (acts : List Act) (lines : List ℕ) (times : List (List ℕ)) (pairs : List Pair) (labels : List Label) (waits : List (Option ℕ))
     → turns ≡ turns_told account.logs (map (λ turn. turn.node) (turns_in program options events)) → acts ≡ account.acts
     → AreLinesIn text program options.nodes.count acts lines → KeepsTime options.nodes.count acts times → AreFirstPairs acts pairs
-    → IsCourse text program options events account (record { turns = turns; acts = acts; lines = lines; times = times; pairs = pairs })
-course_of_run text program options events account turns acts lines times pairs made same lined timed paired = record {
+    → labels ≡ labels_in text program → AreWaitsIn text program options acts waits
+    → IsCourse text program options events account (record {
+      turns = turns;
+      known = record { acts = acts; lines = lines; times = times; pairs = pairs; labels = labels };
+      waits = waits;
+    })
+course_of_run text program options events account turns acts lines times pairs labels waits made same lined timed paired named waited = record {
   turns = made;
   acts = same;
   lines = subst (λ (found : List Act). AreLinesIn text program options.nodes.count found lines) same lined;
   times = subst (λ (found : List Act). KeepsTime options.nodes.count found times) same timed;
   pairs = subst (λ (found : List Act). AreFirstPairs found pairs) same paired;
+  labels = named;
+  waits = subst (λ (found : List Act). AreWaitsIn text program options found waits) same waited;
 }
 
 -- why there is no chart of what is known of a run is why the run is not shown
@@ -47,4 +56,3 @@ chart_unshown charting run text program events account course (TooManyStates mos
 chart_unshown charting run text program events account course Mismatch known h = h
 chart_unshown charting run text program events account course LongActs known h = h
 chart_unshown charting run text program events account course (NoAct position) known h = h
-chart_unshown charting run text program events account course ActsAlone known h = h

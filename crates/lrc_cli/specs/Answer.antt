@@ -15,23 +15,32 @@ use Rattle.lrc_verdict.specs.Judgement.{Judges}
 use Rattle.lrc_lint.specs.Told.{TellsNoProgram}
 use Rattle.lrc_linted.specs.Linted.{LintsProgram}
 use Rattle.lrc_why_text.specs.Answers.{AnswersActs, RefusesActs}
-use Rattle.lrc_why_text.specs.declared.asked.Asked.{Asked}
 use Rattle.lrc_why_text.specs.declared.fault.WhyFault.TheVariants as why_faults
 use Rattle.lrc_world.specs.Ends.{ends_of}
 use Rattle.lrc_report.specs.ReportText.{report_text, status_of}
+use Rattle.lrc_cli.specs.Labels.{labels_in}
+use Rattle.lrc_cli.specs.Reasoned.{asked_of}
 use Rattle.lrc_cli.specs.Runs.{Account, IsRunFault, IsRunOfWay}
 use Rattle.lrc_cli.specs.Shown.{IsShowFault, IsShown, shown_status}
 use Rattle.lrc_cli.specs.declared.answer.Printout.{Printout}
 use Rattle.lrc_args.specs.declared.choice.Choice.{Choice}
-use Rattle.lrc_args.specs.declared.choice.Choice.TheVariants.{Check, Plain, Show, Judge, Explore, Lint, Why, WhyActs}
+use Rattle.lrc_args.specs.declared.choice.Choice.TheVariants.{Check, Plain, Show, Judge, Explore, Lint, WhyActs, ChartActs}
 use Rattle.lrc_args.specs.declared.choice.Asking.{Asking}
+use Rattle.lrc_args.specs.declared.choice.ChartedActs.{ChartedActs}
+use Rattle.lrc_args.specs.declared.choice.Charting.{Charting}
+use Rattle.lrc_chart_acts.specs.Picture.{IsActsPortrait, IsActsPortraitFault}
+use Rattle.lrc_chart_acts.specs.declared.fault.ActsChartFault.TheVariants as chart_faults
+use Rattle.lrc_chart_model.specs.declared.picture.Picture.{Picture}
+use Rattle.lrc_cli.specs.Charted.{IsDrawn, part_of}
+use Rattle.lrc_title.specs.Title.{title_text_of_acts}
 use Rattle.lrc_args.specs.declared.choice.ForeignActs.{ForeignActs}
 use Rattle.lrc_args.specs.declared.choice.Exploring.{Exploring}
 use Rattle.lrc_args.specs.declared.choice.Judging.{Judging}
 use Rattle.lrc_args.specs.declared.choice.RunChoice.{RunChoice}
 use Rattle.lrc_args.specs.declared.choice.Shape.{Shape}
 use Rattle.lrc_cli.specs.declared.fault.Fault.{Fault}
-use Rattle.lrc_cli.specs.declared.fault.Fault.TheVariants.{ActsAlone, Text, Acts, LongActs, NoAct, TooManyStates, NoMemory}
+use Rattle.lrc_cli.specs.declared.fault.Fault.TheVariants.{Text, Acts, LongActs, NoAct, TooManyStates, NoMemory}
+use Rattle.lrc_cli.specs.declared.fault.Fault.TheVariants as printout_faults
 
 -- the text is this program's
 abbrev pub IsTextOf : List ℕ → Program → Type 0
@@ -64,27 +73,35 @@ pub record IsShowing (run : RunChoice) (shape : Shape) (text : List ℕ) (events
 abbrev pub judged_nodes : Judging → Option ℕ
 judged_nodes judging = option_map (λ nodes. nodes.count) judging.nodes
 
--- The text and the status are what is said of every order of the program that this text is of, and the search met no more states than it
--- may.
+-- The text and the status are what is said of every order of the program that this text is of, with the labels of the text, and the
+-- search met no more states than it may.
 abbrev pub IsExploration : Exploring → List ℕ → Program → List ℕ → ℕ → Type 0
 IsExploration exploring text program out status = (places : List ℕ) × HasLines text (program_of program) places
-    × Explores program exploring.nodes.count places exploring.outcomes out status
+    × Explores (labels_in text program) program exploring.nodes.count places exploring.outcomes out status
     × MeetsFew program exploring.nodes.count exploring.most.count exploring.outcomes status
 
 -- the text and the status are what `lint` says of the text of this file: that it is no program, or its warnings
 abbrev pub IsLinted : List ℕ → List ℕ → List ℕ → ℕ → Type 0
 IsLinted file text out status = (TellsNoProgram file text out × (status ≡ 1)) ⊎ (LintsProgram file text out × (status ≡ 0))
 
--- how many nodes the acts are of, where that is said, and what is asked of them
+-- how many nodes acts from anywhere are of, where that is said
 abbrev pub foreign_nodes : ForeignActs → Option ℕ
 foreign_nodes acts = option_map (λ nodes. nodes.count) acts.nodes
-
-abbrev pub asked_of : Asking → Asked
-asked_of asking = record { act = asking.act; and = asking.other }
 
 -- the text is what is answered of the acts
 abbrev pub IsReasoned : ForeignActs → Asking → List ℕ → List ℕ → ℕ → Type 0
 IsReasoned acts asking text out status = AnswersActs (foreign_nodes acts) acts.size (asked_of asking) text out × (status ≡ 0)
+
+-- how many nodes the acts are of, where that is said
+abbrev pub charted_nodes : ChartedActs → Option ℕ
+charted_nodes acts = option_map (λ nodes. nodes.count) acts.nodes
+
+-- the text is a picture of the acts, under the words by which it is had
+pub record IsActsCharted (acts : ChartedActs) (charting : Charting) (text out : List ℕ) (status : ℕ) : Type 0 where
+  pub picture : Picture
+  pub portrait : IsActsPortrait (title_text_of_acts acts charting) (charted_nodes acts) text (part_of charting) picture
+  pub drawn : IsDrawn charting.text picture out
+  pub ended : status ≡ 0
 
 -- What is printed, with the status: `ok` where the text is a program's, the report of what the program does in rounds on
 -- the plain machine, what is shown of its run, a judgement of acts, or what every order of the program comes to.
@@ -99,8 +116,8 @@ Prints (Judge judging) text events_text out status = Judges (judged_nodes judgin
 Prints (Explore exploring) text events_text out status =
     (program : Program) × IsTextOf text program × IsExploration exploring text program out status
 Prints (Lint file) text events_text out status = IsLinted file.now text out status
-Prints (Why run asking) text events_text out status = ⊥
 Prints (WhyActs acts asking) text events_text out status = IsReasoned acts asking text out status
+Prints (ChartActs acts charting) text events_text out status = IsActsCharted acts charting text out status
 
 -- the fault of a text that is no program
 abbrev pub IsTextFault : List ℕ → Fault → Type 0
@@ -122,6 +139,14 @@ IsWhyFault acts asking text (Acts line) = RefusesActs (foreign_nodes acts) (aske
 IsWhyFault acts asking text (NoAct position) = RefusesActs (foreign_nodes acts) (asked_of asking) text (why_faults.NoAct position)
 IsWhyFault acts asking text NoMemory = Unit {0}
 IsWhyFault acts asking text _ = ⊥
+
+-- why there is no picture of acts: the text of acts, or more rows than a chart may have
+abbrev pub IsActsChartFault : ChartedActs → Charting → List ℕ → Fault → Type 0
+IsActsChartFault acts charting text LongActs = IsActsPortraitFault (charted_nodes acts) text (part_of charting) chart_faults.LongActs
+IsActsChartFault acts charting text (Acts line) = IsActsPortraitFault (charted_nodes acts) text (part_of charting) (chart_faults.BadAct line)
+IsActsChartFault acts charting text printout_faults.TooLong = IsActsPortraitFault (charted_nodes acts) text (part_of charting) chart_faults.TooLong
+IsActsChartFault acts charting text NoMemory = Unit {0}
+IsActsChartFault acts charting text _ = ⊥
 
 -- the fault of a search through every order: it met more states than it might
 abbrev pub IsSearchFault : Exploring → Program → Fault → Type 0
@@ -149,8 +174,8 @@ IsFault (Judge judging) text events_text fault = IsActsFault (judged_nodes judgi
 IsFault (Explore exploring) text events_text fault = IsTextFault text fault
     ⊎ ((program : Program) × IsTextOf text program × IsSearchFault exploring program fault)
 IsFault (Lint file) text events_text fault = fault ≡ NoMemory
-IsFault (Why run asking) text events_text fault = (fault ≡ ActsAlone) ⊎ (fault ≡ NoMemory)
 IsFault (WhyActs acts asking) text events_text fault = IsWhyFault acts asking text fault
+IsFault (ChartActs acts charting) text events_text fault = IsActsChartFault acts charting text fault
 
 -- What is answered to a choice: what is printed, or the first fault.
 abbrev pub Answers : Choice → List ℕ → Option (List ℕ) → Result Printout Fault → Type 0

@@ -1,14 +1,19 @@
 -- A run as a picture.
-use Rattle.std.specs.Prelude.{◌≡◌, ◌<◌, ◌≤◌, ℕ, Bool, false, true, List, codes, length, map}
+use Rattle.std.specs.Prelude.{◌≡◌, ◌<◌, ◌≤◌, ℕ, Bool, false, true, List, Option, Some, None, codes, if◌then◌else◌, length, map}
 use Rattle.lrc_clock.specs.Keeping.{KeepsTime}
 use Rattle.lrc_chart_svg.specs.Marks.{all_marks, is_space, named_once, attribute_value}
 use Rattle.lrc_chart_svg.specs.Root.{IsRootOf}
 use Rattle.lrc_chart_svg.specs.Shown.{picture_marks}
 use Rattle.lrc_judge.specs.FirstPairs.{AreFirstPairs}
+use Rattle.lrc_lang.specs.Lines.{HasLines}
+use Rattle.lrc_lang.specs.Tree.{program_of}
 use Rattle.lrc_lang.specs.declared.program.Program.{Program}
+use Rattle.lrc_stuck.specs.Circles.{waits_of}
+use Rattle.lrc_stuck.specs.Stand.{stands_of}
+use Rattle.lrc_trace.specs.declared.act.Act.{Act}
 use Rattle.lrc_chart_model.specs.declared.picture.Picture.{Picture}
-use Rattle.lrc_chart_build.specs.Course.{CourseRecord}
-use Rattle.lrc_chart_build.specs.Portrait.{IsPortrait, MOST_SHOWN, rows_shown}
+use Rattle.lrc_chart_build.specs.Course.{CourseRecord, rows_shown}
+use Rattle.lrc_chart_build.specs.Portrait.{IsPortrait, MOST_SHOWN}
 use Rattle.lrc_chart_build.specs.declared.part.Part.{Part}
 use Rattle.lrc_protocol.specs.declared.event.Event.{Event}
 use Rattle.lrc_chart_text.specs.Sketch.{sketch_text}
@@ -19,24 +24,36 @@ use Rattle.lrc_turns_text.specs.Turns.{turns_told}
 use Rattle.lrc_args.specs.declared.choice.Charting.{Charting}
 use Rattle.lrc_args.specs.declared.choice.RunChoice.{RunChoice}
 use Rattle.lrc_args.specs.declared.choice.RunOptions.{RunOptions}
+use Rattle.lrc_cli.specs.Labels.{labels_in}
 use Rattle.lrc_cli.specs.Lines.{AreLinesIn}
 use Rattle.lrc_cli.specs.Runs.{Account, turns_in}
 use Rattle.lrc_cli.specs.declared.fault.Fault.{Fault}
 use Rattle.lrc_cli.specs.declared.fault.Fault.TheVariants.{NoMemory, TooLong}
 
+-- for whom each node waits when a run of the program that this text is of has made these acts
+abbrev pub AreWaitsIn : List ℕ → Program → RunOptions → List Act → List (Option ℕ) → Type 0
+AreWaitsIn text program options acts waits = (places : List ℕ) × HasLines text (program_of program) places
+    × (waits ≡ waits_of (stands_of program options.nodes.count places (Some options.steps.count) acts))
+
 -- What is known of a run of the program that this text is of: the turns that its nodes made, one after another, its acts with their lines
--- and their times, and the first pairs of its races.
+-- and their times, the first pairs of its races, the labels of the text, and for whom its nodes wait when it has ended.
 pub record IsCourse (text : List ℕ) (program : Program) (options : RunOptions) (events : List Event) (account : Account)
     (course : CourseRecord) : Type 0 where
   pub turns : course.turns ≡ turns_told account.logs (map (λ turn. turn.node) (turns_in program options events))
-  pub acts : course.acts ≡ account.acts
-  pub lines : AreLinesIn text program options.nodes.count account.acts course.lines
-  pub times : KeepsTime options.nodes.count account.acts course.times
-  pub pairs : AreFirstPairs account.acts course.pairs
+  pub acts : course.known.acts ≡ account.acts
+  pub lines : AreLinesIn text program options.nodes.count account.acts course.known.lines
+  pub times : KeepsTime options.nodes.count account.acts course.known.times
+  pub pairs : AreFirstPairs account.acts course.known.pairs
+  pub labels : course.known.labels ≡ labels_in text program
+  pub waits : AreWaitsIn text program options account.acts course.waits
 
 -- which part of it a chart shows
 abbrev pub part_of : Charting → Part
-part_of charting = record { from = charting.from; to = charting.to }
+part_of charting = record { from = charting.from; to = charting.to; hides_quiet = charting.hides_quiet }
+
+-- the text that stands beside it
+abbrev pub source_of : Charting → List ℕ → Option (List ℕ)
+source_of charting text = if charting.source then Some text else None
 
 -- An SVG document that shows a picture: its elements are those of scalable vector graphics, and show what the picture has, and it is as
 -- large as the picture.
@@ -51,17 +68,17 @@ abbrev pub IsDrawn : (terminal : Bool) → Picture → List ℕ → Type 0
 IsDrawn true picture out = out ≡ sketch_text picture
 IsDrawn false picture out = (document : Document) × IsShownBy picture document × (out ≡ document_text document)
 
--- a chart of a run of so many nodes, under a title: it has no more rows than a chart may have
-pub record IsChart (charting : Charting) (title : List ℕ) (nodes : ℕ) (course : CourseRecord) (out : List ℕ) : Type 0 where
+-- a chart of a run of so many nodes, under a title, of a program with this text: it has no more rows than a chart may have
+pub record IsChart (charting : Charting) (title : List ℕ) (nodes : ℕ) (course : CourseRecord) (text out : List ℕ) : Type 0 where
   pub few : length (rows_shown course (part_of charting)) ≤ MOST_SHOWN
   pub picture : Picture
-  pub portrait : IsPortrait title nodes course (rows_shown course (part_of charting)) picture
+  pub portrait : IsPortrait title nodes course (part_of charting) (source_of charting text) picture
   pub drawn : IsDrawn charting.text picture out
 
 -- a chart of a run of the program that this text is of, under the words by which it is had
 abbrev pub IsCharted : Charting → RunChoice → List ℕ → Program → List Event → Account → List ℕ → Type 0
 IsCharted charting run text program events account out = (course : CourseRecord) × IsCourse text program run.options events account course
-    × IsChart charting (title_text run charting) run.options.nodes.count course out
+    × IsChart charting (title_text run charting) run.options.nodes.count course text out
 
 -- why there is no chart of a run: it would have more rows than a chart may have
 abbrev pub IsChartFault : Charting → CourseRecord → Fault → Type 0

@@ -10,6 +10,8 @@ use Rattle.lrc_why_text.specs.declared.fault.WhyFault.{WhyFault}
 use Rattle.lrc_why_text.specs.declared.fault.WhyFault.TheVariants as why_faults
 use Rattle.lrc_world.specs.declared.report.SimFault.{SimFault}
 use Rattle.lrc_world.specs.declared.report.SimFault.TheVariants.{Worn}
+use Rattle.lrc_chart_acts.specs.declared.fault.ActsChartFault.{ActsChartFault}
+use Rattle.lrc_chart_acts.specs.declared.fault.ActsChartFault.TheVariants as chart_faults
 use Rattle.lrc_chart_build.specs.declared.portrait.PortraitFault.{PortraitFault}
 use Rattle.lrc_chart_build.specs.declared.portrait.PortraitFault.TheVariants as portraits
 use Rattle.lrc_events.specs.declared.events.EventsFault.{EventsFault}
@@ -45,10 +47,16 @@ abbrev pub fault_of_run : SimFault → Fault
 fault_of_run Worn = faults.Worn
 fault_of_run _ = faults.NoMemory
 
--- and that of a picture
+-- and that of a picture of a run, and of acts
 abbrev pub fault_of_portrait : PortraitFault → Fault
 fault_of_portrait portraits.TooLong = faults.TooLong
 fault_of_portrait portraits.NoMemory = faults.NoMemory
+
+abbrev pub fault_of_acts_chart : ActsChartFault → Fault
+fault_of_acts_chart chart_faults.LongActs = faults.LongActs
+fault_of_acts_chart (chart_faults.BadAct line) = faults.Acts line
+fault_of_acts_chart chart_faults.TooLong = faults.TooLong
+fault_of_acts_chart chart_faults.NoMemory = faults.NoMemory
 
 abbrev pub kind_words : FaultKind → List ℕ
 kind_words TooLong = codes "text too long"
@@ -67,7 +75,6 @@ fault_words (faults.Acts line) = codes "acts line " ++ decimal line ++ codes ": 
 fault_words (faults.TooManyStates most) = codes "more than " ++ decimal most ++ codes " states"
 fault_words faults.LongActs = codes "acts line 1: text too long"
 fault_words (faults.NoAct position) = codes "no act " ++ decimal position
-fault_words faults.ActsAlone = codes "why needs --acts"
 fault_words faults.Worn = codes "message numbers used up"
 fault_words faults.TooLong = codes "too long for a chart"
 fault_words faults.Mismatch = codes "logs and wires differ"

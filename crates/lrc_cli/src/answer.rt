@@ -11,6 +11,7 @@ use crate::explored::explored;
 use crate::fault::Fault;
 use crate::judged::judged;
 use crate::linted::linted;
+use crate::pictured::pictured;
 use crate::reasoned::reasoned;
 use crate::shown::show;
 use lrc_args::choice::{Choice, PlainRun};
@@ -51,8 +52,8 @@ pub fn answer(
         Choice::Judge(judging) => judged(alloc, judging, text),
         Choice::Explore(exploring) => explored(alloc, exploring, text),
         Choice::Lint(file) => linted(alloc, file, text),
-        Choice::Why(_run, _asking) => Err(Fault::ActsAlone),
         Choice::WhyActs(acts, asking) => reasoned(alloc, acts, asking, text),
+        Choice::ChartActs(acts, charting) => pictured(alloc, acts, charting, text),
     }
 }
 

@@ -9,6 +9,7 @@ use crate::answer::Printout;
 use crate::fault::Fault;
 use lrc_args::choice::Exploring;
 use lrc_explore::search::ExploreFault;
+use lrc_labels::read_labels;
 use lrc_lang::lines::lines_of;
 use lrc_lang::parse;
 use lrc_lang::program::Program;
@@ -27,7 +28,7 @@ pub(crate) fn explored(
     all_orders(alloc, exploring, text, &program)
 }
 
-// What is said of every order of the program that this text is of.
+// What is said of every order of the program that this text is of, with the labels of the text.
 fn all_orders(
     alloc: Global,
     exploring: &Exploring<'_>,
@@ -39,11 +40,13 @@ fn all_orders(
     ensures err { IfErr result (IsSearchFault exploring.now program.now) }
 {
     let lines = lines_of(alloc, text)?;
+    let labels = read_labels(alloc, text, program.words, program.locks)?;
     let nodes = exploring.nodes.count;
     let most = exploring.most.count;
     let outcomes = exploring.outcomes;
     match lrc_explore_text::explored::explored(
         alloc,
+        &labels.said,
         program,
         &lines,
         nodes,

@@ -2,10 +2,11 @@
 
 ghost use Rattle.std.specs.Prelude.{◌≡◌, ◌≢◌, IfOk, Some};
 ghost use Rattle.std.specs.String.{string_bytes};
-ghost use Rattle.lrc_cli.specs.FaultLine.{fault_line, fault_of_acts, fault_of_events, fault_of_portrait, fault_of_run, fault_of_text, fault_of_why, fault_words, kind_words};
+ghost use Rattle.lrc_cli.specs.FaultLine.{fault_line, fault_of_acts, fault_of_acts_chart, fault_of_events, fault_of_portrait, fault_of_run, fault_of_text, fault_of_why, fault_words, kind_words};
 ghost use Rattle.lrc_cli.specs.declared.fault.Fault.TheVariants.{NoMemory};
 
 use lrc_acts::reading::ActsFault;
+use lrc_chart_acts::ActsChartFault;
 use lrc_chart_build::PortraitFault;
 use lrc_events::events::EventsFault;
 use lrc_lang::fault::{FaultKind, ParseFault};
@@ -29,13 +30,11 @@ pub enum Fault {
     LongActs,
     /// There is no act at this position.
     NoAct(usize),
-    /// Reasons are told of a list of acts alone.
-    ActsAlone,
     /// The numbers of messages were used up.
     Worn,
     /// A search through every order met more states than this, which it might.
     TooManyStates(u32),
-    /// A chart of the run would have more rows than a chart may have.
+    /// A chart would have more rows than a chart may have.
     TooLong,
     /// What the nodes of a run on threads say that they sent and took is not what went through the post.
     Mismatch,
@@ -56,7 +55,6 @@ impl Display for Fault {
             Fault::Acts(line) => write!(f, "acts line {line}: bad act"),
             Fault::LongActs => write!(f, "acts line 1: text too long"),
             Fault::NoAct(position) => write!(f, "no act {position}"),
-            Fault::ActsAlone => write!(f, "why needs --acts"),
             Fault::Worn => write!(f, "message numbers used up"),
             Fault::TooManyStates(most) => write!(f, "more than {most} states"),
             Fault::TooLong => write!(f, "too long for a chart"),
@@ -122,6 +120,19 @@ impl From<PortraitFault> for Fault {
         match fault {
             PortraitFault::TooLong => Fault::TooLong,
             PortraitFault::NoMemory => Fault::NoMemory,
+        }
+    }
+}
+
+impl From<ActsChartFault> for Fault {
+    ghost from_gives = { λ fault made. made ≡ fault_of_acts_chart fault };
+
+    fn from(fault: ActsChartFault) -> Fault {
+        match fault {
+            ActsChartFault::LongActs => Fault::LongActs,
+            ActsChartFault::BadAct(line) => Fault::Acts(line),
+            ActsChartFault::TooLong => Fault::TooLong,
+            ActsChartFault::NoMemory => Fault::NoMemory,
         }
     }
 }

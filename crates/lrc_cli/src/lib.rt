@@ -8,6 +8,7 @@ pub mod fault;
 mod judged;
 mod linted;
 mod performance;
+mod pictured;
 mod reasoned;
 mod runs;
 mod shown;

@@ -78,8 +78,8 @@ pub fn answer_any<R: Threads + Wait + Sync>(
         | Choice::Judge(_)
         | Choice::Explore(_)
         | Choice::Lint(_)
-        | Choice::WhyActs(_, _) => answer(alloc, choice, text, events),
-        Choice::Why(_, _) => Err(Fault::ActsAlone),
+        | Choice::WhyActs(_, _)
+        | Choice::ChartActs(_, _) => answer(alloc, choice, text, events),
     }
 }
 

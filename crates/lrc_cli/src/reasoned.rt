@@ -1,12 +1,17 @@
-// What the program answers to the command `why` of acts.
+// What the program answers to the command `why`.
 
-ghost use Rattle.std.specs.Prelude.{◌≡◌, ◌≢◌, ◌≤◌, IfErr, IfOk, IfSome};
-ghost use Rattle.lrc_cli.specs.Answer.{IsReasoned, IsWhyFault, asked_of, foreign_nodes};
+ghost use Rattle.std.specs.Prelude.{◌≡◌, ◌≢◌, ◌<◌, ◌≤◌, All, IfErr, IfOk, IfSome, length};
+ghost use Rattle.lrc_cli.specs.Answer.{IsReasoned, IsTextOf, IsWhyFault, foreign_nodes};
+ghost use Rattle.lrc_cli.specs.Reasoned.{IsUntold, asked_of};
 ghost use Rattle.lrc_text.specs.Parts.{whole_text};
+ghost use Rattle.lrc_why_run.specs.Answers.{AnswersRun};
 
 use crate::answer::Printout;
 use crate::fault::Fault;
-use lrc_args::choice::{Asking, ForeignActs};
+use lrc_args::choice::{Asking, ForeignActs, RunOptions};
+use lrc_lang::program::Program;
+use lrc_trace::act::Act;
+use lrc_why_run::why_run;
 use lrc_why_text::acts::why_acts;
 use lrc_why_text::asked::Asked;
 use std::alloc::Global;
@@ -23,6 +28,27 @@ pub(crate) fn reasoned(
 {
     let parts = why_acts(alloc, text, nodes_of(acts), acts.size, asked_of(asking))?;
     Ok(Printout { parts, status: 0 })
+}
+
+/// What is told of acts of a run that are asked of.
+pub(crate) fn reasons_of_run(
+    alloc: Global,
+    text: &[u8],
+    program: &Program,
+    options: &RunOptions<'_>,
+    acts: &[Act],
+    asking: &Asking,
+) -> Result<Vec<Vec<u8>>, Fault>
+    requires text { IsTextOf text.now program.now }
+    requires acts { All (λ act. act.node < 16) acts.now }
+    ensures ok { IfOk result (λ parts. AnswersRun text.now program.now options.now.nodes.count options.now.size acts.now
+        (asked_of asking.now) (whole_text parts.items)) }
+    ensures err { IfErr result (IsUntold asking.now (length acts.now)) }
+{
+    let nodes = options.nodes.count as u8;
+    let asked = asked_of(asking);
+    let parts = why_run(alloc, text, program, nodes, options.size, acts, asked)?;
+    Ok(parts)
 }
 
 // How many nodes the acts are of, where that is said.

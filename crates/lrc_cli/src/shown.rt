@@ -15,11 +15,13 @@ ghost use Rattle.lrc_args.specs.declared.choice.Choice.TheVariants.{Show};
 use crate::answer::{Printout, in_one};
 use crate::charted::charted;
 use crate::fault::Fault;
+use crate::reasoned::reasons_of_run;
 use crate::runs::{Run, brief_of, is_led, run_of};
 use crate::trace::trace_parts;
 use lrc_args::choice::{RunChoice, RunOptions, Shape};
 use lrc_exec::code::Code;
 use lrc_explain::explain;
+use lrc_labels::read_labels;
 use lrc_lang::lines::lines_of;
 use lrc_lang::parse;
 use lrc_lang::program::Program;
@@ -57,7 +59,7 @@ fn is_brief(choice: &RunChoice<'_>, shape: Shape) -> bool
     ensures { result ≡ is_brief choice.now.way shape }
 {
     match shape {
-        Shape::Report | Shape::Explain => is_led(choice),
+        Shape::Report | Shape::Explain | Shape::Why(_) => is_led(choice),
         Shape::Trace(_) | Shape::Stats | Shape::Chart(_) => false,
     }
 }
@@ -77,7 +79,7 @@ fn show_briefly(
     ensures err { IfErr result (λ fault. (events_text : Option (List ℕ)) → IsFault (Show choice.now shape) text.now events_text fault) }
 {
     let brief = brief_of(alloc, choice, program)?;
-    Ok(told(alloc, shape, choice, text, program, &brief)?)
+    told(alloc, shape, choice, text, program, &brief)
 }
 
 // Answers a choice of a run of the program that this text is of, with the turns of the nodes.
@@ -108,13 +110,15 @@ fn told(
     text: &[u8],
     program: &Program,
     brief: &Brief,
-) -> Result<Printout, AllocError>
+) -> Result<Printout, Fault>
     requires text { IsTextOf text.now program.now }
     requires brief { is_brief choice.now.way shape ≡ true }
     requires acts { All (λ act. act.node < 16) brief.now.acts.items }
     ensures text { IfOk result (λ printout. (events : List AnyEvent) (logs : List (List EntryRecord))
         → IsShown shape choice.now text.now program.now events (account_with brief.now logs) (whole_text printout.parts.items)) }
     ensures status { IfOk result (λ printout. printout.status ≡ shown_status shape brief.now.first_race brief.now.ends.items) }
+    ensures err { IfErr result (λ fault. (events : List AnyEvent) (logs : List (List EntryRecord))
+        → IsShowFault shape choice.now text.now program.now events (account_with brief.now logs) fault) }
 {
     Ok(Printout {
         parts: told_parts(alloc, shape, choice, text, program, brief)?,
@@ -129,20 +133,24 @@ fn told_parts(
     text: &[u8],
     program: &Program,
     brief: &Brief,
-) -> Result<Vec<Vec<u8>>, AllocError>
+) -> Result<Vec<Vec<u8>>, Fault>
     requires text { IsTextOf text.now program.now }
     requires brief { is_brief choice.now.way shape ≡ true }
     requires acts { All (λ act. act.node < 16) brief.now.acts.items }
-    ensures { IfOk result (λ parts. (events : List AnyEvent) (logs : List (List EntryRecord))
+    ensures ok { IfOk result (λ parts. (events : List AnyEvent) (logs : List (List EntryRecord))
         → IsShown shape choice.now text.now program.now events (account_with brief.now logs) (whole_text parts.items)) }
+    ensures err { IfErr result (λ fault. (events : List AnyEvent) (logs : List (List EntryRecord))
+        → IsShowFault shape choice.now text.now program.now events (account_with brief.now logs) fault) }
 {
+    let options = &choice.options;
     let acts = brief.acts.as_slice();
     let ends = brief.ends.as_slice();
     let races = brief.races.as_slice();
     let first_race = brief.first_race;
     match shape {
-        Shape::Report => run_parts(alloc, acts, ends, races, first_race),
-        Shape::Explain => explained(alloc, text, program, &choice.options, acts, first_race),
+        Shape::Report => Ok(run_parts(alloc, acts, ends, races, first_race)?),
+        Shape::Explain => Ok(explained(alloc, text, program, options, acts, first_race)?),
+        Shape::Why(asking) => Ok(reasons_of_run(alloc, text, program, options, acts, &asking)?),
         Shape::Trace(_) | Shape::Stats | Shape::Chart(_) => unreachable!(),
     }
 }
@@ -174,7 +182,7 @@ fn status_of(shape: Shape, ends: &[End], first_race: Option<usize>) -> u8
     ensures { result ≡ shown_status shape first_race ends.now }
 {
     match shape {
-        Shape::Chart(_) => 0,
+        Shape::Chart(_) | Shape::Why(_) => 0,
         Shape::Report | Shape::Trace(_) | Shape::Explain | Shape::Stats => {
             status_after_run(ends, first_race)
         }
@@ -205,10 +213,11 @@ fn parts_of(
         Shape::Explain => Ok(explained(alloc, text, program, options, acts, first_race)?),
         Shape::Stats => Ok(counted(alloc, run)?),
         Shape::Chart(charting) => charted(alloc, charting, choice, text, program, run),
+        Shape::Why(asking) => Ok(reasons_of_run(alloc, text, program, options, acts, &asking)?),
     }
 }
 
-// The report of a run with reasons.
+// The report of a run with reasons, and with the labels of the text.
 fn explained(
     alloc: Global,
     text: &[u8],
@@ -223,8 +232,10 @@ fn explained(
 {
     let places = lines_of(alloc, text)?;
     let code = Code::new(alloc, program)?;
+    let labels = read_labels(alloc, text, program.words, program.locks)?;
     explain(
         alloc,
+        &labels.said,
         &code,
         &places,
         options.nodes.count as u8,

@@ -2,6 +2,7 @@
 
 ghost use Rattle.std.specs.Prelude.{◌≡◌, ◌≤◌, ◌<◌, ℕ, All, IfOk, List, length, map};
 ghost use Rattle.lrc_cli.specs.Answer.{IsTextOf};
+ghost use Rattle.lrc_cli.specs.Labels.{labels_in};
 ghost use Rattle.lrc_cli.specs.Lines.{AreLinesIn};
 ghost use Rattle.lrc_cli.specs.Runs.{IsReported, account_of};
 ghost use Rattle.lrc_cli.specs.Shown.{IsTraceShown, IsWrittenAs};
@@ -17,6 +18,7 @@ use lrc_acts_text::{acts_part, json_part, rapid_part};
 use lrc_args::choice::{Form, RunOptions};
 use lrc_events::events_part;
 use lrc_exec::code::Code;
+use lrc_labels::read_labels;
 use lrc_lang::lines::lines_of;
 use lrc_lang::program::Program;
 use lrc_lines::walks::lines_of_acts;
@@ -44,7 +46,7 @@ pub(crate) fn trace_parts(
 {
     let nodes = options.nodes.count as u8;
     let lines = lines_in(alloc, text, program, nodes, &run.report.acts)?;
-    let part = form_part(alloc, form, program, options, run, &lines)?;
+    let part = form_part(alloc, form, text, program, options, run, &lines)?;
     in_one(alloc, part)
 }
 
@@ -52,6 +54,7 @@ pub(crate) fn trace_parts(
 fn form_part(
     alloc: Global,
     form: Form,
+    text: &[u8],
     program: &Program,
     options: &RunOptions<'_>,
     run: &Run,
@@ -59,7 +62,7 @@ fn form_part(
 ) -> Result<Vec<u8>, AllocError>
     requires reported { IsReported program.now options.now run.now.events.items (account_of run.now.report) }
     requires each { length lines.now ≡ length run.now.report.acts.items }
-    ensures { IfOk result (λ part. IsWrittenAs form program.now options.now run.now.events.items (account_of run.now.report) lines.now part.items) }
+    ensures { IfOk result (λ part. IsWrittenAs form text.now program.now options.now run.now.events.items (account_of run.now.report) lines.now part.items) }
 {
     let acts = run.report.acts.as_slice();
     let logs = run.report.logs.as_slice();
@@ -77,7 +80,7 @@ fn form_part(
             let made = turns.as_slice();
             events_of(alloc, made)
         }
-        Form::Json => json_of(alloc, acts, lines, nodes),
+        Form::Json => json_of(alloc, text, program, acts, lines, nodes),
         Form::Rapid => rapid_part(alloc, acts, lines, program.locks, nodes),
     }
 }
@@ -107,17 +110,25 @@ fn events_of(alloc: Global, turns: &[Turned]) -> Result<Vec<u8>, AllocError>
     events_part(alloc, &events)
 }
 
-// The acts as JSON, each with the time that its node has just after it.
-fn json_of(alloc: Global, acts: &[Act], lines: &[u32], nodes: u8) -> Result<Vec<u8>, AllocError>
+// The acts as JSON, each with the time that its node has just after it, and with the labels of the program's text.
+fn json_of(
+    alloc: Global,
+    text: &[u8],
+    program: &Program,
+    acts: &[Act],
+    lines: &[u32],
+    nodes: u8,
+) -> Result<Vec<u8>, AllocError>
     requires some { 1 ≤ nodes }
     requires few { nodes ≤ 16 }
     requires acts { All (λ act. act.node < nodes) acts.now }
     requires lined { length lines.now ≡ length acts.now }
     ensures { IfOk result (λ part. (times : List (List ℕ)) × KeepsTime nodes acts.now times
-        × (part.items ≡ json_of_acts acts.now lines.now times)) }
+        × (part.items ≡ json_of_acts (labels_in text.now program.now) acts.now lines.now times)) }
 {
     let times = times_of_acts(alloc, acts, nodes)?;
-    json_part(alloc, acts, lines, &times)
+    let labels = read_labels(alloc, text, program.words, program.locks)?;
+    json_part(alloc, &labels.said, acts, lines, &times)
 }
 
 /// Of each act the line of the text on which the statement stands that it is of.

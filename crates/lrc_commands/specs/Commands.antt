@@ -91,11 +91,6 @@ explain_command = with_showing_options (new_app (codes "explain"))
 abbrev pub stats_command : App
 stats_command = with_showing_options (new_app (codes "stats"))
 
--- the first and the last act that are shown need not be given
-abbrev pub chart_command : App
-chart_command = with_rule (with_rule (with_rule (with_showing_options (new_app (codes "chart"))) (flag_option (codes "text")))
-    (bare_number (codes "from"))) (bare_number (codes "to"))
-
 -- the number of nodes need not be given
 abbrev pub judge_command : App
 judge_command = with_rule (with_rule (with_rule (new_app (codes "judge")) file) (bare_number (codes "nodes"))) (flag_option (codes "pairs"))
@@ -113,6 +108,12 @@ act = record (bare_number (codes "act")) { required = true }
 abbrev pub why_command : App
 why_command = with_rule (with_rule (with_rule (with_ways (with_counts (with_rule (new_app (codes "why")) optional_file)))
     (option (codes "acts"))) act) (bare_number (codes "and"))
+
+-- the first and the last act that are shown need not be given either
+abbrev pub chart_command : App
+chart_command = with_rule (with_rule (with_rule (with_rule (with_rule (with_rule (with_rule
+    (with_ways (with_counts (with_rule (new_app (codes "chart")) optional_file))) (flag_option (codes "threads"))) (option (codes "acts")))
+    (flag_option (codes "text"))) (bare_number (codes "from"))) (bare_number (codes "to"))) (option (codes "hide"))) (flag_option (codes "source"))
 
 abbrev pub lint_command : App
 lint_command = with_rule (new_app (codes "lint")) file

@@ -51,6 +51,12 @@ const FROM_HELP: &str =
 const TO_HELP: &str =
     "The position of the last act that is shown. Left out, the run is shown to its end";
 
+const HIDE_HELP: &str =
+    "Leaves out rows: quiet leaves out those that have nothing but an assignment or a condition";
+
+const SOURCE_HELP: &str =
+    "Shows the program's text beside the picture, with the lines marked that are of acts shown; not with `--text`";
+
 const ACTS_NODES_HELP: &str =
     "How many nodes there are: 1 to 16. Left out it is one more than the greatest that acts";
 
@@ -62,6 +68,9 @@ const OUTCOMES_HELP: &str = "Shows every outcome of the orders, and looks for no
 
 const ACTS_HELP: &str =
     "A file of acts, in place of FILE; `-` is standard input. It goes with `--nodes` and `--page` alone, and `--nodes` left out is one more than the greatest that acts";
+
+const CHART_ACTS_HELP: &str =
+    "A file of acts, in place of FILE; `-` is standard input. It goes with `--nodes`, `--text`, `--from`, `--to` and `--hide` alone, and `--nodes` left out is one more than the greatest that acts";
 
 const ACT_HELP: &str = "The position of the act, counted from 0";
 
@@ -272,11 +281,18 @@ fn chart_command<'w>(alloc: Global) -> Result<Command<'w>, AllocError>
     ensures app { IfOk result (λ command. app_of command ≡ chart_command) }
     ensures local { IfOk result (λ command. (fields_of command).has_globals ≡ false) }
 {
-    let command = Command::new(alloc, "chart").about("Draws a run as a picture, an SVG document");
-    let command = taking_showing_options(alloc, command);
+    let command = Command::new(alloc, "chart").about(
+        "Draws a run, or acts from anywhere, as a picture, an SVG document",
+    );
+    let command = taking(Ok(command), optional_file(alloc));
+    let command = taking_ways(alloc, taking_counts(alloc, command, ORDER_HELP));
+    let command = taking(command, flag_option(alloc, "threads", THREADS_HELP));
+    let command = taking(command, text(alloc, "acts", "PATH", CHART_ACTS_HELP));
     let command = taking(command, flag_option(alloc, "text", TEXT_HELP));
     let command = taking(command, bare_number(alloc, "from", "P", FROM_HELP));
-    taking(command, bare_number(alloc, "to", "Q", TO_HELP))
+    let command = taking(command, bare_number(alloc, "to", "Q", TO_HELP));
+    let command = taking(command, text(alloc, "hide", "WHAT", HIDE_HELP));
+    taking(command, flag_option(alloc, "source", SOURCE_HELP))
 }
 
 fn judge_command<'w>(alloc: Global) -> Result<Command<'w>, AllocError>

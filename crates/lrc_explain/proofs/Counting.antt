@@ -11,6 +11,7 @@ use Rattle.std.proofs.lemmas.List.Folds.{list_any_more}
 use Rattle.std.proofs.lemmas.List.Sums.{count_by_more_no, count_by_more_yes, get_or-le-sum_by}
 use Rattle.lrc_judge.proofs.Ascending.{is_eq-nat, is_eq-then}
 use Rattle.lrc_judge.specs.declared.lanes.Pair.{Pair}
+use Rattle.lrc_labels.specs.Reading.{Label}
 use Rattle.lrc_trace.specs.declared.act.Act.{Act}
 use Rattle.lrc_explain.specs.declared.site.Site.{Site}
 use Rattle.lrc_explain.specs.Groups.{group_at, group_if, group_text, is_of_site}
@@ -93,11 +94,11 @@ left_more acts lines pairs i d start old new lt updates before q =
     ]
 
 -- a pair whose site is counted is the first of its group
-pub group_new : (acts : List Act) (lines : List ℕ) (pairs : List Pair) (i : ℕ) (d : Pair) (start : Option ℕ) (count : ℕ)
+pub group_new : (labels : List Label) (acts : List Act) (lines : List ℕ) (pairs : List Pair) (i : ℕ) (d : Pair) (start : Option ℕ) (count : ℕ)
     → Some count ≡ (if list_any (is_of_site acts lines (site_of acts lines (get_or pairs i d))) (take i pairs) then None else start)
     → unwrap_or start 0 ≡ count_by (is_of_site acts lines (site_of acts lines (get_or pairs i d))) pairs
-    → group_text acts lines (get_or pairs i d) count ≡ group_at acts lines pairs i (get_or pairs i d)
-group_new acts lines pairs i d start count found counted =
+    → group_text labels acts lines (get_or pairs i d) count ≡ group_at labels acts lines pairs i (get_or pairs i d)
+group_new labels acts lines pairs i d start count found counted =
     let here = get_or pairs i d in
     let of = is_of_site acts lines (site_of acts lines here) in
     elim (cases_Bool (list_any of (take i pairs))) [
@@ -105,23 +106,23 @@ group_new acts lines pairs i d start count found counted =
       | inr fresh ↦
           let is : Some count ≡ start = found ∙ ap (λ b. if b then None else start) fresh in
           let same : count ≡ count_by of pairs = ap (λ o. unwrap_or o 0) is ∙ counted in
-          ap (group_text acts lines here) same
-          ∙ sym (ap (λ b. if b then [] else group_text acts lines here (count_by of pairs)) fresh)
+          ap (group_text labels acts lines here) same
+          ∙ sym (ap (λ b. if b then [] else group_text labels acts lines here (count_by of pairs)) fresh)
     ]
 
 abbrev one_if : Bool → ℕ
 one_if b = cond b 1 0
 
 -- any other stands behind one of its group
-pub group_old : (acts : List Act) (lines : List ℕ) (pairs : List Pair) (i : ℕ) (d : Pair) (start : Option ℕ) → i < length pairs
+pub group_old : (labels : List Label) (acts : List Act) (lines : List ℕ) (pairs : List Pair) (i : ℕ) (d : Pair) (start : Option ℕ) → i < length pairs
     → None ≡ (if list_any (is_of_site acts lines (site_of acts lines (get_or pairs i d))) (take i pairs) then None else start)
     → unwrap_or start 0 ≡ count_by (is_of_site acts lines (site_of acts lines (get_or pairs i d))) pairs
-    → [] ≡ group_at acts lines pairs i (get_or pairs i d)
-group_old acts lines pairs i d start lt found counted =
+    → [] ≡ group_at labels acts lines pairs i (get_or pairs i d)
+group_old labels acts lines pairs i d start lt found counted =
     let here = get_or pairs i d in
     let of = is_of_site acts lines (site_of acts lines here) in
     elim (cases_Bool (list_any of (take i pairs))) [
-      | inl seen ↦ sym (ap (λ b. if b then [] else group_text acts lines here (count_by of pairs)) seen)
+      | inl seen ↦ sym (ap (λ b. if b then [] else group_text labels acts lines here (count_by of pairs)) seen)
       | inr fresh ↦
           let is : None ≡ start = found ∙ ap (λ b. if b then None else start) fresh in
           let zero_is : ◌≡◌ {A = ℕ} 0 (count_by of pairs) = ap (λ (o : Option ℕ). unwrap_or o 0) is ∙ counted in
@@ -132,9 +133,9 @@ group_old acts lines pairs i d start lt found counted =
     ]
 
 -- what was taken out of the counts says whether a pair is the first of its group
-pub group_is : (acts : List Act) (lines : List ℕ) (pairs : List Pair) (i : ℕ) (d : Pair) (start taken : Option ℕ) → i < length pairs
+pub group_is : (labels : List Label) (acts : List Act) (lines : List ℕ) (pairs : List Pair) (i : ℕ) (d : Pair) (start taken : Option ℕ) → i < length pairs
     → taken ≡ (if list_any (is_of_site acts lines (site_of acts lines (get_or pairs i d))) (take i pairs) then None else start)
     → unwrap_or start 0 ≡ count_by (is_of_site acts lines (site_of acts lines (get_or pairs i d))) pairs
-    → group_if acts lines (get_or pairs i d) taken ≡ group_at acts lines pairs i (get_or pairs i d)
-group_is acts lines pairs i d start None lt found counted = group_old acts lines pairs i d start lt found counted
-group_is acts lines pairs i d start (Some count) lt found counted = group_new acts lines pairs i d start count found counted
+    → group_if labels acts lines (get_or pairs i d) taken ≡ group_at labels acts lines pairs i (get_or pairs i d)
+group_is labels acts lines pairs i d start None lt found counted = group_old labels acts lines pairs i d start lt found counted
+group_is labels acts lines pairs i d start (Some count) lt found counted = group_new labels acts lines pairs i d start count found counted

@@ -9,6 +9,7 @@ use Rattle.lrc_lines.specs.Walks.{act_lines}
 use Rattle.lrc_judge.specs.declared.lanes.Pair.{Pair}
 use Rattle.lrc_text.specs.RaceText.{first_race_text}
 use Rattle.lrc_text.specs.Each.{each}
+use Rattle.lrc_labels.specs.Reading.{Label}
 use Rattle.lrc_stuck.specs.declared.stand.Stand.{Stand}
 use Rattle.lrc_stuck.specs.Circles.{deadlocks_text}
 use Rattle.lrc_stuck.specs.Stand.{stands_of}
@@ -29,12 +30,13 @@ abbrev pub prints_text : (node : ℕ) → List Act → List ℕ
 prints_text node acts = flat_map (print_of node) acts
 
 -- what each node printed, how it ended and why
-abbrev pub fates_text : List Act → List Stand → List ℕ
-fates_text acts stands = each (λ node stand. prints_text node acts ++ end_text stands node stand) stands
+abbrev pub fates_text : List Label → List Act → List Stand → List ℕ
+fates_text labels acts stands = each (λ node stand. prints_text node acts ++ end_text labels stands node stand) stands
 
 -- What is printed of the acts of a program whose statements, and the text's end behind them, have these lines: the lines of the nodes,
--- those of the circles of waiting, the groups of these first pairs of races, and the first race.
-abbrev pub explain_text : Program → (nodes : ℕ) → (lines : List ℕ) → (steps : ℕ) → List Act → List Pair → (first : Option ℕ) → List ℕ
-explain_text program nodes lines steps acts pairs first =
+-- those of the circles of waiting, the groups of these first pairs of races, and the first race. The labels of words and of locks
+-- stand behind their numbers in what comes next of nodes and in the groups; the other lines name no word and no lock.
+abbrev pub explain_text : List Label → Program → (nodes : ℕ) → (lines : List ℕ) → (steps : ℕ) → List Act → List Pair → (first : Option ℕ) → List ℕ
+explain_text labels program nodes lines steps acts pairs first =
     let stands = stands_of program nodes lines (Some steps) acts in
-    fates_text acts stands ++ deadlocks_text stands ++ groups_text acts (act_lines program nodes lines acts) pairs ++ first_race_text first
+    fates_text labels acts stands ++ deadlocks_text stands ++ groups_text labels acts (act_lines program nodes lines acts) pairs ++ first_race_text first

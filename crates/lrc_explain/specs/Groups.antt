@@ -7,6 +7,8 @@ use Rattle.lrc_judge.specs.Races.{word_of}
 use Rattle.lrc_judge.specs.declared.lanes.Pair.{Pair}
 use Rattle.lrc_acts_text.specs.Acts.{act_at}
 use Rattle.lrc_text.specs.Each.{each}
+use Rattle.lrc_labels.specs.Reading.{Label}
+use Rattle.lrc_labels.specs.Show.{numbered_word}
 use Rattle.lrc_explain.specs.declared.site.Site.{Site}
 use Rattle.lrc_explain.specs.Access.{access_text}
 use Rattle.lrc_explain.specs.Site.{site_cmp, site_of}
@@ -35,34 +37,35 @@ later_line_words number = codes ", line " ++ decimal number
 unfoldable pub count_words : ℕ → List ℕ
 count_words number = codes ": " ++ decimal number
 
-unfoldable pub word_words : ℕ → List ℕ
-word_words number = codes "  word " ++ decimal number
+-- a word by its number, and its label behind the number
+unfoldable pub word_words : List Label → ℕ → List ℕ
+word_words labels word = numbered_word labels (codes "  word ") word
 
 -- the lines and kinds of a group, and how many races it has
 abbrev pub site_line : Site → ℕ → List ℕ
 site_line site count = line_words site.line ++ access_kind_text site.writes ++ later_line_words site.later_line ++ access_kind_text site.later_writes
     ++ count_words count ++ codes "\n"
 
--- the two acts of a pair
-abbrev pub pair_text : List Act → Pair → List ℕ
-pair_text acts pair = word_words (word_of (act_at acts pair.later).deed) ++ codes ": " ++ access_text acts pair.earlier
+-- the word that the two acts of a pair access, and what each did
+abbrev pub pair_text : List Label → List Act → Pair → List ℕ
+pair_text labels acts pair = word_words labels (word_of (act_at acts pair.later).deed) ++ codes ": " ++ access_text acts pair.earlier
     ++ codes ", " ++ access_text acts pair.later ++ codes "\n"
 
 -- the two lines of a group of so many races, of which this is the least pair
-abbrev pub group_text : List Act → (lines : List ℕ) → Pair → ℕ → List ℕ
-group_text acts lines pair count = site_line (site_of acts lines pair) count ++ pair_text acts pair
+abbrev pub group_text : List Label → List Act → (lines : List ℕ) → Pair → ℕ → List ℕ
+group_text labels acts lines pair count = site_line (site_of acts lines pair) count ++ pair_text labels acts pair
 
 -- the same, if there is such a number
-abbrev pub group_if : List Act → (lines : List ℕ) → Pair → Option ℕ → List ℕ
-group_if acts lines pair None = []
-group_if acts lines pair (Some count) = group_text acts lines pair count
+abbrev pub group_if : List Label → List Act → (lines : List ℕ) → Pair → Option ℕ → List ℕ
+group_if labels acts lines pair None = []
+group_if labels acts lines pair (Some count) = group_text labels acts lines pair count
 
 -- a group at the first of its pairs, where none of those before is of it
-abbrev pub group_at : List Act → (lines : List ℕ) → List Pair → ℕ → Pair → List ℕ
-group_at acts lines pairs at pair =
+abbrev pub group_at : List Label → List Act → (lines : List ℕ) → List Pair → ℕ → Pair → List ℕ
+group_at labels acts lines pairs at pair =
     let here = is_of_site acts lines (site_of acts lines pair) in
-    if list_any here (take at pairs) then [] else group_text acts lines pair (count_by here pairs)
+    if list_any here (take at pairs) then [] else group_text labels acts lines pair (count_by here pairs)
 
 -- The groups of these pairs, each with its number of pairs and the first of them, in the order of the first ones.
-abbrev pub groups_text : List Act → (lines : List ℕ) → List Pair → List ℕ
-groups_text acts lines pairs = each (λ at pair. group_at acts lines pairs at pair) pairs
+abbrev pub groups_text : List Label → List Act → (lines : List ℕ) → List Pair → List ℕ
+groups_text labels acts lines pairs = each (λ at pair. group_at labels acts lines pairs at pair) pairs

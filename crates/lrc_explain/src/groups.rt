@@ -1,11 +1,12 @@
 // Races by groups: those whose first pairs are of the same lines and kinds.
 
-ghost use Rattle.std.specs.Prelude.{◌≡◌, ◌<◌, ◌++◌, count_by, unwrap_or, All, IfOk, OnOk};
+ghost use Rattle.std.specs.Prelude.{◌≡◌, ◌<◌, ◌++◌, count_by, map, unwrap_or, All, IfOk, OnOk};
 ghost use Rattle.std.specs.BTreeMap.{get};
 ghost use Rattle.lrc_explain.specs.declared.site.Site.{Site as SiteRecord};
 ghost use Rattle.lrc_explain.specs.Groups.{count_words, group_if, group_text, groups_text, is_of_site, IsWithin};
 ghost use Rattle.lrc_explain.specs.Groups.{access_kind_text, later_line_words, line_words, pair_text, site_line, word_words};
 ghost use Rattle.lrc_judge.specs.declared.TheConstants.{NODES};
+ghost use Rattle.lrc_labels.specs.Reading.{label_seen};
 ghost use Rattle.lrc_explain.specs.Before.{IsBeforeActs};
 ghost use Rattle.lrc_explain.specs.Site.{site_cmp};
 
@@ -14,6 +15,8 @@ use crate::before::Before;
 use crate::site::{Site, act_at, site_of};
 use lrc_judge::first_pairs::Pair;
 use lrc_judge::races::word_of;
+use lrc_labels::label::Label;
+use lrc_labels::push_numbered_word;
 use lrc_text::push_number;
 use lrc_trace::act::Act;
 use std::alloc::{AllocError, Global};
@@ -73,10 +76,10 @@ fn push_count(text: &mut Vec<u8>, number: u64) -> Result<(), AllocError>
     push_number(text, b": ", number)
 }
 
-fn push_word(text: &mut Vec<u8>, number: u64) -> Result<(), AllocError>
-    ensures { OnOk result (text.new.items ≡ text.old.items ++ word_words number) }
+fn push_word(text: &mut Vec<u8>, labels: &[Label<'_>], word: u32) -> Result<(), AllocError>
+    ensures { OnOk result (text.new.items ≡ text.old.items ++ word_words (map label_seen labels.now) word) }
 {
-    push_number(text, b"  word ", number)
+    push_numbered_word(text, labels, b"  word ", word)
 }
 
 fn push_site(text: &mut Vec<u8>, site: Site, count: u64) -> Result<(), AllocError>
@@ -92,16 +95,17 @@ fn push_site(text: &mut Vec<u8>, site: Site, count: u64) -> Result<(), AllocErro
 
 fn push_pair(
     text: &mut Vec<u8>,
+    labels: &[Label<'_>],
     acts: &[Act],
     before: &Before,
     pair: Pair,
 ) -> Result<(), AllocError>
     requires within { IsWithin acts.now pair }
     requires before { IsBeforeActs acts.now before.now }
-    ensures { OnOk result (text.new.items ≡ text.old.items ++ pair_text acts.now pair) }
+    ensures { OnOk result (text.new.items ≡ text.old.items ++ pair_text (map label_seen labels.now) acts.now pair) }
 {
     let word = word_of(act_at(acts, pair.later).deed);
-    push_word(text, u64::from(word))?;
+    push_word(text, labels, word)?;
     text.extend_from_slice(b": ")?;
     push_access(text, acts, before, pair.earlier)?;
     text.extend_from_slice(b", ")?;
@@ -112,6 +116,7 @@ fn push_pair(
 // Adds the two lines of a group of so many races, of which this is the least pair.
 fn push_group(
     text: &mut Vec<u8>,
+    labels: &[Label<'_>],
     acts: &[Act],
     before: &Before,
     lines: &[u32],
@@ -120,15 +125,16 @@ fn push_group(
 ) -> Result<(), AllocError>
     requires within { IsWithin acts.now pair }
     requires before { IsBeforeActs acts.now before.now }
-    ensures { OnOk result (text.new.items ≡ text.old.items ++ group_text acts.now lines.now pair count) }
+    ensures { OnOk result (text.new.items ≡ text.old.items ++ group_text (map label_seen labels.now) acts.now lines.now pair count) }
 {
     push_site(text, site_of(acts, lines, pair), count)?;
-    push_pair(text, acts, before, pair)
+    push_pair(text, labels, acts, before, pair)
 }
 
 // The same, if there is such a number.
 fn push_group_if(
     text: &mut Vec<u8>,
+    labels: &[Label<'_>],
     acts: &[Act],
     before: &Before,
     lines: &[u32],
@@ -137,24 +143,26 @@ fn push_group_if(
 ) -> Result<(), AllocError>
     requires within { IsWithin acts.now pair }
     requires before { IsBeforeActs acts.now before.now }
-    ensures { OnOk result (text.new.items ≡ text.old.items ++ group_if acts.now lines.now pair count) }
+    ensures { OnOk result (text.new.items ≡ text.old.items ++ group_if (map label_seen labels.now) acts.now lines.now pair count) }
 {
     match count {
-        Some(count) => push_group(text, acts, before, lines, pair, count),
+        Some(count) => push_group(text, labels, acts, before, lines, pair, count),
         None => Ok(()),
     }
 }
 
-/// The groups of these pairs, each with its number of pairs and the first of them, in the order of the first ones.
+/// The groups of these pairs, each with its number of pairs and the first of them, in the order of the first ones; the word of the
+/// first with its label.
 pub(crate) fn groups_part(
     alloc: Global,
+    labels: &[Label<'_>],
     acts: &[Act],
     lines: &[u32],
     pairs: &[Pair],
 ) -> Result<Vec<u8>, AllocError>
     requires nodes { All (λ act. act.node < NODES) acts.now }
     requires within { All (IsWithin acts.now) pairs.now }
-    ensures { IfOk result (λ part. part.items ≡ groups_text acts.now lines.now pairs.now) }
+    ensures { IfOk result (λ part. part.items ≡ groups_text (map label_seen labels.now) acts.now lines.now pairs.now) }
 {
     let before = Before::of(alloc, acts)?;
     let mut counts = counts_of(alloc, acts, lines, pairs)?;
@@ -163,7 +171,7 @@ pub(crate) fn groups_part(
         let pair = pairs[at];
         let site = site_of(acts, lines, pair);
         let count = counts.remove(&site);
-        push_group_if(&mut text, acts, &before, lines, pair, count)?;
+        push_group_if(&mut text, labels, acts, &before, lines, pair, count)?;
     }
     Ok(text)
 }

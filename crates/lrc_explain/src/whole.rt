@@ -1,9 +1,10 @@
 // What is printed of a run, with reasons.
 
-ghost use Rattle.std.specs.Prelude.{◌≡◌, ◌<◌, ◌++◌, List, All, IfOk, OnOk};
+ghost use Rattle.std.specs.Prelude.{◌≡◌, ◌<◌, ◌++◌, List, All, IfOk, OnOk, map};
 ghost use Rattle.lrc_judge.specs.declared.TheConstants.{NODES};
 ghost use Rattle.lrc_judge.specs.declared.lanes.Pair.{Pair as PairRecord};
 ghost use Rattle.lrc_judge.specs.FirstPairs.{AreFirstPairs};
+ghost use Rattle.lrc_labels.specs.Reading.{label_seen};
 ghost use Rattle.lrc_text.specs.Parts.{whole_text};
 ghost use Rattle.lrc_text.specs.RaceText.{first_race_text};
 ghost use Rattle.lrc_explain.specs.Explain.{explain_text, fates_text, print_of, print_text, prints_text};
@@ -14,6 +15,7 @@ use crate::groups::groups_part;
 use lrc_exec::code::Code;
 use lrc_judge::NODES;
 use lrc_judge::first_pairs::first_pairs;
+use lrc_labels::label::Label;
 use lrc_lines::walks::follow_acts;
 use lrc_stuck::{Stand, push_deadlocks, push_end, stands_of};
 use lrc_text::{first_race_part, push_number};
@@ -54,13 +56,18 @@ fn push_prints(text: &mut Vec<u8>, node: usize, acts: &[Act]) -> Result<(), Allo
 }
 
 // What each node printed, how it ended and why.
-fn nodes_part(alloc: Global, acts: &[Act], stands: &[Stand]) -> Result<Vec<u8>, AllocError>
-    ensures { IfOk result (λ part. part.items ≡ fates_text acts.now stands.now) }
+fn nodes_part(
+    alloc: Global,
+    labels: &[Label<'_>],
+    acts: &[Act],
+    stands: &[Stand],
+) -> Result<Vec<u8>, AllocError>
+    ensures { IfOk result (λ part. part.items ≡ fates_text (map label_seen labels.now) acts.now stands.now) }
 {
     let mut text = Vec::new(alloc);
     for node in 0..stands.len() {
         push_prints(&mut text, node, acts)?;
-        push_end(alloc, &mut text, stands, node, stands[node])?;
+        push_end(alloc, &mut text, labels, stands, node, stands[node])?;
     }
     Ok(text)
 }
@@ -93,9 +100,10 @@ fn parts_of(
 
 /// What is printed of a run with reasons, in parts: of each node what it printed, how it ended and why; the circles of waiting; the
 /// races by groups; and the first race. The program's statements, and the text's end behind them, have these lines; each node has so
-/// many steps.
+/// many steps. The labels of words and of locks stand behind their numbers.
 pub fn explain(
     alloc: Global,
+    labels: &[Label<'_>],
     code: &Code<'_>,
     lines: &[u32],
     nodes: u8,
@@ -105,14 +113,14 @@ pub fn explain(
 ) -> Result<Vec<Vec<u8>>, AllocError>
     requires { All (λ act. act.node < NODES) acts.now }
     ensures { IfOk result (λ parts. (pairs : List PairRecord) × AreFirstPairs acts.now pairs
-        × (whole_text parts.items ≡ explain_text code.now nodes lines.now steps acts.now pairs first_race)) }
+        × (whole_text parts.items ≡ explain_text (map label_seen labels.now) code.now nodes lines.now steps acts.now pairs first_race)) }
 {
     let followed = follow_acts(alloc, code, lines, nodes, acts)?;
     let stands = stands_of(alloc, &followed, nodes, Some(steps), acts)?;
     let pairs = first_pairs(alloc, acts)?;
-    let told = nodes_part(alloc, acts, &stands)?;
+    let told = nodes_part(alloc, labels, acts, &stands)?;
     let deadlocks = deadlocks_part(alloc, &stands)?;
-    let groups = groups_part(alloc, acts, &followed.lines, &pairs)?;
+    let groups = groups_part(alloc, labels, acts, &followed.lines, &pairs)?;
     let parts = parts_of(alloc, told, deadlocks, groups, first_race)?;
     Ok(parts)
 }

@@ -1,5 +1,5 @@
 -- The acts of an order of the plain machine.
-use Rattle.std.proofs.Common.{◌≡◌, ℕ, suc, ◌+◌, ◌<◌, ◌≤◌, List, [], ◌∷◌, ◌++◌, length, refl, sym, ◌∙◌, ap, arith}
+use Rattle.std.proofs.Common.{◌≡◌, ℕ, suc, ◌+◌, ◌<◌, ◌≤◌, List, [], ◌∷◌, ◌++◌, length, refl, sym, subst, ◌∙◌, ap, arith}
 use Rattle.std.specs.Prelude.{All, Some, option_map}
 use Rattle.std.proofs.lemmas.Option.{same_Some}
 use Rattle.lrc_lang.specs.declared.program.Program.{Program}
@@ -9,6 +9,8 @@ use Rattle.lrc_exec.specs.Plain.{Plain, plain, plain_from, plain_start}
 use Rattle.lrc_consistency_laws.proofs.Plainly.{facts}
 use Rattle.lrc_lines.specs.Walks.{lines_behind}
 use Rattle.lrc_explore.specs.Stuck.{GetsStuck}
+use Rattle.lrc_explore.specs.Verdict.{EndsInRace}
+use Rattle.lrc_trace.specs.Conflict.{Races}
 use Rattle.lrc_exec.specs.Nodes.{AreNodes}
 
 -- they are of nodes that there can be
@@ -28,3 +30,9 @@ pub as_many_lines : (program : Program) (nodes : ℕ) (lines : List ℕ) (before
     → length (lines_behind program nodes lines before acts) ≡ length acts
 as_many_lines program nodes lines before [] = refl
 as_many_lines program nodes lines before (act ∷ acts) = ap suc (as_many_lines program nodes lines (before ++ act ∷ []) acts)
+
+-- the race of an order that ends in one
+pub race_there : (program : Program) (nodes : ℕ) (order : List ℕ) (run : List Act) → plain program nodes order ≡ Some run → EndsInRace program nodes order
+    → (i : ℕ) × (j : ℕ) × Races run i j
+race_there program nodes order run led ends =
+    let same = same_Some ends.run run (sym ends.is ∙ led) in (ends.first, ends.first + 1, subst (λ l. Races l ends.first (ends.first + 1)) same ends.races)

@@ -10,7 +10,7 @@ use Rattle.std.proofs.lemmas.List.{get_or-map, length-map}
 use Rattle.std.proofs.lemmas.List.Sorted.{IsPermutation-map}
 use Rattle.lrc_text.specs.Parts.{texts_of, whole_text}
 use Rattle.lrc_explore.specs.declared.outcomes.Outcome.{Outcome}
-use Rattle.lrc_explore_text.specs.Outcomes.{ListsOutcomes, outcome_line}
+use Rattle.lrc_explore_text.specs.Outcomes.{ListsOutcomes, none_ends, outcome_line}
 
 abbrev pub Part : Type 0
 Part = Vec ℕ Global
@@ -31,7 +31,7 @@ ascending_texts any parts sorted k d low lt =
     rw (later, sooner) (sorted k any low (omega (arith, lt, long)))
 
 pub listed : (nodes : ℕ) (outcomes : List Outcome) (head : Part) (found sorted : List Part) (out : List ℕ)
-    → head.items ≡ codes "outcomes " ++ decimal (length outcomes) ++ codes " in every order\n"
+    → head.items ≡ codes "outcomes " ++ decimal (length outcomes) ++ codes " in every order\n" ++ none_ends (length outcomes)
     → texts_of found ≡ map (λ outcome. outcome_line nodes outcome.notes.items) outcomes → IsPermutation found sorted
     → IsSorted (λ (x y : Part). slice_cmp nat_cmp x.items y.items) sorted → out ≡ head.items ++ whole_text sorted → ListsOutcomes nodes outcomes out
 listed nodes outcomes head found sorted out is_head are permutation in_order whole = record {
@@ -40,5 +40,5 @@ listed nodes outcomes head found sorted out is_head are permutation in_order who
   ascending = ascending_texts head sorted in_order;
   whole =
       whole ∙ ap (λ l. l ++ whole_text sorted) is_head
-      ∙ ap (λ l. codes "outcomes " ++ decimal (length outcomes) ++ codes " in every order\n" ++ l) (joined sorted);
+      ∙ ap (λ l. codes "outcomes " ++ decimal (length outcomes) ++ codes " in every order\n" ++ none_ends (length outcomes) ++ l) (joined sorted);
 }

@@ -13,9 +13,16 @@ use Rattle.lrc_protocol.specs.Node.{OptionsRecord}
 use Rattle.lrc_world.specs.Report.{IsReportOf}
 use Rattle.lrc_world.specs.declared.report.Report.{Report}
 use Rattle.lrc_world.proofs.Theorem.{reports_consistently}
-use Rattle.lrc_explore.specs.Verdict.{FindsNoRace, IsVerdict}
+use Rattle.lrc_explore.specs.declared.search.Verdict.TheVariants.{RaceFree, Racy}
+use Rattle.lrc_explore.specs.Verdict.{FindsNoRace}
+use Rattle.lrc_breadth.specs.Answers.{IsAnswer}
+use Rattle.lrc_consistency_laws.specs.Racing.{HasNoRace}
 use Rattle.lrc_explore.specs.declared.search.Verdict.{Verdict}
-use Rattle.lrc_explore.proofs.Exploring.{has_no_race}
+
+has_no_race : (program : Program) (nodes : ℕ) (verdict : Verdict) → IsAnswer program nodes verdict → FindsNoRace verdict → HasNoRace program nodes
+has_no_race program nodes (RaceFree None) is finds = is.0
+has_no_race program nodes (RaceFree (Some order)) is finds = is.0
+has_no_race program nodes (Racy order) is finds = absurd finds
 
 none_first : (acts : List Act) (first : Option ℕ) → IsRaceFree acts → MatchOption first (IsRaceFree acts) (IsFirstRace acts) → first ≡ None
 none_first acts None free is = refl
@@ -28,7 +35,7 @@ none_named acts (race ∷ more) free are =
     elim names.races [ inl r ↦ absurd (free i j r) | inr r ↦ absurd (free j i r) ]
 
 module _ (program : Program) (nodes : ℕ) (verdict : Verdict) (options : OptionsRecord) (events : List Event) (report : Report)
-    (is : IsVerdict program nodes verdict) (finds : FindsNoRace verdict) (reported : IsReportOf program nodes options events report) where
+    (is : IsAnswer program nodes verdict) (finds : FindsNoRace verdict) (reported : IsReportOf program nodes options events report) where
   free : IsRaceFree report.acts.items
   free = (reports_consistently program nodes options events report reported).unraced (has_no_race program nodes verdict is finds)
 

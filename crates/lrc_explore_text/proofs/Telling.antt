@@ -1,23 +1,21 @@
 -- What is told of a program.
-use Rattle.std.proofs.Common.{◌≡◌, ℕ, ◌+◌, ◌-◌, List, [], ◌++◌, Bool, true, false, Result, Ok, Err, IfOk, IfErr, length, append-nil, refl, sym, subst, ◌∙◌, ap, ap₂, arith}
+use Rattle.std.proofs.Common.{◌≡◌, ℕ, ◌+◌, ◌-◌, List, [], ◌++◌, Bool, true, false, Result, Ok, Err, IfOk, IfErr, length, length-append, refl, sym, subst, ◌∙◌, ap, ap₂, arith}
 use Rattle.std.specs.Prelude.{◌≢◌, Some, codes}
 use Rattle.std.proofs.lemmas.Option.{same_Some}
 use Rattle.lrc_lang.specs.declared.program.Program.{Program}
+use Rattle.lrc_labels.specs.Reading.{Label}
 use Rattle.lrc_trace.specs.declared.act.Act.{Act}
 use Rattle.lrc_trace.specs.declared.race.Race.{Race}
-use Rattle.lrc_trace.specs.Conflict.{IsFirstRace}
 use Rattle.lrc_text.specs.Parts.{whole_text}
 use Rattle.lrc_text.specs.RaceText.{first_race_text, races_text}
 use Rattle.lrc_exec.specs.Plain.{plain}
 use Rattle.lrc_consistency_laws.specs.Racing.{HasNoRace}
 use Rattle.lrc_explore.specs.declared.search.ExploreFault.{ExploreFault}
-use Rattle.lrc_explore.specs.declared.search.ExploreFault.TheVariants.{TooMany}
-use Rattle.lrc_explore.specs.Limit.{FitsIn, HasMoreStates}
-use Rattle.lrc_explore.specs.Outcome.{FitsNoted, HasMoreNoted}
 use Rattle.lrc_explore.specs.Stuck.{GetsStuck}
-use Rattle.lrc_explore.specs.Verdict.{LeadsToRace, NeverStuckBefore}
+use Rattle.lrc_causes.specs.Told.{TellsRace}
+use Rattle.lrc_breadth.specs.Answers.{FitsSettled, FitsSettledNoted}
 use Rattle.lrc_explore_text.specs.declared.explored.Printout.{Printout}
-use Rattle.lrc_explore_text.specs.Explored.{Explores, MeetsFew, MeetsTooMany, tells_orders, tells_outcomes}
+use Rattle.lrc_explore_text.specs.Explored.{Explores, MeetsFew, tells_orders, tells_outcomes}
 use Rattle.lrc_explore_text.specs.LastRaces.{AreRacesAt}
 use Rattle.lrc_explore_text.specs.Orders.{TellsOrders, ends_text, order_text, racy, stuck}
 use Rattle.lrc_explore_text.specs.Outcomes.{TellsOutcomes}
@@ -25,56 +23,46 @@ use Rattle.lrc_explore_text.proofs.Led.{plain_stuck}
 
 -- ---- either question
 
-module _ (program : Program) (nodes : ℕ) (lines : List ℕ) (outcomes : Bool) where
+module _ (labels : List Label) (program : Program) (nodes : ℕ) (lines : List ℕ) (outcomes : Bool) where
   pub of_outcomes : (r : Result Printout ExploreFault) → outcomes ≡ true → IfOk r (λ p. TellsOutcomes program nodes (whole_text p.parts.items))
-      → IfOk r (λ p. p.status ≡ 0) → IfOk r (λ p. Explores program nodes lines outcomes (whole_text p.parts.items) p.status)
+      → IfOk r (λ p. p.status ≡ 0) → IfOk r (λ p. Explores labels program nodes lines outcomes (whole_text p.parts.items) p.status)
   of_outcomes (Err fault) is text status = tt
   of_outcomes (Ok p) is text status =
-      subst (λ b. Explores program nodes lines b (whole_text p.parts.items) p.status) (sym is)
-      (subst (λ s. Explores program nodes lines true (whole_text p.parts.items) s) (sym status) (tells_outcomes text))
+      subst (λ b. Explores labels program nodes lines b (whole_text p.parts.items) p.status) (sym is)
+      (subst (λ s. Explores labels program nodes lines true (whole_text p.parts.items) s) (sym status) (tells_outcomes text))
 
-  pub of_orders : (r : Result Printout ExploreFault) → outcomes ≡ false → IfOk r (λ p. TellsOrders program nodes lines (whole_text p.parts.items) p.status)
-      → IfOk r (λ p. Explores program nodes lines outcomes (whole_text p.parts.items) p.status)
+  pub of_orders : (r : Result Printout ExploreFault) → outcomes ≡ false → IfOk r (λ p. TellsOrders labels program nodes lines (whole_text p.parts.items) p.status)
+      → IfOk r (λ p. Explores labels program nodes lines outcomes (whole_text p.parts.items) p.status)
   of_orders (Err fault) is text = tt
-  of_orders (Ok p) is text = subst (λ b. Explores program nodes lines b (whole_text p.parts.items) p.status) (sym is) (tells_orders text)
+  of_orders (Ok p) is text = subst (λ b. Explores labels program nodes lines b (whole_text p.parts.items) p.status) (sym is) (tells_orders text)
 
 module _ (program : Program) (nodes most : ℕ) (outcomes : Bool) (r : Result Printout ExploreFault) where
-  pub more_noted : outcomes ≡ true → IfErr r (λ f. f ≡ TooMany → HasMoreNoted program nodes most)
-      → IfErr r (λ f. f ≡ TooMany → MeetsTooMany program nodes most outcomes)
-  more_noted is h = subst (λ b. IfErr r (λ f. f ≡ TooMany → MeetsTooMany program nodes most b)) (sym is) h
-
-  pub more_states : outcomes ≡ false → IfErr r (λ f. f ≡ TooMany → HasMoreStates program nodes most)
-      → IfErr r (λ f. f ≡ TooMany → MeetsTooMany program nodes most outcomes)
-  more_states is h = subst (λ b. IfErr r (λ f. f ≡ TooMany → MeetsTooMany program nodes most b)) (sym is) h
-
-  pub fits_noted : outcomes ≡ true → IfOk r (λ p. FitsNoted program nodes most) → IfOk r (λ p. MeetsFew program nodes most outcomes p.status)
+  pub fits_noted : outcomes ≡ true → IfOk r (λ p. FitsSettledNoted program nodes most) → IfOk r (λ p. MeetsFew program nodes most outcomes p.status)
   fits_noted is h = subst (λ b. IfOk r (λ p. MeetsFew program nodes most b p.status)) (sym is) h
 
-  pub fits_in : outcomes ≡ false → IfOk r (λ p. p.status ≢ 3 → FitsIn program nodes most) → IfOk r (λ p. MeetsFew program nodes most outcomes p.status)
+  pub fits_in : outcomes ≡ false → IfOk r (λ p. p.status ≢ 3 → FitsSettled program nodes most) → IfOk r (λ p. MeetsFew program nodes most outcomes p.status)
   fits_in is h = subst (λ b. IfOk r (λ p. MeetsFew program nodes most b p.status)) (sym is) h
 
 -- ---- one order
 
-module _ (program : Program) (nodes : ℕ) (lines : List ℕ) (order : List ℕ) (acts : List Act) (led : plain program nodes order ≡ Some acts) where
-  pub of_stuck : HasNoRace program nodes → (gets : GetsStuck program nodes order) → NeverStuckBefore program nodes order → (out : List ℕ)
-      → out ≡ codes "race free in every order\nsome order gets stuck:\n" ++ order_text program nodes lines acts ++ ends_text program nodes lines acts
-      → TellsOrders program nodes lines out 4
-  of_stuck free gets fewest out is =
+module _ (labels : List Label) (program : Program) (nodes : ℕ) (lines : List ℕ) (order : List ℕ) (acts : List Act) (led : plain program nodes order ≡ Some acts) where
+  pub of_stuck : HasNoRace program nodes → (gets : GetsStuck program nodes order) → (out : List ℕ)
+      → out ≡ codes "race free in every order\nsome order gets stuck:\n" ++ order_text program nodes lines acts ++ ends_text labels program nodes lines acts
+      → TellsOrders labels program nodes lines out 4
+  of_stuck free gets out is =
       let same : acts ≡ gets.acts = same_Some acts gets.acts (sym led ∙ plain_stuck program nodes order gets) in
-      let whole = is ∙ ap (λ a. codes "race free in every order\nsome order gets stuck:\n" ++ order_text program nodes lines a ++ ends_text program nodes lines a) same in
-      subst (λ o. TellsOrders program nodes lines o 4) (sym whole) (stuck free gets fewest)
+      let whole = is ∙ ap (λ a. codes "race free in every order\nsome order gets stuck:\n" ++ order_text program nodes lines a ++ ends_text labels program nodes lines a) same in
+      subst (λ o. TellsOrders labels program nodes lines o 4) (sym whole) (stuck free gets)
 
-  pub of_race : LeadsToRace program nodes order → (last : ℕ) (races : List Race) → last ≡ length acts - 1 → AreRacesAt acts last races → (out : List ℕ)
-      → out ≡ order_text program nodes lines acts ++ races_text races ++ first_race_text (Some last) → TellsOrders program nodes lines out 3
-  of_race leads last races at are out is =
-      let same : acts ≡ leads.run = same_Some acts leads.run (sym led ∙ leads.is) in
-      let long = leads.last in
-      let as_long : length acts ≡ length leads.run = ap (λ (l : List Act). length l) same in
-      let place : last ≡ leads.first + 1 = omega (arith, at, long, as_long) in
-      let whole = is
-      ∙ ap₂ (λ a n. order_text program nodes lines a ++ races_text races ++ first_race_text (Some n)) same place in
-      let are' : AreRacesAt leads.run (leads.first + 1) races =
-      subst (λ n. AreRacesAt leads.run n races) place (subst (λ a. AreRacesAt a last races) same are) in
-      let is_first : IsFirstRace leads.run (leads.first + 1) =
-      record { with = leads.first; races = leads.races; least = λ i j race. leads.earliest order leads.run i j leads.is race } in
-      subst (λ o. TellsOrders program nodes lines o 3) (sym whole) (racy leads is_first are')
+-- what an earliest race comes of has its last act behind the other one
+last_place : (program : Program) (nodes : ℕ) (run told : List Act) (tells : TellsRace program nodes run told) → length told - 1 ≡ length tells.before + 1
+last_place program nodes run told tells =
+    let long = ap (λ (l : List Act). length l) tells.ends.is ∙ length-append tells.before _ in omega (arith, long)
+
+pub of_race : (labels : List Label) (program : Program) (nodes : ℕ) (lines order : List ℕ) (run acts : List Act) → plain program nodes order ≡ Some run
+    → TellsRace program nodes run acts → (last : ℕ) (races : List Race) → last ≡ length acts - 1 → AreRacesAt acts last races → (out : List ℕ)
+    → out ≡ order_text program nodes lines acts ++ races_text races ++ first_race_text (Some last) → TellsOrders labels program nodes lines out 3
+of_race labels program nodes lines order run acts led tells last races at are out is =
+    let place : last ≡ length tells.before + 1 = at ∙ last_place program nodes run acts tells in
+    let whole = is ∙ ap (λ n. order_text program nodes lines acts ++ races_text races ++ first_race_text (Some n)) place in
+    subst (λ o. TellsOrders labels program nodes lines o 3) (sym whole) (racy order led tells (subst (λ n. AreRacesAt acts n races) place are))

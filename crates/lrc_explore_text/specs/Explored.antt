@@ -1,22 +1,22 @@
 -- What is printed of every order of a program, and the status after it.
 use Rattle.std.specs.Prelude.{◌≢◌, ℕ, Bool, true, false, List}
 use Rattle.lrc_lang.specs.declared.program.Program.{Program}
-use Rattle.lrc_explore.specs.Limit.{FitsIn, HasMoreStates}
-use Rattle.lrc_explore.specs.Outcome.{FitsNoted, HasMoreNoted}
+use Rattle.lrc_labels.specs.Reading.{Label}
+use Rattle.lrc_breadth.specs.Answers.{FitsSettled, FitsSettledNoted, MetTooMany}
 use Rattle.lrc_explore_text.specs.Orders.{TellsOrders}
 use Rattle.lrc_explore_text.specs.Outcomes.{TellsOutcomes}
 
 -- whether an order races or gets stuck; where outcomes are asked for, the outcomes
-pub data Explores (program : Program) (nodes : ℕ) (lines : List ℕ) : (outcomes : Bool) → (out : List ℕ) → (status : ℕ) → Type 0 where
-  tells_orders : {out : List ℕ} {status : ℕ} → TellsOrders program nodes lines out status → Explores program nodes lines false out status
-  tells_outcomes : {out : List ℕ} → TellsOutcomes program nodes out → Explores program nodes lines true out 0
+pub data Explores (labels : List Label) (program : Program) (nodes : ℕ) (lines : List ℕ) : (outcomes : Bool) → (out : List ℕ) → (status : ℕ) → Type 0 where
+  tells_orders : {out : List ℕ} {status : ℕ} → TellsOrders labels program nodes lines out status → Explores labels program nodes lines false out status
+  tells_outcomes : {out : List ℕ} → TellsOutcomes program nodes out → Explores labels program nodes lines true out 0
 
--- the search met more states than it may: of those that it then tells apart
+-- the search met more states than it may, or looked at more acts
 abbrev pub MeetsTooMany : Program → (nodes most : ℕ) → (outcomes : Bool) → Type 0
-MeetsTooMany program nodes most false = HasMoreStates program nodes most
-MeetsTooMany program nodes most true = HasMoreNoted program nodes most
+MeetsTooMany program nodes most outcomes = MetTooMany program nodes most
 
--- all states to which some order leads are among as many as the search may meet, unless it ends at a race, whose status is 3
+-- all settled states are among as many as the search may meet, but for how often nodes have arrived, unless it ends at a race, whose status
+-- is 3; where outcomes are asked for, so they are with what was printed
 abbrev pub MeetsFew : Program → (nodes most : ℕ) → (outcomes : Bool) → (status : ℕ) → Type 0
-MeetsFew program nodes most false status = status ≢ 3 → FitsIn program nodes most
-MeetsFew program nodes most true status = FitsNoted program nodes most
+MeetsFew program nodes most false status = status ≢ 3 → FitsSettled program nodes most
+MeetsFew program nodes most true status = FitsSettledNoted program nodes most

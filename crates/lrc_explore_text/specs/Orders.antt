@@ -1,38 +1,40 @@
 -- Whether an order of a program races or gets stuck, as it is printed.
-use Rattle.std.specs.Prelude.{◌≡◌, ◌+◌, ℕ, None, Some, List, ◌++◌, codes}
+use Rattle.std.specs.Prelude.{◌≡◌, ◌+◌, ℕ, None, Some, List, ◌++◌, codes, length}
 use Rattle.lrc_lang.specs.declared.program.Program.{Program}
+use Rattle.lrc_labels.specs.Reading.{Label}
 use Rattle.lrc_trace.specs.declared.act.Act.{Act}
 use Rattle.lrc_trace.specs.declared.race.Race.{Race}
-use Rattle.lrc_trace.specs.Conflict.{IsFirstRace}
 use Rattle.lrc_text.specs.RaceText.{first_race_text, races_text}
+use Rattle.lrc_exec.specs.Plain.{plain}
 use Rattle.lrc_acts_text.specs.ActsText.{acts_text}
 use Rattle.lrc_lines.specs.Walks.{act_lines}
 use Rattle.lrc_stuck.specs.Stand.{stands_of}
 use Rattle.lrc_stuck.specs.Stuck.{stuck_text}
 use Rattle.lrc_consistency_laws.specs.Racing.{HasNoRace}
 use Rattle.lrc_explore.specs.Stuck.{GetsStuck}
-use Rattle.lrc_explore.specs.Verdict.{LeadsToRace, NeverStuck, NeverStuckBefore}
+use Rattle.lrc_explore.specs.Verdict.{NeverStuck}
+use Rattle.lrc_causes.specs.Told.{TellsRace}
 use Rattle.lrc_explore_text.specs.LastRaces.{AreRacesAt}
 
 -- a line for each act, with the line of the text that it is of
 abbrev pub order_text : Program → (nodes : ℕ) → (lines : List ℕ) → List Act → List ℕ
 order_text program nodes lines acts = acts_text acts (act_lines program nodes lines acts)
 
--- of each node that is unfinished after the acts how it ended and what comes next of it, and the circles of waiting
-abbrev pub ends_text : Program → (nodes : ℕ) → (lines : List ℕ) → List Act → List ℕ
-ends_text program nodes lines acts = stuck_text (stands_of program nodes lines None acts)
+-- of each node that is unfinished after the acts how it ended and what comes next of it, with the labels of words and of locks, and the
+-- circles of waiting
+abbrev pub ends_text : List Label → Program → (nodes : ℕ) → (lines : List ℕ) → List Act → List ℕ
+ends_text labels program nodes lines acts = stuck_text labels (stands_of program nodes lines None acts)
 
 -- What is printed of the orders of a program, and the status after it:
-pub data TellsOrders (program : Program) (nodes : ℕ) (lines : List ℕ) : (out : List ℕ) → (status : ℕ) → Type 0 where
+pub data TellsOrders (labels : List Label) (program : Program) (nodes : ℕ) (lines : List ℕ) : (out : List ℕ) → (status : ℕ) → Type 0 where
   -- no order races, and none gets stuck;
   free : HasNoRace program nodes → NeverStuck program nodes
-      → TellsOrders program nodes lines (codes "race free in every order\nno order gets stuck\n") 0
-  -- or none races, and this one gets stuck, the least of those of the fewest acts that do;
-  stuck : {order : List ℕ} → HasNoRace program nodes → (gets : GetsStuck program nodes order) → NeverStuckBefore program nodes order
-      → TellsOrders program nodes lines (codes "race free in every order\nsome order gets stuck:\n" ++ order_text program nodes lines gets.acts
-      ++ ends_text program nodes lines gets.acts) 4
-  -- or the last act of this one is its first race, with these races.
-  racy : {order : List ℕ} {races : List Race} → (leads : LeadsToRace program nodes order) → IsFirstRace leads.run (leads.first + 1)
-      → AreRacesAt leads.run (leads.first + 1) races
-      → TellsOrders program nodes lines
-      (order_text program nodes lines leads.run ++ races_text races ++ first_race_text (Some (leads.first + 1))) 3
+      → TellsOrders labels program nodes lines (codes "race free in every order\nno order gets stuck\n") 0
+  -- or none races, and this one gets stuck;
+  stuck : {order : List ℕ} → HasNoRace program nodes → (gets : GetsStuck program nodes order)
+      → TellsOrders labels program nodes lines (codes "race free in every order\nsome order gets stuck:\n" ++ order_text program nodes lines gets.acts
+      ++ ends_text labels program nodes lines gets.acts) 4
+  -- or one races: what its earliest race comes of, whose last act is its first race, with these races
+  racy : (order : List ℕ) {run told : List Act} {races : List Race} → plain program nodes order ≡ Some run → (tells : TellsRace program nodes run told)
+      → AreRacesAt told (length tells.before + 1) races
+      → TellsOrders labels program nodes lines (order_text program nodes lines told ++ races_text races ++ first_race_text (Some (length tells.before + 1))) 3

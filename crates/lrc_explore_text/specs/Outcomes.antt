@@ -24,12 +24,16 @@ on_one_line text = flat_map spaced (take (length text - 1) text) ++ codes "\n"
 abbrev pub outcome_line : (nodes : ℕ) → (notes : List Act) → List ℕ
 outcome_line nodes notes = on_one_line (report_text notes (ends_of nodes notes))
 
+-- what is said where there are no outcomes: no run ends
+abbrev pub none_ends : (count : ℕ) → List ℕ
+none_ends count = if count == 0 then codes "no run ends\n" else []
+
 -- the text has the lines of these outcomes, ascending as texts, behind the line that counts them
 pub record ListsOutcomes (nodes : ℕ) (outcomes : List Outcome) (out : List ℕ) : Type 0 where
   pub lines : List (List ℕ)
   pub same : IsPermutation (map (λ outcome. outcome_line nodes outcome.notes.items) outcomes) lines
   pub ascending : IsSorted (slice_cmp nat_cmp) lines
-  pub whole : out ≡ codes "outcomes " ++ decimal (length outcomes) ++ codes " in every order\n" ++ concat lines
+  pub whole : out ≡ codes "outcomes " ++ decimal (length outcomes) ++ codes " in every order\n" ++ none_ends (length outcomes) ++ concat lines
 
 -- so it is of exactly the outcomes of the program, each once
 pub record TellsOutcomes (program : Program) (nodes : ℕ) (out : List ℕ) : Type 0 where

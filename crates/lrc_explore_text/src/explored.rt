@@ -1,6 +1,7 @@
 // What is printed of every order of a program.
 
-ghost use Rattle.std.specs.Prelude.{◌≡◌, ◌≢◌, IfErr, IfOk};
+ghost use Rattle.std.specs.Prelude.{◌≡◌, ◌≢◌, IfErr, IfOk, map};
+ghost use Rattle.lrc_labels.specs.Reading.{label_seen};
 ghost use Rattle.lrc_text.specs.Parts.{whole_text};
 ghost use Rattle.lrc_exec.specs.Nodes.{AreNodes};
 ghost use Rattle.lrc_explore_text.specs.Explored.{Explores, MeetsFew, MeetsTooMany};
@@ -8,6 +9,7 @@ ghost use Rattle.lrc_explore_text.specs.Explored.{Explores, MeetsFew, MeetsTooMa
 use crate::orders::orders_told;
 use crate::outcomes::outcomes_told;
 use lrc_explore::search::ExploreFault;
+use lrc_labels::label::Label;
 use lrc_lang::program::Program;
 use std::alloc::Global;
 
@@ -22,9 +24,11 @@ pub struct Printout {
 
 /// What is printed of every order in which so many nodes can run a program whose statements, and the text's end behind them, have
 /// these lines: whether one races, and else whether one gets stuck; or in place of that every outcome, where outcomes are asked
-/// for. There are 1 to 16 nodes. Gives up where there are more states to tell apart than `most`.
+/// for. The labels of words and of locks stand behind their numbers in the lines of nodes that are stuck. There are 1 to 16 nodes.
+/// Gives up where there are more states to tell apart than `most`.
 pub fn explored(
     alloc: Global,
+    labels: &[Label<'_>],
     program: &Program,
     lines: &[u32],
     nodes: u32,
@@ -32,7 +36,7 @@ pub fn explored(
     outcomes: bool,
 ) -> Result<Printout, ExploreFault>
     requires { AreNodes nodes }
-    ensures ok { IfOk result (λ printout. Explores program.now nodes lines.now outcomes (whole_text printout.parts.items) printout.status) }
+    ensures ok { IfOk result (λ printout. Explores (map label_seen labels.now) program.now nodes lines.now outcomes (whole_text printout.parts.items) printout.status) }
     ensures fits { IfOk result (λ printout. MeetsFew program.now nodes most outcomes printout.status) }
     ensures nodes { IfErr result (λ fault. fault ≢ ExploreFault.BadNodes) }
     ensures too_many { IfErr result (λ fault. fault ≡ ExploreFault.TooMany → MeetsTooMany program.now nodes most outcomes) }
@@ -40,6 +44,6 @@ pub fn explored(
     if outcomes {
         outcomes_told(alloc, program, nodes, most)
     } else {
-        orders_told(alloc, program, lines, nodes, most)
+        orders_told(alloc, labels, program, lines, nodes, most)
     }
 }

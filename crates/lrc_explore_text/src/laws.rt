@@ -11,7 +11,8 @@ ghost use Rattle.lrc_protocol.specs.declared.event.Event.{Event};
 ghost use Rattle.lrc_protocol.specs.Node.{OptionsRecord};
 ghost use Rattle.lrc_world.specs.Report.{IsReportOf};
 ghost use Rattle.lrc_world.specs.declared.report.Report.{Report};
-ghost use Rattle.lrc_explore.specs.Verdict.{FindsNoRace, IsVerdict};
+ghost use Rattle.lrc_explore.specs.Verdict.{FindsNoRace};
+ghost use Rattle.lrc_breadth.specs.Answers.{IsAnswer};
 ghost use Rattle.lrc_explore.specs.declared.search.Verdict.{Verdict};
 
 /// Where every order was looked at and none races, no report of the distributed memory has a race, and its acts are those of the
@@ -19,9 +20,9 @@ ghost use Rattle.lrc_explore.specs.declared.search.Verdict.{Verdict};
 /// events.
 pub fn reports_of_explored_programs_are_plain()
     ensures plain { (program : Program) (nodes : ℕ) (verdict : Verdict) (options : OptionsRecord) (events : List Event) (report : Report)
-        → IsVerdict program nodes verdict → FindsNoRace verdict → IsReportOf program nodes options events report
+        → IsAnswer program nodes verdict → FindsNoRace verdict → IsReportOf program nodes options events report
         → IsRaceFree report.acts.items × (plain program nodes (nodes_of_acts report.acts.items) ≡ Some report.acts.items) }
     ensures unraced { (program : Program) (nodes : ℕ) (verdict : Verdict) (options : OptionsRecord) (events : List Event) (report : Report)
-        → IsVerdict program nodes verdict → FindsNoRace verdict → IsReportOf program nodes options events report
+        → IsAnswer program nodes verdict → FindsNoRace verdict → IsReportOf program nodes options events report
         → AreNamedRaces report.acts.items report.races.items → (report.first_race ≡ None) × (report.races.items ≡ []) }
 {}

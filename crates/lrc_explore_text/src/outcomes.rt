@@ -5,12 +5,13 @@ ghost use Rattle.std.specs.List.{IsDistinct};
 ghost use Rattle.lrc_exec.specs.Nodes.{AreNodes};
 ghost use Rattle.lrc_explore.specs.contracts.outcomes.OutcomePartialEq.TheImpl.{eq-value};
 ghost use Rattle.lrc_text.specs.Parts.{texts_of, whole_text};
-ghost use Rattle.lrc_explore.specs.Outcome.{FitsNoted, HasMoreNoted};
-ghost use Rattle.lrc_explore_text.specs.Outcomes.{ListsOutcomes, TellsOutcomes, on_one_line, outcome_line, spaced};
+ghost use Rattle.lrc_breadth.specs.Answers.{FitsSettledNoted, MetTooMany};
+ghost use Rattle.lrc_explore_text.specs.Outcomes.{ListsOutcomes, TellsOutcomes, none_ends, on_one_line, outcome_line, spaced};
 
 use crate::explored::Printout;
 use indexmap::IndexSet;
-use lrc_explore::outcomes::{Outcome, outcomes};
+use lrc_breadth::answers::outcomes;
+use lrc_explore::outcomes::Outcome;
 use lrc_explore::search::ExploreFault;
 use lrc_lang::program::Program;
 use lrc_report::report::report_parts;
@@ -29,9 +30,9 @@ pub(crate) fn outcomes_told(
     requires { AreNodes nodes }
     ensures text { IfOk result (λ printout. TellsOutcomes program.now nodes (whole_text printout.parts.items)) }
     ensures status { IfOk result (λ printout. printout.status ≡ 0) }
-    ensures fits { IfOk result (λ _. FitsNoted program.now nodes most) }
+    ensures fits { IfOk result (λ _. FitsSettledNoted program.now nodes most) }
     ensures nodes { IfErr result (λ fault. fault ≢ ExploreFault.BadNodes) }
-    ensures too_many { IfErr result (λ fault. fault ≡ ExploreFault.TooMany → HasMoreNoted program.now nodes most) }
+    ensures too_many { IfErr result (λ fault. fault ≡ ExploreFault.TooMany → MetTooMany program.now nodes most) }
 {
     let found = outcomes(alloc, program, nodes, most)?;
     let parts = outcomes_listed(alloc, nodes as u8, &found)?;
@@ -64,13 +65,16 @@ fn with_head(head: Vec<u8>, lines: Vec<Vec<u8>>) -> Result<Vec<Vec<u8>>, AllocEr
     Ok(parts)
 }
 
-// How many outcomes there are.
+// How many outcomes there are, and where there are none that no run ends.
 fn head_of(alloc: Global, count: usize) -> Result<Vec<u8>, AllocError>
-    ensures { IfOk result (λ head. head.items ≡ codes "outcomes " ++ decimal count ++ codes " in every order\n") }
+    ensures { IfOk result (λ head. head.items ≡ codes "outcomes " ++ decimal count ++ codes " in every order\n" ++ none_ends count) }
 {
     let mut head = Vec::new(alloc);
     push_number(&mut head, b"outcomes ", count as u64)?;
     head.extend_from_slice(b" in every order\n")?;
+    if count == 0 {
+        head.extend_from_slice(b"no run ends\n")?;
+    }
     Ok(head)
 }
 

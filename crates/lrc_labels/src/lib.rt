@@ -12,4 +12,7 @@ mod reading;
 mod show;
 
 pub use reading::{has_name, read_labels};
-pub use show::{push_lock_label, push_word_label};
+pub use show::{
+    push_lock_label, push_lock_member, push_numbered_lock, push_numbered_word, push_word_label,
+    push_word_member,
+};

@@ -1,8 +1,10 @@
 // Labels behind the numbers of words and locks.
 
-ghost use Rattle.std.specs.Prelude.{◌≡◌, ◌++◌, OnOk, find, map, option_map};
+ghost use Rattle.std.specs.Prelude.{◌≡◌, ◌++◌, OnErr, OnOk, find, map, option_map};
+ghost use Rattle.lrc_text.specs.Front.{BeginsWith};
 ghost use Rattle.lrc_labels.specs.Reading.{label_seen};
-ghost use Rattle.lrc_labels.specs.Show.{lock_label_text, lock_text, names_lock, names_word, place_text, word_label_text, word_text};
+ghost use Rattle.lrc_labels.specs.Show.{lock_label_member, lock_label_text, lock_member, lock_text, names_lock, names_word, place_text};
+ghost use Rattle.lrc_labels.specs.Show.{numbered_lock, numbered_word, word_label_member, word_label_text, word_member, word_name, word_text};
 
 use crate::label::{Label, Target};
 use lrc_text::push_number;
@@ -15,7 +17,8 @@ pub fn push_word_label(
     labels: &[Label<'_>],
     word: u32,
 ) -> Result<(), AllocError>
-    ensures { OnOk result (text.new.items ≡ text.old.items ++ word_label_text (map label_seen labels.now) word) }
+    ensures ok { OnOk result (text.new.items ≡ text.old.items ++ word_label_text (map label_seen labels.now) word) }
+    ensures err { OnErr result (BeginsWith text.new.items text.old.items) }
 {
     match label_of_word(labels, word) {
         Some(label) => push_word_text(text, label, word),
@@ -25,10 +28,67 @@ pub fn push_word_label(
 
 /// Adds ` (LABEL)` behind the number of a lock, where one of the labels names the lock.
 pub fn push_lock_label(text: &mut Vec<u8>, labels: &[Label<'_>], lock: u8) -> Result<(), AllocError>
-    ensures { OnOk result (text.new.items ≡ text.old.items ++ lock_label_text (map label_seen labels.now) lock) }
+    ensures ok { OnOk result (text.new.items ≡ text.old.items ++ lock_label_text (map label_seen labels.now) lock) }
+    ensures err { OnErr result (BeginsWith text.new.items text.old.items) }
 {
     match label_of_lock(labels, lock) {
         Some(label) => push_lock_text(text, label),
+        None => Ok(()),
+    }
+}
+
+/// Adds the number of a word behind a name, and its label behind the number.
+pub fn push_numbered_word(
+    text: &mut Vec<u8>,
+    labels: &[Label<'_>],
+    name: &[u8],
+    word: u32,
+) -> Result<(), AllocError>
+    ensures ok { OnOk result (text.new.items ≡ text.old.items ++ numbered_word (map label_seen labels.now) name.now word) }
+    ensures err { OnErr result (BeginsWith text.new.items text.old.items) }
+{
+    push_number(text, name, u64::from(word))?;
+    push_word_label(text, labels, word)
+}
+
+/// Adds the number of a lock behind a name, and its label behind the number.
+pub fn push_numbered_lock(
+    text: &mut Vec<u8>,
+    labels: &[Label<'_>],
+    name: &[u8],
+    lock: u8,
+) -> Result<(), AllocError>
+    ensures ok { OnOk result (text.new.items ≡ text.old.items ++ numbered_lock (map label_seen labels.now) name.now lock) }
+    ensures err { OnErr result (BeginsWith text.new.items text.old.items) }
+{
+    push_number(text, name, u64::from(lock))?;
+    push_lock_label(text, labels, lock)
+}
+
+/// Adds the label of a word as a member of an object of JSON, where one of the labels names the word.
+pub fn push_word_member(
+    text: &mut Vec<u8>,
+    labels: &[Label<'_>],
+    word: u32,
+) -> Result<(), AllocError>
+    ensures { OnOk result (text.new.items ≡ text.old.items ++ word_label_member (map label_seen labels.now) word) }
+{
+    match label_of_word(labels, word) {
+        Some(label) => push_member_of_word(text, label, word),
+        None => Ok(()),
+    }
+}
+
+/// Adds the label of a lock as a member of an object of JSON, where one of the labels names the lock.
+pub fn push_lock_member(
+    text: &mut Vec<u8>,
+    labels: &[Label<'_>],
+    lock: u8,
+) -> Result<(), AllocError>
+    ensures { OnOk result (text.new.items ≡ text.old.items ++ lock_label_member (map label_seen labels.now) lock) }
+{
+    match label_of_lock(labels, lock) {
+        Some(label) => push_member_of_lock(text, label),
         None => Ok(()),
     }
 }
@@ -73,17 +133,35 @@ fn names_lock(target: Target, lock: u8) -> bool
 }
 
 fn push_word_text(text: &mut Vec<u8>, label: Label<'_>, word: u32) -> Result<(), AllocError>
-    ensures { OnOk result (text.new.items ≡ text.old.items ++ word_text word (label_seen label.entry)) }
+    ensures ok { OnOk result (text.new.items ≡ text.old.items ++ word_text word (label_seen label.entry)) }
+    ensures err { OnErr result (BeginsWith text.new.items text.old.items) }
 {
     text.extend_from_slice(b" (")?;
-    text.extend_from_slice(label.name)?;
-    push_place(text, label.target, word)?;
+    push_word_name(text, label, word)?;
     text.extend_from_slice(b")")
+}
+
+fn push_member_of_word(text: &mut Vec<u8>, label: Label<'_>, word: u32) -> Result<(), AllocError>
+    ensures { OnOk result (text.new.items ≡ text.old.items ++ word_member word (label_seen label.entry)) }
+{
+    text.extend_from_slice(b",\"label\":\"")?;
+    push_word_name(text, label, word)?;
+    text.extend_from_slice(b"\"")
+}
+
+// Adds the name by which a label calls a word.
+fn push_word_name(text: &mut Vec<u8>, label: Label<'_>, word: u32) -> Result<(), AllocError>
+    ensures ok { OnOk result (text.new.items ≡ text.old.items ++ word_name word (label_seen label.entry)) }
+    ensures err { OnErr result (BeginsWith text.new.items text.old.items) }
+{
+    text.extend_from_slice(label.name)?;
+    push_place(text, label.target, word)
 }
 
 // Adds the place of a word among those that a label numbers.
 fn push_place(text: &mut Vec<u8>, target: Target, word: u32) -> Result<(), AllocError>
-    ensures { OnOk result (text.new.items ≡ text.old.items ++ place_text target word) }
+    ensures ok { OnOk result (text.new.items ≡ text.old.items ++ place_text target word) }
+    ensures err { OnErr result (BeginsWith text.new.items text.old.items) }
 {
     match target {
         Target::Words(first, _) => {
@@ -95,9 +173,18 @@ fn push_place(text: &mut Vec<u8>, target: Target, word: u32) -> Result<(), Alloc
 }
 
 fn push_lock_text(text: &mut Vec<u8>, label: Label<'_>) -> Result<(), AllocError>
-    ensures { OnOk result (text.new.items ≡ text.old.items ++ lock_text (label_seen label.entry)) }
+    ensures ok { OnOk result (text.new.items ≡ text.old.items ++ lock_text (label_seen label.entry)) }
+    ensures err { OnErr result (BeginsWith text.new.items text.old.items) }
 {
     text.extend_from_slice(b" (")?;
     text.extend_from_slice(label.name)?;
     text.extend_from_slice(b")")
+}
+
+fn push_member_of_lock(text: &mut Vec<u8>, label: Label<'_>) -> Result<(), AllocError>
+    ensures { OnOk result (text.new.items ≡ text.old.items ++ lock_member (label_seen label.entry)) }
+{
+    text.extend_from_slice(b",\"label\":\"")?;
+    text.extend_from_slice(label.name)?;
+    text.extend_from_slice(b"\"")
 }

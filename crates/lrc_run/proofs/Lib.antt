@@ -1,4 +1,5 @@
 mod Telling
 mod Behind
+mod Sources
 mod Stopped
 mod Halting

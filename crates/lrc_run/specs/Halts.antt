@@ -62,8 +62,7 @@ abbrev pub AreWovenUntil : List (List EntryRecord) → ℕ → Option Input → 
 AreWovenUntil logs node None events = (flight : List Flying) × AreWoven logs events flight
 AreWovenUntil logs node (Some input) events = AreWovenWith logs node input events
 
--- They do so where the logs are those of a program's nodes, and each message that is taken was sent. So it is of the turns that nodes
--- on threads finished.
+-- They do so where the logs are those of a program's nodes, and each message that is taken was sent.
 abbrev pub AreEventsOf : List (List EntryRecord) → ℕ → Option Input → List Event → Type 0
 AreEventsOf logs node unfinished events = (program : Program) (nodes : ℕ) (options : OptionsRecord)
     → AreLogs program nodes options logs → AreTakesSent logs → AreWovenUntil logs node unfinished events
@@ -88,7 +87,7 @@ IsPlayedOut program nodes options events = (run : World) × (run_of program node
 -- did not finish; there are fewer than 2^64 of them; and there a number or a message becomes too large.
 pub record IsWearing (program : Program) (nodes : ℕ) (options : OptionsRecord) (logs : List (List EntryRecord)) (wires : List MailboxRecord) (node : ℕ)
     (events : List Event) : Type 0 where
-  pub events_are : AreEventsOf logs node (unfinished logs wires node) events
+  pub events_are : AreWovenUntil logs node (unfinished logs wires node) events
   pub few : length events < 2 ^ 64
   pub wears : IsWornBy program nodes options events
 
@@ -104,11 +103,18 @@ pub record IsRefused (program : Program) (nodes : ℕ) (options : OptionsRecord)
   pub node : ℕ
   pub first : IsFirstFailure left.stops.items (record { node = node; stop = stops.NoMemory })
 
--- A node wore out on its thread, and the turns of all nodes do not tell why: no event makes the turn that it did not finish, or the events
--- that make all turns and this one are played to their end.
+-- the events that make all turns and the one that the node did not finish, of which there are fewer than 2^64, are played to their end
+pub record IsPlayedThrough (program : Program) (nodes : ℕ) (options : OptionsRecord) (logs : List (List EntryRecord)) (wires : List MailboxRecord)
+    (node : ℕ) (events : List Event) : Type 0 where
+  pub events_are : AreWovenUntil logs node (unfinished logs wires node) events
+  pub few : length events < 2 ^ 64
+  pub played : IsPlayedOut program nodes options events
+
+-- A node wore out on its thread, and the turns of all nodes do not tell why: a message that is taken was not sent; or no event makes the
+-- turn that the node did not finish; or the events that make all turns and this one are played to their end.
 abbrev pub IsUntoldWearing : Program → ℕ → OptionsRecord → List (List EntryRecord) → List MailboxRecord → ℕ → Type 0
-IsUntoldWearing program nodes options logs wires node = AreUnmatched logs (unfinished logs wires node)
-    ⊎ ((events : List Event) × AreEventsOf logs node (unfinished logs wires node) events × IsPlayedOut program nodes options events)
+IsUntoldWearing program nodes options logs wires node = (AreTakesSent logs → ⊥) ⊎ LacksEvent logs (unfinished logs wires node)
+    ⊎ ((events : List Event) × IsPlayedThrough program nodes options logs wires node events)
 
 -- what is left does not tell of one run to its end: no thread failed, and logs and mailboxes differ or something is left to do; or a
 -- node wore out, which the turns do not tell

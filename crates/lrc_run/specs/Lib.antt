@@ -1,3 +1,4 @@
 pub mod Run
 pub mod Unfinished
+pub mod Sources
 pub mod Halts

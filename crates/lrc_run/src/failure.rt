@@ -7,12 +7,14 @@ ghost use Rattle.lrc_node.specs.Logged.{seen_input};
 ghost use Rattle.lrc_threads.specs.Threads.{IsFirstFailure};
 ghost use Rattle.lrc_threads.specs.declared.stop.Stop.TheVariants as stops;
 ghost use Rattle.lrc_weave.specs.declared.fault.WeaveFault.TheVariants as weaving;
+ghost use Rattle.lrc_weave.specs.Logs.{AreLogs};
 ghost use Rattle.lrc_world.specs.Range.{AreSteps};
 ghost use Rattle.lrc_world.specs.Report.{IsWornBy};
-ghost use Rattle.lrc_run.specs.Halts.{AreEventsOf, AreUnmatched, IsHalt, IsLeft, IsPlayedOut, IsUntoldWearing, IsWearing};
+ghost use Rattle.lrc_run.specs.Halts.{AreEventsOf, AreUnmatched, IsHalt, IsLeft, IsPlayedOut, IsUntoldWearing, IsWearing, logs_left};
 ghost use Rattle.lrc_run.specs.Unfinished.{input_of, is_take, next_taken, put_at, unfinished};
 
 use crate::halt::{Halt, Left, WornOut};
+use crate::sent::are_takes_sent;
 use bytes::Bytes;
 use lrc_node::{Entry, Input};
 use lrc_post::{Mailbox, Wire};
@@ -30,6 +32,7 @@ use std::alloc::{AllocError, Global};
 pub(crate) fn halt_at(alloc: Global, setting: &Setting<'_>, left: Left, failure: Failure) -> Halt
     requires range { AreNodes setting.now.nodes × AreSteps setting.now.options.steps }
     requires few { length left.logs.items ≤ 16 }
+    requires turns { AreLogs setting.now.program.now setting.now.nodes setting.now.options (logs_left left) }
     requires first { IsFirstFailure left.stops.items failure }
     ensures { (picker : AnyPicker) → IsLeft setting.now.program.now setting.now.nodes setting.now.options picker left
         → IsHalt setting.now.program.now setting.now.nodes setting.now.options picker result }
@@ -46,6 +49,7 @@ pub(crate) fn halt_at(alloc: Global, setting: &Setting<'_>, left: Left, failure:
 fn worn_out(alloc: Global, setting: &Setting<'_>, left: Left, node: usize) -> Halt
     requires range { AreNodes setting.now.nodes × AreSteps setting.now.options.steps }
     requires few { length left.logs.items ≤ 16 }
+    requires turns { AreLogs setting.now.program.now setting.now.nodes setting.now.options (logs_left left) }
     requires first { IsFirstFailure left.stops.items (record { node = node; stop = stops.Worn }) }
     ensures { (picker : AnyPicker) → IsLeft setting.now.program.now setting.now.nodes setting.now.options picker left
         → IsHalt setting.now.program.now setting.now.nodes setting.now.options picker result }
@@ -63,7 +67,8 @@ fn worn_out(alloc: Global, setting: &Setting<'_>, left: Left, node: usize) -> Ha
     }
 }
 
-// The events at which a node wore out that left these turns. `Mismatch` only where they tell of no such events.
+// The events at which a node wore out that left these turns. `Mismatch` only where a message was taken that none of the turns sent, or
+// they tell of no such events.
 fn wearing(
     alloc: Global,
     setting: &Setting<'_>,
@@ -72,12 +77,16 @@ fn wearing(
     node: usize,
 ) -> Result<Vec<Event>, WeaveFault>
     requires few { length logs.now ≤ 16 }
+    requires turns { AreLogs setting.now.program.now setting.now.nodes setting.now.options (map (λ log. log.items) logs.now) }
     requires range { AreNodes setting.now.nodes × AreSteps setting.now.options.steps }
     ensures worn { IfOk result (λ events. IsWearing setting.now.program.now setting.now.nodes setting.now.options
         (map (λ log. log.items) logs.now) wires.now node events.items) }
     ensures mismatch { result ≡ Err weaving.Mismatch → IsUntoldWearing setting.now.program.now setting.now.nodes setting.now.options
         (map (λ log. log.items) logs.now) wires.now node }
 {
+    if !are_takes_sent(alloc, logs)? {
+        return Err(WeaveFault::Mismatch);
+    }
     let events = events_until(alloc, logs, wires, node)?;
     wears_out(alloc, setting, events.as_slice())?;
     Ok(events)
@@ -87,7 +96,7 @@ fn wearing(
 fn wears_out(alloc: Global, setting: &Setting<'_>, events: &[Event]) -> Result<(), WeaveFault>
     requires range { AreNodes setting.now.nodes × AreSteps setting.now.options.steps }
     ensures worn { OnOk result (IsWornBy setting.now.program.now setting.now.nodes setting.now.options events.now) }
-    ensures few { OnOk result (length events.now < 2 ^ 64) }
+    ensures few { length events.now < 2 ^ 64 }
     ensures mismatch { result ≡ Err weaving.Mismatch
         → IsPlayedOut setting.now.program.now setting.now.nodes setting.now.options events.now }
 {

@@ -6,6 +6,7 @@ mod fault;
 mod halt;
 mod live;
 mod runs;
+mod sent;
 mod told;
 
 pub use fault::RunFault;

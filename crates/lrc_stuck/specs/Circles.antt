@@ -59,9 +59,13 @@ waits_text node = codes " waits for node " ++ decimal node
 unfoldable pub first_text : ℕ → List ℕ
 first_text node = codes "deadlock: node " ++ decimal node
 
+-- a circle in words
+abbrev pub circle_words : (first : ℕ) → List ℕ → List ℕ
+circle_words first way = first_text first ++ flat_map waits_text way ++ waits_text first
+
 -- the line of a circle
 abbrev pub circle_text : (first : ℕ) → List ℕ → List ℕ
-circle_text first way = first_text first ++ flat_map waits_text way ++ waits_text first ++ codes "\n"
+circle_text first way = circle_words first way ++ codes "\n"
 
 abbrev pub circle_if : (first : ℕ) → Option (List ℕ) → List ℕ
 circle_if first None = []

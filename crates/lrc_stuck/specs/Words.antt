@@ -1,9 +1,11 @@
--- What comes next of a node, and how it ended, in words.
+-- What comes next of a node, and how it ended, in words. The labels of words and of locks stand behind their numbers.
 use Rattle.std.specs.Prelude.{ℕ, List, [], ◌∷◌, ◌++◌, Option, Some, None, codes, decimal}
 use Rattle.std.specs.List.{flat_map}
 use Rattle.lrc_trace.specs.declared.act.Cause.{Cause}
 use Rattle.lrc_trace.specs.declared.act.Cause.TheVariants.{DivisionByZero, WordOutOfRange, LockOutOfRange, LockHeld, LockNotHeld}
 use Rattle.lrc_text.specs.ActText.{cause_number}
+use Rattle.lrc_labels.specs.Reading.{Label}
+use Rattle.lrc_labels.specs.Show.{numbered_lock, numbered_word}
 use Rattle.lrc_stuck.specs.declared.holder.Holder.{Holder}
 use Rattle.lrc_stuck.specs.declared.missing.Missing.{Missing}
 use Rattle.lrc_stuck.specs.declared.stand.Coming.{Coming}
@@ -38,8 +40,8 @@ abbrev pub holder_words : Option Holder → List ℕ
 holder_words None = codes ", held by nobody"
 holder_words (Some holder) = held_words holder
 
-abbrev pub acquire_words : ℕ → Option Holder → List ℕ
-acquire_words lock holder = codes "acquire " ++ decimal lock ++ holder_words holder
+abbrev pub acquire_words : List Label → ℕ → Option Holder → List ℕ
+acquire_words labels lock holder = numbered_lock labels (codes "acquire ") lock ++ holder_words holder
 
 -- what is said of a node that has not come to a barrier, as it ended
 abbrev pub fate_mark : Fate → List ℕ
@@ -59,14 +61,14 @@ barrier_words [] = codes ", reached by all others"
 barrier_words (first ∷ others) = codes ", without " ++ missing_words first ++ others_words others
 
 -- what comes next of node `me`
-abbrev pub coming_words : List Stand → (me : ℕ) → Coming → List ℕ
-coming_words stands me StepsUsedUp = codes "steps used up"
-coming_words stands me (Trap cause) = trap_words cause
-coming_words stands me (Acquire lock holder) = acquire_words lock holder
-coming_words stands me (Barrier number) = codes "barrier " ++ decimal number ++ barrier_words (missing_nodes number me stands)
-coming_words stands me (Read word) = codes "read of word " ++ decimal word
-coming_words stands me (Write word) = codes "write of word " ++ decimal word
-coming_words stands me Print = codes "print"
-coming_words stands me (Release lock) = codes "release " ++ decimal lock
-coming_words stands me Quiet = codes "assignment or condition"
-coming_words stands me End = codes "end"
+abbrev pub coming_words : List Label → List Stand → (me : ℕ) → Coming → List ℕ
+coming_words labels stands me StepsUsedUp = codes "steps used up"
+coming_words labels stands me (Trap cause) = trap_words cause
+coming_words labels stands me (Acquire lock holder) = acquire_words labels lock holder
+coming_words labels stands me (Barrier number) = codes "barrier " ++ decimal number ++ barrier_words (missing_nodes number me stands)
+coming_words labels stands me (Read word) = numbered_word labels (codes "read of word ") word
+coming_words labels stands me (Write word) = numbered_word labels (codes "write of word ") word
+coming_words labels stands me Print = codes "print"
+coming_words labels stands me (Release lock) = numbered_lock labels (codes "release ") lock
+coming_words labels stands me Quiet = codes "assignment or condition"
+coming_words labels stands me End = codes "end"

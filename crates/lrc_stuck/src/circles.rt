@@ -3,7 +3,8 @@
 ghost use Rattle.std.specs.Prelude.{◌≡◌, ◌++◌, None, option_map, slice_index_or, IfOk, OnErr, OnOk};
 ghost use Rattle.std.specs.List.{flat_map};
 ghost use Rattle.lrc_text.specs.Front.{BeginsWith};
-ghost use Rattle.lrc_stuck.specs.Circles.{circle_if, circle_of, circle_text, circles_text, deadlocks_text, first_text, waits_by, waits_next, waits_of, waits_text};
+ghost use Rattle.lrc_stuck.specs.Circles.{circle_if, circle_of, circle_text, circle_words, circles_text, deadlocks_text};
+ghost use Rattle.lrc_stuck.specs.Circles.{first_text, waits_by, waits_next, waits_of, waits_text};
 
 use crate::missing::{first_of, missing_nodes};
 use crate::stand::{Coming, Fate, Stand};
@@ -45,8 +46,8 @@ fn waits_next(
     }
 }
 
-// For whom each node waits.
-fn waits_of(alloc: Global, stands: &[Stand]) -> Result<Vec<Option<usize>>, AllocError>
+/// For whom each node waits.
+pub fn waits_of(alloc: Global, stands: &[Stand]) -> Result<Vec<Option<usize>>, AllocError>
     ensures { IfOk result (λ waits. waits.items ≡ waits_of stands.now) }
 {
     let mut waits = Vec::new(alloc);
@@ -68,8 +69,8 @@ fn waits_at(waits: &[Option<usize>], node: usize) -> Option<usize>
     }
 }
 
-// The nodes behind the first along which waiting leads from it back to it, where it is the lowest of them.
-fn circle_of(
+/// The nodes behind the first along which waiting leads from it back to it, where it is the lowest of them.
+pub fn circle_of(
     alloc: Global,
     waits: &[Option<usize>],
     first: usize,
@@ -118,14 +119,22 @@ fn push_first(text: &mut Vec<u8>, first: usize) -> Result<(), AllocError>
     push_number(text, b"deadlock: node ", first as u64)
 }
 
-// Adds the line of a circle.
-fn push_circle(text: &mut Vec<u8>, first: usize, way: &[usize]) -> Result<(), AllocError>
-    ensures ok { OnOk result (text.new.items ≡ text.old.items ++ circle_text first way.now) }
+/// Adds a circle in words: the first node, and those behind it.
+pub fn push_circle(text: &mut Vec<u8>, first: usize, way: &[usize]) -> Result<(), AllocError>
+    ensures ok { OnOk result (text.new.items ≡ text.old.items ++ circle_words first way.now) }
     ensures err { OnErr result (BeginsWith text.new.items text.old.items) }
 {
     push_first(text, first)?;
     push_way(text, way)?;
-    push_wait(text, first)?;
+    push_wait(text, first)
+}
+
+// Adds the line of a circle.
+fn push_circle_line(text: &mut Vec<u8>, first: usize, way: &[usize]) -> Result<(), AllocError>
+    ensures ok { OnOk result (text.new.items ≡ text.old.items ++ circle_text first way.now) }
+    ensures err { OnErr result (BeginsWith text.new.items text.old.items) }
+{
+    push_circle(text, first, way)?;
     text.extend_from_slice(b"\n")
 }
 
@@ -139,7 +148,7 @@ fn push_circle_if(
     ensures err { OnErr result (BeginsWith text.new.items text.old.items) }
 {
     match circle {
-        Some(way) => push_circle(text, first, way),
+        Some(way) => push_circle_line(text, first, way),
         None => Ok(()),
     }
 }

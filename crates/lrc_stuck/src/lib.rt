@@ -10,7 +10,7 @@ mod stand;
 mod stuck;
 mod words;
 
-pub use circles::push_deadlocks;
+pub use circles::{circle_of, push_circle, push_deadlocks, waits_of};
 pub use holder::Holder;
 pub use stand::{Coming, Fate, Stand, stands_of};
 pub use stuck::{push_end, stuck_part};

@@ -1,7 +1,8 @@
 // How nodes ended and why, in words.
 
-ghost use Rattle.std.specs.Prelude.{◌≡◌, ◌++◌, IfOk, OnErr, OnOk, codes, decimal};
+ghost use Rattle.std.specs.Prelude.{◌≡◌, ◌++◌, IfOk, OnErr, OnOk, codes, decimal, map};
 ghost use Rattle.lrc_text.specs.Front.{BeginsWith};
+ghost use Rattle.lrc_labels.specs.Reading.{label_seen};
 ghost use Rattle.lrc_stuck.specs.Stand.{stands_of};
 ghost use Rattle.lrc_stuck.specs.Stuck.{end_text, fate_words, reason_text, stuck_line, stuck_lines, stuck_text};
 ghost use Rattle.lrc_stuck.specs.Words.{cause_words, coming_words};
@@ -10,6 +11,7 @@ use crate::circles::push_deadlocks;
 use crate::stand::{Fate, Stand, stands_of};
 use crate::words::{push_coming, words_of};
 use lrc_exec::code::Code;
+use lrc_labels::label::Label;
 use lrc_lines::walks::follow_acts;
 use lrc_text::push_number;
 use lrc_trace::act::{Act, Cause};
@@ -54,16 +56,17 @@ fn push_trapped(text: &mut Vec<u8>, line: u32, cause: Cause) -> Result<(), Alloc
 fn push_next(
     alloc: Global,
     text: &mut Vec<u8>,
+    labels: &[Label<'_>],
     stands: &[Stand],
     me: usize,
     stand: Stand,
 ) -> Result<(), AllocError>
     ensures ok { OnOk result (text.new.items ≡ text.old.items
-        ++ (codes "  next, line " ++ decimal stand.line ++ codes ": " ++ coming_words stands.now me stand.coming ++ codes "\n")) }
+        ++ (codes "  next, line " ++ decimal stand.line ++ codes ": " ++ coming_words (map label_seen labels.now) stands.now me stand.coming ++ codes "\n")) }
     ensures err { OnErr result (BeginsWith text.new.items text.old.items) }
 {
     push_line(text, b"  next, line ", stand.line)?;
-    push_coming(alloc, text, stands, me, stand.coming)?;
+    push_coming(alloc, text, labels, stands, me, stand.coming)?;
     text.extend_from_slice(b"\n")
 }
 
@@ -71,77 +74,82 @@ fn push_next(
 fn push_reason(
     alloc: Global,
     text: &mut Vec<u8>,
+    labels: &[Label<'_>],
     stands: &[Stand],
     me: usize,
     stand: Stand,
 ) -> Result<(), AllocError>
-    ensures ok { OnOk result (text.new.items ≡ text.old.items ++ reason_text stands.now me stand) }
+    ensures ok { OnOk result (text.new.items ≡ text.old.items ++ reason_text (map label_seen labels.now) stands.now me stand) }
     ensures err { OnErr result (BeginsWith text.new.items text.old.items) }
 {
     match stand.fate {
         Fate::Ended => Ok(()),
         Fate::Trapped(cause) => push_trapped(text, stand.line, cause),
-        Fate::Unfinished => push_next(alloc, text, stands, me, stand),
+        Fate::Unfinished => push_next(alloc, text, labels, stands, me, stand),
     }
 }
 
-/// Adds how node `me` ended, and why.
+/// Adds how node `me` ended, and why, with the labels of words and of locks.
 pub fn push_end(
     alloc: Global,
     text: &mut Vec<u8>,
+    labels: &[Label<'_>],
     stands: &[Stand],
     me: usize,
     stand: Stand,
 ) -> Result<(), AllocError>
-    ensures ok { OnOk result (text.new.items ≡ text.old.items ++ end_text stands.now me stand) }
+    ensures ok { OnOk result (text.new.items ≡ text.old.items ++ end_text (map label_seen labels.now) stands.now me stand) }
     ensures err { OnErr result (BeginsWith text.new.items text.old.items) }
 {
     push_number(text, b"node ", me as u64)?;
     push_fate(text, stand.fate)?;
-    push_reason(alloc, text, stands, me, stand)
+    push_reason(alloc, text, labels, stands, me, stand)
 }
 
 // Adds the two lines of a node that is unfinished.
 fn push_stuck(
     alloc: Global,
     text: &mut Vec<u8>,
+    labels: &[Label<'_>],
     stands: &[Stand],
     me: usize,
     stand: Stand,
 ) -> Result<(), AllocError>
-    ensures { OnOk result (text.new.items ≡ text.old.items ++ stuck_line stands.now me stand) }
+    ensures { OnOk result (text.new.items ≡ text.old.items ++ stuck_line (map label_seen labels.now) stands.now me stand) }
 {
     match stand.fate {
-        Fate::Unfinished => push_end(alloc, text, stands, me, stand),
+        Fate::Unfinished => push_end(alloc, text, labels, stands, me, stand),
         _ => Ok(()),
     }
 }
 
-fn stuck_lines(alloc: Global, stands: &[Stand]) -> Result<Vec<u8>, AllocError>
-    ensures { IfOk result (λ part. part.items ≡ stuck_lines stands.now) }
+fn stuck_lines(alloc: Global, labels: &[Label<'_>], stands: &[Stand]) -> Result<Vec<u8>, AllocError>
+    ensures { IfOk result (λ part. part.items ≡ stuck_lines (map label_seen labels.now) stands.now) }
 {
     let mut text = Vec::new(alloc);
     for me in 0..stands.len() {
-        push_stuck(alloc, &mut text, stands, me, stands[me])?;
+        push_stuck(alloc, &mut text, labels, stands, me, stands[me])?;
     }
     Ok(text)
 }
 
 /// What is printed of the nodes that are unfinished after acts: of each two lines, and then a line for each circle of waiting. The
-/// program's statements, and the text's end behind them, have these lines; a node has so many steps, where that is given.
+/// program's statements, and the text's end behind them, have these lines; a node has so many steps, where that is given. The labels of
+/// words and of locks stand behind their numbers.
 pub fn stuck_part(
     alloc: Global,
+    labels: &[Label<'_>],
     code: &Code<'_>,
     lines: &[u32],
     nodes: u8,
     steps: Option<u32>,
     acts: &[Act],
 ) -> Result<Vec<u8>, AllocError>
-    ensures { IfOk result (λ part. part.items ≡ stuck_text (stands_of code.now nodes lines.now steps acts.now)) }
+    ensures { IfOk result (λ part. part.items ≡ stuck_text (map label_seen labels.now) (stands_of code.now nodes lines.now steps acts.now)) }
 {
     let followed = follow_acts(alloc, code, lines, nodes, acts)?;
     let stands = stands_of(alloc, &followed, nodes, steps, acts)?;
-    let mut text = stuck_lines(alloc, &stands)?;
+    let mut text = stuck_lines(alloc, labels, &stands)?;
     push_deadlocks(alloc, &mut text, &stands)?;
     Ok(text)
 }

@@ -1,12 +1,15 @@
 // What comes next of a node, in words.
 
-ghost use Rattle.std.specs.Prelude.{◌≡◌, ◌∷◌, ◌++◌, OnErr, OnOk, codes};
+ghost use Rattle.std.specs.Prelude.{◌≡◌, ◌∷◌, ◌++◌, OnErr, OnOk, codes, map};
 ghost use Rattle.lrc_text.specs.Front.{BeginsWith};
+ghost use Rattle.lrc_labels.specs.Reading.{label_seen};
 ghost use Rattle.lrc_stuck.specs.Words.{acquire_words, barrier_words, by_words, cause_words, coming_words, fate_mark, held_words, holder_words, missing_words, others_words, since_words, trap_words};
 
 use crate::holder::Holder;
 use crate::missing::{Missing, missing_nodes};
 use crate::stand::{Coming, Fate, Stand};
+use lrc_labels::label::Label;
+use lrc_labels::{push_numbered_lock, push_numbered_word};
 use lrc_text::push_number;
 use lrc_trace::act::Cause;
 use std::alloc::{AllocError, Global};
@@ -72,11 +75,16 @@ fn push_holder(text: &mut Vec<u8>, holder: Option<Holder>) -> Result<(), AllocEr
     }
 }
 
-fn push_acquire(text: &mut Vec<u8>, lock: u8, holder: Option<Holder>) -> Result<(), AllocError>
-    ensures ok { OnOk result (text.new.items ≡ text.old.items ++ acquire_words lock holder) }
+fn push_acquire(
+    text: &mut Vec<u8>,
+    labels: &[Label<'_>],
+    lock: u8,
+    holder: Option<Holder>,
+) -> Result<(), AllocError>
+    ensures ok { OnOk result (text.new.items ≡ text.old.items ++ acquire_words (map label_seen labels.now) lock holder) }
     ensures err { OnErr result (BeginsWith text.new.items text.old.items) }
 {
-    push_number(text, b"acquire ", u64::from(lock))?;
+    push_numbered_lock(text, labels, b"acquire ", lock)?;
     push_holder(text, holder)
 }
 
@@ -132,26 +140,27 @@ fn push_barrier(text: &mut Vec<u8>, missing: &[Missing]) -> Result<(), AllocErro
 pub(crate) fn push_coming(
     alloc: Global,
     text: &mut Vec<u8>,
+    labels: &[Label<'_>],
     stands: &[Stand],
     me: usize,
     coming: Coming,
 ) -> Result<(), AllocError>
-    ensures ok { OnOk result (text.new.items ≡ text.old.items ++ coming_words stands.now me coming) }
+    ensures ok { OnOk result (text.new.items ≡ text.old.items ++ coming_words (map label_seen labels.now) stands.now me coming) }
     ensures err { OnErr result (BeginsWith text.new.items text.old.items) }
 {
     match coming {
         Coming::StepsUsedUp => text.extend_from_slice(b"steps used up"),
         Coming::Trap(cause) => push_trap(text, cause),
-        Coming::Acquire(lock, holder) => push_acquire(text, lock, holder),
+        Coming::Acquire(lock, holder) => push_acquire(text, labels, lock, holder),
         Coming::Barrier(number) => {
             let missing = missing_nodes(alloc, number, me, stands)?;
             push_number(text, b"barrier ", number as u64)?;
             push_barrier(text, &missing)
         }
-        Coming::Read(word) => push_number(text, b"read of word ", u64::from(word)),
-        Coming::Write(word) => push_number(text, b"write of word ", u64::from(word)),
+        Coming::Read(word) => push_numbered_word(text, labels, b"read of word ", word),
+        Coming::Write(word) => push_numbered_word(text, labels, b"write of word ", word),
         Coming::Print => text.extend_from_slice(b"print"),
-        Coming::Release(lock) => push_number(text, b"release ", u64::from(lock)),
+        Coming::Release(lock) => push_numbered_lock(text, labels, b"release ", lock),
         Coming::Quiet => text.extend_from_slice(b"assignment or condition"),
         Coming::End => text.extend_from_slice(b"end"),
     }

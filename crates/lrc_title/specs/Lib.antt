@@ -1,1 +1,2 @@
+pub mod Word
 pub mod Title

@@ -2,5 +2,6 @@
 #![tactic(auto)]
 
 mod title;
+mod word;
 
-pub use title::title_of;
+pub use title::{title_of, title_of_acts};

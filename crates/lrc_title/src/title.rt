@@ -1,9 +1,11 @@
 // The title of a chart.
 
-ghost use Rattle.std.specs.Prelude.{◌≡◌, ◌++◌, IfOk, OnOk};
-ghost use Rattle.lrc_title.specs.Title.{charting_text, option_text, options_text, page_size_text, picker_text, some_option_text, title_text, way_text};
+ghost use Rattle.std.specs.Prelude.{◌≡◌, ◌++◌, [], IfOk, OnOk, codes, if◌then◌else◌, option_map};
+ghost use Rattle.lrc_title.specs.Title.{charting_text, option_text, options_text, page_size_text, picker_text, some_option_text};
+ghost use Rattle.lrc_title.specs.Title.{title_text, title_text_of_acts, way_text};
 
-use lrc_args::choice::{Charting, RunChoice, RunOptions, Way};
+use crate::word::push_word;
+use lrc_args::choice::{ChartedActs, Charting, Nodes, RunChoice, RunOptions, Way};
 use lrc_envelope::Picker;
 use lrc_page::Size;
 use lrc_text::push_number;
@@ -17,8 +19,8 @@ const DEFAULT_COLLECT: u64 = 0;
 
 const DEFAULT_SEED: u64 = 0;
 
-/// The title of a chart of a run: a command line that makes it, where its file's name has no blank and begins with no `-`. A chart
-/// for a terminal has the same title as the document.
+/// The title of a chart of a run: a command line for a shell that makes it, where its file's name begins with no `-`. A chart for a
+/// terminal has the same title as the document.
 pub fn title_of(
     alloc: Global,
     run: &RunChoice<'_>,
@@ -30,16 +32,62 @@ pub fn title_of(
     title.extend_from_slice(b"treadmarks chart ")?;
     push_options(&mut title, &run.options)?;
     push_way(&mut title, &run.way)?;
-    push_some_number(&mut title, b" --from ", charting.from)?;
-    push_some_number(&mut title, b" --to ", charting.to)?;
+    push_charting(&mut title, charting)?;
     Ok(title)
+}
+
+/// The title of a chart of acts from anywhere: a command line for a shell that makes it, where its file's name begins with no `-`.
+pub fn title_of_acts(
+    alloc: Global,
+    acts: &ChartedActs<'_>,
+    charting: &Charting,
+) -> Result<Vec<u8>, AllocError>
+    ensures { IfOk result (λ title. title.items ≡ title_text_of_acts acts.now charting.now) }
+{
+    let mut title = Vec::new(alloc);
+    title.extend_from_slice(b"treadmarks chart --acts ")?;
+    push_word(&mut title, acts.file.as_bytes())?;
+    push_some_nodes(&mut title, acts.nodes)?;
+    push_charting(&mut title, charting)?;
+    Ok(title)
+}
+
+// Adds the number of nodes, where it is given.
+fn push_some_nodes(text: &mut Vec<u8>, nodes: Option<Nodes>) -> Result<(), AllocError>
+    ensures { OnOk result (text.new.items ≡ text.old.items
+        ++ some_option_text (codes " --nodes ") (option_map (λ nodes. nodes.count) nodes)) }
+{
+    match nodes {
+        Some(nodes) => push_number(text, b" --nodes ", u64::from(nodes.count)),
+        None => Ok(()),
+    }
+}
+
+// Adds the options that say what of it is shown.
+fn push_charting(text: &mut Vec<u8>, charting: &Charting) -> Result<(), AllocError>
+    ensures { OnOk result (text.new.items ≡ text.old.items ++ charting_text charting.now) }
+{
+    push_some_number(text, b" --from ", charting.from)?;
+    push_some_number(text, b" --to ", charting.to)?;
+    push_if(text, b" --hide quiet", charting.hides_quiet)?;
+    push_if(text, b" --source", charting.source)
+}
+
+// Adds an option, where it is asked for.
+fn push_if(text: &mut Vec<u8>, option: &[u8], is_asked: bool) -> Result<(), AllocError>
+    ensures { OnOk result (text.new.items ≡ text.old.items ++ (if is_asked then option.now else [])) }
+{
+    if is_asked {
+        text.extend_from_slice(option)?;
+    }
+    Ok(())
 }
 
 // Adds the file, and the options that all runs have in common.
 fn push_options(text: &mut Vec<u8>, options: &RunOptions<'_>) -> Result<(), AllocError>
     ensures { OnOk result (text.new.items ≡ text.old.items ++ options_text options.now) }
 {
-    text.extend_from_slice(options.file.as_bytes())?;
+    push_word(text, options.file.as_bytes())?;
     push_unless(
         text,
         b" --nodes ",
@@ -77,7 +125,7 @@ fn push_way(text: &mut Vec<u8>, way: &Way<'_>) -> Result<(), AllocError>
     match *way {
         Way::Events(path) => {
             text.extend_from_slice(b" --events ")?;
-            text.extend_from_slice(path.as_bytes())
+            push_word(text, path.as_bytes())
         }
         Way::Rounds(picker) => push_order(text, picker),
         Way::Random(seed) => push_random(text, seed),

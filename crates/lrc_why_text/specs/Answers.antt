@@ -14,15 +14,15 @@ use Rattle.lrc_why.specs.Whole.{AreReasons, IsRelation}
 use Rattle.lrc_why_text.specs.declared.fault.WhyFault.{WhyFault}
 use Rattle.lrc_why_text.specs.declared.fault.WhyFault.TheVariants.{BadAct, NoAct, NoMemory, TooLong}
 use Rattle.lrc_why_text.specs.declared.asked.Asked.{Asked}
-use Rattle.lrc_why_text.specs.declared.shown.Shown.{Shown}
+use Rattle.lrc_why_lines.specs.declared.shown.Shown.{Shown}
 use Rattle.lrc_labels.specs.declared.cut.Divider.TheVariants.{LineFeed}
 use Rattle.lrc_labels.specs.Cut.{cut, divides}
-use Rattle.lrc_why_text.specs.Named.{AreLinesTold}
+use Rattle.lrc_told_lines.specs.Named.{AreLinesTold}
 use Rattle.lrc_why_text.specs.Knowing.{all_news_text, interval_text}
 use Rattle.lrc_why_text.specs.Learning.{forward_text}
-use Rattle.lrc_why_text.specs.Ordered.{relation_text}
-use Rattle.lrc_why_text.specs.Places.{act_shown, act_text}
-use Rattle.lrc_why_text.specs.Racing.{opponents_text}
+use Rattle.lrc_why_lines.specs.Ordered.{relation_text}
+use Rattle.lrc_why_lines.specs.Places.{act_shown, act_text}
+use Rattle.lrc_why_lines.specs.Racing.{opponents_text}
 use Rattle.lrc_why_text.specs.Told.{about_text}
 
 -- the line of an act

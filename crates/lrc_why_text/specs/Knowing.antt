@@ -7,10 +7,10 @@ use Rattle.lrc_trace.specs.Interval.{closes}
 use Rattle.lrc_text.specs.Each.{each}
 use Rattle.lrc_why.specs.declared.reasons.Brought.{Brought}
 use Rattle.lrc_why.specs.declared.reasons.News.{News}
-use Rattle.lrc_why_text.specs.declared.shown.Shown.{Shown}
-use Rattle.lrc_why_text.specs.Lists.{nodes_line, time_text}
-use Rattle.lrc_why_text.specs.Pages.{pages_text}
-use Rattle.lrc_why_text.specs.Places.{act_shown, chain_text, interval_shown, labels_shown, since_text}
+use Rattle.lrc_why_lines.specs.declared.shown.Shown.{Shown}
+use Rattle.lrc_why_lines.specs.Lists.{nodes_line, time_text}
+use Rattle.lrc_why_lines.specs.Pages.{pages_text}
+use Rattle.lrc_why_lines.specs.Places.{act_shown, chain_text, interval_shown, labels_shown, since_text}
 
 unfoldable pub closed_text : Bool → List ℕ
 closed_text true = codes ", closed by this act, time "

@@ -5,9 +5,9 @@ use Rattle.lrc_why.specs.declared.reasons.Forward.{Forward}
 use Rattle.lrc_why.specs.declared.reasons.Forward.TheVariants.{Unsaid, Nobody, Others}
 use Rattle.lrc_why.specs.declared.reasons.Since.{Since}
 use Rattle.lrc_why.specs.declared.reasons.Spread.{Spread}
-use Rattle.lrc_why_text.specs.declared.shown.Shown.{Shown}
-use Rattle.lrc_why_text.specs.Lists.{nodes_line}
-use Rattle.lrc_why_text.specs.Places.{act_shown, chain_text, there_text}
+use Rattle.lrc_why_lines.specs.declared.shown.Shown.{Shown}
+use Rattle.lrc_why_lines.specs.Lists.{nodes_line}
+use Rattle.lrc_why_lines.specs.Places.{act_shown, chain_text, there_text}
 
 unfoldable pub nobody_line : ℕ → List ℕ
 nobody_line node =

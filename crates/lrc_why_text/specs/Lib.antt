@@ -1,12 +1,5 @@
-pub mod Deeds
-pub mod Lists
-pub mod Places
-pub mod Pages
 pub mod Told
-pub mod Racing
 pub mod Knowing
 pub mod Learning
-pub mod Ordered
-pub mod Named
 pub mod Faults
 pub mod Answers

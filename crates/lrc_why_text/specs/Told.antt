@@ -13,10 +13,10 @@ use Rattle.lrc_why.specs.declared.reasons.Several.{Several}
 use Rattle.lrc_why.specs.declared.reasons.Since.{Since}
 use Rattle.lrc_why.specs.declared.reasons.Source.{Source}
 use Rattle.lrc_why.specs.declared.reasons.Source.TheVariants as sources
-use Rattle.lrc_why_text.specs.declared.shown.Shown.{Shown}
-use Rattle.lrc_why_text.specs.Deeds.{lock_text, word_text}
-use Rattle.lrc_why_text.specs.Lists.{some_text}
-use Rattle.lrc_why_text.specs.Places.{act_shown, act_text, labels_shown, since_text}
+use Rattle.lrc_why_lines.specs.declared.shown.Shown.{Shown}
+use Rattle.lrc_why_lines.specs.Deeds.{lock_text, word_text}
+use Rattle.lrc_why_lines.specs.Lists.{some_text}
+use Rattle.lrc_why_lines.specs.Places.{act_shown, act_text, labels_shown, since_text}
 
 -- the cause of a trap
 unfoldable pub cause_line : Cause → List ℕ

@@ -3,15 +3,15 @@
 ghost use Rattle.std.specs.Prelude.{◌≡◌, ◌++◌, OnOk};
 ghost use Rattle.lrc_why_text.specs.Told.{about_text, barrier_line, cause_line, crossing_text, follows_text, gift_line, gift_text, given_text, gives_text, known_since_text, last_line, last_lines, last_text, lock_of, several_text, source_lines, source_text, unknown_text, unwritten_text, value_of};
 
-use crate::deed::{push_lock, push_word};
-use crate::lists::push_some;
-use crate::look::act_at;
-use crate::places::{push_act, push_since};
-use crate::shown::Shown;
 use lrc_judge::races::word_of;
 use lrc_text::push_number;
 use lrc_trace::act::{Cause, Deed};
 use lrc_why::reasons::{About, Gift, Several, Since, Source};
+use lrc_why_lines::deed::{push_lock, push_word};
+use lrc_why_lines::lists::push_some;
+use lrc_why_lines::look::act_at;
+use lrc_why_lines::places::{push_act, push_since};
+use lrc_why_lines::shown::Shown;
 use std::alloc::AllocError;
 
 #[tactic(auto, unfolding(crate::specs::Told::cause_line))]

@@ -4,25 +4,25 @@ ghost use Rattle.std.specs.Prelude.{◌≡◌, ◌≢◌, ◌<◌, ◌≤◌, []
 ghost use Rattle.lrc_page.specs.Page.{words_of};
 ghost use Rattle.lrc_judge.specs.declared.TheConstants.{NODES};
 ghost use Rattle.lrc_text.specs.Parts.{whole_text};
-ghost use Rattle.lrc_why_text.specs.declared.shown.Shown.{Shown as AnyShown};
+ghost use Rattle.lrc_why_lines.specs.declared.shown.Shown.{Shown as AnyShown};
 ghost use Rattle.lrc_why_text.specs.Answers.{AnswersActs, IsMissing, IsShownPlainly, IsThere, RefusesActs, TellsOf};
 
 use crate::asked::Asked;
 use crate::fault::WhyFault;
-use crate::named::act_lines;
-use crate::shown::Shown;
 use crate::whole::why_part;
 use lrc_acts::reading::acts_of;
 use lrc_judge::intervals_of;
 use lrc_judge::order::happens_before;
 use lrc_labels::label::Label;
 use lrc_page::Size;
+use lrc_told_lines::act_lines;
 use lrc_trace::act::Act;
 use lrc_verdict::judge::nodes_of;
+use lrc_why_lines::shown::Shown;
 use std::alloc::{AllocError, Global};
 
-// The first position that is asked of and past the last act.
-fn missing(asked: Asked, count: usize) -> Option<usize>
+/// The first position that is asked of and past the last act.
+pub fn missing(asked: Asked, count: usize) -> Option<usize>
     ensures { MatchOption result (IsThere asked.act asked.and count) (IsMissing asked.act asked.and count) }
 {
     if asked.act >= count {

@@ -3,12 +3,12 @@
 ghost use Rattle.std.specs.Prelude.{◌≡◌, ◌++◌, OnOk};
 ghost use Rattle.lrc_why_text.specs.Learning.{forward_text, from_line, learner_line, learner_text, learners_text, nobody_line, spread_text, telling_line};
 
-use crate::lists::push_nodes_line;
-use crate::look::node_at;
-use crate::places::{push_chain, push_there};
-use crate::shown::Shown;
 use lrc_text::push_number;
 use lrc_why::reasons::{Forward, Since, Spread};
+use lrc_why_lines::lists::push_nodes_line;
+use lrc_why_lines::look::node_at;
+use lrc_why_lines::places::{push_chain, push_there};
+use lrc_why_lines::shown::Shown;
 use std::alloc::AllocError;
 
 #[tactic(auto, unfolding(crate::specs::Learning::nobody_line))]

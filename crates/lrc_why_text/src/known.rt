@@ -5,14 +5,14 @@ ghost use Rattle.std.specs.List.{list_any};
 ghost use Rattle.lrc_trace.specs.Interval.{closes};
 ghost use Rattle.lrc_why_text.specs.Knowing.{all_news_text, already_line, brings, closed_text, first_interval, interval_line, interval_text, learned_line, learned_text, may_bring, news_lines, news_text, nothing_line, span_text, told_text};
 
-use crate::lists::{push_joined, push_nodes_line};
-use crate::look::{act_at, interval_at, node_at};
-use crate::pages::push_pages;
-use crate::places::{push_chain, push_since};
-use crate::shown::Shown;
 use lrc_text::push_number;
 use lrc_trace::act::Deed;
 use lrc_why::reasons::{Brought, News};
+use lrc_why_lines::lists::{push_joined, push_nodes_line};
+use lrc_why_lines::look::{act_at, interval_at, node_at};
+use lrc_why_lines::pages::push_pages;
+use lrc_why_lines::places::{push_chain, push_since};
+use lrc_why_lines::shown::Shown;
 use std::alloc::AllocError;
 
 fn closes(deed: Deed) -> bool

@@ -4,16 +4,7 @@
 mod about;
 pub mod acts;
 pub mod asked;
-mod deed;
 pub mod fault;
 mod forward;
 mod known;
-mod lists;
-mod look;
-mod named;
-mod opponents;
-mod pages;
-mod places;
-mod relation;
-mod shown;
-mod whole;
+pub mod whole;

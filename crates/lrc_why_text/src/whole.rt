@@ -10,14 +10,14 @@ use crate::about::push_about;
 use crate::asked::Asked;
 use crate::forward::push_forward;
 use crate::known::{push_all_news, push_interval};
-use crate::look::act_at;
-use crate::opponents::push_opponents;
-use crate::places::push_act;
-use crate::relation::push_relation;
-use crate::shown::Shown;
 use lrc_judge::order::Order;
 use lrc_why::reasons::Reasons;
 use lrc_why::whole::{reasons, relation};
+use lrc_why_lines::look::act_at;
+use lrc_why_lines::opponents::push_opponents;
+use lrc_why_lines::places::push_act;
+use lrc_why_lines::relation::push_relation;
+use lrc_why_lines::shown::Shown;
 use std::alloc::{AllocError, Global};
 
 #[tactic(auto, unfolding(crate::specs::Answers::act_line))]
@@ -95,7 +95,7 @@ pub(crate) fn relation_part(
 }
 
 /// What is printed of the acts that are asked of.
-pub(crate) fn why_part(
+pub fn why_part(
     alloc: Global,
     shown: Shown<'_>,
     order: &Order,

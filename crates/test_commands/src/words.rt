@@ -2,8 +2,8 @@
 
 use crate::checks::passes;
 use lrc_args::choice::{
-    Asking, Charting, Choice, ChooseFault, Exploring, ForeignActs, Form, Judging, PlainRun, Racing,
-    Request, RunOptions, Shape, Topic, TraceForm, Way,
+    Asking, ChartedActs, Charting, Choice, ChooseFault, Exploring, ForeignActs, Form, Judging,
+    PlainRun, Racing, Request, RunOptions, Shape, Topic, TraceForm, Way,
 };
 use lrc_args::choose;
 use lrc_envelope::Picker;
@@ -32,6 +32,8 @@ enum Wanted {
     Why(Run, u64, Option<u64>),
     /// The same of acts from a file, of so many nodes, with pages of this size.
     WhyActs(&'static str, Option<u32>, Size, u64, Option<u64>),
+    /// A chart of acts from a file, of so many nodes.
+    ChartActs(&'static str, Option<u32>, Charting),
     Check(&'static str),
     /// With so many nodes and steps.
     Plain(&'static str, u32, u32),
@@ -79,7 +81,11 @@ fn is_same_form(made: Form, wanted: Form) -> bool {
 }
 
 fn is_same_charting(made: Charting, wanted: Charting) -> bool {
-    made.text == wanted.text && made.from == wanted.from && made.to == wanted.to
+    made.text == wanted.text
+        && made.from == wanted.from
+        && made.to == wanted.to
+        && made.hides_quiet == wanted.hides_quiet
+        && made.source == wanted.source
 }
 
 fn is_same_shape(made: Shape, wanted: Shape) -> bool {
@@ -113,13 +119,17 @@ fn is_foreign(made: &ForeignActs<'_>, file: &str, nodes: Option<u32>, size: Size
     made.file == file && made.nodes.map(|nodes| nodes.count) == nodes && made.size == size
 }
 
+fn are_charted(made: &ChartedActs<'_>, file: &str, nodes: Option<u32>) -> bool {
+    made.file == file && made.nodes.map(|nodes| nodes.count) == nodes
+}
+
 fn is_racing(made: &Racing<'_>, file: &str, acts: bool, group: bool) -> bool {
     made.file == file && matches!(made.form, TraceForm::Acts) == acts && made.group == group
 }
 
 fn is_wanted_why(made: &Choice<'_>, wanted: &Wanted) -> bool {
     match (made, wanted) {
-        (Choice::Why(made, asking), Wanted::Why(run, act, other)) => {
+        (Choice::Show(made, Shape::Why(asking)), Wanted::Why(run, act, other)) => {
             are_options(&made.options, run)
                 && is_same_way(made.way, run.way)
                 && is_asking(*asking, *act, *other)
@@ -134,7 +144,10 @@ fn is_wanted_why(made: &Choice<'_>, wanted: &Wanted) -> bool {
 fn is_wanted(made: &Choice<'_>, wanted: &Wanted) -> bool {
     match (made, wanted) {
         (Choice::Lint(made), Wanted::Lint(file)) => made == file,
-        (Choice::Why(..) | Choice::WhyActs(..), _) => is_wanted_why(made, wanted),
+        (Choice::Show(_, Shape::Why(_)) | Choice::WhyActs(..), _) => is_wanted_why(made, wanted),
+        (Choice::ChartActs(made, charting), Wanted::ChartActs(file, nodes, wanted)) => {
+            are_charted(made, file, *nodes) && is_same_charting(*charting, *wanted)
+        }
         (Choice::Check(made), Wanted::Check(file)) => made == file,
         (Choice::Plain(made), Wanted::Plain(file, nodes, steps)) => {
             is_plain(made, file, *nodes, *steps)
@@ -239,6 +252,8 @@ const WHOLE_CHART: Charting = Charting {
     text: false,
     from: None,
     to: None,
+    hides_quiet: false,
+    source: false,
 };
 
 const CHOICES: &[Row] = &[
@@ -419,6 +434,7 @@ const CHOICES: &[Row] = &[
                 text: true,
                 from: Some(0),
                 to: Some(5),
+                ..WHOLE_CHART
             }),
             ..A_RUN
         }),
@@ -450,6 +466,7 @@ const CHOICES: &[Row] = &[
                 text: true,
                 from: Some(3),
                 to: Some(2),
+                ..WHOLE_CHART
             }),
             ..A_RUN
         }),
@@ -487,6 +504,57 @@ const CHOICES: &[Row] = &[
             }),
             ..A_RUN
         }),
+    ),
+    (
+        "chart a.tm --hide quiet",
+        Wanted::Run(Run {
+            shape: Shape::Chart(Charting {
+                hides_quiet: true,
+                ..WHOLE_CHART
+            }),
+            ..A_RUN
+        }),
+    ),
+    (
+        "chart --source a.tm --hide=quiet --from 2",
+        Wanted::Run(Run {
+            shape: Shape::Chart(Charting {
+                from: Some(2),
+                hides_quiet: true,
+                source: true,
+                ..WHOLE_CHART
+            }),
+            ..A_RUN
+        }),
+    ),
+    (
+        "chart a.tm --text --hide quiet",
+        Wanted::Run(Run {
+            shape: Shape::Chart(Charting {
+                text: true,
+                hides_quiet: true,
+                ..WHOLE_CHART
+            }),
+            ..A_RUN
+        }),
+    ),
+    (
+        "chart --acts a.acts",
+        Wanted::ChartActs("a.acts", None, WHOLE_CHART),
+    ),
+    (
+        "chart --acts=- --nodes 3 --text --from 1 --to 2 --hide quiet",
+        Wanted::ChartActs(
+            "-",
+            Some(3),
+            Charting {
+                text: true,
+                from: Some(1),
+                to: Some(2),
+                hides_quiet: true,
+                source: false,
+            },
+        ),
     ),
 ];
 
@@ -546,6 +614,27 @@ const REFUSED: &[Row] = &[
     ("chart a.tm --to 18446744073709551616", Wanted::Usage),
     ("chart a.tm --text --to", Wanted::Usage),
     ("chart a.tm --as json", Wanted::Usage),
+    ("chart a.tm --hide", Wanted::Usage),
+    ("chart a.tm --hide Quiet", Wanted::Usage),
+    ("chart a.tm --hide quiet --hide quiet", Wanted::Usage),
+    ("chart a.tm --source --text", Wanted::Usage),
+    ("chart a.tm --source=yes", Wanted::Usage),
+    ("chart", Wanted::Usage),
+    ("chart a.tm --acts a.acts", Wanted::Usage),
+    ("chart --acts a.acts --nodes 0", Wanted::BadNumber),
+    ("chart --acts a.acts --nodes 17", Wanted::BadNumber),
+    ("chart --acts a.acts --steps 1000000", Wanted::Usage),
+    ("chart --acts a.acts --collect 0", Wanted::Usage),
+    ("chart --acts a.acts --order oldest", Wanted::Usage),
+    ("chart --acts a.acts --page 64", Wanted::Usage),
+    ("chart --acts a.acts --events e", Wanted::Usage),
+    ("chart --acts a.acts --seed 0", Wanted::Usage),
+    ("chart --acts a.acts --threads", Wanted::Usage),
+    ("chart --acts a.acts --source", Wanted::Usage),
+    ("chart --acts a.acts --source --nodes 17", Wanted::Usage),
+    ("chart --acts a.acts --hide loud", Wanted::Usage),
+    ("explain a.tm --hide quiet", Wanted::Usage),
+    ("judge a.acts --text", Wanted::Usage),
     ("stats a.tm --from 1", Wanted::Usage),
     ("explore a.tm --steps 5", Wanted::Usage),
     ("why a.tm --act 0 --nodes 17", Wanted::BadNumber),

@@ -3,6 +3,23 @@
 use crate::checks::passes;
 use crate::shell::{ALL_STEPS, Case, Question, first_wrong};
 
+// Node 1 acquires the lock before node 0 writes word 1.
+const LATE_GRANT_ACTS: &[u8] = b"0 quiet
+0 acquire 0
+0 write 0 1
+0 release 0
+0 write 1 2
+1 quiet
+1 acquire 0
+1 read 0 1
+1 read 1 0
+1 release 0
+1 print 1
+1 print 0
+1 end
+0 end
+";
+
 // Node 1 gets the lock before node 0 writes word 1.
 const LATE_GRANT: Case = Case {
     name: "late grant",
@@ -24,21 +41,7 @@ if me == 0 {
 ",
     nodes: 2,
     steps: ALL_STEPS,
-    acts: b"0 quiet
-0 acquire 0
-0 write 0 1
-0 release 0
-0 write 1 2
-1 quiet
-1 acquire 0
-1 read 0 1
-1 read 1 0
-1 release 0
-1 print 1
-1 print 0
-1 end
-0 end
-",
+    acts: LATE_GRANT_ACTS,
     first_race: Some(8),
     told: b"node 0 ended
 node 1 prints 1
@@ -46,6 +49,39 @@ node 1 prints 0
 node 1 ended
 race line 7 write, line 11 read: 1
   word 1: node 0 interval 3 act 4 writes 2, node 1 interval 2 act 8 reads 0 (last written 2)
+first race at act 8
+",
+};
+
+// The same, with labels: those of a word that races, of one that does not, and of a lock.
+const LATE_GRANT_LABELLED: Case = Case {
+    name: "late grant, labelled",
+    text: b"words 2; #: word 0 data
+locks 1; #: word 1 flag
+if me == 0 { #: lock 0 mutex
+  acquire 0;
+  [0] = 1;
+  release 0;
+  [1] = 2;
+} else {
+  acquire 0;
+  x = [0];
+  y = [1];
+  release 0;
+  print x;
+  print y;
+}
+",
+    nodes: 2,
+    steps: ALL_STEPS,
+    acts: LATE_GRANT_ACTS,
+    first_race: Some(8),
+    told: b"node 0 ended
+node 1 prints 1
+node 1 prints 0
+node 1 ended
+race line 7 write, line 11 read: 1
+  word 1 (flag): node 0 interval 3 act 4 writes 2, node 1 interval 2 act 8 reads 0 (last written 2)
 first race at act 8
 ",
 };
@@ -186,6 +222,7 @@ first race at act 3
 
 const RACING: &[Case] = &[
     LATE_GRANT,
+    LATE_GRANT_LABELLED,
     BY_LEAST_PAIR,
     BY_KINDS,
     THREE_OF_A_GROUP,

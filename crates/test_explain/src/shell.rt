@@ -3,6 +3,8 @@
 use lrc_acts::reading::acts_of;
 use lrc_exec::code::Code;
 use lrc_explain::explain;
+use lrc_labels::label::Label;
+use lrc_labels::read_labels;
 use lrc_lang::lines::lines_of;
 use lrc_lang::parse;
 use lrc_lang::program::Program;
@@ -16,7 +18,7 @@ pub const ALL_STEPS: u32 = 1_000_000;
 /// What the nodes of a program did, each with so many steps, and what should be told of it.
 pub struct Case {
     pub name: &'static str,
-    /// The text of the program.
+    /// The text of the program, with its label lines.
     pub text: &'static [u8],
     pub nodes: u8,
     pub steps: u32,
@@ -41,6 +43,7 @@ fn are_parts_of(parts: &[Vec<u8>], text: &[u8]) -> bool {
 
 fn is_explained_of(
     alloc: Global,
+    labels: &[Label<'_>],
     code: &Code<'_>,
     lines: &[u32],
     acts: &[Act],
@@ -51,6 +54,7 @@ fn is_explained_of(
     }
     match explain(
         alloc,
+        labels,
         code,
         lines,
         case.nodes,
@@ -63,8 +67,15 @@ fn is_explained_of(
     }
 }
 
-fn is_told_of(alloc: Global, code: &Code<'_>, lines: &[u32], acts: &[Act], case: &Case) -> bool {
-    match stuck_part(alloc, code, lines, case.nodes, None, acts) {
+fn is_told_of(
+    alloc: Global,
+    labels: &[Label<'_>],
+    code: &Code<'_>,
+    lines: &[u32],
+    acts: &[Act],
+    case: &Case,
+) -> bool {
+    match stuck_part(alloc, labels, code, lines, case.nodes, None, acts) {
         Ok(part) => part.as_slice() == case.told,
         Err(_) => false,
     }
@@ -80,6 +91,7 @@ pub enum Question {
 
 fn is_so(
     alloc: Global,
+    labels: &[Label<'_>],
     code: &Code<'_>,
     lines: &[u32],
     acts: &[Act],
@@ -87,34 +99,54 @@ fn is_so(
     question: Question,
 ) -> bool {
     match question {
-        Question::Explained => is_explained_of(alloc, code, lines, acts, case),
-        Question::Unfinished => is_told_of(alloc, code, lines, acts, case),
+        Question::Explained => is_explained_of(alloc, labels, code, lines, acts, case),
+        Question::Unfinished => is_told_of(alloc, labels, code, lines, acts, case),
     }
 }
 
 fn is_so_of_acts(
     alloc: Global,
+    labels: &[Label<'_>],
     code: &Code<'_>,
     lines: &[u32],
     case: &Case,
     question: Question,
 ) -> bool {
     match acts_of(alloc, case.acts, None) {
-        Ok(lined) => is_so(alloc, code, lines, &lined.acts, case, question),
+        Ok(lined) => is_so(alloc, labels, code, lines, &lined.acts, case, question),
         Err(_) => false,
     }
 }
 
-fn is_so_of_lines(alloc: Global, code: &Code<'_>, case: &Case, question: Question) -> bool {
+fn is_so_of_lines(
+    alloc: Global,
+    labels: &[Label<'_>],
+    code: &Code<'_>,
+    case: &Case,
+    question: Question,
+) -> bool {
     match lines_of(alloc, case.text) {
-        Ok(lines) => is_so_of_acts(alloc, code, &lines, case, question),
+        Ok(lines) => is_so_of_acts(alloc, labels, code, &lines, case, question),
+        Err(_) => false,
+    }
+}
+
+fn is_so_of_labels(
+    alloc: Global,
+    labels: &[Label<'_>],
+    program: &Program,
+    case: &Case,
+    question: Question,
+) -> bool {
+    match Code::new(alloc, program) {
+        Ok(code) => is_so_of_lines(alloc, labels, &code, case, question),
         Err(_) => false,
     }
 }
 
 fn is_so_of_program(alloc: Global, program: &Program, case: &Case, question: Question) -> bool {
-    match Code::new(alloc, program) {
-        Ok(code) => is_so_of_lines(alloc, &code, case, question),
+    match read_labels(alloc, case.text, program.words, program.locks) {
+        Ok(labels) => is_so_of_labels(alloc, &labels.said, program, case, question),
         Err(_) => false,
     }
 }

@@ -54,6 +54,27 @@ deadlock: node 0 waits for node 1 waits for node 0
 ",
 };
 
+// A lock with a label, and one without.
+const CIRCLE_LABELLED: Case = Case {
+    name: "circle, labelled",
+    text: b"words 1; locks 2; #: lock 0 mutex
+acquire me;
+acquire 1 - me;
+",
+    nodes: 2,
+    steps: ALL_STEPS,
+    acts: b"0 acquire 0
+1 acquire 1
+",
+    first_race: None,
+    told: b"node 0 unfinished
+  next, line 3: acquire 1, held by node 1 since line 2
+node 1 unfinished
+  next, line 3: acquire 0 (mutex), held by node 0 since line 2
+deadlock: node 0 waits for node 1 waits for node 0
+",
+};
+
 // A node waits at a barrier for one that ended, and that is no circle.
 const OTHER_ENDED: Case = Case {
     name: "other ended",
@@ -86,7 +107,12 @@ if x == 2 { barrier; }
 ",
 };
 
-const STUCK: &[Case] = &[HOLDER_TRAPPED, LOCK_AND_BARRIER, OTHER_ENDED];
+const STUCK: &[Case] = &[
+    HOLDER_TRAPPED,
+    LOCK_AND_BARRIER,
+    CIRCLE_LABELLED,
+    OTHER_ENDED,
+];
 
 #[test]
 fn only_the_unfinished_nodes_are_told_of(rt: HostRuntime) {

@@ -3,21 +3,8 @@
 use crate::checks::passes;
 use crate::shell::{ALL_STEPS, Case, Question, first_wrong};
 
-// A read, a write, a release, an assignment, an acquire and a statement that traps come next.
-const EACH_KIND: Case = Case {
-    name: "each kind",
-    text: b"words 2;
-locks 2;
-if me == 0 { x = [1]; }
-if me == 1 { [1] = 4; }
-if me == 2 { acquire 1; release 1; }
-if me == 3 { x = 1; }
-if me == 4 { acquire 1; }
-if me == 5 { [2] = 0; }
-",
-    nodes: 6,
-    steps: ALL_STEPS,
-    acts: b"0 quiet
+// Each node comes to its own statement.
+const EACH_KIND_ACTS: &[u8] = b"0 quiet
 1 quiet
 1 quiet
 2 quiet
@@ -39,7 +26,23 @@ if me == 5 { [2] = 0; }
 5 quiet
 5 quiet
 5 quiet
+";
+
+// A read, a write, a release, an assignment, an acquire and a statement that traps come next.
+const EACH_KIND: Case = Case {
+    name: "each kind",
+    text: b"words 2;
+locks 2;
+if me == 0 { x = [1]; }
+if me == 1 { [1] = 4; }
+if me == 2 { acquire 1; release 1; }
+if me == 3 { x = 1; }
+if me == 4 { acquire 1; }
+if me == 5 { [2] = 0; }
 ",
+    nodes: 6,
+    steps: ALL_STEPS,
+    acts: EACH_KIND_ACTS,
     first_race: None,
     told: b"node 0 unfinished
   next, line 3: read of word 1
@@ -51,6 +54,37 @@ node 3 unfinished
   next, line 6: assignment or condition
 node 4 unfinished
   next, line 7: acquire 1, held by node 2 since line 5
+node 5 unfinished
+  next, line 8: trap 2, word out of range
+",
+};
+
+// The same, each word and lock with its label: the first that names it. The number of a trap has none.
+const EACH_KIND_LABELLED: Case = Case {
+    name: "each kind, labelled",
+    text: b"words 2; #: words 0 1 flags
+locks 2; #: lock 1 mutex
+if me == 0 { x = [1]; } #: word 1 late
+if me == 1 { [1] = 4; } #: lock 0 flags
+if me == 2 { acquire 1; release 1; }
+if me == 3 { x = 1; }
+if me == 4 { acquire 1; }
+if me == 5 { [2] = 0; }
+",
+    nodes: 6,
+    steps: ALL_STEPS,
+    acts: EACH_KIND_ACTS,
+    first_race: None,
+    told: b"node 0 unfinished
+  next, line 3: read of word 1 (flags[1])
+node 1 unfinished
+  next, line 4: write of word 1 (flags[1])
+node 2 unfinished
+  next, line 5: release 1 (mutex)
+node 3 unfinished
+  next, line 6: assignment or condition
+node 4 unfinished
+  next, line 7: acquire 1 (mutex), held by node 2 since line 5
 node 5 unfinished
   next, line 8: trap 2, word out of range
 ",
@@ -201,6 +235,7 @@ const STEPS_USED_UP: Case = Case {
 
 const UNFINISHED: &[Case] = &[
     EACH_KIND,
+    EACH_KIND_LABELLED,
     NEWEST_ACQUIRE,
     RELEASED,
     NOT_ARRIVED,

@@ -2,7 +2,10 @@
 
 use crate::checks::holds;
 use lrc_labels::label::{IdleLabel, Labels, Reason};
-use lrc_labels::{push_lock_label, push_word_label, read_labels};
+use lrc_labels::{
+    push_lock_label, push_lock_member, push_numbered_lock, push_numbered_word, push_word_label,
+    push_word_member, read_labels,
+};
 use std::alloc::{AllocError, Global};
 
 /// A label line that says nothing: its line, its column, and why.
@@ -147,4 +150,40 @@ fn one_word_and_many(rt: HostRuntime) {
     holds(&rt, shows(rt.alloc(), text, 0, 63, b" (a[0]) (m)"));
     holds(&rt, shows(rt.alloc(), text, 65_535, 62, b" (b[65534])"));
     holds(&rt, shows(rt.alloc(), b"words 1; locks 0;", 0, 0, b""));
+}
+
+// A word and a lock behind names, and their labels as members of an object.
+fn numbered(alloc: Global, labels: &Labels<'_>) -> Result<Vec<u8>, AllocError> {
+    let mut out = Vec::new(alloc);
+    push_numbered_word(&mut out, &labels.said, b"word ", 2)?;
+    push_word_member(&mut out, &labels.said, 2)?;
+    push_numbered_lock(&mut out, &labels.said, b", lock ", 1)?;
+    push_lock_member(&mut out, &labels.said, 1)?;
+    push_numbered_word(&mut out, &labels.said, b", word ", 0)?;
+    push_word_member(&mut out, &labels.said, 0)?;
+    push_numbered_lock(&mut out, &labels.said, b", lock ", 0)?;
+    push_lock_member(&mut out, &labels.said, 0)?;
+    Ok(out)
+}
+
+fn shows_numbered(alloc: Global, text: &[u8], wanted: &[u8]) -> bool {
+    match read_labels(alloc, text, 4, 2) {
+        Ok(labels) => match numbered(alloc, &labels) {
+            Ok(found) => found.as_slice() == wanted,
+            Err(_) => false,
+        },
+        Err(_) => false,
+    }
+}
+
+#[test]
+fn behind_names_and_as_members(rt: HostRuntime) {
+    holds(
+        &rt,
+        shows_numbered(
+            rt.alloc(),
+            b"#: words 1 3 list\n#: lock 1 mutex\n",
+            b"word 2 (list[1]),\"label\":\"list[1]\", lock 1 (mutex),\"label\":\"mutex\", word 0, lock 0",
+        ),
+    );
 }

@@ -1,81 +1,93 @@
 // Where things stand in a drawing, and how they look. What is wanted is of a drawing made by another program.
 
-use lrc_chart_model::{Arrow, Band, Kind, Lost, Picture, Race, Row};
+use lrc_chart_model::{Arrow, Band, Kind, Lost, Picture, Race, Row, SourceLine};
 use lrc_chart_svg::document_of;
 use lrc_svg::{Document, document_part};
 use std::alloc::{AllocError, Global};
 
 // The root, its size, the ground and the title.
 const FIRST: &[u8] =
-    b"<svg xmlns=\"http://www.w3.org/2000/svg\" viewBox=\"0 0 1092 268\" width=\"1092\" height=\"268\" \
-      font-family=\"DejaVu Sans Mono, Menlo, Consolas, monospace\" font-size=\"12\"><rect x=\"0\" y=\"0\" \
-      width=\"1092\" height=\"268\" fill=\"#ffffff\" stroke=\"none\" stroke-width=\"0\" \
+    b"<svg xmlns=\"http://www.w3.org/2000/svg\" viewBox=\"0 0 1222 273\" width=\"1222\" height=\"273\" \
+      font-family=\"DejaVu Sans Mono, Menlo, Consolas, monospace\" font-size=\"12\"><rect x=\"0\" \
+      y=\"0\" width=\"1222\" height=\"273\" fill=\"#ffffff\" stroke=\"none\" stroke-width=\"0\" \
       stroke-dasharray=\"none\"></rect><text x=\"8\" y=\"24\" text-anchor=\"start\" fill=\"#1a1a1a\" \
       font-weight=\"bold\">sample</text>";
 
-// The barrier, columns, arrows, the race, rows and kinds of messages.
+// The barrier, columns, arrows, the race, rows, the kind of the message that was never taken, the circle of waiting and the program's text.
 const REST: &[u8] =
-    b"<rect x=\"0\" y=\"184\" width=\"1092\" height=\"24\" fill=\"#ebe4f8\" stroke=\"#b9a8e0\" \
-      stroke-width=\"1\" stroke-dasharray=\"none\"></rect><text x=\"8\" y=\"200\" text-anchor=\"start\" \
-      fill=\"#1a1a1a\" font-weight=\"normal\">barrier 1</text><rect x=\"100\" y=\"84\" width=\"210\" \
-      height=\"150\" fill=\"none\" stroke=\"#b4b4b4\" stroke-width=\"1\" stroke-dasharray=\"none\"></rect>\
-      <rect x=\"100\" y=\"84\" width=\"210\" height=\"20\" fill=\"#e4e4e4\" stroke=\"#b4b4b4\" \
-      stroke-width=\"1\" stroke-dasharray=\"none\"></rect><text x=\"106\" y=\"98\" text-anchor=\"start\" \
-      fill=\"#1a1a1a\" font-weight=\"bold\">node 0</text><rect x=\"440\" y=\"84\" width=\"210\" \
-      height=\"150\" fill=\"none\" stroke=\"#b4b4b4\" stroke-width=\"1\" stroke-dasharray=\"none\"></rect>\
-      <rect x=\"440\" y=\"84\" width=\"210\" height=\"20\" fill=\"#e4e4e4\" stroke=\"#b4b4b4\" \
-      stroke-width=\"1\" stroke-dasharray=\"none\"></rect><text x=\"446\" y=\"98\" text-anchor=\"start\" \
-      fill=\"#1a1a1a\" font-weight=\"bold\">node 1</text><g><title>lock 0</title><line x1=\"432\" \
-      y1=\"124\" x2=\"322\" y2=\"148\" stroke=\"#1f5f9f\" stroke-width=\"1.5\" stroke-dasharray=\"none\">\
-      </line><path d=\"M432 124h8\" fill=\"none\" stroke=\"#1f5f9f\" stroke-width=\"1.5\" \
-      stroke-dasharray=\"none\"></path><path d=\"M322 148h-12 l9 -4 v8 l-9 -4\" fill=\"#1f5f9f\" \
-      stroke=\"#1f5f9f\" stroke-width=\"1.5\" stroke-dasharray=\"none\"></path></g><g><title>\
-      granted</title><line x1=\"318\" y1=\"148\" x2=\"428\" y2=\"172\" stroke=\"#1f5f9f\" \
-      stroke-width=\"1.5\" stroke-dasharray=\"6 4\"></line><path d=\"M318 148h-8\" fill=\"none\" \
-      stroke=\"#1f5f9f\" stroke-width=\"1.5\" stroke-dasharray=\"none\"></path><path d=\"M428 172h12 l-9 \
-      -4 v8 l9 -4\" fill=\"#1f5f9f\" stroke=\"#1f5f9f\" stroke-width=\"1.5\" stroke-dasharray=\"none\">\
-      </path></g><g><title>never</title><line x1=\"318\" y1=\"196\" x2=\"318\" y2=\"220\" \
-      stroke=\"#1f5f9f\" stroke-width=\"1.5\" stroke-dasharray=\"none\"></line><path d=\"M318 196h-8\" \
-      fill=\"none\" stroke=\"#1f5f9f\" stroke-width=\"1.5\" stroke-dasharray=\"none\"></path><path \
-      d=\"M318 220m-5 -5 l10 10 m-10 0 l10 -10\" fill=\"none\" stroke=\"#1f5f9f\" stroke-width=\"2\" \
-      stroke-dasharray=\"none\"></path></g><g><title>a &lt; b</title><line x1=\"440\" y1=\"172\" \
-      x2=\"310\" y2=\"196\" stroke=\"#c80000\" stroke-width=\"3\" stroke-dasharray=\"none\"></line><path \
-      d=\"M440 172m-5 -5 h10 v10 h-10 z\" fill=\"#c80000\" stroke=\"none\" stroke-width=\"0\" \
-      stroke-dasharray=\"none\"></path><path d=\"M310 196m-5 -5 h10 v10 h-10 z\" fill=\"#c80000\" \
-      stroke=\"none\" stroke-width=\"0\" stroke-dasharray=\"none\"></path><text x=\"100\" y=\"248\" \
-      text-anchor=\"start\" fill=\"#c80000\" font-weight=\"normal\">race 1</text></g><g><title>turn \
-      0</title><rect x=\"440\" y=\"115\" width=\"210\" height=\"18\" fill=\"#dedede\" stroke=\"#1a1a1a\" \
-      stroke-width=\"1.5\" stroke-dasharray=\"3 3\"></rect><text x=\"446\" y=\"128\" \
-      text-anchor=\"start\" fill=\"#1a1a1a\" font-weight=\"normal\">waits</text><text x=\"519\" y=\"128\" \
-      text-anchor=\"start\" fill=\"#1d6b35\" font-weight=\"normal\"></text><text x=\"548\" y=\"128\" \
-      text-anchor=\"start\" fill=\"#a04800\" font-weight=\"normal\"></text><text x=\"644\" y=\"128\" \
-      text-anchor=\"end\" fill=\"#5a5a5a\" font-weight=\"normal\">line 3</text></g><g><title>turn \
-      1</title><rect x=\"100\" y=\"139\" width=\"210\" height=\"18\" fill=\"#eef4fa\" stroke=\"#a8bccf\" \
-      stroke-width=\"1\" stroke-dasharray=\"none\"></rect><text x=\"106\" y=\"152\" text-anchor=\"start\" \
-      fill=\"#1a1a1a\" font-weight=\"normal\">takes</text><text x=\"179\" y=\"152\" text-anchor=\"start\" \
-      fill=\"#1d6b35\" font-weight=\"normal\"></text><text x=\"208\" y=\"152\" text-anchor=\"start\" \
-      fill=\"#a04800\" font-weight=\"normal\"></text><text x=\"304\" y=\"152\" text-anchor=\"end\" \
-      fill=\"#5a5a5a\" font-weight=\"normal\">line 3</text></g><g><title>act 0</title><rect x=\"440\" \
-      y=\"163\" width=\"210\" height=\"18\" fill=\"#ffffff\" stroke=\"#1a1a1a\" stroke-width=\"1\" \
-      stroke-dasharray=\"none\"></rect><rect x=\"440\" y=\"181\" width=\"210\" height=\"3\" \
-      fill=\"#1a1a1a\" stroke=\"none\" stroke-width=\"0\" stroke-dasharray=\"none\"></rect><text \
-      x=\"446\" y=\"176\" text-anchor=\"start\" fill=\"#1a1a1a\" font-weight=\"normal\">acquire 0</text>\
-      <text x=\"519\" y=\"176\" text-anchor=\"start\" fill=\"#1d6b35\" font-weight=\"normal\">0,1</text>\
-      <text x=\"548\" y=\"176\" text-anchor=\"start\" fill=\"#a04800\" font-weight=\"normal\">page \
-      0</text><text x=\"644\" y=\"176\" text-anchor=\"end\" fill=\"#5a5a5a\" font-weight=\"normal\">line \
-      3</text></g><g><title>act 1</title><rect x=\"100\" y=\"187\" width=\"210\" height=\"18\" \
-      fill=\"#d9cdf2\" stroke=\"#4b2f90\" stroke-width=\"2\" stroke-dasharray=\"none\"></rect><text \
-      x=\"106\" y=\"200\" text-anchor=\"start\" fill=\"#1a1a1a\" font-weight=\"normal\">arrive</text>\
-      <text x=\"179\" y=\"200\" text-anchor=\"start\" fill=\"#1d6b35\" font-weight=\"normal\"></text>\
-      <text x=\"208\" y=\"200\" text-anchor=\"start\" fill=\"#a04800\" font-weight=\"normal\"></text>\
-      <text x=\"304\" y=\"200\" text-anchor=\"end\" fill=\"#5a5a5a\" font-weight=\"normal\">line 3</text>\
-      </g><rect x=\"321\" y=\"151\" width=\"91\" height=\"13\" fill=\"#ffffff\" stroke=\"none\" \
-      stroke-width=\"0\" stroke-dasharray=\"none\"></rect><text x=\"323\" y=\"161\" text-anchor=\"start\" \
-      fill=\"#1f5f9f\" font-weight=\"normal\">lock-request</text><rect x=\"352\" y=\"175\" width=\"77\" \
-      height=\"13\" fill=\"#ffffff\" stroke=\"none\" stroke-width=\"0\" stroke-dasharray=\"none\"></rect>\
-      <text x=\"427\" y=\"185\" text-anchor=\"end\" fill=\"#1f5f9f\" font-weight=\"normal\">\
-      lock-grant</text><text x=\"306\" y=\"224\" text-anchor=\"end\" fill=\"#1f5f9f\" \
-      font-weight=\"normal\">arrive</text></svg>\n";
+    b"<rect x=\"0\" y=\"172\" width=\"1222\" height=\"25\" fill=\"#ebe4f8\" stroke=\"#b9a8e0\" \
+      stroke-width=\"1\" stroke-dasharray=\"none\"></rect><text x=\"8\" y=\"188\" text-anchor=\"start\" \
+      fill=\"#1a1a1a\" font-weight=\"normal\">barrier 1</text><rect x=\"84\" y=\"84\" width=\"194\" \
+      height=\"139\" fill=\"none\" stroke=\"#b4b4b4\" stroke-width=\"1\" \
+      stroke-dasharray=\"none\"></rect><rect x=\"84\" y=\"84\" width=\"194\" height=\"20\" \
+      fill=\"#e4e4e4\" stroke=\"#b4b4b4\" stroke-width=\"1\" stroke-dasharray=\"none\"></rect><text \
+      x=\"90\" y=\"98\" text-anchor=\"start\" fill=\"#1a1a1a\" font-weight=\"bold\">node 0</text><rect \
+      x=\"398\" y=\"84\" width=\"238\" height=\"139\" fill=\"none\" stroke=\"#b4b4b4\" \
+      stroke-width=\"1\" stroke-dasharray=\"none\"></rect><rect x=\"398\" y=\"84\" width=\"238\" \
+      height=\"20\" fill=\"#e4e4e4\" stroke=\"#b4b4b4\" stroke-width=\"1\" \
+      stroke-dasharray=\"none\"></rect><text x=\"404\" y=\"98\" text-anchor=\"start\" fill=\"#1a1a1a\" \
+      font-weight=\"bold\">node 1</text><g><title>lock 0</title><line x1=\"390\" y1=\"120\" x2=\"290\" \
+      y2=\"132\" stroke=\"#1f5f9f\" stroke-width=\"1.5\" stroke-dasharray=\"none\"></line><path \
+      d=\"M390 120h8\" fill=\"none\" stroke=\"#1f5f9f\" stroke-width=\"1.5\" \
+      stroke-dasharray=\"none\"></path><path d=\"M290 132h-12 l9 -4 v8 l-9 -4\" fill=\"#1f5f9f\" \
+      stroke=\"#1f5f9f\" stroke-width=\"1.5\" \
+      stroke-dasharray=\"none\"></path></g><g><title>granted</title><line x1=\"286\" y1=\"132\" \
+      x2=\"386\" y2=\"144\" stroke=\"#1f5f9f\" stroke-width=\"1.5\" stroke-dasharray=\"6 \
+      4\"></line><path d=\"M286 132h-8\" fill=\"none\" stroke=\"#1f5f9f\" stroke-width=\"1.5\" \
+      stroke-dasharray=\"none\"></path><path d=\"M386 144h12 l-9 -4 v8 l9 -4\" fill=\"#1f5f9f\" \
+      stroke=\"#1f5f9f\" stroke-width=\"1.5\" \
+      stroke-dasharray=\"none\"></path></g><g><title>never</title><line x1=\"286\" y1=\"184\" \
+      x2=\"286\" y2=\"213\" stroke=\"#1f5f9f\" stroke-width=\"1.5\" \
+      stroke-dasharray=\"none\"></line><path d=\"M286 184h-8\" fill=\"none\" stroke=\"#1f5f9f\" \
+      stroke-width=\"1.5\" stroke-dasharray=\"none\"></path><path d=\"M286 213m-5 -5 l10 10 m-10 0 l10 \
+      -10\" fill=\"none\" stroke=\"#1f5f9f\" stroke-width=\"2\" \
+      stroke-dasharray=\"none\"></path></g><g><title>a &lt; b</title><line x1=\"398\" y1=\"144\" \
+      x2=\"278\" y2=\"184\" stroke=\"#c80000\" stroke-width=\"3\" \
+      stroke-dasharray=\"none\"></line><path d=\"M398 144m-5 -5 h10 v10 h-10 z\" fill=\"#c80000\" \
+      stroke=\"none\" stroke-width=\"0\" stroke-dasharray=\"none\"></path><path d=\"M278 184m-5 -5 h10 \
+      v10 h-10 z\" fill=\"#c80000\" stroke=\"none\" stroke-width=\"0\" \
+      stroke-dasharray=\"none\"></path><rect x=\"344\" y=\"128\" width=\"47\" height=\"13\" \
+      fill=\"#ffffff\" stroke=\"none\" stroke-width=\"0\" stroke-dasharray=\"none\"></rect><text \
+      x=\"389\" y=\"138\" text-anchor=\"end\" fill=\"#c80000\" font-weight=\"normal\">race \
+      7</text><rect x=\"285\" y=\"189\" width=\"47\" height=\"13\" fill=\"#ffffff\" stroke=\"none\" \
+      stroke-width=\"0\" stroke-dasharray=\"none\"></rect><text x=\"287\" y=\"199\" \
+      text-anchor=\"start\" fill=\"#c80000\" font-weight=\"normal\">race 7</text><text x=\"78\" \
+      y=\"237\" text-anchor=\"end\" fill=\"#c80000\" font-weight=\"normal\">race 7</text><text x=\"84\" \
+      y=\"237\" text-anchor=\"start\" fill=\"#c80000\" font-weight=\"normal\">line 3 \
+      write</text></g><g><title>turn 0</title><rect x=\"398\" y=\"112\" width=\"238\" height=\"17\" \
+      fill=\"#dedede\" stroke=\"#1a1a1a\" stroke-width=\"1.5\" stroke-dasharray=\"3 3\"></rect><text \
+      x=\"404\" y=\"124\" text-anchor=\"start\" fill=\"#1a1a1a\" \
+      font-weight=\"normal\">waits</text><text x=\"630\" y=\"124\" text-anchor=\"end\" fill=\"#5a5a5a\" \
+      font-weight=\"normal\">line 3</text></g><g><title>turn 1</title><rect x=\"84\" y=\"124\" \
+      width=\"194\" height=\"17\" fill=\"#eef4fa\" stroke=\"#a8bccf\" stroke-width=\"1\" \
+      stroke-dasharray=\"none\"></rect><text x=\"90\" y=\"136\" text-anchor=\"start\" fill=\"#1a1a1a\" \
+      font-weight=\"normal\">takes</text><text x=\"133\" y=\"136\" text-anchor=\"start\" \
+      fill=\"#1f5f9f\" font-weight=\"normal\">lock-request</text><text x=\"272\" y=\"136\" \
+      text-anchor=\"end\" fill=\"#5a5a5a\" font-weight=\"normal\">line 3</text></g><g><title>act \
+      0</title><rect x=\"398\" y=\"136\" width=\"238\" height=\"30\" fill=\"#ffffff\" \
+      stroke=\"#1a1a1a\" stroke-width=\"1\" stroke-dasharray=\"none\"></rect><rect x=\"398\" y=\"166\" \
+      width=\"238\" height=\"3\" fill=\"#1a1a1a\" stroke=\"none\" stroke-width=\"0\" \
+      stroke-dasharray=\"none\"></rect><text x=\"404\" y=\"148\" text-anchor=\"start\" fill=\"#1a1a1a\" \
+      font-weight=\"normal\">acquire 0</text><text x=\"477\" y=\"148\" text-anchor=\"start\" \
+      fill=\"#1d6b35\" font-weight=\"normal\">0,1</text><text x=\"506\" y=\"148\" text-anchor=\"start\" \
+      fill=\"#a04800\" font-weight=\"normal\">page 0</text><text x=\"557\" y=\"148\" \
+      text-anchor=\"start\" fill=\"#1f5f9f\" font-weight=\"normal\">lock-grant</text><text x=\"630\" \
+      y=\"161\" text-anchor=\"end\" fill=\"#5a5a5a\" font-weight=\"normal\">line \
+      3</text></g><g><title>act 1</title><rect x=\"84\" y=\"176\" width=\"194\" height=\"17\" \
+      fill=\"#d9cdf2\" stroke=\"#4b2f90\" stroke-width=\"2\" stroke-dasharray=\"none\"></rect><rect \
+      x=\"80\" y=\"172\" width=\"202\" height=\"25\" fill=\"none\" stroke=\"#c80000\" \
+      stroke-width=\"3\" stroke-dasharray=\"none\"></rect><text x=\"90\" y=\"188\" \
+      text-anchor=\"start\" fill=\"#1a1a1a\" font-weight=\"normal\">arrive</text><text x=\"272\" \
+      y=\"188\" text-anchor=\"end\" fill=\"#5a5a5a\" font-weight=\"normal\">line 3</text></g><text \
+      x=\"274\" y=\"217\" text-anchor=\"end\" fill=\"#1f5f9f\" \
+      font-weight=\"normal\">arrive</text><text x=\"8\" y=\"257\" text-anchor=\"start\" \
+      fill=\"#c80000\" font-weight=\"normal\">deadlock: node 0</text><text x=\"1136\" y=\"98\" \
+      text-anchor=\"end\" fill=\"#5a5a5a\" font-weight=\"normal\">1</text><text x=\"1146\" y=\"98\" \
+      text-anchor=\"start\" fill=\"#1a1a1a\" font-weight=\"normal\">words 1;</text><rect x=\"1096\" \
+      y=\"102\" width=\"122\" height=\"16\" fill=\"#e4e4e4\" stroke=\"#b9a8e0\" stroke-width=\"1\" \
+      stroke-dasharray=\"none\"></rect><text x=\"1136\" y=\"114\" text-anchor=\"end\" fill=\"#5a5a5a\" \
+      font-weight=\"normal\">2</text><text x=\"1160\" y=\"114\" text-anchor=\"start\" fill=\"#1a1a1a\" \
+      font-weight=\"normal\">  x = 2;</text></svg>\n";
 
 pub(crate) fn bytes(alloc: Global, words: &[u8]) -> Result<Vec<u8>, AllocError> {
     Vec::from_slice(alloc, words)
@@ -90,6 +102,7 @@ fn row(
     hint: &[u8],
 ) -> Result<Row, AllocError> {
     Ok(Row {
+        number: 0,
         column,
         kind,
         words: bytes(alloc, words)?,
@@ -98,6 +111,7 @@ fn row(
         place: bytes(alloc, b"line 3")?,
         hint: bytes(alloc, hint)?,
         closes: false,
+        circled: false,
     })
 }
 
@@ -132,7 +146,11 @@ fn push_rows(alloc: Global, rows: &mut Vec<Row>) -> Result<(), AllocError> {
     push_row(alloc, rows, 1, Kind::Wait, b"waits", b"turn 0")?;
     push_row(alloc, rows, 0, Kind::Message, b"takes", b"turn 1")?;
     push_act(alloc, rows)?;
-    push_row(alloc, rows, 0, Kind::Barrier, b"arrive", b"act 1")
+    push_row(alloc, rows, 0, Kind::Barrier, b"arrive", b"act 1")?;
+    if let Some(last) = rows.last_mut() {
+        last.circled = true;
+    }
+    Ok(())
 }
 
 fn push_request(alloc: Global, arrows: &mut Vec<Arrow>) -> Result<(), AllocError> {
@@ -174,11 +192,12 @@ fn push_lost(alloc: Global, lost: &mut Vec<Lost>) -> Result<(), AllocError> {
 
 fn push_race(alloc: Global, races: &mut Vec<Race>) -> Result<(), AllocError> {
     races.push(Race {
+        number: 7,
         from: 2,
         first: 1,
         to: 3,
         second: 0,
-        label: bytes(alloc, b"race 1")?,
+        label: bytes(alloc, b"line 3 write")?,
         hint: bytes(alloc, b"a < b")?,
     })?;
     Ok(())
@@ -199,6 +218,24 @@ pub(crate) fn push_columns(alloc: Global, columns: &mut Vec<Vec<u8>>) -> Result<
     Ok(())
 }
 
+fn push_source(alloc: Global, lines: &mut Vec<SourceLine>) -> Result<(), AllocError> {
+    push_line(alloc, lines, b"words 1;", false)?;
+    push_line(alloc, lines, b"  x = 2;", true)
+}
+
+fn push_line(
+    alloc: Global,
+    lines: &mut Vec<SourceLine>,
+    words: &[u8],
+    marked: bool,
+) -> Result<(), AllocError> {
+    lines.push(SourceLine {
+        words: bytes(alloc, words)?,
+        marked,
+    })?;
+    Ok(())
+}
+
 // Fills a picture with one of each.
 fn fill(alloc: Global, picture: &mut Picture) -> Result<(), AllocError> {
     picture.title.extend_from_slice(b"sample")?;
@@ -208,7 +245,9 @@ fn fill(alloc: Global, picture: &mut Picture) -> Result<(), AllocError> {
     push_grant(alloc, &mut picture.arrows)?;
     push_lost(alloc, &mut picture.lost)?;
     push_band(alloc, &mut picture.bands)?;
-    push_race(alloc, &mut picture.races)
+    push_race(alloc, &mut picture.races)?;
+    picture.deadlocks.push(bytes(alloc, b"deadlock: node 0")?)?;
+    push_source(alloc, &mut picture.source)
 }
 
 pub(crate) fn blank(alloc: Global) -> Picture {
@@ -220,6 +259,8 @@ pub(crate) fn blank(alloc: Global) -> Picture {
         lost: Vec::new(alloc),
         bands: Vec::new(alloc),
         races: Vec::new(alloc),
+        deadlocks: Vec::new(alloc),
+        source: Vec::new(alloc),
     }
 }
 

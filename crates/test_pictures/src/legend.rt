@@ -46,6 +46,7 @@ fn push_lines(alloc: Global, picture: &mut Picture) -> Result<(), AllocError> {
         hint: Vec::new(alloc),
     })?;
     picture.races.push(Race {
+        number: 1,
         from: 0,
         first: 0,
         to: 1,

@@ -1,18 +1,17 @@
-// A row with a long list of pages: its column, and the picture, are as wide as that. What is wanted was calculated by hand: of a letter
-// 7.3 pixels, of a column with the list's 300 letters 71 and 2197 and 51, and of the gap between two 87.
+// A row with a long list of pages: its column is as wide as that, and the other one is not. What is wanted was calculated by hand: of a letter
+// 7.3 pixels, of the list's 300 letters 2190, and of a name's six 43.
 
 use crate::drawing::{blank, is_drawn, push_columns, push_row};
 use lrc_chart_model::{Kind, Row};
 use std::alloc::{AllocError, Global};
 
-// Two columns of 2319 pixels, each behind a gap.
+// A column of 2202 pixels and one of 55, each with a gap of 120 behind it.
 const FIRST: &[u8] =
-    b"<svg xmlns=\"http://www.w3.org/2000/svg\" viewBox=\"0 0 4912 148\" width=\"4912\" height=\"148\" ";
+    b"<svg xmlns=\"http://www.w3.org/2000/svg\" viewBox=\"0 0 2581 175\" width=\"2581\" height=\"175\" ";
 
-// What stands behind the list ends where its column does.
-const LAST: &[u8] =
-    b"</text><text x=\"2413\" y=\"128\" text-anchor=\"end\" fill=\"#5a5a5a\" font-weight=\"normal\">line 3</text>\
-      </g></svg>\n";
+// What stands behind the list, on a line below it, ends where its column does.
+const LAST: &[u8] = b"</text><text x=\"2280\" y=\"150\" text-anchor=\"end\" fill=\"#5a5a5a\" \
+      font-weight=\"normal\">line 3</text></g></svg>\n";
 
 fn put_pages(pages: &mut Vec<u8>) -> Result<(), AllocError> {
     for _ in 0..150usize {

@@ -17,22 +17,26 @@ const WANTED: &[u8] = b"sample
    1   o<------+       <1 lock-request  >2 lock-grant again to node 1
       ================ barrier 1 from here
    2   +------>*-      acquire 0         line 3, interval 1  0,1  invalid 4  <2 lock-grant again
-       |       |       race 1
-   3   !       |       trap 4            line 5, interval 1  >x arrive to node 1, never taken
-       |       |       race 1
+       |       |       race 7
+   5   !       |       trap 4            line 5, interval 1  >x arrive to node 1, never taken
+       |       |       race 7  deadlock
       ================ barrier 1 to here
 
-race 1: row 2 and row 3  acquire 0  trap 4  race line 3 write, line 5 read  word 0, act 0, act 1
+race 7: row 2 and row 5  acquire 0  trap 4  race line 3 write, line 5 read  word 0, act 0, act 1
+
+deadlock: node 0 waits for node 1, node 1 for node 0
 ";
 
 fn row(
     alloc: Global,
+    number: usize,
     column: u8,
     kind: Kind,
     words: &[u8],
     place: &[u8],
 ) -> Result<Row, AllocError> {
     Ok(Row {
+        number,
         column,
         kind,
         words: bytes(alloc, words)?,
@@ -41,6 +45,7 @@ fn row(
         place: bytes(alloc, place)?,
         hint: Vec::new(alloc),
         closes: false,
+        circled: false,
     })
 }
 
@@ -52,7 +57,8 @@ fn push_row(
     words: &[u8],
     place: &[u8],
 ) -> Result<(), AllocError> {
-    rows.push(row(alloc, column, kind, words, place)?)?;
+    let number = rows.len();
+    rows.push(row(alloc, number, column, kind, words, place)?)?;
     Ok(())
 }
 
@@ -70,7 +76,17 @@ fn push_rows(alloc: Global, rows: &mut Vec<Row>) -> Result<(), AllocError> {
     if let Some(act) = rows.last_mut() {
         put_interval(act)?;
     }
-    push_row(alloc, rows, 0, Kind::Trap, b"trap 4", b"line 5, interval 1")
+    push_row(alloc, rows, 0, Kind::Trap, b"trap 4", b"line 5, interval 1")?;
+    if let Some(last) = rows.last_mut() {
+        put_circle(last);
+    }
+    Ok(())
+}
+
+// Two rows before it are hidden.
+fn put_circle(last: &mut Row) {
+    last.number = 5;
+    last.circled = true;
 }
 
 fn put_interval(act: &mut Row) -> Result<(), AllocError> {
@@ -128,6 +144,7 @@ fn push_band(alloc: Global, bands: &mut Vec<Band>) -> Result<(), AllocError> {
 
 fn push_race(alloc: Global, races: &mut Vec<Race>) -> Result<(), AllocError> {
     races.push(Race {
+        number: 7,
         from: 2,
         first: 1,
         to: 3,
@@ -146,7 +163,13 @@ fn fill(alloc: Global, picture: &mut Picture) -> Result<(), AllocError> {
     push_grant(alloc, &mut picture.arrows)?;
     push_lost(alloc, &mut picture.lost)?;
     push_band(alloc, &mut picture.bands)?;
-    push_race(alloc, &mut picture.races)
+    push_race(alloc, &mut picture.races)?;
+    let circle = bytes(
+        alloc,
+        b"deadlock: node 0 waits for node 1, node 1 for node 0",
+    )?;
+    picture.deadlocks.push(circle)?;
+    Ok(())
 }
 
 fn is_laid_out(alloc: Global, picture: &Picture, text: &[u8]) -> bool {

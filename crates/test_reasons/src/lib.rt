@@ -1,4 +1,4 @@
-//! Tests alone: runs of a few acts, and what is told in them: chains, what is known and held, and what a read gives.
+//! Tests alone: runs of a few acts, and what is told in them: chains, what is known and held, what a read gives, and the reasons of acts.
 #![tactic(auto)]
 
 #[cfg(test)]
@@ -9,6 +9,8 @@ mod checks;
 mod held;
 #[cfg(test)]
 mod known;
+#[cfg(test)]
+mod reasons;
 #[cfg(test)]
 mod runs;
 #[cfg(test)]

@@ -1,6 +1,8 @@
 // Runs, and their texts.
 
 use lrc_acts_text::{acts_part, json_part, rapid_part};
+use lrc_labels::label::Label;
+use lrc_labels::read_labels;
 use lrc_time::Time;
 use lrc_trace::act::{Act, Deed};
 use std::alloc::Global;
@@ -133,11 +135,18 @@ fn times() -> [Time; 8] {
 }
 
 // Whether this is what the acts are as JSON.
-fn says_json(alloc: Global, acts: &[Act], lines: &[u32], times: &[Time], text: &[u8]) -> bool {
+fn says_json(
+    alloc: Global,
+    labels: &[Label<'_>],
+    acts: &[Act],
+    lines: &[u32],
+    times: &[Time],
+    text: &[u8],
+) -> bool {
     if lines.len() != acts.len() || times.len() != acts.len() {
         return false;
     }
-    match json_part(alloc, acts, lines, times) {
+    match json_part(alloc, labels, acts, lines, times) {
         Ok(part) => part.as_slice() == text,
         Err(_) => false,
     }
@@ -158,12 +167,79 @@ fn an_object_for_each_act(rt: HostRuntime) {
     assert!(rt;
         says_json(
             rt.alloc(),
+            &[],
             &PASSED_ON[..8],
             &LINES[..8],
             &times(),
             JSON_TEXT
         )
     );
+}
+
+const LABELLED: &[u8] = b"#: word 0 count\n#: words 1 3 buffer\n#: lock 0 mutex\n";
+
+const LABELLED_ACTS: &[Act] = &[
+    Act {
+        node: 0,
+        deed: Deed::Acquire(0),
+    },
+    Act {
+        node: 0,
+        deed: Deed::Read(0, 4),
+    },
+    Act {
+        node: 0,
+        deed: Deed::Write(3, 4),
+    },
+    Act {
+        node: 0,
+        deed: Deed::Write(4, 4),
+    },
+    Act {
+        node: 0,
+        deed: Deed::Release(0),
+    },
+    Act {
+        node: 0,
+        deed: Deed::Acquire(1),
+    },
+];
+
+const LABELLED_TEXT: &[u8] =
+    b"{\"act\":0,\"node\":0,\"deed\":\"acquire\",\"lock\":0,\"label\":\"mutex\",\"line\":2,\"interval\":1,\"time\":[1]}
+{\"act\":1,\"node\":0,\"deed\":\"read\",\"word\":0,\"label\":\"count\",\"value\":4,\"line\":2,\"interval\":2,\"time\":[1]}
+{\"act\":2,\"node\":0,\"deed\":\"write\",\"word\":3,\"label\":\"buffer[2]\",\"value\":4,\"line\":2,\"interval\":2,\"time\":[1]}
+{\"act\":3,\"node\":0,\"deed\":\"write\",\"word\":4,\"value\":4,\"line\":2,\"interval\":2,\"time\":[1]}
+{\"act\":4,\"node\":0,\"deed\":\"release\",\"lock\":0,\"label\":\"mutex\",\"line\":2,\"interval\":2,\"time\":[2]}
+{\"act\":5,\"node\":0,\"deed\":\"acquire\",\"lock\":1,\"line\":2,\"interval\":3,\"time\":[3]}\n";
+
+// The time of one node that knows so many intervals of its own.
+fn alone(known: u32) -> Time {
+    let mut time = Time::new(1);
+    if known > 0 {
+        time.raise(0, known);
+    }
+    time
+}
+
+fn says_labelled(alloc: Global) -> bool {
+    let times = [alone(1), alone(1), alone(1), alone(1), alone(2), alone(3)];
+    match read_labels(alloc, LABELLED, 5, 2) {
+        Ok(labels) => says_json(
+            alloc,
+            &labels.said,
+            LABELLED_ACTS,
+            &[2; 6],
+            &times,
+            LABELLED_TEXT,
+        ),
+        Err(_) => false,
+    }
+}
+
+#[test]
+fn labels_behind_words_and_locks(rt: HostRuntime) {
+    assert!(rt; says_labelled(rt.alloc()));
 }
 
 const RAPID_TEXT: &[u8] = b"T0|acq(L0)|4\nT0|w(V0)|5\nT0|rel(L0)|6\nT0|w(V1)|7\nT1|acq(L0)|9

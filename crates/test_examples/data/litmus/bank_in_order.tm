@@ -1,7 +1,7 @@
 # The same transfers, and both nodes take lock 0 before lock 1.
-words 2;
-locks 2;
-if me == 0 { [0] = 100; [1] = 100; }
+words 2;  #: words 0 1 account
+locks 2;  #: lock 0 guard_0
+if me == 0 { [0] = 100; [1] = 100; }  #: lock 1 guard_1
 barrier;
 if me < 2 {
     acquire 0;

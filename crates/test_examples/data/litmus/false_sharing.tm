@@ -1,5 +1,5 @@
 # Each node counts in a word of its own, and all these words stand on one page. Nothing is lost: changes are merged word by word.
-words 16;
+words 16;  #: words 0 15 count
 locks 0;
 while k < 3 {
     x = [me];

@@ -1,7 +1,7 @@
 # The same, and each look at the flag is under a lock. Once node 1 sees the flag it sees the message too.
-words 2;
-locks 1;
-if me == 0 {
+words 2;  #: word 0 message
+locks 1;  #: word 1 flag
+if me == 0 {  #: lock 0 mutex
     acquire 0;
     [0] = 42;
     [1] = 1;

@@ -1,5 +1,5 @@
 # Node 0 fills a buffer, the others read it, three times over; a barrier before and after each filling.
-words 4;
+words 4;  #: words 0 1 buffer
 locks 0;
 while k < 3 {
     if me == 0 {

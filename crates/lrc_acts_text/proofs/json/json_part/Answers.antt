@@ -1,10 +1,11 @@
-use Rattle.std.proofs.Common.{◌≡◌, ◌∙◌, ◌<◌, ◌≤◌, ◌+◌, ◌++◌, [], ℕ, List, ap, ap₂, sym, subst, arith, get_or, length}
+use Rattle.std.proofs.Common.{◌≡◌, ◌∙◌, ◌<◌, ◌≤◌, ◌+◌, ◌++◌, [], ℕ, List, ap, ap₂, map, sym, subst, arith, get_or, length}
 use Rattle.std.specs.Prelude.{slice_index, slice_index_or}
 use Rattle.std.proofs.lemmas.List.{get_or_default, take_all}
 use Rattle.std.proofs.lemmas.Result.{IfOk-from_err}
 use Rattle.lrc_trace.specs.declared.act.Act.{Act}
 use Rattle.lrc_trace.specs.declared.act.Deed.TheVariants.{Quiet}
 use Rattle.lrc_trace.specs.Interval.{closes, interval_at}
+use Rattle.lrc_labels.specs.Reading.{label_seen}
 use Rattle.lrc_text.specs.Each.{each}
 use Rattle.lrc_acts_text.specs.Json.{json_line}
 use Rattle.lrc_acts_text.specs.Tally.{tallied}
@@ -32,6 +33,7 @@ note-requires c =
 
 pub loop-position-preserved : goal.loop-position-preserved
 loop-position-preserved c =
+    let labels = map label_seen c.args.labels.now in
     let acts = c.args.acts.now in
     let times = c.args.times.now in
     let n = c.loop-position.position in
@@ -41,7 +43,7 @@ loop-position-preserved c =
     let closed = c.loop-position.invariant.closed in
     let counts = c.loop-position.closes.counts in
     let of : ℕ → Act → List ℕ =
-    λ position act. json_line position act (slice_index c.args.lines.now position) (interval_at acts act.node position) (slice_index_or times position []) in
+    λ position act. json_line labels position act (slice_index c.args.lines.now position) (interval_at acts act.node position) (slice_index_or times position []) in
     let interval : 1 + c.of.result ≡ interval_at acts act.node n =
     ap (λ m. 1 + m) (c.of.ensures.value ∙ tally_is closes acts n no_act within counts c.of.ensures.in_range closed) in
     let time = c.index-times-position.is ∙ get_or_default times n c.index-times-position.result [] timed in
@@ -49,7 +51,7 @@ loop-position-preserved c =
     record {
       lines = c.in_ok-push_json_line.ensures
           ∙ ap₂ ◌++◌ c.loop-position.invariant.lines
-          (ap₂ (λ (i : ℕ) (t : List ℕ). json_line n act (slice_index c.args.lines.now n) i t) interval time)
+          (ap₂ (λ (i : ℕ) (t : List ℕ). json_line labels n act (slice_index c.args.lines.now n) i t) interval time)
           ∙ sym (each_more of acts n no_act within);
       closed = subst (λ (l : List ℕ). Tallies closes acts (n + 1) l) (sym counts_is)
           (tallies_next closes acts n no_act within counts c.of.ensures.in_range closed);
@@ -57,10 +59,11 @@ loop-position-preserved c =
 
 pub returns : goal.returns
 returns c =
+    let labels = map label_seen c.args.labels.now in
     let acts = c.args.acts.now in
     let all : length acts ≤ c.loop-position.position = c.loop-position-test.false in
     let of : ℕ → Act → List ℕ =
-    λ position act. json_line position act (slice_index c.args.lines.now position) (interval_at acts act.node position)
+    λ position act. json_line labels position act (slice_index c.args.lines.now position) (interval_at acts act.node position)
     (slice_index_or c.args.times.now position []) in
     c.loop-position.invariant.lines ∙ ap (each of) (take_all c.loop-position.position acts all)
 

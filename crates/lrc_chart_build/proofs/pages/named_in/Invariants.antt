@@ -1,5 +1,5 @@
 use Rattle.std.proofs.Common.{◌≡◌, take}
-use Rattle.lrc_chart_build.specs.Words.{named_in}
+use Rattle.lrc_chart_build.specs.Waits.{named_in}
 use Rattle.lrc_chart_build.proofs.pages.named_in.Given as goal
 
 -- the pages of the intervals so far

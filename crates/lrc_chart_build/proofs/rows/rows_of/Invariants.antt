@@ -1,8 +1,12 @@
 use Rattle.std.proofs.Common.{◌≡◌, map, take}
-use Rattle.lrc_chart_build.specs.Rows.{shown_rows}
+use Rattle.std.specs.Prelude.{slice_get}
+use Rattle.lrc_text.specs.Each.{each}
+use Rattle.lrc_chart_build.specs.Rows.{shown_if}
 use Rattle.lrc_chart_build.specs.Seen.{seen_row}
 use Rattle.lrc_chart_build.proofs.rows.rows_of.Given as goal
 
 -- the rows so far
-abbrev pub invariant-loop-place : goal.invariant-loop-place
-invariant-loop-place l = map seen_row l.rows.items ≡ shown_rows l.course (take l.place-index l.places)
+abbrev pub invariant-loop-at : goal.invariant-loop-at
+invariant-loop-at l =
+    map seen_row l.rows.items
+    ≡ each (λ at place. shown_if l.course l.circled l.places at place (slice_get l.course.turns place.turn)) (take l.at l.places)

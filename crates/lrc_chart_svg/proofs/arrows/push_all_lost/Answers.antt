@@ -1,11 +1,12 @@
 use Rattle.lrc_chart_svg.specs.Marks.{all_marks}
+use Rattle.lrc_chart_svg.specs.Plan.{plan_in}
 use Rattle.lrc_chart_svg.specs.Shown.{lost_marks}
 use Rattle.lrc_chart_svg.proofs.Painted.{each_marked}
 use Rattle.lrc_chart_svg.proofs.arrows.push_all_lost.Goals as goal
 
 pub loop-place-preserved : goal.loop-place-preserved
 loop-place-preserved c =
-    each_marked (lost_marks c.args.layout c.args.rows) c.args.lost.now c.loop-place.place c.index-lost-place.result
+    each_marked (lost_marks (plan_in c.args.layout.now)) c.args.lost.now c.loop-place.place c.index-lost-place.result
     (all_marks c.args.contents.now.items)
     (all_marks c.loop-place.contents.items) (all_marks c.push_lost.new.contents.items) c.loop-place-test.true c.index-lost-place.is
     c.loop-place.invariant c.in_ok-push_lost.ensures

@@ -1,9 +1,10 @@
 use Rattle.std.proofs.Common.{◌≡◌, ◌++◌, take}
 use Rattle.lrc_text.specs.Each.{each}
 use Rattle.lrc_chart_svg.specs.Marks.{all_marks}
+use Rattle.lrc_chart_svg.specs.Plan.{plan_in}
 use Rattle.lrc_chart_svg.specs.Shown.{lost_label}
 use Rattle.lrc_chart_svg.proofs.arrows.push_lost_labels.Given as goal
 
 abbrev pub invariant-loop-place : goal.invariant-loop-place
 invariant-loop-place l =
-    all_marks l.contents.items ≡ all_marks l.initial.contents.items ++ each (lost_label l.layout l.rows) (take l.place l.lost)
+    all_marks l.contents.items ≡ all_marks l.initial.contents.items ++ each (lost_label (plan_in l.layout)) (take l.place l.lost)

@@ -2,30 +2,30 @@ use Rattle.std.proofs.Common.{◌∙◌, ◌≤◌, ◌++◌, List, ap, append-n
 use Rattle.std.specs.Prelude.{◌==◌, ◌||◌}
 use Rattle.std.proofs.lemmas.List.{take_all}
 use Rattle.std.proofs.lemmas.Result.{IfOk-from_err}
-use Rattle.lrc_text.specs.Each.{each}
+use Rattle.std.specs.List.{flat_map}
 use Rattle.lrc_chart_model.specs.declared.picture.Race.{Race}
 use Rattle.lrc_text.specs.Parts.{texts_of}
 use Rattle.lrc_chart_text.specs.Phrases.{only_if, race_name}
-use Rattle.lrc_chart_text.proofs.Steps.{each_seen}
+use Rattle.lrc_chart_text.proofs.Steps.{flat_seen}
 use Rattle.lrc_chart_text.proofs.phrases.push_all_races.Goals as goal
 
-pub loop-position-preserved : goal.loop-position-preserved
-loop-position-preserved c =
-    each_seen c.args.picture.now.races.items c.deref-race-items.result.now c.deref-race-items.ensures.value c.loop-position.position c.race-item.result
-    c.loop-position-test.true c.race-item.is (λ position race. only_if ((race.from == c.args.number) || (race.to == c.args.number)) (race_name position))
-    (texts_of c.args.phrases.now.items) (texts_of c.loop-position.phrases.items) (texts_of c.push_race.new.phrases.items) c.loop-position.invariant
+pub loop-race-preserved : goal.loop-race-preserved
+loop-race-preserved c =
+    flat_seen c.args.picture.now.races.items c.deref-race-items.result.now c.deref-race-items.ensures.value c.loop-race.race-index c.race-item.result
+    c.loop-race-test.true c.race-item.is (λ race. only_if ((race.from == c.args.number) || (race.to == c.args.number)) (race_name race.number))
+    (texts_of c.args.phrases.now.items) (texts_of c.loop-race.phrases.items) (texts_of c.push_race.new.phrases.items) c.loop-race.invariant
     c.in_ok-push_race.ensures
 
-pub loop-position-init : goal.loop-position-init
-loop-position-init c = sym (append-nil (texts_of c.args.phrases.now.items))
+pub loop-race-init : goal.loop-race-init
+loop-race-init c = sym (append-nil (texts_of c.args.phrases.now.items))
 
 pub returns : goal.returns
 returns c =
-    c.loop-position.invariant
+    c.loop-race.invariant
     ∙ ap (λ (l : List Race). texts_of c.args.phrases.now.items
-    ++ each (λ position race. only_if ((race.from == c.args.number) || (race.to == c.args.number)) (race_name position)) l)
-    (take_all c.loop-position.position c.args.picture.now.races.items
-    (subst (λ (l : List Race). length l ≤ c.loop-position.position) c.deref-race-items.ensures.value c.loop-position-test.false))
+    ++ flat_map (λ race. only_if ((race.from == c.args.number) || (race.to == c.args.number)) (race_name race.number)) l)
+    (take_all c.loop-race.race-index c.args.picture.now.races.items
+    (subst (λ (l : List Race). length l ≤ c.loop-race.race-index) c.deref-race-items.ensures.value c.loop-race-test.false))
 
 pub returns-in_err-push_race : goal.returns-in_err-push_race
 returns-in_err-push_race c = IfOk-from_err c.from_residual.result _ c.from_residual.ensures.0

@@ -1,11 +1,11 @@
 use Rattle.std.proofs.Common.{◌≡◌, ◌++◌, take}
 use Rattle.std.specs.Prelude.{◌==◌, ◌||◌}
-use Rattle.lrc_text.specs.Each.{each}
+use Rattle.std.specs.List.{flat_map}
 use Rattle.lrc_text.specs.Parts.{texts_of}
 use Rattle.lrc_chart_text.specs.Phrases.{only_if, race_name}
 use Rattle.lrc_chart_text.proofs.phrases.push_all_races.Given as goal
 
-abbrev pub invariant-loop-position : goal.invariant-loop-position
-invariant-loop-position l =
+abbrev pub invariant-loop-race : goal.invariant-loop-race
+invariant-loop-race l =
     texts_of l.phrases.items ≡ texts_of l.initial.phrases.items
-    ++ each (λ position race. only_if ((race.from == l.number) || (race.to == l.number)) (race_name position)) (take l.position l.picture.races.items)
+    ++ flat_map (λ race. only_if ((race.from == l.number) || (race.to == l.number)) (race_name race.number)) (take l.race-index l.picture.races.items)

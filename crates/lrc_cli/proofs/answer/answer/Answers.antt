@@ -58,3 +58,11 @@ returns-in-WhyActs-clause-ok c =
 pub returns-in-WhyActs-clause-err : goal.returns-in-WhyActs-clause-err
 returns-in-WhyActs-clause-err c =
     faulty_for c.reasoned.result _ _ c.args.text.now (option_map (λ (e : Bor (List ℕ)). e.now) c.args.events) c.in-WhyActs.is c.reasoned.ensures.err
+
+pub returns-in-ChartActs-clause-ok : goal.returns-in-ChartActs-clause-ok
+returns-in-ChartActs-clause-ok c =
+    printed_for c.pictured.result _ _ c.args.text.now (option_map (λ (e : Bor (List ℕ)). e.now) c.args.events) c.in-ChartActs.is c.pictured.ensures.ok
+
+pub returns-in-ChartActs-clause-err : goal.returns-in-ChartActs-clause-err
+returns-in-ChartActs-clause-err c =
+    faulty_for c.pictured.result _ _ c.args.text.now (option_map (λ (e : Bor (List ℕ)). e.now) c.args.events) c.in-ChartActs.is c.pictured.ensures.err

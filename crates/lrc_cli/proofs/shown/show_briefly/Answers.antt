@@ -1,12 +1,11 @@
-use Rattle.std.proofs.Common.{◌≡◌, Ok, None, true, inl, inr}
+use Rattle.std.proofs.Common.{◌≡◌, None, true, inl, inr}
 use Rattle.std.proofs.lemmas.Bool.{false≢true}
-use Rattle.lrc_args.specs.declared.choice.Choice.TheVariants.{Show}
 use Rattle.lrc_args.specs.declared.choice.Shape.{Shape}
-use Rattle.lrc_args.specs.declared.choice.Shape.TheVariants.{Chart, Explain, Report, Stats, Trace}
+use Rattle.lrc_args.specs.declared.choice.Shape.TheVariants.{Chart, Explain, Report, Stats, Trace, Why}
 use Rattle.lrc_args.specs.declared.choice.Way.{Way}
 use Rattle.lrc_cli.specs.Runs.{account_with, is_led}
 use Rattle.lrc_cli.specs.Shown.{is_brief}
-use Rattle.lrc_cli.proofs.AnswerLemmas.{fault_up, memory_ran_out, told_of}
+use Rattle.lrc_cli.proofs.AnswerLemmas.{fault_up, told_any, untold_any}
 use Rattle.lrc_cli.proofs.RunLemmas.{acts_of_few}
 use Rattle.lrc_cli.proofs.shown.show_briefly.Goals as goal
 
@@ -17,6 +16,7 @@ led way (Trace form) brief = absurd (false≢true brief)
 led way Explain brief = brief
 led way Stats brief = absurd (false≢true brief)
 led way (Chart charting) brief = absurd (false≢true brief)
+led way (Why asking) brief = brief
 
 pub brief_of-requires : goal.brief_of-requires
 brief_of-requires c = led c.args.choice.now.way c.args.shape c.requires.brief
@@ -31,12 +31,12 @@ returns-in_err-brief-clause-err c =
     fault_up c.from_residual.result _ _ c.from_residual.ensures.1
     (λ events_text. inr (c.args.program.now, c.requires.text, inl (c.in_err-brief.ensures.err events_text)))
 
-pub returns-in_err-told-clause-err : goal.returns-in_err-told-clause-err
-returns-in_err-told-clause-err c =
-    fault_up c.from_residual-in_err-told.result _ _ c.from_residual-in_err-told.ensures.1
-    (λ events_text. memory_ran_out (Show c.args.choice.now c.args.shape) c.args.text.now events_text)
-
 pub returns-clause-ok : goal.returns-clause-ok
-returns-clause-ok c = λ events_text.
-    told_of c.args.choice.now c.args.shape c.args.text.now events_text c.args.program.now c.in_ok-brief.brief (Ok c.in_ok-told.field-0)
-    c.requires.text (c.in_ok-brief.ensures.ok events_text) c.in_ok-told.ensures.text c.in_ok-told.ensures.status
+returns-clause-ok c =
+    told_any c.args.choice.now c.args.shape c.args.text.now c.args.program.now c.in_ok-brief.brief c.told.result c.requires.text
+    c.in_ok-brief.ensures.ok c.told.ensures.text c.told.ensures.status
+
+pub returns-clause-err : goal.returns-clause-err
+returns-clause-err c =
+    untold_any c.args.choice.now c.args.shape c.args.text.now c.args.program.now c.in_ok-brief.brief c.told.result c.requires.text
+    c.in_ok-brief.ensures.ok c.told.ensures.err

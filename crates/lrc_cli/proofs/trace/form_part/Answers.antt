@@ -10,6 +10,7 @@ use Rattle.lrc_turns_text.specs.TurnsText.{messages_text}
 use Rattle.lrc_args.specs.declared.choice.Form.{Form}
 use Rattle.lrc_world.specs.Turned.{HaveLogs, turned_of}
 use Rattle.lrc_world.specs.declared.turned.Turned.{Turned}
+use Rattle.lrc_cli.specs.Labels.{labels_in}
 use Rattle.lrc_cli.specs.Runs.{account_of, options_of, turns_in}
 use Rattle.lrc_cli.specs.Shown.{IsWrittenAs}
 use Rattle.lrc_cli.proofs.RunLemmas.{acts_in_range, have_logs}
@@ -22,14 +23,14 @@ json_of-requires-clause-acts c =
 
 pub returns-in-Acts : goal.returns-in-Acts
 returns-in-Acts c =
-    subst (λ (form : Form). IfOk c.acts_part.result (λ part. IsWrittenAs form c.args.program.now c.args.options.now
+    subst (λ (form : Form). IfOk c.acts_part.result (λ part. IsWrittenAs form c.args.text.now c.args.program.now c.args.options.now
     c.args.run.now.events.items (account_of c.args.run.now.report) c.args.lines.now part.items)) (sym c.in-Acts.is)
     (subst (λ (acts : List Act). IfOk c.acts_part.result (λ part. part.items ≡ acts_text acts c.args.lines.now))
     c.as_slice-acts.ensures.value c.acts_part.ensures)
 
 pub returns-in-Rapid : goal.returns-in-Rapid
 returns-in-Rapid c =
-    subst (λ (form : Form). IfOk c.rapid_part.result (λ part. IsWrittenAs form c.args.program.now c.args.options.now
+    subst (λ (form : Form). IfOk c.rapid_part.result (λ part. IsWrittenAs form c.args.text.now c.args.program.now c.args.options.now
     c.args.run.now.events.items (account_of c.args.run.now.report) c.args.lines.now part.items)) (sym c.in-Rapid.is)
     (subst (λ (acts : List Act). IfOk c.rapid_part.result (λ part. part.items
     ≡ rapid_text c.args.program.now.locks c.args.options.now.nodes.count acts c.args.lines.now))
@@ -37,10 +38,10 @@ returns-in-Rapid c =
 
 pub returns-in-Json : goal.returns-in-Json
 returns-in-Json c =
-    subst (λ (form : Form). IfOk c.json_of.result (λ part. IsWrittenAs form c.args.program.now c.args.options.now
+    subst (λ (form : Form). IfOk c.json_of.result (λ part. IsWrittenAs form c.args.text.now c.args.program.now c.args.options.now
     c.args.run.now.events.items (account_of c.args.run.now.report) c.args.lines.now part.items)) (sym c.in-Json.is)
     (subst (λ (acts : List Act). IfOk c.json_of.result (λ part. (times : List (List ℕ))
-    × KeepsTime c.args.options.now.nodes.count acts times × (part.items ≡ json_of_acts acts c.args.lines.now times)))
+    × KeepsTime c.args.options.now.nodes.count acts times × (part.items ≡ json_of_acts (labels_in c.args.text.now c.args.program.now) acts c.args.lines.now times)))
     c.as_slice-acts.ensures.value c.json_of.ensures)
 
 pub returns-in_ok-turns-in-Messages : goal.returns-in_ok-turns-in-Messages
@@ -54,7 +55,7 @@ returns-in_ok-turns-in-Messages c =
     (map (λ log. log.items) logs)) (sym c.as_slice-logs.ensures.value)
     (have_logs c.args.program.now c.args.options.now c.args.run.now.events.items (account_of c.args.run.now.report) c.requires.reported)))
     ∙ ap (turned_of c.args.program.now c.args.options.now.nodes.count (options_of c.args.options.now)) c.as_slice-events.ensures.value in
-    subst (λ (form : Form). IfOk c.messages_of.result (λ part. IsWrittenAs form c.args.program.now c.args.options.now
+    subst (λ (form : Form). IfOk c.messages_of.result (λ part. IsWrittenAs form c.args.text.now c.args.program.now c.args.options.now
     c.args.run.now.events.items (account_of c.args.run.now.report) c.args.lines.now part.items)) (sym c.in-Messages.is)
     (subst (λ logs. IfOk c.messages_of.result (λ part. part.items ≡ messages_text (map (λ log. log.items) logs)
     (map (λ turn. turn.node) (turns_in c.args.program.now c.args.options.now c.args.run.now.events.items)) c.args.lines.now))
@@ -74,7 +75,7 @@ returns-in_ok-turns-in-Events c =
     (map (λ log. log.items) logs)) (sym c.as_slice-logs.ensures.value)
     (have_logs c.args.program.now c.args.options.now c.args.run.now.events.items (account_of c.args.run.now.report) c.requires.reported)))
     ∙ ap (turned_of c.args.program.now c.args.options.now.nodes.count (options_of c.args.options.now)) c.as_slice-events.ensures.value in
-    subst (λ (form : Form). IfOk c.events_of.result (λ part. IsWrittenAs form c.args.program.now c.args.options.now
+    subst (λ (form : Form). IfOk c.events_of.result (λ part. IsWrittenAs form c.args.text.now c.args.program.now c.args.options.now
     c.args.run.now.events.items (account_of c.args.run.now.report) c.args.lines.now part.items)) (sym c.in-Events.is)
     (subst (λ (made : List Turned). IfOk c.events_of.result (λ part. part.items ≡ events_text (map (λ turn. turn.event) made)))
     (c.as_slice-made.ensures.value ∙ turns) c.events_of.ensures)

@@ -1,24 +1,30 @@
 use Rattle.std.proofs.Common.{ap, ◌≡◌, ◌∙◌, codes}
-use Rattle.std.proofs.lemmas.Result.{IfOk-weaker}
 use Rattle.clap.specs.Words.{app_of, new_app}
 use Rattle.clap.specs.Simple.{app_of_fields}
-use Rattle.lrc_commands.specs.Commands.{with_showing_options}
 use Rattle.lrc_commands.proofs.commands.chart_command.Goals as goal
-
-pub taking_showing_options-command-requires : goal.taking_showing_options-command-requires
-taking_showing_options-command-requires c = ap (λ f. f.has_globals) c.about-command.ensures ∙ c.new.ensures.local
 
 pub returns-clause-app : goal.returns-clause-app
 returns-clause-app c =
     let about_is : app_of c.about-command.result ≡ new_app (codes "chart") = ap app_of_fields c.about-command.ensures ∙ c.new.ensures.app in
-    let shown = IfOk-weaker c.taking_showing_options-command.result _ _ (λ r h. h ∙ ap with_showing_options about_is)
-    c.taking_showing_options-command.ensures.app in
-    let one = c.taking-command.ensures.app _ _ c.flag_option.ensures.local c.flag_option.ensures.rule shown in
-    let two = c.taking-command-2.ensures.app _ _ c.bare_number.ensures.local c.bare_number.ensures.rule one in
-    c.taking.ensures.app _ _ c.bare_number-2.ensures.local c.bare_number-2.ensures.rule two
+    let one = c.taking-command.ensures.app (new_app (codes "chart")) _ c.optional_file.ensures.local c.optional_file.ensures.rule about_is in
+    let two = c.taking_ways-command.ensures.app _ (c.taking_counts.ensures.app _ one) in
+    let three = c.taking-command-2.ensures.app _ _ c.flag_option.ensures.local c.flag_option.ensures.rule two in
+    let four = c.taking-command-3.ensures.app _ _ c.text.ensures.local c.text.ensures.rule three in
+    let five = c.taking-command-4.ensures.app _ _ c.flag_option-2.ensures.local c.flag_option-2.ensures.rule four in
+    let six = c.taking-command-5.ensures.app _ _ c.bare_number.ensures.local c.bare_number.ensures.rule five in
+    let seven = c.taking-command-6.ensures.app _ _ c.bare_number-2.ensures.local c.bare_number-2.ensures.rule six in
+    let eight = c.taking-command-7.ensures.app _ _ c.text-2.ensures.local c.text-2.ensures.rule seven in
+    c.taking.ensures.app _ _ c.flag_option-3.ensures.local c.flag_option-3.ensures.rule eight
 
 pub returns-clause-local : goal.returns-clause-local
 returns-clause-local c =
-    let one = c.taking-command.ensures.local c.flag_option.ensures.local c.taking_showing_options-command.ensures.local in
-    let two = c.taking-command-2.ensures.local c.bare_number.ensures.local one in
-    c.taking.ensures.local c.bare_number-2.ensures.local two
+    let about_is = ap (λ f. f.has_globals) c.about-command.ensures ∙ c.new.ensures.local in
+    let one = c.taking-command.ensures.local c.optional_file.ensures.local about_is in
+    let two = c.taking_ways-command.ensures.local (c.taking_counts.ensures.local one) in
+    let three = c.taking-command-2.ensures.local c.flag_option.ensures.local two in
+    let four = c.taking-command-3.ensures.local c.text.ensures.local three in
+    let five = c.taking-command-4.ensures.local c.flag_option-2.ensures.local four in
+    let six = c.taking-command-5.ensures.local c.bare_number.ensures.local five in
+    let seven = c.taking-command-6.ensures.local c.bare_number-2.ensures.local six in
+    let eight = c.taking-command-7.ensures.local c.text-2.ensures.local seven in
+    c.taking.ensures.local c.flag_option-3.ensures.local eight

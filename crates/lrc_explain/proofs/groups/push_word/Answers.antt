@@ -1,9 +1,6 @@
-use Rattle.std.proofs.Common.{◌∙◌, append_assoc}
-use Rattle.std.specs.Prelude.{codes, decimal}
-use Rattle.lrc_lines.proofs.Following.{on_ok}
 use Rattle.lrc_explain.specs.Groups.{word_words}
 use Rattle.lrc_explain.proofs.groups.push_word.Goals as goal
 
 pub returns : goal.returns
 unfolding word_words
-returns c = on_ok c.push_number.result (λ e. e ∙ append_assoc c.args.text.now.items (codes "  word ") (decimal c.args.number)) c.push_number.ensures.ok
+returns c = c.push_numbered_word.ensures.ok

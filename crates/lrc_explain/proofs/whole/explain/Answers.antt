@@ -1,5 +1,6 @@
 -- The parts are those of the nodes' stands and of the first pairs.
-use Rattle.std.proofs.Common.{◌≡◌, ◌∙◌, ◌++◌, All, List, Some, ap, subst, sym}
+use Rattle.std.proofs.Common.{◌≡◌, ◌∙◌, ◌++◌, All, List, Some, ap, map, subst, sym}
+use Rattle.lrc_labels.specs.Reading.{Label, label_seen}
 use Rattle.lrc_judge.specs.declared.lanes.Pair.{Pair}
 use Rattle.lrc_lines.specs.Walks.{act_lines}
 use Rattle.lrc_stuck.specs.declared.stand.Stand.{Stand}
@@ -19,6 +20,7 @@ groups_part-requires-clause-within c =
 
 pub returns : goal.returns
 returns c =
+    let labels : List Label = map label_seen c.args.labels.now in
     let program = c.args.code.now in
     let nodes = c.args.nodes in
     let lines = c.args.lines.now in
@@ -35,16 +37,16 @@ returns c =
     } in
     let stands = stands_of program nodes lines (Some c.args.steps) acts in
     let stands_are : c.in_ok-stands.stands.items ≡ stands = c.in_ok-stands.ensures program lines are in
-    let told_is : told ≡ fates_text acts stands =
-    c.in_ok-told.ensures ∙ ap (λ (s : List Stand). fates_text acts s) (c.deref.ensures.value ∙ stands_are) in
+    let told_is : told ≡ fates_text labels acts stands =
+    c.in_ok-told.ensures ∙ ap (λ (s : List Stand). fates_text labels acts s) (c.deref.ensures.value ∙ stands_are) in
     let deadlocks_are : deadlocks ≡ deadlocks_text stands =
     c.in_ok-deadlocks.ensures ∙ ap (λ (s : List Stand). deadlocks_text s) (c.deref-2.ensures.value ∙ stands_are) in
-    let groups_are : c.in_ok-groups.groups.items ≡ groups_text acts (act_lines program nodes lines acts) pairs =
-    c.in_ok-groups.ensures ∙ ap (λ l. groups_text acts l c.deref-4.result.now) (c.deref-3.ensures.value ∙ are.lines_are)
-    ∙ ap (λ (ps : List Pair). groups_text acts (act_lines program nodes lines acts) ps) c.deref-4.ensures.value in (
+    let groups_are : c.in_ok-groups.groups.items ≡ groups_text labels acts (act_lines program nodes lines acts) pairs =
+    c.in_ok-groups.ensures ∙ ap (λ l. groups_text labels acts l c.deref-4.result.now) (c.deref-3.ensures.value ∙ are.lines_are)
+    ∙ ap (λ (ps : List Pair). groups_text labels acts (act_lines program nodes lines acts) ps) c.deref-4.ensures.value in (
       pairs,
       c.in_ok-pairs.ensures,
       c.in_ok-parts.ensures ∙ ap (λ t. t ++ deadlocks ++ c.in_ok-groups.groups.items ++ first) told_is
-          ∙ ap (λ t. fates_text acts stands ++ t ++ c.in_ok-groups.groups.items ++ first) deadlocks_are
-          ∙ ap (λ t. fates_text acts stands ++ deadlocks_text stands ++ t ++ first) groups_are,
+          ∙ ap (λ t. fates_text labels acts stands ++ t ++ c.in_ok-groups.groups.items ++ first) deadlocks_are
+          ∙ ap (λ t. fates_text labels acts stands ++ deadlocks_text stands ++ t ++ first) groups_are,
     )

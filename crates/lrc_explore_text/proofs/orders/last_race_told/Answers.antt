@@ -1,5 +1,6 @@
-use Rattle.std.proofs.Common.{◌∙◌, ◌++◌, ℕ, List, Some, ap}
+use Rattle.std.proofs.Common.{◌∙◌, ◌++◌, ℕ, List, Some, ap, map}
 use Rattle.lrc_trace.specs.declared.race.Race.{Race}
+use Rattle.lrc_labels.specs.Reading.{label_seen}
 use Rattle.lrc_text.specs.Parts.{whole_text}
 use Rattle.lrc_text.specs.RaceText.{races_text}
 use Rattle.lrc_explore_text.specs.Orders.{order_text}
@@ -12,13 +13,13 @@ returns-clause-ok c =
     let nodes = c.args.nodes in
     let lines = c.args.lines.now in
     let acts = c.args.acts.now in
-    let l = c.requires.leads in
+    let (order, run, led, tells) = c.requires.tells in
     let last = c.last_of-last.result in
     let races = c.in_ok-races.races.items in
     let named = c.in_ok-named.named.items in
     let first = c.in_ok-first.first.items in
     let named_is = c.in_ok-named.ensures ∙ ap (λ (rs : List Race). races_text rs) c.deref.ensures.value in
-    of_race program nodes lines l.0 acts (l.1.is ∙ ap Some l.2) l.1 last races c.last_of-last.ensures c.in_ok-races.ensures
+    of_race (map label_seen c.args.labels.now) program nodes lines order run acts led tells last races c.last_of-last.ensures c.in_ok-races.ensures
     (whole_text c.in_ok-parts.parts.items)
     (c.in_ok-parts.ensures ∙ ap (λ (t : List ℕ). t ++ named ++ first) c.in_ok-told.ensures
     ∙ ap (λ (n : List ℕ). order_text program nodes lines acts ++ n ++ first) named_is

@@ -1,5 +1,6 @@
-use Rattle.std.proofs.Common.{◌∙◌, ◌++◌, ℕ, List, ap, sym, get_or}
+use Rattle.std.proofs.Common.{◌∙◌, ◌++◌, ℕ, List, ap, map, sym, get_or}
 use Rattle.lrc_text.proofs.Each.{each_more}
+use Rattle.lrc_labels.specs.Reading.{label_seen}
 use Rattle.lrc_stuck.specs.declared.stand.Stand.{Stand}
 use Rattle.lrc_stuck.specs.Stuck.{stuck_line}
 use Rattle.lrc_stuck.proofs.Standing.{no_stand}
@@ -9,6 +10,6 @@ pub loop-me-preserved : goal.loop-me-preserved
 loop-me-preserved c =
     let stands = c.args.stands.now in
     let me = c.loop-me.me in
-    let of : ℕ → Stand → List ℕ = λ k stand. stuck_line stands k stand in
+    let of : ℕ → Stand → List ℕ = λ k stand. stuck_line (map label_seen c.args.labels.now) stands k stand in
     c.in_ok-push_stuck.ensures ∙ ap (λ l. l ++ of me (get_or stands me no_stand)) c.loop-me.invariant
     ∙ sym (each_more of stands me no_stand c.loop-me-test.true)

@@ -2,7 +2,7 @@ use Rattle.std.proofs.Common.{◌≡◌, ◌∙◌, ◌++◌, [], ◌∷◌, Lis
 use Rattle.lrc_judge.specs.Firsts.{AreIntervals}
 use Rattle.lrc_page.specs.Page.{words_of}
 use Rattle.lrc_text.specs.Parts.{whole_text}
-use Rattle.lrc_why_text.specs.declared.shown.Shown.{Shown}
+use Rattle.lrc_why_lines.specs.declared.shown.Shown.{Shown}
 use Rattle.lrc_why_text.specs.Answers.{TellsOf}
 use Rattle.lrc_why_text.proofs.acts.told.Goals as goal
 

@@ -5,7 +5,7 @@ use Rattle.lrc_labels.specs.Cut.{cut, divides}
 use Rattle.lrc_verdict.specs.Judgement.{CountsNodes}
 use Rattle.lrc_verdict.proofs.Within.{acts_ranged}
 use Rattle.lrc_why_text.specs.Answers.{IsMissing, IsShownPlainly, IsThere}
-use Rattle.lrc_why_text.specs.Named.{AreLinesTold}
+use Rattle.lrc_told_lines.specs.Named.{AreLinesTold}
 use Rattle.lrc_why_text.proofs.acts.why_acts.Goals as goal
 
 pub returns-in-Some-clause-err : goal.returns-in-Some-clause-err

@@ -1,11 +1,12 @@
-use Rattle.std.proofs.Common.{List}
+use Rattle.std.proofs.Common.{◌≤◌, List}
 use Rattle.std.specs.Prelude.{◌↔◌}
 use Rattle.lrc_trace.specs.declared.act.Act.{Act}
 use Rattle.lrc_explore.specs.Noted.{noted_count}
 use Rattle.lrc_explore.specs.Outcome.{HasOutcome, IsOutcome}
-use Rattle.lrc_breadth.specs.Answers.{AreGathered, AreSound}
+use Rattle.lrc_breadth.specs.Answers.{AreGathered, AreSound, FitsSettledNoted}
 use Rattle.lrc_breadth.specs.Reached.{AreFound, IsMore}
 use Rattle.lrc_breadth.proofs.Answering.{ok_four}
+use Rattle.lrc_breadth.proofs.Fitting.{fits_settled_noted}
 use Rattle.lrc_breadth.proofs.Keys.{start_grown}
 use Rattle.lrc_breadth.proofs.Seeking.{exact}
 use Rattle.lrc_breadth.proofs.task.Found.all_outcomes.Goals as goal
@@ -21,3 +22,17 @@ returns-clause-exact c =
     exact task new.states found f.reached (start_grown task old.states new.states m.states c.in_ok-begin.ensures.start) s d c.requires.noting notes in
     ok_four {A = AreFound task new} {B = IsMore old new} {C = AreSound task found} {D = AreGathered task new.states found (noted_count new.states)}
     {P = (notes : List Act) → (HasOutcome found notes ↔ IsOutcome task.program.now task.flat.nodes notes)} c.gather.result say e.found e.more e.sound e.done
+
+pub returns-clause-fits : goal.returns-clause-fits
+returns-clause-fits c =
+    let task = c.args.task.now in
+    let old = c.begin.new.self in
+    let new = c.gather.new.self in
+    let found = c.gather.new.outcomes.keys in
+    let e = c.gather.ensures in
+    let say = λ (f : AreFound task new) (m : IsMore old new) (d : AreGathered task new.states found (noted_count new.states))
+    (few : noted_count new.states ≤ task.most).
+    fits_settled_noted task new.states task.most f.reached (start_grown task old.states new.states m.states c.in_ok-begin.ensures.start)
+    (λ k lt key at. (d k lt key at).expanded) few c.requires.noting in
+    ok_four {A = AreFound task new} {B = IsMore old new} {C = AreGathered task new.states found (noted_count new.states)} {D = noted_count new.states ≤ task.most}
+    {P = FitsSettledNoted task.program.now task.flat.nodes task.most} c.gather.result say e.found e.more e.done e.fits

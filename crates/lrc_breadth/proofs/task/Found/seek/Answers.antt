@@ -8,11 +8,11 @@ use Rattle.lrc_breadth.proofs.task.Found.seek.Goals as goal
 
 pub returns-then-len-task-clause-faults : goal.returns-then-len-task-clause-faults
 returns-then-len-task-clause-faults c =
-    too_many_states c.args.task.now c.loop-place.self.states c.loop-place.invariant.found.reached
+    too_many_states c.args.task.now c.loop-place.self.states c.loop-place.invariant.0.found.reached
     (omega (arith, c.if-len-task.true, c.len-in-loop-place.ensures.len))
 
 pub returns-in-Meeting-clause-more : goal.returns-in-Meeting-clause-more
-returns-in-Meeting-clause-more c = more_again c.loop-place.invariant.more c.in_ok-p.ensures.more
+returns-in-Meeting-clause-more c = more_again c.loop-place.invariant.0.more c.in_ok-p.ensures.more
 
 pub loop-place-preserved : goal.loop-place-preserved
 loop-place-preserved c =
@@ -22,22 +22,24 @@ loop-place-preserved c =
     let new = c.visit.new.self in
     let place = c.loop-place.place in
     let stuck = c.loop-place.stuck in
-    let i = c.loop-place.invariant in
+    let i = c.loop-place.invariant.0 in
     let e = c.in_ok-p.ensures in
-    let lt : place < noted_count old.states = omega (arith, c.loop-place-test.true, c.len.ensures.len) in
-    elim c.match-branch-2.branch [
-      | in-Stuck w ↦
-          let v = subst (IsVisit task new place) w.in-Stuck.is e.visit in
-          subst (Seeking task first new (place + 1)) (sym (w.stuck-is ∙ w.or-stuck.ensures))
-          (seeking_stuck task first old new place stuck i e.found e.more lt v.0 v.1)
-      | in-Past w ↦
-          let v = subst (IsVisit task new place) w.in-Past.is e.visit in
-          subst (Seeking task first new (place + 1)) (sym w.stuck-is) (seeking_past task first old new place stuck i e.found e.more lt v.0 v.1)
-    ]
+    let lt : place < noted_count old.states = omega (arith, c.loop-place-test.true, c.len.ensures.len) in (
+      elim c.match-branch-2.branch [
+        | in-Stuck w ↦
+            let v = subst (IsVisit task new place) w.in-Stuck.is e.visit in
+            subst (Seeking task first new (place + 1)) (sym (w.stuck-is ∙ w.or-stuck.ensures))
+            (seeking_stuck task first old new place stuck i e.found e.more lt v.0 v.1)
+        | in-Past w ↦
+            let v = subst (IsVisit task new place) w.in-Past.is e.visit in
+            subst (Seeking task first new (place + 1)) (sym w.stuck-is) (seeking_past task first old new place stuck i e.found e.more lt v.0 v.1)
+      ],
+      (λ le. omega (arith, le, c.if-len-task.false, c.len-in-loop-place.ensures.len, c.loop-place-test.true, c.len.ensures.len)),
+    )
 
 pub returns-clause-end : goal.returns-clause-end
 returns-clause-end c =
-    let i = c.loop-place.invariant in
+    let i = c.loop-place.invariant.0 in
     let all = c.loop-place.self.states in
     let past = c.loop-place-test.false in
     let long = c.len.ensures.len in (

@@ -1,0 +1,5 @@
+//! The acts that a race comes of.
+#![tactic(auto)]
+
+pub mod causes;
+pub mod told;

@@ -1,0 +1,5 @@
+pub mod Direct
+pub mod Shown
+pub mod Times
+pub mod Rows
+pub mod Picture

@@ -1,0 +1,11 @@
+use Rattle.std.proofs.Common.{◌∙◌, ◌++◌, ℕ, List, ap, sym}
+use Rattle.lrc_stuck.specs.Circles.{circle_of}
+use Rattle.lrc_text.proofs.Each.{range_more}
+use Rattle.lrc_chart_build.specs.Circles.{line_if}
+use Rattle.lrc_chart_build.proofs.circles.deadlock_lines.Goals as goal
+
+pub loop-first-preserved : goal.loop-first-preserved
+loop-first-preserved c =
+    let first = c.loop-first.first in
+    let of : ℕ → List (List ℕ) = λ n. line_if n (circle_of c.args.waits.now n) in
+    c.in_ok-push_line.ensures ∙ ap (λ (l : List (List ℕ)). l ++ of first) c.loop-first.invariant ∙ sym (range_more of first)

@@ -1,0 +1,14 @@
+pub mod Absent
+pub mod Counted
+pub mod Held
+pub mod Learning
+pub mod Listed
+pub mod Loops
+pub mod Made
+pub mod Moves
+pub mod Names
+pub mod PartsCounted
+pub mod Reached
+pub mod Traps
+pub mod Unread
+pub mod Values

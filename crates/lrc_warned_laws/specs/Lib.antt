@@ -1,0 +1,3 @@
+pub mod Comes
+pub mod Loops
+pub mod Traps

@@ -1,0 +1,8 @@
+-- What was added so far.
+use Rattle.std.proofs.Common.{◌≡◌, ◌++◌, take}
+use Rattle.lrc_why_lines.specs.Lists.{later_text}
+use Rattle.std.specs.Prelude.{codes}
+use Rattle.lrc_why_lines.proofs.lists.push_later_nodes.Given as goal
+
+abbrev pub invariant-loop-node : goal.invariant-loop-node
+invariant-loop-node l = l.text.items ≡ l.fn.text.items ++ later_text (codes ", ") (take l.node-index l.nodes)

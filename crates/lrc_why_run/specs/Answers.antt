@@ -1,0 +1,62 @@
+-- What `why` prints of the acts of a run.
+use Rattle.std.specs.Prelude.{◌≡◌, ℕ, List, [], Option, Some, None, length, map}
+use Rattle.lrc_lang.specs.Lines.{HasLines}
+use Rattle.lrc_lang.specs.Symbol.{Names}
+use Rattle.lrc_lang.specs.Tree.{program_of}
+use Rattle.lrc_lang.specs.declared.program.Program.{Program}
+use Rattle.lrc_trace.specs.declared.act.Act.{Act}
+use Rattle.lrc_page.specs.declared.size.Size.{Size}
+use Rattle.lrc_page.specs.Page.{words_of}
+use Rattle.lrc_judge.specs.Firsts.{AreIntervals}
+use Rattle.lrc_lines.specs.Walks.{act_lines}
+use Rattle.lrc_labels.specs.declared.cut.Divider.TheVariants.{LineFeed}
+use Rattle.lrc_labels.specs.Cut.{cut, divides}
+use Rattle.lrc_labels.specs.Reading.{label_seen, labels_of}
+use Rattle.lrc_why_lines.specs.declared.shown.Shown.{Shown}
+use Rattle.lrc_why_lines.specs.Places.{act_shown}
+use Rattle.lrc_why_text.specs.Answers.{IsMissing, IsThere, TellsOf}
+use Rattle.lrc_why_text.specs.declared.asked.Asked.{Asked}
+use Rattle.lrc_why_text.specs.declared.fault.WhyFault.{WhyFault}
+use Rattle.lrc_why_text.specs.declared.fault.WhyFault.TheVariants.{NoAct, NoMemory}
+use Rattle.lrc_why_run.specs.Private.{private_text}
+use Rattle.lrc_why_run.specs.Spelling.{AreNamesOf}
+use Rattle.lrc_why_run.specs.Standing.{AreLastSets, thread_before}
+
+-- the acts with their intervals, each with the line of the text that it is of, and the labels of the text
+pub record IsShownFrom (shown : Shown) (text : List ℕ) (program : Program) (nodes : ℕ) (lines : List ℕ) (acts : List Act) : Type 0 where
+  pub acts_are : shown.acts.now ≡ acts
+  pub lines_are : shown.lines.now ≡ act_lines program nodes lines acts
+  pub intervals : AreIntervals acts (length acts) shown.intervals.now
+  pub labels_are : map label_seen shown.labels.now ≡ labels_of program.words program.locks (cut (divides LineFeed) text)
+
+-- the text tells the private names that the statement of the act at the position reads, and what a quiet does
+pub record TellsPrivate (shown : Shown) (names : Names) (program : Program) (nodes : ℕ) (lines : List ℕ) (position : ℕ) (text : List ℕ) : Type 0 where
+  pub lasts : List (Option ℕ)
+  pub last : AreLastSets program nodes lines shown.acts.now (act_shown shown position).node position lasts
+  pub whole : text ≡ private_text shown names (thread_before program nodes lines shown.acts.now (act_shown shown position).node position) lasts
+      (act_shown shown position).deed
+
+-- the lines that stand behind the first: of one act what is told from the text, of two none
+abbrev pub TellsBehind : Shown → Names → Program → (nodes : ℕ) → (lines : List ℕ) → (act : ℕ) → Option ℕ → List ℕ → Type 0
+TellsBehind shown names program nodes lines act None text = TellsPrivate shown names program nodes lines act text
+TellsBehind shown names program nodes lines act (Some other) text = text ≡ []
+
+-- What is printed of the acts of a run of the program that this text is of: the answer to what is asked, where each act stands on the line
+-- of its statement, with the labels of the text.
+pub record AnswersRun (text : List ℕ) (program : Program) (nodes : ℕ) (page : Size) (acts : List Act) (asked : Asked) (out : List ℕ) : Type 0 where
+  pub there : IsThere asked.act asked.and (length acts)
+  pub lines : List ℕ
+  pub has_lines : HasLines text (program_of program) lines
+  pub names : Names
+  pub are_names : AreNamesOf text names
+  pub shown : Shown
+  pub is_shown : IsShownFrom shown text program nodes lines acts
+  pub behind : List ℕ
+  pub tells_behind : TellsBehind shown names program nodes lines asked.act asked.and behind
+  pub tells : TellsOf shown nodes (words_of page) asked.act asked.and behind out
+
+-- why so many acts are not answered
+abbrev pub RefusesRun : Asked → (count : ℕ) → WhyFault → Type 0
+RefusesRun asked count (NoAct position) = IsMissing asked.act asked.and count position
+RefusesRun asked count NoMemory = Unit {0}
+RefusesRun asked count _ = ⊥

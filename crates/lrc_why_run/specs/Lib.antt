@@ -1,0 +1,6 @@
+pub mod Statement
+pub mod Spelling
+pub mod Standing
+pub mod Ways
+pub mod Private
+pub mod Answers

@@ -1,0 +1,152 @@
+// What is printed of the acts of a run.
+
+ghost use Rattle.std.specs.Prelude.{◌≢◌, ◌<◌, ◌≤◌, ℕ, All, IfErr, IfOk, IfSome, List, length, map};
+ghost use Rattle.lrc_lang.specs.Faults.{IsText};
+ghost use Rattle.lrc_lang.specs.Tree.{program_of};
+ghost use Rattle.lrc_judge.specs.declared.TheConstants.{NODES};
+ghost use Rattle.lrc_judge.specs.Firsts.{AreIntervals};
+ghost use Rattle.lrc_page.specs.Page.{words_of};
+ghost use Rattle.lrc_text.specs.Parts.{whole_text};
+ghost use Rattle.lrc_why_text.specs.Answers.{IsThere, TellsOf};
+ghost use Rattle.lrc_why_run.specs.Answers.{AnswersRun, RefusesRun, TellsBehind, TellsPrivate};
+
+use crate::spelling::names_of;
+use crate::way::Way;
+use lrc_exec::code::Code;
+use lrc_judge::intervals_of;
+use lrc_judge::order::happens_before;
+use lrc_labels::read_labels;
+use lrc_lang::lines::lines_of;
+use lrc_lang::program::Program;
+use lrc_lines::walks::lines_of_acts;
+use lrc_page::Size;
+use lrc_trace::act::Act;
+use lrc_why_lines::look::act_at;
+use lrc_why_lines::shown::Shown;
+use lrc_why_text::acts::missing;
+use lrc_why_text::asked::Asked;
+use lrc_why_text::fault::WhyFault;
+use lrc_why_text::whole::why_part;
+use std::alloc::{AllocError, Global};
+
+// What is told from the text of the act at a position.
+fn private_part(
+    alloc: Global,
+    code: &Code<'_>,
+    nodes: u8,
+    shown: Shown<'_>,
+    names: &[&[u8]],
+    position: usize,
+) -> Result<Vec<u8>, AllocError>
+    requires { position ≤ length shown.acts.now }
+    ensures { IfOk result (λ part. (lines : List ℕ)
+        → TellsPrivate shown.entry (map (λ name. name.now) names.now) code.now nodes lines position part.items) }
+{
+    let act = act_at(shown, position);
+    let way = Way::to(alloc, code, nodes, shown.acts, act.node, position)?;
+    let mut text = Vec::new(alloc);
+    way.push_private(&mut text, shown, names, act.deed)?;
+    Ok(text)
+}
+
+// What stands behind the first line.
+fn behind(
+    alloc: Global,
+    code: &Code<'_>,
+    nodes: u8,
+    shown: Shown<'_>,
+    names: &[&[u8]],
+    asked: Asked,
+) -> Result<Vec<u8>, AllocError>
+    requires { IsThere asked.act asked.and (length shown.acts.now) }
+    ensures { IfOk result (λ part. (lines : List ℕ)
+        → TellsBehind shown.entry (map (λ name. name.now) names.now) code.now nodes lines asked.act asked.and part.items) }
+{
+    match asked.and {
+        None => private_part(alloc, code, nodes, shown, names, asked.act),
+        Some(_) => Ok(Vec::new(alloc)),
+    }
+}
+
+// What is printed of acts that are there.
+fn told(
+    alloc: Global,
+    code: &Code<'_>,
+    nodes: u8,
+    page: Size,
+    shown: Shown<'_>,
+    names: &[&[u8]],
+    asked: Asked,
+) -> Result<Vec<Vec<u8>>, AllocError>
+    requires nodes { All (λ act. act.node < NODES) shown.acts.now }
+    requires intervals { AreIntervals shown.acts.now (length shown.acts.now) shown.intervals.now }
+    requires there { IsThere asked.act asked.and (length shown.acts.now) }
+    requires apart { IfSome asked.and (λ other. other ≢ asked.act) }
+    ensures { IfOk result (λ parts. (lines : List ℕ) → (behind : List ℕ)
+        × TellsBehind shown.entry (map (λ name. name.now) names.now) code.now nodes lines asked.act asked.and behind
+        × TellsOf shown.entry nodes (words_of page) asked.act asked.and behind (whole_text parts.items)) }
+{
+    let order = happens_before(alloc, shown.acts)?;
+    let behind = behind(alloc, code, nodes, shown, names, asked)?;
+    let size = u32::from(page.words());
+    let part = why_part(alloc, shown, &order, nodes, size, asked, &behind)?;
+    let mut parts = Vec::new(alloc);
+    parts.push(part)?;
+    Ok(parts)
+}
+
+// The same, with the lines, the names and the labels of the text.
+fn told_of_text(
+    alloc: Global,
+    text: &[u8],
+    program: &Program,
+    nodes: u8,
+    page: Size,
+    acts: &[Act],
+    asked: Asked,
+) -> Result<Vec<Vec<u8>>, AllocError>
+    requires text { IsText text.now (program_of program.now) }
+    requires nodes { All (λ act. act.node < NODES) acts.now }
+    requires there { IsThere asked.act asked.and (length acts.now) }
+    requires apart { IfSome asked.and (λ other. other ≢ asked.act) }
+    ensures { IfOk result (λ parts. AnswersRun text.now program.now nodes page acts.now asked (whole_text parts.items)) }
+{
+    let places = lines_of(alloc, text)?;
+    let code = Code::new(alloc, program)?;
+    let lines = lines_of_acts(alloc, &code, &places, nodes, acts)?;
+    let intervals = intervals_of(alloc, acts)?;
+    let labels = read_labels(alloc, text, program.words(), program.locks())?;
+    let names = names_of(alloc, text)?;
+    let shown = Shown {
+        acts,
+        lines: lines.as_slice(),
+        intervals: intervals.as_slice(),
+        labels: labels.said.as_slice(),
+    };
+    let parts = told(alloc, &code, nodes, page, shown, &names, asked)?;
+    Ok(parts)
+}
+
+/// What `why` prints of the acts of a run of the program that this text is of, on so many nodes and on pages of this size; or that there is
+/// no act at a position that is asked of.
+pub fn why_run(
+    alloc: Global,
+    text: &[u8],
+    program: &Program,
+    nodes: u8,
+    page: Size,
+    acts: &[Act],
+    asked: Asked,
+) -> Result<Vec<Vec<u8>>, WhyFault>
+    requires text { IsText text.now (program_of program.now) }
+    requires nodes { All (λ act. act.node < NODES) acts.now }
+    requires apart { IfSome asked.and (λ other. other ≢ asked.act) }
+    ensures ok { IfOk result (λ parts. AnswersRun text.now program.now nodes page acts.now asked (whole_text parts.items)) }
+    ensures err { IfErr result (RefusesRun asked (length acts.now)) }
+{
+    if let Some(position) = missing(asked, acts.len()) {
+        return Err(WhyFault::NoAct(position));
+    }
+    let parts = told_of_text(alloc, text, program, nodes, page, acts, asked)?;
+    Ok(parts)
+}

@@ -1,0 +1,6 @@
+words 1; locks 2;
+acquire me;
+acquire 1 - me;
+release 1 - me;
+release me;
+[0] = me;

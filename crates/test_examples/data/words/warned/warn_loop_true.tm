@@ -1,0 +1,2 @@
+words 2; locks 0;
+while true { print 1; }

@@ -1,0 +1,9 @@
+words 2;
+locks 1;
+acquire 0;
+x = [0];
+[0] = x + 1;
+release 0;
+barrier;
+y = [0];
+print y;

@@ -1,0 +1,6 @@
+words 3;
+locks 1;
+if me == 0 { [0] = 1; }
+if me == 1 { [0] = 2; }
+barrier;
+x = [0];

@@ -1,0 +1,4 @@
+words 1;
+locks 0;
+barrier;
+barrier;

@@ -1,0 +1,5 @@
+words 16;
+locks 0;
+[me] = 1;
+barrier;
+x = [15 - me];

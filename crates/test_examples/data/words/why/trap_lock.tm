@@ -1,0 +1,3 @@
+words 1; locks 2;
+k = 2;
+acquire k;
