@@ -1,7 +1,2 @@
 pub mod Answer
-pub mod Charted
-pub mod FaultLine
-pub mod Lines
 pub mod Performance
-pub mod Runs
-pub mod Shown

@@ -1,35 +1,29 @@
 // What the program answers to a choice, before anything is written.
 
 ghost use Rattle.std.specs.Prelude.{◌≡◌, IfErr, IfOk, None, false, is_some, option_map};
-ghost use Rattle.lrc_cli.specs.Answer.{IsChecked, IsFault, IsPrintoutOfRounds, IsTextFault, Prints};
+ghost use Rattle.lrc_cli.specs.Answer.{IsChecked, IsFault, IsPrintoutOfRounds, Prints};
+ghost use Rattle.lrc_answer.specs.Texts.{IsTextFault};
 ghost use Rattle.lrc_report.specs.ReportText.{report_text, status_of};
 ghost use Rattle.lrc_text.specs.Parts.{whole_text};
 ghost use Rattle.lrc_args.specs.Files.{names_events, starts_threads};
 ghost use Rattle.lrc_args.specs.declared.choice.Choice.TheVariants.{Plain};
 
 use crate::explored::explored;
-use crate::fault::Fault;
 use crate::judged::judged;
 use crate::linted::linted;
 use crate::reasoned::reasoned;
-use crate::shown::show;
+use lrc_answer::fault::Fault;
+use lrc_answer::printout::{Printout, in_one};
 use lrc_args::choice::{Choice, PlainRun};
 use lrc_exec::rounds::plain_rounds;
 use lrc_lang::parse;
 use lrc_lang::program::Program;
 use lrc_node::End;
 use lrc_report::report::{report_parts, status_after};
+use lrc_shown::shown::show;
 use lrc_trace::act::Act;
 use lrc_world::ends::ends;
 use std::alloc::{AllocError, Global};
-
-/// What is printed, and the status with which the program ends after it.
-#[derive(Drop)]
-pub struct Printout {
-    /// The parts of the text.
-    pub parts: Vec<Vec<u8>>,
-    pub status: u8,
-}
 
 /// Answers a choice that starts no threads, with the text of its FILE, and that of its events where it names them.
 pub fn answer(
@@ -65,15 +59,6 @@ fn checked(alloc: Global, text: &[u8]) -> Result<Printout, Fault>
     let part = Vec::from_slice(alloc, b"ok\n")?;
     let parts = in_one(alloc, part)?;
     Ok(Printout { parts, status: 0 })
-}
-
-/// A text in one part.
-pub(crate) fn in_one(alloc: Global, part: Vec<u8>) -> Result<Vec<Vec<u8>>, AllocError>
-    ensures { IfOk result (λ parts. whole_text parts.items ≡ part.items) }
-{
-    let mut parts = Vec::new(alloc);
-    parts.push(part)?;
-    Ok(parts)
 }
 
 // What the nodes print on the plain machine, and how they end there.

@@ -1,12 +1,13 @@
 // What the program answers to the command `explore`.
 
 ghost use Rattle.std.specs.Prelude.{◌≡◌, IfErr, IfOk, None};
-ghost use Rattle.lrc_cli.specs.Answer.{IsExploration, IsFault, IsSearchFault, IsTextOf, Prints};
+ghost use Rattle.lrc_cli.specs.Answer.{IsExploration, IsFault, IsSearchFault, Prints};
+ghost use Rattle.lrc_answer.specs.Texts.{IsTextOf};
 ghost use Rattle.lrc_text.specs.Parts.{whole_text};
 ghost use Rattle.lrc_args.specs.declared.choice.Choice.TheVariants.{Explore};
 
-use crate::answer::Printout;
-use crate::fault::Fault;
+use lrc_answer::fault::Fault;
+use lrc_answer::printout::Printout;
 use lrc_args::choice::Exploring;
 use lrc_explore::search::ExploreFault;
 use lrc_lang::lines::lines_of;

@@ -5,8 +5,8 @@ ghost use Rattle.lrc_cli.specs.Answer.{IsActsFault, judged_nodes};
 ghost use Rattle.lrc_text.specs.Parts.{whole_text};
 ghost use Rattle.lrc_verdict.specs.Judgement.{Judges};
 
-use crate::answer::Printout;
-use crate::fault::Fault;
+use lrc_answer::fault::Fault;
+use lrc_answer::printout::Printout;
 use lrc_args::choice::Judging;
 use lrc_verdict::judge::judge;
 use std::alloc::Global;

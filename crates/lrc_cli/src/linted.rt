@@ -2,11 +2,11 @@
 
 ghost use Rattle.std.specs.Prelude.{◌≡◌, IfErr, IfOk};
 ghost use Rattle.lrc_cli.specs.Answer.{IsLinted};
-ghost use Rattle.lrc_cli.specs.declared.fault.Fault.TheVariants.{NoMemory};
+ghost use Rattle.lrc_answer.specs.declared.fault.Fault.TheVariants.{NoMemory};
 ghost use Rattle.lrc_text.specs.Parts.{whole_text};
 
-use crate::answer::Printout;
-use crate::fault::Fault;
+use lrc_answer::fault::Fault;
+use lrc_answer::printout::Printout;
 use lrc_linted::lint;
 use std::alloc::Global;
 

@@ -3,19 +3,18 @@
 ghost use Rattle.std.specs.Prelude.{◌≡◌, ◌⊎◌, ℕ, List, Option, false, is_some, option_map};
 ghost use Rattle.lrc_cli.specs.Answer.{Answers};
 ghost use Rattle.lrc_args.specs.Files.{names_events, starts_threads};
-ghost use Rattle.lrc_cli.specs.FaultLine.{fault_line};
+ghost use Rattle.lrc_answer.specs.FaultLine.{fault_line};
 ghost use Rattle.lrc_cli.specs.Performance.{IsWritten, Performs};
 ghost use Rattle.lrc_text.specs.Parts.{whole_text};
 ghost use Rattle.lrc_args.specs.declared.choice.Choice.{Choice as AnyChoice};
-ghost use Rattle.lrc_args.specs.declared.choice.Choice.TheVariants.{Show};
-ghost use Rattle.lrc_cli.specs.declared.fault.Fault.TheVariants.{NoMemory};
+ghost use Rattle.lrc_answer.specs.declared.fault.Fault.TheVariants.{NoMemory};
 
-use crate::answer::{Printout, answer};
-use crate::fault::{Fault, NO_MEMORY_LINE, line_of};
-use crate::shown::show;
-use crate::threads::show_on_threads;
-use lrc_args::choice::{Choice, RunChoice, Shape, Way};
+use crate::answer::answer;
+use lrc_answer::fault::{Fault, NO_MEMORY_LINE, line_of};
+use lrc_answer::printout::Printout;
+use lrc_args::choice::Choice;
 use lrc_report::output::{Output, put, put_parts};
+use lrc_shown::any::show_any;
 use std::alloc::Global;
 use std::io::Write;
 use std::sync::Wait;
@@ -80,26 +79,6 @@ pub fn answer_any<R: Threads + Wait + Sync>(
         | Choice::Lint(_)
         | Choice::WhyActs(_, _) => answer(alloc, choice, text, events),
         Choice::Why(_, _) => Err(Fault::ActsAlone),
-    }
-}
-
-// Answers a choice of a run, on threads or not.
-fn show_any<R: Threads + Wait + Sync>(
-    rt: &R,
-    alloc: Global,
-    choice: &RunChoice<'_>,
-    shape: Shape,
-    text: &[u8],
-    events: Option<&[u8]>,
-) -> Result<Printout, Fault>
-    requires { is_some events ≡ names_events (Show choice.now shape) }
-    ensures { Answers (Show choice.now shape) text.now (option_map (λ e. e.now) events.entry) result }
-{
-    match choice.way {
-        Way::Threads(order) => show_on_threads(rt, alloc, choice, order, shape, text),
-        Way::Events(_) | Way::Rounds(_) | Way::Random(_) => show(
-            alloc, choice, shape, text, events,
-        ),
     }
 }
 

@@ -4,8 +4,8 @@ ghost use Rattle.std.specs.Prelude.{◌≡◌, ◌≢◌, ◌≤◌, IfErr, IfOk
 ghost use Rattle.lrc_cli.specs.Answer.{IsReasoned, IsWhyFault, asked_of, foreign_nodes};
 ghost use Rattle.lrc_text.specs.Parts.{whole_text};
 
-use crate::answer::Printout;
-use crate::fault::Fault;
+use lrc_answer::fault::Fault;
+use lrc_answer::printout::Printout;
 use lrc_args::choice::{Asking, ForeignActs};
 use lrc_why_text::acts::why_acts;
 use lrc_why_text::asked::Asked;

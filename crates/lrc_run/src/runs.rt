@@ -1,9 +1,9 @@
 // Runs of a program whose nodes are on threads, by numbers that may be out of range.
 
-ghost use Rattle.std.specs.Prelude.{◌≡◌, ◌↔◌, ◌⊎◌, List, Err, IfErr, IfOk, MatchResult};
+ghost use Rattle.std.specs.Prelude.{◌≡◌, ◌↔◌, ◌⊎◌, Err, IfErr, IfOk, MatchResult};
 ghost use Rattle.lrc_exec.specs.Nodes.{AreNodes};
-ghost use Rattle.lrc_protocol.specs.declared.event.Event.{Event as AnyEvent};
 ghost use Rattle.lrc_world.specs.Range.{AreSteps};
+ghost use Rattle.lrc_world.specs.declared.run.Run.{Run as AnyRun};
 ghost use Rattle.lrc_run.specs.Halts.{IsRunFault};
 ghost use Rattle.lrc_run.specs.Run.{IsThreadedRun};
 
@@ -39,7 +39,7 @@ pub fn run<R: Threads + Wait + Sync>(
     options: &Options,
     picker: Picker,
 ) -> Result<(Report, Wires), RunFault>
-    ensures run { IfOk result (λ done. (events : List AnyEvent) × IsThreadedRun program.now nodes options.now picker done.0 done.1 events) }
+    ensures run { IfOk result (λ done. (made : AnyRun) × (done.0 ≡ made.report) × IsThreadedRun program.now nodes options.now picker made done.1) }
     ensures fault { IfErr result (IsRunFault program.now nodes options.now picker) }
     ensures bad_nodes { (result ≡ Err RunFault.BadNodes) ↔ (¬ AreNodes nodes) }
     ensures bad_steps { (result ≡ Err RunFault.BadSteps) ↔ (AreNodes nodes × ¬ AreSteps options.now.steps) }
@@ -57,7 +57,7 @@ pub fn run_gated<G: Gate + Sync, R: Threads + Wait + Sync>(
     picker: Picker,
     gate: &G,
 ) -> Result<(Report, Wires), RunFault>
-    ensures run { IfOk result (λ done. (events : List AnyEvent) × IsThreadedRun program.now nodes options.now picker done.0 done.1 events) }
+    ensures run { IfOk result (λ done. (made : AnyRun) × (done.0 ≡ made.report) × IsThreadedRun program.now nodes options.now picker made done.1) }
     ensures fault { IfErr result (IsRunFault program.now nodes options.now picker) }
     ensures bad_nodes { (result ≡ Err RunFault.BadNodes) ↔ (¬ AreNodes nodes) }
     ensures bad_steps { (result ≡ Err RunFault.BadSteps) ↔ (AreNodes nodes × ¬ AreSteps options.now.steps) }
@@ -68,7 +68,7 @@ pub fn run_gated<G: Gate + Sync, R: Threads + Wait + Sync>(
         options: *options,
     };
     match run_on_threads(rt, alloc, &setting, picker, gate) {
-        Ok(run) => Ok((run.report, run.wires)),
+        Ok(run) => Ok((run.made.report, run.wires)),
         Err(halt) => Err(RunFault::from(halt)),
     }
 }

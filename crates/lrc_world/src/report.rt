@@ -32,41 +32,6 @@ pub struct Report {
     pub first_race: Option<usize>,
 }
 
-/// What came of a run, without the turns of the nodes.
-#[derive(Drop)]
-pub struct Brief {
-    /// What the nodes did, in order.
-    pub acts: Vec<Act>,
-    /// How each node ended, from node 0 up.
-    pub ends: Vec<End>,
-    /// The races, by words, nodes and intervals, each once.
-    pub races: Vec<Race>,
-    /// The least position of an act that races with an earlier one, where there is one.
-    pub first_race: Option<usize>,
-}
-
-/// What a report says beside the turns of the nodes.
-pub(crate) fn brief_of(report: Report) -> Brief
-    ensures acts { result.acts ≡ report.acts }
-    ensures ends { result.ends ≡ report.ends }
-    ensures races { result.races ≡ report.races }
-    ensures first { result.first_race ≡ report.first_race }
-{
-    let Report {
-        acts,
-        ends,
-        races,
-        logs: _,
-        first_race,
-    } = report;
-    Brief {
-        acts,
-        ends,
-        races,
-        first_race,
-    }
-}
-
 /// Why there is no report.
 #[derive(Clone, Copy, Debug, PartialEq, Eq, Error)]
 pub enum SimFault {

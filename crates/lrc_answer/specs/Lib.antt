@@ -1,0 +1,2 @@
+pub mod FaultLine
+pub mod Texts

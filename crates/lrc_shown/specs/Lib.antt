@@ -1,0 +1,5 @@
+pub mod Charted
+pub mod Lines
+pub mod Runs
+pub mod Showing
+pub mod Shown
