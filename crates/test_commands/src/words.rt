@@ -10,6 +10,16 @@ use lrc_envelope::Picker;
 use lrc_page::Size;
 use std::alloc::{AllocError, Global};
 
+/// What is shown of a run, but for reasons, which a constant cannot have: what they ask of keeps a fact of its own.
+#[derive(Clone, Copy)]
+enum Look {
+    Report,
+    Trace(Form),
+    Explain,
+    Stats,
+    Chart(Charting),
+}
+
 /// A run, in plain numbers.
 #[derive(Clone, Copy)]
 struct Run {
@@ -19,7 +29,7 @@ struct Run {
     collect: u32,
     size: Size,
     way: Way<'static>,
-    shape: Shape,
+    shape: Look,
 }
 
 /// What is to come of a line of words.
@@ -88,13 +98,13 @@ fn is_same_charting(made: Charting, wanted: Charting) -> bool {
         && made.source == wanted.source
 }
 
-fn is_same_shape(made: Shape, wanted: Shape) -> bool {
+fn is_same_shape(made: Shape, wanted: Look) -> bool {
     match (made, wanted) {
-        (Shape::Report, Shape::Report)
-        | (Shape::Explain, Shape::Explain)
-        | (Shape::Stats, Shape::Stats) => true,
-        (Shape::Trace(made), Shape::Trace(wanted)) => is_same_form(made, wanted),
-        (Shape::Chart(made), Shape::Chart(wanted)) => is_same_charting(made, wanted),
+        (Shape::Report, Look::Report)
+        | (Shape::Explain, Look::Explain)
+        | (Shape::Stats, Look::Stats) => true,
+        (Shape::Trace(made), Look::Trace(wanted)) => is_same_form(made, wanted),
+        (Shape::Chart(made), Look::Chart(wanted)) => is_same_charting(made, wanted),
         _ => false,
     }
 }
@@ -239,7 +249,7 @@ const A_RUN: Run = Run {
     collect: 0,
     size: Size::Words64,
     way: OLDEST,
-    shape: Shape::Report,
+    shape: Look::Report,
 };
 
 const OF_THREE: Run = Run {
@@ -324,7 +334,7 @@ const CHOICES: &[Row] = &[
         "trace a.tm --as=rapid --threads --order=newest",
         Wanted::Run(Run {
             way: Way::Threads(Picker::Newest),
-            shape: Shape::Trace(Form::Rapid),
+            shape: Look::Trace(Form::Rapid),
             ..A_RUN
         }),
     ),
@@ -338,7 +348,7 @@ const CHOICES: &[Row] = &[
     (
         "trace a.tm --messages",
         Wanted::Run(Run {
-            shape: Shape::Trace(Form::Messages),
+            shape: Look::Trace(Form::Messages),
             ..A_RUN
         }),
     ),
@@ -346,7 +356,7 @@ const CHOICES: &[Row] = &[
         "explain a.tm --order random --seed 9",
         Wanted::Run(Run {
             way: Way::Random(9),
-            shape: Shape::Explain,
+            shape: Look::Explain,
             ..A_RUN
         }),
     ),
@@ -354,7 +364,7 @@ const CHOICES: &[Row] = &[
         "stats a.tm --threads --order=twice",
         Wanted::Run(Run {
             way: Way::Threads(Picker::Twice),
-            shape: Shape::Stats,
+            shape: Look::Stats,
             ..A_RUN
         }),
     ),
@@ -423,14 +433,14 @@ const CHOICES: &[Row] = &[
     (
         "chart a.tm",
         Wanted::Run(Run {
-            shape: Shape::Chart(WHOLE_CHART),
+            shape: Look::Chart(WHOLE_CHART),
             ..A_RUN
         }),
     ),
     (
         "chart a.tm --text --from 0 --to=5",
         Wanted::Run(Run {
-            shape: Shape::Chart(Charting {
+            shape: Look::Chart(Charting {
                 text: true,
                 from: Some(0),
                 to: Some(5),
@@ -442,7 +452,7 @@ const CHOICES: &[Row] = &[
     (
         "chart --from=18446744073709551615 a.tm",
         Wanted::Run(Run {
-            shape: Shape::Chart(Charting {
+            shape: Look::Chart(Charting {
                 from: Some(u64::MAX),
                 ..WHOLE_CHART
             }),
@@ -452,7 +462,7 @@ const CHOICES: &[Row] = &[
     (
         "chart a.tm --to +18446744073709551615",
         Wanted::Run(Run {
-            shape: Shape::Chart(Charting {
+            shape: Look::Chart(Charting {
                 to: Some(u64::MAX),
                 ..WHOLE_CHART
             }),
@@ -462,7 +472,7 @@ const CHOICES: &[Row] = &[
     (
         "chart a.tm --text --to=2 --from=3",
         Wanted::Run(Run {
-            shape: Shape::Chart(Charting {
+            shape: Look::Chart(Charting {
                 text: true,
                 from: Some(3),
                 to: Some(2),
@@ -479,7 +489,7 @@ const CHOICES: &[Row] = &[
             collect: 7,
             size: Size::Words256,
             way: Way::Random(9),
-            shape: Shape::Chart(WHOLE_CHART),
+            shape: Look::Chart(WHOLE_CHART),
             ..A_RUN
         }),
     ),
@@ -487,7 +497,7 @@ const CHOICES: &[Row] = &[
         "chart a.tm --threads --order=twice --text",
         Wanted::Run(Run {
             way: Way::Threads(Picker::Twice),
-            shape: Shape::Chart(Charting {
+            shape: Look::Chart(Charting {
                 text: true,
                 ..WHOLE_CHART
             }),
@@ -498,7 +508,7 @@ const CHOICES: &[Row] = &[
         "chart a.tm --events e --to=3",
         Wanted::Run(Run {
             way: Way::Events("e"),
-            shape: Shape::Chart(Charting {
+            shape: Look::Chart(Charting {
                 to: Some(3),
                 ..WHOLE_CHART
             }),
@@ -508,7 +518,7 @@ const CHOICES: &[Row] = &[
     (
         "chart a.tm --hide quiet",
         Wanted::Run(Run {
-            shape: Shape::Chart(Charting {
+            shape: Look::Chart(Charting {
                 hides_quiet: true,
                 ..WHOLE_CHART
             }),
@@ -518,7 +528,7 @@ const CHOICES: &[Row] = &[
     (
         "chart --source a.tm --hide=quiet --from 2",
         Wanted::Run(Run {
-            shape: Shape::Chart(Charting {
+            shape: Look::Chart(Charting {
                 from: Some(2),
                 hides_quiet: true,
                 source: true,
@@ -530,7 +540,7 @@ const CHOICES: &[Row] = &[
     (
         "chart a.tm --text --hide quiet",
         Wanted::Run(Run {
-            shape: Shape::Chart(Charting {
+            shape: Look::Chart(Charting {
                 text: true,
                 hides_quiet: true,
                 ..WHOLE_CHART
