@@ -1,7 +1,7 @@
 // The manager of the barrier.
 
 ghost use Rattle.std.specs.Prelude.{◌≡◌, ◌<◌, ◌≤◌, ◌+◌, ◌^◌, Bool, if◌then◌else◌, All, Err, IfErr, IfOk, IfSome, IsTrue, OnErr, OnOk, None, Ok};
-ghost use Rattle.std.specs.Prelude.{Some, Option, is_ok, is_some, length, replicate, slice_index, slice_index_or, slice_set};
+ghost use Rattle.std.specs.Prelude.{Some, Option, is_ok, is_some, length, option_map, replicate, slice_index, slice_index_or, slice_set};
 ghost use Rattle.std.specs.List.{list_all};
 ghost use Rattle.lrc_barrier.specs.Barrier.{first_manager, arrived, arrive_answer, after_arrive, is_accepted, is_next, has_arrived, with_arrival};
 ghost use Rattle.lrc_barrier.specs.Barrier.{departed, arrivals_of, departures_of, cleaned, clean_answer, after_clean, IsArrival, IsDeparture, refuses};
@@ -63,6 +63,32 @@ impl Manager {
             last: nothing_known(nodes),
             arrivals: nobody(nodes),
             cleans: None,
+        }
+    }
+
+    /// How many episodes are over.
+    pub fn done(&self) -> u32
+        ensures { result ≡ self.now.done }
+    {
+        self.done
+    }
+
+    /// Whether the node has arrived at the episode under way.
+    pub fn has_arrived(&self, node: u8) -> bool
+        requires { node < length self.now.last }
+        ensures { result ≡ has_arrived self.now node }
+    {
+        self.arrivals[usize::from(node)].is_some()
+    }
+
+    /// While a collection is under way, whether the node has sent its Clean; else none.
+    pub fn has_cleaned(&self, node: u8) -> Option<bool>
+        requires { node < length self.now.last }
+        ensures { result ≡ option_map (λ cleans. slice_index_or cleans node Bool.false) self.now.cleans }
+    {
+        match &self.cleans {
+            Some(cleans) => Some(cleans[usize::from(node)]),
+            None => None,
         }
     }
 

@@ -16,6 +16,7 @@ pub mod Additions
 mod Entering
 mod Crossing
 pub mod Representing
+mod OfOne
 mod PairOrder
 mod LatestWrites
 mod Allowed

@@ -3,14 +3,14 @@ ghost use Rattle.std.specs.Prelude.{◌≡◌, ◌<◌, All, IfOk, OnOk};
 ghost use Rattle.lrc_judge.specs.declared.TheConstants.{NODES};
 ghost use Rattle.lrc_judge.specs.Adding.{Adds};
 ghost use Rattle.lrc_judge.specs.Lanes.{AreSearchable};
-ghost use Rattle.lrc_judge.specs.Pairs.{AreRacingPairs, IsCrossing, IsOfOthers};
+ghost use Rattle.lrc_judge.specs.Pairs.{AreConflictsOf, ArePairsWithLater, AreRacingPairs, AreSearchableConflicts, IsCrossing, IsOfOthers, IsPairOfAct};
 
 use crate::NODES;
 use crate::entries::{Told, entries_of};
 pub use crate::lanes::Pair;
 use crate::lanes::{Entry, Lane, add_unordered};
 use crate::order::{Order, happens_before};
-use lrc_trace::act::Act;
+use lrc_trace::act::{Act, Deed};
 use std::alloc::{AllocError, Global};
 
 // Adds the pairs of the entry's position with earlier ones of other nodes' lanes of its word that are not before it.
@@ -53,6 +53,72 @@ pub fn add_crossing(
         add_of_others(pairs, order, *entry, among)?;
     }
     Ok(())
+}
+
+/// What tells the racing pairs of a run position by position: its order, and its accesses by word and node.
+#[derive(Drop)]
+pub struct Conflicts {
+    order: Order,
+    accesses: Vec<Entry>,
+    writes: Vec<Entry>,
+}
+
+/// The accesses of a run, ready to tell which of them race. It costs little more than the acts.
+pub fn conflicts_of(alloc: Global, acts: &[Act]) -> Result<Conflicts, AllocError>
+    requires { All (λ act. act.node < NODES) acts.now }
+    ensures { IfOk result (AreConflictsOf acts.now) }
+{
+    Ok(Conflicts {
+        order: happens_before(alloc, acts)?,
+        accesses: entries_of(alloc, acts, Told::EachAccess)?,
+        writes: entries_of(alloc, acts, Told::EachWrite)?,
+    })
+}
+
+impl Conflicts {
+    // Adds the pairs of the act at a position with the earlier acts of other nodes that race with it.
+    fn add_pairs_of(
+        &self,
+        pairs: &mut Vec<Pair>,
+        act: Act,
+        position: usize,
+    ) -> Result<(), AllocError>
+        requires searchable { AreSearchableConflicts self.now }
+        ensures { OnOk result (Adds pairs.old.items pairs.new.items (IsPairOfAct self.now act.node act.deed position)) }
+    {
+        let (word, among) = match act.deed {
+            Deed::Read(word, _) => (word, self.writes.as_slice()),
+            Deed::Write(word, _) => (word, self.accesses.as_slice()),
+            _ => return Ok(()),
+        };
+        let lane = Lane {
+            word,
+            value: 0,
+            node: act.node,
+        };
+        add_of_others(pairs, &self.order, Entry { lane, position }, among)
+    }
+
+    /// The pairs of accesses that race whose later one stands at this position, by the earlier, each once. It costs little more
+    /// than there are such pairs.
+    pub fn pairs_with_later(
+        &self,
+        alloc: Global,
+        acts: &[Act],
+        later: usize,
+    ) -> Result<Vec<Pair>, AllocError>
+        requires acts { All (λ act. act.node < NODES) acts.now }
+        requires conflicts { AreConflictsOf acts.now self.now }
+        ensures { IfOk result (λ pairs. ArePairsWithLater acts.now later pairs.items) }
+    {
+        let mut pairs = Vec::new(alloc);
+        if later < acts.len() {
+            self.add_pairs_of(&mut pairs, acts[later], later)?;
+        }
+        pairs.sort_unstable();
+        pairs.dedup();
+        Ok(pairs)
+    }
 }
 
 /// The pairs of accesses that race, by the later, then by the earlier, each once. It costs little more than the acts and the

@@ -49,6 +49,14 @@ impl Held {
         }
     }
 
+    /// What the node knows of a lock.
+    pub fn state(&self, lock: u8) -> &LockState
+        requires { lock < length self.now.locks }
+        ensures { result.now ≡ lock_at self.now lock }
+    {
+        &self.locks[usize::from(lock)]
+    }
+
     /// Takes the lock if its token is here and the lock is free, and answers whether it did.
     pub fn try_local(&mut self, lock: u8) -> bool
         requires { lock < length self.old.locks }

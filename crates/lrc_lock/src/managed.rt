@@ -1,6 +1,7 @@
 // The locks that a node manages.
 
-ghost use Rattle.std.specs.Prelude.{◌≡◌, ◌<◌, ◌≤◌, IfOk, length};
+ghost use Rattle.std.specs.Prelude.{◌≡◌, ◌<◌, ◌≤◌, ◌==◌, IfOk, None, Some, if◌then◌else◌, length, slice_index};
+ghost use Rattle.lrc_lock.specs.Lock.{manager_of};
 ghost use Rattle.lrc_lock.specs.Managed.{first_managed, requested, request_answer, managed_after, SameManager};
 
 use crate::fault::LockFault;
@@ -40,6 +41,17 @@ impl Managed {
             recent.push(lock % nodes);
         }
         Managed { me, nodes, recent }
+    }
+
+    /// Who asked last for a lock, and none where another node manages it.
+    pub fn last_asker(&self, lock: u8) -> Option<u8>
+        requires { lock < length self.now.recent }
+        ensures { result ≡ (if manager_of self.now.nodes lock == self.now.me then Some (slice_index self.now.recent lock) else None) }
+    {
+        if lock % self.nodes != self.me {
+            return None;
+        }
+        Some(self.recent[usize::from(lock)])
     }
 
     /// The node to which a request for a lock goes on: whoever asked last before. From now on that is `asker`. A lock
