@@ -109,8 +109,11 @@ impl Slot {
     {
         match (&self.twin, self.state) {
             (Some(twin), State::Valid) => {
-                let changes =
-                    Changes::between_words(alloc, twin.as_slice(), self.words.as_slice())?;
+                let changes = Changes::between_words(
+                    alloc,
+                    twin.as_slice(),
+                    self.words.as_slice(),
+                )?;
                 Ok(Some(changes))
             }
             _ => Ok(None),
