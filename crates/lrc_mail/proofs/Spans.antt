@@ -1,5 +1,7 @@
 -- Sets of numbers as spans: where a number stands among them.
-use Rattle.std.proofs.Common.{⊎_elim, inl, inr, ◌≡◌, ℕ, zero, suc, ◌+◌, ◌-◌, ◌<◌, ◌≤◌, Bool, true, false, List, [], ◌∷◌, length, refl, sym, ap, ◌∙◌, arith}
+use Rattle.std.proofs.Common.{⊎_elim, inl, inr, ◌≡◌, ℕ, zero, suc, ◌+◌, ◌-◌, ◌<◌, ◌≤◌, Bool, true, false, List, [], ◌∷◌, length, length-append, drop, get_or, refl, sym, subst, ap, ◌∙◌, arith}
+use Rattle.std.proofs.lemmas.List.FromFn.{length-range_with_len}
+use Rattle.std.proofs.lemmas.List.{drop_more}
 use Rattle.std.specs.Prelude.{slice_index_or, ◌==◌, ◌||◌, nat_le, ◌⊎◌}
 use Rattle.std.specs.List.{All, AllWithin, list_any, range_with_len}
 use Rattle.std.specs.List.Sorted.{IsNonDecreasingBy}
@@ -124,3 +126,19 @@ above_place n least (span ∷ spans) (suc i) are from not zero d le lt = absurd 
 above_place n least (span ∷ spans) (suc i) are from not (suc k) d le lt =
     above_place n (span.last + 2) spans i are.2 (λ k e le lt. from (suc k) e (omega (arith, le)) (omega (arith, lt))) not k d
     (omega (arith, le)) (omega (arith, lt))
+
+-- ---- how many there are
+
+-- one span more is counted: its numbers are no more than those below the next
+pub counted_more : (m count size total i : ℕ) (spans : List Span) (d : Span) → i < length spans → count ≤ m → AreSpansFrom m (drop i spans)
+    → count + length (spanned (drop i spans)) ≡ total → size ≡ (get_or spans i d).last - (get_or spans i d).first
+    → (x : ℕ) × (count + (size + 1) ≤ x) × AreSpansFrom x (drop (i + 1) spans) × (count + (size + 1) + length (spanned (drop (i + 1) spans)) ≡ total)
+counted_more m count size total i spans d within few are whole size_is =
+    let span = get_or spans i d in
+    let rest = drop (i + 1) spans in
+    let next : drop i spans ≡ span ∷ rest = drop_more spans i d within in
+    let (from, some, after) : AreSpansFrom m (span ∷ rest) = subst (AreSpansFrom m) next are in
+    let long : length (spanned (drop i spans)) ≡ length (numbers_in span) + length (spanned rest) =
+    ap (λ l. length (spanned l)) next ∙ length-append (numbers_in span) (spanned rest) in
+    let here : length (numbers_in span) ≡ span.last + 1 - span.first = length-range_with_len span.first (span.last + 1 - span.first) in
+    (span.last + 2, omega (arith, few, from, some, size_is), after, omega (arith, whole, long, here, size_is, some))

@@ -79,7 +79,7 @@ impl Mail {
         requires { from < length self.now.taken }
         ensures { result ≡ length (slice_index_or self.now.taken from []) }
     {
-        self.taken[usize::from(from)].len()
+        self.taken[usize::from(from)].count()
     }
 
     /// From now on this is awaited.

@@ -14,6 +14,7 @@ pub mod Learns
 pub mod Attaches
 pub mod Needs
 pub mod Keepers
+pub mod Known
 pub mod Noting
 pub mod Lowest
 pub mod Renewed

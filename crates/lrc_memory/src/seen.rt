@@ -3,12 +3,14 @@
 ghost use Rattle.std.specs.Prelude.{◌≡◌, ◌<◌, IfOk, length};
 ghost use Rattle.lrc_store.specs.Store.{changes_at};
 ghost use Rattle.lrc_protocol.specs.Pages.{copy_at, keeper_at};
+ghost use Rattle.lrc_memory.specs.Notes.{named_of};
 ghost use Rattle.lrc_memory.specs.Shown.{copy_shown};
+ghost use Rattle.lrc_memory.specs.View.{unmade};
 
-use crate::memory::Memory;
+use crate::memory::{Memory, PageNote};
 use lrc_page::Changes;
-use lrc_store::Key;
-use lrc_table::State;
+use lrc_store::{Key, Store};
+use lrc_table::{PageTable, State};
 use lrc_time::Time;
 use std::alloc::AllocError;
 
@@ -68,15 +70,39 @@ impl Memory {
         ensures { IfOk result (λ changes. changes
             ≡ changes_at self.now.memory.store (record { node = node; index = index; page = page })) }
     {
-        if node == self.me && self.notes[usize::from(page)].named == index {
-            let pending = self.table.pending_changes(page)?;
-            if pending.is_some() {
-                return Ok(pending);
-            }
+        let key = Key { node, index, page };
+        let unmade = unmade(&self.table, self.me, &self.notes, key)?;
+        match unmade {
+            Some(changes) => Ok(Some(changes)),
+            None => made(&self.store, key),
         }
-        match self.store.changes(Key { node, index, page }) {
-            Some(changes) => Ok(Some(changes.duplicate()?)),
-            None => Ok(None),
-        }
+    }
+}
+
+// The changes that a key's page has still to make, where the key is of the own interval that named the page last.
+fn unmade(
+    table: &PageTable,
+    me: u8,
+    notes: &[PageNote],
+    key: Key,
+) -> Result<Option<Changes>, AllocError>
+    requires page { key.page < length table.now.copies }
+    requires noted { key.page < length notes.now }
+    ensures { IfOk result (λ changes. changes ≡ unmade me (named_of notes.now) table.now key) }
+{
+    if key.node == me && notes[usize::from(key.page)].named == key.index {
+        table.pending_changes(key.page)
+    } else {
+        Ok(None)
+    }
+}
+
+// The changes of a key that are made, as far as they are known.
+fn made(store: &Store, key: Key) -> Result<Option<Changes>, AllocError>
+    ensures { IfOk result (λ changes. changes ≡ changes_at store.now key) }
+{
+    match store.changes(key) {
+        Some(changes) => Ok(Some(changes.duplicate()?)),
+        None => Ok(None),
     }
 }

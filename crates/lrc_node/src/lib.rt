@@ -36,4 +36,5 @@ pub use logged::{Entry, Input, Logged};
 pub use lrc_trace::end::End;
 pub use node::Node;
 pub use options::Options;
+pub use state::NodeState;
 pub use turn::Turn;

@@ -1,6 +1,6 @@
 //! One node of a run.
 
-ghost use Rattle.std.specs.Prelude.{◌≡◌, ◌<◌, ◌≤◌, IfErr, IfOk, OnErr, None, Some, [], unwrap_or, option_map, false, is_none};
+ghost use Rattle.std.specs.Prelude.{◌≡◌, ◌<◌, ◌≤◌, IfErr, IfOk, MatchOption, OnErr, None, Some, [], unwrap_or, option_map, false, is_none};
 ghost use Rattle.lrc_protocol.specs.Node.{Node as NodeRecord, fresh_node};
 ghost use Rattle.lrc_protocol.specs.Traced.{with_act};
 ghost use Rattle.lrc_protocol.specs.Turn.{done, is_ready, not_ready, run_turn, take_turn, unexpected};
@@ -195,6 +195,16 @@ impl<'c> Node<'c> {
         ensures { self.new ≡ self.old }
     {
         self.state.keep_list(out);
+    }
+
+    /// The node's parts, as they are seen by calls that change nothing; none once it has failed.
+    pub fn state(&self) -> Option<&NodeState<'c>>
+        ensures { MatchOption result (self.now.node ≡ None) (λ state. self.now.node ≡ Some state.now) }
+    {
+        match self.failed {
+            Some(_) => None,
+            None => Some(&self.state),
+        }
     }
 
     /// Whether the node would go on if it were named. A failed one would not.

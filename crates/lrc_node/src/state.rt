@@ -3,6 +3,7 @@
 ghost use Rattle.std.specs.Prelude.{◌≡◌, ◌<◌, ◌≤◌, IfOk, length};
 ghost use Rattle.lrc_page.specs.Place.{pages_of};
 ghost use Rattle.lrc_protocol.specs.Node.{fresh_node};
+ghost use Rattle.lrc_control.specs.Barrier.{IsOfNodes};
 
 use crate::options::Options;
 use lrc_control::{Barrier, Clock, Text};
@@ -15,7 +16,7 @@ use std::marker::Model;
 
 /// A node, as long as it has not failed: its text, its clock with tokens, its part in barriers, its memory and its mail.
 #[derive(Drop)]
-pub(crate) struct NodeState<'c> {
+pub struct NodeState<'c> {
     pub(crate) alloc: Global,
     pub(crate) me: u8,
     pub(crate) nodes: u8,
@@ -77,8 +78,76 @@ impl<'c> NodeState<'c> {
         })
     }
 
+    /// Which node it is.
+    pub fn me(&self) -> u8
+        ensures me { result ≡ self.now.setting.me }
+        ensures here { result < self.now.setting.nodes }
+    {
+        self.me
+    }
+
+    /// Of how many nodes it is.
+    pub fn nodes(&self) -> u8
+        ensures nodes { result ≡ self.now.setting.nodes }
+        ensures few { result ≤ 16 }
+    {
+        self.nodes
+    }
+
+    /// How many locks there are.
+    pub fn locks(&self) -> u8
+        ensures locks { result ≡ self.now.setting.locks }
+        ensures few { result ≤ 64 }
+    {
+        self.locks
+    }
+
+    /// How far its text has come, and the steps that are left.
+    pub fn text(&self) -> &Text<'c>
+        ensures course { result.now.course ≡ self.now.course }
+        ensures left { result.now.left ≡ self.now.left }
+    {
+        &self.text
+    }
+
+    /// Its time, the tokens that it has or awaits, and who asked last for the locks that it manages.
+    pub fn clock(&self) -> &Clock
+        ensures clock { result.now ≡ self.now.locks }
+        ensures nodes { length self.now.locks.time ≡ self.now.setting.nodes }
+        ensures locks { length self.now.locks.held.locks ≡ self.now.setting.locks }
+    {
+        &self.clock
+    }
+
+    /// Its part in barriers.
+    pub fn barrier(&self) -> &Barrier
+        ensures barrier { result.now ≡ self.now.barrier }
+        ensures nodes { IsOfNodes self.now.setting.nodes self.now.barrier }
+    {
+        &self.barrier
+    }
+
+    /// What it knows of the shared memory.
+    pub fn memory(&self) -> &Memory
+        ensures me { result.now.me ≡ self.now.setting.me }
+        ensures size { result.now.size ≡ self.now.options.size }
+        ensures memory { result.now.memory ≡ self.now.memory }
+        ensures nodes { length self.now.memory.store.last ≡ self.now.setting.nodes }
+    {
+        &self.memory
+    }
+
+    /// What it waits for, and the messages that it has sent and taken.
+    pub fn mail(&self) -> &Mail
+        ensures mail { result.now ≡ self.now.mail }
+        ensures sent { length self.now.mail.sent ≡ self.now.setting.nodes }
+        ensures taken { length self.now.mail.taken ≡ self.now.setting.nodes }
+    {
+        &self.mail
+    }
+
     /// How many pages there are.
-    pub(crate) fn pages(&self) -> u16
+    pub fn pages(&self) -> u16
         ensures exact { result ≡ pages_of self.now.setting.words self.now.options.size }
         ensures copies { result ≡ length self.now.memory.copies }
     {
