@@ -9,7 +9,7 @@ use Rattle.lrc_judge.specs.Synchronization.{Breaks, IsFirstBreak, acquire, relea
 use Rattle.lrc_judge.specs.Reading.{IsFirstMisread}
 use Rattle.lrc_judge.specs.InOrder.{IsFirstOutOfOrder}
 use Rattle.lrc_judge.specs.declared.in_order.OutOfOrder.{OutOfOrder}
-use Rattle.lrc_judge.specs.Pairs.{AreRacingPairs}
+use Rattle.lrc_judge.specs.Pairs.{ArePairsWithLater}
 use Rattle.lrc_judge.specs.declared.lanes.Pair.{Pair}
 use Rattle.lrc_acts.specs.ActsText.{SayActs, empty, more, none}
 use Rattle.lrc_verdict.specs.Judgement.{IsNodeCount}
@@ -40,15 +40,17 @@ access_within : {run : List Act} {j q word : ℕ} → Reads run j q word ⊎ Wri
 access_within (inl h) = Does-within h.1
 access_within (inr h) = Does-within h.1
 
-race_within : {run : List Act} {i j : ℕ} → Races run i j → j < length run
+pub race_within : {run : List Act} {i j : ℕ} → Races run i j → j < length run
 race_within r = access_within r.conflict.3.second
 
-pub pair_within : (acts : List Act) (pairs : List Pair) → AreRacingPairs acts pairs → (k : ℕ) (d : Pair) → k < length pairs
-    → ((get_or pairs k d).earlier < length acts) × ((get_or pairs k d).later < length acts)
-pair_within acts pairs h k d lt =
-    let races = (h.exact (get_or pairs k d)).0 (Contains-get_or pairs k d lt) in
-    let last = race_within races in
-    (omega (arith, races.earlier, last), last)
+-- the positions of the pairs with a later position lie in the run
+pub pairs_within : (acts : List Act) (later : ℕ) (pairs : List Pair) → ArePairsWithLater acts later pairs
+    → All (λ pair. (pair.earlier < length acts) × (pair.later < length acts)) pairs
+pairs_within acts later pairs are k d within =
+    let race = ((are.exact (get_or pairs k d)).0 (Contains-get_or pairs k d within)).1 in
+    let last = race_within race in
+    let earlier = race.earlier in
+    (omega arith, last)
 
 -- ---- nodes
 
