@@ -1,5 +1,6 @@
 -- Where the acts stand that a judgement names.
-use Rattle.std.proofs.Common.{◌≡◌, ◌∙◌, ◌<◌, ◌≤◌, ◌+◌, ◌⊎◌, ◌++◌, ℕ, List, [], All, ap, Option, Some, length, take, get_or, inl, inr, arith}
+use Rattle.std.proofs.Common.{◌≡◌, ◌∙◌, ◌<◌, ◌≤◌, ◌+◌, ◌⊎◌, ◌++◌, ℕ, List, [], All, ap, Option, Some, length, take, get_or, inl, inr, subst, sym, arith}
+use Rattle.std.specs.Prelude.{IfErr, IsErrAnd, Result, Ok, Err}
 use Rattle.std.proofs.lemmas.List.{take_more}
 use Rattle.std.proofs.lemmas.List.Elements.{All-cons, All-more, All-nil, All-pop, All-weaker, Contains-get_or}
 use Rattle.lrc_trace.specs.declared.act.Act.{Act}
@@ -12,6 +13,7 @@ use Rattle.lrc_judge.specs.declared.in_order.OutOfOrder.{OutOfOrder}
 use Rattle.lrc_judge.specs.Pairs.{ArePairsWithLater}
 use Rattle.lrc_judge.specs.declared.lanes.Pair.{Pair}
 use Rattle.lrc_acts.specs.ActsText.{SayActs, empty, more, none}
+use Rattle.lrc_acts.specs.declared.reading.ActsFault.{ActsFault}
 use Rattle.lrc_verdict.specs.Judgement.{IsNodeCount}
 
 breaks_within : {nodes : ℕ} {run : List Act} {j : ℕ} → Breaks nodes run j → j < length run
@@ -80,3 +82,9 @@ pub three_texts : (none one two three first second third : List ℕ) → none �
     → three ≡ first ++ second ++ third
 three_texts start one two three first second third n f s t =
     t ∙ ap (λ (l : List ℕ). l ++ third) (s ∙ ap (λ (l : List ℕ). l ++ second) (f ∙ ap (λ (l : List ℕ). l ++ first) n))
+
+-- ---- faults
+
+pub fault_up : {T : Type 0} (r : Result T ActsFault) (fault : ActsFault) (P : ActsFault → Type 0) → IsErrAnd r (λ f. f ≡ fault) → P fault → IfErr r P
+fault_up (Ok x) fault P is h = tt
+fault_up (Err f) fault P is h = subst P (sym is) h

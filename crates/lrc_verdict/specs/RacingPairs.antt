@@ -1,5 +1,5 @@
 -- The racing pairs of acts, position by position.
-use Rattle.std.specs.Prelude.{ℕ, ◌==◌, ◌&&◌, ◌<◌, Bool, false, not, All, List, Option, MatchOption, length, map}
+use Rattle.std.specs.Prelude.{ℕ, ◌==◌, ◌&&◌, ◌<◌, Bool, false, not, All, List, Option, MatchOption, map}
 use Rattle.std.specs.List.{filter, flat_map, range_with_len}
 use Rattle.lrc_trace.specs.declared.act.Act.{Act}
 use Rattle.lrc_trace.specs.declared.act.Deed.{Deed}

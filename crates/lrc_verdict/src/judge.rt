@@ -75,12 +75,7 @@ fn greater(a: u8, b: u8) -> u8
     if a < b { b } else { a }
 }
 
-fn judgement(
-    alloc: Global,
-    acts: &[Act],
-    lines: &[u32],
-    nodes: u8,
-) -> Result<Printout, AllocError>
+fn judgement(alloc: Global, acts: &[Act], lines: &[u32], nodes: u8) -> Result<Printout, AllocError>
     requires nodes { nodes ≤ NODES }
     requires acts { All (λ act. act.node < NODES) acts.now }
     requires lines { length acts.now ≡ length lines.now }
@@ -104,7 +99,12 @@ pub(crate) struct Head {
 }
 
 /// The first three lines of a judgement.
-pub(crate) fn head_of(alloc: Global, acts: &[Act], lines: &[u32], nodes: u8) -> Result<Head, AllocError>
+pub(crate) fn head_of(
+    alloc: Global,
+    acts: &[Act],
+    lines: &[u32],
+    nodes: u8,
+) -> Result<Head, AllocError>
     requires nodes { nodes ≤ NODES }
     requires acts { All (λ act. act.node < NODES) acts.now }
     requires lines { length acts.now ≡ length lines.now }

@@ -59,11 +59,7 @@ pub fn judge_pairs(
     Ok(judgement)
 }
 
-fn judgement_of(
-    alloc: Global,
-    lined: LinedActs,
-    nodes: u8,
-) -> Result<PairsJudgement, AllocError>
+fn judgement_of(alloc: Global, lined: LinedActs, nodes: u8) -> Result<PairsJudgement, AllocError>
     requires nodes { nodes ≤ NODES }
     requires acts { All (λ act. act.node < NODES) lined.acts.items }
     requires lines { length lined.acts.items ≡ length lined.lines.items }

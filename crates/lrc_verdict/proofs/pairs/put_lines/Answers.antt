@@ -1,9 +1,8 @@
-use Rattle.std.proofs.Common.{◌≡◌, ◌∙◌, ◌+◌, ◌++◌, ℕ, List, [], append-nil, ap, drop, length, subst, sym, take_all}
+use Rattle.std.proofs.Common.{◌≡◌, ◌∙◌, ◌+◌, ◌++◌, ℕ, List, ap, drop, subst, sym}
 use Rattle.lrc_judge.specs.declared.lanes.Pair.{Pair}
 use Rattle.lrc_acts.specs.JudgeLines.{pair_line}
-use Rattle.lrc_acts.specs.declared.judge_lines.RacingAccesses.{RacingAccesses}
 use Rattle.lrc_report.proofs.WriteLemmas.{IsUnderWay, on_err, way_front, way_part, way_stops}
-use Rattle.lrc_verdict.specs.Judgement.{accesses_at, pair_lines}
+use Rattle.lrc_verdict.specs.Judgement.{pair_lines}
 use Rattle.lrc_verdict.proofs.Writing.{gathered, line-comes}
 use Rattle.lrc_verdict.proofs.pairs.put_lines.Goals as goal
 use Rattle.lrc_verdict.proofs.pairs.put_lines.Goals.{then-len-ge-BLOCK+in_ok-put, else-len-ge-BLOCK}
@@ -25,10 +24,10 @@ returns-in_err-put-clause-err g c =
     let acts = c.args.acts.now in
     let pairs = c.args.pairs.now in
     let i = c.loop-pair.pair-index in
+    let text : c.deref.result.now ≡ c.loop-pair.text.items ++ pair_line c.accesses_of.result =
+    subst (λ (line : List ℕ). line ≡ c.loop-pair.text.items ++ pair_line c.accesses_of.result) (sym c.deref.ensures.value) c.in_ok-push_pair.ensures.ok in
     let more : c.loop-pair.text.items ++ pair_lines acts (drop i pairs) ≡ c.deref.result.now ++ pair_lines acts (drop (i + 1) pairs) =
-    gathered acts pairs i nothing c.loop-pair-test.true c.loop-pair.text.items c.deref.result.now
-    (c.deref.ensures.value ∙ c.in_ok-push_pair.ensures.ok
-    ∙ ap (λ (pair : RacingAccesses). c.loop-pair.text.items ++ pair_line pair) c.accesses_of.ensures) in
+    gathered acts pairs i nothing c.loop-pair-test.true c.accesses_of.result c.loop-pair.text.items c.deref.result.now c.accesses_of.ensures text in
     on_err c.from_residual-in_err-put.result _
     (way_stops _ _ _ (pair_lines acts pairs) c.deref.result.now (pair_lines acts (drop (i + 1) pairs))
     (subst (IsUnderWay (g.W.Write.contents c.args.output.now.writer.now) (g.W.Write.contents c.loop-pair.output.writer.now) (pair_lines acts pairs)) more
@@ -43,8 +42,8 @@ loop-pair-preserved g c =
     let rest = pair_lines acts (drop (i + 1) pairs) in
     let old = g.W.Write.contents c.args.output.now.writer.now in
     let more : c.loop-pair.text.items ++ pair_lines acts (drop i pairs) ≡ c.push_pair.new.text.items ++ rest =
-    gathered acts pairs i nothing c.loop-pair-test.true c.loop-pair.text.items c.push_pair.new.text.items
-    (c.in_ok-push_pair.ensures.ok ∙ ap (λ (pair : RacingAccesses). c.loop-pair.text.items ++ pair_line pair) c.accesses_of.ensures) in
+    gathered acts pairs i nothing c.loop-pair-test.true c.accesses_of.result c.loop-pair.text.items c.push_pair.new.text.items c.accesses_of.ensures
+    c.in_ok-push_pair.ensures.ok in
     let way = subst (IsUnderWay old (g.W.Write.contents c.loop-pair.output.writer.now) (pair_lines acts pairs)) more c.loop-pair.invariant.way in
     elim c.if-len-ge-BLOCK.branch [
       | then-len-ge-BLOCK+in_ok-put w ↦ record {
