@@ -1,1 +1,6 @@
+mod Ascending
+pub mod Judged
+mod PairLists
+mod Racing
 pub mod Within
+mod Writing

@@ -1,5 +1,6 @@
 -- Where the acts stand that a judgement names.
-use Rattle.std.proofs.Common.{◌≡◌, ◌∙◌, ◌<◌, ◌≤◌, ◌+◌, ◌⊎◌, ◌++◌, ℕ, List, [], All, ap, Option, Some, length, take, get_or, inl, inr, arith}
+use Rattle.std.proofs.Common.{◌≡◌, ◌∙◌, ◌<◌, ◌≤◌, ◌+◌, ◌⊎◌, ◌++◌, ℕ, List, [], All, ap, Option, Some, length, take, get_or, inl, inr, subst, sym, arith}
+use Rattle.std.specs.Prelude.{IfErr, IsErrAnd, Result, Ok, Err}
 use Rattle.std.proofs.lemmas.List.{take_more}
 use Rattle.std.proofs.lemmas.List.Elements.{All-cons, All-more, All-nil, All-pop, All-weaker, Contains-get_or}
 use Rattle.lrc_trace.specs.declared.act.Act.{Act}
@@ -9,9 +10,10 @@ use Rattle.lrc_judge.specs.Synchronization.{Breaks, IsFirstBreak, acquire, relea
 use Rattle.lrc_judge.specs.Reading.{IsFirstMisread}
 use Rattle.lrc_judge.specs.InOrder.{IsFirstOutOfOrder}
 use Rattle.lrc_judge.specs.declared.in_order.OutOfOrder.{OutOfOrder}
-use Rattle.lrc_judge.specs.Pairs.{AreRacingPairs}
+use Rattle.lrc_judge.specs.Pairs.{ArePairsWithLater}
 use Rattle.lrc_judge.specs.declared.lanes.Pair.{Pair}
 use Rattle.lrc_acts.specs.ActsText.{SayActs, empty, more, none}
+use Rattle.lrc_acts.specs.declared.reading.ActsFault.{ActsFault}
 use Rattle.lrc_verdict.specs.Judgement.{IsNodeCount}
 
 breaks_within : {nodes : ℕ} {run : List Act} {j : ℕ} → Breaks nodes run j → j < length run
@@ -40,15 +42,17 @@ access_within : {run : List Act} {j q word : ℕ} → Reads run j q word ⊎ Wri
 access_within (inl h) = Does-within h.1
 access_within (inr h) = Does-within h.1
 
-race_within : {run : List Act} {i j : ℕ} → Races run i j → j < length run
+pub race_within : {run : List Act} {i j : ℕ} → Races run i j → j < length run
 race_within r = access_within r.conflict.3.second
 
-pub pair_within : (acts : List Act) (pairs : List Pair) → AreRacingPairs acts pairs → (k : ℕ) (d : Pair) → k < length pairs
-    → ((get_or pairs k d).earlier < length acts) × ((get_or pairs k d).later < length acts)
-pair_within acts pairs h k d lt =
-    let races = (h.exact (get_or pairs k d)).0 (Contains-get_or pairs k d lt) in
-    let last = race_within races in
-    (omega (arith, races.earlier, last), last)
+-- the positions of the pairs with a later position lie in the run
+pub pairs_within : (acts : List Act) (later : ℕ) (pairs : List Pair) → ArePairsWithLater acts later pairs
+    → All (λ pair. (pair.earlier < length acts) × (pair.later < length acts)) pairs
+pairs_within acts later pairs are k d within =
+    let race = ((are.exact (get_or pairs k d)).0 (Contains-get_or pairs k d within)).1 in
+    let last = race_within race in
+    let earlier = race.earlier in
+    (omega arith, last)
 
 -- ---- nodes
 
@@ -78,3 +82,9 @@ pub three_texts : (none one two three first second third : List ℕ) → none �
     → three ≡ first ++ second ++ third
 three_texts start one two three first second third n f s t =
     t ∙ ap (λ (l : List ℕ). l ++ third) (s ∙ ap (λ (l : List ℕ). l ++ second) (f ∙ ap (λ (l : List ℕ). l ++ first) n))
+
+-- ---- faults
+
+pub fault_up : {T : Type 0} (r : Result T ActsFault) (fault : ActsFault) (P : ActsFault → Type 0) → IsErrAnd r (λ f. f ≡ fault) → P fault → IfErr r P
+fault_up (Ok x) fault P is h = tt
+fault_up (Err f) fault P is h = subst P (sym is) h

@@ -63,9 +63,12 @@ abbrev pub writes : Deed → Bool
 writes (Write word value) = true
 writes _ = false
 
--- the deed at a position
+-- the deed at a position, and the node that does it
 abbrev pub deed_at : List Act → ℕ → Deed
 deed_at acts position = (slice_index_or acts position (act_of 0 Quiet)).deed
+
+abbrev pub node_at : List Act → ℕ → ℕ
+node_at acts position = (slice_index_or acts position (act_of 0 Quiet)).node
 
 -- the accesses at two positions, to the word of the later
 abbrev pub accesses_at : List Act → ℕ → ℕ → RacingAccesses
@@ -77,11 +80,14 @@ accesses_at acts earlier later = record {
   word = word_of (deed_at acts later);
 }
 
+-- a line for each pair of positions
+abbrev pub pair_lines : List Act → List Pair → List ℕ
+pair_lines acts pairs = flat_map (λ pair. pair_line (accesses_at acts pair.earlier pair.later)) pairs
+
 -- the text names the races of the acts; or, where they are asked for, the racing pairs
 pub data TellsRaces (acts : List Act) : Bool → List ℕ → Type 0 where
   named : {races : List Race} → AreNamedRaces acts races → TellsRaces acts false (races_text races)
-  paired : {pairs : List Pair} → AreRacingPairs acts pairs
-      → TellsRaces acts true (flat_map (λ pair. pair_line (accesses_at acts pair.earlier pair.later)) pairs)
+  paired : {pairs : List Pair} → AreRacingPairs acts pairs → TellsRaces acts true (pair_lines acts pairs)
 
 -- the least number above 0 below which every node is that acts
 pub record IsNodeCount (acts : List Act) (count : ℕ) : Type 0 where

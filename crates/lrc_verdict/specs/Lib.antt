@@ -1,1 +1,4 @@
+pub mod BrokenOff
 pub mod Judgement
+pub mod PairsTold
+pub mod RacingPairs

@@ -1,6 +1,6 @@
 // What is printed of a text of acts, and the status after it.
 
-ghost use Rattle.std.specs.Prelude.{◌≡◌, ◌<◌, ◌≤◌, ◌⊎◌, ◌++◌, All, IfErr, IfOk, IfSome, Err, length};
+ghost use Rattle.std.specs.Prelude.{◌≡◌, ◌<◌, ◌≤◌, ◌⊎◌, ◌++◌, All, IfErr, IfOk, IfSome, Err, false, length};
 ghost use Rattle.lrc_judge.specs.declared.TheConstants.{NODES};
 ghost use Rattle.lrc_text.specs.Parts.{whole_text};
 ghost use Rattle.lrc_text.specs.RaceText.{first_race_text};
@@ -24,16 +24,10 @@ pub struct Printout {
     pub status: u8,
 }
 
-/// What a judge says of the acts of a text, of so many nodes where that is given, with the racing pairs in place of the named races
-/// where they are asked for; or the first line that is bad.
-pub fn judge(
-    alloc: Global,
-    text: &[u8],
-    nodes: Option<u32>,
-    pairs: bool,
-) -> Result<Printout, ActsFault>
+/// What a judge says of the acts of a text, of so many nodes where that is given, with their named races; or the first line that is bad.
+pub fn judge(alloc: Global, text: &[u8], nodes: Option<u32>) -> Result<Printout, ActsFault>
     requires nodes { IfSome nodes (λ count. count ≤ NODES) }
-    ensures ok { IfOk result (λ printout. Judges nodes pairs text.now (whole_text printout.parts.items) printout.status) }
+    ensures ok { IfOk result (λ printout. Judges nodes false text.now (whole_text printout.parts.items) printout.status) }
     ensures err { IfErr result (λ fault. ReadsActs nodes text.now (Err fault)) }
     ensures memory { IfErr result (λ fault. fault ≡ NoMemory → MayRunOut nodes text.now) }
 {
@@ -43,7 +37,6 @@ pub fn judge(
         &lined.acts,
         &lined.lines,
         nodes_of(nodes, &lined.acts),
-        pairs,
     )?;
     Ok(printout)
 }
@@ -82,36 +75,36 @@ fn greater(a: u8, b: u8) -> u8
     if a < b { b } else { a }
 }
 
-fn judgement(
-    alloc: Global,
-    acts: &[Act],
-    lines: &[u32],
-    nodes: u8,
-    pairs: bool,
-) -> Result<Printout, AllocError>
+fn judgement(alloc: Global, acts: &[Act], lines: &[u32], nodes: u8) -> Result<Printout, AllocError>
     requires nodes { nodes ≤ NODES }
     requires acts { All (λ act. act.node < NODES) acts.now }
     requires lines { length acts.now ≡ length lines.now }
-    ensures { IfOk result (λ printout. IsJudgement nodes acts.now lines.now pairs
+    ensures { IfOk result (λ printout. IsJudgement nodes acts.now lines.now false
         (whole_text printout.parts.items) printout.status) }
 {
     let head = head_of(alloc, acts, lines, nodes)?;
-    let races = races_told(alloc, acts, pairs)?;
+    let races = races_told(alloc, acts)?;
     let first = first_race(alloc, acts)?;
     let status = status_of(head.synchronized, head.lazy, first);
     let parts = parts_of(alloc, head.text, races, first)?;
     Ok(Printout { parts, status })
 }
 
-// The first three lines.
+/// The first three lines, and what the first two say.
 #[derive(Drop)]
-struct Head {
-    text: Vec<u8>,
-    synchronized: bool,
-    lazy: bool,
+pub(crate) struct Head {
+    pub(crate) text: Vec<u8>,
+    pub(crate) synchronized: bool,
+    pub(crate) lazy: bool,
 }
 
-fn head_of(alloc: Global, acts: &[Act], lines: &[u32], nodes: u8) -> Result<Head, AllocError>
+/// The first three lines of a judgement.
+pub(crate) fn head_of(
+    alloc: Global,
+    acts: &[Act],
+    lines: &[u32],
+    nodes: u8,
+) -> Result<Head, AllocError>
     requires nodes { nodes ≤ NODES }
     requires acts { All (λ act. act.node < NODES) acts.now }
     requires lines { length acts.now ≡ length lines.now }
@@ -143,7 +136,8 @@ fn parts_of(
     Ok(parts)
 }
 
-fn status_of(synchronized: bool, lazy: bool, first: Option<usize>) -> u8
+/// The status with which the program ends after a judgement.
+pub(crate) fn status_of(synchronized: bool, lazy: bool, first: Option<usize>) -> u8
     ensures { result ≡ judge_status synchronized lazy first }
 {
     if !synchronized || !lazy {

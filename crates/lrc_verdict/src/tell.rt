@@ -5,17 +5,13 @@ ghost use Rattle.lrc_trace.specs.declared.act.Deed.TheVariants.{Read};
 ghost use Rattle.lrc_trace.specs.Run.{IsDone};
 ghost use Rattle.lrc_judge.specs.declared.TheConstants.{NODES};
 ghost use Rattle.lrc_judge.specs.InOrder.{IsFirstOutOfOrder};
-ghost use Rattle.lrc_judge.specs.Pairs.{AreRacingPairs};
 ghost use Rattle.lrc_judge.specs.Reading.{IsFirstMisread};
-ghost use Rattle.lrc_verdict.specs.Judgement.{AddsText, TellsLazyReading, TellsOrder, TellsRaces, TellsSynchronization, accesses_at, place_at, writes};
+ghost use Rattle.lrc_verdict.specs.Judgement.{AddsText, TellsLazyReading, TellsOrder, TellsRaces, TellsSynchronization, place_at};
 
-use lrc_acts::judge_lines::{
-    Place, RacingAccesses, push_pair, push_unlazy, push_unordered, push_unsynchronized,
-};
+use lrc_acts::judge_lines::{Place, push_unlazy, push_unordered, push_unsynchronized};
 use lrc_judge::NODES;
 use lrc_judge::in_order::{OutOfOrder, first_out_of_order};
-use lrc_judge::pairs::{Pair, racing_pairs};
-use lrc_judge::races::{named_races, word_of};
+use lrc_judge::races::named_races;
 use lrc_judge::reading::{first_fault_of_reading, values_allowed};
 use lrc_judge::synchronization::first_fault_of_synchronization;
 use lrc_text::races_part;
@@ -158,63 +154,12 @@ fn tell_disorder(
     Ok(())
 }
 
-/// The lines of the races, or of the racing pairs where they are asked for.
-pub(crate) fn races_told(alloc: Global, acts: &[Act], pairs: bool) -> Result<Vec<u8>, AllocError>
-    requires { All (λ act. act.node < NODES) acts.now }
-    ensures { IfOk result (λ part. TellsRaces acts.now pairs part.items) }
-{
-    if pairs {
-        pairs_told(alloc, acts)
-    } else {
-        named_told(alloc, acts)
-    }
-}
-
-fn named_told(alloc: Global, acts: &[Act]) -> Result<Vec<u8>, AllocError>
+/// The lines of the races.
+pub(crate) fn races_told(alloc: Global, acts: &[Act]) -> Result<Vec<u8>, AllocError>
     requires { All (λ act. act.node < NODES) acts.now }
     ensures { IfOk result (λ part. TellsRaces acts.now false part.items) }
 {
     let races = named_races(alloc, acts)?;
     let part = races_part(alloc, &races)?;
     Ok(part)
-}
-
-fn pairs_told(alloc: Global, acts: &[Act]) -> Result<Vec<u8>, AllocError>
-    requires { All (λ act. act.node < NODES) acts.now }
-    ensures { IfOk result (λ part. TellsRaces acts.now true part.items) }
-{
-    let pairs = racing_pairs(alloc, acts)?;
-    pair_lines(alloc, acts, &pairs)
-}
-
-fn pair_lines(alloc: Global, acts: &[Act], pairs: &[Pair]) -> Result<Vec<u8>, AllocError>
-    requires { AreRacingPairs acts.now pairs.now }
-    ensures { IfOk result (λ part. TellsRaces acts.now true part.items) }
-{
-    let mut text = Vec::new(alloc);
-    for pair in pairs {
-        push_pair(&mut text, accesses_of(acts, pair.earlier, pair.later))?;
-    }
-    Ok(text)
-}
-
-// The accesses at two positions, to the word of the later.
-fn accesses_of(acts: &[Act], earlier: usize, later: usize) -> RacingAccesses
-    requires earlier { earlier < length acts.now }
-    requires later { later < length acts.now }
-    ensures { result ≡ accesses_at acts.now earlier later }
-{
-    RacingAccesses {
-        earlier,
-        earlier_writes: writes(acts[earlier].deed),
-        later,
-        later_writes: writes(acts[later].deed),
-        word: word_of(acts[later].deed),
-    }
-}
-
-fn writes(deed: Deed) -> bool
-    ensures { result ≡ writes deed }
-{
-    matches!(deed, Deed::Write(_, _))
 }

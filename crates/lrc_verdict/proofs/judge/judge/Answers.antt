@@ -1,11 +1,9 @@
-use Rattle.std.proofs.Common.{◌≡◌, ◌∙◌, ◌<◌, ℕ, List, All, length, ap, inl, inr, subst, sym}
-use Rattle.std.specs.Prelude.{IfErr, IsErrAnd, Result, Ok, Err}
+use Rattle.std.proofs.Common.{◌≡◌, ◌∙◌, ◌<◌, ℕ, List, All, length, ap, false, inl, inr, subst, sym}
 use Rattle.lrc_trace.specs.declared.act.Act.{Act}
 use Rattle.lrc_text.specs.Parts.{whole_text}
-use Rattle.lrc_acts.specs.declared.reading.ActsFault.{ActsFault}
 use Rattle.lrc_acts.specs.declared.reading.ActsFault.TheVariants.{NoMemory}
 use Rattle.lrc_verdict.specs.Judgement.{CountsNodes, IsJudgement, MayRunOut}
-use Rattle.lrc_verdict.proofs.Within.{acts_ranged, as_many}
+use Rattle.lrc_verdict.proofs.Within.{acts_ranged, as_many, fault_up}
 use Rattle.lrc_verdict.proofs.judge.judge.Goals as goal
 
 pub nodes_of-requires-clause-acts : goal.nodes_of-requires-clause-acts
@@ -32,14 +30,10 @@ returns-clause-ok c =
       count = count;
       says = c.in_ok-lined.ensures.ok;
       counted = subst (λ (acts : List Act). CountsNodes c.args.nodes acts count) c.deref-3.ensures.value c.nodes_of.ensures.nodes;
-      judgement = subst (λ (acts : List Act). IsJudgement count acts lined.lines.items c.args.pairs out status) c.deref.ensures.value
-          (subst (λ (lines : List ℕ). IsJudgement count c.deref.result.now lines c.args.pairs out status) c.deref-2.ensures.value
+      judgement = subst (λ (acts : List Act). IsJudgement count acts lined.lines.items false out status) c.deref.ensures.value
+          (subst (λ (lines : List ℕ). IsJudgement count c.deref.result.now lines false out status) c.deref-2.ensures.value
           c.in_ok-printout.ensures);
     }
-
-fault_up : {T : Type 0} (r : Result T ActsFault) (fault : ActsFault) (P : ActsFault → Type 0) → IsErrAnd r (λ f. f ≡ fault) → P fault → IfErr r P
-fault_up (Ok x) fault P is h = tt
-fault_up (Err f) fault P is h = subst P (sym is) h
 
 pub returns-in_err-lined-clause-memory : goal.returns-in_err-lined-clause-memory
 returns-in_err-lined-clause-memory c =

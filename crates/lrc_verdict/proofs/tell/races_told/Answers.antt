@@ -1,7 +1,7 @@
 use Rattle.std.proofs.Common.{ℕ, List, ap, subst, sym, false, ◌∙◌}
 use Rattle.lrc_text.specs.RaceText.{races_text}
 use Rattle.lrc_verdict.specs.Judgement.{TellsRaces, named}
-use Rattle.lrc_verdict.proofs.tell.named_told.Goals as goal
+use Rattle.lrc_verdict.proofs.tell.races_told.Goals as goal
 
 pub returns : goal.returns
 returns c =
