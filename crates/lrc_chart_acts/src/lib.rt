@@ -4,6 +4,7 @@
 
 mod direct;
 mod fault;
+pub mod laws;
 mod portrait;
 mod rows;
 mod shown;

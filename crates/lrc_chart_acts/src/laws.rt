@@ -1,0 +1,14 @@
+// What always holds of pictures of acts. Each function is a law: its clause is the statement, and there is nothing to do.
+
+ghost use Rattle.std.specs.Prelude.{◌≡◌, ◌↔◌, ℕ, List, Some};
+ghost use Rattle.lrc_judge.specs.Order.{IsOrderOf};
+ghost use Rattle.lrc_judge.specs.declared.order.Order.{Order as OrderRecord};
+ghost use Rattle.lrc_trace.specs.declared.act.Act.{Act};
+ghost use Rattle.lrc_chart_acts.specs.Direct.{IsDirect, direct_lock};
+
+/// An arrow is drawn between two acts exactly where the one releases a lock that the other, of another node, acquires later, and no chain
+/// of other acts leads from the one to the other: of any list of acts.
+pub fn an_arrow_is_where_no_chain_is()
+    ensures { (run : List Act) (order : OrderRecord) (i j : ℕ) → IsOrderOf run order
+        → ((lock : ℕ) × (direct_lock order run i j ≡ Some lock)) ↔ IsDirect run i j }
+{}
