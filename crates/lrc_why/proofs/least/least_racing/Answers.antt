@@ -8,6 +8,6 @@ pub loop-k-preserved : goal.loop-k-preserved
 loop-k-preserved c =
     let Racing : ℕ → Type 0 = IsRacing c.args.acts.now c.args.node c.args.position in
     λ m less races. ⊎_elim
-        (λ (same : m ≡ c.loop-k.k). c.if-is_racing.ensures (subst Racing same races))
-        (λ (apart : m ≡ c.loop-k.k → ⊥). c.loop-k.invariant m (omega arith) races)
-        (cases_eq m c.loop-k.k)
+    (λ (same : m ≡ c.loop-k.k). c.if-is_racing.ensures (subst Racing same races))
+    (λ (apart : m ≡ c.loop-k.k → ⊥). c.loop-k.invariant m (omega arith) races)
+    (cases_eq m c.loop-k.k)
