@@ -8,7 +8,7 @@ use Rattle.lrc_lang.specs.declared.fault.ParseFault.{ParseFault}
 use Rattle.lrc_lang.specs.declared.program.Program.{Program}
 use Rattle.lrc_protocol.specs.Run.{EntryRecord}
 use Rattle.lrc_protocol.specs.declared.event.Event.{Event}
-use Rattle.lrc_world.specs.declared.report.Brief.{Brief}
+use Rattle.lrc_world.specs.declared.report.Report.{Report}
 use Rattle.lrc_args.specs.declared.choice.Asking.{Asking}
 use Rattle.lrc_args.specs.declared.choice.ChartedActs.{ChartedActs}
 use Rattle.lrc_args.specs.declared.choice.Charting.{Charting}
@@ -108,7 +108,7 @@ printed_of run shape text events_text program events account (Ok printout) is ra
 printed_of run shape text events_text program events account (Err fault) is ran shown ended = tt
 
 -- also where the turns of the nodes are not known
-pub told_of : (run : RunChoice) (shape : Shape) (text : List ℕ) (events_text : Option (List ℕ)) (program : Program) (brief : Brief)
+pub told_of : (run : RunChoice) (shape : Shape) (text : List ℕ) (events_text : Option (List ℕ)) (program : Program) (brief : Report)
     (r : Result Printout Fault) → IsTextOf text program → IsBriefRun run.way program run.options events_text brief
     → IfOk r (λ printout. (events : List Event) (logs : List (List EntryRecord))
     → IsShown shape run text program events (account_with brief logs) (whole_text printout.parts.items))
@@ -128,7 +128,7 @@ unshown_of run shape text events_text program events account (Err fault) is ran 
     inr (program, is, inr (record { events = events; account = account; ran = ran; unshown = unshown }))
 
 -- what is told of a run without the turns of its nodes, in whichever way it goes on
-pub told_any : (run : RunChoice) (shape : Shape) (text : List ℕ) (program : Program) (brief : Brief) (r : Result Printout Fault) → IsTextOf text program
+pub told_any : (run : RunChoice) (shape : Shape) (text : List ℕ) (program : Program) (brief : Report) (r : Result Printout Fault) → IsTextOf text program
     → ((events_text : Option (List ℕ)) → IsBriefRun run.way program run.options events_text brief)
     → IfOk r (λ printout. (events : List Event) (logs : List (List EntryRecord))
     → IsShown shape run text program events (account_with brief logs) (whole_text printout.parts.items))
@@ -139,7 +139,7 @@ told_any run shape text program brief (Ok printout) is ran shown ended =
 told_any run shape text program brief (Err fault) is ran shown ended = tt
 
 -- and why it is not told
-pub untold_any : (run : RunChoice) (shape : Shape) (text : List ℕ) (program : Program) (brief : Brief) (r : Result Printout Fault) → IsTextOf text program
+pub untold_any : (run : RunChoice) (shape : Shape) (text : List ℕ) (program : Program) (brief : Report) (r : Result Printout Fault) → IsTextOf text program
     → ((events_text : Option (List ℕ)) → IsBriefRun run.way program run.options events_text brief)
     → IfErr r (λ fault. (events : List Event) (logs : List (List EntryRecord)) → IsShowFault shape run text program events (account_with brief logs) fault)
     → IfErr r (λ fault. (events_text : Option (List ℕ)) → IsFault (Show run shape) text events_text fault)

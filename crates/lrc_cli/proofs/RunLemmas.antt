@@ -1,5 +1,5 @@
 -- What is known of a run by what came of it.
-use Rattle.std.proofs.Common.{◌≡◌, ◌<◌, ◌≤◌, ℕ, false, List, All, Option, Some, Result, Ok, Err, ap, arith, get_or, length, map, refl, sym, subst}
+use Rattle.std.proofs.Common.{◌≡◌, ◌<◌, ◌≤◌, ℕ, false, List, All, Option, Result, Ok, Err, ap, arith, get_or, map, refl, sym, subst}
 use Rattle.std.proofs.lemmas.Bool.{false≢true}
 use Rattle.std.specs.Result.{MatchResult, is_ok}
 use Rattle.lrc_lang.specs.declared.program.Program.{Program}
@@ -10,16 +10,16 @@ use Rattle.lrc_timed.proofs.OfRuns.{acts_of_nodes}
 use Rattle.lrc_args.specs.declared.choice.RunOptions.{RunOptions}
 use Rattle.lrc_args.specs.declared.choice.Way.{Way}
 use Rattle.lrc_args.specs.declared.choice.Way.TheVariants.{Rounds, Random}
-use Rattle.lrc_judge.specs.Races.{AreNamedRaces}
 use Rattle.lrc_protocol.specs.Node.{OptionsRecord}
-use Rattle.lrc_protocol.specs.Run.{EntryRecord, World as Run, run_of}
-use Rattle.lrc_world.specs.Promises.{AreKept}
-use Rattle.lrc_world.specs.Random.{IsWandering}
-use Rattle.lrc_world.specs.Report.{AreAll, IsBriefOf}
-use Rattle.lrc_world.specs.Rounds.{AreRounds}
-use Rattle.lrc_world.specs.declared.report.Brief.{Brief}
+use Rattle.lrc_protocol.specs.Run.{EntryRecord}
+use Rattle.lrc_world.specs.Led.{AreLed, Schedule}
+use Rattle.lrc_world.specs.Random.{wandering}
+use Rattle.lrc_world.specs.Rounds.{schedule_of_rounds}
+use Rattle.lrc_world.specs.Runs.{AreLedToEnd, IsRunBy, IsRunIn}
 use Rattle.lrc_world.specs.Turned.{HaveLogs}
-use Rattle.lrc_world.specs.World.{sends_long}
+use Rattle.lrc_world.specs.declared.keep.Keep.TheVariants.{Newest}
+use Rattle.lrc_world.specs.declared.run.Order.TheVariants as orders
+use Rattle.lrc_world.specs.declared.run.Run.{Run as MadeRun}
 use Rattle.lrc_cli.specs.Runs.{Account, AreEventsOfWay, AreShort, AreToEnd, IsBriefRun, IsReported, account_with, options_of}
 
 -- a value stays as it is where an error would have been replaced
@@ -29,44 +29,39 @@ value_stays (Ok y) s Q x passed alike is = let there : s ≡ Ok y = passed in le
 value_stays (Err e) s Q x passed alike is = absurd (false≢true (sym (subst (λ t. is_ok t ≡ false) is alike)))
 
 -- what came of a run that is led, where the turns of its nodes were not kept
-module _ (program : Program) (options : RunOptions) (setting : OptionsRecord) (events_text : Option (List ℕ)) (events : List Event) (brief : Brief)
-    (same : setting ≡ options_of options) (is : IsBriefOf program options.nodes.count setting events brief)
-    (races : AreNamedRaces brief.acts.items brief.races.items) (few : length events ≤ 100000000)
-    (over : length events < 100000000 → AreAll program options.nodes.count setting events)
-    (kept : AreKept program options.nodes.count setting events brief.acts.items brief.ends.items) where
-  to_end : AreToEnd program options events
-  to_end = record {
-    few = few;
-    over = subst (λ (o : OptionsRecord). length events < 100000000 → AreAll program options.nodes.count o events) same over;
-  }
-
-  short : AreShort program options events
-  short =
-      subst (λ (o : OptionsRecord). (run : Run) → run_of program options.nodes.count o events ≡ Some run → sends_long run ≡ false) same kept.short
-
-  brief_run : (way : Way) → ((logs : List (List EntryRecord)) → AreEventsOfWay way program options events_text (account_with brief logs) events)
-      → IsBriefRun way program options events_text brief
-  brief_run way come =
-      let is' : IsBriefOf program options.nodes.count (options_of options) events brief =
-      subst (λ (o : OptionsRecord). IsBriefOf program options.nodes.count o events brief) same is in
+module _ (program : Program) (options : RunOptions) (setting : OptionsRecord) (events_text : Option (List ℕ)) (made : MadeRun)
+    (same : setting ≡ options_of options) where
+  brief_run : (way : Way) (schedule : Schedule)
+      → IsRunBy (AreLedToEnd schedule program options.nodes.count setting) program options.nodes.count setting Newest made
+      → ((logs : List (List EntryRecord)) → AreLed schedule program options.nodes.count (options_of options) made.events.items
+      → AreToEnd program options made.events.items → AreShort program options made.events.items
+      → AreEventsOfWay way program options events_text (account_with made.report logs) made.events.items)
+      → IsBriefRun way program options events_text made.report
+  brief_run way schedule was come =
+      let is : IsRunBy (AreLedToEnd schedule program options.nodes.count (options_of options)) program options.nodes.count (options_of options) Newest made =
+      subst (λ (o : OptionsRecord). IsRunBy (AreLedToEnd schedule program options.nodes.count o) program options.nodes.count o Newest made) same was in
       record {
-        events = events;
-        logs = map (λ l. l.log) is'.0.nodes;
-        come = come (map (λ l. l.log) is'.0.nodes);
-        reported = (is'.0, is'.1, record { acts = is'.2.acts; ends = is'.2.ends; logs = refl; first = is'.2.first; races = races });
+        events = made.events.items;
+        logs = map (λ l. l.log) is.made.nodes;
+        come = come (map (λ l. l.log) is.made.nodes) is.events.led (record { few = is.events.few; over = is.events.over }) is.kept.short;
+        reported = (
+          is.made,
+          is.makes,
+          record { acts = is.report.acts; ends = is.report.ends; logs = refl; first = is.report.first; races = is.races },
+        );
       }
 
   -- in rounds
-  pub brief_in_rounds : (order : Picker) → AreRounds program options.nodes.count setting order events
-      → IsBriefRun (Rounds order) program options events_text brief
-  brief_in_rounds order rounds =
-      brief_run (Rounds order) (λ logs. (subst (λ (o : OptionsRecord). AreRounds program options.nodes.count o order events) same rounds, to_end, short))
+  pub brief_in_rounds : (order : Picker) → IsRunIn (orders.Rounds order) program options.nodes.count setting Newest made
+      → IsBriefRun (Rounds order) program options events_text made.report
+  brief_in_rounds order is =
+      brief_run (Rounds order) (schedule_of_rounds order options.nodes.count) is (λ logs led to_end short. (led, to_end, short))
 
   -- and in a random order
-  pub brief_at_random : (seed : ℕ) → IsWandering program options.nodes.count setting seed events
-      → IsBriefRun (Random seed) program options events_text brief
-  brief_at_random seed wandering =
-      brief_run (Random seed) (λ logs. (subst (λ (o : OptionsRecord). IsWandering program options.nodes.count o seed events) same wandering, to_end, short))
+  pub brief_at_random : (seed : ℕ) → IsRunIn (orders.Random seed) program options.nodes.count setting Newest made
+      → IsBriefRun (Random seed) program options events_text made.report
+  brief_at_random seed is =
+      brief_run (Random seed) (wandering options.nodes.count seed) is (λ logs led to_end short. (led, to_end, short))
 
 module _ (program : Program) (options : RunOptions) (events : List Event) (account : Account) (reported : IsReported program options events account) where
   -- its logs are those of its events

@@ -16,7 +16,6 @@ use Rattle.lrc_world.specs.Report.{AreAll, IsWornBy, end_of_logged}
 use Rattle.lrc_world.specs.Rounds.{AreRounds, RoundsWearOut}
 use Rattle.lrc_world.specs.Turned.{turned_of}
 use Rattle.lrc_world.specs.World.{sends_long}
-use Rattle.lrc_world.specs.declared.report.Brief.{Brief}
 use Rattle.lrc_world.specs.declared.report.Report.{Report}
 use Rattle.lrc_world.specs.declared.turned.Turned.{Turned}
 use Rattle.lrc_run.specs.Run.{AreWiresOf, IsWovenReport, turns_of_nodes}
@@ -54,8 +53,8 @@ account_of report = record {
   first_race = report.first_race;
 }
 
--- what a report without the turns of the nodes says, where they are these
-abbrev pub account_with : Brief → List (List EntryRecord) → Account
+-- what a report says beside its turns, where the turns of the nodes are these
+abbrev pub account_with : Report → List (List EntryRecord) → Account
 account_with brief logs = record {
   acts = brief.acts.items;
   ends = brief.ends.items;
@@ -123,7 +122,7 @@ is_led (ways.Random seed) = true
 is_led (ways.Threads order) = false
 
 -- what came of such a run, without the turns of its nodes
-pub record IsBriefRun (way : Way) (program : Program) (options : RunOptions) (events_text : Option (List ℕ)) (brief : Brief) : Type 0 where
+pub record IsBriefRun (way : Way) (program : Program) (options : RunOptions) (events_text : Option (List ℕ)) (brief : Report) : Type 0 where
   pub events : List Event
   pub logs : List (List EntryRecord)
   pub come : AreEventsOfWay way program options events_text (account_with brief logs) events

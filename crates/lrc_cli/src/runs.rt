@@ -15,8 +15,10 @@ use lrc_events::events::events_of;
 use lrc_lang::program::Program;
 use lrc_node::Options;
 use lrc_protocol::Event;
-use lrc_world::report::{Brief, Report};
-use lrc_world::simulate::{drive, drive_briefly, simulate, wander, wander_briefly};
+use lrc_world::keep::Keep;
+use lrc_world::report::Report;
+use lrc_world::run::Order;
+use lrc_world::simulate::{drive, run_checked, simulate, wander};
 use std::alloc::Global;
 
 /// A run.
@@ -67,7 +69,7 @@ pub(crate) fn brief_of(
     alloc: Global,
     choice: &RunChoice<'_>,
     program: &Program,
-) -> Result<Brief, Fault>
+) -> Result<Report, Fault>
     requires { is_led choice.now.way ≡ true }
     ensures ok { IfOk result (λ brief. (events_text : Option (List ℕ))
         → IsBriefRun choice.now.way program.now choice.now.options events_text brief) }
@@ -147,16 +149,18 @@ fn driven_briefly(
     options: &RunOptions<'_>,
     program: &Program,
     order: Picker,
-) -> Result<Brief, Fault>
+) -> Result<Report, Fault>
     ensures ok { IfOk result (λ brief. (events_text : Option (List ℕ))
         → IsBriefRun (InRounds order) program.now options.now events_text brief) }
     ensures err { IfErr result (IsLedFault
         (RoundsWearOut program.now options.now.nodes.count (options_of options.now) order)) }
 {
     let nodes = options.nodes.count;
-    let driven = drive_briefly(alloc, program, nodes, &options_of(options), order);
-    let (_events, brief) = driven.map_err(fault_of_run)?;
-    Ok(brief)
+    let setting = options_of(options);
+    let order = Order::Rounds(order);
+    let driven = run_checked(alloc, program, nodes, &setting, order, Keep::Newest);
+    let run = driven.map_err(fault_of_run)?;
+    Ok(run.report)
 }
 
 // What came of the run in a random order.
@@ -165,16 +169,18 @@ fn wandered_briefly(
     options: &RunOptions<'_>,
     program: &Program,
     seed: u64,
-) -> Result<Brief, Fault>
+) -> Result<Report, Fault>
     ensures ok { IfOk result (λ brief. (events_text : Option (List ℕ))
         → IsBriefRun (AtRandom seed) program.now options.now events_text brief) }
     ensures err { IfErr result (IsLedFault
         (WanderingWearsOut program.now options.now.nodes.count (options_of options.now) seed)) }
 {
     let nodes = options.nodes.count;
-    let wandered = wander_briefly(alloc, program, nodes, &options_of(options), seed);
-    let (_events, brief) = wandered.map_err(fault_of_run)?;
-    Ok(brief)
+    let setting = options_of(options);
+    let order = Order::Random(seed);
+    let wandered = run_checked(alloc, program, nodes, &setting, order, Keep::Newest);
+    let run = wandered.map_err(fault_of_run)?;
+    Ok(run.report)
 }
 
 pub(crate) fn options_of(options: &RunOptions<'_>) -> Options

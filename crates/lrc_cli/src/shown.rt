@@ -29,7 +29,7 @@ use lrc_node::End;
 use lrc_report::report::{run_parts, status_after_run};
 use lrc_stats::stats_part;
 use lrc_trace::act::Act;
-use lrc_world::report::Brief;
+use lrc_world::report::Report;
 use std::alloc::{AllocError, Global};
 
 /// Answers a choice of a run that goes on without threads, with its texts.
@@ -109,7 +109,7 @@ fn told(
     choice: &RunChoice<'_>,
     text: &[u8],
     program: &Program,
-    brief: &Brief,
+    brief: &Report,
 ) -> Result<Printout, Fault>
     requires text { IsTextOf text.now program.now }
     requires brief { is_brief choice.now.way shape ≡ true }
@@ -132,7 +132,7 @@ fn told_parts(
     choice: &RunChoice<'_>,
     text: &[u8],
     program: &Program,
-    brief: &Brief,
+    brief: &Report,
 ) -> Result<Vec<Vec<u8>>, Fault>
     requires text { IsTextOf text.now program.now }
     requires brief { is_brief choice.now.way shape ≡ true }

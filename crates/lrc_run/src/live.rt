@@ -6,7 +6,7 @@ ghost use Rattle.lrc_exec.specs.Nodes.{AreNodes};
 ghost use Rattle.lrc_post.specs.Post.{AreOf};
 ghost use Rattle.lrc_threads.specs.Threads.{HaveNoFailure};
 ghost use Rattle.lrc_weave.specs.Logs.{AreLogs};
-ghost use Rattle.lrc_world.specs.Range.{AreSteps};
+ghost use Rattle.lrc_setting.specs.Ranges.{AreSteps};
 ghost use Rattle.lrc_run.specs.Halts.{AreLeft, IsHalt};
 ghost use Rattle.lrc_run.specs.Run.{AreWhole, IsThreadedRun, Reports};
 

@@ -3,7 +3,7 @@
 ghost use Rattle.std.specs.Prelude.{◌≡◌, ◌↔◌, ◌⊎◌, List, Err, IfErr, IfOk, MatchResult};
 ghost use Rattle.lrc_exec.specs.Nodes.{AreNodes};
 ghost use Rattle.lrc_protocol.specs.declared.event.Event.{Event as AnyEvent};
-ghost use Rattle.lrc_world.specs.Range.{AreSteps};
+ghost use Rattle.lrc_setting.specs.Ranges.{AreSteps};
 ghost use Rattle.lrc_run.specs.Halts.{IsRunFault};
 ghost use Rattle.lrc_run.specs.Run.{IsThreadedRun};
 
@@ -14,8 +14,8 @@ use lrc_lang::program::Program;
 use lrc_node::Options;
 use lrc_post::Wires;
 use lrc_threads::{Gate, OpenGate, Setting};
-use lrc_world::range::node_count;
 use lrc_world::report::{Report, SimFault};
+use lrc_world::setting::setting_of;
 use std::alloc::Global;
 use std::sync::Wait;
 use std::thread::Threads;
@@ -80,8 +80,8 @@ fn check(nodes: u32, options: &Options) -> Result<u8, RunFault>
         (λ fault. ((fault ≡ RunFault.BadNodes) × ¬ AreNodes nodes)
         ⊎ ((fault ≡ RunFault.BadSteps) × AreNodes nodes × ¬ AreSteps options.now.steps)) }
 {
-    match node_count(nodes, options) {
-        Ok(count) => Ok(count),
+    match setting_of(nodes, options) {
+        Ok(setting) => Ok(setting.nodes.number()),
         Err(SimFault::BadNodes) => Err(RunFault::BadNodes),
         // Nothing else is looked at.
         Err(_) => Err(RunFault::BadSteps),

@@ -4,9 +4,7 @@ use Rattle.lrc_cli.proofs.runs.wandered_briefly.Goals as goal
 
 pub returns-clause-ok : goal.returns-clause-ok
 returns-clause-ok c = λ events_text.
-    let done = c.wander_briefly-wandered in
-    let made = value_stays done.result c.map_err.result _ (c.in_ok-_events._events, c.in_ok-_events.brief) c.map_err.ensures.cases
-    c.map_err.ensures.variant c.in_ok-_events.was in
-    brief_at_random c.args.program.now c.args.options.now c.options_of.result events_text c.in_ok-_events._events.items c.in_ok-_events.brief
-    c.options_of.ensures (IfOk-at_ok _ made done.ensures.report) (IfOk-at_ok _ made done.ensures.races) (IfOk-at_ok _ made done.ensures.few)
-    (IfOk-at_ok _ made done.ensures.over) (IfOk-at_ok _ made done.ensures.kept) c.args.seed (IfOk-at_ok _ made done.ensures.wandering)
+    let done = c.run_checked-wandered in
+    let made = value_stays done.result c.map_err.result _ c.in_ok-run.run' c.map_err.ensures.cases c.map_err.ensures.variant c.in_ok-run.was in
+    brief_at_random c.args.program.now c.args.options.now c.options_of-setting.result events_text c.in_ok-run.run' c.options_of-setting.ensures c.args.seed
+    (IfOk-at_ok _ made done.ensures.run)

@@ -1,6 +1,6 @@
 use Rattle.std.proofs.Common.{◌∙◌}
 use Rattle.lrc_world.proofs.Ranges.{nodes_in_range, steps_in_range}
-use Rattle.lrc_world.proofs.range.node_count.Goals as goal
+use Rattle.lrc_run.proofs.runs.check.Goals as goal
 
 pub returns-in-Ok : goal.returns-in-Ok
 returns-in-Ok c = (
