@@ -47,11 +47,11 @@ of_text program nodes options keep text given (Ok run) reads is =
     (subst (λ events. ReadsEvents text (Ok events)) (sym is.events) reads)
 
 -- and why there is none
-pub fault_of_text : (program : Program) (options : RunOptions) (text : List ℕ) (given : List Event) → ReadsEvents text (Ok given) → (fault : Fault)
+pub played_fault : (program : Program) (options : RunOptions) (text : List ℕ) (given : List Event) → ReadsEvents text (Ok given) → (fault : Fault)
     → IsLedFault (IsWornBy program options.nodes.count (options_of options) given) fault → IsPlayedFault program options text fault
-fault_of_text program options text given reads Worn why = (given, reads, why)
-fault_of_text program options text given reads NoMemory why = tt
-fault_of_text program options text given reads _ why = absurd why
+played_fault program options text given reads Worn why = (given, reads, why)
+played_fault program options text given reads NoMemory why = tt
+played_fault program options text given reads _ why = absurd why
 
 -- a run of the program, whichever its events are
 pub run_with : (AreIts : List Event → Type 0) (program : Program) (options : RunOptions) (keep : Keep) (run : Run)
