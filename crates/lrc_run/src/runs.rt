@@ -9,7 +9,7 @@ ghost use Rattle.lrc_run.specs.Halts.{IsRunFault};
 ghost use Rattle.lrc_run.specs.Run.{IsThreadedRun};
 
 use crate::fault::RunFault;
-use crate::live::run_on_threads;
+use crate::live::{ThreadedRun, run_on_threads};
 use lrc_envelope::Picker;
 use lrc_lang::program::Program;
 use lrc_node::Options;
@@ -66,9 +66,18 @@ pub fn run_gated<G: Gate + Sync, R: Threads + Wait + Sync>(
 {
     let setting = check(nodes, options)?;
     match run_on_threads(rt, alloc, program, &setting, picker, gate) {
-        Ok(run) => Ok((run.made.report, run.wires)),
+        Ok(run) => Ok(told_of(run)),
         Err(halt) => Err(RunFault::from(halt)),
     }
+}
+
+// What is answered of a run: its report, and what the post kept.
+fn told_of(run: ThreadedRun) -> (Report, Wires)
+    ensures report { result.0 ≡ run.made.report }
+    ensures wires { result.1 ≡ run.wires }
+{
+    let ThreadedRun { made, wires } = run;
+    (made.report, wires)
 }
 
 // The setting of so many nodes with these options, where all is in range.

@@ -1,4 +1,4 @@
-use Rattle.std.proofs.Common.{ℕ, refl, subst, sym}
+use Rattle.std.proofs.Common.{ℕ, subst, sym}
 use Rattle.lrc_protocol.specs.Node.{OptionsRecord}
 use Rattle.lrc_run.specs.Halts.{IsRunFault, fault_of}
 use Rattle.lrc_run.specs.Run.{IsThreadedRun}
@@ -13,10 +13,11 @@ returns-in-Ok-clause-run g c =
     let program = c.args.program.now in
     let picker = c.args.picker in (
       run.made,
-      refl,
-      subst (λ (n : ℕ). IsThreadedRun program n c.args.options.now picker run.made run.wires) c.in_ok-setting.ensures.0
+      c.told_of.ensures.report,
+      subst (λ wires. IsThreadedRun program c.args.nodes c.args.options.now picker run.made wires) (sym c.told_of.ensures.wires)
+          (subst (λ (n : ℕ). IsThreadedRun program n c.args.options.now picker run.made run.wires) c.in_ok-setting.ensures.0
           (subst (λ (o : OptionsRecord). IsThreadedRun program setting.nodes.count o picker run.made run.wires) c.in_ok-setting.ensures.1
-          c.in-Ok.ensures.run),
+          c.in-Ok.ensures.run)),
     )
 
 pub returns-in-Err-clause-fault : goal.returns-in-Err-clause-fault
