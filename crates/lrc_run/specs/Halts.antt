@@ -12,7 +12,7 @@ use Rattle.lrc_weave.specs.Logs.{AreLogs}
 use Rattle.lrc_weave.specs.Sent.{AreTakesSent}
 use Rattle.lrc_weave.specs.Further.{AreWovenWith, AreWovenWithout}
 use Rattle.lrc_weave.specs.Woven.{AreWoven}
-use Rattle.lrc_world.specs.Range.{AreSteps}
+use Rattle.lrc_setting.specs.Ranges.{AreSteps}
 use Rattle.lrc_world.specs.Report.{IsWornBy}
 use Rattle.lrc_threads.specs.declared.stop.Stop.{Stop}
 use Rattle.lrc_threads.specs.declared.stop.Stop.TheVariants as stops

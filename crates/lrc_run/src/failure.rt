@@ -8,7 +8,7 @@ ghost use Rattle.lrc_threads.specs.Threads.{IsFirstFailure};
 ghost use Rattle.lrc_threads.specs.declared.stop.Stop.TheVariants as stops;
 ghost use Rattle.lrc_weave.specs.declared.fault.WeaveFault.TheVariants as weaving;
 ghost use Rattle.lrc_weave.specs.Logs.{AreLogs};
-ghost use Rattle.lrc_world.specs.Range.{AreSteps};
+ghost use Rattle.lrc_setting.specs.Ranges.{AreSteps};
 ghost use Rattle.lrc_world.specs.Report.{IsWornBy};
 ghost use Rattle.lrc_run.specs.Halts.{AreEventsOf, AreUnmatched, IsHalt, IsLeft, IsPlayedOut, IsUntoldWearing, IsWearing, logs_left};
 ghost use Rattle.lrc_run.specs.Unfinished.{input_of, is_take, next_taken, put_at, unfinished};

@@ -12,7 +12,6 @@ pub mod EndsOfRuns
 pub mod Driven
 pub mod Choosing
 pub mod Theorem
-pub mod Briefly
 pub mod Made
 pub mod Over
 pub mod Moments

@@ -2,7 +2,6 @@
 use Rattle.std.proofs.Common.{◌≡◌, ◌∙◌, ◌↔◌, ◌≤◌, ℕ, List, IfOk, Result, Ok, Some, true, subst, ap, arith, map}
 use Rattle.lrc_lang.specs.declared.program.Program.{Program}
 use Rattle.lrc_race.specs.Races.{AreRacesOf}
-use Rattle.lrc_judge.specs.Races.{AreNamedRaces}
 use Rattle.lrc_protocol.specs.declared.event.Event.{Event}
 use Rattle.lrc_protocol.specs.Node.{OptionsRecord}
 use Rattle.lrc_protocol.specs.Run.{World as Made, run_of}
@@ -14,14 +13,10 @@ use Rattle.lrc_world.specs.declared.world.World.{World}
 use Rattle.lrc_world.specs.Driven.{schedule_of}
 use Rattle.lrc_world.specs.Led.{AreLed}
 use Rattle.lrc_world.specs.declared.keep.Keep.TheVariants.{All}
-use Rattle.lrc_world.specs.declared.report.Brief.{Brief}
-use Rattle.lrc_world.specs.Promises.{AreKept}
-use Rattle.lrc_world.specs.Report.{AreAll, IsBriefOf, IsKeptReport, IsOver, IsReportOf}
+use Rattle.lrc_world.specs.Report.{IsKeptReport, IsOver, IsReportOf}
 use Rattle.lrc_world.specs.Runs.{IsRunBy}
 use Rattle.lrc_world.specs.Turned.{AreAllTurned}
 use Rattle.lrc_world.specs.World.{Starts, Shows, starts_of}
-use Rattle.lrc_world.proofs.Briefly.{brief_kept, brief_races, brief_report}
-use Rattle.lrc_world.proofs.Events.{over_after}
 use Rattle.lrc_world.proofs.Races.{kept_races}
 use Rattle.lrc_world.proofs.Theorem.{all_kept}
 use Rattle.lrc_world.proofs.Unskipped.{rounds_unskipped, wandering_unskipped}
@@ -63,21 +58,3 @@ pub report_of : (AreIts : List Event → Type 0) (program : Program) (nodes : �
     → IsRunBy AreIts program nodes options All run → IsReportOf program nodes options run.events.items run.report
 report_of AreIts program nodes options run is =
     (is.made, is.makes, record { acts = is.report.acts; ends = is.report.ends; logs = is.report.logs; first = is.report.first })
-
-module _ (AreIts : List Event → Type 0) (program : Program) (nodes : ℕ) (options : OptionsRecord) (keep : Keep) (run : Run)
-    (is : IsRunBy AreIts program nodes options keep run) where
-  -- whether nothing is left to do after its events
-  pub over_of : (run.is_over ≡ true) ↔ AreAll program nodes options run.events.items
-  over_of = over_after program nodes options run.events.items is.made run.is_over is.makes is.over
-
-  -- what is said of it in brief
-  module _ (brief : Brief) (acts : brief.acts ≡ run.report.acts) (ends : brief.ends ≡ run.report.ends) where
-    pub brief_of_run : brief.first_race ≡ run.report.first_race → IsBriefOf program nodes options run.events.items brief
-    brief_of_run first =
-        brief_report program nodes options run.events.items run.report brief acts ends keep first (is.made, is.makes, is.report)
-
-    pub kept_of_run : AreKept program nodes options run.events.items brief.acts.items brief.ends.items
-    kept_of_run = brief_kept program nodes options run.events.items run.report brief acts ends is.kept
-
-    pub races_of_run : brief.races ≡ run.report.races → AreNamedRaces brief.acts.items brief.races.items
-    races_of_run races = brief_races program nodes options run.events.items run.report brief acts ends races is.races

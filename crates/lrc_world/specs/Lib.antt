@@ -1,4 +1,3 @@
-pub mod Range
 pub mod Setting
 pub mod Ends
 pub mod Report

@@ -10,7 +10,6 @@ use Rattle.lrc_protocol.specs.Run.{World as Run, event_on, fresh_world, played, 
 use Rattle.lrc_trace.specs.declared.end.End.{End}
 use Rattle.lrc_control.specs.Text.{end_of}
 use Rattle.lrc_world.specs.declared.keep.Keep.{Keep}
-use Rattle.lrc_world.specs.declared.report.Brief.{Brief}
 use Rattle.lrc_world.specs.declared.report.Report.{Report}
 use Rattle.lrc_world.specs.declared.report.SimFault.{SimFault}
 use Rattle.lrc_world.specs.declared.report.SimFault.TheVariants as faults
@@ -28,12 +27,6 @@ pub record IsReport (report : Report) (run : Run) : Type 0 where
   pub ends : report.ends.items ≡ map end_of_logged run.nodes
   pub logs : map (λ log. log.items) report.logs.items ≡ map (λ l. l.log) run.nodes
   pub first : MatchOption report.first_race (IsRaceFree run.acts) (IsFirstRace run.acts)
-
--- the same of the run alone: its acts, how each node ended, and the first act that races with an earlier one
-pub record IsBrief (brief : Brief) (run : Run) : Type 0 where
-  pub acts : brief.acts.items ≡ run.acts
-  pub ends : brief.ends.items ≡ map end_of_logged run.nodes
-  pub first : MatchOption brief.first_race (IsRaceFree run.acts) (IsFirstRace run.acts)
 
 -- a report in which the logs are what is kept of them
 pub record IsKeptReport (keep : Keep) (report : Report) (run : Run) : Type 0 where
@@ -74,9 +67,6 @@ IsWornFault WearsOut NoMemory = Unit {0}
 -- the report is that of the program's run of these events
 abbrev pub IsReportOf : Program → ℕ → OptionsRecord → List Event → Report → Type 0
 IsReportOf program nodes options events report = (run : Run) × (run_of program nodes options events ≡ Some run) × IsReport report run
-
-abbrev pub IsBriefOf : Program → ℕ → OptionsRecord → List Event → Brief → Type 0
-IsBriefOf program nodes options events brief = (run : Run) × (run_of program nodes options events ≡ Some run) × IsBrief brief run
 
 -- no node is ready, and no message is in flight
 pub record IsOver (run : Run) : Type 0 where

@@ -8,7 +8,6 @@ mod flying;
 pub mod keep;
 pub mod laws;
 mod random;
-pub mod range;
 pub mod report;
 mod rounds;
 pub mod run;

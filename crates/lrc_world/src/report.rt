@@ -14,9 +14,6 @@ use thiserror::Error;
 /// How many events a driven run has at most.
 pub const MOST_EVENTS: usize = 100_000_000;
 
-/// How many statements a node may begin at most.
-pub const MOST_STEPS: u32 = 1_000_000;
-
 /// What came of a run.
 #[derive(Drop)]
 pub struct Report {
@@ -30,41 +27,6 @@ pub struct Report {
     pub logs: Vec<Vec<Entry>>,
     /// The least position of an act that races with an earlier one, where there is one.
     pub first_race: Option<usize>,
-}
-
-/// What came of a run, without the turns of the nodes.
-#[derive(Drop)]
-pub struct Brief {
-    /// What the nodes did, in order.
-    pub acts: Vec<Act>,
-    /// How each node ended, from node 0 up.
-    pub ends: Vec<End>,
-    /// The races, by words, nodes and intervals, each once.
-    pub races: Vec<Race>,
-    /// The least position of an act that races with an earlier one, where there is one.
-    pub first_race: Option<usize>,
-}
-
-/// What a report says beside the turns of the nodes.
-pub(crate) fn brief_of(report: Report) -> Brief
-    ensures acts { result.acts ≡ report.acts }
-    ensures ends { result.ends ≡ report.ends }
-    ensures races { result.races ≡ report.races }
-    ensures first { result.first_race ≡ report.first_race }
-{
-    let Report {
-        acts,
-        ends,
-        races,
-        logs: _,
-        first_race,
-    } = report;
-    Brief {
-        acts,
-        ends,
-        races,
-        first_race,
-    }
 }
 
 /// Why there is no report.

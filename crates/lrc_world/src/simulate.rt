@@ -1,18 +1,18 @@
 // Runs of a program by numbers that may be out of range: by a list of events, in rounds or in a random order.
 
-ghost use Rattle.std.specs.Prelude.{◌≡◌, ◌<◌, ◌≤◌, ◌↔◌, length, IfOk, Err, true};
+ghost use Rattle.std.specs.Prelude.{◌≡◌, ◌<◌, ◌≤◌, ◌↔◌, length, IfOk, Err};
 ghost use Rattle.lrc_judge.specs.Races.{AreNamedRaces};
 ghost use Rattle.lrc_exec.specs.Nodes.{AreNodes};
 ghost use Rattle.lrc_setting.specs.Ranges.{AreSteps};
 ghost use Rattle.lrc_world.specs.Random.{IsWandering, WanderingWearsOut};
 ghost use Rattle.lrc_world.specs.Promises.{AreKept};
-ghost use Rattle.lrc_world.specs.Report.{AreAll, IsBriefOf, IsReportOf, IsWornBy, WearsOutEarly};
+ghost use Rattle.lrc_world.specs.Report.{AreAll, IsReportOf, IsWornBy, WearsOutEarly};
 ghost use Rattle.lrc_world.specs.Rounds.{AreRounds, RoundsWearOut};
 ghost use Rattle.lrc_world.specs.Runs.{IsRunIn, WearsOutIn};
 ghost use Rattle.lrc_world.specs.Turned.{AreAllTurned};
 
 use crate::keep::Keep;
-use crate::report::{Brief, Report, SimFault, brief_of};
+use crate::report::{Report, SimFault};
 use crate::run::{Order, Run, run_in};
 use crate::setting::setting_of;
 use lrc_envelope::Picker;
@@ -53,31 +53,6 @@ pub fn simulate(
     }
 }
 
-/// The run of these events without the turns of the nodes, which are not kept while they are played, and whether nothing is left to do
-/// after them: no node is ready, and no message is in flight.
-pub fn replay_briefly(
-    alloc: Global,
-    program: &Program,
-    nodes: u32,
-    options: &Options,
-    events: &[Event],
-) -> Result<(Brief, bool), SimFault>
-    ensures report { IfOk result (λ done. IsBriefOf program.now nodes options.now events.now done.0) }
-    ensures races { IfOk result (λ done. AreNamedRaces done.0.acts.items done.0.races.items) }
-    ensures kept { IfOk result (λ done. AreKept program.now nodes options.now events.now done.0.acts.items done.0.ends.items) }
-
-    ensures over { IfOk result (λ done. (done.1 ≡ true) ↔ AreAll program.now nodes options.now events.now) }
-    ensures worn { result ≡ Err SimFault.Worn → IsWornBy program.now nodes options.now events.now }
-    ensures bad_nodes { (result ≡ Err SimFault.BadNodes) ↔ (¬ AreNodes nodes) }
-    ensures bad_steps { (result ≡ Err SimFault.BadSteps) ↔ (AreNodes nodes × ¬ AreSteps options.now.steps) }
-{
-    let order = Order::Events(events);
-    match run_checked(alloc, program, nodes, options, order, Keep::Newest) {
-        Ok(run) => Ok((brief_of(run.report), run.is_over)),
-        Err(fault) => Err(fault),
-    }
-}
-
 /// A run in rounds: in each, every ready node from 0 up goes on once, and then as many messages are delivered as are in
 /// flight, each of them the one that `picker` says; with `Twice` a message stays in flight the first time that it is delivered.
 /// It ends after a round with no event, or at 100,000,000 events. The answer is the events, none of which is skipped, and the
@@ -110,36 +85,6 @@ pub fn drive(
     }
 }
 
-/// The run that [`drive`] makes, with the same events, acts, ends and races, but without the turns of the nodes, which are not kept
-/// while it goes on.
-pub fn drive_briefly(
-    alloc: Global,
-    program: &Program,
-    nodes: u32,
-    options: &Options,
-    picker: Picker,
-) -> Result<(Vec<Event>, Brief), SimFault>
-    ensures report { IfOk result (λ done. IsBriefOf program.now nodes options.now done.0.items done.1) }
-    ensures rounds { IfOk result (λ done. AreRounds program.now nodes options.now picker done.0.items) }
-    ensures unskipped { IfOk result (λ done. AreAllTurned program.now nodes options.now done.0.items) }
-    ensures races { IfOk result (λ done. AreNamedRaces done.1.acts.items done.1.races.items) }
-    ensures kept { IfOk result (λ done. AreKept program.now nodes options.now done.0.items done.1.acts.items done.1.ends.items) }
-
-    // Unless there are 100,000,000 events, no node is ready and no message is in flight after them.
-    ensures few { IfOk result (λ done. length done.0.items ≤ 100000000) }
-    ensures over { IfOk result (λ done. length done.0.items < 100000000 → AreAll program.now nodes options.now done.0.items) }
-    ensures worn { result ≡ Err SimFault.Worn → WearsOutEarly program.now nodes options.now }
-    ensures worn_rounds { result ≡ Err SimFault.Worn → RoundsWearOut program.now nodes options.now picker }
-    ensures bad_nodes { (result ≡ Err SimFault.BadNodes) ↔ (¬ AreNodes nodes) }
-    ensures bad_steps { (result ≡ Err SimFault.BadSteps) ↔ (AreNodes nodes × ¬ AreSteps options.now.steps) }
-{
-    let order = Order::Rounds(picker);
-    match run_checked(alloc, program, nodes, options, order, Keep::Newest) {
-        Ok(run) => Ok((run.events, brief_of(run.report))),
-        Err(fault) => Err(fault),
-    }
-}
-
 /// A run in a random order: as long as a node is ready or a message in flight, and there are fewer than 100,000,000 events, the
 /// next event is one of the turns of the ready nodes, ascending, and the deliveries of the messages in flight, oldest first. Which of
 /// them, the next number of SplitMix64 says, by its remainder; its state is `seed` at first. The answer is the events, none of
@@ -168,36 +113,6 @@ pub fn wander(
     let order = Order::Random(seed);
     match run_checked(alloc, program, nodes, options, order, Keep::All) {
         Ok(run) => Ok((run.events, run.report)),
-        Err(fault) => Err(fault),
-    }
-}
-
-/// The run that [`wander`] makes, with the same events, acts, ends and races, but without the turns of the nodes, which are not kept
-/// while it goes on.
-pub fn wander_briefly(
-    alloc: Global,
-    program: &Program,
-    nodes: u32,
-    options: &Options,
-    seed: u64,
-) -> Result<(Vec<Event>, Brief), SimFault>
-    ensures report { IfOk result (λ done. IsBriefOf program.now nodes options.now done.0.items done.1) }
-    ensures wandering { IfOk result (λ done. IsWandering program.now nodes options.now seed done.0.items) }
-    ensures unskipped { IfOk result (λ done. AreAllTurned program.now nodes options.now done.0.items) }
-    ensures races { IfOk result (λ done. AreNamedRaces done.1.acts.items done.1.races.items) }
-    ensures kept { IfOk result (λ done. AreKept program.now nodes options.now done.0.items done.1.acts.items done.1.ends.items) }
-
-    // Unless there are 100,000,000 events, no node is ready and no message is in flight after them.
-    ensures few { IfOk result (λ done. length done.0.items ≤ 100000000) }
-    ensures over { IfOk result (λ done. length done.0.items < 100000000 → AreAll program.now nodes options.now done.0.items) }
-    ensures worn { result ≡ Err SimFault.Worn → WearsOutEarly program.now nodes options.now }
-    ensures worn_wandering { result ≡ Err SimFault.Worn → WanderingWearsOut program.now nodes options.now seed }
-    ensures bad_nodes { (result ≡ Err SimFault.BadNodes) ↔ (¬ AreNodes nodes) }
-    ensures bad_steps { (result ≡ Err SimFault.BadSteps) ↔ (AreNodes nodes × ¬ AreSteps options.now.steps) }
-{
-    let order = Order::Random(seed);
-    match run_checked(alloc, program, nodes, options, order, Keep::Newest) {
-        Ok(run) => Ok((run.events, brief_of(run.report))),
         Err(fault) => Err(fault),
     }
 }

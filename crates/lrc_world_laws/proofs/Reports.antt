@@ -1,5 +1,5 @@
 -- Reports of the same events say the same.
-use Rattle.std.proofs.Common.{◌≡◌, ◌∙◌, ⊎_elim, ℕ, arith, List, [], ◌∷◌, Option, Some, None, MatchOption, Less, Ordering, refl, sym, ap, subst}
+use Rattle.std.proofs.Common.{◌≡◌, ◌∙◌, ⊎_elim, ℕ, arith, Bool, true, false, List, [], ◌∷◌, Option, Some, None, MatchOption, Less, Ordering, map, refl, sym, ap, subst}
 use Rattle.std.specs.Prelude.{Contains}
 use Rattle.std.specs.Ordering.{ordering_reverse}
 use Rattle.std.specs.Cmp.{IsTotalOrder}
@@ -13,12 +13,14 @@ use Rattle.lrc_trace.specs.Conflict.{IsFirstRace, IsRaceFree}
 use Rattle.lrc_judge.specs.Races.{AreNamedRaces, race_cmp}
 use Rattle.lrc_judge.proofs.Ascending.{race_total}
 use Rattle.lrc_store.proofs.Orders.{Contains-first, Contains-later, cases_Contains, none_Contains}
-use Rattle.lrc_protocol.specs.declared.event.Event.{Event}
 use Rattle.lrc_protocol.specs.Node.{OptionsRecord}
-use Rattle.lrc_protocol.specs.Run.{World as Run}
-use Rattle.lrc_world.specs.declared.report.Brief.{Brief}
-use Rattle.lrc_world.specs.declared.report.Report.{Report}
-use Rattle.lrc_world.specs.Report.{IsBrief, IsBriefOf, IsReport, IsReportOf}
+use Rattle.lrc_protocol.specs.Run.{World as Run, run_of}
+use Rattle.lrc_world.specs.declared.keep.Keep.{Keep}
+use Rattle.lrc_world.specs.declared.run.Order.{Order}
+use Rattle.lrc_world.specs.declared.run.Run.{Run as MadeRun}
+use Rattle.lrc_world.specs.Report.{IsOver, end_of_logged}
+use Rattle.lrc_world.specs.Runs.{IsRunIn}
+use Rattle.lrc_world_laws.specs.Same.{SaysTheSame}
 
 -- ---- lists that ascend
 
@@ -81,20 +83,31 @@ same_first acts (Some i) (Some j) first second =
 
 -- ---- reports
 
--- a brief report of the same events says what the whole one says
-pub record Agrees (report : Report) (brief : Brief) : Type 0 where
-  pub acts : brief.acts.items ≡ report.acts.items
-  pub ends : brief.ends.items ≡ report.ends.items
-  pub first : brief.first_race ≡ report.first_race
+both_true : (a b : Bool) → (a ≡ true → b ≡ true) → (b ≡ true → a ≡ true) → a ≡ b
+both_true true b on back = sym (on refl)
+both_true false true on back = back refl
+both_true false false on back = refl
 
-agrees_of : (run : Run) (report : Report) (brief : Brief) → IsReport report run → IsBrief brief run → Agrees report brief
-agrees_of run report brief is brief_is = record {
-  acts = brief_is.acts ∙ sym is.acts;
-  ends = brief_is.ends ∙ sym is.ends;
-  first = same_first run.acts brief.first_race report.first_race brief_is.first is.first;
-}
+module _ (program : Program) (nodes : ℕ) (options : OptionsRecord) (order another : Order) (keep other : Keep) (run again : MadeRun)
+    (is : IsRunIn order program nodes options keep run) (also : IsRunIn another program nodes options other again)
+    (same : again.events.items ≡ run.events.items) where
+  -- both sets of turns make one run of the machine
+  one_made : also.made ≡ is.made
+  one_made = same_Some also.made is.made (sym also.makes ∙ ap (run_of program nodes options) same ∙ is.makes)
 
-pub agrees : (program : Program) (nodes : ℕ) (options : OptionsRecord) (events : List Event) (report : Report) (brief : Brief)
-    → IsReportOf program nodes options events report → IsBriefOf program nodes options events brief → Agrees report brief
-agrees program nodes options events report brief whole short =
-    agrees_of whole.0 report brief whole.2 (subst (IsBrief brief) (same_Some short.0 whole.0 (sym short.1 ∙ whole.1)) short.2)
+  same_acts : again.report.acts.items ≡ run.report.acts.items
+  same_acts = also.report.acts ∙ ap (λ (made : Run). made.acts) one_made ∙ sym is.report.acts
+
+  -- what is said beside the turns is the same
+  pub says_the_same : SaysTheSame run again
+  says_the_same = record {
+    acts = same_acts;
+    ends = also.report.ends ∙ ap (λ (made : Run). map end_of_logged made.nodes) one_made ∙ sym is.report.ends;
+    races = same_races run.report.acts.items again.report.races.items run.report.races.items
+        (subst (λ acts. AreNamedRaces acts again.report.races.items) same_acts also.races) is.races;
+    first = same_first is.made.acts again.report.first_race run.report.first_race
+        (subst (λ (made : Run). MatchOption again.report.first_race (IsRaceFree made.acts) (IsFirstRace made.acts)) one_made also.report.first)
+        is.report.first;
+    over = both_true again.is_over run.is_over (λ e. is.over.1 (subst IsOver one_made (also.over.0 e)))
+        (λ e. also.over.1 (subst IsOver (sym one_made) (is.over.0 e)));
+  }

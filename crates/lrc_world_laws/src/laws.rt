@@ -15,15 +15,17 @@ ghost use Rattle.lrc_protocol.specs.Node.{OptionsRecord, fresh_node};
 ghost use Rattle.lrc_protocol.specs.Run.{Logged, World as Run, run_of};
 ghost use Rattle.lrc_protocol.specs.Traced.{trace_of};
 ghost use Rattle.lrc_world.specs.Random.{IsWandering, WanderingWearsOut};
-ghost use Rattle.lrc_world.specs.Report.{IsBriefOf, IsReportOf};
 ghost use Rattle.lrc_world.specs.Rounds.{AreRounds, RoundsWearOut};
-ghost use Rattle.lrc_world.specs.declared.report.Brief.{Brief};
-ghost use Rattle.lrc_world.specs.declared.report.Report.{Report};
+ghost use Rattle.lrc_world.specs.Runs.{IsRunIn};
+ghost use Rattle.lrc_world.specs.declared.keep.Keep.{Keep};
+ghost use Rattle.lrc_world.specs.declared.run.Order.{Order};
+ghost use Rattle.lrc_world.specs.declared.run.Run.{Run as MadeRun};
 ghost use Rattle.lrc_world.specs.World.{sends_long};
 ghost use Rattle.lrc_world_laws.specs.Ended.{IsEnded};
+ghost use Rattle.lrc_world_laws.specs.Same.{SaysTheSame};
 
 /// A program, a number of nodes, options and a picker determine the events of a run in rounds that goes on until nothing is left to do
-/// or there are 100,000,000 events. So `drive` and `drive_briefly` of `lrc_world` make the same events, each time.
+/// or there are 100,000,000 events. So `drive` of `lrc_world` makes the same events, each time, whatever is kept of the turns.
 pub fn rounds_are_determined()
     ensures { (program : Program) (nodes : ℕ) (options : OptionsRecord) (picker : Picker) (events others : List Event)
         → AreRounds program nodes options picker events → IsEnded program nodes options events
@@ -31,7 +33,7 @@ pub fn rounds_are_determined()
 {}
 
 /// A program, a number of nodes, options and a seed determine the events of a run in a random order that goes on until nothing is left
-/// to do or there are 100,000,000 events. So `wander` and `wander_briefly` of `lrc_world` make the same events, each time.
+/// to do or there are 100,000,000 events. So `wander` of `lrc_world` makes the same events, each time, whatever is kept of the turns.
 pub fn wandering_is_determined()
     ensures { (program : Program) (nodes : ℕ) (options : OptionsRecord) (seed : ℕ) (events others : List Event)
         → IsWandering program nodes options seed events → IsEnded program nodes options events
@@ -49,18 +51,12 @@ pub fn runs_that_end_never_wear_out()
         → run_of program nodes options events ≡ Some run → sends_long run ≡ false → ¬ WanderingWearsOut program nodes options seed }
 {}
 
-/// A brief report of some events has the acts, the ends and the first race that a report of them has; and acts determine the list of
-/// their races. So `drive_briefly` and `wander_briefly` answer what `drive` and `wander` do, without the turns.
-pub fn brief_reports_say_the_same()
-    ensures acts { (program : Program) (nodes : ℕ) (options : OptionsRecord) (events : List Event) (report : Report) (brief : Brief)
-        → IsReportOf program nodes options events report → IsBriefOf program nodes options events brief
-        → brief.acts.items ≡ report.acts.items }
-    ensures ends { (program : Program) (nodes : ℕ) (options : OptionsRecord) (events : List Event) (report : Report) (brief : Brief)
-        → IsReportOf program nodes options events report → IsBriefOf program nodes options events brief
-        → brief.ends.items ≡ report.ends.items }
-    ensures first { (program : Program) (nodes : ℕ) (options : OptionsRecord) (events : List Event) (report : Report) (brief : Brief)
-        → IsReportOf program nodes options events report → IsBriefOf program nodes options events brief
-        → brief.first_race ≡ report.first_race }
+/// Two runs of the same events say the same but for the turns, whatever each keeps of these; and acts determine the list of their races.
+/// So a run that keeps the newest turns alone answers what one does that keeps all of them.
+pub fn what_is_kept_changes_the_turns_alone()
+    ensures same { (program : Program) (nodes : ℕ) (options : OptionsRecord) (order another : Order) (keep other : Keep) (run again : MadeRun)
+        → IsRunIn order program nodes options keep run → IsRunIn another program nodes options other again
+        → again.events.items ≡ run.events.items → SaysTheSame run again }
     ensures races { (acts : List Act) (races others : List Race) → AreNamedRaces acts races → AreNamedRaces acts others
         → races ≡ others }
 {}

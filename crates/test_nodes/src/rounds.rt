@@ -7,8 +7,10 @@ use lrc_lang::program::Program;
 use lrc_node::Options;
 use lrc_page::Size;
 use lrc_protocol::Event;
-use lrc_world::report::{Brief, Report, SimFault};
-use lrc_world::simulate::{drive, drive_briefly, replay_briefly, simulate, wander, wander_briefly};
+use lrc_world::keep::Keep;
+use lrc_world::report::{Report, SimFault};
+use lrc_world::run::{Order, Run};
+use lrc_world::simulate::{drive, run_checked, simulate, wander};
 use std::alloc::Global;
 
 const TOLD_AT_A_BARRIER: &[u8] =
@@ -207,71 +209,61 @@ fn numbers_out_of_range_have_no_run(rt: HostRuntime) {
     }
 }
 
-/// Whether a run of which the turns are not kept says the same.
-fn is_brief_of(brief: &Brief, report: &Report) -> bool {
+/// Whether a run of which the newest turns alone are kept says the same beside them.
+fn is_same_beside_turns(brief: &Report, report: &Report) -> bool {
     brief.acts == report.acts
         && brief.ends == report.ends
         && brief.races == report.races
         && brief.first_race == report.first_race
+        && brief.logs.len() == report.logs.len()
+        && brief.logs.iter().all(|log| log.len() <= 1)
 }
 
 /// The same, where there is a report.
-fn is_brief_of_any(brief: Brief, report: Option<&Report>) -> bool {
+fn is_same_as_any(brief: &Report, report: Option<&Report>) -> bool {
     match report {
-        Some(report) => is_brief_of(&brief, report),
+        Some(report) => is_same_beside_turns(brief, report),
         None => true,
     }
 }
 
-/// Which of the events that there may be comes next.
-#[derive(Clone, Copy)]
-enum Order {
-    /// Rounds, in which the newest message is delivered first.
-    Rounds,
-    /// A random order.
-    Random,
-}
-
+/// The order of a run whose events are not given, with all turns.
 fn run_whole(
     alloc: Global,
     program: &Program,
-    order: Order,
+    order: Order<'_>,
 ) -> Result<(Vec<Event>, Report), SimFault> {
     let options = options(1_000_000, 1, 0);
     match order {
-        Order::Rounds => drive(alloc, program, 3, &options, Picker::Newest),
-        Order::Random => wander(alloc, program, 3, &options, 5),
+        Order::Rounds(picker) => drive(alloc, program, 3, &options, picker),
+        Order::Random(seed) => wander(alloc, program, 3, &options, seed),
+        Order::Events(_) => Err(SimFault::NoMemory),
     }
 }
 
-fn run_briefly(
-    alloc: Global,
-    program: &Program,
-    order: Order,
-) -> Result<(Vec<Event>, Brief), SimFault> {
+fn run_briefly(alloc: Global, program: &Program, order: Order<'_>) -> Result<Run, SimFault> {
     let options = options(1_000_000, 1, 0);
-    match order {
-        Order::Rounds => drive_briefly(alloc, program, 3, &options, Picker::Newest),
-        Order::Random => wander_briefly(alloc, program, 3, &options, 5),
-    }
+    run_checked(alloc, program, 3, &options, order, Keep::Newest)
 }
 
-fn is_brief_so(done: (Vec<Event>, Brief), events: &[Event], report: &Report, races: usize) -> bool {
-    let (brief_events, brief) = done;
-    brief_events.as_slice() == events && is_brief_of(&brief, report) && brief.races.len() == races
+fn is_brief_so(run: &Run, events: &[Event], report: &Report, races: usize) -> bool {
+    run.is_over
+        && run.events.as_slice() == events
+        && is_same_beside_turns(&run.report, report)
+        && run.report.races.len() == races
 }
 
 /// Whether the run by these events says the same where the turns of the nodes are not kept, and has so many races.
 fn is_same(
     alloc: Global,
     program: &Program,
-    order: Order,
+    order: Order<'_>,
     events: &[Event],
     report: &Report,
     races: usize,
 ) -> bool {
     match run_briefly(alloc, program, order) {
-        Ok(done) => is_brief_so(done, events, report, races),
+        Ok(run) => is_brief_so(&run, events, report, races),
         Err(_) => false,
     }
 }
@@ -279,7 +271,7 @@ fn is_same(
 fn is_same_as(
     alloc: Global,
     program: &Program,
-    order: Order,
+    order: Order<'_>,
     done: (Vec<Event>, Report),
     races: usize,
 ) -> bool {
@@ -287,7 +279,7 @@ fn is_same_as(
     is_same(alloc, program, order, &events, &report, races)
 }
 
-fn is_same_in(alloc: Global, program: &Program, order: Order, races: usize) -> bool {
+fn is_same_in(alloc: Global, program: &Program, order: Order<'_>, races: usize) -> bool {
     match run_whole(alloc, program, order) {
         Ok(done) => is_same_as(alloc, program, order, done, races),
         Err(_) => false,
@@ -303,8 +295,10 @@ fn is_replayed(
     report: Option<&Report>,
     is_over: bool,
 ) -> bool {
-    match replay_briefly(alloc, program, 3, &options(1_000_000, 0, 0), events) {
-        Ok((brief, over)) => over == is_over && is_brief_of_any(brief, report),
+    let options = options(1_000_000, 0, 0);
+    let order = Order::Events(events);
+    match run_checked(alloc, program, 3, &options, order, Keep::Newest) {
+        Ok(run) => run.is_over == is_over && is_same_as_any(&run.report, report),
         Err(_) => false,
     }
 }
@@ -335,8 +329,8 @@ fn replays(alloc: Global, program: &Program) -> bool {
 fn say_the_same(alloc: Global, text: &[u8], races: usize) -> bool {
     match parse(alloc, text) {
         Ok(program) => {
-            is_same_in(alloc, &program, Order::Rounds, races)
-                && is_same_in(alloc, &program, Order::Random, races)
+            is_same_in(alloc, &program, Order::Rounds(Picker::Newest), races)
+                && is_same_in(alloc, &program, Order::Random(5), races)
                 && replays(alloc, &program)
         }
         Err(_) => false,
