@@ -13,7 +13,7 @@ _treadmarks_options() {
     chart) echo "--nodes --steps --collect --order --page --events --seed --threads --acts --text --from --to --hide --source" ;;
     judge) echo "--nodes --pairs" ;;
     races) echo "--as --group" ;;
-    explore) echo "--nodes --most --outcomes" ;;
+    explore) echo "--nodes --most --outcomes --outcome" ;;
     esac
 }
 

@@ -87,4 +87,5 @@ complete -c treadmarks -n '__fish_seen_subcommand_from races' -l group -d 'group
 complete -c treadmarks -n '__fish_seen_subcommand_from explore' -l nodes -r -f -d 'how many nodes'
 complete -c treadmarks -n '__fish_seen_subcommand_from explore' -l most -r -f -d 'how many states the search may meet'
 complete -c treadmarks -n '__fish_seen_subcommand_from explore' -l outcomes -d 'show every outcome'
+complete -c treadmarks -n '__fish_seen_subcommand_from explore' -l outcome -r -f -d 'show a run that has this outcome'
 complete -c treadmarks -n '__fish_seen_subcommand_from help' -f -a 'check lint plain sim run trace explain why stats chart judge races explore help version'

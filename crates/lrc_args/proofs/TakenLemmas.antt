@@ -248,8 +248,11 @@ explore_keyed = (
       (
         record { own = refl; acts = inr (inl (refl, lit< tt)) },
         (
-          record { own = refl; acts = inr (inr refl) },
-          tt,
+          record { own = refl; acts = inl (refl, lit< tt) },
+          (
+            record { own = refl; acts = inr (inr refl) },
+            tt,
+          ),
         ),
       ),
     ),
@@ -463,6 +466,7 @@ explore_taken words none =
       nodes = number_taken explore_built rows level (codes "nodes") (codes "1") refl;
       most = number_taken explore_built rows level (codes "most") (codes "1000000") refl;
       outcomes = flag_taken explore_built rows level (codes "outcomes") refl;
+      outcome = bare_taken explore_built rows level (codes "outcome") refl;
     }
 
 lint_taken : (words : List Text) → level_fault lint_built [] nothing_held words false [] ≡ [] → HasValue (codes "FILE") (rows_after lint_built.rules [] words)

@@ -53,6 +53,10 @@ collect_in = option_number (codes "collect")
 abbrev pub most_in : List Row → ℕ
 most_in = option_number (codes "most")
 
+-- the number of the outcome that is asked for, if one is
+abbrev pub outcome_in : List Row → Option ℕ
+outcome_in = some_number_in (codes "outcome")
+
 -- the number that the words give an option: a default is none
 abbrev pub given_number : Text → List Row → Option ℕ
 given_number name rows = if is_given name rows then some_number_in name rows else None
@@ -139,6 +143,7 @@ pub record IsExploreTaken (rows : List Row) : Type 0 where
   pub nodes : IsNumberOption (codes "nodes") rows
   pub most : IsNumberOption (codes "most") rows
   pub outcomes : IsFlagOption (codes "outcomes") rows
+  pub outcome : IsBareNumber (codes "outcome") rows
 
 -- of `races`
 pub record IsRacesTaken (rows : List Row) : Type 0 where

@@ -32,6 +32,13 @@ pub struct Most {
     pub ghost few: { count ≤ 100000000 },
 }
 
+/// The number of an outcome in the list of all, counted from 1.
+#[derive(Clone, Copy)]
+pub struct OutcomeNumber {
+    pub number: u64,
+    pub ghost some: { 1 ≤ number },
+}
+
 /// What the runs have in common, whichever way they go on.
 #[derive(Clone, Copy)]
 pub struct RunOptions<'w> {
@@ -154,6 +161,8 @@ pub struct Exploring<'w> {
     pub most: Most,
     /// Whether the outcomes are looked for, in place of a race.
     pub outcomes: bool,
+    /// The outcome of which a run is shown, in place of the list of all.
+    pub outcome: Option<OutcomeNumber>,
 }
 
 /// The form of a trace whose races are looked for.

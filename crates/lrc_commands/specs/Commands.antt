@@ -103,7 +103,8 @@ abbrev pub judge_command : App
 judge_command = with_rule (with_rule (with_rule (new_app (codes "judge")) file) (bare_number (codes "nodes"))) (flag_option (codes "pairs"))
 
 abbrev pub explore_command : App
-explore_command = with_rule (with_rule (with_rule (with_rule (new_app (codes "explore")) file) nodes) most) (flag_option (codes "outcomes"))
+explore_command = with_rule (with_rule (with_rule (with_rule (with_rule (new_app (codes "explore")) file) nodes) most) (flag_option (codes "outcomes")))
+    (bare_number (codes "outcome"))
 
 -- a FILE need not be given where there is a file of acts, and an act has to be
 abbrev pub optional_file : Rule

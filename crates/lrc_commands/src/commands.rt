@@ -78,6 +78,9 @@ const MOST_HELP: &str = "How many states the search may meet: 1 to 100000000";
 
 const OUTCOMES_HELP: &str = "Shows every outcome of the orders, and looks for no race";
 
+const OUTCOME_HELP: &str =
+    "Shows the acts of a run that has the outcome of this number in the list of `--outcomes`, counted from 1, in place of the list";
+
 const ACTS_HELP: &str =
     "A file of acts, in place of FILE; `-` is standard input. It goes with `--nodes` and `--page` alone, and `--nodes` left out is one more than the greatest that acts";
 
@@ -343,7 +346,8 @@ fn explore_command<'w>(alloc: Global) -> Result<Command<'w>, AllocError>
     let command = taking(Ok(command), file(alloc, FILE_HELP));
     let command = taking(command, nodes(alloc));
     let command = taking(command, number_option(alloc, "most", "1000000", MOST_HELP));
-    taking(command, flag_option(alloc, "outcomes", OUTCOMES_HELP))
+    let command = taking(command, flag_option(alloc, "outcomes", OUTCOMES_HELP));
+    taking(command, bare_number(alloc, "outcome", "K", OUTCOME_HELP))
 }
 
 fn why_command<'w>(alloc: Global) -> Result<Command<'w>, AllocError>
