@@ -4,9 +4,9 @@ use Rattle.std.specs.List.{AllByRecursion, list_any}
 use Rattle.std.specs.Str.{bytes_eq}
 use Rattle.clap.specs.Words.{IsAmong, Kinds, Text, fault_of}
 use Rattle.clap.specs.declared.error.kind.ErrorKind.{ErrorKind}
-use Rattle.clap.specs.declared.error.kind.ErrorKind.TheVariants.{DisplayHelp, DisplayVersion}
+use Rattle.clap.specs.declared.error.kind.ErrorKind.TheVariants.{DisplayHelp}
 use Rattle.clap.proofs.OnLiterals.{clap_on_literals}
-use Rattle.lrc_commands.specs.Commands.{command_names, is_command, treadmarks}
+use Rattle.lrc_commands.specs.Commands.{command_names, treadmarks}
 use Rattle.lrc_args.specs.Topics.{topic_kind, topic_words}
 use Rattle.lrc_args.specs.declared.choice.Topic.{Topic}
 use Rattle.lrc_args.specs.declared.choice.Topic.TheVariants.{Commands, Command, Version}
@@ -29,7 +29,7 @@ IsHelped word = fault_of treadmarks (word ∷ codes "--help" ∷ []) ≡ Display
 
 each_helped : AllByRecursion IsHelped command_names
 unfolding treadmarks command_names clap_on_literals
-each_helped = (refl, (refl, (refl, (refl, (refl, (refl, (refl, (refl, (refl, (refl, (refl, (refl, (refl, (refl, (refl, tt)))))))))))))))
+each_helped = (refl, (refl, (refl, (refl, (refl, (refl, (refl, (refl, (refl, (refl, (refl, (refl, (refl, (refl, (refl, (refl, tt))))))))))))))))
 
 -- clap answers to the words of a topic with the text of that kind
 pub topic_answered : (topic : Topic) → fault_of treadmarks (topic_words topic) ≡ topic_kind topic ∷ []

@@ -23,16 +23,16 @@ use Rattle.lrc_args.specs.declared.choice.Request.{Request}
 use Rattle.lrc_args.specs.declared.choice.Request.TheVariants.{About, Races, Answer}
 use Rattle.lrc_args.specs.declared.choice.RunChoice.{RunChoice}
 use Rattle.lrc_args.specs.declared.choice.Shape.{Shape}
-use Rattle.lrc_args.specs.declared.choice.Shape.TheVariants.{Report, Trace, Explain, Stats, Chart, Why}
+use Rattle.lrc_args.specs.declared.choice.Shape.TheVariants.{Report, Trace, Step, Explain, Stats, Chart, Why}
 use Rattle.lrc_args.specs.declared.choice.Topic.{Topic}
 use Rattle.lrc_args.specs.declared.choice.Topic.TheVariants.{Commands, Command, Version}
 use Rattle.lrc_args.specs.declared.choice.Way.{Way}
 use Rattle.lrc_args.specs.declared.misfit.Misfit.{Misfit}
-use Rattle.lrc_args.specs.declared.misfit.Misfit.TheVariants.{Order, RunOrder, Page, Form as FormMisfit, Seed, Threads, Messages, Topic as TopicMisfit, TraceForm, Hide, TextSource, SameAct, Sources, NoSource, RunOption, ChartRunOption, Number}
+use Rattle.lrc_args.specs.declared.misfit.Misfit.TheVariants.{Order, RunOrder, Page, Form as FormMisfit, Seed, Threads, Messages, Part as PartMisfit, Topic as TopicMisfit, TraceForm, Hide, TextSource, SameAct, Sources, NoSource, RunOption, ChartRunOption, Number}
 use Rattle.lrc_commands.specs.Commands.{is_command, treadmarks}
 use Rattle.lrc_args.specs.Options.{AreChartedActs, AreForeignActs, AreOptions, AreRunOptions, HasBadCount, HasChartedActsMisfit, HasForeignMisfit, HasFormMisfitIn, HasOptionsMisfit, HasRacesMisfit, HasValue, HasWayMisfitIn, IsAsking, IsChartTaken, IsHiding}
-use Rattle.lrc_args.specs.Options.{IsExploreTaken, IsFlag, IsFormIn, IsJudgeTaken, IsPicker, IsPlainTaken, IsRacesTaken, IsRunTaken, IsShowingTaken}
-use Rattle.lrc_args.specs.Options.{IsSimTaken, IsThreadsWayIn, IsTraceForm, IsTraceTaken, IsWayIn, IsWhyTaken, most_in, nodes_in, option_number, some_number_in}
+use Rattle.lrc_args.specs.Options.{IsExploreTaken, IsFlag, IsFormIn, IsJudgeTaken, IsPart, IsPicker, IsPlainTaken, IsRacesTaken, IsRunTaken, IsShowingTaken, IsStepTaken}
+use Rattle.lrc_args.specs.Options.{IsSimTaken, IsThreadsWayIn, IsTraceForm, IsTraceTaken, IsWayIn, IsWhyTaken, most_in, nodes_in, option_number, outcome_in, some_number_in}
 
 -- no words at all stand for `sim -`
 abbrev pub words_meant : List Text → List Text
@@ -44,6 +44,7 @@ words_meant (word ∷ words) = word ∷ words
 -- the command that asks more of a run of the nodes, with what clap makes sure of in its matches
 abbrev pub IsAskTaken : Text × List Row → Type 0
 IsAskTaken found = ((found.0 ≡ codes "trace") × IsTraceTaken found.1)
+    ⊎ ((found.0 ≡ codes "step") × IsStepTaken found.1)
     ⊎ ((found.0 ≡ codes "explain") × IsShowingTaken found.1)
     ⊎ ((found.0 ≡ codes "stats") × IsShowingTaken found.1)
     ⊎ ((found.0 ≡ codes "chart") × IsChartTaken found.1)
@@ -126,6 +127,7 @@ pub record IsExploring (rows : List Row) (exploring : Exploring) : Type 0 where
   pub nodes : nodes_in rows ≡ exploring.nodes.count
   pub most : most_in rows ≡ exploring.most.count
   pub outcomes : IsFlag (codes "outcomes") exploring.outcomes rows
+  pub outcome : outcome_in rows ≡ option_map (λ outcome. outcome.number) exploring.outcome
 
 -- a chart of a run
 pub record IsRunChart (rows : List Row) (run : RunChoice) (charting : Charting) : Type 0 where
@@ -149,6 +151,7 @@ pub record IsWhy (rows : List Row) (run : RunChoice) (asking : Asking) : Type 0 
 abbrev pub IsShowChoice : Text × List Row → RunChoice → Shape → Type 0
 IsShowChoice found run Report = ((found.0 ≡ codes "sim") × IsRun false found.1 run) ⊎ ((found.0 ≡ codes "run") × IsThreadsRun found.1 run)
 IsShowChoice found run (Trace form) = (found.0 ≡ codes "trace") × IsFormIn found.1 form × IsShowingRun found.1 run
+IsShowChoice found run (Step part) = (found.0 ≡ codes "step") × IsPart found.1 part × IsShowingRun found.1 run
 IsShowChoice found run Explain = (found.0 ≡ codes "explain") × IsShowingRun found.1 run
 IsShowChoice found run Stats = (found.0 ≡ codes "stats") × IsShowingRun found.1 run
 IsShowChoice found run (Chart charting) = (found.0 ≡ codes "chart") × IsRunChart found.1 run charting
@@ -231,13 +234,15 @@ abbrev pub HasJudgeMisfit : List Row → Misfit → Type 0
 HasJudgeMisfit rows misfit = (misfit ≡ Number) × IsSomeAnd (some_number_in (codes "nodes") rows) (IsOutOfRange 1 16)
 
 abbrev pub HasExploreMisfit : List Row → Misfit → Type 0
-HasExploreMisfit rows misfit = (misfit ≡ Number) × (IsOutOfRange 1 16 (nodes_in rows) ⊎ IsOutOfRange 1 100000000 (most_in rows))
+HasExploreMisfit rows misfit =
+    (misfit ≡ Number) × (IsOutOfRange 1 16 (nodes_in rows) ⊎ IsOutOfRange 1 100000000 (most_in rows) ⊎ (outcome_in rows ≡ Some 0))
 
 -- what does not fit in what clap found of a command that shows something of a run
 abbrev pub HasShowMisfit : Text × List Row → Misfit → Type 0
 HasShowMisfit found misfit = ((found.0 ≡ codes "sim") × HasMisfitOfRun false found.1 misfit)
     ⊎ ((found.0 ≡ codes "run") × HasThreadsMisfit found.1 misfit)
     ⊎ ((found.0 ≡ codes "trace") × HasTraceMisfit found.1 misfit)
+    ⊎ ((found.0 ≡ codes "step") × HasShowingMisfit found.1 misfit)
     ⊎ ((found.0 ≡ codes "explain") × HasShowingMisfit found.1 misfit)
     ⊎ ((found.0 ≡ codes "stats") × HasShowingMisfit found.1 misfit)
     ⊎ ((found.0 ≡ codes "chart") × HasChartMisfit found.1 misfit)
@@ -283,6 +288,7 @@ IsUsageKind FormMisfit kind = kind ≡ InvalidValue
 IsUsageKind Seed kind = kind ≡ ArgumentConflict
 IsUsageKind Threads kind = kind ≡ ArgumentConflict
 IsUsageKind Messages kind = kind ≡ ArgumentConflict
+IsUsageKind PartMisfit kind = kind ≡ ArgumentConflict
 IsUsageKind TopicMisfit kind = kind ≡ InvalidSubcommand
 IsUsageKind TraceForm kind = kind ≡ InvalidValue
 IsUsageKind Hide kind = kind ≡ InvalidValue

@@ -20,8 +20,10 @@ use crate::choice::{
     TraceForm,
 };
 use crate::misfit::{Misfit, fault_of_misfit};
-use crate::reading::{is_named, most_of, nodes_of, some_nodes, some_number_of, steps_of, text_of};
-use crate::runs::{run_choice, showing_choice, threads_run, trace_choice};
+use crate::reading::{
+    is_named, most_of, nodes_of, outcome_of, some_nodes, some_number_of, steps_of, text_of,
+};
+use crate::runs::{run_choice, showing_choice, step_choice, threads_run, trace_choice};
 use crate::why::why_choice;
 use clap::ArgMatches;
 use clap::error::ErrorKind;
@@ -178,6 +180,9 @@ fn asked_from<'w>(matches: &ArgMatches<'w>) -> Result<Choice<'w>, Misfit>
     if let Some(options) = matches.subcommand_matches("trace") {
         return trace_choice(options);
     }
+    if let Some(options) = matches.subcommand_matches("step") {
+        return step_choice(options);
+    }
     if let Some(options) = matches.subcommand_matches("chart") {
         return chart_choice(options);
     }
@@ -223,6 +228,7 @@ fn explore_choice<'w>(options: &ArgMatches<'w>) -> Result<Choice<'w>, Misfit>
         nodes: nodes_of(options)?,
         most: most_of(options)?,
         outcomes: is_named(options, "outcomes"),
+        outcome: outcome_of(options)?,
     }))
 }
 

@@ -7,11 +7,11 @@ ghost use Rattle.clap.specs.Facts.{explicit_source};
 ghost use Rattle.clap.specs.Takes.{is_given};
 ghost use Rattle.clap.specs.Words.{first_of, found_of, rows_of};
 ghost use Rattle.lrc_args.specs.Options.{HasBadPage, HasValue, IsBareNumber, IsFlag, IsFlagOption, IsNumberOption, IsPageSize};
-ghost use Rattle.lrc_args.specs.Options.{collect_in, given_number, most_in, nodes_in, option_number, some_number_in, steps_in};
+ghost use Rattle.lrc_args.specs.Options.{collect_in, given_number, most_in, nodes_in, option_number, outcome_in, some_number_in, steps_in};
 ghost use Rattle.lrc_args.specs.declared.misfit.Misfit.TheVariants as unfit;
 ghost use Rattle.lrc_page.specs.declared.size.Size.{Size};
 
-use crate::choice::{Collect, Most, Nodes, Steps};
+use crate::choice::{Collect, Most, Nodes, OutcomeNumber, Steps};
 use crate::misfit::Misfit;
 use clap::ArgMatches;
 use clap::parser::ValueSource;
@@ -157,6 +157,19 @@ pub(crate) fn most_of(options: &ArgMatches<'_>) -> Result<Most, Misfit>
     match u32::try_from(count) {
         Ok(count) if 1 <= count && count <= 100_000_000 => Ok(Most { count }),
         _ => Err(Misfit::Number),
+    }
+}
+
+/// Which outcome is asked for, if one is.
+pub(crate) fn outcome_of(options: &ArgMatches<'_>) -> Result<Option<OutcomeNumber>, Misfit>
+    requires { IsBareNumber (codes "outcome") (rows_of (found_of options.now)) }
+    ensures ok { IfOk result (λ outcome. outcome_in (rows_of (found_of options.now)) ≡ option_map (λ outcome. outcome.number) outcome) }
+    ensures err { IfErr result (λ misfit. (misfit ≡ unfit.Number) × (outcome_in (rows_of (found_of options.now)) ≡ Some 0)) }
+{
+    match some_number_of(options, "outcome") {
+        None => Ok(None),
+        Some(0) => Err(Misfit::Number),
+        Some(number) => Ok(Some(OutcomeNumber { number })),
     }
 }
 

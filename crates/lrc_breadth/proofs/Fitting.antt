@@ -1,6 +1,6 @@
 -- Where all states are expanded, there are no more than these.
-use Rattle.std.proofs.Common.{◌≡◌, ℕ, ◌<◌, ◌≤◌, List, true, length, sym, ap, ◌∙◌, subst, arith, map}
-use Rattle.std.specs.Prelude.{Result, Ok, Err, IfOk, Contains}
+use Rattle.std.proofs.Common.{◌≡◌, ℕ, ◌<◌, ◌≤◌, List, true, sym, ap, ◌∙◌, subst, arith, map}
+use Rattle.std.specs.Prelude.{Result, Ok, Err, IfOk}
 use Rattle.std.proofs.lemmas.List.{length-map, get_or-map}
 use Rattle.std.proofs.lemmas.Option.{get_or_from_slice_get}
 use Rattle.lrc_trace.specs.declared.act.Act.{Act}
@@ -15,8 +15,6 @@ use Rattle.lrc_explore.proofs.Keeping.{item_at}
 use Rattle.lrc_explore.proofs.Searching.{copy_same}
 use Rattle.lrc_explore.proofs.Stores.{listed}
 use Rattle.lrc_explore.proofs.Ways.{IsNotedCopy, noted_copy, noted_store, noted_within}
-use Rattle.lrc_settled.specs.Rows.{AreAlike}
-use Rattle.lrc_settled.specs.Steps.{IsSettledState}
 use Rattle.lrc_breadth.specs.declared.task.Task.{Task}
 use Rattle.lrc_breadth.specs.Answers.{FitsSettled, FitsSettledNoted}
 use Rattle.lrc_breadth.specs.Reached.{AreExpanded, AreReached, HasStart}

@@ -78,6 +78,7 @@ from_copy task all origin copy key c f = record {
   there = f.there;
   acts = f.acts;
   takes = takes_copy task (plain_at task.flat f.before.state) origin.step f.acts copy key c f.takes;
+  noted = λ e. c.notes ∙ f.noted e;
 }
 
 from_grown : (task : Task) (old new : NotedStates) (origin : Origin) (key : Noted) → WidensNoted old new → IsFrom task old origin key
@@ -87,10 +88,12 @@ from_grown task old new origin key w f = record {
   there = noted_grows old new origin.parent f.before w f.there;
   acts = f.acts;
   takes = f.takes;
+  noted = f.noted;
 }
 
 first_copy : (task : Task) (copy key : Noted) → IsNotedCopy copy key → IsFirstKey task key → IsFirstKey task copy
-first_copy task copy key c f = (f.0, f.1, f.2, alike_same f.3 (sym (copy_same task.flat copy.state key.state c.state)))
+first_copy task copy key c f =
+    (f.0, f.1, f.2, alike_same f.3 (sym (copy_same task.flat copy.state key.state c.state)), λ e. c.notes ∙ f.4 e)
 
 -- ---- what was found
 
@@ -196,7 +199,7 @@ module _ (task : Task) (state : State) (acts : List Act) (key : Noted) (s : Sett
   }
 
   pub start_first : IsFirstKey task key
-  start_first = (s.acts, s.settles.there, s.settles.settles, alike_on s.settles.alike (back k.alike))
+  start_first = (s.acts, s.settles.there, s.settles.settles, alike_on s.settles.alike (back k.alike), λ e. sym (start_noted e))
 
   pub has_start : (all : NotedStates) → IsKept all key → HasStart task all
   has_start all kept others machine settles =
@@ -242,7 +245,10 @@ module _ (task : Task) (before : Noted) (step : Step) (acts : List Act) (state :
   next_from found place origin is at =
       let within = noted_within found.states place before at in
       subst (λ o. ComesFrom task found o key) (sym is) (
-        λ pos. (within, record { before = before; there = at; acts = t.acts; takes = next_takes }),
+        λ pos. (
+          within,
+          record { before = before; there = at; acts = t.acts; takes = next_takes; noted = λ e. k.noted e ∙ ap (noted_on before.notes.items) (sym same) },
+        ),
         λ none. absurd (omega (arith, within, none)),
       )
 

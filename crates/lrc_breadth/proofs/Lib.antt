@@ -5,3 +5,4 @@ pub mod Seeking
 pub mod Telling
 pub mod Answering
 pub mod Fitting
+pub mod Ending

@@ -7,9 +7,10 @@ use Rattle.lrc_trace.specs.declared.act.Act.{Act}
 use Rattle.lrc_explore.specs.declared.noted.Noted.{Noted}
 use Rattle.lrc_explore.specs.declared.state.State.{State}
 use Rattle.lrc_explore.specs.Noted.{IsNotedAt, noted_count}
+use Rattle.lrc_explore.specs.Notes.{notes_of}
 use Rattle.lrc_explore.specs.States.{plain_at}
 use Rattle.lrc_explore.proofs.Searching.{copy_same}
-use Rattle.lrc_explore.proofs.Ways.{noted_copy}
+use Rattle.lrc_explore.proofs.Ways.{IsNotedCopy, noted_copy}
 use Rattle.lrc_settled.specs.Rows.{AreAlike}
 use Rattle.lrc_settled.specs.Steps.{beginning, IsSettledState}
 use Rattle.lrc_settled.proofs.GoingOn.{back}
@@ -18,10 +19,10 @@ use Rattle.lrc_steps.specs.Taking.{TakesTo}
 use Rattle.lrc_breadth.specs.declared.task.Task.{Task}
 use Rattle.lrc_breadth.specs.declared.task.Origin.{Origin}
 use Rattle.lrc_breadth.specs.declared.task.Found.{Found}
-use Rattle.lrc_breadth.specs.Reached.{AreFound, CannotTake, HasTakenTo, IsFound, SettlesStart}
+use Rattle.lrc_breadth.specs.Reached.{AreFound, CannotTake, HasTakenTo, IsFound, SettlesStart, noted_on}
 use Rattle.lrc_breadth.specs.Told.{Comes, here, on, IsParentLed, LeadTo}
 use Rattle.lrc_breadth.proofs.Alike.{alike_on, alike_same, takes_once}
-use Rattle.lrc_breadth.proofs.Reaching.{further}
+use Rattle.lrc_breadth.proofs.Reaching.{further, notes_on}
 
 -- the first state
 pub led_first : (task : Task) (found : Found) (place : ℕ) (acts : List Act) (state : State) → AreFound task found → place < noted_count found.states
@@ -36,6 +37,7 @@ led_first task found place acts state f lt s =
       key = at.0;
       there = at.1;
       alike = subst (λ m. AreAlike m (plain_at task.flat at.0.state)) (sym one.1) first.3;
+      noted = λ e. ap (notes_of task.flat.nodes) (s.made ∙ one.0) ∙ sym (first.4 e);
     }
 
 -- one step more
@@ -50,11 +52,14 @@ module _ (task : Task) (found : Found) (place : ℕ) (origin : Origin) (key : No
   same_origin : was.origin ≡ origin
   same_origin = same_Some was.origin origin (sym was.there ∙ noted)
 
-  before_is : plain_at task.flat was.from.before.state ≡ plain_at task.flat key.state
-  before_is =
+  before_copy : IsNotedCopy was.from.before key
+  before_copy =
       let at : IsNotedAt found.states origin.parent was.from.before =
       subst (λ (o : Origin). IsNotedAt found.states o.parent was.from.before) same_origin was.from.there in
-      copy_same task.flat was.from.before.state key.state (noted_copy found.states origin.parent was.from.before key at there).state
+      noted_copy found.states origin.parent was.from.before key at there
+
+  before_is : plain_at task.flat was.from.before.state ≡ plain_at task.flat key.state
+  before_is = copy_same task.flat was.from.before.state key.state before_copy.state
 
   takes_it : TakesTo (plain_at task.flat key.state) origin.step was.from.acts (plain_at task.flat here_is.0.state)
   takes_it =
@@ -66,8 +71,8 @@ module _ (task : Task) (found : Found) (place : ℕ) (origin : Origin) (key : No
   led_on acts later_acts None led cannot = absurd (cannot was.from.acts takes_it.there takes_it.takes)
   led_on acts later_acts (Some state) led t =
       let r = f.reached.each origin.parent key there in
-      let alike : AreAlike led.machine (plain_at task.flat key.state) =
-      alike_same led.alike (copy_same task.flat led.key.state key.state (noted_copy found.states origin.parent led.key key led.there there).state) in
+      let copy = noted_copy found.states origin.parent led.key key led.there there in
+      let alike : AreAlike led.machine (plain_at task.flat key.state) = alike_same led.alike (copy_same task.flat led.key.state key.state copy.state) in
       let next = further task key r acts led.machine led.led alike origin.step t.acts (plain_at task.flat state) t.takes in
       let one = takes_once t.takes.takes takes_it.takes in
       record {
@@ -76,6 +81,12 @@ module _ (task : Task) (found : Found) (place : ℕ) (origin : Origin) (key : No
         key = here_is.0;
         there = here_is.1;
         alike = alike_on next.alike (alike_on (back t.takes.alike) (subst (λ m. AreAlike m (plain_at task.flat here_is.0.state)) (sym one.1) takes_it.alike));
+        noted = λ e.
+            ap (notes_of task.flat.nodes) t.made
+            ∙ notes_on task.program.now task.flat.nodes acts t.acts next.machine next.led
+            ∙ ap (λ n. noted_on n t.acts) (led.noted e ∙ copy.notes ∙ sym before_copy.notes)
+            ∙ ap (noted_on was.from.before.notes.items) one.0
+            ∙ sym (was.from.noted e);
       }
 
 -- ---- a way, place by place

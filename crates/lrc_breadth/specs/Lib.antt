@@ -1,3 +1,4 @@
 pub mod Reached
 pub mod Answers
 pub mod Told
+pub mod Ended

@@ -80,12 +80,13 @@ abbrev pub HasStart : Task → NotedStates → Type 0
 HasStart task all = (acts : List Act) (machine : Plain) → Settles (plain_start task.program.now task.flat.nodes) acts machine
     → HasReached task all machine (notes_of task.flat.nodes acts)
 
--- a step leads from an earlier state to this one
+-- a step leads from an earlier state to this one, and its acts to these notes if notes are kept
 pub record IsFrom (task : Task) (all : NotedStates) (origin : Origin) (key : Noted) : Type 0 where
   pub before : Noted
   pub there : IsNotedAt all origin.parent before
   pub acts : List Act
   pub takes : TakesTo (plain_at task.flat before.state) origin.step acts (plain_at task.flat key.state)
+  pub noted : task.noting ≡ true → key.notes.items ≡ noted_on before.notes.items acts
 
 -- how the state at this place was found
 pub record IsFound (task : Task) (found : Found) (place : ℕ) (key : Noted) : Type 0 where
@@ -94,10 +95,10 @@ pub record IsFound (task : Task) (found : Found) (place : ℕ) (key : Noted) : T
   pub earlier : origin.parent < place
   pub from : IsFrom task found.states origin key
 
--- the first state is where the program's start settles
+-- the first state is where the program's start settles, with the notes of the acts by which it does if notes are kept
 abbrev pub IsFirstKey : Task → Noted → Type 0
 IsFirstKey task key = (acts : List Act) × (machine : Plain) × Settles (plain_start task.program.now task.flat.nodes) acts machine
-    × AreAlike machine (plain_at task.flat key.state)
+    × AreAlike machine (plain_at task.flat key.state) × (task.noting ≡ true → key.notes.items ≡ notes_of task.flat.nodes acts)
 
 -- all that was found stands for settled states, and of each but the first it is known from where it was found
 pub record AreFound (task : Task) (found : Found) : Type 0 where

@@ -1,9 +1,10 @@
 -- The way to a state that was found.
-use Rattle.std.specs.Prelude.{◌≡◌, ℕ, ◌<◌, List, [], ◌∷◌, Some, slice_get}
+use Rattle.std.specs.Prelude.{◌≡◌, ℕ, ◌<◌, true, List, [], ◌∷◌, Some, slice_get}
 use Rattle.lrc_trace.specs.declared.act.Act.{Act}
 use Rattle.lrc_exec.specs.Plain.{Plain}
 use Rattle.lrc_explore.specs.declared.noted.Noted.{Noted}
 use Rattle.lrc_explore.specs.Noted.{IsNotedAt}
+use Rattle.lrc_explore.specs.Notes.{notes_of}
 use Rattle.lrc_explore.specs.States.{plain_at}
 use Rattle.lrc_settled.specs.Rows.{AreAlike}
 use Rattle.lrc_settled.specs.Steps.{IsSettledState}
@@ -17,13 +18,14 @@ pub data Comes (origins : List Origin) : (from : ℕ) (path : List ℕ) (to : �
   on : (from next to : ℕ) (path : List ℕ) (origin : Origin) → 0 < next → slice_get origins next ≡ Some origin → origin.parent ≡ from
       → Comes origins next path to → Comes origins from (next ∷ path) to
 
--- the acts lead from the beginning to a settled state that stands behind what is kept at a place
+-- the acts lead from the beginning to a settled state that stands behind what is kept at a place, and have its notes if notes are kept
 pub record LeadTo (task : Task) (found : Found) (place : ℕ) (acts : List Act) : Type 0 where
   pub machine : Plain
   pub led : IsSettledState task.program.now task.flat.nodes acts machine
   pub key : Noted
   pub there : IsNotedAt found.states place key
   pub alike : AreAlike machine (plain_at task.flat key.state)
+  pub noted : task.noting ≡ true → notes_of task.flat.nodes acts ≡ key.notes.items
 
 -- they lead to the state from which that at a place was found
 abbrev pub IsParentLed : Task → Found → (place : ℕ) → List Act → Type 0

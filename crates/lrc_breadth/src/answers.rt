@@ -92,8 +92,8 @@ fn outcomes_of(
     }
 }
 
-// What is searched of a program's code.
-fn task_of<'c>(code: &'c Code<'c>, nodes: u8, most: usize, noting: bool) -> Task<'c>
+/// What is searched of a program's code.
+pub fn task_of<'c>(code: &'c Code<'c>, nodes: u8, most: usize, noting: bool) -> Task<'c>
     ensures task { IsTask result }
     ensures program { result.program.now ≡ code.now }
     ensures nodes { result.flat.nodes ≡ nodes }
@@ -150,6 +150,7 @@ impl Found {
     ghost use Rattle.std.specs.Prelude.{◌≡◌, IfOk, IfErr, OnOk, [], true, Some};
     ghost use Rattle.lrc_explore.specs.Noted.{AreNotedDistinct, noted_count};
     ghost use Rattle.lrc_breadth.specs.Reached.{AreFound, HasStart, IsTask};
+    ghost use Rattle.lrc_breadth.specs.Ended.{AreAllFound};
     ghost use Rattle.lrc_breadth.specs.Answers.{FitsEnd, FitsSettled, FitsSettledNoted, IsAnswer, IsEnd, IsFault};
     ghost use Rattle.lrc_explore.specs.Verdict.{FindsNoRace};
     ghost use Rattle.lrc_breadth.specs.declared.task.End.TheVariants.{Meeting, Through};
@@ -227,8 +228,8 @@ impl Found {
         Ok(Verdict::RaceFree { stuck: Some(order) })
     }
 
-    // From the settled start on, where there are no states yet: every outcome.
-    fn all_outcomes(
+    // From the settled start on, where there are no states yet: every settled state, and every outcome.
+    pub(crate) fn all_outcomes(
         &mut self,
         alloc: Global,
         task: &Task<'_>,
@@ -240,6 +241,7 @@ impl Found {
         requires distinct { AreNotedDistinct self.old.states }
         requires origins { self.old.origins.items ≡ [] }
         requires empty { outcomes.old.keys ≡ [] }
+        ensures all { OnOk result (AreAllFound task.now self.new) }
         ensures exact { OnOk result ((notes : List ActType) → (HasOutcome outcomes.new.keys notes ↔ IsOutcome task.now.program.now task.now.flat.nodes notes)) }
         ensures fits { OnOk result (FitsSettledNoted task.now.program.now task.now.flat.nodes task.now.most) }
         ensures faults { IfErr result (IsFault task.now) }

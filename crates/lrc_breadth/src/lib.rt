@@ -2,6 +2,7 @@
 #![tactic(auto)]
 
 pub mod answers;
+pub mod ended;
 pub mod found;
 pub mod seek;
 pub mod task;

@@ -1,6 +1,6 @@
-use Rattle.std.proofs.Common.{◌≡◌, ◌∙◌, Option, None, Some, List, ap, codes, inl, inr, is_some, option_map, refl, sym}
+use Rattle.std.proofs.Common.{◌≡◌, ◌∙◌, Option, ap, codes, inl, inr, is_some, option_map, refl, sym}
 use Rattle.std.specs.Borrow.{Bor}
-use Rattle.clap.specs.Words.{Text, first_of, found_of, rows_of}
+use Rattle.clap.specs.Words.{Text, found_of, rows_of}
 use Rattle.clap.proofs.WalkLemmas.{first_value-rows}
 use Rattle.lrc_args.specs.CommandLine.{HasChartMisfit}
 use Rattle.lrc_args.proofs.FoundLemmas.{misfit_up}

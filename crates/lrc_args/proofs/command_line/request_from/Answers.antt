@@ -1,10 +1,8 @@
-use Rattle.std.proofs.Common.{◌∙◌, Option, None, Some, IsSomeAnd, List, codes, inl, inr, refl, sym}
-use Rattle.std.proofs.lemmas.Result.{IfErr-weaker, IfOk-weaker}
-use Rattle.clap.specs.Words.{Row, Text, found_of, rows_of, subcommand_rows_of}
-use Rattle.clap.specs.declared.parser.matches.ArgMatches.TheViews.{out-ArgMatches}
-use Rattle.lrc_args.specs.CommandLine.{HasAnswerMisfit, HasRequestMisfit, IsRequest}
+use Rattle.std.proofs.Common.{Option, None, Some, IsSomeAnd, List, inr}
+use Rattle.clap.specs.Words.{Row, Text, subcommand_rows_of}
+use Rattle.lrc_args.specs.CommandLine.{HasAnswerMisfit, HasRequestMisfit}
 use Rattle.lrc_args.specs.declared.misfit.Misfit.{Misfit}
-use Rattle.lrc_args.proofs.FoundLemmas.{answer_left, found_at, misfit_up, name_before, races_rows}
+use Rattle.lrc_args.proofs.FoundLemmas.{misfit_up}
 use Rattle.lrc_args.proofs.command_line.request_from.Goals as goal
 
 -- what does not fit in an answer does not fit

@@ -4,12 +4,26 @@ use Rattle.lrc_trace.specs.declared.act.Act.{Act}
 use Rattle.lrc_explore.specs.Noted.{noted_count}
 use Rattle.lrc_explore.specs.Outcome.{HasOutcome, IsOutcome}
 use Rattle.lrc_breadth.specs.Answers.{AreGathered, AreSound, FitsSettledNoted}
+use Rattle.lrc_breadth.specs.Ended.{AreAllFound}
 use Rattle.lrc_breadth.specs.Reached.{AreFound, IsMore}
 use Rattle.lrc_breadth.proofs.Answering.{ok_four}
+use Rattle.lrc_breadth.proofs.Ending.{all_found}
 use Rattle.lrc_breadth.proofs.Fitting.{fits_settled_noted}
 use Rattle.lrc_breadth.proofs.Keys.{start_grown}
 use Rattle.lrc_breadth.proofs.Seeking.{exact}
 use Rattle.lrc_breadth.proofs.task.Found.all_outcomes.Goals as goal
+
+pub returns-clause-all : goal.returns-clause-all
+returns-clause-all c =
+    let task = c.args.task.now in
+    let old = c.begin.new.self in
+    let new = c.gather.new.self in
+    let found = c.gather.new.outcomes.keys in
+    let e = c.gather.ensures in
+    let say = λ (f : AreFound task new) (m : IsMore old new) (s : AreSound task found) (d : AreGathered task new.states found (noted_count new.states)).
+    all_found task new f (start_grown task old.states new.states m.states c.in_ok-begin.ensures.start) (λ k lt key at. (d k lt key at).expanded) in
+    ok_four {A = AreFound task new} {B = IsMore old new} {C = AreSound task found} {D = AreGathered task new.states found (noted_count new.states)}
+    {P = AreAllFound task new} c.gather.result say e.found e.more e.sound e.done
 
 pub returns-clause-exact : goal.returns-clause-exact
 returns-clause-exact c =

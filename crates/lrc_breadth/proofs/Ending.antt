@@ -1,0 +1,95 @@
+-- Runs that end, and their outcomes.
+use Rattle.std.proofs.Common.{◌≡◌, ℕ, ◌+◌, List, true, inl, inr, refl, sym, ◌∙◌, subst, arith}
+use Rattle.std.proofs.lemmas.Bool.{cases_eq}
+use Rattle.lrc_trace.specs.declared.act.Act.{Act}
+use Rattle.lrc_trace.specs.declared.act.Cause.{Cause}
+use Rattle.lrc_trace.specs.declared.act.Cause.TheVariants.{DivisionByZero, WordOutOfRange, LockOutOfRange, LockHeld, LockNotHeld}
+use Rattle.lrc_trace.specs.declared.act.Deed.{Deed}
+use Rattle.lrc_trace.specs.declared.act.Deed.TheVariants.{Quiet, Print, Read, Write, Acquire, Release, Arrive, Depart, Trap, End}
+use Rattle.lrc_trace.specs.contracts.act.CausePartialEq.TheImpl.{eq-value as cause_eq}
+use Rattle.lrc_trace.specs.contracts.act.DeedPartialEq.TheImpl.{eq-value as deed_eq}
+use Rattle.lrc_trace.specs.contracts.act.ActPartialEq.TheImpl.{eq-value as act_eq}
+use Rattle.lrc_explore.specs.declared.noted.Noted.{Noted}
+use Rattle.lrc_explore.specs.Noted.{IsNotedAt, noted_count}
+use Rattle.lrc_explore.specs.Outcome.{IsOutcome}
+use Rattle.lrc_explore.specs.States.{plain_at}
+use Rattle.lrc_explore.specs.Stuck.{IsAtRest}
+use Rattle.lrc_explore.proofs.KeptAlike.{both_true, nat_itself}
+use Rattle.lrc_explore.proofs.Searching.{copy_same}
+use Rattle.lrc_explore.proofs.Ways.{noted_copy, noted_within}
+use Rattle.lrc_settled.proofs.GoingOn.{back, state_fine}
+use Rattle.lrc_settled.proofs.Settled.{outcomes, state_run}
+use Rattle.lrc_breadth.specs.declared.task.Task.{Task}
+use Rattle.lrc_breadth.specs.declared.task.Found.{Found}
+use Rattle.lrc_breadth.specs.Ended.{AreAllFound, HasNoEndBefore, IsEndAt, IsRunWith}
+use Rattle.lrc_breadth.specs.Reached.{AreExpanded, AreFound, HasStart}
+use Rattle.lrc_breadth.specs.Told.{LeadTo}
+use Rattle.lrc_breadth.proofs.Alike.{rest_alike}
+use Rattle.lrc_breadth.proofs.Reaching.{all_reached, fine_key}
+
+-- ---- acts are equal to themselves
+
+cause_itself : (a : Cause) → cause_eq.it a a ≡ true
+cause_itself DivisionByZero = refl
+cause_itself WordOutOfRange = refl
+cause_itself LockOutOfRange = refl
+cause_itself LockHeld = refl
+cause_itself LockNotHeld = refl
+
+deed_itself : (a : Deed) → deed_eq.it a a ≡ true
+deed_itself Quiet = refl
+deed_itself (Print v) = nat_itself v
+deed_itself (Read v x) = both_true _ _ (nat_itself v) (nat_itself x)
+deed_itself (Write v x) = both_true _ _ (nat_itself v) (nat_itself x)
+deed_itself (Acquire v) = nat_itself v
+deed_itself (Release v) = nat_itself v
+deed_itself Arrive = refl
+deed_itself Depart = refl
+deed_itself (Trap v) = cause_itself v
+deed_itself End = refl
+
+pub act_itself : (a : Act) → act_eq.it a a ≡ true
+act_itself a = both_true _ _ (nat_itself a.node) (deed_itself a.deed)
+
+-- ---- all settled states
+
+pub all_found : (task : Task) (found : Found) → AreFound task found → HasStart task found.states → AreExpanded task found.states (noted_count found.states)
+    → AreAllFound task found
+all_found task found f start expanded = record { are = f; start = start; expanded = expanded }
+
+-- the acts that lead to a state at which no node can make an act are a run with its notes
+pub run_to : (task : Task) (found : Found) (notes : List Act) (place : ℕ) (acts : List Act) → task.noting ≡ true → AreFound task found
+    → IsEndAt task found notes place → LeadTo task found place acts → IsRunWith task.program.now task.flat.nodes notes acts
+run_to task found notes place acts noting f is led =
+    let copy = noted_copy found.states place is.key led.key is.there led.there in
+    let still = subst IsAtRest (copy_same task.flat is.key.state led.key.state copy.state) is.still in
+    record {
+      machine = led.machine;
+      led = state_run led.led;
+      still = rest_alike (plain_at task.flat led.key.state) led.machine (fine_key task led.key (f.reached.each place led.key led.there))
+          (state_fine led.led) (back led.alike) still;
+      are = led.noted noting ∙ sym copy.notes ∙ is.are;
+    }
+
+-- where no state is such an end, the notes are of no outcome
+pub no_outcome : (task : Task) (found : Found) (notes : List Act) → task.noting ≡ true → AreAllFound task found
+    → HasNoEndBefore task found notes (noted_count found.states) → IsOutcome task.program.now task.flat.nodes notes → ⊥
+no_outcome task found notes noting a none is =
+    let o = (outcomes task.program.now task.flat.nodes notes).0 is in
+    let has = all_reached task found.states a.are.reached a.start a.expanded o.led in
+    let key = has.key in
+    let still = rest_alike o.machine (plain_at task.flat key.state) (state_fine o.led) (fine_key task key (a.are.reached.each has.place key has.there))
+    has.alike o.still in
+    none has.place (noted_within found.states has.place key has.there)
+    (record { key = key; there = has.there; still = still; are = has.noted noting ∙ o.are })
+
+-- the state at one place more is no such end
+pub no_end_at : (task : Task) (found : Found) (notes : List Act) (place : ℕ) (key : Noted) → IsNotedAt found.states place key
+    → (IsAtRest (plain_at task.flat key.state) × (key.notes.items ≡ notes) → ⊥) → HasNoEndBefore task found notes place
+    → HasNoEndBefore task found notes (place + 1)
+no_end_at task found notes place key there never before k lt is = elim (cases_eq k place) [
+  | inl same ↦
+      let copy = noted_copy found.states place is.key key (subst (λ n. IsNotedAt found.states n is.key) same is.there) there in
+      never (subst IsAtRest (copy_same task.flat is.key.state key.state copy.state) is.still, sym copy.notes ∙ is.are)
+  | inr apart ↦ before k (omega (arith, lt, apart)) is
+]

@@ -1,0 +1,105 @@
+// The runs of a program that end, and their outcomes.
+
+ghost use Rattle.std.specs.Prelude.{◌≡◌, ◌↔◌, IfOk, IfErr, IsTrue, true};
+ghost use Rattle.lrc_exec.specs.Spots.{IsFlat};
+ghost use Rattle.lrc_explore.specs.States.{IsStateOf, plain_at};
+ghost use Rattle.lrc_explore.specs.Stuck.{IsAtRest};
+ghost use Rattle.lrc_breadth.specs.Answers.{FitsSettledNoted, IsFault};
+ghost use Rattle.lrc_breadth.specs.Ended.{AreEnded};
+ghost use Rattle.lrc_breadth.specs.Reached.{IsTask};
+
+use crate::task::{Found, Task};
+use indexmap::IndexSet;
+use lrc_explore::noted::Noted;
+use lrc_explore::outcomes::Outcome;
+use lrc_explore::search::ExploreFault;
+use lrc_trace::act::Act;
+use std::alloc::{AllocError, Global};
+
+/// The outcomes of a program, each once, and its settled states, from which a run of each outcome is read back.
+#[derive(Drop)]
+pub struct Ended {
+    pub found: Found,
+    pub outcomes: IndexSet<Outcome>,
+}
+
+/// Finds all settled states of a program, with the outcomes of those at which no node can make an act. Gives up where there are more
+/// states to tell apart than may be.
+pub fn all_ended(alloc: Global, task: &Task<'_>) -> Result<Ended, ExploreFault>
+    requires task { IsTask task.now }
+    requires noting { task.now.noting ≡ true }
+    ensures ended { IfOk result (AreEnded task.now) }
+    ensures fits { IfOk result (λ _. FitsSettledNoted task.now.program.now task.now.flat.nodes task.now.most) }
+    ensures faults { IfErr result (IsFault task.now) }
+{
+    let mut found = Found::none(alloc);
+    let mut outcomes = IndexSet::new(alloc);
+    let all = found.all_outcomes(alloc, task, &mut outcomes);
+    match all {
+        Ok(()) => Ok(Ended { found, outcomes }),
+        Err(fault) => Err(fault),
+    }
+}
+
+// Whether what is kept of a state has these notes.
+fn has_notes(key: &Noted, notes: &[Act]) -> bool
+    ensures { IsTrue result ↔ (key.now.notes.items ≡ notes.now) }
+{
+    key.notes.as_slice() == notes
+}
+
+// Whether no node can make an act at a state, and it has these notes.
+fn is_end_with(task: &Task<'_>, key: &Noted, notes: &[Act]) -> bool
+    requires flat { IsFlat task.now.flat }
+    requires state { IsStateOf task.now.flat key.now.state }
+    ensures { IsTrue result ↔ (IsAtRest (plain_at task.now.flat key.now.state) × (key.now.notes.items ≡ notes.now)) }
+{
+    key.state.is_still(&task.flat) && has_notes(key, notes)
+}
+
+impl Found {
+    ghost use Rattle.std.specs.Prelude.{◌≡◌, ◌↔◌, IfOk, IfErr, IsTrue, true, option_map};
+    ghost use Rattle.lrc_breadth.specs.Answers.{IsFault};
+    ghost use Rattle.lrc_breadth.specs.Ended.{AreAllFound, IsFirstEnd, IsRunFor};
+    ghost use Rattle.lrc_breadth.specs.Reached.{AreFound, IsTask};
+
+    /// The acts of a run with these notes after which no node can make an act, where there is one: those that lead to the first such
+    /// state that was found.
+    pub fn run_with(
+        &self,
+        alloc: Global,
+        task: &Task<'_>,
+        notes: &[Act],
+    ) -> Result<Option<Vec<Act>>, ExploreFault>
+        requires task { IsTask task.now }
+        requires noting { task.now.noting ≡ true }
+        requires all { AreAllFound task.now self.now }
+        ensures run { IfOk result (λ run. IsRunFor task.now.program.now task.now.flat.nodes notes.now (option_map (λ acts. acts.items) run)) }
+        ensures faults { IfErr result (IsFault task.now) }
+    {
+        match self.end_with(alloc, task, notes)? {
+            Some(place) => Ok(Some(self.acts_to(alloc, task, place)?)),
+            None => Ok(None),
+        }
+    }
+
+    // The place of the first state with these notes at which no node can make an act.
+    fn end_with(
+        &self,
+        alloc: Global,
+        task: &Task<'_>,
+        notes: &[Act],
+    ) -> Result<Option<usize>, AllocError>
+        requires task { IsTask task.now }
+        requires found { AreFound task.now self.now }
+        ensures { IfOk result (IsFirstEnd task.now self.now notes.now) }
+    {
+        for place in 0..self.states.len() {
+            let key = self.states.noted(alloc, place)?;
+            if is_end_with(task, &key, notes) {
+                return Ok(Some(place));
+            }
+        }
+        Ok(None)
+    }
+}
