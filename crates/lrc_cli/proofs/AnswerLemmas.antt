@@ -11,12 +11,14 @@ use Rattle.lrc_shown.specs.Charted.{part_of}
 use Rattle.lrc_why_text.specs.Answers.{RefusesActs}
 use Rattle.lrc_why_text.specs.declared.fault.WhyFault.{WhyFault}
 use Rattle.lrc_why_text.specs.declared.fault.WhyFault.TheVariants as why_faults
-use Rattle.lrc_cli.specs.Answer.{Answers, IsActsChartFault, IsFault, IsWhyFault, Prints, charted_nodes, foreign_nodes}
+use Rattle.lrc_cli.specs.Answer.{Answers, IsActsChartFault, IsFault, IsWhyFault, KeepsRaces, Prints, charted_nodes, foreign_nodes, printed}
 use Rattle.lrc_answer.specs.FaultLine.{fault_of_acts_chart, fault_of_why}
 use Rattle.lrc_shown.specs.Reasoned.{asked_of}
 use Rattle.lrc_shown.specs.Showing.{AnswersShowing}
 use Rattle.lrc_text.specs.Parts.{whole_text}
 use Rattle.lrc_answer.specs.declared.printout.Printout.{Printout}
+use Rattle.lrc_cli.specs.declared.answer.Answered.{Answered}
+use Rattle.lrc_cli.specs.declared.answer.Answered.TheVariants.{Printed, Judged}
 use Rattle.lrc_args.specs.declared.choice.Choice.{Choice}
 use Rattle.lrc_args.specs.declared.choice.Choice.TheVariants.{Check, Plain, Show, Judge, Explore, Lint, WhyActs, ChartActs}
 use Rattle.lrc_args.specs.declared.choice.RunChoice.{RunChoice}
@@ -25,11 +27,22 @@ use Rattle.lrc_answer.specs.declared.fault.Fault.{Fault}
 use Rattle.lrc_answer.specs.declared.fault.Fault.TheVariants.{NoMemory}
 
 -- what holds of what is printed and of the fault, in one
-pub answers_of : (choice : Choice) (text : List ℕ) (events : Option (List ℕ)) (r : Result Printout Fault)
+answered : (choice : Choice) (text : List ℕ) (events : Option (List ℕ)) (r : Result Printout Fault)
     → IfOk r (λ printout. Prints choice text events (whole_text printout.parts.items) printout.status)
-    → IfErr r (λ fault. IsFault choice text events fault) → Answers choice text events r
-answers_of choice text events (Ok printout) prints faults = prints
-answers_of choice text events (Err fault) prints faults = faults
+    → IfErr r (λ fault. IsFault choice text events fault) → Answers choice text events (printed r)
+answered choice text events (Ok printout) prints faults = prints
+answered choice text events (Err fault) prints faults = faults
+
+pub answers_of : (choice : Choice) (text : List ℕ) (events : Option (List ℕ)) (r : Result Printout Fault) (a : Result Answered Fault) → a ≡ printed r
+    → IfOk r (λ printout. Prints choice text events (whole_text printout.parts.items) printout.status)
+    → IfErr r (λ fault. IsFault choice text events fault) → Answers choice text events a
+answers_of choice text events r a is prints faults = subst (Answers choice text events) (sym is) (answered choice text events r prints faults)
+
+-- a judgement that is answered keeps its races
+pub keeps_races : (choice : Choice) (text : List ℕ) (events : Option (List ℕ)) (a : Result Answered Fault) → Answers choice text events a → KeepsRaces a
+keeps_races choice text events (Ok (Printed printout)) h = tt
+keeps_races choice text events (Ok (Judged judgement)) h = h.1
+keeps_races choice text events (Err fault) h = tt
 
 -- memory may run out at any choice
 pub memory_ran_out : (choice : Choice) (text : List ℕ) (events : Option (List ℕ)) → IsFault choice text events NoMemory
@@ -59,19 +72,14 @@ acts_chart_fault acts charting text chart_faults.TooLong h = h
 acts_chart_fault acts charting text chart_faults.NoMemory h = tt
 
 -- what holds for a choice holds for the same choice
-pub printed_for : (r : Result Printout Fault) (choice other : Choice) (text : List ℕ) (events : Option (List ℕ)) → choice ≡ other
-    → IfOk r (λ printout. Prints other text events (whole_text printout.parts.items) printout.status)
-    → IfOk r (λ printout. Prints choice text events (whole_text printout.parts.items) printout.status)
-printed_for r choice other text events same h =
-    subst (λ (chosen : Choice). IfOk r (λ printout. Prints chosen text events (whole_text printout.parts.items) printout.status)) (sym same) h
-
-pub faulty_for : (r : Result Printout Fault) (choice other : Choice) (text : List ℕ) (events : Option (List ℕ)) → choice ≡ other
-    → IfErr r (λ fault. IsFault other text events fault) → IfErr r (λ fault. IsFault choice text events fault)
-faulty_for r choice other text events same h =
-    subst (λ (chosen : Choice). IfErr r (λ fault. IsFault chosen text events fault)) (sym same) h
+pub answers_for : (choice other : Choice) (text : List ℕ) (events : Option (List ℕ)) (r : Result Printout Fault) (a : Result Answered Fault)
+    → choice ≡ other → a ≡ printed r → IfOk r (λ printout. Prints other text events (whole_text printout.parts.items) printout.status)
+    → IfErr r (λ fault. IsFault other text events fault) → Answers choice text events a
+answers_for choice other text events r a same is prints faults =
+    subst (λ (chosen : Choice). Answers chosen text events a) (sym same) (answers_of other text events r a is prints faults)
 
 -- what is answered to a choice of a run is what is answered to that choice
 pub answers_of_run : (run : RunChoice) (shape : Shape) (text : List ℕ) (events : Option (List ℕ)) (r : Result Printout Fault)
-    → AnswersShowing run shape text events r → Answers (Show run shape) text events r
-answers_of_run run shape text events (Ok printout) h = h
-answers_of_run run shape text events (Err fault) h = h
+    (a : Result Answered Fault) → a ≡ printed r → AnswersShowing run shape text events r → Answers (Show run shape) text events a
+answers_of_run run shape text events (Ok printout) a is h = subst (Answers (Show run shape) text events) (sym is) h
+answers_of_run run shape text events (Err fault) a is h = subst (Answers (Show run shape) text events) (sym is) h

@@ -1,5 +1,5 @@
 -- What the program answers to a choice: a text that it prints and its status, or the first fault.
-use Rattle.std.specs.Prelude.{◌≡◌, ◌⊎◌, ℕ, List, Option, Result, Ok, Err, codes, option_map}
+use Rattle.std.specs.Prelude.{◌≡◌, ◌⊎◌, ℕ, Bool, true, false, List, Option, Result, Ok, Err, codes, option_map}
 use Rattle.lrc_acts.specs.ActsText.{ReadsActs}
 use Rattle.lrc_acts.specs.declared.reading.ActsFault.TheVariants.{BadAct, TooLong}
 use Rattle.lrc_exec.specs.Rounds.{AreActsOfRounds}
@@ -10,6 +10,7 @@ use Rattle.lrc_trace.specs.declared.act.Act.{Act}
 use Rattle.lrc_text.specs.Parts.{whole_text}
 use Rattle.lrc_explore_text.specs.Explored.{Explores, MeetsFew, MeetsTooMany}
 use Rattle.lrc_verdict.specs.Judgement.{Judges}
+use Rattle.lrc_verdict.specs.PairsTold.{HasItsRaces, told_text}
 use Rattle.lrc_lint.specs.Told.{TellsNoProgram}
 use Rattle.lrc_linted.specs.Linted.{LintsProgram}
 use Rattle.lrc_why_text.specs.Answers.{AnswersActs, RefusesActs}
@@ -21,6 +22,8 @@ use Rattle.lrc_shown.specs.Reasoned.{asked_of}
 use Rattle.lrc_shown.specs.Showing.{RefusesRun, ShowsRun}
 use Rattle.lrc_answer.specs.Texts.{IsTextFault, IsTextOf}
 use Rattle.lrc_answer.specs.declared.printout.Printout.{Printout}
+use Rattle.lrc_cli.specs.declared.answer.Answered.{Answered}
+use Rattle.lrc_cli.specs.declared.answer.Answered.TheVariants.{Printed, Judged}
 use Rattle.lrc_args.specs.declared.choice.Choice.{Choice}
 use Rattle.lrc_args.specs.declared.choice.Choice.TheVariants.{Check, Plain, Show, Judge, Explore, Lint, WhyActs, ChartActs}
 use Rattle.lrc_args.specs.declared.choice.Asking.{Asking}
@@ -143,7 +146,24 @@ IsFault (Lint file) text events_text fault = fault ≡ NoMemory
 IsFault (WhyActs acts asking) text events_text fault = IsWhyFault acts asking text fault
 IsFault (ChartActs acts charting) text events_text fault = IsActsChartFault acts charting text fault
 
--- What is answered to a choice: what is printed, or the first fault.
-abbrev pub Answers : Choice → List ℕ → Option (List ℕ) → Result Printout Fault → Type 0
-Answers choice text events_text (Ok printout) = Prints choice text events_text (whole_text printout.parts.items) printout.status
+-- whether the choice asks for racing pairs
+abbrev pub asks_pairs : Choice → Bool
+asks_pairs (Judge judging) = judging.pairs
+asks_pairs _ = false
+
+-- What is answered to a choice: what is printed, a judgement with the racing pairs that are asked for, or the first fault.
+abbrev pub Answers : Choice → List ℕ → Option (List ℕ) → Result Answered Fault → Type 0
+Answers choice text events_text (Ok (Printed printout)) = Prints choice text events_text (whole_text printout.parts.items) printout.status
+Answers choice text events_text (Ok (Judged judgement)) = (asks_pairs choice ≡ true) × HasItsRaces judgement
+    × Prints choice text events_text (told_text judgement) judgement.status
 Answers choice text events_text (Err fault) = IsFault choice text events_text fault
+
+-- a printout, as an answer
+abbrev pub printed : Result Printout Fault → Result Answered Fault
+printed (Ok printout) = Ok (Printed printout)
+printed (Err fault) = Err fault
+
+-- what a judgement keeps of its races is of its acts
+abbrev pub KeepsRaces : Result Answered Fault → Type 0
+KeepsRaces (Ok (Judged judgement)) = HasItsRaces judgement
+KeepsRaces _ = Unit {0}

@@ -1,21 +1,21 @@
 // What the program answers to a choice, before anything is written.
 
 ghost use Rattle.std.specs.Prelude.{◌≡◌, IfErr, IfOk, None, false, is_some, option_map};
-ghost use Rattle.lrc_cli.specs.Answer.{IsChecked, IsFault, IsPrintoutOfRounds, Prints};
+ghost use Rattle.lrc_cli.specs.Answer.{Answers, IsChecked, IsFault, IsPrintoutOfRounds, Prints, printed};
 ghost use Rattle.lrc_answer.specs.Texts.{IsTextFault};
 ghost use Rattle.lrc_report.specs.ReportText.{report_text, status_of};
 ghost use Rattle.lrc_text.specs.Parts.{whole_text};
 ghost use Rattle.lrc_args.specs.Files.{names_events, starts_threads};
-ghost use Rattle.lrc_args.specs.declared.choice.Choice.TheVariants.{Plain};
+ghost use Rattle.lrc_args.specs.declared.choice.Choice.TheVariants.{Judge, Plain};
 
 use crate::explored::explored;
-use crate::judged::judged;
+use crate::judged::{judged, judged_with_pairs};
 use crate::linted::linted;
 use crate::pictured::pictured;
 use crate::reasoned::reasoned;
 use lrc_answer::fault::Fault;
 use lrc_answer::printout::{Printout, in_one};
-use lrc_args::choice::{Choice, PlainRun};
+use lrc_args::choice::{Choice, Judging, PlainRun};
 use lrc_exec::rounds::plain_rounds;
 use lrc_lang::parse;
 use lrc_lang::program::Program;
@@ -23,8 +23,18 @@ use lrc_node::End;
 use lrc_report::report::{report_parts, status_after};
 use lrc_shown::shown::show;
 use lrc_trace::act::Act;
+use lrc_verdict::pairs::PairsJudgement;
 use lrc_world::ends::ends;
 use std::alloc::{AllocError, Global};
+
+/// What is answered to a choice.
+#[derive(Drop)]
+pub enum Answered {
+    /// A text, with its status.
+    Printed(Printout),
+    /// A judgement of acts, of which the racing pairs are found while they are told.
+    Judged(PairsJudgement),
+}
 
 /// Answers a choice that starts no threads, with the text of its FILE, and that of its events where it names them.
 pub fn answer(
@@ -32,23 +42,42 @@ pub fn answer(
     choice: &Choice<'_>,
     text: &[u8],
     events: Option<&[u8]>,
-) -> Result<Printout, Fault>
+) -> Result<Answered, Fault>
     requires threadless { starts_threads choice.now ≡ false }
     requires events { is_some events ≡ names_events choice.now }
-    ensures ok { IfOk result (λ printout. Prints choice.now text.now
-        (option_map (λ e. e.now) events.entry) (whole_text printout.parts.items) printout.status) }
-    ensures err { IfErr result (λ fault. IsFault choice.now text.now
-        (option_map (λ e. e.now) events.entry) fault) }
+    ensures { Answers choice.now text.now (option_map (λ e. e.now) events.entry) result }
 {
     match choice {
-        Choice::Check(_) => checked(alloc, text),
-        Choice::Plain(run) => plain(alloc, run, text),
-        Choice::Show(run, shape) => show(alloc, run, *shape, text, events),
-        Choice::Judge(judging) => judged(alloc, judging, text),
-        Choice::Explore(exploring) => explored(alloc, exploring, text),
-        Choice::Lint(file) => linted(alloc, file, text),
-        Choice::WhyActs(acts, asking) => reasoned(alloc, acts, asking, text),
-        Choice::ChartActs(acts, charting) => pictured(alloc, acts, charting, text),
+        Choice::Check(_) => printed(checked(alloc, text)),
+        Choice::Plain(run) => printed(plain(alloc, run, text)),
+        Choice::Show(run, shape) => printed(show(alloc, run, *shape, text, events)),
+        Choice::Judge(judging) => judgement(alloc, judging, text),
+        Choice::Explore(exploring) => printed(explored(alloc, exploring, text)),
+        Choice::Lint(file) => printed(linted(alloc, file, text)),
+        Choice::WhyActs(acts, asking) => printed(reasoned(alloc, acts, asking, text)),
+        Choice::ChartActs(acts, charting) => printed(pictured(alloc, acts, charting, text)),
+    }
+}
+
+/// A printout, as an answer.
+pub(crate) fn printed(printout: Result<Printout, Fault>) -> Result<Answered, Fault>
+    ensures { result ≡ printed printout }
+{
+    match printout {
+        Ok(printout) => Ok(Answered::Printed(printout)),
+        Err(fault) => Err(fault),
+    }
+}
+
+// A judgement of acts, as an answer.
+fn judgement(alloc: Global, judging: &Judging<'_>, text: &[u8]) -> Result<Answered, Fault>
+    ensures { Answers (Judge judging.now) text.now None result }
+{
+    if judging.pairs {
+        let judgement = judged_with_pairs(alloc, judging, text)?;
+        Ok(Answered::Judged(judgement))
+    } else {
+        printed(judged(alloc, judging, text))
     }
 }
 

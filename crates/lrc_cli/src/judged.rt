@@ -1,27 +1,43 @@
 // What the program answers to the command `judge`.
 
-ghost use Rattle.std.specs.Prelude.{◌≡◌, ◌≤◌, IfErr, IfOk, IfSome};
+ghost use Rattle.std.specs.Prelude.{◌≡◌, ◌≤◌, IfErr, IfOk, IfSome, false, true};
 ghost use Rattle.lrc_cli.specs.Answer.{IsActsFault, judged_nodes};
 ghost use Rattle.lrc_text.specs.Parts.{whole_text};
 ghost use Rattle.lrc_verdict.specs.Judgement.{Judges};
+ghost use Rattle.lrc_verdict.specs.PairsTold.{HasItsRaces, told_text};
 
 use lrc_answer::fault::Fault;
 use lrc_answer::printout::Printout;
 use lrc_args::choice::Judging;
 use lrc_verdict::judge::judge;
+use lrc_verdict::pairs::{PairsJudgement, judge_pairs};
 use std::alloc::Global;
 
-/// Answers the command `judge`, with a text of acts.
+/// Answers the command `judge` without its racing pairs, with a text of acts.
 pub(crate) fn judged(alloc: Global, judging: &Judging<'_>, text: &[u8]) -> Result<Printout, Fault>
-    ensures ok { IfOk result (λ printout. Judges (judged_nodes judging.now) judging.now.pairs
-        text.now (whole_text printout.parts.items) printout.status) }
+    ensures ok { IfOk result (λ printout. Judges (judged_nodes judging.now) false text.now
+        (whole_text printout.parts.items) printout.status) }
     ensures err { IfErr result (IsActsFault (judged_nodes judging.now) text.now) }
 {
-    let judged = judge(alloc, text, nodes_of(judging), judging.pairs)?;
+    let judged = judge(alloc, text, nodes_of(judging))?;
     Ok(Printout {
         parts: judged.parts,
         status: judged.status,
     })
+}
+
+/// Answers the command `judge` with its racing pairs, which are still to be found, with a text of acts.
+pub(crate) fn judged_with_pairs(
+    alloc: Global,
+    judging: &Judging<'_>,
+    text: &[u8],
+) -> Result<PairsJudgement, Fault>
+    ensures ok { IfOk result (λ judgement. Judges (judged_nodes judging.now) true text.now (told_text judgement) judgement.status) }
+    ensures races { IfOk result HasItsRaces }
+    ensures err { IfErr result (IsActsFault (judged_nodes judging.now) text.now) }
+{
+    let judgement = judge_pairs(alloc, text, nodes_of(judging))?;
+    Ok(judgement)
 }
 
 // How many nodes the acts are of, where that is said.

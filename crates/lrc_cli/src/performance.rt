@@ -1,20 +1,23 @@
 // Doing what the words ask for, over any two writers.
 
 ghost use Rattle.std.specs.Prelude.{◌≡◌, ◌⊎◌, ℕ, List, Option, false, is_some, option_map};
-ghost use Rattle.lrc_cli.specs.Answer.{Answers};
+ghost use Rattle.lrc_cli.specs.Answer.{Answers, KeepsRaces};
 ghost use Rattle.lrc_args.specs.Files.{names_events, starts_threads};
 ghost use Rattle.lrc_answer.specs.FaultLine.{fault_line};
-ghost use Rattle.lrc_cli.specs.Performance.{IsWritten, Performs};
+ghost use Rattle.lrc_cli.specs.Performance.{IsPrintedOrCut, IsWritten, Performs};
+ghost use Rattle.lrc_verdict.specs.PairsTold.{HasItsRaces, told_text};
 ghost use Rattle.lrc_text.specs.Parts.{whole_text};
 ghost use Rattle.lrc_args.specs.declared.choice.Choice.{Choice as AnyChoice};
 ghost use Rattle.lrc_answer.specs.declared.fault.Fault.TheVariants.{NoMemory};
 
-use crate::answer::answer;
+use crate::answer::{Answered, answer, printed};
 use lrc_answer::fault::{Fault, NO_MEMORY_LINE, line_of};
 use lrc_answer::printout::Printout;
 use lrc_args::choice::Choice;
 use lrc_report::output::{Output, put, put_parts};
 use lrc_shown::any::show_any;
+use lrc_verdict::broken_off::BrokenOff;
+use lrc_verdict::pairs::{PairsJudgement, put_pairs};
 use std::alloc::Global;
 use std::io::Write;
 use std::sync::Wait;
@@ -66,12 +69,12 @@ pub fn answer_any<R: Threads + Wait + Sync>(
     choice: &Choice<'_>,
     text: &[u8],
     events: Option<&[u8]>,
-) -> Result<Printout, Fault>
+) -> Result<Answered, Fault>
     requires { is_some events ≡ names_events choice.now }
     ensures { Answers choice.now text.now (option_map (λ e. e.now) events.entry) result }
 {
     match choice {
-        Choice::Show(run, shape) => show_any(rt, alloc, run, *shape, text, events),
+        Choice::Show(run, shape) => printed(show_any(rt, alloc, run, *shape, text, events)),
         Choice::Check(_)
         | Choice::Plain(_)
         | Choice::Judge(_)
@@ -85,17 +88,19 @@ pub fn answer_any<R: Threads + Wait + Sync>(
 /// Writes what was answered to a choice, or the line of its fault, as [`perform`] does, and gives the status.
 pub fn tell<W: Write, E: Write>(
     alloc: Global,
-    answered: Result<Printout, Fault>,
+    answered: Result<Answered, Fault>,
     out: &mut W,
     err: &mut E,
 ) -> u8
+    requires { KeepsRaces answered }
     ensures { (choice : AnyChoice) (text : List ℕ) (events : Option (List ℕ))
         → Answers choice text events answered
         → Performs choice text events (W.contents out.old) (W.contents out.new)
         (E.contents err.old) (E.contents err.new) result }
 {
     match answered {
-        Ok(printout) => print(&printout, out),
+        Ok(Answered::Printed(printout)) => print(&printout, out),
+        Ok(Answered::Judged(judgement)) => print_pairs(alloc, &judgement, out, err),
         Err(fault) => complain(alloc, fault, err),
     }
 }
@@ -108,6 +113,25 @@ fn print<W: Write>(printout: &Printout, out: &mut W) -> u8
     match put_parts(&mut output, &printout.parts) {
         Ok(()) => printout.status,
         Err(_) => 1,
+    }
+}
+
+// Writes a judgement while its racing pairs are found, and the line that memory ran out where it did.
+fn print_pairs<W: Write, E: Write>(
+    alloc: Global,
+    judgement: &PairsJudgement,
+    out: &mut W,
+    err: &mut E,
+) -> u8
+    requires { HasItsRaces judgement.now }
+    ensures { IsPrintedOrCut (W.contents out.old) (W.contents out.new) (E.contents err.old) (E.contents err.new)
+        (told_text judgement.now) judgement.now.status result }
+{
+    let mut output = Output::new(out);
+    match put_pairs(alloc, &mut output, judgement) {
+        Ok(()) => judgement.status,
+        Err(BrokenOff::Unwritten(_)) => 1,
+        Err(BrokenOff::NoMemory) => put_line(NO_MEMORY_LINE, err),
     }
 }
 

@@ -13,9 +13,9 @@ use crate::races::tell_races;
 use crate::refusal::refuse;
 use crate::topic::tell_topic;
 use lrc_answer::fault::Fault;
-use lrc_answer::printout::Printout;
 use lrc_args::choice::{Choice, Request};
 use lrc_args::choose;
+use lrc_cli::answer::Answered;
 use lrc_cli::{answer_any, tell};
 use lrc_sources::refusal::refuse_file;
 use lrc_sources::sources::Sources;
@@ -147,7 +147,7 @@ fn answer_of<R, L>(
     text: &[u8],
     events: Option<&[u8]>,
     late: Option<L>,
-) -> Result<Printout, Fault>
+) -> Result<Answered, Fault>
 where
     R: Threads + Wait + Sync + Clock + AllocGlobal,
     L: Late + Send + Drop,
@@ -168,7 +168,7 @@ fn answer_watched<R, L>(
     text: &[u8],
     events: Option<&[u8]>,
     late: L,
-) -> Result<Printout, Fault>
+) -> Result<Answered, Fault>
 where
     R: Threads + Wait + Sync + Clock + AllocGlobal,
     L: Late + Send + Drop,
@@ -182,7 +182,7 @@ where
             late.tell();
         }
     };
-    let answering = || -> Result<Printout, Fault>
+    let answering = || -> Result<Answered, Fault>
         requires { is_some events ≡ names_events choice.now }
         ensures { Answers choice.entry.now text.entry.now (option_map (λ e. e.now) events.entry) result }
     { answer_then_end(rt, shared, choice, text, events) };
@@ -197,7 +197,7 @@ fn answer_then_end<R>(
     choice: &Choice<'_>,
     text: &[u8],
     events: Option<&[u8]>,
-) -> Result<Printout, Fault>
+) -> Result<Answered, Fault>
 where
     R: Threads + Wait + Sync + AllocGlobal,
     requires { is_some events ≡ names_events choice.now }

@@ -1,68 +1,46 @@
-use Rattle.std.proofs.Common.{ℕ, List, option_map}
+use Rattle.std.proofs.Common.{ℕ, List, option_map, subst, sym}
 use Rattle.std.specs.Borrow.{Bor}
-use Rattle.lrc_cli.proofs.AnswerLemmas.{faulty_for, printed_for}
+use Rattle.lrc_args.specs.declared.choice.Choice.{Choice}
+use Rattle.lrc_cli.specs.Answer.{Answers}
+use Rattle.lrc_cli.proofs.AnswerLemmas.{answers_for}
 use Rattle.lrc_cli.proofs.answer.answer.Goals as goal
 
-pub returns-in-Check-clause-ok : goal.returns-in-Check-clause-ok
-returns-in-Check-clause-ok c =
-    printed_for c.checked.result _ _ c.args.text.now (option_map (λ (e : Bor (List ℕ)). e.now) c.args.events) c.in-Check.is c.checked.ensures.ok
+pub returns-in-Check : goal.returns-in-Check
+returns-in-Check c =
+    answers_for c.args.choice.now _ c.args.text.now (option_map (λ (e : Bor (List ℕ)). e.now) c.args.events) c.checked.result c.printed.result c.in-Check.is
+    c.printed.ensures c.checked.ensures.ok c.checked.ensures.err
 
-pub returns-in-Check-clause-err : goal.returns-in-Check-clause-err
-returns-in-Check-clause-err c =
-    faulty_for c.checked.result _ _ c.args.text.now (option_map (λ (e : Bor (List ℕ)). e.now) c.args.events) c.in-Check.is c.checked.ensures.err
+pub returns-in-Plain : goal.returns-in-Plain
+returns-in-Plain c =
+    answers_for c.args.choice.now _ c.args.text.now (option_map (λ (e : Bor (List ℕ)). e.now) c.args.events) c.plain.result c.printed-in-Plain.result c.in-Plain.is
+    c.printed-in-Plain.ensures c.plain.ensures.ok c.plain.ensures.err
 
-pub returns-in-Plain-clause-ok : goal.returns-in-Plain-clause-ok
-returns-in-Plain-clause-ok c =
-    printed_for c.plain.result _ _ c.args.text.now (option_map (λ (e : Bor (List ℕ)). e.now) c.args.events) c.in-Plain.is c.plain.ensures.ok
+pub returns-in-Show : goal.returns-in-Show
+returns-in-Show c =
+    answers_for c.args.choice.now _ c.args.text.now (option_map (λ (e : Bor (List ℕ)). e.now) c.args.events) c.show.result c.printed-in-Show.result c.in-Show.is
+    c.printed-in-Show.ensures c.show.ensures.ok c.show.ensures.err
 
-pub returns-in-Plain-clause-err : goal.returns-in-Plain-clause-err
-returns-in-Plain-clause-err c =
-    faulty_for c.plain.result _ _ c.args.text.now (option_map (λ (e : Bor (List ℕ)). e.now) c.args.events) c.in-Plain.is c.plain.ensures.err
+pub returns-in-Explore : goal.returns-in-Explore
+returns-in-Explore c =
+    answers_for c.args.choice.now _ c.args.text.now (option_map (λ (e : Bor (List ℕ)). e.now) c.args.events) c.explored.result c.printed-in-Explore.result c.in-Explore.is
+    c.printed-in-Explore.ensures c.explored.ensures.ok c.explored.ensures.err
 
-pub returns-in-Show-clause-ok : goal.returns-in-Show-clause-ok
-returns-in-Show-clause-ok c =
-    printed_for c.show.result _ _ c.args.text.now (option_map (λ (e : Bor (List ℕ)). e.now) c.args.events) c.in-Show.is c.show.ensures.ok
+pub returns-in-Lint : goal.returns-in-Lint
+returns-in-Lint c =
+    answers_for c.args.choice.now _ c.args.text.now (option_map (λ (e : Bor (List ℕ)). e.now) c.args.events) c.linted.result c.printed-in-Lint.result c.in-Lint.is
+    c.printed-in-Lint.ensures c.linted.ensures.ok c.linted.ensures.err
 
-pub returns-in-Show-clause-err : goal.returns-in-Show-clause-err
-returns-in-Show-clause-err c =
-    faulty_for c.show.result _ _ c.args.text.now (option_map (λ (e : Bor (List ℕ)). e.now) c.args.events) c.in-Show.is c.show.ensures.err
+pub returns-in-WhyActs : goal.returns-in-WhyActs
+returns-in-WhyActs c =
+    answers_for c.args.choice.now _ c.args.text.now (option_map (λ (e : Bor (List ℕ)). e.now) c.args.events) c.reasoned.result c.printed-in-WhyActs.result c.in-WhyActs.is
+    c.printed-in-WhyActs.ensures c.reasoned.ensures.ok c.reasoned.ensures.err
 
-pub returns-in-Explore-clause-ok : goal.returns-in-Explore-clause-ok
-returns-in-Explore-clause-ok c =
-    printed_for c.explored.result _ _ c.args.text.now (option_map (λ (e : Bor (List ℕ)). e.now) c.args.events) c.in-Explore.is c.explored.ensures.ok
+pub returns-in-ChartActs : goal.returns-in-ChartActs
+returns-in-ChartActs c =
+    answers_for c.args.choice.now _ c.args.text.now (option_map (λ (e : Bor (List ℕ)). e.now) c.args.events) c.pictured.result c.printed-in-ChartActs.result c.in-ChartActs.is
+    c.printed-in-ChartActs.ensures c.pictured.ensures.ok c.pictured.ensures.err
 
-pub returns-in-Explore-clause-err : goal.returns-in-Explore-clause-err
-returns-in-Explore-clause-err c =
-    faulty_for c.explored.result _ _ c.args.text.now (option_map (λ (e : Bor (List ℕ)). e.now) c.args.events) c.in-Explore.is c.explored.ensures.err
-
-pub returns-in-Judge-clause-ok : goal.returns-in-Judge-clause-ok
-returns-in-Judge-clause-ok c =
-    printed_for c.judged.result _ _ c.args.text.now (option_map (λ (e : Bor (List ℕ)). e.now) c.args.events) c.in-Judge.is c.judged.ensures.ok
-
-pub returns-in-Judge-clause-err : goal.returns-in-Judge-clause-err
-returns-in-Judge-clause-err c =
-    faulty_for c.judged.result _ _ c.args.text.now (option_map (λ (e : Bor (List ℕ)). e.now) c.args.events) c.in-Judge.is c.judged.ensures.err
-
-pub returns-in-Lint-clause-ok : goal.returns-in-Lint-clause-ok
-returns-in-Lint-clause-ok c =
-    printed_for c.linted.result _ _ c.args.text.now (option_map (λ (e : Bor (List ℕ)). e.now) c.args.events) c.in-Lint.is c.linted.ensures.ok
-
-pub returns-in-Lint-clause-err : goal.returns-in-Lint-clause-err
-returns-in-Lint-clause-err c =
-    faulty_for c.linted.result _ _ c.args.text.now (option_map (λ (e : Bor (List ℕ)). e.now) c.args.events) c.in-Lint.is c.linted.ensures.err
-
-pub returns-in-WhyActs-clause-ok : goal.returns-in-WhyActs-clause-ok
-returns-in-WhyActs-clause-ok c =
-    printed_for c.reasoned.result _ _ c.args.text.now (option_map (λ (e : Bor (List ℕ)). e.now) c.args.events) c.in-WhyActs.is c.reasoned.ensures.ok
-
-pub returns-in-WhyActs-clause-err : goal.returns-in-WhyActs-clause-err
-returns-in-WhyActs-clause-err c =
-    faulty_for c.reasoned.result _ _ c.args.text.now (option_map (λ (e : Bor (List ℕ)). e.now) c.args.events) c.in-WhyActs.is c.reasoned.ensures.err
-
-pub returns-in-ChartActs-clause-ok : goal.returns-in-ChartActs-clause-ok
-returns-in-ChartActs-clause-ok c =
-    printed_for c.pictured.result _ _ c.args.text.now (option_map (λ (e : Bor (List ℕ)). e.now) c.args.events) c.in-ChartActs.is c.pictured.ensures.ok
-
-pub returns-in-ChartActs-clause-err : goal.returns-in-ChartActs-clause-err
-returns-in-ChartActs-clause-err c =
-    faulty_for c.pictured.result _ _ c.args.text.now (option_map (λ (e : Bor (List ℕ)). e.now) c.args.events) c.in-ChartActs.is c.pictured.ensures.err
+pub returns-in-Judge : goal.returns-in-Judge
+returns-in-Judge c =
+    subst (λ (choice : Choice). Answers choice c.args.text.now (option_map (λ (e : Bor (List ℕ)). e.now) c.args.events) c.judgement.result)
+    (sym c.in-Judge.is) c.judgement.ensures

@@ -6,5 +6,5 @@ use Rattle.lrc_cli.proofs.performance.answer_any.Goals as goal
 
 pub returns-in-Show : goal.returns-in-Show
 returns-in-Show g c =
-    subst (λ (choice : Choice). Answers choice c.args.text.now (option_map (λ e. e.now) c.args.events) c.show_any.result) (sym c.in-Show.is)
-    (answers_of_run _ _ c.args.text.now (option_map (λ e. e.now) c.args.events) c.show_any.result c.show_any.ensures)
+    subst (λ (choice : Choice). Answers choice c.args.text.now (option_map (λ e. e.now) c.args.events) c.printed.result) (sym c.in-Show.is)
+    (answers_of_run _ _ c.args.text.now (option_map (λ e. e.now) c.args.events) c.show_any.result c.printed.result c.printed.ensures c.show_any.ensures)

@@ -1,8 +1,8 @@
-use Rattle.std.proofs.Common.{◌⊎◌, ℕ, List, Option, Some, None, refl, subst, inl, inr}
+use Rattle.std.proofs.Common.{◌≡◌, ◌⊎◌, ℕ, true, List, Option, Some, None, refl, subst, inl, inr}
 use Rattle.std.specs.Io.KnownBytes.{Keeps}
-use Rattle.lrc_cli.specs.Answer.{Answers, IsFault}
+use Rattle.lrc_cli.specs.Answer.{Answers, IsFault, Prints, asks_pairs}
 use Rattle.lrc_answer.specs.FaultLine.{fault_line}
-use Rattle.lrc_cli.specs.Performance.{IsWritten, Performs, faults, prints}
+use Rattle.lrc_cli.specs.Performance.{IsPrintedOrCut, IsWritten, Performs, cuts, faults, prints}
 use Rattle.lrc_args.specs.declared.choice.Choice.{Choice}
 use Rattle.lrc_answer.specs.declared.fault.Fault.{Fault}
 use Rattle.lrc_answer.specs.declared.fault.Fault.TheVariants.{NoMemory}
@@ -18,9 +18,21 @@ complained : (choice : Choice) (text : List ℕ) (events out err err' : Option (
 complained choice text events out err err' result fault is (inl line) = faults fault is line (same out)
 complained choice text events out err err' result fault is (inr line) = faults NoMemory (memory_ran_out choice text events) line (same out)
 
-pub returns-in-Ok : goal.returns-in-Ok
-returns-in-Ok g c choice text events answers =
-    prints _ _ (subst (Answers choice text events) (c.in-Ok.is) answers) c.print.ensures (same (g.E.Write.contents c.args.err.now))
+pub returns-in-Ok-Printed : goal.returns-in-Ok-Printed
+returns-in-Ok-Printed g c choice text events answers =
+    prints _ _ (subst (Answers choice text events) (c.in-Ok-Printed.is) answers) c.print.ensures (same (g.E.Write.contents c.args.err.now))
+
+-- what comes of a judgement that is written while its racing pairs are found
+judged : (choice : Choice) (text : List ℕ) (events out out' err err' : Option (List ℕ)) (printed : List ℕ) (status result : ℕ)
+    → asks_pairs choice ≡ true → Prints choice text events printed status → IsPrintedOrCut out out' err err' printed status result
+    → Performs choice text events out out' err err' result
+judged choice text events out out' err err' printed status result asks is (inl (written, kept)) = prints printed status is written kept
+judged choice text events out out' err err' printed status result asks is (inr cut) = cuts printed status asks is cut
+
+pub returns-in-Ok-Judged : goal.returns-in-Ok-Judged
+returns-in-Ok-Judged g c choice text events answers =
+    let is = subst (Answers choice text events) (c.in-Ok-Judged.is) answers in
+    judged choice text events _ _ _ _ _ _ c.print_pairs.result is.0 is.2 c.print_pairs.ensures
 
 pub returns-in-Err : goal.returns-in-Err
 returns-in-Err g c choice text events answers =
