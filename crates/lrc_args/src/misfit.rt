@@ -17,8 +17,7 @@ const BAD_RUN_ORDER: &str = "invalid value for '--order <ORDER>': it is oldest, 
 
 const BAD_PAGE: &str = "invalid value for '--page <WORDS>': it is 64 or 256";
 
-const BAD_FORM: &str =
-    "invalid value for '--as <FORM>': it is acts, events, json, rapid or states";
+const BAD_FORM: &str = "invalid value for '--as <FORM>': it is acts, events, json, rapid or states";
 
 const IDLE_SEED: &str = "the argument '--seed <X>' cannot be used without '--order random'";
 

@@ -1,4 +1,4 @@
-use Rattle.std.proofs.Common.{Option, codes, subst, sym}
+use Rattle.std.proofs.Common.{Option, subst, sym}
 use Rattle.std.proofs.lemmas.Result.{IfErr-weaker, IfOk-weaker}
 use Rattle.clap.specs.Words.{Text}
 use Rattle.lrc_args.specs.Options.{HasWordMisfit, IsForm}
