@@ -10,7 +10,7 @@ use Rattle.lrc_shown.specs.Shown.{IsShowFault, IsShown, keep_for, shown_status}
 use Rattle.lrc_text.specs.Parts.{whole_text}
 use Rattle.lrc_answer.specs.declared.printout.Printout.{Printout}
 use Rattle.lrc_answer.specs.FaultLine.{fault_of_why}
-use Rattle.lrc_why_run.specs.Answers.{RefusesRun}
+use Rattle.lrc_why_run.specs.Answers.{RefusesRun as RefusesWhy}
 use Rattle.lrc_why_text.specs.declared.fault.WhyFault.{WhyFault}
 use Rattle.lrc_why_text.specs.declared.fault.WhyFault.TheVariants as why_faults
 use Rattle.lrc_args.specs.declared.choice.Asking.{Asking}
@@ -44,7 +44,7 @@ unshown_of choice shape text events_text program run (Err fault) is ran unshown 
     inr (program, is, inr (record { run = run; ran = ran; unshown = unshown }))
 
 -- why it is not told of acts of a run, as it is told
-pub untold_fault : (asking : Asking) (count : ℕ) (fault : WhyFault) → RefusesRun (asked_of asking) count fault → IsUntold asking count (fault_of_why fault)
+pub untold_fault : (asking : Asking) (count : ℕ) (fault : WhyFault) → RefusesWhy (asked_of asking) count fault → IsUntold asking count (fault_of_why fault)
 untold_fault asking count (why_faults.NoAct position) h = h
 untold_fault asking count why_faults.NoMemory h = tt
 untold_fault asking count why_faults.TooLong h = absurd h

@@ -8,6 +8,7 @@ use Rattle.lrc_chart_build.specs.Course.{CourseRecord}
 use Rattle.lrc_turns_text.specs.Turns.{turns_told}
 use Rattle.lrc_args.specs.declared.choice.Shape.TheVariants.{Chart}
 use Rattle.lrc_title.specs.Title.{title_text}
+use Rattle.lrc_world.specs.declared.keep.Keep.TheVariants.{All as Whole}
 use Rattle.lrc_shown.specs.Charted.{AreWaitsIn, IsChart, IsCourse}
 use Rattle.lrc_answer.specs.Labels.{labels_in}
 use Rattle.lrc_shown.specs.Lines.{AreLinesIn}
@@ -20,12 +21,12 @@ use Rattle.lrc_shown.proofs.charted.charted.Goals as goal
 pub times_of_acts-requires-clause-in_range : goal.times_of_acts-requires-clause-in_range
 times_of_acts-requires-clause-in_range c =
     subst (λ (acts : List Act). All (λ act. act.node < c.args.choice.now.options.nodes.count) acts) (sym c.as_slice-acts.ensures.value)
-    (acts_in_range c.args.program.now c.args.choice.now.options c.args.run.now c.requires.ran)
+    (acts_in_range c.args.program.now c.args.choice.now.options Whole c.args.run.now c.requires.ran)
 
 pub first_pairs-requires : goal.first_pairs-requires
 first_pairs-requires c =
     subst (λ (acts : List Act). All (λ act. act.node < 16) acts) (sym c.as_slice-acts.ensures.value)
-    (acts_of_few c.args.program.now c.args.choice.now.options c.args.run.now c.requires.ran)
+    (acts_of_few c.args.program.now c.args.choice.now.options Whole c.args.run.now c.requires.ran)
 
 pub returns-in_err-part-clause-err : goal.returns-in_err-part-clause-err
 returns-in_err-part-clause-err c =

@@ -11,6 +11,7 @@ use Rattle.lrc_args.specs.declared.choice.Form.{Form}
 use Rattle.lrc_world.specs.Turned.{HaveLogs, turned_of}
 use Rattle.lrc_world.specs.declared.turned.Turned.{Turned}
 use Rattle.lrc_answer.specs.Labels.{labels_in}
+use Rattle.lrc_world.specs.declared.keep.Keep.TheVariants.{All as Whole}
 use Rattle.lrc_shown.specs.Runs.{options_of, turns_in}
 use Rattle.lrc_shown.specs.Shown.{IsWrittenAs}
 use Rattle.lrc_shown.proofs.RunLemmas.{acts_in_range, have_logs}
@@ -19,7 +20,7 @@ use Rattle.lrc_shown.proofs.trace.form_part.Goals as goal
 pub json_of-requires-clause-acts : goal.json_of-requires-clause-acts
 json_of-requires-clause-acts c =
     subst (λ (acts : List Act). All (λ act. act.node < c.args.options.now.nodes.count) acts) (sym c.as_slice-acts.ensures.value)
-    (acts_in_range c.args.program.now c.args.options.now c.args.run.now c.requires.ran)
+    (acts_in_range c.args.program.now c.args.options.now Whole c.args.run.now c.requires.ran)
 
 pub returns-in-Acts : goal.returns-in-Acts
 returns-in-Acts c =
