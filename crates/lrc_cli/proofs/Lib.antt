@@ -1,4 +1,1 @@
 pub mod AnswerLemmas
-pub mod CourseLemmas
-pub mod LineLemmas
-pub mod RunLemmas

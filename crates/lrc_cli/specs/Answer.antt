@@ -3,14 +3,12 @@ use Rattle.std.specs.Prelude.{◌≡◌, ◌⊎◌, ℕ, List, Option, Result, O
 use Rattle.lrc_acts.specs.ActsText.{ReadsActs}
 use Rattle.lrc_acts.specs.declared.reading.ActsFault.TheVariants.{BadAct, TooLong}
 use Rattle.lrc_exec.specs.Rounds.{AreActsOfRounds}
-use Rattle.lrc_lang.specs.Faults.{HasFirstFault, IsText}
 use Rattle.lrc_lang.specs.Lines.{HasLines}
 use Rattle.lrc_lang.specs.Tree.{program_of}
 use Rattle.lrc_lang.specs.declared.program.Program.{Program}
 use Rattle.lrc_trace.specs.declared.act.Act.{Act}
 use Rattle.lrc_text.specs.Parts.{whole_text}
 use Rattle.lrc_explore_text.specs.Explored.{Explores, MeetsFew, MeetsTooMany}
-use Rattle.lrc_protocol.specs.declared.event.Event.{Event}
 use Rattle.lrc_verdict.specs.Judgement.{Judges}
 use Rattle.lrc_lint.specs.Told.{TellsNoProgram}
 use Rattle.lrc_linted.specs.Linted.{LintsProgram}
@@ -18,11 +16,11 @@ use Rattle.lrc_why_text.specs.Answers.{AnswersActs, RefusesActs}
 use Rattle.lrc_why_text.specs.declared.fault.WhyFault.TheVariants as why_faults
 use Rattle.lrc_world.specs.Ends.{ends_of}
 use Rattle.lrc_report.specs.ReportText.{report_text, status_of}
-use Rattle.lrc_cli.specs.Labels.{labels_in}
-use Rattle.lrc_cli.specs.Reasoned.{asked_of}
-use Rattle.lrc_cli.specs.Runs.{Account, IsRunFault, IsRunOfWay}
-use Rattle.lrc_cli.specs.Shown.{IsShowFault, IsShown, shown_status}
-use Rattle.lrc_cli.specs.declared.answer.Printout.{Printout}
+use Rattle.lrc_answer.specs.Labels.{labels_in}
+use Rattle.lrc_shown.specs.Reasoned.{asked_of}
+use Rattle.lrc_shown.specs.Showing.{RefusesRun, ShowsRun}
+use Rattle.lrc_answer.specs.Texts.{IsTextFault, IsTextOf}
+use Rattle.lrc_answer.specs.declared.printout.Printout.{Printout}
 use Rattle.lrc_args.specs.declared.choice.Choice.{Choice}
 use Rattle.lrc_args.specs.declared.choice.Choice.TheVariants.{Check, Plain, Show, Judge, Explore, Lint, WhyActs, ChartActs}
 use Rattle.lrc_args.specs.declared.choice.Asking.{Asking}
@@ -31,20 +29,14 @@ use Rattle.lrc_args.specs.declared.choice.Charting.{Charting}
 use Rattle.lrc_chart_acts.specs.Picture.{IsActsPortrait, IsActsPortraitFault}
 use Rattle.lrc_chart_acts.specs.declared.fault.ActsChartFault.TheVariants as chart_faults
 use Rattle.lrc_chart_model.specs.declared.picture.Picture.{Picture}
-use Rattle.lrc_cli.specs.Charted.{IsDrawn, part_of}
+use Rattle.lrc_shown.specs.Charted.{IsDrawn, part_of}
 use Rattle.lrc_title.specs.Title.{title_text_of_acts}
 use Rattle.lrc_args.specs.declared.choice.ForeignActs.{ForeignActs}
 use Rattle.lrc_args.specs.declared.choice.Exploring.{Exploring}
 use Rattle.lrc_args.specs.declared.choice.Judging.{Judging}
-use Rattle.lrc_args.specs.declared.choice.RunChoice.{RunChoice}
-use Rattle.lrc_args.specs.declared.choice.Shape.{Shape}
-use Rattle.lrc_cli.specs.declared.fault.Fault.{Fault}
-use Rattle.lrc_cli.specs.declared.fault.Fault.TheVariants.{Text, Acts, LongActs, NoAct, TooManyStates, NoMemory}
-use Rattle.lrc_cli.specs.declared.fault.Fault.TheVariants as printout_faults
-
--- the text is this program's
-abbrev pub IsTextOf : List ℕ → Program → Type 0
-IsTextOf text program = IsText text (program_of program)
+use Rattle.lrc_answer.specs.declared.fault.Fault.{Fault}
+use Rattle.lrc_answer.specs.declared.fault.Fault.TheVariants.{Acts, LongActs, NoAct, TooManyStates, NoMemory}
+use Rattle.lrc_answer.specs.declared.fault.Fault.TheVariants as printout_faults
 
 -- the text is a program's, and `ok` says so
 abbrev pub IsChecked : List ℕ → List ℕ → ℕ → Type 0
@@ -59,15 +51,6 @@ IsPrintoutOfActs nodes acts out status =
 abbrev pub IsPrintoutOfRounds : Program → ℕ → ℕ → List ℕ → ℕ → Type 0
 IsPrintoutOfRounds program nodes steps out status =
     (acts : List Act) × AreActsOfRounds program nodes steps acts × IsPrintoutOfActs nodes acts out status
-
--- the text is what is shown of a run of the program, and the status is the one behind it
-pub record IsShowing (run : RunChoice) (shape : Shape) (text : List ℕ) (events_text : Option (List ℕ)) (program : Program)
-    (out : List ℕ) (status : ℕ) : Type 0 where
-  pub events : List Event
-  pub account : Account
-  pub ran : IsRunOfWay run.way program run.options events_text events account
-  pub shown : IsShown shape run text program events account out
-  pub ended : status ≡ shown_status shape account.first_race account.ends
 
 -- how many nodes the acts are of, where that is said
 abbrev pub judged_nodes : Judging → Option ℕ
@@ -110,20 +93,13 @@ Prints (Check file) text events_text out status = IsChecked text out status
 Prints (Plain run) text events_text out status =
     (program : Program) × IsTextOf text program
     × IsPrintoutOfRounds program run.nodes.count run.steps.count out status
-Prints (Show run shape) text events_text out status =
-    (program : Program) × IsTextOf text program × IsShowing run shape text events_text program out status
+Prints (Show run shape) text events_text out status = ShowsRun run shape text events_text out status
 Prints (Judge judging) text events_text out status = Judges (judged_nodes judging) judging.pairs text out status
 Prints (Explore exploring) text events_text out status =
     (program : Program) × IsTextOf text program × IsExploration exploring text program out status
 Prints (Lint file) text events_text out status = IsLinted file.now text out status
 Prints (WhyActs acts asking) text events_text out status = IsReasoned acts asking text out status
 Prints (ChartActs acts charting) text events_text out status = IsActsCharted acts charting text out status
-
--- the fault of a text that is no program
-abbrev pub IsTextFault : List ℕ → Fault → Type 0
-IsTextFault text (Text line kind) = HasFirstFault text line kind
-IsTextFault text NoMemory = Unit {0}
-IsTextFault text _ = ⊥
 
 -- the fault of a text of acts
 abbrev pub IsActsFault : Option ℕ → List ℕ → Fault → Type 0
@@ -155,21 +131,11 @@ IsSearchFault exploring program (TooManyStates most) =
 IsSearchFault exploring program NoMemory = Unit {0}
 IsSearchFault exploring program _ = ⊥
 
--- a run of the program was made, and is not shown
-pub record IsUnshown (run : RunChoice) (shape : Shape) (text : List ℕ) (events_text : Option (List ℕ)) (program : Program)
-    (fault : Fault) : Type 0 where
-  pub events : List Event
-  pub account : Account
-  pub ran : IsRunOfWay run.way program run.options events_text events account
-  pub unshown : IsShowFault shape run text program events account fault
-
 -- The first fault: of the text, then of the events, then of the run or the search, then of what is shown of the run. Memory may run out at any time.
 abbrev pub IsFault : Choice → List ℕ → Option (List ℕ) → Fault → Type 0
 IsFault (Check file) text events_text fault = IsTextFault text fault
 IsFault (Plain run) text events_text fault = IsTextFault text fault
-IsFault (Show run shape) text events_text fault = IsTextFault text fault
-    ⊎ ((program : Program) × IsTextOf text program
-    × (IsRunFault run.way program run.options events_text fault ⊎ IsUnshown run shape text events_text program fault))
+IsFault (Show run shape) text events_text fault = RefusesRun run shape text events_text fault
 IsFault (Judge judging) text events_text fault = IsActsFault (judged_nodes judging) text fault
 IsFault (Explore exploring) text events_text fault = IsTextFault text fault
     ⊎ ((program : Program) × IsTextOf text program × IsSearchFault exploring program fault)

@@ -2,10 +2,10 @@
 use Rattle.std.specs.Prelude.{◌≡◌, ◌⊎◌, ℕ, List, Option}
 use Rattle.std.specs.Io.KnownBytes.{Appends, Keeps}
 use Rattle.lrc_cli.specs.Answer.{IsFault, Prints}
-use Rattle.lrc_cli.specs.FaultLine.{fault_line}
+use Rattle.lrc_answer.specs.FaultLine.{fault_line}
 use Rattle.lrc_report.specs.Output.{AppendsFront}
 use Rattle.lrc_args.specs.declared.choice.Choice.{Choice}
-use Rattle.lrc_cli.specs.declared.fault.Fault.{Fault}
+use Rattle.lrc_answer.specs.declared.fault.Fault.{Fault}
 
 -- The text is written, and the result is this status; or a write failed,
 -- not all of the text is written but a front of it, and the result is 1.

@@ -1,36 +1,30 @@
 // What the program answers to a choice, before anything is written.
 
 ghost use Rattle.std.specs.Prelude.{◌≡◌, IfErr, IfOk, None, false, is_some, option_map};
-ghost use Rattle.lrc_cli.specs.Answer.{IsChecked, IsFault, IsPrintoutOfRounds, IsTextFault, Prints};
+ghost use Rattle.lrc_cli.specs.Answer.{IsChecked, IsFault, IsPrintoutOfRounds, Prints};
+ghost use Rattle.lrc_answer.specs.Texts.{IsTextFault};
 ghost use Rattle.lrc_report.specs.ReportText.{report_text, status_of};
 ghost use Rattle.lrc_text.specs.Parts.{whole_text};
 ghost use Rattle.lrc_args.specs.Files.{names_events, starts_threads};
 ghost use Rattle.lrc_args.specs.declared.choice.Choice.TheVariants.{Plain};
 
 use crate::explored::explored;
-use crate::fault::Fault;
 use crate::judged::judged;
 use crate::linted::linted;
 use crate::pictured::pictured;
 use crate::reasoned::reasoned;
-use crate::shown::show;
+use lrc_answer::fault::Fault;
+use lrc_answer::printout::{Printout, in_one};
 use lrc_args::choice::{Choice, PlainRun};
 use lrc_exec::rounds::plain_rounds;
 use lrc_lang::parse;
 use lrc_lang::program::Program;
 use lrc_node::End;
 use lrc_report::report::{report_parts, status_after};
+use lrc_shown::shown::show;
 use lrc_trace::act::Act;
 use lrc_world::ends::ends;
 use std::alloc::{AllocError, Global};
-
-/// What is printed, and the status with which the program ends after it.
-#[derive(Drop)]
-pub struct Printout {
-    /// The parts of the text.
-    pub parts: Vec<Vec<u8>>,
-    pub status: u8,
-}
 
 /// Answers a choice that starts no threads, with the text of its FILE, and that of its events where it names them.
 pub fn answer(
@@ -41,9 +35,10 @@ pub fn answer(
 ) -> Result<Printout, Fault>
     requires threadless { starts_threads choice.now ≡ false }
     requires events { is_some events ≡ names_events choice.now }
-    ensures ok { IfOk result (λ printout. Prints choice.now text.now (option_map (λ e. e.now) events.entry)
-        (whole_text printout.parts.items) printout.status) }
-    ensures err { IfErr result (λ fault. IsFault choice.now text.now (option_map (λ e. e.now) events.entry) fault) }
+    ensures ok { IfOk result (λ printout. Prints choice.now text.now
+        (option_map (λ e. e.now) events.entry) (whole_text printout.parts.items) printout.status) }
+    ensures err { IfErr result (λ fault. IsFault choice.now text.now
+        (option_map (λ e. e.now) events.entry) fault) }
 {
     match choice {
         Choice::Check(_) => checked(alloc, text),
@@ -59,7 +54,8 @@ pub fn answer(
 
 // Whether the text is a program's.
 fn checked(alloc: Global, text: &[u8]) -> Result<Printout, Fault>
-    ensures ok { IfOk result (λ printout. IsChecked text.now (whole_text printout.parts.items) printout.status) }
+    ensures ok { IfOk result (λ printout. IsChecked text.now (whole_text printout.parts.items)
+        printout.status) }
     ensures err { IfErr result (IsTextFault text.now) }
 {
     let _program = parse(alloc, text)?;
@@ -68,18 +64,10 @@ fn checked(alloc: Global, text: &[u8]) -> Result<Printout, Fault>
     Ok(Printout { parts, status: 0 })
 }
 
-/// A text in one part.
-pub(crate) fn in_one(alloc: Global, part: Vec<u8>) -> Result<Vec<Vec<u8>>, AllocError>
-    ensures { IfOk result (λ parts. whole_text parts.items ≡ part.items) }
-{
-    let mut parts = Vec::new(alloc);
-    parts.push(part)?;
-    Ok(parts)
-}
-
 // What the nodes print on the plain machine, and how they end there.
 fn plain(alloc: Global, run: &PlainRun<'_>, text: &[u8]) -> Result<Printout, Fault>
-    ensures ok { IfOk result (λ printout. Prints (Plain run.now) text.now None (whole_text printout.parts.items) printout.status) }
+    ensures ok { IfOk result (λ printout. Prints (Plain run.now) text.now None
+        (whole_text printout.parts.items) printout.status) }
     ensures err { IfErr result (IsFault (Plain run.now) text.now None) }
 {
     let program = parse(alloc, text)?;
@@ -87,8 +75,8 @@ fn plain(alloc: Global, run: &PlainRun<'_>, text: &[u8]) -> Result<Printout, Fau
 }
 
 fn in_rounds(alloc: Global, run: &PlainRun<'_>, program: &Program) -> Result<Printout, AllocError>
-    ensures { IfOk result (λ printout. IsPrintoutOfRounds program.now run.now.nodes.count run.now.steps.count
-        (whole_text printout.parts.items) printout.status) }
+    ensures { IfOk result (λ printout. IsPrintoutOfRounds program.now run.now.nodes.count
+        run.now.steps.count (whole_text printout.parts.items) printout.status) }
 {
     let nodes = run.nodes.count as u8;
     let acts = plain_rounds(alloc, program, nodes, run.steps.count)?;
@@ -98,7 +86,8 @@ fn in_rounds(alloc: Global, run: &PlainRun<'_>, program: &Program) -> Result<Pri
 
 // What is printed of these acts and ends, where no race is looked for.
 fn printout_of(alloc: Global, acts: &[Act], ends: &[End]) -> Result<Printout, AllocError>
-    ensures text { IfOk result (λ printout. whole_text printout.parts.items ≡ report_text acts.now ends.now) }
+    ensures text { IfOk result (λ printout.
+        whole_text printout.parts.items ≡ report_text acts.now ends.now) }
     ensures status { IfOk result (λ printout. printout.status ≡ status_of ends.now) }
 {
     Ok(Printout {

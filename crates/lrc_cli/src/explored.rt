@@ -1,12 +1,13 @@
 // What the program answers to the command `explore`.
 
 ghost use Rattle.std.specs.Prelude.{◌≡◌, IfErr, IfOk, None};
-ghost use Rattle.lrc_cli.specs.Answer.{IsExploration, IsFault, IsSearchFault, IsTextOf, Prints};
+ghost use Rattle.lrc_cli.specs.Answer.{IsExploration, IsFault, IsSearchFault, Prints};
+ghost use Rattle.lrc_answer.specs.Texts.{IsTextOf};
 ghost use Rattle.lrc_text.specs.Parts.{whole_text};
 ghost use Rattle.lrc_args.specs.declared.choice.Choice.TheVariants.{Explore};
 
-use crate::answer::Printout;
-use crate::fault::Fault;
+use lrc_answer::fault::Fault;
+use lrc_answer::printout::Printout;
 use lrc_args::choice::Exploring;
 use lrc_explore::search::ExploreFault;
 use lrc_labels::read_labels;
@@ -21,7 +22,8 @@ pub(crate) fn explored(
     exploring: &Exploring<'_>,
     text: &[u8],
 ) -> Result<Printout, Fault>
-    ensures ok { IfOk result (λ printout. Prints (Explore exploring.now) text.now None (whole_text printout.parts.items) printout.status) }
+    ensures ok { IfOk result (λ printout. Prints (Explore exploring.now) text.now None
+        (whole_text printout.parts.items) printout.status) }
     ensures err { IfErr result (IsFault (Explore exploring.now) text.now None) }
 {
     let program = parse(alloc, text)?;
@@ -36,7 +38,8 @@ fn all_orders(
     program: &Program,
 ) -> Result<Printout, Fault>
     requires { IsTextOf text.now program.now }
-    ensures ok { IfOk result (λ printout. IsExploration exploring.now text.now program.now (whole_text printout.parts.items) printout.status) }
+    ensures ok { IfOk result (λ printout. IsExploration exploring.now text.now program.now
+        (whole_text printout.parts.items) printout.status) }
     ensures err { IfErr result (IsSearchFault exploring.now program.now) }
 {
     let lines = lines_of(alloc, text)?;

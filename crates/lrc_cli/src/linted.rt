@@ -2,17 +2,18 @@
 
 ghost use Rattle.std.specs.Prelude.{◌≡◌, IfErr, IfOk};
 ghost use Rattle.lrc_cli.specs.Answer.{IsLinted};
-ghost use Rattle.lrc_cli.specs.declared.fault.Fault.TheVariants.{NoMemory};
+ghost use Rattle.lrc_answer.specs.declared.fault.Fault.TheVariants.{NoMemory};
 ghost use Rattle.lrc_text.specs.Parts.{whole_text};
 
-use crate::answer::Printout;
-use crate::fault::Fault;
+use lrc_answer::fault::Fault;
+use lrc_answer::printout::Printout;
 use lrc_linted::lint;
 use std::alloc::Global;
 
 /// Answers the command `lint`, with the text of this file.
 pub(crate) fn linted(alloc: Global, file: &str, text: &[u8]) -> Result<Printout, Fault>
-    ensures ok { IfOk result (λ printout. IsLinted file.now text.now (whole_text printout.parts.items) printout.status) }
+    ensures ok { IfOk result (λ printout. IsLinted file.now text.now
+        (whole_text printout.parts.items) printout.status) }
     ensures err { IfErr result (λ fault. fault ≡ NoMemory) }
 {
     let linted = lint(alloc, file.as_bytes(), text)?;

@@ -3,19 +3,18 @@
 ghost use Rattle.std.specs.Prelude.{◌≡◌, ◌⊎◌, ℕ, List, Option, false, is_some, option_map};
 ghost use Rattle.lrc_cli.specs.Answer.{Answers};
 ghost use Rattle.lrc_args.specs.Files.{names_events, starts_threads};
-ghost use Rattle.lrc_cli.specs.FaultLine.{fault_line};
+ghost use Rattle.lrc_answer.specs.FaultLine.{fault_line};
 ghost use Rattle.lrc_cli.specs.Performance.{IsWritten, Performs};
 ghost use Rattle.lrc_text.specs.Parts.{whole_text};
 ghost use Rattle.lrc_args.specs.declared.choice.Choice.{Choice as AnyChoice};
-ghost use Rattle.lrc_args.specs.declared.choice.Choice.TheVariants.{Show};
-ghost use Rattle.lrc_cli.specs.declared.fault.Fault.TheVariants.{NoMemory};
+ghost use Rattle.lrc_answer.specs.declared.fault.Fault.TheVariants.{NoMemory};
 
-use crate::answer::{Printout, answer};
-use crate::fault::{Fault, NO_MEMORY_LINE, line_of};
-use crate::shown::show;
-use crate::threads::show_on_threads;
-use lrc_args::choice::{Choice, RunChoice, Shape, Way};
+use crate::answer::answer;
+use lrc_answer::fault::{Fault, NO_MEMORY_LINE, line_of};
+use lrc_answer::printout::Printout;
+use lrc_args::choice::Choice;
 use lrc_report::output::{Output, put, put_parts};
+use lrc_shown::any::show_any;
 use std::alloc::Global;
 use std::io::Write;
 use std::sync::Wait;
@@ -83,26 +82,6 @@ pub fn answer_any<R: Threads + Wait + Sync>(
     }
 }
 
-// Answers a choice of a run, on threads or not.
-fn show_any<R: Threads + Wait + Sync>(
-    rt: &R,
-    alloc: Global,
-    choice: &RunChoice<'_>,
-    shape: Shape,
-    text: &[u8],
-    events: Option<&[u8]>,
-) -> Result<Printout, Fault>
-    requires { is_some events ≡ names_events (Show choice.now shape) }
-    ensures { Answers (Show choice.now shape) text.now (option_map (λ e. e.now) events.entry) result }
-{
-    match choice.way {
-        Way::Threads(order) => show_on_threads(rt, alloc, choice, order, shape, text),
-        Way::Events(_) | Way::Rounds(_) | Way::Random(_) => show(
-            alloc, choice, shape, text, events,
-        ),
-    }
-}
-
 /// Writes what was answered to a choice, or the line of its fault, as [`perform`] does, and gives the status.
 pub fn tell<W: Write, E: Write>(
     alloc: Global,
@@ -110,8 +89,10 @@ pub fn tell<W: Write, E: Write>(
     out: &mut W,
     err: &mut E,
 ) -> u8
-    ensures { (choice : AnyChoice) (text : List ℕ) (events : Option (List ℕ)) → Answers choice text events answered
-        → Performs choice text events (W.contents out.old) (W.contents out.new) (E.contents err.old) (E.contents err.new) result }
+    ensures { (choice : AnyChoice) (text : List ℕ) (events : Option (List ℕ))
+        → Answers choice text events answered
+        → Performs choice text events (W.contents out.old) (W.contents out.new)
+        (E.contents err.old) (E.contents err.new) result }
 {
     match answered {
         Ok(printout) => print(&printout, out),
@@ -120,8 +101,8 @@ pub fn tell<W: Write, E: Write>(
 }
 
 fn print<W: Write>(printout: &Printout, out: &mut W) -> u8
-    ensures { IsWritten (W.contents out.old) (W.contents out.new) (whole_text printout.now.parts.items)
-        printout.now.status result }
+    ensures { IsWritten (W.contents out.old) (W.contents out.new)
+        (whole_text printout.now.parts.items) printout.now.status result }
 {
     let mut output = Output::new(out);
     match put_parts(&mut output, &printout.parts) {

@@ -4,11 +4,11 @@ ghost use Rattle.std.specs.Prelude.{◌≡◌, ◌≤◌, IfErr, IfOk, IfSome};
 ghost use Rattle.lrc_cli.specs.Answer.{IsActsChartFault, IsActsCharted, charted_nodes};
 ghost use Rattle.lrc_text.specs.Parts.{whole_text};
 
-use crate::answer::{Printout, in_one};
-use crate::charted::{drawn, part_of};
-use crate::fault::Fault;
+use lrc_answer::fault::Fault;
+use lrc_answer::printout::{Printout, in_one};
 use lrc_args::choice::{ChartedActs, Charting};
 use lrc_chart_acts::portrait_of_acts;
+use lrc_shown::charted::{drawn, part_of};
 use lrc_title::title_of_acts;
 use std::alloc::Global;
 
@@ -19,7 +19,8 @@ pub(crate) fn pictured(
     charting: &Charting,
     text: &[u8],
 ) -> Result<Printout, Fault>
-    ensures ok { IfOk result (λ printout. IsActsCharted acts.now charting.now text.now (whole_text printout.parts.items) printout.status) }
+    ensures ok { IfOk result (λ printout. IsActsCharted acts.now charting.now text.now
+        (whole_text printout.parts.items) printout.status) }
     ensures err { IfErr result (IsActsChartFault acts.now charting.now text.now) }
 {
     let charting = *charting;

@@ -11,7 +11,7 @@ use Rattle.lrc_protocol.specs.Node.{OptionsRecord}
 use Rattle.lrc_protocol.specs.Run.{World, run_of}
 
 -- These acts are those of a run of the program on at most 16 nodes, whatever its events, and each is of the line of the program's
--- text that stands at its place. Of these `trace` prints (`IsTraceShown` of the crate `lrc_cli`).
+-- text that stands at its place. Of these `trace` prints (`IsTraceShown` of the crate `lrc_shown`).
 pub record IsLinedRun (program : Program) (nodes : ℕ) (acts : List Act) (lines : List ℕ) : Type 0 where
   pub few : nodes ≤ 16
   pub text : List ℕ

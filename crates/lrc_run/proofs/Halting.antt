@@ -1,5 +1,5 @@
 -- What is answered of a run that halts, and of one that does not.
-use Rattle.std.proofs.Common.{◌≡◌, ◌∙◌, ◌<◌, ◌≤◌, ◌⊎◌, inl, inr, ℕ, zero, suc, List, [], ◌∷◌, Option, Some, Result, Ok, Err, IfErr, IsErrAnd, ap, arith, length, map, refl, subst, sym}
+use Rattle.std.proofs.Common.{◌≡◌, ◌∙◌, ◌<◌, ◌≤◌, ◌⊎◌, inl, inr, ℕ, zero, suc, List, [], ◌∷◌, Option, Some, Result, Ok, Err, IfErr, IsErrAnd, true, ap, arith, length, map, refl, subst, sym}
 use Rattle.std.specs.Prelude.{All, slice_get}
 use Rattle.std.proofs.lemmas.List.{length-map}
 use Rattle.std.proofs.lemmas.Option.{slice_get_within}
@@ -8,9 +8,8 @@ use Rattle.lrc_envelope.specs.declared.picker.Picker.{Picker}
 use Rattle.lrc_judge.specs.Races.{AreNamedRaces}
 use Rattle.lrc_post.specs.Mailbox.{MailboxRecord, IsAllGiven}
 use Rattle.lrc_post.specs.Post.{AreOf, AreWires}
-use Rattle.lrc_protocol.specs.declared.event.Event.{Event}
 use Rattle.lrc_protocol.specs.Node.{OptionsRecord, fresh_node}
-use Rattle.lrc_protocol.specs.Run.{EntryRecord}
+use Rattle.lrc_protocol.specs.Run.{EntryRecord, run_of}
 use Rattle.lrc_threads.specs.declared.life.Failure.{Failure}
 use Rattle.lrc_threads.specs.declared.stop.Stop.{Stop}
 use Rattle.lrc_threads.specs.declared.stop.Stop.TheVariants as stops
@@ -19,15 +18,19 @@ use Rattle.lrc_weave.specs.declared.fault.WeaveFault.{WeaveFault}
 use Rattle.lrc_weave.specs.declared.fault.WeaveFault.TheVariants as weaving
 use Rattle.lrc_weave.specs.Logs.{AreLogs}
 use Rattle.lrc_weave.specs.Matched.{AreMatched}
-use Rattle.lrc_world.specs.declared.report.Report.{Report}
-use Rattle.lrc_world.specs.Promises.{IsConsistent}
+use Rattle.lrc_world.specs.declared.keep.Keep.TheVariants.{All as Whole}
+use Rattle.lrc_world.specs.declared.run.Run.{Run}
+use Rattle.lrc_world.specs.Report.{IsOver}
+use Rattle.lrc_world.specs.Runs.{IsRunBy}
+use Rattle.lrc_world.proofs.Theorem.{all_kept}
+use Rattle.lrc_weave.proofs.Places.{some_same}
 use Rattle.lrc_run.specs.declared.fault.RunFault.TheVariants.{BadNodes, BadSteps}
 use Rattle.lrc_run.specs.declared.halt.Halt.{Halt}
 use Rattle.lrc_run.specs.declared.halt.Halt.TheVariants.{Worn, Refused, Mismatch, NoMemory}
 use Rattle.lrc_run.specs.declared.halt.Left.{Left}
 use Rattle.lrc_run.specs.declared.told.ToldRun.{ToldRun}
 use Rattle.lrc_run.specs.Halts.{AreLeft, Differ, IsHalt, IsLeft, IsMismatch, IsRefused, IsRunFault, StoppedWith, fault_of, logs_left}
-use Rattle.lrc_run.specs.Run.{IsThreadedRun, IsTold, IsWovenReport, Reports}
+use Rattle.lrc_run.specs.Run.{IsThreadedRun, IsTold, IsWovenReport, MakeTurnsOf, Reports}
 
 module _ (program : Program) (nodes : ℕ) (options : OptionsRecord) (picker : Picker) where
   -- what is answered of it is a fault of the run
@@ -61,12 +64,37 @@ module _ (program : Program) (nodes : ℕ) (options : OptionsRecord) (picker : P
           (subst (Differ program nodes options logs stops) (sym wires_are) differ));
     }
 
+  -- a report of events after which nothing is left to do is that of a run
+  module _ (run : Run) (woven : IsWovenReport program nodes options run.events.items run.report) (over : run.is_over ≡ true)
+      (races : AreNamedRaces run.report.acts.items run.report.races.items) (some : 1 ≤ nodes) where
+    one_world : woven.reported.0 ≡ woven.over.0
+    one_world = some_same (run_of program nodes options run.events.items) woven.reported.0 woven.over.0 woven.reported.1 woven.over.1
+
+    run_of_report : IsRunBy (MakeTurnsOf run.report) program nodes options Whole run
+    run_of_report =
+        let is = woven.reported.2 in
+        record {
+          events = (woven.flight, woven.woven);
+          made = woven.reported.0;
+          makes = woven.reported.1;
+          report = record { acts = is.acts; ends = is.ends; logs = is.logs; first = is.first };
+          races = races;
+          over = (λ _. subst IsOver (sym one_world) woven.over.2, λ _. over);
+          kept = all_kept program nodes options run.events.items run.report.acts.items woven.reported.0 woven.reported.1 is.acts (omega (arith, some))
+              (woven.short woven.reported.0 woven.reported.1) run.report.ends.items is.ends;
+        }
+
   -- a run of which all is told
-  pub threaded_run : (logs : List (List EntryRecord)) (told : ToldRun) (report : Report) (wires : List MailboxRecord) (events : List Event)
-      → IsTold program nodes options logs told → Reports logs told report → events ≡ told.events.items → AreMatched logs wires → All IsAllGiven wires
-      → length wires ≡ nodes → AreWires wires → AreOf picker wires → IsThreadedRun program nodes options picker report wires events
-  threaded_run logs told report wires events is reports same matched taken count legal picked = record {
-    woven = subst (λ e. IsWovenReport program nodes options e report) (sym same) (is.woven report reports);
+  pub threaded_run : (logs : List (List EntryRecord)) (told : ToldRun) (run : Run) (wires : List MailboxRecord) → 1 ≤ nodes
+      → IsTold program nodes options logs told → Reports logs told run.report → run.events ≡ told.events → run.is_over ≡ true
+      → AreMatched logs wires → All IsAllGiven wires → length wires ≡ nodes → AreWires wires → AreOf picker wires
+      → IsThreadedRun program nodes options picker run wires
+  threaded_run logs told run wires some is reports same over matched taken count legal picked = record {
+    made = run_of_report run
+        (subst (λ events. IsWovenReport program nodes options events.items run.report) (sym same) (is.woven run.report reports)) over
+        (subst (λ acts. AreNamedRaces acts.items run.report.races.items) (sym reports.acts)
+        (subst (λ races. AreNamedRaces told.acts.items races.items) (sym reports.races) is.races)) some;
+    over = over;
     posted = record {
       count = count;
       legal = legal;
@@ -74,9 +102,6 @@ module _ (program : Program) (nodes : ℕ) (options : OptionsRecord) (picker : P
       matched = subst (λ turns. AreMatched turns wires) (sym reports.turns) matched;
       taken = taken;
     };
-    races = subst (λ acts. AreNamedRaces acts.items report.races.items) (sym reports.acts)
-        (subst (λ races. AreNamedRaces told.acts.items races.items) (sym reports.races) is.races);
-    theorem = subst (λ acts. IsConsistent program nodes acts.items) (sym reports.acts) is.theorem;
   }
 
   -- there are no more logs than nodes

@@ -30,13 +30,11 @@ use Rattle.lrc_weave.specs.Whole.{MakesRun}
 use Rattle.lrc_weave.specs.Woven.{AreWoven}
 use Rattle.lrc_world.specs.declared.report.Report.{Report}
 use Rattle.lrc_world.specs.Ends.{ends_of}
-use Rattle.lrc_world.specs.Promises.{IsConsistent}
 use Rattle.lrc_world.specs.Report.{AreAll, IsReportOf, end_of_logged}
 use Rattle.lrc_world.specs.World.{entry_is_long, is_long, log_is_long, sends_long}
 use Rattle.lrc_world.proofs.Driven.{none_long}
 use Rattle.lrc_world.proofs.EndsOfRuns.{ends_of_acts}
 use Rattle.lrc_world.proofs.Races.{races_there, raceless_there, traces_there}
-use Rattle.lrc_world.proofs.Theorem.{consistent_acts}
 use Rattle.lrc_world.proofs.Worlds.{acts_in_range}
 use Rattle.lrc_run.specs.Run.{IsWovenReport, turns_of_nodes}
 use Rattle.lrc_threads.specs.Threads.{is_any_ready_after, traces_of_logs}
@@ -101,9 +99,6 @@ module _ (program : Program) (nodes : ℕ) (options : OptionsRecord) (logs : Lis
 
   pub acts_told : nodes ≤ 16 → All (λ (act : Act). act.node < 16) acts
   acts_told few = acts_in_range program nodes options events m.world acts m.runs (sym m.acts_are) few
-
-  pub theorem_told : IsConsistent program nodes acts
-  theorem_told = consistent_acts program nodes options events acts m.world m.runs (sym m.acts_are)
 
   -- ---- what is left to do
 

@@ -1,5 +1,5 @@
 -- What a run of nodes on threads answers.
-use Rattle.std.specs.Prelude.{◌≡◌, ℕ, ◌⊎◌, Bool, false, Some, List, All, Any, length, map}
+use Rattle.std.specs.Prelude.{◌≡◌, ℕ, ◌⊎◌, Bool, false, true, Some, List, All, Any, length, map}
 use Rattle.lrc_lang.specs.declared.program.Program.{Program}
 use Rattle.lrc_trace.specs.Trace.{TraceRecord}
 use Rattle.lrc_judge.specs.Races.{AreNamedRaces}
@@ -11,9 +11,11 @@ use Rattle.lrc_protocol.specs.Node.{OptionsRecord}
 use Rattle.lrc_protocol.specs.Run.{EntryRecord, Flying, World, run_of}
 use Rattle.lrc_weave.specs.Matched.{AreMatched}
 use Rattle.lrc_weave.specs.Woven.{AreWoven}
+use Rattle.lrc_world.specs.declared.keep.Keep.TheVariants.{All as Whole}
 use Rattle.lrc_world.specs.declared.report.Report.{Report}
-use Rattle.lrc_world.specs.Promises.{IsConsistent}
+use Rattle.lrc_world.specs.declared.run.Run.{Run}
 use Rattle.lrc_world.specs.Report.{AreAll, IsReportOf}
+use Rattle.lrc_world.specs.Runs.{IsRunBy}
 use Rattle.lrc_world.specs.World.{sends_long}
 use Rattle.lrc_threads.specs.Threads.{is_any_ready_after, traces_of_logs}
 use Rattle.lrc_threads.specs.Worker.{AreShort}
@@ -42,14 +44,17 @@ pub record AreWiresOf (nodes : ℕ) (picker : Picker) (report : Report) (wires :
   pub matched : AreMatched (turns_of_nodes report) wires
   pub taken : All IsAllGiven wires
 
--- A run on threads: its report is that of these events, and it is told by what the mailboxes kept. Its races are those that its acts name,
--- and the sequential-consistency theorem holds of the acts.
-pub record IsThreadedRun (program : Program) (nodes : ℕ) (options : OptionsRecord) (picker : Picker) (report : Report) (wires : List MailboxRecord)
-    (events : List Event) : Type 0 where
-  pub woven : IsWovenReport program nodes options events report
-  pub posted : AreWiresOf nodes picker report wires
-  pub races : AreNamedRaces report.acts.items report.races.items
-  pub theorem : IsConsistent program nodes report.acts.items
+-- these events make all turns of the report's logs, ordered by their stamps and, where those are the same, by their nodes
+abbrev pub MakeTurnsOf : Report → List Event → Type 0
+MakeTurnsOf report events = (flight : List Flying) × AreWoven (turns_of_nodes report) events flight
+
+-- A run on threads. It is what every run is (`IsRunBy`, which has the report, the races and the sequential-consistency theorem), with all
+-- turns, of the events that make them in the order of their stamps. Nothing is left to do after it. And what the mailboxes kept tells the same.
+pub record IsThreadedRun (program : Program) (nodes : ℕ) (options : OptionsRecord) (picker : Picker) (run : Run) (wires : List MailboxRecord)
+    : Type 0 where
+  pub made : IsRunBy (MakeTurnsOf run.report) program nodes options Whole run
+  pub over : run.is_over ≡ true
+  pub posted : AreWiresOf nodes picker run.report wires
 
 -- Logs and mailboxes that no report comes of: they tell of different messages, or after the events that make all turns of the logs a
 -- node is ready or a message in flight, or a mailbox has a parcel that is still to be given.
@@ -76,8 +81,7 @@ pub record Reports (logs : List (List EntryRecord)) (told : ToldRun) (report : R
   pub races : report.races ≡ told.races
   pub first : report.first_race ≡ told.first_race
 
--- what is told beside the turns of nodes makes a report of them, in which the races are those named, and of which the theorem holds
+-- what is told beside the turns of nodes makes a report of them, in which the races are those named
 pub record IsTold (program : Program) (nodes : ℕ) (options : OptionsRecord) (logs : List (List EntryRecord)) (told : ToldRun) : Type 0 where
   pub woven : (report : Report) → Reports logs told report → IsWovenReport program nodes options told.events.items report
   pub races : AreNamedRaces told.acts.items told.races.items
-  pub theorem : IsConsistent program nodes told.acts.items

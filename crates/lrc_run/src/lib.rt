@@ -12,5 +12,5 @@ mod told;
 pub use fault::RunFault;
 pub use halt::{Halt, Left, WornOut};
 pub use live::{ThreadedRun, run_on_threads};
-pub use lrc_threads::{Gate, Line, Mail, OpenGate, Setting, Stop, work};
+pub use lrc_threads::{Gate, Line, Mail, OpenGate, Stop, work};
 pub use runs::{run, run_gated};

@@ -1,12 +1,13 @@
 // The run of a program whose nodes are on threads.
 
-ghost use Rattle.std.specs.Prelude.{◌≡◌, IfErr, IfOk, length, map};
+ghost use Rattle.std.specs.Prelude.{◌≡◌, IfErr, IfOk, length, map, true};
 ghost use Rattle.lrc_envelope.specs.declared.picker.Picker.{Picker as AnyPicker};
 ghost use Rattle.lrc_exec.specs.Nodes.{AreNodes};
 ghost use Rattle.lrc_post.specs.Post.{AreOf};
 ghost use Rattle.lrc_threads.specs.Threads.{HaveNoFailure};
 ghost use Rattle.lrc_weave.specs.Logs.{AreLogs};
 ghost use Rattle.lrc_setting.specs.Ranges.{AreSteps};
+ghost use Rattle.lrc_world.specs.Setting.{options_of};
 ghost use Rattle.lrc_run.specs.Halts.{AreLeft, IsHalt};
 ghost use Rattle.lrc_run.specs.Run.{AreWhole, IsThreadedRun, Reports};
 
@@ -15,11 +16,14 @@ use crate::halt::{Halt, Left};
 use crate::told::{ToldRun, told};
 use lrc_envelope::Picker;
 use lrc_exec::code::Code;
+use lrc_lang::program::Program;
 use lrc_post::{Post, Wires};
-use lrc_protocol::Event;
-use lrc_threads::{Gate, Parts, Setting, first_failure, parts_of, pasts_of};
+use lrc_setting::setting::Setting;
+use lrc_threads::{Gate, Parts, Setting as ThreadSetting, first_failure, parts_of, pasts_of};
 use lrc_weave::WeaveFault;
 use lrc_world::report::Report;
+use lrc_world::run::Run;
+use lrc_world::setting::options_of;
 use std::alloc::{AllocError, Global};
 use std::sync::Wait;
 use std::thread::Threads;
@@ -27,12 +31,10 @@ use std::thread::Threads;
 /// A run on threads.
 #[derive(Drop)]
 pub struct ThreadedRun {
-    /// What came of it.
-    pub report: Report,
+    /// The run that its nodes made: its events make their turns, put in one order by their stamps.
+    pub made: Run,
     /// What the post between the nodes kept.
     pub wires: Wires,
-    /// The events that make the turns of its nodes, put in one order by their stamps.
-    pub events: Vec<Event>,
 }
 
 /// A run in which each node lives on a thread of its own, with a post between them. `picker` says which of its messages a node is given
@@ -43,13 +45,35 @@ pub struct ThreadedRun {
 pub fn run_on_threads<G: Gate + Sync, R: Threads + Wait + Sync>(
     rt: &R,
     alloc: Global,
-    setting: &Setting<'_>,
+    program: &Program,
+    setting: &Setting,
+    picker: Picker,
+    gate: &G,
+) -> Result<ThreadedRun, Halt>
+    ensures run { IfOk result (λ run. IsThreadedRun program.now setting.now.nodes.count
+        (options_of setting.now) picker run.made run.wires) }
+    ensures halt { IfErr result (IsHalt program.now setting.now.nodes.count
+        (options_of setting.now) picker) }
+{
+    let known = ThreadSetting {
+        program,
+        nodes: setting.nodes.number(),
+        options: options_of(setting),
+    };
+    lived(rt, alloc, &known, picker, gate)
+}
+
+// The same, by what each thread is told.
+fn lived<G: Gate + Sync, R: Threads + Wait + Sync>(
+    rt: &R,
+    alloc: Global,
+    setting: &ThreadSetting<'_>,
     picker: Picker,
     gate: &G,
 ) -> Result<ThreadedRun, Halt>
     requires range { AreNodes setting.now.nodes × AreSteps setting.now.options.steps }
     ensures run { IfOk result (λ run. IsThreadedRun setting.now.program.now setting.now.nodes setting.now.options picker
-        run.report run.wires run.events.items) }
+        run.made run.wires) }
     ensures halt { IfErr result (IsHalt setting.now.program.now setting.now.nodes setting.now.options picker) }
 {
     let (parts, wires) = live(rt, alloc, setting, picker, gate)?;
@@ -64,7 +88,7 @@ pub fn run_on_threads<G: Gate + Sync, R: Threads + Wait + Sync>(
 fn live<G: Gate + Sync, R: Threads + Wait + Sync>(
     rt: &R,
     alloc: Global,
-    setting: &Setting<'_>,
+    setting: &ThreadSetting<'_>,
     picker: Picker,
     gate: &G,
 ) -> Result<(Parts, Wires), AllocError>
@@ -86,7 +110,7 @@ fn live<G: Gate + Sync, R: Threads + Wait + Sync>(
 // The run of nodes none of whose threads failed, if what they left tells of one to its end.
 fn finished(
     alloc: Global,
-    setting: &Setting<'_>,
+    setting: &ThreadSetting<'_>,
     parts: Parts,
     wires: Wires,
 ) -> Result<ThreadedRun, Halt>
@@ -98,7 +122,7 @@ fn finished(
         (map (λ log. log.items) parts.logs.items) parts.traces.items parts.is_any_ready }
     ensures run { (picker : AnyPicker) → AreOf picker wires
         → IfOk result (λ run. IsThreadedRun setting.now.program.now setting.now.nodes setting.now.options picker
-        run.report run.wires run.events.items) }
+        run.made run.wires) }
     ensures halt { (picker : AnyPicker) → AreLeft setting.now.program.now setting.now.nodes setting.now.options picker
         (map (λ log. log.items) parts.logs.items) parts.stops.items wires
         → IfErr result (IsHalt setting.now.program.now setting.now.nodes setting.now.options picker) }
@@ -112,9 +136,10 @@ fn finished(
 
 // The run whose nodes left these turns, with what is told beside them.
 fn reported(parts: Parts, wires: Wires, told: ToldRun) -> ThreadedRun
-    ensures report { Reports (map (λ log. log.items) parts.logs.items) told result.report }
+    ensures report { Reports (map (λ log. log.items) parts.logs.items) told result.made.report }
+    ensures events { result.made.events ≡ told.events }
+    ensures over { result.made.is_over ≡ true }
     ensures wires { result.wires ≡ wires }
-    ensures events { result.events ≡ told.events }
 {
     let ToldRun {
         events,
@@ -130,11 +155,12 @@ fn reported(parts: Parts, wires: Wires, told: ToldRun) -> ThreadedRun
         logs: parts.logs,
         first_race,
     };
-    ThreadedRun {
-        report,
-        wires,
+    let made = Run {
         events,
-    }
+        is_over: true,
+        report,
+    };
+    ThreadedRun { made, wires }
 }
 
 // What is handed back of what the nodes left.

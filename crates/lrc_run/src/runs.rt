@@ -1,19 +1,21 @@
 // Runs of a program whose nodes are on threads, by numbers that may be out of range.
 
-ghost use Rattle.std.specs.Prelude.{◌≡◌, ◌↔◌, ◌⊎◌, List, Err, IfErr, IfOk, MatchResult};
+ghost use Rattle.std.specs.Prelude.{◌≡◌, ◌↔◌, ◌⊎◌, Err, IfErr, IfOk, MatchResult};
 ghost use Rattle.lrc_exec.specs.Nodes.{AreNodes};
-ghost use Rattle.lrc_protocol.specs.declared.event.Event.{Event as AnyEvent};
 ghost use Rattle.lrc_setting.specs.Ranges.{AreSteps};
+ghost use Rattle.lrc_world.specs.Setting.{options_of};
+ghost use Rattle.lrc_world.specs.declared.run.Run.{Run as AnyRun};
 ghost use Rattle.lrc_run.specs.Halts.{IsRunFault};
 ghost use Rattle.lrc_run.specs.Run.{IsThreadedRun};
 
 use crate::fault::RunFault;
-use crate::live::run_on_threads;
+use crate::live::{ThreadedRun, run_on_threads};
 use lrc_envelope::Picker;
 use lrc_lang::program::Program;
 use lrc_node::Options;
 use lrc_post::Wires;
-use lrc_threads::{Gate, OpenGate, Setting};
+use lrc_setting::setting::Setting;
+use lrc_threads::{Gate, OpenGate};
 use lrc_world::report::{Report, SimFault};
 use lrc_world::setting::setting_of;
 use std::alloc::Global;
@@ -39,7 +41,7 @@ pub fn run<R: Threads + Wait + Sync>(
     options: &Options,
     picker: Picker,
 ) -> Result<(Report, Wires), RunFault>
-    ensures run { IfOk result (λ done. (events : List AnyEvent) × IsThreadedRun program.now nodes options.now picker done.0 done.1 events) }
+    ensures run { IfOk result (λ done. (made : AnyRun) × (done.0 ≡ made.report) × IsThreadedRun program.now nodes options.now picker made done.1) }
     ensures fault { IfErr result (IsRunFault program.now nodes options.now picker) }
     ensures bad_nodes { (result ≡ Err RunFault.BadNodes) ↔ (¬ AreNodes nodes) }
     ensures bad_steps { (result ≡ Err RunFault.BadSteps) ↔ (AreNodes nodes × ¬ AreSteps options.now.steps) }
@@ -57,31 +59,37 @@ pub fn run_gated<G: Gate + Sync, R: Threads + Wait + Sync>(
     picker: Picker,
     gate: &G,
 ) -> Result<(Report, Wires), RunFault>
-    ensures run { IfOk result (λ done. (events : List AnyEvent) × IsThreadedRun program.now nodes options.now picker done.0 done.1 events) }
+    ensures run { IfOk result (λ done. (made : AnyRun) × (done.0 ≡ made.report) × IsThreadedRun program.now nodes options.now picker made done.1) }
     ensures fault { IfErr result (IsRunFault program.now nodes options.now picker) }
     ensures bad_nodes { (result ≡ Err RunFault.BadNodes) ↔ (¬ AreNodes nodes) }
     ensures bad_steps { (result ≡ Err RunFault.BadSteps) ↔ (AreNodes nodes × ¬ AreSteps options.now.steps) }
 {
-    let setting = Setting {
-        program,
-        nodes: check(nodes, options)?,
-        options: *options,
-    };
-    match run_on_threads(rt, alloc, &setting, picker, gate) {
-        Ok(run) => Ok((run.report, run.wires)),
+    let setting = check(nodes, options)?;
+    match run_on_threads(rt, alloc, program, &setting, picker, gate) {
+        Ok(run) => Ok(told_of(run)),
         Err(halt) => Err(RunFault::from(halt)),
     }
 }
 
-// How many nodes there are, where all is in range.
-fn check(nodes: u32, options: &Options) -> Result<u8, RunFault>
+// What is answered of a run: its report, and what the post kept.
+fn told_of(run: ThreadedRun) -> (Report, Wires)
+    ensures report { result.0 ≡ run.made.report }
+    ensures wires { result.1 ≡ run.wires }
+{
+    let ThreadedRun { made, wires } = run;
+    (made.report, wires)
+}
+
+// The setting of so many nodes with these options, where all is in range.
+fn check(nodes: u32, options: &Options) -> Result<Setting, RunFault>
     ensures { MatchResult result
-        (λ count. (count ≡ nodes) × AreNodes nodes × AreSteps options.now.steps)
+        (λ setting. (setting.nodes.count ≡ nodes) × (options_of setting ≡ options.now)
+        × AreNodes nodes × AreSteps options.now.steps)
         (λ fault. ((fault ≡ RunFault.BadNodes) × ¬ AreNodes nodes)
         ⊎ ((fault ≡ RunFault.BadSteps) × AreNodes nodes × ¬ AreSteps options.now.steps)) }
 {
     match setting_of(nodes, options) {
-        Ok(setting) => Ok(setting.nodes.number()),
+        Ok(setting) => Ok(setting),
         Err(SimFault::BadNodes) => Err(RunFault::BadNodes),
         // Nothing else is looked at.
         Err(_) => Err(RunFault::BadSteps),

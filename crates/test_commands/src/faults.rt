@@ -1,7 +1,7 @@
 // The line of each fault of acts, events and a run. Those of a text are played by `test_examples`.
 
 use crate::checks::passes;
-use lrc_cli::fault::Fault;
+use lrc_answer::fault::Fault;
 use lrc_cli::tell;
 use std::alloc::Global;
 

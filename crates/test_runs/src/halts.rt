@@ -4,9 +4,9 @@ use crate::checks::passes;
 use lrc_envelope::Picker;
 use lrc_lang::parse;
 use lrc_lang::program::Program;
-use lrc_node::Options;
 use lrc_page::Size;
-use lrc_run::{Halt, OpenGate, Setting, Stop, WornOut, run_on_threads};
+use lrc_run::{Halt, OpenGate, Stop, WornOut, run_on_threads};
+use lrc_setting::setting::{Nodes, Setting, Steps};
 use std::alloc::Global;
 use std::sync::Wait;
 use std::thread::Threads;
@@ -47,17 +47,20 @@ fn is_left_so(worn: &WornOut, row: &Row) -> bool {
 }
 
 fn halts_so<R: Threads + Wait + Sync>(rt: &R, alloc: Global, program: &Program, row: &Row) -> bool {
-    let setting = Setting {
-        program,
-        nodes: 2,
-        options: Options {
-            steps: 1_000_000,
-            collect: 0,
-            first: u32::MAX,
-            size: Size::Words64,
-        },
+    let Some(nodes) = Nodes::new(2) else {
+        return false;
     };
-    match run_on_threads(rt, alloc, &setting, Picker::Oldest, &OpenGate) {
+    let Some(steps) = Steps::new(1_000_000) else {
+        return false;
+    };
+    let setting = Setting {
+        nodes,
+        steps,
+        collect: 0,
+        size: Size::Words64,
+        first: u32::MAX,
+    };
+    match run_on_threads(rt, alloc, program, &setting, Picker::Oldest, &OpenGate) {
         Err(Halt::Worn(worn)) => is_left_so(&worn, row),
         Ok(_) | Err(Halt::Refused(_) | Halt::Mismatch(_) | Halt::NoMemory) => false,
     }

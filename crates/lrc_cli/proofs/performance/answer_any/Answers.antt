@@ -1,9 +1,10 @@
 use Rattle.std.proofs.Common.{option_map, sym, subst}
 use Rattle.lrc_cli.specs.Answer.{Answers}
 use Rattle.lrc_args.specs.declared.choice.Choice.{Choice}
+use Rattle.lrc_cli.proofs.AnswerLemmas.{answers_of_run}
 use Rattle.lrc_cli.proofs.performance.answer_any.Goals as goal
 
 pub returns-in-Show : goal.returns-in-Show
 returns-in-Show g c =
     subst (λ (choice : Choice). Answers choice c.args.text.now (option_map (λ e. e.now) c.args.events) c.show_any.result) (sym c.in-Show.is)
-    c.show_any.ensures
+    (answers_of_run _ _ c.args.text.now (option_map (λ e. e.now) c.args.events) c.show_any.result c.show_any.ensures)

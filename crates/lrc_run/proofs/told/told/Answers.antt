@@ -2,10 +2,9 @@ use Rattle.std.proofs.Common.{◌≡◌, ◌∙◌, ◌<◌, ◌≤◌, ◌⊎�
 use Rattle.std.specs.Prelude.{All, MatchOption}
 use Rattle.lrc_judge.specs.Races.{AreNamedRaces}
 use Rattle.lrc_trace.specs.Conflict.{IsFirstRace, IsRaceFree}
-use Rattle.lrc_world.specs.Promises.{IsConsistent}
 use Rattle.lrc_world.specs.Ends.{ends_of}
 use Rattle.lrc_run.specs.Run.{IsUntold, IsWovenReport}
-use Rattle.lrc_run.proofs.Telling.{acts_told, left_over, over_told, raceless_told, races_told, report_told, run_told, theorem_told, traces_told}
+use Rattle.lrc_run.proofs.Telling.{acts_told, left_over, over_told, raceless_told, races_told, report_told, run_told, traces_told}
 use Rattle.lrc_run.proofs.Telling.{weave_told, woven_told}
 use Rattle.lrc_run.proofs.told.told.Goals.{then-parts-via-then-parts, then-parts-via-else-parts+then-run-gt0}
 use Rattle.lrc_run.proofs.told.told.Goals.{then-parts-via-else-parts+else-run-gt0+then-not-are_all_given}
@@ -88,6 +87,4 @@ returns-clause-told c =
           (subst (λ races. AreNamedRaces run.acts.items races.items) (sym c.with_findings.ensures.races)
           (races_told s.program.now s.nodes s.options logs run.events.items run.acts.items run.in_flight m c.as_slice-2.result.now found.races.items
           its c.in_ok-found.ensures.races));
-      theorem = subst (λ acts. IsConsistent s.program.now s.nodes acts.items) (sym c.with_findings.ensures.acts)
-          (theorem_told s.program.now s.nodes s.options logs run.events.items run.acts.items run.in_flight m);
     }

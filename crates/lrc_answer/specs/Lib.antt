@@ -1,0 +1,3 @@
+pub mod FaultLine
+pub mod Labels
+pub mod Texts

@@ -1,0 +1,4 @@
+pub mod CourseLemmas
+pub mod LineLemmas
+pub mod RunLemmas
+pub mod ShowingLemmas

@@ -1,0 +1,6 @@
+pub mod Charted
+pub mod Lines
+pub mod Reasoned
+pub mod Runs
+pub mod Showing
+pub mod Shown

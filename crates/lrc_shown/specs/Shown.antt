@@ -1,0 +1,98 @@
+-- What is shown of a run.
+use Rattle.std.specs.Prelude.{◌≡◌, ℕ, List, Option, length, map}
+use Rattle.lrc_clock.specs.Keeping.{KeepsTime}
+use Rattle.lrc_lang.specs.Lines.{HasLines}
+use Rattle.lrc_lang.specs.Tree.{program_of}
+use Rattle.lrc_lang.specs.declared.program.Program.{Program}
+use Rattle.lrc_events.specs.Writing.{events_text}
+use Rattle.lrc_acts_text.specs.ActsText.{acts_text}
+use Rattle.lrc_acts_text.specs.Json.{json_of_acts}
+use Rattle.lrc_acts_text.specs.Rapid.{rapid_text}
+use Rattle.lrc_trace.specs.declared.end.End.{End}
+use Rattle.lrc_trace.specs.declared.act.Act.{Act}
+use Rattle.lrc_explain.specs.Explain.{explain_text}
+use Rattle.lrc_judge.specs.FirstPairs.{AreFirstPairs}
+use Rattle.lrc_judge.specs.declared.lanes.Pair.{Pair}
+use Rattle.lrc_report.specs.ReportText.{run_status_of, run_text}
+use Rattle.lrc_run.specs.Run.{turns_of_nodes}
+use Rattle.lrc_stats.specs.StatsText.{stats_text}
+use Rattle.lrc_world.specs.declared.keep.Keep.{Keep}
+use Rattle.lrc_world.specs.declared.keep.Keep.TheVariants.{All, Newest}
+use Rattle.lrc_world.specs.declared.run.Run.{Run}
+use Rattle.lrc_why_run.specs.Answers.{AnswersRun}
+use Rattle.lrc_turns_text.specs.TurnsText.{messages_text}
+use Rattle.lrc_args.specs.declared.choice.Form.{Form}
+use Rattle.lrc_args.specs.declared.choice.Form.TheVariants.{Acts, Events, Json, Messages, Rapid}
+use Rattle.lrc_args.specs.declared.choice.RunChoice.{RunChoice}
+use Rattle.lrc_args.specs.declared.choice.RunOptions.{RunOptions}
+use Rattle.lrc_args.specs.declared.choice.Shape.{Shape}
+use Rattle.lrc_args.specs.declared.choice.Shape.TheVariants as shapes
+use Rattle.lrc_args.specs.declared.choice.Shape.TheVariants.{Chart, Explain, Stats, Trace, Why}
+use Rattle.lrc_shown.specs.Charted.{IsCharted, IsTooLong}
+use Rattle.lrc_answer.specs.Labels.{labels_in}
+use Rattle.lrc_shown.specs.Lines.{AreLinesIn}
+use Rattle.lrc_shown.specs.Reasoned.{IsUntold, asked_of}
+use Rattle.lrc_shown.specs.Runs.{IsRunWith, turns_in}
+use Rattle.lrc_answer.specs.declared.fault.Fault.{Fault}
+use Rattle.lrc_answer.specs.declared.fault.Fault.TheVariants.{NoAct, NoMemory, TooLong}
+
+-- A run in one of the forms, where the acts are of these lines: its acts, also with the messages among them, or as JSON with the labels of
+-- the text and the time that its node has just after each, or as accesses and their order; or its events that are not skipped.
+abbrev pub IsWrittenAs : Form → List ℕ → Program → RunOptions → Run → (lines out : List ℕ) → Type 0
+IsWrittenAs Acts text program options run lines out = out ≡ acts_text run.report.acts.items lines
+IsWrittenAs Messages text program options run lines out =
+    out ≡ messages_text (turns_of_nodes run.report) (map (λ turn. turn.node) (turns_in program options run.events.items)) lines
+IsWrittenAs Events text program options run lines out = out ≡ events_text (map (λ turn. turn.event) (turns_in program options run.events.items))
+IsWrittenAs Json text program options run lines out =
+    (times : List (List ℕ)) × KeepsTime options.nodes.count run.report.acts.items times × (out ≡ json_of_acts (labels_in text program) run.report.acts.items lines times)
+IsWrittenAs Rapid text program options run lines out =
+    out ≡ rapid_text program.locks options.nodes.count run.report.acts.items lines
+
+-- a trace of a run of the program that this text is of
+abbrev pub IsTraceShown : Form → List ℕ → Program → RunOptions → Run → List ℕ → Type 0
+IsTraceShown form text program options run out =
+    (lines : List ℕ) × AreLinesIn text program options.nodes.count run.report.acts.items lines
+    × IsWrittenAs form text program options run lines out
+
+-- the report of such a run with reasons, and with the labels of the text
+abbrev pub IsExplained : List ℕ → Program → RunOptions → List Act → Option ℕ → List ℕ → Type 0
+IsExplained text program options acts first_race out = (places : List ℕ) × HasLines text (program_of program) places
+    × ((pairs : List Pair) × AreFirstPairs acts pairs
+    × (out ≡ explain_text (labels_in text program) program options.nodes.count places options.steps.count acts pairs first_race))
+
+-- what is shown of a run of that program
+abbrev pub IsShown : Shape → RunChoice → List ℕ → Program → Run → List ℕ → Type 0
+IsShown shapes.Report choice text program run out = out ≡ run_text run.report.acts.items run.report.ends.items run.report.races.items run.report.first_race
+IsShown (Trace form) choice text program run out = IsTraceShown form text program choice.options run out
+IsShown Explain choice text program run out = IsExplained text program choice.options run.report.acts.items run.report.first_race out
+IsShown Stats choice text program run out = out ≡ stats_text (length run.events.items) (turns_of_nodes run.report)
+IsShown (Chart charting) choice text program run out = IsCharted charting choice text program run out
+IsShown (Why asking) choice text program run out =
+    AnswersRun text program choice.options.nodes.count choice.options.size run.report.acts.items (asked_of asking) out
+
+-- why a run that was made is not shown so: a chart of it would be too long, or there is no act that is asked of
+abbrev pub IsShowFault : Shape → RunChoice → List ℕ → Program → Run → Fault → Type 0
+IsShowFault shape choice text program run NoMemory = Unit {0}
+IsShowFault (Chart charting) choice text program run TooLong = IsTooLong charting choice.options text program run
+IsShowFault (Why asking) choice text program run (NoAct position) = IsUntold asking (length run.report.acts.items) (NoAct position)
+IsShowFault shape choice text program run fault = ⊥
+
+-- What is kept of the turns of the nodes while a run goes on that is shown so: what a report, one with reasons, and reasons of acts show
+-- says nothing of them.
+abbrev pub keep_for : Shape → Keep
+keep_for shapes.Report = Newest
+keep_for (Trace form) = All
+keep_for Explain = Newest
+keep_for Stats = All
+keep_for (Chart charting) = All
+keep_for (Why asking) = Newest
+
+-- a run of the program that has kept all turns, where what is shown so tells of them
+abbrev pub IsRunFor : Shape → Program → RunOptions → Run → Type 0
+IsRunFor shape program options run = (keep : Keep) × (keep_for shape ≡ All → keep ≡ All) × IsRunWith program options keep run
+
+-- The status behind what is shown: that of the run. A chart and reasons say nothing for or against a run, and their status is 0.
+abbrev pub shown_status : Shape → Option ℕ → List End → ℕ
+shown_status (Chart charting) first_race ends = 0
+shown_status (Why asking) first_race ends = 0
+shown_status shape first_race ends = run_status_of first_race ends

@@ -1,0 +1,152 @@
+// Traces of a run.
+
+ghost use Rattle.std.specs.Prelude.{◌≡◌, ◌≤◌, ◌<◌, ℕ, All, IfOk, List, length, map};
+ghost use Rattle.lrc_answer.specs.Texts.{IsTextOf};
+ghost use Rattle.lrc_answer.specs.Labels.{labels_in};
+ghost use Rattle.lrc_shown.specs.Lines.{AreLinesIn};
+ghost use Rattle.lrc_shown.specs.Runs.{IsRunWith};
+ghost use Rattle.lrc_world.specs.declared.keep.Keep.TheVariants.{All as Whole};
+ghost use Rattle.lrc_shown.specs.Shown.{IsTraceShown, IsWrittenAs};
+ghost use Rattle.lrc_clock.specs.Keeping.{KeepsTime};
+ghost use Rattle.lrc_events.specs.Writing.{events_text};
+ghost use Rattle.lrc_acts_text.specs.Json.{json_of_acts};
+ghost use Rattle.lrc_text.specs.Parts.{whole_text};
+ghost use Rattle.lrc_turns_text.specs.TurnsText.{messages_text};
+
+use lrc_acts_text::{acts_part, json_part, rapid_part};
+use lrc_answer::printout::in_one;
+use lrc_args::choice::{Form, RunOptions};
+use lrc_events::events_part;
+use lrc_exec::code::Code;
+use lrc_labels::read_labels;
+use lrc_lang::lines::lines_of;
+use lrc_lang::program::Program;
+use lrc_lines::walks::lines_of_acts;
+use lrc_node::Entry;
+use lrc_protocol::Event;
+use lrc_timed::times::times_of_acts;
+use lrc_trace::act::Act;
+use lrc_turns_text::messages_part;
+use lrc_world::run::Run;
+use lrc_world::turned::{Turned, turned_events};
+use std::alloc::{AllocError, Global};
+
+/// A trace of a run of the program that this text is of.
+pub(crate) fn trace_parts(
+    alloc: Global,
+    form: Form,
+    text: &[u8],
+    program: &Program,
+    options: &RunOptions<'_>,
+    run: &Run,
+) -> Result<Vec<Vec<u8>>, AllocError>
+    requires text { IsTextOf text.now program.now }
+    requires ran { IsRunWith program.now options.now Whole run.now }
+    ensures { IfOk result (λ parts. IsTraceShown form text.now program.now options.now run.now
+        (whole_text parts.items)) }
+{
+    let nodes = options.nodes.count as u8;
+    let lines = lines_in(alloc, text, program, nodes, &run.report.acts)?;
+    let part = form_part(alloc, form, text, program, options, run, &lines)?;
+    in_one(alloc, part)
+}
+
+// A run in one of the forms, with these lines of its acts.
+fn form_part(
+    alloc: Global,
+    form: Form,
+    text: &[u8],
+    program: &Program,
+    options: &RunOptions<'_>,
+    run: &Run,
+    lines: &[u32],
+) -> Result<Vec<u8>, AllocError>
+    requires ran { IsRunWith program.now options.now Whole run.now }
+    requires each { length lines.now ≡ length run.now.report.acts.items }
+    ensures { IfOk result (λ part. IsWrittenAs form text.now program.now options.now run.now
+        lines.now part.items) }
+{
+    let acts = run.report.acts.as_slice();
+    let logs = run.report.logs.as_slice();
+    let events = run.events.as_slice();
+    let nodes = options.nodes.count as u8;
+    match form {
+        Form::Acts => acts_part(alloc, acts, lines),
+        Form::Messages => {
+            let turns = turned_events(alloc, logs, events)?;
+            let order = turns.as_slice();
+            messages_of(alloc, logs, order, lines)
+        }
+        Form::Events => {
+            let turns = turned_events(alloc, logs, events)?;
+            let made = turns.as_slice();
+            events_of(alloc, made)
+        }
+        Form::Json => json_of(alloc, text, program, acts, lines, nodes),
+        Form::Rapid => rapid_part(alloc, acts, lines, program.locks, nodes),
+    }
+}
+
+// The acts of the logs with the messages among them, in the order of these turns.
+fn messages_of(
+    alloc: Global,
+    logs: &[Vec<Entry>],
+    turns: &[Turned],
+    lines: &[u32],
+) -> Result<Vec<u8>, AllocError>
+    ensures { IfOk result (λ part. part.items ≡ messages_text (map (λ log. log.items) logs.now)
+        (map (λ turn. turn.node) turns.now) lines.now) }
+{
+    let order: Vec<u8> = turns.iter().map(|turn| turn.node).collect(alloc)?;
+    messages_part(alloc, logs, &order, lines)
+}
+
+// The events of these turns.
+fn events_of(alloc: Global, turns: &[Turned]) -> Result<Vec<u8>, AllocError>
+    ensures { IfOk result (λ part. part.items ≡ events_text (map (λ turn. turn.event) turns.now)) }
+{
+    let mut events: Vec<Event> = Vec::new(alloc);
+    for turn in turns {
+        events.push(turn.event)?;
+    }
+    events_part(alloc, &events)
+}
+
+// The acts as JSON, each with the time that its node has just after it, and with the labels of the program's text.
+fn json_of(
+    alloc: Global,
+    text: &[u8],
+    program: &Program,
+    acts: &[Act],
+    lines: &[u32],
+    nodes: u8,
+) -> Result<Vec<u8>, AllocError>
+    requires some { 1 ≤ nodes }
+    requires few { nodes ≤ 16 }
+    requires acts { All (λ act. act.node < nodes) acts.now }
+    requires lined { length lines.now ≡ length acts.now }
+    ensures { IfOk result (λ part. (times : List (List ℕ)) × KeepsTime nodes acts.now times
+        × (part.items ≡ json_of_acts (labels_in text.now program.now) acts.now lines.now times)) }
+{
+    let times = times_of_acts(alloc, acts, nodes)?;
+    let labels = read_labels(alloc, text, program.words, program.locks)?;
+    json_part(alloc, &labels.said, acts, lines, &times)
+}
+
+/// Of each act the line of the text on which the statement stands that it is of.
+pub(crate) fn lines_in(
+    alloc: Global,
+    text: &[u8],
+    program: &Program,
+    nodes: u8,
+    acts: &[Act],
+) -> Result<Vec<u32>, AllocError>
+    requires { IsTextOf text.now program.now }
+    ensures lines { IfOk result (λ lines. AreLinesIn text.now program.now nodes acts.now
+        lines.items) }
+    ensures each { IfOk result (λ lines. length lines.items ≡ length acts.now) }
+{
+    let places = lines_of(alloc, text)?;
+    let code = Code::new(alloc, program)?;
+    lines_of_acts(alloc, &code, &places, nodes, acts)
+}
