@@ -2,7 +2,7 @@ use Rattle.std.proofs.Common.{rules, tests, ◌∙◌}
 use Rattle.std.proofs.lemmas.Iterator.{YieldsList-from_slice}
 use Rattle.std.proofs.lemmas.Iterator.Search.{any_from_yields_List}
 use Rattle.lrc_lang.proofs.Names.{spells, is_among-texts}
-use Rattle.lrc_why_run.proofs.spelling.is_among.Goals as goal
+use Rattle.lrc_private.proofs.names.is_among.Goals as goal
 
 pub returns : goal.returns
 returns c =

@@ -9,8 +9,8 @@ use Rattle.lrc_trace.specs.declared.act.Act.{Act}
 use Rattle.lrc_trace.specs.declared.act.Deed.{Deed}
 use Rattle.lrc_trace.specs.Run.{Does}
 use Rattle.lrc_trace.proofs.Positions.{Does-node, Does-one_deed, Does-one_node}
-use Rattle.lrc_why_run.specs.Standing.{AreLastSets, IsLastSet, Sets, SetsLast, set_by, thread_before}
-use Rattle.lrc_why_run.specs.Ways.{noted}
+use Rattle.lrc_private.specs.Standing.{AreLastSets, IsLastSet, Sets, SetsLast, set_by, thread_before}
+use Rattle.lrc_private.specs.Ways.{noted}
 
 module _ (program : Program) (nodes : ℕ) (lines : List ℕ) (acts : List Act) (node at : ℕ) where
   -- the act there does not set the name

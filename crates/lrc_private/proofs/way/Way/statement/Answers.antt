@@ -5,7 +5,7 @@ use Rattle.std.proofs.lemmas.Option.{slice_get-get_or}
 use Rattle.lrc_exec.specs.declared.code.Instruction.{Instruction}
 use Rattle.lrc_exec.specs.Flat.{IsSoundAt, IsSoundFrom, rest_at}
 use Rattle.lrc_exec.proofs.Flat.{rest_at-end, rest_at-instruction}
-use Rattle.lrc_why_run.proofs.way.Way.statement.Goals as goal
+use Rattle.lrc_private.proofs.way.Way.statement.Goals as goal
 
 sound_there : (code : List Instruction) (k : ℕ) (d : Instruction) → k < length code → IsSoundFrom 0 code → IsSoundAt code k (get_or code k d)
 sound_there code k d lt sound = sound k (get_or code k d) (omega arith) (slice_get-get_or code k d lt)

@@ -2,7 +2,7 @@ use Rattle.std.proofs.Common.{◌≡◌, ◌∙◌, ℕ, List, None, Option, inl
 use Rattle.std.proofs.lemmas.Bool.{cases_lt}
 use Rattle.std.proofs.lemmas.List.{get_or-replicate, get_or_past, length-replicate}
 use Rattle.lrc_exec.proofs.Beginning.{none_clones}
-use Rattle.lrc_why_run.proofs.way.Way.start.Goals as goal
+use Rattle.lrc_private.proofs.way.Way.start.Goals as goal
 
 none_there : (n name : ℕ) (none : Option ℕ) → get_or (replicate n none) name none ≡ none
 none_there n name none =

@@ -9,7 +9,7 @@ use Rattle.lrc_trace.specs.Run.{Does}
 use Rattle.lrc_exec.specs.Ask.{ask_of}
 use Rattle.lrc_exec.specs.Meaning.{Thread, next_of}
 use Rattle.lrc_lines.specs.Walks.{goes_on, walk_behind}
-use Rattle.lrc_why_run.specs.Statement.{name_set}
+use Rattle.lrc_private.specs.Statement.{name_set}
 
 -- a node's thread just before a position: where the acts before have led it. The first of the statements that are still to do is the one
 -- that the node's act at the position is of.

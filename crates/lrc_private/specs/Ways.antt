@@ -7,8 +7,8 @@ use Rattle.lrc_exec.specs.Ask.{answered}
 use Rattle.lrc_exec.specs.Meaning.{Thread}
 use Rattle.lrc_exec.specs.Spots.{thread_at, IsFlat}
 use Rattle.lrc_lines.specs.Walks.{value_given}
-use Rattle.lrc_why_run.specs.declared.way.Way.{Way}
-use Rattle.lrc_why_run.specs.Standing.{AreLastSets, passes, thread_before}
+use Rattle.lrc_private.specs.declared.way.Way.{Way}
+use Rattle.lrc_private.specs.Standing.{AreLastSets, passes, thread_before}
 
 -- the thread that stands there
 abbrev pub thread_of : Way → Thread

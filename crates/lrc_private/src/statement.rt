@@ -1,7 +1,7 @@
 // Which private names a statement reads and sets.
 
 ghost use Rattle.std.specs.Prelude.{◌≡◌};
-ghost use Rattle.lrc_why_run.specs.Statement.{has_name, name_set, reads_name};
+ghost use Rattle.lrc_private.specs.Statement.{has_name, name_set, reads_name};
 
 use lrc_lang::program::{Expression, Statement};
 
@@ -17,7 +17,7 @@ fn has_name(expression: &Expression, name: u8) -> bool
 }
 
 /// Whether a statement reads the name: of `if` and `while` the condition alone.
-pub(crate) fn reads_name(statement: &Statement, name: u8) -> bool
+pub fn reads_name(statement: &Statement, name: u8) -> bool
     ensures { result ≡ reads_name name statement.now }
 {
     match statement {

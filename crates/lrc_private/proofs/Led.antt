@@ -11,15 +11,15 @@ use Rattle.lrc_exec.specs.Meaning.{Thread, next_of}
 use Rattle.lrc_lines.specs.Walks.{Walk, goes_on, led, walk_behind}
 use Rattle.lrc_lines.proofs.Following.{goes_takes}
 use Rattle.lrc_lines.proofs.Several.{more_other, more_own}
-use Rattle.lrc_why_run.specs.Standing.{completes, passes, thread_before}
-use Rattle.lrc_why_run.specs.Ways.{thread_led}
+use Rattle.lrc_private.specs.Standing.{completes, passes, thread_before}
+use Rattle.lrc_private.specs.Ways.{thread_led}
 
 thread-if : (b : Bool) (one other : Walk) → (if b then one else other).thread ≡ (if b then one.thread else other.thread)
 thread-if true one other = refl
 thread-if false one other = refl
 
 -- the thread of a walk that is led
-led-thread : (w : Walk) (d : Deed) → (led w d).thread ≡ thread_led w.thread d
+pub led-thread : (w : Walk) (d : Deed) → (led w d).thread ≡ thread_led w.thread d
 led-thread w Quiet = thread-if (goes_on (ask_of (next_of w.thread))) _ w
 led-thread w (Print v) = thread-if (goes_on (ask_of (next_of w.thread))) _ w
 led-thread w (Read word v) = thread-if (goes_on (ask_of (next_of w.thread))) _ w

@@ -4,12 +4,12 @@ use Rattle.std.proofs.lemmas.List.{get_or_default}
 use Rattle.lrc_trace.specs.declared.act.Act.{Act}
 use Rattle.lrc_trace.specs.declared.act.Deed.TheVariants.{Quiet}
 use Rattle.lrc_trace.specs.Run.{act_of}
-use Rattle.lrc_why_run.specs.declared.way.Way.{Way}
-use Rattle.lrc_why_run.specs.Ways.{IsWayTo}
-use Rattle.lrc_why_run.proofs.Lasts.{none_set}
-use Rattle.lrc_why_run.proofs.Onward.{other_way, own_way}
-use Rattle.lrc_why_run.proofs.way.Way.to.Goals as goal
-use Rattle.lrc_why_run.proofs.way.Way.to.Goals.{else-act-me, then-act-me}
+use Rattle.lrc_private.specs.declared.way.Way.{Way}
+use Rattle.lrc_private.specs.Ways.{IsWayTo}
+use Rattle.lrc_private.proofs.Lasts.{none_set}
+use Rattle.lrc_private.proofs.Onward.{other_way, own_way}
+use Rattle.lrc_private.proofs.way.Way.to.Goals as goal
+use Rattle.lrc_private.proofs.way.Way.to.Goals.{else-act-me, then-act-me}
 
 read_is : (acts : List Act) (at : ℕ) (d : Act) → at < length acts → get_or acts at d ≡ get_or acts at (get_or acts at d)
 read_is acts at d within = get_or_default acts at d (get_or acts at d) within

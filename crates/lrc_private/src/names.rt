@@ -4,14 +4,14 @@ ghost use Rattle.std.specs.Prelude.{◌≡◌, ◌≤◌, [], IfOk, OnOk, length
 ghost use Rattle.lrc_lang.specs.Parser.View.{lexeme_of};
 ghost use Rattle.lrc_lang.specs.Symbol.{is_among, names_with};
 ghost use Rattle.lrc_lang.specs.Token.{name};
-ghost use Rattle.lrc_why_run.specs.Spelling.{AreNamesOf, names_through, spelling};
+ghost use Rattle.lrc_private.specs.Spelling.{AreNamesOf, names_through, spelling};
 
 use lrc_lang::positions::positions_of;
 use lrc_lang::token::{Lexeme, Token};
 use std::alloc::{AllocError, Global};
 
 /// The private names of a text that is not too long, in the order in which they first come.
-pub(crate) fn names_of(alloc: Global, text: &[u8]) -> Result<Vec<&[u8]>, AllocError>
+pub fn names_of(alloc: Global, text: &[u8]) -> Result<Vec<&[u8]>, AllocError>
     requires { length text.now ≤ 65536 }
     ensures { IfOk result (λ names. AreNamesOf text.now (map (λ name. name.now) names.items)) }
 {
@@ -53,7 +53,7 @@ fn is_among(names: &[&[u8]], name: &[u8]) -> bool
 }
 
 /// How the name of this number is spelled.
-pub(crate) fn spelling<'t>(names: &[&'t [u8]], name: usize) -> &'t [u8]
+pub fn spelling<'t>(names: &[&'t [u8]], name: usize) -> &'t [u8]
     ensures { result.now ≡ spelling (map (λ name. name.now) names.now) name }
 {
     if name < names.len() { names[name] } else { b"" }

@@ -3,7 +3,7 @@
 ghost use Rattle.std.specs.Prelude.{◌≡◌, ◌+◌, ◌<◌, ◌≤◌, ℕ, List, length, slice_index};
 ghost use Rattle.lrc_lang.specs.declared.program.Program.{Program};
 ghost use Rattle.lrc_trace.specs.declared.act.Act.{Act};
-ghost use Rattle.lrc_why_run.specs.Standing.{Sets, SetsLast, thread_before};
+ghost use Rattle.lrc_private.specs.Standing.{Sets, SetsLast, thread_before};
 
 /// A private name has the value that it was set to last: 0 while no act of its node has set it, and from the act on that set it last the
 /// value that it had just behind that act.

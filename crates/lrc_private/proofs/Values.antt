@@ -16,10 +16,10 @@ use Rattle.lrc_exec.specs.Ask.{answered, done}
 use Rattle.lrc_exec.specs.Meaning.{Next, Thread, acquires, departs, first_act, holds, next_of, releases, then_holds, traps, value_in}
 use Rattle.lrc_lines.specs.Walks.{value_given}
 use Rattle.lrc_lines.proofs.Agreeing.{agrees_behind, on_if, on_value}
-use Rattle.lrc_why_run.specs.Standing.{Sets, SetsLast, first_set, passes, set_by, thread_before}
-use Rattle.lrc_why_run.specs.Ways.{thread_led}
-use Rattle.lrc_why_run.proofs.Lasts.{Does-here}
-use Rattle.lrc_why_run.proofs.Led.{other_step, own_step}
+use Rattle.lrc_private.specs.Standing.{Sets, SetsLast, first_set, passes, set_by, thread_before}
+use Rattle.lrc_private.specs.Ways.{thread_led}
+use Rattle.lrc_private.proofs.Lasts.{Does-here}
+use Rattle.lrc_private.proofs.Led.{other_step, own_step}
 
 abbrev private_value : Thread → ℕ → ℕ
 private_value thread name = get_or thread.privates name 0

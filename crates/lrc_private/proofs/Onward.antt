@@ -4,11 +4,11 @@ use Rattle.lrc_lang.specs.declared.program.Program.{Program}
 use Rattle.lrc_trace.specs.declared.act.Act.{Act}
 use Rattle.lrc_trace.proofs.Positions.{Does-node}
 use Rattle.lrc_exec.specs.Meaning.{Thread}
-use Rattle.lrc_why_run.specs.declared.way.Way.{Way}
-use Rattle.lrc_why_run.specs.Standing.{AreLastSets, set_by, thread_before}
-use Rattle.lrc_why_run.specs.Ways.{IsOnWay, IsWayTo, noted, thread_led, thread_of}
-use Rattle.lrc_why_run.proofs.Lasts.{Does-here, other_lasts, own_lasts}
-use Rattle.lrc_why_run.proofs.Led.{other_step, own_step}
+use Rattle.lrc_private.specs.declared.way.Way.{Way}
+use Rattle.lrc_private.specs.Standing.{AreLastSets, set_by, thread_before}
+use Rattle.lrc_private.specs.Ways.{IsOnWay, IsWayTo, noted, thread_led, thread_of}
+use Rattle.lrc_private.proofs.Lasts.{Does-here, other_lasts, own_lasts}
+use Rattle.lrc_private.proofs.Led.{other_step, own_step}
 
 module _ (program : Program) (nodes : ℕ) (lines : List ℕ) (acts : List Act) (node at : ℕ) (act : Act) (within : at < length acts)
     (is : act ≡ get_or acts at act) where

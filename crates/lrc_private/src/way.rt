@@ -6,8 +6,8 @@ ghost use Rattle.lrc_lang.specs.Statements.{statement_of};
 ghost use Rattle.lrc_lang.specs.declared.program.Statement.{Statement as AnyStatement};
 ghost use Rattle.lrc_exec.specs.Plain.{start_of};
 ghost use Rattle.lrc_lines.specs.Walks.{goes_on, value_given};
-ghost use Rattle.lrc_why_run.specs.Standing.{completes, first_set, passes, set_by};
-ghost use Rattle.lrc_why_run.specs.Ways.{IsOnWay, IsWayTo, noted, thread_led, thread_of};
+ghost use Rattle.lrc_private.specs.Standing.{completes, first_set, passes, set_by};
+ghost use Rattle.lrc_private.specs.Ways.{IsOnWay, IsWayTo, noted, thread_led, thread_of};
 
 use crate::statement::name_set;
 use lrc_exec::code::Code;
@@ -19,10 +19,10 @@ use std::alloc::{AllocError, Global};
 
 /// Where a node is in the flat code of a program, and for each private name by which act it was set last.
 #[derive(Drop)]
-pub(crate) struct Way<'c> {
-    pub(crate) flat: Flat<'c>,
-    pub(crate) spot: Spot,
-    pub(crate) set: Vec<Option<usize>>,
+pub struct Way<'c> {
+    pub flat: Flat<'c>,
+    pub spot: Spot,
+    pub set: Vec<Option<usize>>,
 }
 
 // Whether a deed completes the statement that it is of.
@@ -50,8 +50,8 @@ fn value_given(deed: Deed) -> u64
 }
 
 impl<'c> Way<'c> {
-    // Node `me` of `nodes` at the beginning of a program.
-    fn start(alloc: Global, code: &'c Code<'_>, nodes: u8, me: u8) -> Result<Way<'c>, AllocError>
+    /// Node `me` of `nodes` at the beginning of a program.
+    pub fn start(alloc: Global, code: &'c Code<'_>, nodes: u8, me: u8) -> Result<Way<'c>, AllocError>
         ensures on { IfOk result IsOnWay }
         ensures thread { IfOk result (λ way. thread_of way ≡ start_of code.now nodes me) }
         ensures unset { IfOk result (λ way. (name : ℕ) → slice_index_or way.set.items name None ≡ None) }
@@ -78,7 +78,7 @@ impl<'c> Way<'c> {
     }
 
     /// The statement that comes next, unless the node is at the end of the text.
-    pub(crate) fn statement(&self) -> Option<&'c Statement>
+    pub fn statement(&self) -> Option<&'c Statement>
         requires { IsOnWay self.now }
         ensures next { MatchOption result ((thread_of self.now).rest ≡ [])
             (λ statement. (rest : List AnyStatement) × ((thread_of self.now).rest ≡ statement.now ∷ rest)) }
@@ -107,8 +107,8 @@ impl<'c> Way<'c> {
         completes(deed) && goes_on(self.flat.ask(&self.spot))
     }
 
-    // The node's act at this position is done, of this deed.
-    fn follow(&mut self, at: usize, deed: Deed)
+    /// The node's act at this position is done, of this deed.
+    pub fn follow(&mut self, at: usize, deed: Deed)
         requires { IsOnWay self.old }
         ensures on { IsOnWay self.new }
         ensures thread { thread_of self.new ≡ thread_led (thread_of self.old) deed }
@@ -125,7 +125,7 @@ impl<'c> Way<'c> {
     }
 
     /// The way of a node up to this position of a run of `nodes` nodes.
-    pub(crate) fn to(
+    pub fn to(
         alloc: Global,
         code: &'c Code<'_>,
         nodes: u8,
