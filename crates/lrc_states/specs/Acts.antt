@@ -1,0 +1,77 @@
+-- What the acts so far have led to: where each node's text stands, what its private names are, and the last Write to each word.
+use Rattle.std.specs.Prelude.{ℕ, ◌==◌, Bool, not, Option, None, Some, List, [], ◌∷◌, ◌++◌, filter, filter_map, fold, if◌then◌else◌, length, map, slice_index}
+use Rattle.std.specs.List.{enumerate_from, range_with_len}
+use Rattle.lrc_lang.specs.declared.program.Program.{Program}
+use Rattle.lrc_lang.specs.Symbol.{Names}
+use Rattle.lrc_trace.specs.declared.act.Act.{Act}
+use Rattle.lrc_trace.specs.declared.act.Deed.{Deed}
+use Rattle.lrc_trace.specs.declared.act.Deed.TheVariants.{Write}
+use Rattle.lrc_trace.specs.Interval.{interval_at}
+use Rattle.lrc_exec.specs.Meaning.{Thread}
+use Rattle.lrc_lines.specs.Walks.{line_behind, walk_behind}
+use Rattle.lrc_state_text.specs.Place.{Named}
+
+-- a program on so many nodes, the lines of its statements, and its private names
+pub record Plan : Type 0 where
+  pub program : Program
+  pub nodes : ℕ
+  pub lines : List ℕ
+  pub names : Names
+
+-- where an act stands: its position in the run, its line in the text, and its interval
+pub record Spot : Type 0 where
+  pub position : ℕ
+  pub line : ℕ
+  pub interval : ℕ
+
+-- where the node's next act stands
+abbrev pub spot_behind : Plan → List Act → (node : ℕ) → Spot
+spot_behind plan acts node = record {
+  position = length acts;
+  line = line_behind plan.program plan.nodes plan.lines acts node;
+  interval = interval_at acts node (length acts);
+}
+
+-- ---- private names
+
+-- names with their values, by their numbers
+abbrev pub with_values : Names → (values : List ℕ) → List Named
+with_values names values = map (λ at. record { name = at.1; value = slice_index values at.0 }) (enumerate_from 0 names)
+
+-- those whose value is not 0
+abbrev pub is_set : Named → Bool
+is_set named = not (named.value == 0)
+
+abbrev pub names_set : Names → (values : List ℕ) → List Named
+names_set names values = filter is_set (with_values names values)
+
+-- those of a node
+abbrev pub names_behind : Plan → List Act → (node : ℕ) → List Named
+names_behind plan acts node = names_set plan.names (walk_behind plan.program plan.nodes plan.lines acts node).thread.privates
+
+-- ---- what was written
+
+-- a Write: its word and value, its node, and where it stands
+pub record Note : Type 0 where
+  pub word : ℕ
+  pub value : ℕ
+  pub node : ℕ
+  pub spot : Spot
+
+abbrev pub note_of : Spot → (node : ℕ) → Deed → List Note
+note_of spot node (Write word value) = record { word = word; value = value; node = node; spot = spot } ∷ []
+note_of spot node _ = []
+
+-- the Writes among acts that come behind these ones
+abbrev pub notes_behind : Plan → (before acts : List Act) → List Note
+notes_behind plan before [] = []
+notes_behind plan before (act ∷ acts) =
+    note_of (spot_behind plan before act.node) act.node act.deed ++ notes_behind plan (before ++ act ∷ []) acts
+
+-- the last of these Writes that writes the word
+abbrev pub last_note : List Note → (word : ℕ) → Option Note
+last_note notes word = fold (λ last note. if note.word == word then Some note else last) None notes
+
+-- of each word the last Write to it, by word
+abbrev pub last_notes : (words : ℕ) → List Note → List Note
+last_notes words notes = filter_map (last_note notes) (range_with_len 0 words)

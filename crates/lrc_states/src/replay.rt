@@ -1,0 +1,171 @@
+// The nodes of a run, and the messages in flight, played again event by event.
+
+ghost use Rattle.std.specs.Prelude.{◌≡◌, ◌≤◌, ◌++◌, IfOk, OnOk, Some, slice_get};
+ghost use Rattle.lrc_protocol.specs.Node.{Node as NodeRecord};
+ghost use Rattle.lrc_protocol.specs.Run as log;
+ghost use Rattle.lrc_protocol.specs.Run.{World, event_on, fresh_world};
+ghost use Rattle.lrc_protocol.specs.Turn.{run_turn, take_turn};
+ghost use Rattle.lrc_states.specs.Replays.{Answers, AnswersAt, IsMade, IsReplay, TakesAt, left_behind, nodes_played};
+
+use lrc_envelope::Envelope;
+use lrc_exec::code::Code;
+use lrc_node::{Node, NodeFault, NodeState, Options, Turn};
+use lrc_protocol::Event;
+use std::alloc::{AllocError, Global};
+use std::collections::VecDeque;
+
+/// The nodes, and the messages in flight, oldest first.
+#[derive(Drop)]
+pub(crate) struct Replay<'c> {
+    pub(crate) nodes: Vec<Node<'c>>,
+    pub(crate) flight: VecDeque<Envelope>,
+}
+
+impl<'c> Replay<'c> {
+    /// All nodes at the beginning of a program.
+    pub(crate) fn start(
+        alloc: Global,
+        code: &'c Code<'_>,
+        nodes: u8,
+        options: &Options,
+    ) -> Result<Replay<'c>, AllocError>
+        requires few { nodes ≤ 16 }
+        ensures { IfOk result (λ replay. IsReplay replay (fresh_world code.now nodes options.now)) }
+    {
+        let mut made = Vec::with_capacity(alloc, usize::from(nodes))?;
+        for me in 0..nodes {
+            made.push(Node::new(alloc, code, me, nodes, options)?)?;
+        }
+        Ok(Replay {
+            nodes: made,
+            flight: VecDeque::new(alloc),
+        })
+    }
+
+    /// The state of a node, where it is there and has not failed.
+    pub(crate) fn state(&self, node: usize) -> Option<&NodeState<'c>> {
+        self.nodes.get(node)?.state()
+    }
+
+    /// The message that an event names, where it is in flight.
+    pub(crate) fn message(&self, event: Event) -> Option<&Envelope> {
+        match event {
+            Event::Run(_) => None,
+            Event::Deliver(place) | Event::Repeat(place) => self.flight.get(place as usize),
+        }
+    }
+
+    /// The node that an event names, or the receiver of the message that it names.
+    pub(crate) fn turner(&self, event: Event) -> Option<usize> {
+        match event {
+            Event::Run(node) => Some(node as usize),
+            _ => Some(usize::from(self.message(event)?.to)),
+        }
+    }
+
+    /// The turn that an event makes, if it makes one. What it sends is not in flight yet.
+    pub(crate) fn make(&mut self, event: Event) -> Result<Option<Turn>, AllocError>
+        ensures { (world next : World) → IsReplay self.old world → event_on world event ≡ Some next
+            → IfOk result (λ turn. IsMade world event next turn self.new) }
+    {
+        match event {
+            Event::Run(node) => self.run(node as usize),
+            Event::Deliver(place) => self.deliver(place as usize),
+            Event::Repeat(place) => self.take(place as usize),
+        }
+    }
+
+    /// What a turn sends is in flight from now on.
+    pub(crate) fn post(&mut self, out: Vec<Envelope>) -> Result<(), AllocError>
+        ensures nodes { self.new.nodes ≡ self.old.nodes }
+        ensures flight { OnOk result (self.new.flight.items ≡ self.old.flight.items ++ out.items) }
+    {
+        for envelope in out {
+            self.flight.push_back(envelope)?;
+        }
+        Ok(())
+    }
+
+    // The node goes on, if it is there and ready.
+    fn run(&mut self, node: usize) -> Result<Option<Turn>, AllocError>
+        ensures nodes { IfOk result (λ made. AnswersAt (nodes_played self.old.nodes.items) node log.run
+            (slice_get (nodes_played self.old.nodes.items) node) made (nodes_played self.new.nodes.items)) }
+        ensures flight { self.new.flight ≡ self.old.flight }
+    {
+        run_at(&mut self.nodes, node)
+    }
+
+    // The message at the place is taken, if it is there and expected. It is no more in flight then.
+    fn deliver(&mut self, place: usize) -> Result<Option<Turn>, AllocError>
+        ensures nodes { IfOk result (λ made. TakesAt (nodes_played self.old.nodes.items) (slice_get self.old.flight.items place)
+            made (nodes_played self.new.nodes.items)) }
+        ensures flight { IfOk result (λ made. self.new.flight.items ≡ left_behind self.old.flight.items place made) }
+    {
+        let turn = self.take(place)?;
+        if turn.is_some() {
+            let _taken = self.flight.remove(place);
+        }
+        Ok(turn)
+    }
+
+    // The same, but the message stays in flight.
+    fn take(&mut self, place: usize) -> Result<Option<Turn>, AllocError>
+        ensures nodes { IfOk result (λ made. TakesAt (nodes_played self.old.nodes.items) (slice_get self.old.flight.items place)
+            made (nodes_played self.new.nodes.items)) }
+        ensures flight { self.new.flight ≡ self.old.flight }
+    {
+        match self.flight.get(place) {
+            Some(envelope) => take_at(&mut self.nodes, envelope),
+            None => Ok(None),
+        }
+    }
+}
+
+// A node goes on, if it is there and ready.
+fn run_at(nodes: &mut Vec<Node<'_>>, node: usize) -> Result<Option<Turn>, AllocError>
+    ensures { IfOk result (λ made. AnswersAt (nodes_played nodes.old.items) node log.run
+        (slice_get (nodes_played nodes.old.items) node) made (nodes_played nodes.new.items)) }
+{
+    if node < nodes.len() {
+        run_node(&mut nodes[node])
+    } else {
+        Ok(None)
+    }
+}
+
+// The receiver of a message takes it, if it is there and expects it.
+fn take_at(nodes: &mut Vec<Node<'_>>, envelope: &Envelope) -> Result<Option<Turn>, AllocError>
+    ensures { IfOk result (λ made. AnswersAt (nodes_played nodes.old.items) envelope.now.to (log.taken envelope.now)
+        (slice_get (nodes_played nodes.old.items) envelope.now.to) made (nodes_played nodes.new.items)) }
+{
+    let to = usize::from(envelope.to);
+    if to < nodes.len() {
+        take_node(&mut nodes[to], envelope)
+    } else {
+        Ok(None)
+    }
+}
+
+// A node goes on, if it is ready. One that fails has no memory, where the run was made before.
+fn run_node(node: &mut Node<'_>) -> Result<Option<Turn>, AllocError>
+    ensures { (was : NodeRecord) → node.old.node ≡ Some was
+        → IfOk result (λ made. Answers (run_turn was) was made node.new.node) }
+{
+    match node.run() {
+        Ok(turn) => Ok(Some(turn)),
+        Err(NodeFault::NotReady | NodeFault::Unexpected) => Ok(None),
+        Err(_) => Err(AllocError),
+    }
+}
+
+// A node takes a message, if it expects it. One that fails has no memory, where the run was made before.
+fn take_node(node: &mut Node<'_>, envelope: &Envelope) -> Result<Option<Turn>, AllocError>
+    ensures { (was : NodeRecord) → node.old.node ≡ Some was
+        → IfOk result (λ made. Answers (take_turn was envelope.now) was made node.new.node) }
+{
+    match node.take(envelope) {
+        Ok(turn) => Ok(Some(turn)),
+        Err(NodeFault::NotReady | NodeFault::Unexpected) => Ok(None),
+        Err(_) => Err(AllocError),
+    }
+}
