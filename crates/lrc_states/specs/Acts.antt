@@ -1,6 +1,7 @@
 -- What the acts so far have led to: where each node's text stands, what its private names are, and the last Write to each word.
-use Rattle.std.specs.Prelude.{ℕ, ◌==◌, Bool, not, Option, None, Some, List, [], ◌∷◌, ◌++◌, filter, filter_map, fold, if◌then◌else◌, length, map, slice_index}
-use Rattle.std.specs.List.{enumerate_from, range_with_len}
+use Rattle.std.specs.Prelude.{ℕ, ◌==◌, Bool, not, Option, None, Some, List, [], ◌∷◌, ◌++◌, filter, fold, if◌then◌else◌, length, map, slice_index}
+use Rattle.std.specs.List.{enumerate_from, flat_map, range_with_len}
+use Rattle.std.specs.Option.{option_to_list}
 use Rattle.lrc_lang.specs.declared.program.Program.{Program}
 use Rattle.lrc_lang.specs.Symbol.{Names}
 use Rattle.lrc_trace.specs.declared.act.Act.{Act}
@@ -10,6 +11,8 @@ use Rattle.lrc_trace.specs.Interval.{interval_at}
 use Rattle.lrc_exec.specs.Meaning.{Thread}
 use Rattle.lrc_lines.specs.Walks.{line_behind, walk_behind}
 use Rattle.lrc_state_text.specs.Place.{Named}
+use Rattle.lrc_states.specs.declared.notes.Note.{Note}
+use Rattle.lrc_states.specs.declared.notes.Spot.{Spot}
 
 -- a program on so many nodes, the lines of its statements, and its private names
 pub record Plan : Type 0 where
@@ -17,12 +20,6 @@ pub record Plan : Type 0 where
   pub nodes : ℕ
   pub lines : List ℕ
   pub names : Names
-
--- where an act stands: its position in the run, its line in the text, and its interval
-pub record Spot : Type 0 where
-  pub position : ℕ
-  pub line : ℕ
-  pub interval : ℕ
 
 -- where the node's next act stands
 abbrev pub spot_behind : Plan → List Act → (node : ℕ) → Spot
@@ -51,13 +48,7 @@ names_behind plan acts node = names_set plan.names (walk_behind plan.program pla
 
 -- ---- what was written
 
--- a Write: its word and value, its node, and where it stands
-pub record Note : Type 0 where
-  pub word : ℕ
-  pub value : ℕ
-  pub node : ℕ
-  pub spot : Spot
-
+-- the Write that a deed is, by its node, and where it stands
 abbrev pub note_of : Spot → (node : ℕ) → Deed → List Note
 note_of spot node (Write word value) = record { word = word; value = value; node = node; spot = spot } ∷ []
 note_of spot node _ = []
@@ -74,4 +65,4 @@ last_note notes word = fold (λ last note. if note.word == word then Some note e
 
 -- of each word the last Write to it, by word
 abbrev pub last_notes : (words : ℕ) → List Note → List Note
-last_notes words notes = filter_map (last_note notes) (range_with_len 0 words)
+last_notes words notes = flat_map (λ word. option_to_list (last_note notes word)) (range_with_len 0 words)

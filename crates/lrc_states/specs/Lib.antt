@@ -1,5 +1,4 @@
-pub mod Turns
 pub mod Acts
 pub mod Objects
-pub mod Replays
+pub mod Courses
 pub mod States

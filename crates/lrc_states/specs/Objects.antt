@@ -1,7 +1,7 @@
 -- Objects of JSON: messages, labels, acts, and the last Write to a word.
 use Rattle.std.specs.Prelude.{ℕ, Bool, true, false, Option, None, Some, List, [], ◌++◌, codes, decimal}
 use Rattle.lrc_envelope.specs.Envelope.{EnvelopeRecord}
-use Rattle.lrc_protocol.specs.Run.{Flying, Input}
+use Rattle.lrc_protocol.specs.Run.{Input}
 use Rattle.lrc_protocol.specs.Run as log
 use Rattle.lrc_labels.specs.declared.label.Target.{Target}
 use Rattle.lrc_labels.specs.declared.label.Target.TheVariants.{Word, Words, Lock}
@@ -12,7 +12,8 @@ use Rattle.lrc_messages.specs.TurnText.{size_text}
 use Rattle.lrc_text.specs.ActText.{deed_text}
 use Rattle.lrc_trace.specs.declared.act.Act.{Act}
 use Rattle.lrc_trace.specs.declared.act.Deed.{Deed}
-use Rattle.lrc_states.specs.Acts.{Note, Spot}
+use Rattle.lrc_states.specs.declared.notes.Note.{Note}
+use Rattle.lrc_states.specs.declared.notes.Spot.{Spot}
 
 -- ---- messages
 

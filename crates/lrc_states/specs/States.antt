@@ -24,7 +24,7 @@ use Rattle.lrc_states.specs.Acts.{last_notes, names_behind, notes_behind, Plan, 
 use Rattle.lrc_states.specs.declared.fault.StatesFault.{StatesFault}
 use Rattle.lrc_states.specs.declared.fault.StatesFault.TheVariants.{NoMemory, TooLong}
 use Rattle.lrc_states.specs.Objects.{act_or_null, labels_list, messages_list, notes_list, taken_object, truth_text}
-use Rattle.lrc_states.specs.Turns.{is_again, Turn, turns_from, turns_of}
+use Rattle.lrc_replay.specs.Turns.{is_again, Turn, turns_from, turns_of}
 
 -- ---- states
 

@@ -9,7 +9,6 @@ mod notes;
 mod objects;
 mod plan;
 mod player;
-mod replay;
 mod start;
 mod states;
 mod told;

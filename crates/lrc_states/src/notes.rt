@@ -1,5 +1,12 @@
 // The last Write to each word.
 
+ghost use Rattle.std.specs.Prelude.{◌≡◌, ◌++◌, ◌∷◌, [], ℕ, IfOk, List, OnOk};
+ghost use Rattle.std.specs.List.{flat_map};
+ghost use Rattle.std.specs.Option.{option_to_list};
+ghost use Rattle.lrc_states.specs.Acts.{note_of};
+ghost use Rattle.lrc_states.specs.Courses.{AreNotes};
+ghost use Rattle.lrc_states.specs.declared.notes.Note.{Note as AnyNote};
+
 use lrc_trace::act::Deed;
 use std::alloc::{AllocError, Global};
 
@@ -28,14 +35,18 @@ pub(crate) struct Notes {
 
 impl Notes {
     /// Nothing was written yet to so many words.
-    pub(crate) fn none(alloc: Global, words: u32) -> Result<Notes, AllocError> {
+    pub(crate) fn none(alloc: Global, words: u32) -> Result<Notes, AllocError>
+        ensures { IfOk result (AreNotes words []) }
+    {
         Ok(Notes {
             last: vec![in alloc; None; words as usize]?,
         })
     }
 
     /// Notes what a deed writes, if it writes a word.
-    pub(crate) fn note(&mut self, node: u8, deed: Deed, spot: Spot) {
+    pub(crate) fn note(&mut self, node: u8, deed: Deed, spot: Spot)
+        ensures { (words : ℕ) (all : List AnyNote) → AreNotes words all self.old → AreNotes words (all ++ note_of spot node deed) self.new }
+    {
         if let Deed::Write(word, value) = deed {
             self.keep(Note {
                 word,
@@ -46,7 +57,10 @@ impl Notes {
         }
     }
 
-    fn keep(&mut self, note: Note) {
+    // The word was written last by this.
+    fn keep(&mut self, note: Note)
+        ensures { (words : ℕ) (all : List AnyNote) → AreNotes words all self.old → AreNotes words (all ++ note ∷ []) self.new }
+    {
         let place = note.word as usize;
         if place < self.last.len() {
             self.last[place] = Some(note);
@@ -54,13 +68,24 @@ impl Notes {
     }
 
     /// The last Writes, by word.
-    pub(crate) fn all(&self, alloc: Global) -> Result<Vec<Note>, AllocError> {
+    pub(crate) fn all(&self, alloc: Global) -> Result<Vec<Note>, AllocError>
+        ensures { IfOk result (λ notes. notes.items ≡ flat_map option_to_list self.now.last.items) }
+    {
         let mut notes = Vec::new(alloc);
         for last in &self.last {
-            if let Some(note) = *last {
-                notes.push(note)?;
-            }
+            add(&mut notes, *last)?;
         }
         Ok(notes)
     }
+}
+
+// Adds a Write, if there is one.
+fn add(notes: &mut Vec<Note>, last: Option<Note>) -> Result<(), AllocError>
+    ensures { OnOk result (notes.new.items ≡ notes.old.items ++ option_to_list last) }
+{
+    match last {
+        Some(note) => notes.push(note)?,
+        None => {}
+    }
+    Ok(())
 }

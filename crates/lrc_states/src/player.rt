@@ -3,7 +3,7 @@
 use crate::course::Course;
 use crate::objects::{push_act, push_envelope, push_envelopes, truth};
 use crate::plan::Plan;
-use crate::replay::Replay;
+use lrc_replay::Replay;
 use lrc_envelope::Envelope;
 use lrc_events::push_event;
 use lrc_node::{Options, Turn};

@@ -1,6 +1,6 @@
 // From where on turns are shown.
 
-use crate::replay::Replay;
+use lrc_replay::Replay;
 use crate::told::Told;
 use lrc_exec::code::Code;
 use lrc_trace::act::Act;

@@ -29,7 +29,6 @@ pub fn states_parts(
 ) -> Result<Vec<Vec<u8>>, StatesFault>
     requires text { IsText told.text.now (program_of told.program.now) }
     requires few { told.nodes ≤ 16 }
-    requires made { (made : World) × (run_of told.program.now told.nodes told.options told.events.now ≡ Some made) }
 {
     let code = Code::new(alloc, told.program)?;
     let lines = lines_of(alloc, told.text)?;

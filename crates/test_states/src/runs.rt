@@ -13,27 +13,22 @@ struct Row {
     name: &'static str,
     text: &'static [u8],
     nodes: u8,
-    options: Options,
+    steps: u32,
+    collect: u32,
+    page: Size,
     events: &'static [u8],
     range: Range,
     told: &'static [u8],
 }
 
-const fn options(steps: u32, collect: u32, size: Size) -> Options {
-    Options {
-        steps,
-        collect,
-        first: 0,
-        size,
-    }
-}
-
-const ROWS: &[Row] = &[
+const ROWS0: &[Row] = &[
     Row {
         name: "awaited-next",
         text: b"words 1;\nlocks 1;\nacquire 0;\nrelease 0;\n",
         nodes: 3,
-        options: options(1000000, 0, Size::Words64),
+        steps: 1000000,
+        collect: 0,
+        page: Size::Words64,
         events: b"run 1\ndeliver 0\ndeliver 0\nrun 2\ndeliver 1\ndeliver 1\ndeliver 0\nrun 1\ndeliver 0\nrun 2\n",
         range: Range {
             from: None,
@@ -45,7 +40,9 @@ const ROWS: &[Row] = &[
         name: "base-come",
         text: b"words 2;\nlocks 1;\nif me == 1 {\n  acquire 0;\n  release 0;\n  [0] = 4;\n}\nbarrier;\nif me == 1 {\n  [1] = 6;\n}\nbarrier;\nx = [0];\nprint x;\n",
         nodes: 2,
-        options: options(1000000, 3, Size::Words64),
+        steps: 1000000,
+        collect: 3,
+        page: Size::Words64,
         events: b"run 0\nrun 1\nrun 0\nrun 1\ndeliver 0\ndeliver 0\ndeliver 0\ndeliver 0\nrun 1\nrun 1\nrun 1\ndeliver 0\ndeliver 0\ndeliver 0\ndeliver 0\ndeliver 0\ndeliver 0\ndeliver 0\nrun 0\nrun 1\nrun 0\nrun 1\ndeliver 0\nrun 1\ndeliver 0\ndeliver 0\ndeliver 0\nrun 0\nrun 1\ndeliver 0\ndeliver 0\nrun 1\ndeliver 0\ndeliver 0\nrun 0\nrun 1\nrun 0\n",
         range: Range {
             from: None,
@@ -57,7 +54,9 @@ const ROWS: &[Row] = &[
         name: "changes-later",
         text: b"words 130;\nlocks 1;\nif me == 0 {\n  acquire 0;\n  [0] = 3;\n  [128] = 4;\n  release 0;\n}\nbarrier;\nif me == 1 {\n  x = [0];\n  y = [128];\n}\n",
         nodes: 2,
-        options: options(1000000, 0, Size::Words64),
+        steps: 1000000,
+        collect: 0,
+        page: Size::Words64,
         events: b"run 0\nrun 1\nrun 0\nrun 1\ndeliver 0\nrun 0\nrun 0\nrun 0\nrun 0\ndeliver 0\ndeliver 0\ndeliver 0\nrun 0\nrun 1\nrun 0\nrun 1\ndeliver 0\ndeliver 0\nrun 1\ndeliver 0\ndeliver 0\nrun 1\n",
         range: Range {
             from: None,
@@ -69,7 +68,9 @@ const ROWS: &[Row] = &[
         name: "collect",
         text: b"words 1;\nlocks 0;\nif me == 1 {\n  [0] = 5;\n}\nbarrier;\nx = [0];\nprint x;\n",
         nodes: 2,
-        options: options(1000000, 1, Size::Words64),
+        steps: 1000000,
+        collect: 1,
+        page: Size::Words64,
         events: b"run 0\nrun 1\nrun 0\nrun 1\ndeliver 0\nrun 1\ndeliver 0\ndeliver 0\ndeliver 0\ndeliver 0\ndeliver 0\ndeliver 0\ndeliver 0\nrun 0\nrun 1\ndeliver 0\nrun 1\ndeliver 0\nrun 0\nrun 1\nrun 0\n",
         range: Range {
             from: None,
@@ -81,7 +82,9 @@ const ROWS: &[Row] = &[
         name: "deadlock",
         text: b"words 1;\nlocks 2;\nacquire me;\nacquire 1 - me;\n",
         nodes: 2,
-        options: options(1000000, 0, Size::Words64),
+        steps: 1000000,
+        collect: 0,
+        page: Size::Words64,
         events: b"run 0\nrun 1\nrun 0\nrun 1\ndeliver 0\ndeliver 0\ndeliver 0\ndeliver 0\n",
         range: Range {
             from: None,
@@ -93,7 +96,9 @@ const ROWS: &[Row] = &[
         name: "discard-drops",
         text: b"words 2;\nlocks 0;\n[me] = 1 + me;\nbarrier;\n[me] = 5;\nbarrier;\nx = [1 - me];\n",
         nodes: 2,
-        options: options(1000000, 1, Size::Words64),
+        steps: 1000000,
+        collect: 1,
+        page: Size::Words64,
         events: b"run 0\nrun 1\nrun 0\nrun 1\ndeliver 0\ndeliver 0\ndeliver 0\ndeliver 0\ndeliver 0\ndeliver 0\ndeliver 0\ndeliver 0\ndeliver 0\ndeliver 0\nrun 0\nrun 1\ndeliver 0\nrun 0\ndeliver 0\ndeliver 0\nrun 1\ndeliver 0\ndeliver 0\ndeliver 0\ndeliver 0\ndeliver 0\ndeliver 0\ndeliver 0\ndeliver 0\ndeliver 0\nrun 0\nrun 1\ndeliver 0\nrun 0\ndeliver 0\nrun 1\n",
         range: Range {
             from: Some(4),
@@ -105,7 +110,9 @@ const ROWS: &[Row] = &[
         name: "from-collecting",
         text: b"words 66;\nlocks 0;\nif me == 2 { [65] = 9; }\n[me] = 3;\nbarrier;\nx = [2];\n",
         nodes: 3,
-        options: options(1000000, 1, Size::Words64),
+        steps: 1000000,
+        collect: 1,
+        page: Size::Words64,
         events: b"run 0\nrun 1\nrun 2\nrun 0\nrun 1\nrun 2\nrun 0\nrun 1\nrun 2\ndeliver 0\ndeliver 0\nrun 2\ndeliver 0\ndeliver 0\ndeliver 0\ndeliver 0\ndeliver 0\ndeliver 0\ndeliver 0\ndeliver 0\ndeliver 0\ndeliver 0\ndeliver 0\ndeliver 0\ndeliver 0\ndeliver 0\nrun 0\nrun 1\nrun 2\ndeliver 0\ndeliver 0\nrun 0\ndeliver 0\ndeliver 0\nrun 1\nrun 2\n",
         range: Range {
             from: Some(11),
@@ -117,7 +124,9 @@ const ROWS: &[Row] = &[
         name: "from-past",
         text: b"# Node 1 asks for the lock while node 0 goes on after it gave it back. It is told what node 0 did up to the release, and\n# not that it wrote word 1 afterwards: it reads 1, and then 0.\nwords 2;\nlocks 1;\nif me == 0 {\n    acquire 0;\n    [0] = 1;\n    release 0;\n    [1] = 2;\n} else {\n    acquire 0;\n    x = [0];\n    y = [1];\n    release 0;\n    print x;\n    print y;\n}\n",
         nodes: 2,
-        options: options(1000000, 0, Size::Words64),
+        steps: 1000000,
+        collect: 0,
+        page: Size::Words64,
         events: b"run 0\nrun 0\nrun 0\nrun 0\nrun 0\nrun 1\nrun 1\ndeliver 0\ndeliver 0\ndeliver 0\nrun 1\ndeliver 0\ndeliver 0\nrun 1\nrun 1\nrun 1\nrun 1\nrun 1\nrun 0\n",
         range: Range {
             from: Some(14),
@@ -129,7 +138,9 @@ const ROWS: &[Row] = &[
         name: "from-to",
         text: b"# Node 1 asks for the lock while node 0 goes on after it gave it back. It is told what node 0 did up to the release, and\n# not that it wrote word 1 afterwards: it reads 1, and then 0.\nwords 2;\nlocks 1;\nif me == 0 {\n    acquire 0;\n    [0] = 1;\n    release 0;\n    [1] = 2;\n} else {\n    acquire 0;\n    x = [0];\n    y = [1];\n    release 0;\n    print x;\n    print y;\n}\n",
         nodes: 2,
-        options: options(1000000, 0, Size::Words64),
+        steps: 1000000,
+        collect: 0,
+        page: Size::Words64,
         events: b"run 0\nrun 0\nrun 0\nrun 0\nrun 0\nrun 1\nrun 1\ndeliver 0\ndeliver 0\ndeliver 0\nrun 1\ndeliver 0\ndeliver 0\nrun 1\nrun 1\nrun 1\nrun 1\nrun 1\nrun 0\n",
         range: Range {
             from: Some(6),
@@ -141,7 +152,9 @@ const ROWS: &[Row] = &[
         name: "from-zero",
         text: b"words 1;\nlocks 1;\nacquire 0;\n[0] = 1;\nrelease 0;\n",
         nodes: 2,
-        options: options(1000000, 0, Size::Words64),
+        steps: 1000000,
+        collect: 0,
+        page: Size::Words64,
         events: b"run 1\ndeliver 0\ndeliver 0\nrun 1\nrun 1\nrun 0\ndeliver 0\ndeliver 0\n",
         range: Range {
             from: Some(0),
@@ -149,11 +162,16 @@ const ROWS: &[Row] = &[
         },
         told: b"{\"nodes\":2,\"words\":1,\"locks\":1,\"page\":64,\"labels\":[],\"flight\":[{\"from\":0,\"to\":1,\"number\":0,\"bytes\":26,\"message\":\"lock-grant 0 time 0,0 news -\"},{\"from\":0,\"to\":0,\"number\":1,\"bytes\":22,\"message\":\"lock-request 0 time 1,0\"}],\"states\":[{\"time\":[1,0],\"open\":2,\"waits\":\"grant 0\",\"needs\":[],\"at\":3,\"names\":{},\"locks\":[{\"lock\":0,\"token\":\"awaited\",\"released\":null,\"next\":null,\"recent\":1}],\"episode\":0,\"manager\":{\"done\":0,\"arrived\":[],\"clean\":null},\"pages\":[],\"intervals\":[{\"interval\":\"0.1\",\"stamp\":[1,0],\"pages\":[],\"changes\":{}}],\"collected\":[0,0],\"sent\":[2,1],\"taken\":[1,1]},{\"time\":[0,1],\"open\":2,\"waits\":\"grant 0\",\"needs\":[],\"at\":3,\"names\":{},\"locks\":[{\"lock\":0,\"token\":\"awaited\",\"released\":null,\"next\":null,\"recent\":null}],\"episode\":0,\"manager\":null,\"pages\":[],\"intervals\":[{\"interval\":\"1.1\",\"stamp\":[0,1],\"pages\":[],\"changes\":{}}],\"collected\":[0,0],\"sent\":[1,0],\"taken\":[0,0]}],\"written\":[]}\n{\"turn\":4,\"event\":\"deliver 0\",\"node\":1,\"take\":{\"from\":0,\"to\":1,\"number\":0,\"bytes\":26,\"message\":\"lock-grant 0 time 0,0 news -\"},\"again\":false,\"act\":{\"position\":0,\"deed\":\"acquire 0\",\"line\":3,\"interval\":1},\"sends\":[],\"state\":{\"time\":[0,1],\"open\":2,\"waits\":\"no\",\"needs\":[],\"at\":4,\"names\":{},\"locks\":[{\"lock\":0,\"token\":\"held\",\"released\":null,\"next\":null,\"recent\":null}],\"episode\":0,\"manager\":null,\"pages\":[],\"intervals\":[],\"collected\":[0,0],\"sent\":[1,0],\"taken\":[1,0]}}\n{\"turn\":5,\"event\":\"deliver 0\",\"node\":0,\"take\":{\"from\":0,\"to\":0,\"number\":1,\"bytes\":22,\"message\":\"lock-request 0 time 1,0\"},\"again\":false,\"act\":null,\"sends\":[{\"from\":0,\"to\":1,\"number\":1,\"bytes\":23,\"message\":\"lock-forward 0 for 0 time 1,0\"}],\"state\":{\"time\":[1,0],\"open\":2,\"waits\":\"grant 0\",\"needs\":[],\"at\":3,\"names\":{},\"locks\":[{\"lock\":0,\"token\":\"awaited\",\"released\":null,\"next\":null,\"recent\":0}],\"episode\":0,\"manager\":{\"done\":0,\"arrived\":[],\"clean\":null},\"pages\":[],\"intervals\":[],\"collected\":[0,0],\"sent\":[2,2],\"taken\":[2,1]}}\n",
     },
+];
+
+const ROWS1: &[Row] = &[
     Row {
         name: "held-next",
         text: b"words 1;\nlocks 1;\nacquire 0;\nrelease 0;\n",
         nodes: 3,
-        options: options(1000000, 0, Size::Words64),
+        steps: 1000000,
+        collect: 0,
+        page: Size::Words64,
         events: b"run 0\nrun 1\ndeliver 0\ndeliver 0\nrun 0\ndeliver 0\nrun 1\n",
         range: Range {
             from: None,
@@ -165,7 +183,9 @@ const ROWS: &[Row] = &[
         name: "keeper",
         text: b"words 1;\nlocks 0;\nif me == 1 {\n  [0] = 0;\n}\nbarrier;\nx = [0];\n",
         nodes: 2,
-        options: options(1000000, 1, Size::Words64),
+        steps: 1000000,
+        collect: 1,
+        page: Size::Words64,
         events: b"run 0\nrun 1\nrun 0\nrun 1\ndeliver 0\nrun 1\ndeliver 0\ndeliver 0\ndeliver 0\ndeliver 0\ndeliver 0\ndeliver 0\ndeliver 0\nrun 0\nrun 1\ndeliver 0\nrun 1\ndeliver 0\nrun 0\n",
         range: Range {
             from: None,
@@ -177,7 +197,9 @@ const ROWS: &[Row] = &[
         name: "labels",
         text: b"#: word 0 count\n#:words 1 3 buffer\n#: lock 1 mutex # no\n#: lock 1 mutex\n#: word 0 again\nwords 5; locks 2; #: word 4 flag\nx = 1;\n",
         nodes: 1,
-        options: options(1000000, 0, Size::Words64),
+        steps: 1000000,
+        collect: 0,
+        page: Size::Words64,
         events: b"run 0\nrun 0\n",
         range: Range {
             from: None,
@@ -189,7 +211,9 @@ const ROWS: &[Row] = &[
         name: "late",
         text: b"# Node 1 asks for the lock while node 0 goes on after it gave it back. It is told what node 0 did up to the release, and\n# not that it wrote word 1 afterwards: it reads 1, and then 0.\nwords 2;\nlocks 1;\nif me == 0 {\n    acquire 0;\n    [0] = 1;\n    release 0;\n    [1] = 2;\n} else {\n    acquire 0;\n    x = [0];\n    y = [1];\n    release 0;\n    print x;\n    print y;\n}\n",
         nodes: 2,
-        options: options(1000000, 0, Size::Words64),
+        steps: 1000000,
+        collect: 0,
+        page: Size::Words64,
         events: b"run 0\nrun 0\nrun 0\nrun 0\nrun 0\nrun 1\nrun 1\ndeliver 0\ndeliver 0\ndeliver 0\nrun 1\ndeliver 0\ndeliver 0\nrun 1\nrun 1\nrun 1\nrun 1\nrun 1\nrun 0\n",
         range: Range {
             from: None,
@@ -201,7 +225,9 @@ const ROWS: &[Row] = &[
         name: "left-in-flight",
         text: b"words 1;\nlocks 0;\nbarrier;\n",
         nodes: 2,
-        options: options(1000000, 0, Size::Words64),
+        steps: 1000000,
+        collect: 0,
+        page: Size::Words64,
         events: b"run 0\nrun 1\nrepeat 0\nrepeat 0\ndeliver 1\n",
         range: Range {
             from: None,
@@ -213,7 +239,9 @@ const ROWS: &[Row] = &[
         name: "many-part",
         text: b"words 1;\nlocks 0;\nwhile 1 {\n  x = x + 1;\n}\n",
         nodes: 1,
-        options: options(2001, 0, Size::Words64),
+        steps: 2001,
+        collect: 0,
+        page: Size::Words64,
         events: b"run 0\nrun 0\nrun 0\nrun 0\nrun 0\nrun 0\nrun 0\nrun 0\nrun 0\nrun 0\nrun 0\nrun 0\nrun 0\nrun 0\nrun 0\nrun 0\nrun 0\nrun 0\nrun 0\nrun 0\nrun 0\nrun 0\nrun 0\nrun 0\nrun 0\nrun 0\nrun 0\nrun 0\nrun 0\nrun 0\nrun 0\nrun 0\nrun 0\nrun 0\nrun 0\nrun 0\nrun 0\nrun 0\nrun 0\nrun 0\nrun 0\nrun 0\nrun 0\nrun 0\nrun 0\nrun 0\nrun 0\nrun 0\nrun 0\nrun 0\nrun 0\nrun 0\nrun 0\nrun 0\nrun 0\nrun 0\nrun 0\nrun 0\nrun 0\nrun 0\nrun 0\nrun 0\nrun 0\nrun 0\nrun 0\nrun 0\nrun 0\nrun 0\nrun 0\nrun 0\nrun 0\nrun 0\nrun 0\nrun 0\nrun 0\nrun 0\nrun 0\nrun 0\nrun 0\nrun 0\nrun 0\nrun 0\nrun 0\nrun 0\nrun 0\nrun 0\nrun 0\nrun 0\nrun 0\nrun 0\nrun 0\nrun 0\nrun 0\nrun 0\nrun 0\nrun 0\nrun 0\nrun 0\nrun 0\nrun 0\nrun 0\nrun 0\nrun 0\nrun 0\nrun 0\nrun 0\nrun 0\nrun 0\nrun 0\nrun 0\nrun 0\nrun 0\nrun 0\nrun 0\nrun 0\nrun 0\nrun 0\nrun 0\nrun 0\nrun 0\nrun 0\nrun 0\nrun 0\nrun 0\nrun 0\nrun 0\nrun 0\nrun 0\nrun 0\nrun 0\nrun 0\nrun 0\nrun 0\nrun 0\nrun 0\nrun 0\nrun 0\nrun 0\nrun 0\nrun 0\nrun 0\nrun 0\nrun 0\nrun 0\nrun 0\nrun 0\nrun 0\nrun 0\nrun 0\nrun 0\nrun 0\nrun 0\nrun 0\nrun 0\nrun 0\nrun 0\nrun 0\nrun 0\nrun 0\nrun 0\nrun 0\nrun 0\nrun 0\nrun 0\nrun 0\nrun 0\nrun 0\nrun 0\nrun 0\nrun 0\nrun 0\nrun 0\nrun 0\nrun 0\nrun 0\nrun 0\nrun 0\nrun 0\nrun 0\nrun 0\nrun 0\nrun 0\nrun 0\nrun 0\nrun 0\nrun 0\nrun 0\nrun 0\nrun 0\nrun 0\nrun 0\nrun 0\nrun 0\nrun 0\nrun 0\nrun 0\nrun 0\nrun 0\nrun 0\nrun 0\nrun 0\nrun 0\nrun 0\nrun 0\nrun 0\nrun 0\nrun 0\nrun 0\nrun 0\nrun 0\nrun 0\nrun 0\nrun 0\nrun 0\nrun 0\nrun 0\nrun 0\nrun 0\nrun 0\nrun 0\nrun 0\nrun 0\nrun 0\nrun 0\nrun 0\nrun 0\nrun 0\nrun 0\nrun 0\nrun 0\nrun 0\nrun 0\nrun 0\nrun 0\nrun 0\nrun 0\nrun 0\nrun 0\nrun 0\nrun 0\nrun 0\nrun 0\nrun 0\nrun 0\nrun 0\nrun 0\nrun 0\nrun 0\nrun 0\nrun 0\nrun 0\nrun 0\nrun 0\nrun 0\nrun 0\nrun 0\nrun 0\nrun 0\nrun 0\nrun 0\nrun 0\nrun 0\nrun 0\nrun 0\nrun 0\nrun 0\nrun 0\nrun 0\nrun 0\nrun 0\nrun 0\nrun 0\nrun 0\nrun 0\nrun 0\nrun 0\nrun 0\nrun 0\nrun 0\nrun 0\nrun 0\nrun 0\nrun 0\nrun 0\nrun 0\nrun 0\nrun 0\nrun 0\nrun 0\nrun 0\nrun 0\nrun 0\nrun 0\nrun 0\nrun 0\nrun 0\nrun 0\nrun 0\nrun 0\nrun 0\nrun 0\nrun 0\nrun 0\nrun 0\nrun 0\nrun 0\nrun 0\nrun 0\nrun 0\nrun 0\nrun 0\nrun 0\nrun 0\nrun 0\nrun 0\nrun 0\nrun 0\nrun 0\nrun 0\nrun 0\nrun 0\nrun 0\nrun 0\nrun 0\nrun 0\nrun 0\nrun 0\nrun 0\nrun 0\nrun 0\nrun 0\nrun 0\nrun 0\nrun 0\nrun 0\nrun 0\nrun 0\nrun 0\nrun 0\nrun 0\nrun 0\nrun 0\nrun 0\nrun 0\nrun 0\nrun 0\nrun 0\nrun 0\nrun 0\nrun 0\nrun 0\nrun 0\nrun 0\nrun 0\nrun 0\nrun 0\nrun 0\nrun 0\nrun 0\nrun 0\nrun 0\nrun 0\nrun 0\nrun 0\nrun 0\nrun 0\nrun 0\nrun 0\nrun 0\nrun 0\nrun 0\nrun 0\nrun 0\nrun 0\nrun 0\nrun 0\nrun 0\nrun 0\nrun 0\nrun 0\nrun 0\nrun 0\nrun 0\nrun 0\nrun 0\nrun 0\nrun 0\nrun 0\nrun 0\nrun 0\nrun 0\nrun 0\nrun 0\nrun 0\nrun 0\nrun 0\nrun 0\nrun 0\nrun 0\nrun 0\nrun 0\nrun 0\nrun 0\nrun 0\nrun 0\nrun 0\nrun 0\nrun 0\nrun 0\nrun 0\nrun 0\nrun 0\nrun 0\nrun 0\nrun 0\nrun 0\nrun 0\nrun 0\nrun 0\nrun 0\nrun 0\nrun 0\nrun 0\nrun 0\nrun 0\nrun 0\nrun 0\nrun 0\nrun 0\nrun 0\nrun 0\nrun 0\nrun 0\nrun 0\nrun 0\nrun 0\nrun 0\nrun 0\nrun 0\nrun 0\nrun 0\nrun 0\nrun 0\nrun 0\nrun 0\nrun 0\nrun 0\nrun 0\nrun 0\nrun 0\nrun 0\nrun 0\nrun 0\nrun 0\nrun 0\nrun 0\nrun 0\nrun 0\nrun 0\nrun 0\nrun 0\nrun 0\nrun 0\nrun 0\nrun 0\nrun 0\nrun 0\nrun 0\nrun 0\nrun 0\nrun 0\nrun 0\nrun 0\nrun 0\nrun 0\nrun 0\nrun 0\nrun 0\nrun 0\nrun 0\nrun 0\nrun 0\nrun 0\nrun 0\nrun 0\nrun 0\nrun 0\nrun 0\nrun 0\nrun 0\nrun 0\nrun 0\nrun 0\nrun 0\nrun 0\nrun 0\nrun 0\nrun 0\nrun 0\nrun 0\nrun 0\nrun 0\nrun 0\nrun 0\nrun 0\nrun 0\nrun 0\nrun 0\nrun 0\nrun 0\nrun 0\nrun 0\nrun 0\nrun 0\nrun 0\nrun 0\nrun 0\nrun 0\nrun 0\nrun 0\nrun 0\nrun 0\nrun 0\nrun 0\nrun 0\nrun 0\nrun 0\nrun 0\nrun 0\nrun 0\nrun 0\nrun 0\nrun 0\nrun 0\nrun 0\nrun 0\nrun 0\nrun 0\nrun 0\nrun 0\nrun 0\nrun 0\nrun 0\nrun 0\nrun 0\nrun 0\nrun 0\nrun 0\nrun 0\nrun 0\nrun 0\nrun 0\nrun 0\nrun 0\nrun 0\nrun 0\nrun 0\nrun 0\nrun 0\nrun 0\nrun 0\nrun 0\nrun 0\nrun 0\nrun 0\nrun 0\nrun 0\nrun 0\nrun 0\nrun 0\nrun 0\nrun 0\nrun 0\nrun 0\nrun 0\nrun 0\nrun 0\nrun 0\nrun 0\nrun 0\nrun 0\nrun 0\nrun 0\nrun 0\nrun 0\nrun 0\nrun 0\nrun 0\nrun 0\nrun 0\nrun 0\nrun 0\nrun 0\nrun 0\nrun 0\nrun 0\nrun 0\nrun 0\nrun 0\nrun 0\nrun 0\nrun 0\nrun 0\nrun 0\nrun 0\nrun 0\nrun 0\nrun 0\nrun 0\nrun 0\nrun 0\nrun 0\nrun 0\nrun 0\nrun 0\nrun 0\nrun 0\nrun 0\nrun 0\nrun 0\nrun 0\nrun 0\nrun 0\nrun 0\nrun 0\nrun 0\nrun 0\nrun 0\nrun 0\nrun 0\nrun 0\nrun 0\nrun 0\nrun 0\nrun 0\nrun 0\nrun 0\nrun 0\nrun 0\nrun 0\nrun 0\nrun 0\nrun 0\nrun 0\nrun 0\nrun 0\nrun 0\nrun 0\nrun 0\nrun 0\nrun 0\nrun 0\nrun 0\nrun 0\nrun 0\nrun 0\nrun 0\nrun 0\nrun 0\nrun 0\nrun 0\nrun 0\nrun 0\nrun 0\nrun 0\nrun 0\nrun 0\nrun 0\nrun 0\nrun 0\nrun 0\nrun 0\nrun 0\nrun 0\nrun 0\nrun 0\nrun 0\nrun 0\nrun 0\nrun 0\nrun 0\nrun 0\nrun 0\nrun 0\nrun 0\nrun 0\nrun 0\nrun 0\nrun 0\nrun 0\nrun 0\nrun 0\nrun 0\nrun 0\nrun 0\nrun 0\nrun 0\nrun 0\nrun 0\nrun 0\nrun 0\nrun 0\nrun 0\nrun 0\nrun 0\nrun 0\nrun 0\nrun 0\nrun 0\nrun 0\nrun 0\nrun 0\nrun 0\nrun 0\nrun 0\nrun 0\nrun 0\nrun 0\nrun 0\nrun 0\nrun 0\nrun 0\nrun 0\nrun 0\nrun 0\nrun 0\nrun 0\nrun 0\nrun 0\nrun 0\nrun 0\nrun 0\nrun 0\nrun 0\nrun 0\nrun 0\nrun 0\nrun 0\nrun 0\nrun 0\nrun 0\nrun 0\nrun 0\nrun 0\nrun 0\nrun 0\nrun 0\nrun 0\nrun 0\nrun 0\nrun 0\nrun 0\nrun 0\nrun 0\nrun 0\nrun 0\nrun 0\nrun 0\nrun 0\nrun 0\nrun 0\nrun 0\nrun 0\nrun 0\nrun 0\nrun 0\nrun 0\nrun 0\nrun 0\nrun 0\nrun 0\nrun 0\nrun 0\nrun 0\nrun 0\nrun 0\nrun 0\nrun 0\nrun 0\nrun 0\nrun 0\nrun 0\nrun 0\nrun 0\nrun 0\nrun 0\nrun 0\nrun 0\nrun 0\nrun 0\nrun 0\nrun 0\nrun 0\nrun 0\nrun 0\nrun 0\nrun 0\nrun 0\nrun 0\nrun 0\nrun 0\nrun 0\nrun 0\nrun 0\nrun 0\nrun 0\nrun 0\nrun 0\nrun 0\nrun 0\nrun 0\nrun 0\nrun 0\nrun 0\nrun 0\nrun 0\nrun 0\nrun 0\nrun 0\nrun 0\nrun 0\nrun 0\nrun 0\nrun 0\nrun 0\nrun 0\nrun 0\nrun 0\nrun 0\nrun 0\nrun 0\nrun 0\nrun 0\nrun 0\nrun 0\nrun 0\nrun 0\nrun 0\nrun 0\nrun 0\nrun 0\nrun 0\nrun 0\nrun 0\nrun 0\nrun 0\nrun 0\nrun 0\nrun 0\nrun 0\nrun 0\nrun 0\nrun 0\nrun 0\nrun 0\nrun 0\nrun 0\nrun 0\nrun 0\nrun 0\nrun 0\nrun 0\nrun 0\nrun 0\nrun 0\nrun 0\nrun 0\nrun 0\nrun 0\nrun 0\nrun 0\nrun 0\nrun 0\nrun 0\nrun 0\nrun 0\nrun 0\nrun 0\nrun 0\nrun 0\nrun 0\nrun 0\nrun 0\nrun 0\nrun 0\nrun 0\nrun 0\nrun 0\nrun 0\nrun 0\nrun 0\nrun 0\nrun 0\nrun 0\nrun 0\nrun 0\nrun 0\nrun 0\nrun 0\nrun 0\nrun 0\nrun 0\nrun 0\nrun 0\nrun 0\nrun 0\nrun 0\nrun 0\nrun 0\nrun 0\nrun 0\nrun 0\nrun 0\nrun 0\nrun 0\nrun 0\nrun 0\nrun 0\nrun 0\nrun 0\nrun 0\nrun 0\nrun 0\nrun 0\nrun 0\nrun 0\nrun 0\nrun 0\nrun 0\nrun 0\nrun 0\nrun 0\nrun 0\nrun 0\nrun 0\nrun 0\nrun 0\nrun 0\nrun 0\nrun 0\nrun 0\nrun 0\nrun 0\nrun 0\nrun 0\nrun 0\nrun 0\nrun 0\nrun 0\nrun 0\nrun 0\nrun 0\nrun 0\nrun 0\nrun 0\nrun 0\nrun 0\nrun 0\nrun 0\nrun 0\nrun 0\nrun 0\nrun 0\nrun 0\nrun 0\nrun 0\nrun 0\nrun 0\nrun 0\nrun 0\nrun 0\nrun 0\nrun 0\nrun 0\nrun 0\nrun 0\nrun 0\nrun 0\nrun 0\nrun 0\nrun 0\nrun 0\nrun 0\nrun 0\nrun 0\nrun 0\nrun 0\nrun 0\nrun 0\nrun 0\nrun 0\nrun 0\nrun 0\nrun 0\nrun 0\nrun 0\nrun 0\nrun 0\nrun 0\nrun 0\nrun 0\nrun 0\nrun 0\nrun 0\nrun 0\nrun 0\nrun 0\nrun 0\nrun 0\nrun 0\nrun 0\nrun 0\nrun 0\nrun 0\nrun 0\nrun 0\nrun 0\nrun 0\nrun 0\nrun 0\nrun 0\nrun 0\nrun 0\nrun 0\nrun 0\nrun 0\nrun 0\nrun 0\nrun 0\nrun 0\nrun 0\nrun 0\nrun 0\nrun 0\nrun 0\nrun 0\nrun 0\nrun 0\nrun 0\nrun 0\nrun 0\nrun 0\nrun 0\nrun 0\nrun 0\nrun 0\nrun 0\nrun 0\nrun 0\nrun 0\nrun 0\nrun 0\nrun 0\nrun 0\nrun 0\nrun 0\nrun 0\nrun 0\nrun 0\nrun 0\nrun 0\nrun 0\nrun 0\nrun 0\nrun 0\nrun 0\nrun 0\nrun 0\nrun 0\nrun 0\nrun 0\nrun 0\nrun 0\nrun 0\nrun 0\nrun 0\nrun 0\nrun 0\nrun 0\nrun 0\nrun 0\nrun 0\nrun 0\nrun 0\nrun 0\nrun 0\nrun 0\nrun 0\nrun 0\nrun 0\nrun 0\nrun 0\nrun 0\nrun 0\nrun 0\nrun 0\nrun 0\nrun 0\nrun 0\nrun 0\nrun 0\nrun 0\nrun 0\nrun 0\nrun 0\nrun 0\nrun 0\nrun 0\nrun 0\nrun 0\nrun 0\nrun 0\nrun 0\nrun 0\nrun 0\nrun 0\nrun 0\nrun 0\nrun 0\nrun 0\nrun 0\nrun 0\nrun 0\nrun 0\nrun 0\nrun 0\nrun 0\nrun 0\nrun 0\nrun 0\nrun 0\nrun 0\nrun 0\nrun 0\nrun 0\nrun 0\nrun 0\nrun 0\nrun 0\nrun 0\nrun 0\nrun 0\nrun 0\nrun 0\nrun 0\nrun 0\nrun 0\nrun 0\nrun 0\nrun 0\nrun 0\nrun 0\nrun 0\nrun 0\nrun 0\nrun 0\nrun 0\nrun 0\nrun 0\nrun 0\nrun 0\nrun 0\nrun 0\nrun 0\nrun 0\nrun 0\nrun 0\nrun 0\nrun 0\nrun 0\nrun 0\nrun 0\nrun 0\nrun 0\nrun 0\nrun 0\nrun 0\nrun 0\nrun 0\nrun 0\nrun 0\nrun 0\nrun 0\nrun 0\nrun 0\nrun 0\nrun 0\nrun 0\nrun 0\nrun 0\nrun 0\nrun 0\nrun 0\nrun 0\nrun 0\nrun 0\nrun 0\nrun 0\nrun 0\nrun 0\nrun 0\nrun 0\nrun 0\nrun 0\nrun 0\nrun 0\nrun 0\nrun 0\nrun 0\nrun 0\nrun 0\nrun 0\nrun 0\nrun 0\nrun 0\nrun 0\nrun 0\nrun 0\nrun 0\nrun 0\nrun 0\nrun 0\nrun 0\nrun 0\nrun 0\nrun 0\nrun 0\nrun 0\nrun 0\nrun 0\nrun 0\nrun 0\nrun 0\nrun 0\nrun 0\nrun 0\nrun 0\nrun 0\nrun 0\nrun 0\nrun 0\nrun 0\nrun 0\nrun 0\nrun 0\nrun 0\nrun 0\nrun 0\nrun 0\nrun 0\nrun 0\nrun 0\nrun 0\nrun 0\nrun 0\nrun 0\nrun 0\nrun 0\nrun 0\nrun 0\nrun 0\nrun 0\nrun 0\nrun 0\nrun 0\nrun 0\nrun 0\nrun 0\nrun 0\nrun 0\nrun 0\nrun 0\nrun 0\nrun 0\nrun 0\nrun 0\nrun 0\nrun 0\nrun 0\nrun 0\nrun 0\nrun 0\nrun 0\nrun 0\nrun 0\nrun 0\nrun 0\nrun 0\nrun 0\nrun 0\nrun 0\nrun 0\nrun 0\nrun 0\nrun 0\nrun 0\nrun 0\nrun 0\nrun 0\nrun 0\nrun 0\nrun 0\nrun 0\nrun 0\nrun 0\nrun 0\nrun 0\nrun 0\nrun 0\nrun 0\nrun 0\nrun 0\nrun 0\nrun 0\nrun 0\nrun 0\nrun 0\nrun 0\nrun 0\nrun 0\nrun 0\nrun 0\nrun 0\nrun 0\nrun 0\nrun 0\nrun 0\nrun 0\nrun 0\nrun 0\nrun 0\nrun 0\nrun 0\nrun 0\nrun 0\nrun 0\nrun 0\nrun 0\nrun 0\nrun 0\nrun 0\nrun 0\nrun 0\nrun 0\nrun 0\nrun 0\nrun 0\nrun 0\nrun 0\nrun 0\nrun 0\nrun 0\nrun 0\nrun 0\nrun 0\nrun 0\nrun 0\nrun 0\nrun 0\nrun 0\nrun 0\nrun 0\nrun 0\nrun 0\nrun 0\nrun 0\nrun 0\nrun 0\nrun 0\nrun 0\nrun 0\nrun 0\nrun 0\nrun 0\nrun 0\nrun 0\nrun 0\nrun 0\nrun 0\nrun 0\nrun 0\nrun 0\nrun 0\nrun 0\nrun 0\nrun 0\nrun 0\nrun 0\nrun 0\nrun 0\nrun 0\nrun 0\nrun 0\nrun 0\nrun 0\nrun 0\nrun 0\nrun 0\nrun 0\nrun 0\nrun 0\nrun 0\nrun 0\nrun 0\nrun 0\nrun 0\nrun 0\nrun 0\nrun 0\nrun 0\nrun 0\nrun 0\nrun 0\nrun 0\nrun 0\nrun 0\nrun 0\nrun 0\nrun 0\nrun 0\nrun 0\nrun 0\nrun 0\nrun 0\nrun 0\nrun 0\nrun 0\nrun 0\nrun 0\nrun 0\nrun 0\nrun 0\nrun 0\nrun 0\nrun 0\nrun 0\nrun 0\nrun 0\nrun 0\nrun 0\nrun 0\nrun 0\nrun 0\nrun 0\nrun 0\nrun 0\nrun 0\nrun 0\nrun 0\nrun 0\nrun 0\nrun 0\nrun 0\nrun 0\nrun 0\nrun 0\nrun 0\nrun 0\nrun 0\nrun 0\nrun 0\nrun 0\nrun 0\nrun 0\nrun 0\nrun 0\nrun 0\nrun 0\nrun 0\nrun 0\nrun 0\nrun 0\nrun 0\nrun 0\nrun 0\nrun 0\nrun 0\nrun 0\nrun 0\nrun 0\nrun 0\nrun 0\nrun 0\nrun 0\nrun 0\nrun 0\nrun 0\nrun 0\nrun 0\nrun 0\nrun 0\nrun 0\nrun 0\nrun 0\nrun 0\nrun 0\nrun 0\nrun 0\nrun 0\nrun 0\nrun 0\nrun 0\nrun 0\nrun 0\nrun 0\nrun 0\nrun 0\nrun 0\nrun 0\nrun 0\nrun 0\nrun 0\nrun 0\nrun 0\nrun 0\nrun 0\nrun 0\nrun 0\nrun 0\nrun 0\nrun 0\nrun 0\nrun 0\nrun 0\nrun 0\nrun 0\nrun 0\nrun 0\nrun 0\nrun 0\nrun 0\nrun 0\nrun 0\nrun 0\nrun 0\nrun 0\nrun 0\nrun 0\nrun 0\nrun 0\nrun 0\nrun 0\nrun 0\nrun 0\nrun 0\nrun 0\nrun 0\nrun 0\nrun 0\nrun 0\nrun 0\nrun 0\nrun 0\nrun 0\nrun 0\nrun 0\nrun 0\nrun 0\nrun 0\nrun 0\nrun 0\nrun 0\nrun 0\nrun 0\nrun 0\nrun 0\nrun 0\nrun 0\nrun 0\nrun 0\nrun 0\nrun 0\nrun 0\nrun 0\nrun 0\nrun 0\nrun 0\nrun 0\nrun 0\nrun 0\nrun 0\nrun 0\nrun 0\nrun 0\nrun 0\nrun 0\nrun 0\nrun 0\nrun 0\nrun 0\nrun 0\nrun 0\nrun 0\nrun 0\nrun 0\nrun 0\nrun 0\nrun 0\nrun 0\nrun 0\nrun 0\nrun 0\nrun 0\nrun 0\nrun 0\nrun 0\nrun 0\nrun 0\nrun 0\nrun 0\nrun 0\nrun 0\nrun 0\nrun 0\nrun 0\nrun 0\nrun 0\nrun 0\nrun 0\nrun 0\nrun 0\nrun 0\nrun 0\nrun 0\nrun 0\nrun 0\nrun 0\nrun 0\nrun 0\nrun 0\nrun 0\nrun 0\nrun 0\nrun 0\nrun 0\nrun 0\nrun 0\nrun 0\nrun 0\nrun 0\nrun 0\nrun 0\nrun 0\nrun 0\nrun 0\nrun 0\nrun 0\nrun 0\nrun 0\nrun 0\nrun 0\nrun 0\nrun 0\nrun 0\nrun 0\nrun 0\nrun 0\nrun 0\nrun 0\nrun 0\nrun 0\nrun 0\nrun 0\nrun 0\nrun 0\nrun 0\nrun 0\nrun 0\nrun 0\nrun 0\nrun 0\nrun 0\nrun 0\nrun 0\nrun 0\nrun 0\nrun 0\nrun 0\nrun 0\nrun 0\nrun 0\nrun 0\nrun 0\nrun 0\nrun 0\nrun 0\nrun 0\nrun 0\nrun 0\nrun 0\nrun 0\nrun 0\nrun 0\nrun 0\nrun 0\nrun 0\nrun 0\nrun 0\nrun 0\nrun 0\nrun 0\nrun 0\nrun 0\nrun 0\nrun 0\nrun 0\nrun 0\nrun 0\nrun 0\nrun 0\nrun 0\nrun 0\nrun 0\nrun 0\nrun 0\nrun 0\nrun 0\nrun 0\nrun 0\nrun 0\nrun 0\nrun 0\nrun 0\nrun 0\nrun 0\nrun 0\nrun 0\nrun 0\nrun 0\nrun 0\nrun 0\nrun 0\nrun 0\nrun 0\nrun 0\nrun 0\nrun 0\nrun 0\nrun 0\nrun 0\nrun 0\nrun 0\nrun 0\nrun 0\nrun 0\nrun 0\nrun 0\nrun 0\nrun 0\nrun 0\nrun 0\nrun 0\nrun 0\nrun 0\nrun 0\nrun 0\nrun 0\nrun 0\nrun 0\nrun 0\nrun 0\nrun 0\nrun 0\nrun 0\nrun 0\nrun 0\nrun 0\nrun 0\nrun 0\nrun 0\nrun 0\nrun 0\nrun 0\nrun 0\nrun 0\nrun 0\nrun 0\nrun 0\nrun 0\nrun 0\nrun 0\nrun 0\nrun 0\nrun 0\nrun 0\nrun 0\nrun 0\nrun 0\nrun 0\nrun 0\nrun 0\nrun 0\nrun 0\nrun 0\nrun 0\nrun 0\nrun 0\nrun 0\nrun 0\nrun 0\nrun 0\nrun 0\nrun 0\nrun 0\nrun 0\nrun 0\nrun 0\nrun 0\nrun 0\nrun 0\nrun 0\nrun 0\nrun 0\nrun 0\nrun 0\nrun 0\nrun 0\nrun 0\nrun 0\nrun 0\nrun 0\nrun 0\nrun 0\nrun 0\nrun 0\nrun 0\nrun 0\nrun 0\nrun 0\nrun 0\nrun 0\nrun 0\nrun 0\nrun 0\nrun 0\nrun 0\nrun 0\nrun 0\nrun 0\nrun 0\nrun 0\nrun 0\nrun 0\nrun 0\nrun 0\nrun 0\nrun 0\nrun 0\nrun 0\nrun 0\nrun 0\nrun 0\nrun 0\nrun 0\nrun 0\nrun 0\nrun 0\nrun 0\nrun 0\nrun 0\nrun 0\nrun 0\nrun 0\nrun 0\nrun 0\nrun 0\nrun 0\nrun 0\nrun 0\nrun 0\nrun 0\nrun 0\nrun 0\nrun 0\nrun 0\nrun 0\nrun 0\nrun 0\nrun 0\nrun 0\nrun 0\nrun 0\nrun 0\nrun 0\nrun 0\nrun 0\nrun 0\nrun 0\nrun 0\nrun 0\nrun 0\nrun 0\nrun 0\nrun 0\nrun 0\nrun 0\nrun 0\nrun 0\nrun 0\nrun 0\nrun 0\nrun 0\nrun 0\nrun 0\nrun 0\nrun 0\nrun 0\nrun 0\nrun 0\nrun 0\nrun 0\nrun 0\nrun 0\nrun 0\nrun 0\nrun 0\nrun 0\nrun 0\nrun 0\nrun 0\nrun 0\nrun 0\nrun 0\nrun 0\nrun 0\nrun 0\nrun 0\nrun 0\nrun 0\nrun 0\nrun 0\nrun 0\nrun 0\nrun 0\nrun 0\nrun 0\nrun 0\nrun 0\nrun 0\nrun 0\nrun 0\nrun 0\nrun 0\nrun 0\nrun 0\nrun 0\nrun 0\nrun 0\nrun 0\nrun 0\nrun 0\nrun 0\nrun 0\nrun 0\nrun 0\nrun 0\nrun 0\nrun 0\nrun 0\nrun 0\nrun 0\nrun 0\nrun 0\nrun 0\nrun 0\nrun 0\nrun 0\nrun 0\nrun 0\nrun 0\nrun 0\nrun 0\nrun 0\nrun 0\nrun 0\nrun 0\nrun 0\nrun 0\nrun 0\nrun 0\nrun 0\nrun 0\nrun 0\nrun 0\nrun 0\nrun 0\nrun 0\nrun 0\nrun 0\nrun 0\nrun 0\nrun 0\nrun 0\nrun 0\nrun 0\nrun 0\nrun 0\nrun 0\nrun 0\nrun 0\nrun 0\n",
         range: Range {
             from: Some(1998),
@@ -225,7 +253,9 @@ const ROWS: &[Row] = &[
         name: "many",
         text: b"words 1;\nlocks 0;\nwhile 1 {\n  x = x + 1;\n}\n",
         nodes: 1,
-        options: options(2001, 0, Size::Words64),
+        steps: 2001,
+        collect: 0,
+        page: Size::Words64,
         events: b"run 0\nrun 0\nrun 0\nrun 0\nrun 0\nrun 0\nrun 0\nrun 0\nrun 0\nrun 0\nrun 0\nrun 0\nrun 0\nrun 0\nrun 0\nrun 0\nrun 0\nrun 0\nrun 0\nrun 0\nrun 0\nrun 0\nrun 0\nrun 0\nrun 0\nrun 0\nrun 0\nrun 0\nrun 0\nrun 0\nrun 0\nrun 0\nrun 0\nrun 0\nrun 0\nrun 0\nrun 0\nrun 0\nrun 0\nrun 0\nrun 0\nrun 0\nrun 0\nrun 0\nrun 0\nrun 0\nrun 0\nrun 0\nrun 0\nrun 0\nrun 0\nrun 0\nrun 0\nrun 0\nrun 0\nrun 0\nrun 0\nrun 0\nrun 0\nrun 0\nrun 0\nrun 0\nrun 0\nrun 0\nrun 0\nrun 0\nrun 0\nrun 0\nrun 0\nrun 0\nrun 0\nrun 0\nrun 0\nrun 0\nrun 0\nrun 0\nrun 0\nrun 0\nrun 0\nrun 0\nrun 0\nrun 0\nrun 0\nrun 0\nrun 0\nrun 0\nrun 0\nrun 0\nrun 0\nrun 0\nrun 0\nrun 0\nrun 0\nrun 0\nrun 0\nrun 0\nrun 0\nrun 0\nrun 0\nrun 0\nrun 0\nrun 0\nrun 0\nrun 0\nrun 0\nrun 0\nrun 0\nrun 0\nrun 0\nrun 0\nrun 0\nrun 0\nrun 0\nrun 0\nrun 0\nrun 0\nrun 0\nrun 0\nrun 0\nrun 0\nrun 0\nrun 0\nrun 0\nrun 0\nrun 0\nrun 0\nrun 0\nrun 0\nrun 0\nrun 0\nrun 0\nrun 0\nrun 0\nrun 0\nrun 0\nrun 0\nrun 0\nrun 0\nrun 0\nrun 0\nrun 0\nrun 0\nrun 0\nrun 0\nrun 0\nrun 0\nrun 0\nrun 0\nrun 0\nrun 0\nrun 0\nrun 0\nrun 0\nrun 0\nrun 0\nrun 0\nrun 0\nrun 0\nrun 0\nrun 0\nrun 0\nrun 0\nrun 0\nrun 0\nrun 0\nrun 0\nrun 0\nrun 0\nrun 0\nrun 0\nrun 0\nrun 0\nrun 0\nrun 0\nrun 0\nrun 0\nrun 0\nrun 0\nrun 0\nrun 0\nrun 0\nrun 0\nrun 0\nrun 0\nrun 0\nrun 0\nrun 0\nrun 0\nrun 0\nrun 0\nrun 0\nrun 0\nrun 0\nrun 0\nrun 0\nrun 0\nrun 0\nrun 0\nrun 0\nrun 0\nrun 0\nrun 0\nrun 0\nrun 0\nrun 0\nrun 0\nrun 0\nrun 0\nrun 0\nrun 0\nrun 0\nrun 0\nrun 0\nrun 0\nrun 0\nrun 0\nrun 0\nrun 0\nrun 0\nrun 0\nrun 0\nrun 0\nrun 0\nrun 0\nrun 0\nrun 0\nrun 0\nrun 0\nrun 0\nrun 0\nrun 0\nrun 0\nrun 0\nrun 0\nrun 0\nrun 0\nrun 0\nrun 0\nrun 0\nrun 0\nrun 0\nrun 0\nrun 0\nrun 0\nrun 0\nrun 0\nrun 0\nrun 0\nrun 0\nrun 0\nrun 0\nrun 0\nrun 0\nrun 0\nrun 0\nrun 0\nrun 0\nrun 0\nrun 0\nrun 0\nrun 0\nrun 0\nrun 0\nrun 0\nrun 0\nrun 0\nrun 0\nrun 0\nrun 0\nrun 0\nrun 0\nrun 0\nrun 0\nrun 0\nrun 0\nrun 0\nrun 0\nrun 0\nrun 0\nrun 0\nrun 0\nrun 0\nrun 0\nrun 0\nrun 0\nrun 0\nrun 0\nrun 0\nrun 0\nrun 0\nrun 0\nrun 0\nrun 0\nrun 0\nrun 0\nrun 0\nrun 0\nrun 0\nrun 0\nrun 0\nrun 0\nrun 0\nrun 0\nrun 0\nrun 0\nrun 0\nrun 0\nrun 0\nrun 0\nrun 0\nrun 0\nrun 0\nrun 0\nrun 0\nrun 0\nrun 0\nrun 0\nrun 0\nrun 0\nrun 0\nrun 0\nrun 0\nrun 0\nrun 0\nrun 0\nrun 0\nrun 0\nrun 0\nrun 0\nrun 0\nrun 0\nrun 0\nrun 0\nrun 0\nrun 0\nrun 0\nrun 0\nrun 0\nrun 0\nrun 0\nrun 0\nrun 0\nrun 0\nrun 0\nrun 0\nrun 0\nrun 0\nrun 0\nrun 0\nrun 0\nrun 0\nrun 0\nrun 0\nrun 0\nrun 0\nrun 0\nrun 0\nrun 0\nrun 0\nrun 0\nrun 0\nrun 0\nrun 0\nrun 0\nrun 0\nrun 0\nrun 0\nrun 0\nrun 0\nrun 0\nrun 0\nrun 0\nrun 0\nrun 0\nrun 0\nrun 0\nrun 0\nrun 0\nrun 0\nrun 0\nrun 0\nrun 0\nrun 0\nrun 0\nrun 0\nrun 0\nrun 0\nrun 0\nrun 0\nrun 0\nrun 0\nrun 0\nrun 0\nrun 0\nrun 0\nrun 0\nrun 0\nrun 0\nrun 0\nrun 0\nrun 0\nrun 0\nrun 0\nrun 0\nrun 0\nrun 0\nrun 0\nrun 0\nrun 0\nrun 0\nrun 0\nrun 0\nrun 0\nrun 0\nrun 0\nrun 0\nrun 0\nrun 0\nrun 0\nrun 0\nrun 0\nrun 0\nrun 0\nrun 0\nrun 0\nrun 0\nrun 0\nrun 0\nrun 0\nrun 0\nrun 0\nrun 0\nrun 0\nrun 0\nrun 0\nrun 0\nrun 0\nrun 0\nrun 0\nrun 0\nrun 0\nrun 0\nrun 0\nrun 0\nrun 0\nrun 0\nrun 0\nrun 0\nrun 0\nrun 0\nrun 0\nrun 0\nrun 0\nrun 0\nrun 0\nrun 0\nrun 0\nrun 0\nrun 0\nrun 0\nrun 0\nrun 0\nrun 0\nrun 0\nrun 0\nrun 0\nrun 0\nrun 0\nrun 0\nrun 0\nrun 0\nrun 0\nrun 0\nrun 0\nrun 0\nrun 0\nrun 0\nrun 0\nrun 0\nrun 0\nrun 0\nrun 0\nrun 0\nrun 0\nrun 0\nrun 0\nrun 0\nrun 0\nrun 0\nrun 0\nrun 0\nrun 0\nrun 0\nrun 0\nrun 0\nrun 0\nrun 0\nrun 0\nrun 0\nrun 0\nrun 0\nrun 0\nrun 0\nrun 0\nrun 0\nrun 0\nrun 0\nrun 0\nrun 0\nrun 0\nrun 0\nrun 0\nrun 0\nrun 0\nrun 0\nrun 0\nrun 0\nrun 0\nrun 0\nrun 0\nrun 0\nrun 0\nrun 0\nrun 0\nrun 0\nrun 0\nrun 0\nrun 0\nrun 0\nrun 0\nrun 0\nrun 0\nrun 0\nrun 0\nrun 0\nrun 0\nrun 0\nrun 0\nrun 0\nrun 0\nrun 0\nrun 0\nrun 0\nrun 0\nrun 0\nrun 0\nrun 0\nrun 0\nrun 0\nrun 0\nrun 0\nrun 0\nrun 0\nrun 0\nrun 0\nrun 0\nrun 0\nrun 0\nrun 0\nrun 0\nrun 0\nrun 0\nrun 0\nrun 0\nrun 0\nrun 0\nrun 0\nrun 0\nrun 0\nrun 0\nrun 0\nrun 0\nrun 0\nrun 0\nrun 0\nrun 0\nrun 0\nrun 0\nrun 0\nrun 0\nrun 0\nrun 0\nrun 0\nrun 0\nrun 0\nrun 0\nrun 0\nrun 0\nrun 0\nrun 0\nrun 0\nrun 0\nrun 0\nrun 0\nrun 0\nrun 0\nrun 0\nrun 0\nrun 0\nrun 0\nrun 0\nrun 0\nrun 0\nrun 0\nrun 0\nrun 0\nrun 0\nrun 0\nrun 0\nrun 0\nrun 0\nrun 0\nrun 0\nrun 0\nrun 0\nrun 0\nrun 0\nrun 0\nrun 0\nrun 0\nrun 0\nrun 0\nrun 0\nrun 0\nrun 0\nrun 0\nrun 0\nrun 0\nrun 0\nrun 0\nrun 0\nrun 0\nrun 0\nrun 0\nrun 0\nrun 0\nrun 0\nrun 0\nrun 0\nrun 0\nrun 0\nrun 0\nrun 0\nrun 0\nrun 0\nrun 0\nrun 0\nrun 0\nrun 0\nrun 0\nrun 0\nrun 0\nrun 0\nrun 0\nrun 0\nrun 0\nrun 0\nrun 0\nrun 0\nrun 0\nrun 0\nrun 0\nrun 0\nrun 0\nrun 0\nrun 0\nrun 0\nrun 0\nrun 0\nrun 0\nrun 0\nrun 0\nrun 0\nrun 0\nrun 0\nrun 0\nrun 0\nrun 0\nrun 0\nrun 0\nrun 0\nrun 0\nrun 0\nrun 0\nrun 0\nrun 0\nrun 0\nrun 0\nrun 0\nrun 0\nrun 0\nrun 0\nrun 0\nrun 0\nrun 0\nrun 0\nrun 0\nrun 0\nrun 0\nrun 0\nrun 0\nrun 0\nrun 0\nrun 0\nrun 0\nrun 0\nrun 0\nrun 0\nrun 0\nrun 0\nrun 0\nrun 0\nrun 0\nrun 0\nrun 0\nrun 0\nrun 0\nrun 0\nrun 0\nrun 0\nrun 0\nrun 0\nrun 0\nrun 0\nrun 0\nrun 0\nrun 0\nrun 0\nrun 0\nrun 0\nrun 0\nrun 0\nrun 0\nrun 0\nrun 0\nrun 0\nrun 0\nrun 0\nrun 0\nrun 0\nrun 0\nrun 0\nrun 0\nrun 0\nrun 0\nrun 0\nrun 0\nrun 0\nrun 0\nrun 0\nrun 0\nrun 0\nrun 0\nrun 0\nrun 0\nrun 0\nrun 0\nrun 0\nrun 0\nrun 0\nrun 0\nrun 0\nrun 0\nrun 0\nrun 0\nrun 0\nrun 0\nrun 0\nrun 0\nrun 0\nrun 0\nrun 0\nrun 0\nrun 0\nrun 0\nrun 0\nrun 0\nrun 0\nrun 0\nrun 0\nrun 0\nrun 0\nrun 0\nrun 0\nrun 0\nrun 0\nrun 0\nrun 0\nrun 0\nrun 0\nrun 0\nrun 0\nrun 0\nrun 0\nrun 0\nrun 0\nrun 0\nrun 0\nrun 0\nrun 0\nrun 0\nrun 0\nrun 0\nrun 0\nrun 0\nrun 0\nrun 0\nrun 0\nrun 0\nrun 0\nrun 0\nrun 0\nrun 0\nrun 0\nrun 0\nrun 0\nrun 0\nrun 0\nrun 0\nrun 0\nrun 0\nrun 0\nrun 0\nrun 0\nrun 0\nrun 0\nrun 0\nrun 0\nrun 0\nrun 0\nrun 0\nrun 0\nrun 0\nrun 0\nrun 0\nrun 0\nrun 0\nrun 0\nrun 0\nrun 0\nrun 0\nrun 0\nrun 0\nrun 0\nrun 0\nrun 0\nrun 0\nrun 0\nrun 0\nrun 0\nrun 0\nrun 0\nrun 0\nrun 0\nrun 0\nrun 0\nrun 0\nrun 0\nrun 0\nrun 0\nrun 0\nrun 0\nrun 0\nrun 0\nrun 0\nrun 0\nrun 0\nrun 0\nrun 0\nrun 0\nrun 0\nrun 0\nrun 0\nrun 0\nrun 0\nrun 0\nrun 0\nrun 0\nrun 0\nrun 0\nrun 0\nrun 0\nrun 0\nrun 0\nrun 0\nrun 0\nrun 0\nrun 0\nrun 0\nrun 0\nrun 0\nrun 0\nrun 0\nrun 0\nrun 0\nrun 0\nrun 0\nrun 0\nrun 0\nrun 0\nrun 0\nrun 0\nrun 0\nrun 0\nrun 0\nrun 0\nrun 0\nrun 0\nrun 0\nrun 0\nrun 0\nrun 0\nrun 0\nrun 0\nrun 0\nrun 0\nrun 0\nrun 0\nrun 0\nrun 0\nrun 0\nrun 0\nrun 0\nrun 0\nrun 0\nrun 0\nrun 0\nrun 0\nrun 0\nrun 0\nrun 0\nrun 0\nrun 0\nrun 0\nrun 0\nrun 0\nrun 0\nrun 0\nrun 0\nrun 0\nrun 0\nrun 0\nrun 0\nrun 0\nrun 0\nrun 0\nrun 0\nrun 0\nrun 0\nrun 0\nrun 0\nrun 0\nrun 0\nrun 0\nrun 0\nrun 0\nrun 0\nrun 0\nrun 0\nrun 0\nrun 0\nrun 0\nrun 0\nrun 0\nrun 0\nrun 0\nrun 0\nrun 0\nrun 0\nrun 0\nrun 0\nrun 0\nrun 0\nrun 0\nrun 0\nrun 0\nrun 0\nrun 0\nrun 0\nrun 0\nrun 0\nrun 0\nrun 0\nrun 0\nrun 0\nrun 0\nrun 0\nrun 0\nrun 0\nrun 0\nrun 0\nrun 0\nrun 0\nrun 0\nrun 0\nrun 0\nrun 0\nrun 0\nrun 0\nrun 0\nrun 0\nrun 0\nrun 0\nrun 0\nrun 0\nrun 0\nrun 0\nrun 0\nrun 0\nrun 0\nrun 0\nrun 0\nrun 0\nrun 0\nrun 0\nrun 0\nrun 0\nrun 0\nrun 0\nrun 0\nrun 0\nrun 0\nrun 0\nrun 0\nrun 0\nrun 0\nrun 0\nrun 0\nrun 0\nrun 0\nrun 0\nrun 0\nrun 0\nrun 0\nrun 0\nrun 0\nrun 0\nrun 0\nrun 0\nrun 0\nrun 0\nrun 0\nrun 0\nrun 0\nrun 0\nrun 0\nrun 0\nrun 0\nrun 0\nrun 0\nrun 0\nrun 0\nrun 0\nrun 0\nrun 0\nrun 0\nrun 0\nrun 0\nrun 0\nrun 0\nrun 0\nrun 0\nrun 0\nrun 0\nrun 0\nrun 0\nrun 0\nrun 0\nrun 0\nrun 0\nrun 0\nrun 0\nrun 0\nrun 0\nrun 0\nrun 0\nrun 0\nrun 0\nrun 0\nrun 0\nrun 0\nrun 0\nrun 0\nrun 0\nrun 0\nrun 0\nrun 0\nrun 0\nrun 0\nrun 0\nrun 0\nrun 0\nrun 0\nrun 0\nrun 0\nrun 0\nrun 0\nrun 0\nrun 0\nrun 0\nrun 0\nrun 0\nrun 0\nrun 0\nrun 0\nrun 0\nrun 0\nrun 0\nrun 0\nrun 0\nrun 0\nrun 0\nrun 0\nrun 0\nrun 0\nrun 0\nrun 0\nrun 0\nrun 0\nrun 0\nrun 0\nrun 0\nrun 0\nrun 0\nrun 0\nrun 0\nrun 0\nrun 0\nrun 0\nrun 0\nrun 0\nrun 0\nrun 0\nrun 0\nrun 0\nrun 0\nrun 0\nrun 0\nrun 0\nrun 0\nrun 0\nrun 0\nrun 0\nrun 0\nrun 0\nrun 0\nrun 0\nrun 0\nrun 0\nrun 0\nrun 0\nrun 0\nrun 0\nrun 0\nrun 0\nrun 0\nrun 0\nrun 0\nrun 0\nrun 0\nrun 0\nrun 0\nrun 0\nrun 0\nrun 0\nrun 0\nrun 0\nrun 0\nrun 0\nrun 0\nrun 0\nrun 0\nrun 0\nrun 0\nrun 0\nrun 0\nrun 0\nrun 0\nrun 0\nrun 0\nrun 0\nrun 0\nrun 0\nrun 0\nrun 0\nrun 0\nrun 0\nrun 0\nrun 0\nrun 0\nrun 0\nrun 0\nrun 0\nrun 0\nrun 0\nrun 0\nrun 0\nrun 0\nrun 0\nrun 0\nrun 0\nrun 0\nrun 0\nrun 0\nrun 0\nrun 0\nrun 0\nrun 0\nrun 0\nrun 0\nrun 0\nrun 0\nrun 0\nrun 0\nrun 0\nrun 0\nrun 0\nrun 0\nrun 0\nrun 0\nrun 0\nrun 0\nrun 0\nrun 0\nrun 0\nrun 0\nrun 0\nrun 0\nrun 0\nrun 0\nrun 0\nrun 0\nrun 0\nrun 0\nrun 0\nrun 0\nrun 0\nrun 0\nrun 0\nrun 0\nrun 0\nrun 0\nrun 0\nrun 0\nrun 0\nrun 0\nrun 0\nrun 0\nrun 0\nrun 0\nrun 0\nrun 0\nrun 0\nrun 0\nrun 0\nrun 0\nrun 0\nrun 0\nrun 0\nrun 0\nrun 0\nrun 0\nrun 0\nrun 0\nrun 0\nrun 0\nrun 0\nrun 0\nrun 0\nrun 0\nrun 0\nrun 0\nrun 0\nrun 0\nrun 0\nrun 0\nrun 0\nrun 0\nrun 0\nrun 0\nrun 0\nrun 0\nrun 0\nrun 0\nrun 0\nrun 0\nrun 0\nrun 0\nrun 0\nrun 0\nrun 0\nrun 0\nrun 0\nrun 0\nrun 0\nrun 0\nrun 0\nrun 0\nrun 0\nrun 0\nrun 0\nrun 0\nrun 0\nrun 0\nrun 0\nrun 0\nrun 0\nrun 0\nrun 0\nrun 0\nrun 0\nrun 0\nrun 0\nrun 0\nrun 0\nrun 0\nrun 0\nrun 0\nrun 0\nrun 0\nrun 0\nrun 0\nrun 0\nrun 0\nrun 0\nrun 0\nrun 0\nrun 0\nrun 0\nrun 0\nrun 0\nrun 0\nrun 0\nrun 0\nrun 0\nrun 0\nrun 0\nrun 0\nrun 0\nrun 0\nrun 0\nrun 0\nrun 0\nrun 0\nrun 0\nrun 0\nrun 0\nrun 0\nrun 0\nrun 0\nrun 0\nrun 0\nrun 0\nrun 0\nrun 0\nrun 0\nrun 0\nrun 0\nrun 0\nrun 0\nrun 0\nrun 0\nrun 0\nrun 0\nrun 0\nrun 0\nrun 0\nrun 0\nrun 0\nrun 0\nrun 0\nrun 0\nrun 0\nrun 0\nrun 0\nrun 0\nrun 0\nrun 0\nrun 0\nrun 0\nrun 0\nrun 0\nrun 0\nrun 0\nrun 0\nrun 0\nrun 0\nrun 0\nrun 0\nrun 0\nrun 0\nrun 0\nrun 0\nrun 0\nrun 0\nrun 0\nrun 0\nrun 0\nrun 0\nrun 0\nrun 0\nrun 0\nrun 0\nrun 0\nrun 0\nrun 0\nrun 0\nrun 0\nrun 0\nrun 0\nrun 0\nrun 0\nrun 0\nrun 0\nrun 0\nrun 0\nrun 0\nrun 0\nrun 0\nrun 0\nrun 0\nrun 0\nrun 0\nrun 0\nrun 0\nrun 0\nrun 0\nrun 0\nrun 0\nrun 0\nrun 0\nrun 0\nrun 0\nrun 0\nrun 0\nrun 0\nrun 0\nrun 0\nrun 0\nrun 0\nrun 0\nrun 0\nrun 0\nrun 0\nrun 0\nrun 0\nrun 0\nrun 0\nrun 0\nrun 0\nrun 0\nrun 0\nrun 0\nrun 0\nrun 0\nrun 0\nrun 0\nrun 0\nrun 0\nrun 0\nrun 0\nrun 0\nrun 0\nrun 0\nrun 0\nrun 0\nrun 0\nrun 0\nrun 0\nrun 0\nrun 0\nrun 0\nrun 0\nrun 0\nrun 0\nrun 0\nrun 0\nrun 0\nrun 0\nrun 0\nrun 0\nrun 0\nrun 0\nrun 0\nrun 0\nrun 0\nrun 0\nrun 0\nrun 0\nrun 0\nrun 0\nrun 0\nrun 0\nrun 0\nrun 0\nrun 0\nrun 0\nrun 0\nrun 0\nrun 0\nrun 0\nrun 0\nrun 0\nrun 0\nrun 0\nrun 0\nrun 0\nrun 0\nrun 0\nrun 0\nrun 0\nrun 0\nrun 0\nrun 0\nrun 0\nrun 0\nrun 0\nrun 0\nrun 0\nrun 0\nrun 0\nrun 0\nrun 0\nrun 0\nrun 0\nrun 0\nrun 0\nrun 0\nrun 0\nrun 0\nrun 0\nrun 0\nrun 0\nrun 0\nrun 0\nrun 0\nrun 0\nrun 0\nrun 0\nrun 0\nrun 0\nrun 0\nrun 0\nrun 0\nrun 0\nrun 0\nrun 0\nrun 0\nrun 0\nrun 0\nrun 0\nrun 0\nrun 0\nrun 0\nrun 0\nrun 0\nrun 0\nrun 0\nrun 0\nrun 0\nrun 0\nrun 0\nrun 0\nrun 0\nrun 0\nrun 0\nrun 0\nrun 0\nrun 0\nrun 0\nrun 0\nrun 0\nrun 0\nrun 0\nrun 0\nrun 0\nrun 0\nrun 0\nrun 0\nrun 0\nrun 0\nrun 0\nrun 0\nrun 0\nrun 0\nrun 0\nrun 0\nrun 0\nrun 0\nrun 0\nrun 0\nrun 0\nrun 0\nrun 0\nrun 0\nrun 0\nrun 0\nrun 0\nrun 0\nrun 0\nrun 0\nrun 0\nrun 0\nrun 0\nrun 0\nrun 0\nrun 0\nrun 0\nrun 0\nrun 0\nrun 0\nrun 0\nrun 0\nrun 0\nrun 0\nrun 0\nrun 0\nrun 0\nrun 0\nrun 0\nrun 0\nrun 0\nrun 0\nrun 0\nrun 0\nrun 0\nrun 0\nrun 0\nrun 0\nrun 0\nrun 0\nrun 0\nrun 0\nrun 0\nrun 0\nrun 0\nrun 0\nrun 0\nrun 0\nrun 0\nrun 0\nrun 0\nrun 0\nrun 0\nrun 0\nrun 0\nrun 0\nrun 0\nrun 0\nrun 0\nrun 0\nrun 0\nrun 0\nrun 0\nrun 0\nrun 0\nrun 0\nrun 0\nrun 0\nrun 0\nrun 0\nrun 0\nrun 0\nrun 0\nrun 0\nrun 0\nrun 0\nrun 0\nrun 0\nrun 0\nrun 0\nrun 0\nrun 0\nrun 0\nrun 0\nrun 0\nrun 0\nrun 0\nrun 0\nrun 0\nrun 0\nrun 0\nrun 0\nrun 0\nrun 0\nrun 0\nrun 0\nrun 0\nrun 0\nrun 0\nrun 0\nrun 0\nrun 0\nrun 0\nrun 0\nrun 0\nrun 0\nrun 0\nrun 0\nrun 0\nrun 0\nrun 0\nrun 0\nrun 0\nrun 0\nrun 0\nrun 0\nrun 0\nrun 0\nrun 0\nrun 0\nrun 0\nrun 0\nrun 0\nrun 0\nrun 0\nrun 0\nrun 0\nrun 0\nrun 0\nrun 0\nrun 0\nrun 0\nrun 0\nrun 0\nrun 0\nrun 0\nrun 0\nrun 0\nrun 0\nrun 0\nrun 0\nrun 0\nrun 0\nrun 0\nrun 0\nrun 0\nrun 0\nrun 0\nrun 0\nrun 0\nrun 0\nrun 0\nrun 0\nrun 0\nrun 0\nrun 0\nrun 0\nrun 0\nrun 0\nrun 0\nrun 0\nrun 0\nrun 0\nrun 0\nrun 0\nrun 0\nrun 0\nrun 0\nrun 0\nrun 0\nrun 0\nrun 0\nrun 0\nrun 0\nrun 0\nrun 0\nrun 0\nrun 0\nrun 0\nrun 0\nrun 0\nrun 0\nrun 0\nrun 0\nrun 0\nrun 0\nrun 0\nrun 0\nrun 0\nrun 0\nrun 0\nrun 0\nrun 0\nrun 0\nrun 0\nrun 0\nrun 0\nrun 0\nrun 0\nrun 0\nrun 0\nrun 0\nrun 0\nrun 0\nrun 0\nrun 0\nrun 0\nrun 0\nrun 0\nrun 0\nrun 0\nrun 0\nrun 0\nrun 0\nrun 0\nrun 0\nrun 0\nrun 0\nrun 0\nrun 0\nrun 0\nrun 0\nrun 0\nrun 0\nrun 0\nrun 0\nrun 0\nrun 0\nrun 0\nrun 0\nrun 0\nrun 0\nrun 0\nrun 0\nrun 0\nrun 0\nrun 0\nrun 0\nrun 0\nrun 0\nrun 0\nrun 0\nrun 0\nrun 0\nrun 0\nrun 0\nrun 0\nrun 0\nrun 0\nrun 0\nrun 0\nrun 0\nrun 0\nrun 0\nrun 0\nrun 0\nrun 0\nrun 0\nrun 0\nrun 0\nrun 0\nrun 0\nrun 0\nrun 0\nrun 0\nrun 0\nrun 0\nrun 0\nrun 0\nrun 0\nrun 0\nrun 0\nrun 0\nrun 0\nrun 0\nrun 0\nrun 0\nrun 0\nrun 0\nrun 0\nrun 0\nrun 0\nrun 0\nrun 0\nrun 0\nrun 0\nrun 0\nrun 0\nrun 0\nrun 0\nrun 0\nrun 0\nrun 0\nrun 0\nrun 0\nrun 0\nrun 0\nrun 0\nrun 0\nrun 0\nrun 0\nrun 0\nrun 0\nrun 0\nrun 0\nrun 0\nrun 0\nrun 0\nrun 0\nrun 0\nrun 0\nrun 0\nrun 0\nrun 0\nrun 0\nrun 0\nrun 0\nrun 0\nrun 0\nrun 0\nrun 0\nrun 0\nrun 0\nrun 0\nrun 0\nrun 0\nrun 0\nrun 0\nrun 0\nrun 0\nrun 0\nrun 0\nrun 0\nrun 0\nrun 0\nrun 0\nrun 0\nrun 0\nrun 0\nrun 0\nrun 0\nrun 0\nrun 0\nrun 0\nrun 0\nrun 0\nrun 0\nrun 0\nrun 0\nrun 0\nrun 0\nrun 0\nrun 0\nrun 0\nrun 0\nrun 0\nrun 0\nrun 0\nrun 0\nrun 0\nrun 0\nrun 0\nrun 0\nrun 0\nrun 0\nrun 0\nrun 0\nrun 0\nrun 0\nrun 0\nrun 0\nrun 0\nrun 0\nrun 0\nrun 0\nrun 0\nrun 0\nrun 0\nrun 0\nrun 0\nrun 0\nrun 0\nrun 0\nrun 0\nrun 0\nrun 0\nrun 0\nrun 0\nrun 0\nrun 0\nrun 0\nrun 0\nrun 0\nrun 0\nrun 0\nrun 0\nrun 0\nrun 0\nrun 0\nrun 0\nrun 0\nrun 0\nrun 0\nrun 0\nrun 0\nrun 0\nrun 0\nrun 0\nrun 0\nrun 0\n",
         range: Range {
             from: None,
@@ -237,7 +267,9 @@ const ROWS: &[Row] = &[
         name: "nothing",
         text: b"words 1;\nlocks 0;\nif me == 0 {\n  [0] = 5;\n} else {\n  x = [0];\n  print x;\n}\n",
         nodes: 2,
-        options: options(1000000, 0, Size::Words64),
+        steps: 1000000,
+        collect: 0,
+        page: Size::Words64,
         events: b"deliver 0\nrun 5\n",
         range: Range {
             from: None,
@@ -249,7 +281,9 @@ const ROWS: &[Row] = &[
         name: "pages-256",
         text: b"words 600;\nlocks 0;\n[255] = 1;\n[256] = 2;\n[599] = 3;\nbarrier;\n",
         nodes: 1,
-        options: options(1000000, 0, Size::Words256),
+        steps: 1000000,
+        collect: 0,
+        page: Size::Words256,
         events: b"run 0\nrun 0\nrun 0\nrun 0\ndeliver 0\ndeliver 0\nrun 0\n",
         range: Range {
             from: None,
@@ -261,7 +295,9 @@ const ROWS: &[Row] = &[
         name: "race",
         text: b"words 1;\nlocks 0;\nif me == 0 {\n  [0] = 5;\n} else {\n  x = [0];\n  print x;\n}\n",
         nodes: 2,
-        options: options(1000000, 0, Size::Words64),
+        steps: 1000000,
+        collect: 0,
+        page: Size::Words64,
         events: b"run 0\nrun 1\nrun 0\nrun 1\nrun 0\nrun 1\nrun 1\n",
         range: Range {
             from: None,
@@ -273,7 +309,9 @@ const ROWS: &[Row] = &[
         name: "repeats",
         text: b"words 1;\nlocks 1;\nacquire 0;\nx = [0];\n[0] = x + 1;\nrelease 0;\n",
         nodes: 2,
-        options: options(1000000, 0, Size::Words64),
+        steps: 1000000,
+        collect: 0,
+        page: Size::Words64,
         events: b"run 0\nrun 1\nrepeat 0\nrun 0\ndeliver 0\nrepeat 0\nrun 0\ndeliver 0\nrun 0\nrepeat 0\nrun 0\nrun 1\ndeliver 0\nrepeat 0\ndeliver 0\nrepeat 0\nrun 1\ndeliver 0\nrun 1\nrun 1\n",
         range: Range {
             from: Some(2),
@@ -285,7 +323,9 @@ const ROWS: &[Row] = &[
         name: "sharing",
         text: b"words 2;\nlocks 0;\n[me] = 10 + me;\nbarrier;\nx = [0];\ny = [1];\nprint x;\nprint y;\n",
         nodes: 2,
-        options: options(1000000, 0, Size::Words64),
+        steps: 1000000,
+        collect: 0,
+        page: Size::Words64,
         events: b"run 0\nrun 1\nrun 0\nrun 1\ndeliver 0\ndeliver 0\ndeliver 0\ndeliver 0\nrun 0\nrun 1\ndeliver 0\ndeliver 0\ndeliver 0\ndeliver 0\nrun 0\nrun 1\nrun 0\nrun 1\nrun 0\nrun 1\nrun 0\nrun 1\n",
         range: Range {
             from: None,
@@ -293,11 +333,16 @@ const ROWS: &[Row] = &[
         },
         told: b"{\"nodes\":2,\"words\":2,\"locks\":0,\"page\":64,\"labels\":[],\"flight\":[],\"states\":[{\"time\":[0,0],\"open\":1,\"waits\":\"no\",\"needs\":[],\"at\":3,\"names\":{},\"locks\":[],\"episode\":0,\"manager\":{\"done\":0,\"arrived\":[],\"clean\":null},\"pages\":[],\"intervals\":[],\"collected\":[0,0],\"sent\":[0,0],\"taken\":[0,0]},{\"time\":[0,0],\"open\":1,\"waits\":\"no\",\"needs\":[],\"at\":3,\"names\":{},\"locks\":[],\"episode\":0,\"manager\":null,\"pages\":[],\"intervals\":[],\"collected\":[0,0],\"sent\":[0,0],\"taken\":[0,0]}],\"written\":[]}\n{\"turn\":0,\"event\":\"run 0\",\"node\":0,\"take\":null,\"again\":false,\"act\":{\"position\":0,\"deed\":\"write 0 10\",\"line\":3,\"interval\":1},\"sends\":[],\"state\":{\"time\":[0,0],\"open\":1,\"waits\":\"no\",\"needs\":[],\"at\":4,\"names\":{},\"locks\":[],\"episode\":0,\"manager\":{\"done\":0,\"arrived\":[],\"clean\":null},\"pages\":[{\"page\":0,\"copy\":\"written\",\"words\":{\"0\":\"10\"},\"twin\":{},\"since\":null,\"lacks\":[],\"keeper\":0,\"base\":null}],\"intervals\":[],\"collected\":[0,0],\"sent\":[0,0],\"taken\":[0,0]}}\n{\"turn\":1,\"event\":\"run 1\",\"node\":1,\"take\":null,\"again\":false,\"act\":{\"position\":1,\"deed\":\"write 1 11\",\"line\":3,\"interval\":1},\"sends\":[],\"state\":{\"time\":[0,0],\"open\":1,\"waits\":\"no\",\"needs\":[],\"at\":4,\"names\":{},\"locks\":[],\"episode\":0,\"manager\":null,\"pages\":[{\"page\":0,\"copy\":\"written\",\"words\":{\"1\":\"11\"},\"twin\":{},\"since\":null,\"lacks\":[],\"keeper\":0,\"base\":null}],\"intervals\":[],\"collected\":[0,0],\"sent\":[0,0],\"taken\":[0,0]}}\n{\"turn\":2,\"event\":\"run 0\",\"node\":0,\"take\":null,\"again\":false,\"act\":{\"position\":2,\"deed\":\"arrive\",\"line\":4,\"interval\":1},\"sends\":[{\"from\":0,\"to\":0,\"number\":0,\"bytes\":44,\"message\":\"arrive 1 time 1,0 news 0.1[0]\"}],\"state\":{\"time\":[1,0],\"open\":2,\"waits\":\"depart 1\",\"needs\":[],\"at\":4,\"names\":{},\"locks\":[],\"episode\":1,\"manager\":{\"done\":0,\"arrived\":[],\"clean\":null},\"pages\":[{\"page\":0,\"copy\":\"valid\",\"words\":{\"0\":\"10\"},\"twin\":null,\"since\":null,\"lacks\":[],\"keeper\":0,\"base\":null}],\"intervals\":[{\"interval\":\"0.1\",\"stamp\":[1,0],\"pages\":[0],\"changes\":{\"0\":{\"0\":\"10\"}}}],\"collected\":[0,0],\"sent\":[1,0],\"taken\":[0,0]}}\n{\"turn\":3,\"event\":\"run 1\",\"node\":1,\"take\":null,\"again\":false,\"act\":{\"position\":3,\"deed\":\"arrive\",\"line\":4,\"interval\":1},\"sends\":[{\"from\":1,\"to\":0,\"number\":0,\"bytes\":44,\"message\":\"arrive 1 time 0,1 news 1.1[0]\"}],\"state\":{\"time\":[0,1],\"open\":2,\"waits\":\"depart 1\",\"needs\":[],\"at\":4,\"names\":{},\"locks\":[],\"episode\":1,\"manager\":null,\"pages\":[{\"page\":0,\"copy\":\"valid\",\"words\":{\"1\":\"11\"},\"twin\":null,\"since\":null,\"lacks\":[],\"keeper\":0,\"base\":null}],\"intervals\":[{\"interval\":\"1.1\",\"stamp\":[0,1],\"pages\":[0],\"changes\":{\"0\":{\"1\":\"11\"}}}],\"collected\":[0,0],\"sent\":[1,0],\"taken\":[0,0]}}\n{\"turn\":4,\"event\":\"deliver 0\",\"node\":0,\"take\":{\"from\":0,\"to\":0,\"number\":0,\"bytes\":44,\"message\":\"arrive 1 time 1,0 news 0.1[0]\"},\"again\":false,\"act\":null,\"sends\":[],\"state\":{\"time\":[1,0],\"open\":2,\"waits\":\"depart 1\",\"needs\":[],\"at\":4,\"names\":{},\"locks\":[],\"episode\":1,\"manager\":{\"done\":0,\"arrived\":[0],\"clean\":null},\"pages\":[{\"page\":0,\"copy\":\"valid\",\"words\":{\"0\":\"10\"},\"twin\":null,\"since\":null,\"lacks\":[],\"keeper\":0,\"base\":null}],\"intervals\":[],\"collected\":[0,0],\"sent\":[1,0],\"taken\":[1,0]}}\n{\"turn\":5,\"event\":\"deliver 0\",\"node\":0,\"take\":{\"from\":1,\"to\":0,\"number\":0,\"bytes\":44,\"message\":\"arrive 1 time 0,1 news 1.1[0]\"},\"again\":false,\"act\":null,\"sends\":[{\"from\":0,\"to\":0,\"number\":1,\"bytes\":44,\"message\":\"depart 1 time 1,1 news 1.1[0]\"},{\"from\":0,\"to\":1,\"number\":0,\"bytes\":44,\"message\":\"depart 1 time 1,1 news 0.1[0]\"}],\"state\":{\"time\":[1,0],\"open\":2,\"waits\":\"depart 1\",\"needs\":[],\"at\":4,\"names\":{},\"locks\":[],\"episode\":1,\"manager\":{\"done\":1,\"arrived\":[],\"clean\":null},\"pages\":[{\"page\":0,\"copy\":\"valid\",\"words\":{\"0\":\"10\"},\"twin\":null,\"since\":null,\"lacks\":[],\"keeper\":0,\"base\":null}],\"intervals\":[],\"collected\":[0,0],\"sent\":[2,1],\"taken\":[1,1]}}\n{\"turn\":6,\"event\":\"deliver 0\",\"node\":0,\"take\":{\"from\":0,\"to\":0,\"number\":1,\"bytes\":44,\"message\":\"depart 1 time 1,1 news 1.1[0]\"},\"again\":false,\"act\":{\"position\":4,\"deed\":\"depart\",\"line\":4,\"interval\":2},\"sends\":[],\"state\":{\"time\":[1,1],\"open\":2,\"waits\":\"no\",\"needs\":[],\"at\":5,\"names\":{},\"locks\":[],\"episode\":1,\"manager\":{\"done\":1,\"arrived\":[],\"clean\":null},\"pages\":[{\"page\":0,\"copy\":\"invalid\",\"words\":{\"0\":\"10\"},\"twin\":null,\"since\":[1,0],\"lacks\":[\"1.1\"],\"keeper\":0,\"base\":null}],\"intervals\":[{\"interval\":\"1.1\",\"stamp\":[0,1],\"pages\":[0],\"changes\":{}}],\"collected\":[0,0],\"sent\":[2,1],\"taken\":[2,1]}}\n{\"turn\":7,\"event\":\"deliver 0\",\"node\":1,\"take\":{\"from\":0,\"to\":1,\"number\":0,\"bytes\":44,\"message\":\"depart 1 time 1,1 news 0.1[0]\"},\"again\":false,\"act\":{\"position\":5,\"deed\":\"depart\",\"line\":4,\"interval\":2},\"sends\":[],\"state\":{\"time\":[1,1],\"open\":2,\"waits\":\"no\",\"needs\":[],\"at\":5,\"names\":{},\"locks\":[],\"episode\":1,\"manager\":null,\"pages\":[{\"page\":0,\"copy\":\"invalid\",\"words\":{\"1\":\"11\"},\"twin\":null,\"since\":[0,1],\"lacks\":[\"0.1\"],\"keeper\":0,\"base\":null}],\"intervals\":[{\"interval\":\"0.1\",\"stamp\":[1,0],\"pages\":[0],\"changes\":{}}],\"collected\":[0,0],\"sent\":[1,0],\"taken\":[1,0]}}\n{\"turn\":8,\"event\":\"run 0\",\"node\":0,\"take\":null,\"again\":false,\"act\":null,\"sends\":[{\"from\":0,\"to\":1,\"number\":1,\"bytes\":22,\"message\":\"changes-request page 0 intervals 1\"}],\"state\":{\"time\":[1,1],\"open\":2,\"waits\":\"page 0\",\"needs\":[{\"page\":0,\"base\":\"unneeded\",\"changes\":[\"1.1\"]}],\"at\":5,\"names\":{},\"locks\":[],\"episode\":1,\"manager\":{\"done\":1,\"arrived\":[],\"clean\":null},\"pages\":[{\"page\":0,\"copy\":\"invalid\",\"words\":{\"0\":\"10\"},\"twin\":null,\"since\":[1,0],\"lacks\":[\"1.1\"],\"keeper\":0,\"base\":null}],\"intervals\":[],\"collected\":[0,0],\"sent\":[2,2],\"taken\":[2,1]}}\n{\"turn\":9,\"event\":\"run 1\",\"node\":1,\"take\":null,\"again\":false,\"act\":null,\"sends\":[{\"from\":1,\"to\":0,\"number\":1,\"bytes\":22,\"message\":\"changes-request page 0 intervals 1\"}],\"state\":{\"time\":[1,1],\"open\":2,\"waits\":\"page 0\",\"needs\":[{\"page\":0,\"base\":\"unneeded\",\"changes\":[\"0.1\"]}],\"at\":5,\"names\":{},\"locks\":[],\"episode\":1,\"manager\":null,\"pages\":[{\"page\":0,\"copy\":\"invalid\",\"words\":{\"1\":\"11\"},\"twin\":null,\"since\":[0,1],\"lacks\":[\"0.1\"],\"keeper\":0,\"base\":null}],\"intervals\":[],\"collected\":[0,0],\"sent\":[2,0],\"taken\":[1,0]}}\n{\"turn\":10,\"event\":\"deliver 0\",\"node\":1,\"take\":{\"from\":0,\"to\":1,\"number\":1,\"bytes\":22,\"message\":\"changes-request page 0 intervals 1\"},\"again\":false,\"act\":null,\"sends\":[{\"from\":1,\"to\":0,\"number\":2,\"bytes\":34,\"message\":\"changes-reply page 0 changes 1[1=11]\"}],\"state\":{\"time\":[1,1],\"open\":2,\"waits\":\"page 0\",\"needs\":[{\"page\":0,\"base\":\"unneeded\",\"changes\":[\"0.1\"]}],\"at\":5,\"names\":{},\"locks\":[],\"episode\":1,\"manager\":null,\"pages\":[{\"page\":0,\"copy\":\"invalid\",\"words\":{\"1\":\"11\"},\"twin\":null,\"since\":[0,1],\"lacks\":[\"0.1\"],\"keeper\":0,\"base\":null}],\"intervals\":[],\"collected\":[0,0],\"sent\":[3,0],\"taken\":[2,0]}}\n{\"turn\":11,\"event\":\"deliver 0\",\"node\":0,\"take\":{\"from\":1,\"to\":0,\"number\":1,\"bytes\":22,\"message\":\"changes-request page 0 intervals 1\"},\"again\":false,\"act\":null,\"sends\":[{\"from\":0,\"to\":1,\"number\":2,\"bytes\":34,\"message\":\"changes-reply page 0 changes 1[0=10]\"}],\"state\":{\"time\":[1,1],\"open\":2,\"waits\":\"page 0\",\"needs\":[{\"page\":0,\"base\":\"unneeded\",\"changes\":[\"1.1\"]}],\"at\":5,\"names\":{},\"locks\":[],\"episode\":1,\"manager\":{\"done\":1,\"arrived\":[],\"clean\":null},\"pages\":[{\"page\":0,\"copy\":\"invalid\",\"words\":{\"0\":\"10\"},\"twin\":null,\"since\":[1,0],\"lacks\":[\"1.1\"],\"keeper\":0,\"base\":null}],\"intervals\":[],\"collected\":[0,0],\"sent\":[2,3],\"taken\":[2,2]}}\n{\"turn\":12,\"event\":\"deliver 0\",\"node\":0,\"take\":{\"from\":1,\"to\":0,\"number\":2,\"bytes\":34,\"message\":\"changes-reply page 0 changes 1[1=11]\"},\"again\":false,\"act\":{\"position\":6,\"deed\":\"read 0 10\",\"line\":5,\"interval\":2},\"sends\":[],\"state\":{\"time\":[1,1],\"open\":2,\"waits\":\"no\",\"needs\":[],\"at\":6,\"names\":{\"x\":\"10\"},\"locks\":[],\"episode\":1,\"manager\":{\"done\":1,\"arrived\":[],\"clean\":null},\"pages\":[{\"page\":0,\"copy\":\"valid\",\"words\":{\"0\":\"10\",\"1\":\"11\"},\"twin\":null,\"since\":null,\"lacks\":[],\"keeper\":0,\"base\":null}],\"intervals\":[{\"interval\":\"1.1\",\"stamp\":[0,1],\"pages\":[0],\"changes\":{\"0\":{\"1\":\"11\"}}}],\"collected\":[0,0],\"sent\":[2,3],\"taken\":[2,3]}}\n{\"turn\":13,\"event\":\"deliver 0\",\"node\":1,\"take\":{\"from\":0,\"to\":1,\"number\":2,\"bytes\":34,\"message\":\"changes-reply page 0 changes 1[0=10]\"},\"again\":false,\"act\":{\"position\":7,\"deed\":\"read 0 10\",\"line\":5,\"interval\":2},\"sends\":[],\"state\":{\"time\":[1,1],\"open\":2,\"waits\":\"no\",\"needs\":[],\"at\":6,\"names\":{\"x\":\"10\"},\"locks\":[],\"episode\":1,\"manager\":null,\"pages\":[{\"page\":0,\"copy\":\"valid\",\"words\":{\"0\":\"10\",\"1\":\"11\"},\"twin\":null,\"since\":null,\"lacks\":[],\"keeper\":0,\"base\":null}],\"intervals\":[{\"interval\":\"0.1\",\"stamp\":[1,0],\"pages\":[0],\"changes\":{\"0\":{\"0\":\"10\"}}}],\"collected\":[0,0],\"sent\":[3,0],\"taken\":[3,0]}}\n{\"turn\":14,\"event\":\"run 0\",\"node\":0,\"take\":null,\"again\":false,\"act\":{\"position\":8,\"deed\":\"read 1 11\",\"line\":6,\"interval\":2},\"sends\":[],\"state\":{\"time\":[1,1],\"open\":2,\"waits\":\"no\",\"needs\":[],\"at\":7,\"names\":{\"x\":\"10\",\"y\":\"11\"},\"locks\":[],\"episode\":1,\"manager\":{\"done\":1,\"arrived\":[],\"clean\":null},\"pages\":[{\"page\":0,\"copy\":\"valid\",\"words\":{\"0\":\"10\",\"1\":\"11\"},\"twin\":null,\"since\":null,\"lacks\":[],\"keeper\":0,\"base\":null}],\"intervals\":[],\"collected\":[0,0],\"sent\":[2,3],\"taken\":[2,3]}}\n{\"turn\":15,\"event\":\"run 1\",\"node\":1,\"take\":null,\"again\":false,\"act\":{\"position\":9,\"deed\":\"read 1 11\",\"line\":6,\"interval\":2},\"sends\":[],\"state\":{\"time\":[1,1],\"open\":2,\"waits\":\"no\",\"needs\":[],\"at\":7,\"names\":{\"x\":\"10\",\"y\":\"11\"},\"locks\":[],\"episode\":1,\"manager\":null,\"pages\":[{\"page\":0,\"copy\":\"valid\",\"words\":{\"0\":\"10\",\"1\":\"11\"},\"twin\":null,\"since\":null,\"lacks\":[],\"keeper\":0,\"base\":null}],\"intervals\":[],\"collected\":[0,0],\"sent\":[3,0],\"taken\":[3,0]}}\n{\"turn\":16,\"event\":\"run 0\",\"node\":0,\"take\":null,\"again\":false,\"act\":{\"position\":10,\"deed\":\"print 10\",\"line\":7,\"interval\":2},\"sends\":[],\"state\":{\"time\":[1,1],\"open\":2,\"waits\":\"no\",\"needs\":[],\"at\":8,\"names\":{\"x\":\"10\",\"y\":\"11\"},\"locks\":[],\"episode\":1,\"manager\":{\"done\":1,\"arrived\":[],\"clean\":null},\"pages\":[{\"page\":0,\"copy\":\"valid\",\"words\":{\"0\":\"10\",\"1\":\"11\"},\"twin\":null,\"since\":null,\"lacks\":[],\"keeper\":0,\"base\":null}],\"intervals\":[],\"collected\":[0,0],\"sent\":[2,3],\"taken\":[2,3]}}\n{\"turn\":17,\"event\":\"run 1\",\"node\":1,\"take\":null,\"again\":false,\"act\":{\"position\":11,\"deed\":\"print 10\",\"line\":7,\"interval\":2},\"sends\":[],\"state\":{\"time\":[1,1],\"open\":2,\"waits\":\"no\",\"needs\":[],\"at\":8,\"names\":{\"x\":\"10\",\"y\":\"11\"},\"locks\":[],\"episode\":1,\"manager\":null,\"pages\":[{\"page\":0,\"copy\":\"valid\",\"words\":{\"0\":\"10\",\"1\":\"11\"},\"twin\":null,\"since\":null,\"lacks\":[],\"keeper\":0,\"base\":null}],\"intervals\":[],\"collected\":[0,0],\"sent\":[3,0],\"taken\":[3,0]}}\n{\"turn\":18,\"event\":\"run 0\",\"node\":0,\"take\":null,\"again\":false,\"act\":{\"position\":12,\"deed\":\"print 11\",\"line\":8,\"interval\":2},\"sends\":[],\"state\":{\"time\":[1,1],\"open\":2,\"waits\":\"no\",\"needs\":[],\"at\":9,\"names\":{\"x\":\"10\",\"y\":\"11\"},\"locks\":[],\"episode\":1,\"manager\":{\"done\":1,\"arrived\":[],\"clean\":null},\"pages\":[{\"page\":0,\"copy\":\"valid\",\"words\":{\"0\":\"10\",\"1\":\"11\"},\"twin\":null,\"since\":null,\"lacks\":[],\"keeper\":0,\"base\":null}],\"intervals\":[],\"collected\":[0,0],\"sent\":[2,3],\"taken\":[2,3]}}\n{\"turn\":19,\"event\":\"run 1\",\"node\":1,\"take\":null,\"again\":false,\"act\":{\"position\":13,\"deed\":\"print 11\",\"line\":8,\"interval\":2},\"sends\":[],\"state\":{\"time\":[1,1],\"open\":2,\"waits\":\"no\",\"needs\":[],\"at\":9,\"names\":{\"x\":\"10\",\"y\":\"11\"},\"locks\":[],\"episode\":1,\"manager\":null,\"pages\":[{\"page\":0,\"copy\":\"valid\",\"words\":{\"0\":\"10\",\"1\":\"11\"},\"twin\":null,\"since\":null,\"lacks\":[],\"keeper\":0,\"base\":null}],\"intervals\":[],\"collected\":[0,0],\"sent\":[3,0],\"taken\":[3,0]}}\n{\"turn\":20,\"event\":\"run 0\",\"node\":0,\"take\":null,\"again\":false,\"act\":{\"position\":14,\"deed\":\"end\",\"line\":9,\"interval\":2},\"sends\":[],\"state\":{\"time\":[1,1],\"open\":2,\"waits\":\"ended\",\"needs\":[],\"at\":9,\"names\":{\"x\":\"10\",\"y\":\"11\"},\"locks\":[],\"episode\":1,\"manager\":{\"done\":1,\"arrived\":[],\"clean\":null},\"pages\":[{\"page\":0,\"copy\":\"valid\",\"words\":{\"0\":\"10\",\"1\":\"11\"},\"twin\":null,\"since\":null,\"lacks\":[],\"keeper\":0,\"base\":null}],\"intervals\":[],\"collected\":[0,0],\"sent\":[2,3],\"taken\":[2,3]}}\n{\"turn\":21,\"event\":\"run 1\",\"node\":1,\"take\":null,\"again\":false,\"act\":{\"position\":15,\"deed\":\"end\",\"line\":9,\"interval\":2},\"sends\":[],\"state\":{\"time\":[1,1],\"open\":2,\"waits\":\"ended\",\"needs\":[],\"at\":9,\"names\":{\"x\":\"10\",\"y\":\"11\"},\"locks\":[],\"episode\":1,\"manager\":null,\"pages\":[{\"page\":0,\"copy\":\"valid\",\"words\":{\"0\":\"10\",\"1\":\"11\"},\"twin\":null,\"since\":null,\"lacks\":[],\"keeper\":0,\"base\":null}],\"intervals\":[],\"collected\":[0,0],\"sent\":[3,0],\"taken\":[3,0]}}\n",
     },
+];
+
+const ROWS2: &[Row] = &[
     Row {
         name: "silent-later",
         text: b"words 1;\nlocks 1;\nif me == 0 {\n  acquire 0;\n  [0] = 0;\n  release 0;\n}\nbarrier;\nif me { x = [0]; }\n",
         nodes: 2,
-        options: options(1000000, 0, Size::Words64),
+        steps: 1000000,
+        collect: 0,
+        page: Size::Words64,
         events: b"run 0\nrun 1\nrun 0\nrun 1\ndeliver 0\nrun 0\nrun 0\nrun 0\ndeliver 0\ndeliver 0\ndeliver 0\nrun 0\nrun 1\nrun 0\nrun 1\ndeliver 0\ndeliver 0\nrun 1\n",
         range: Range {
             from: Some(3),
@@ -309,7 +354,9 @@ const ROWS: &[Row] = &[
         name: "silent-write",
         text: b"words 1;\nlocks 0;\nif me == 0 {\n  [0] = 9;\n  [0] = 0;\n}\nbarrier;\n",
         nodes: 2,
-        options: options(1000000, 0, Size::Words64),
+        steps: 1000000,
+        collect: 0,
+        page: Size::Words64,
         events: b"run 0\nrun 1\nrun 0\nrun 1\ndeliver 0\nrun 0\nrun 0\ndeliver 0\ndeliver 0\ndeliver 0\nrun 0\nrun 1\n",
         range: Range {
             from: None,
@@ -321,7 +368,9 @@ const ROWS: &[Row] = &[
         name: "steps-at-end",
         text: b"words 1;\nlocks 0;\nx = 1;\n",
         nodes: 1,
-        options: options(1, 0, Size::Words64),
+        steps: 1,
+        collect: 0,
+        page: Size::Words64,
         events: b"run 0\nrun 0\n",
         range: Range {
             from: None,
@@ -333,7 +382,9 @@ const ROWS: &[Row] = &[
         name: "steps",
         text: b"words 1;\nlocks 0;\nx = 1;\nx = 0;\ny = 2;\nz = 3;\nx = 4;\n",
         nodes: 1,
-        options: options(4, 0, Size::Words64),
+        steps: 4,
+        collect: 0,
+        page: Size::Words64,
         events: b"run 0\nrun 0\nrun 0\nrun 0\n",
         range: Range {
             from: None,
@@ -345,7 +396,9 @@ const ROWS: &[Row] = &[
         name: "third-node",
         text: b"words 2;\nlocks 1;\nacquire 0;\nx = [0];\n[0] = x + me + 1;\nrelease 0;\n",
         nodes: 3,
-        options: options(1000000, 0, Size::Words64),
+        steps: 1000000,
+        collect: 0,
+        page: Size::Words64,
         events: b"run 0\nrun 0\nrun 0\nrun 0\nrun 0\nrun 0\nrun 1\ndeliver 0\ndeliver 0\ndeliver 0\nrun 1\ndeliver 0\ndeliver 0\nrun 1\nrun 1\nrun 1\nrun 1\nrun 2\ndeliver 0\ndeliver 0\ndeliver 0\nrun 2\ndeliver 0\ndeliver 0\ndeliver 0\ndeliver 0\nrun 2\nrun 2\nrun 2\nrun 2\n",
         range: Range {
             from: Some(5),
@@ -357,7 +410,9 @@ const ROWS: &[Row] = &[
         name: "to-before-from",
         text: b"words 1;\nlocks 0;\nif me == 0 {\n  [0] = 5;\n} else {\n  x = [0];\n  print x;\n}\n",
         nodes: 2,
-        options: options(1000000, 0, Size::Words64),
+        steps: 1000000,
+        collect: 0,
+        page: Size::Words64,
         events: b"run 0\nrun 1\nrun 0\nrun 1\nrun 0\nrun 1\nrun 1\n",
         range: Range {
             from: Some(3),
@@ -369,7 +424,9 @@ const ROWS: &[Row] = &[
         name: "to-zero",
         text: b"words 2;\nlocks 0;\n[0] = 9;\n[1] = 8;\nbarrier;\n[0] = 0;\nbarrier;\n",
         nodes: 1,
-        options: options(1000000, 0, Size::Words64),
+        steps: 1000000,
+        collect: 0,
+        page: Size::Words64,
         events: b"run 0\nrun 0\nrun 0\ndeliver 0\ndeliver 0\nrun 0\nrun 0\ndeliver 0\ndeliver 0\nrun 0\n",
         range: Range {
             from: None,
@@ -381,7 +438,9 @@ const ROWS: &[Row] = &[
         name: "trap",
         text: b"words 2;\nlocks 0;\nx = 0 - 1;\n[1] = x;\ny = 1;\n[2] = 1;\n",
         nodes: 1,
-        options: options(1000000, 0, Size::Words64),
+        steps: 1000000,
+        collect: 0,
+        page: Size::Words64,
         events: b"run 0\nrun 0\nrun 0\nrun 0\n",
         range: Range {
             from: None,
@@ -393,7 +452,9 @@ const ROWS: &[Row] = &[
         name: "twice",
         text: b"words 1;\nlocks 0;\nbarrier;\n",
         nodes: 2,
-        options: options(1000000, 0, Size::Words64),
+        steps: 1000000,
+        collect: 0,
+        page: Size::Words64,
         events: b"run 0\nrun 1\nrepeat 0\ndeliver 0\nrepeat 0\ndeliver 0\nrepeat 0\ndeliver 0\nrun 0\nrepeat 0\nrun 1\ndeliver 0\n",
         range: Range {
             from: None,
@@ -405,7 +466,9 @@ const ROWS: &[Row] = &[
         name: "two-lacks",
         text: b"words 1;\nlocks 1;\nif me == 2 {\n  acquire 0;\n  [0] = 12;\n  release 0;\n}\nif me == 1 {\n  acquire 0;\n  [0] = 11;\n  release 0;\n}\nif me == 0 {\n  acquire 0;\n  x = [0];\n}\n",
         nodes: 3,
-        options: options(1000000, 0, Size::Words64),
+        steps: 1000000,
+        collect: 0,
+        page: Size::Words64,
         events: b"run 2\nrun 2\ndeliver 0\ndeliver 0\ndeliver 0\nrun 2\nrun 2\nrun 2\nrun 1\nrun 1\nrun 1\ndeliver 0\ndeliver 0\ndeliver 0\nrun 1\ndeliver 0\ndeliver 0\nrun 1\nrun 1\nrun 0\nrun 0\nrun 0\nrun 0\ndeliver 0\ndeliver 0\ndeliver 0\nrun 0\ndeliver 0\ndeliver 0\ndeliver 0\ndeliver 0\n",
         range: Range {
             from: None,
@@ -417,7 +480,9 @@ const ROWS: &[Row] = &[
         name: "upkeep",
         text: b"words 2;\nlocks 0;\n[me] = me + 3;\nbarrier;\n",
         nodes: 2,
-        options: options(1000000, 1, Size::Words64),
+        steps: 1000000,
+        collect: 1,
+        page: Size::Words64,
         events: b"run 0\nrun 1\nrun 0\nrun 1\ndeliver 0\ndeliver 0\ndeliver 0\ndeliver 0\ndeliver 0\ndeliver 0\ndeliver 0\ndeliver 0\ndeliver 0\ndeliver 0\nrun 0\nrun 1\n",
         range: Range {
             from: None,
@@ -429,7 +494,9 @@ const ROWS: &[Row] = &[
         name: "written-past-end",
         text: b"words 3;\nlocks 0;\n[me] = me + 1;\n[2] = me;\n",
         nodes: 2,
-        options: options(1000000, 0, Size::Words64),
+        steps: 1000000,
+        collect: 0,
+        page: Size::Words64,
         events: b"run 0\nrun 1\nrun 0\nrun 1\nrun 0\nrun 1\n",
         range: Range {
             from: Some(99),
@@ -441,7 +508,9 @@ const ROWS: &[Row] = &[
         name: "written",
         text: b"words 70;\nlocks 1;\nif me == 0 {\n  [69] = 0 - 1;\n  [3] = 5;\n  [3] = 0;\n} else {\n  [69] = 18446744073709551615;\n  [1] = 4;\n  [1] = 6;\n  [69] = 7;\n}\nacquire 0;\nx = [69];\nrelease 0;\n",
         nodes: 2,
-        options: options(1000000, 0, Size::Words64),
+        steps: 1000000,
+        collect: 0,
+        page: Size::Words64,
         events: b"run 0\nrun 1\nrun 0\nrun 1\nrun 0\nrun 1\nrun 0\nrun 1\nrun 0\nrun 1\nrun 0\nrun 1\ndeliver 0\nrun 0\ndeliver 0\nrun 0\ndeliver 0\nrun 1\ndeliver 0\ndeliver 0\nrun 1\nrun 1\n",
         range: Range {
             from: Some(8),
@@ -471,7 +540,12 @@ fn answer(alloc: Global, row: &Row) -> Option<Result<Vec<Vec<u8>>, StatesFault>>
         text: row.text,
         program: &program,
         nodes: row.nodes,
-        options: row.options,
+        options: Options {
+            steps: row.steps,
+            collect: row.collect,
+            first: 0,
+            size: row.page,
+        },
         events: &events,
     };
     if row.nodes > 16 {
@@ -499,6 +573,17 @@ fn first_wrong(alloc: Global, rows: &'static [Row]) -> Option<&'static str> {
 }
 
 #[test]
-fn turns_of_runs(rt: HostRuntime) {
-    passes(&rt, first_wrong(rt.alloc(), ROWS));
+fn turns_of_runs_0(rt: HostRuntime) {
+    passes(&rt, first_wrong(rt.alloc(), ROWS0));
 }
+
+#[test]
+fn turns_of_runs_1(rt: HostRuntime) {
+    passes(&rt, first_wrong(rt.alloc(), ROWS1));
+}
+
+#[test]
+fn turns_of_runs_2(rt: HostRuntime) {
+    passes(&rt, first_wrong(rt.alloc(), ROWS2));
+}
+

@@ -13,9 +13,9 @@ use Rattle.lrc_protocol.specs.Turn.{done, not_ready, Outcome, TurnRecord, unexpe
 use Rattle.lrc_protocol.specs.Run.{after_input, delivers, EntryRecord, event_on, Flying, Input, input_to, Logged, logging, logs, marked, MOST_STAMP}
 use Rattle.lrc_protocol.specs.Run.{next_stamp, outcome_of, sent_by, with_mark, with_turn, World}
 use Rattle.lrc_protocol.specs.Run as log
-use Rattle.lrc_states.specs.declared.replay.Replay.{Replay}
-use Rattle.lrc_states.specs.Replays.{Answers, AnswersAt, flight_in, IsMade, IsReplay, LeavesOut, left_behind, nodes_in, nodes_played, TakesAt}
-use Rattle.lrc_states.specs.Turns.{Turn, turn_by, turn_done, turn_taking, turn_with}
+use Rattle.lrc_replay.specs.declared.replay.Replay.{Replay}
+use Rattle.lrc_replay.specs.Replays.{Answers, AnswersAt, flight_in, IsMade, IsReplay, LeavesOut, left_behind, nodes_in, nodes_played, TakesAt}
+use Rattle.lrc_replay.specs.Turns.{Turn, turn_by, turn_done, turn_taking, turn_with}
 
 -- ---- lists
 

@@ -6,8 +6,8 @@ use Rattle.lrc_protocol.specs.Node.{Node}
 use Rattle.lrc_protocol.specs.Turn.{done, not_ready, Outcome, TurnRecord, unexpected, worn}
 use Rattle.lrc_protocol.specs.Run.{Input, outcome_of, taken, World}
 use Rattle.lrc_node.specs.Node.{TracedNode}
-use Rattle.lrc_states.specs.declared.replay.Replay.{Replay}
-use Rattle.lrc_states.specs.Turns.{Turn, turn_by}
+use Rattle.lrc_replay.specs.declared.replay.Replay.{Replay}
+use Rattle.lrc_replay.specs.Turns.{Turn, turn_by}
 
 -- the nodes of a world, none of which has failed
 abbrev pub nodes_in : World → List (Option Node)

@@ -5,7 +5,7 @@ ghost use Rattle.lrc_protocol.specs.Node.{Node as NodeRecord};
 ghost use Rattle.lrc_protocol.specs.Run as log;
 ghost use Rattle.lrc_protocol.specs.Run.{World, event_on, fresh_world};
 ghost use Rattle.lrc_protocol.specs.Turn.{run_turn, take_turn};
-ghost use Rattle.lrc_states.specs.Replays.{Answers, AnswersAt, IsMade, IsReplay, TakesAt, left_behind, nodes_played};
+ghost use Rattle.lrc_replay.specs.Replays.{Answers, AnswersAt, IsMade, IsReplay, TakesAt, left_behind, nodes_played};
 
 use lrc_envelope::Envelope;
 use lrc_exec::code::Code;
@@ -16,14 +16,14 @@ use std::collections::VecDeque;
 
 /// The nodes, and the messages in flight, oldest first.
 #[derive(Drop)]
-pub(crate) struct Replay<'c> {
-    pub(crate) nodes: Vec<Node<'c>>,
-    pub(crate) flight: VecDeque<Envelope>,
+pub struct Replay<'c> {
+    pub nodes: Vec<Node<'c>>,
+    pub flight: VecDeque<Envelope>,
 }
 
 impl<'c> Replay<'c> {
     /// All nodes at the beginning of a program.
-    pub(crate) fn start(
+    pub fn start(
         alloc: Global,
         code: &'c Code<'_>,
         nodes: u8,
@@ -43,12 +43,12 @@ impl<'c> Replay<'c> {
     }
 
     /// The state of a node, where it is there and has not failed.
-    pub(crate) fn state(&self, node: usize) -> Option<&NodeState<'c>> {
+    pub fn state(&self, node: usize) -> Option<&NodeState<'c>> {
         self.nodes.get(node)?.state()
     }
 
     /// The message that an event names, where it is in flight.
-    pub(crate) fn message(&self, event: Event) -> Option<&Envelope> {
+    pub fn message(&self, event: Event) -> Option<&Envelope> {
         match event {
             Event::Run(_) => None,
             Event::Deliver(place) | Event::Repeat(place) => self.flight.get(place as usize),
@@ -56,7 +56,7 @@ impl<'c> Replay<'c> {
     }
 
     /// The node that an event names, or the receiver of the message that it names.
-    pub(crate) fn turner(&self, event: Event) -> Option<usize> {
+    pub fn turner(&self, event: Event) -> Option<usize> {
         match event {
             Event::Run(node) => Some(node as usize),
             _ => Some(usize::from(self.message(event)?.to)),
@@ -64,7 +64,7 @@ impl<'c> Replay<'c> {
     }
 
     /// The turn that an event makes, if it makes one. What it sends is not in flight yet.
-    pub(crate) fn make(&mut self, event: Event) -> Result<Option<Turn>, AllocError>
+    pub fn make(&mut self, event: Event) -> Result<Option<Turn>, AllocError>
         ensures { (world next : World) → IsReplay self.old world → event_on world event ≡ Some next
             → IfOk result (λ turn. IsMade world event next turn self.new) }
     {
@@ -76,7 +76,7 @@ impl<'c> Replay<'c> {
     }
 
     /// What a turn sends is in flight from now on.
-    pub(crate) fn post(&mut self, out: Vec<Envelope>) -> Result<(), AllocError>
+    pub fn post(&mut self, out: Vec<Envelope>) -> Result<(), AllocError>
         ensures nodes { self.new.nodes ≡ self.old.nodes }
         ensures flight { OnOk result (self.new.flight.items ≡ self.old.flight.items ++ out.items) }
     {
