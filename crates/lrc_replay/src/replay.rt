@@ -1,11 +1,12 @@
 // The nodes of a run, and the messages in flight, played again event by event.
 
-ghost use Rattle.std.specs.Prelude.{◌≡◌, ◌≤◌, ◌++◌, IfOk, OnOk, Some, slice_get};
+ghost use Rattle.std.specs.Prelude.{◌≡◌, ◌⊎◌, ◌<◌, ◌≤◌, ◌++◌, IfOk, OnOk, Some, false, length, option_map, remove, slice_get, true};
+ghost use Rattle.lrc_node.specs.declared.fault.NodeFault.TheVariants.{NotReady, Unexpected};
 ghost use Rattle.lrc_protocol.specs.Node.{Node as NodeRecord};
 ghost use Rattle.lrc_protocol.specs.Run as log;
 ghost use Rattle.lrc_protocol.specs.Run.{World, event_on, fresh_world};
 ghost use Rattle.lrc_protocol.specs.Turn.{run_turn, take_turn};
-ghost use Rattle.lrc_replay.specs.Replays.{Answers, AnswersAt, IsMade, IsReplay, TakesAt, left_behind, nodes_played};
+ghost use Rattle.lrc_replay.specs.Replays.{Answers, AnswersAt, IsMade, IsReplay, TakesAt, left_behind, message_of, nodes_played, turner_of};
 
 use lrc_envelope::Envelope;
 use lrc_exec::code::Code;
@@ -43,12 +44,17 @@ impl<'c> Replay<'c> {
     }
 
     /// The state of a node, where it is there and has not failed.
-    pub fn state(&self, node: usize) -> Option<&NodeState<'c>> {
+    pub fn state(&self, node: usize) -> Option<&NodeState<'c>>
+        ensures { (world : World) → IsReplay self.now world
+            → option_map (λ state. state.now) result ≡ option_map (λ l. l.node) (slice_get world.nodes node) }
+    {
         self.nodes.get(node)?.state()
     }
 
     /// The message that an event names, where it is in flight.
-    pub fn message(&self, event: Event) -> Option<&Envelope> {
+    pub fn message(&self, event: Event) -> Option<&Envelope>
+        ensures { (world : World) → IsReplay self.now world → option_map (λ envelope. envelope.now) result ≡ message_of world event }
+    {
         match event {
             Event::Run(_) => None,
             Event::Deliver(place) | Event::Repeat(place) => self.flight.get(place as usize),
@@ -56,7 +62,9 @@ impl<'c> Replay<'c> {
     }
 
     /// The node that an event names, or the receiver of the message that it names.
-    pub fn turner(&self, event: Event) -> Option<usize> {
+    pub fn turner(&self, event: Event) -> Option<usize>
+        ensures { (world : World) → IsReplay self.now world → result ≡ turner_of world event }
+    {
         match event {
             Event::Run(node) => Some(node as usize),
             _ => Some(usize::from(self.message(event)?.to)),
@@ -77,7 +85,7 @@ impl<'c> Replay<'c> {
 
     /// What a turn sends is in flight from now on.
     pub fn post(&mut self, out: Vec<Envelope>) -> Result<(), AllocError>
-        ensures nodes { self.new.nodes ≡ self.old.nodes }
+        ensures nodes { OnOk result (self.new.nodes ≡ self.old.nodes) }
         ensures flight { OnOk result (self.new.flight.items ≡ self.old.flight.items ++ out.items) }
     {
         for envelope in out {
@@ -102,9 +110,7 @@ impl<'c> Replay<'c> {
         ensures flight { IfOk result (λ made. self.new.flight.items ≡ left_behind self.old.flight.items place made) }
     {
         let turn = self.take(place)?;
-        if turn.is_some() {
-            let _taken = self.flight.remove(place);
-        }
+        forget(&mut self.flight, place, turn.is_some());
         Ok(turn)
     }
 
@@ -153,8 +159,10 @@ fn run_node(node: &mut Node<'_>) -> Result<Option<Turn>, AllocError>
 {
     match node.run() {
         Ok(turn) => Ok(Some(turn)),
-        Err(NodeFault::NotReady | NodeFault::Unexpected) => Ok(None),
-        Err(_) => Err(AllocError),
+        Err(fault) => {
+            refused(fault)?;
+            Ok(None)
+        }
     }
 }
 
@@ -165,7 +173,29 @@ fn take_node(node: &mut Node<'_>, envelope: &Envelope) -> Result<Option<Turn>, A
 {
     match node.take(envelope) {
         Ok(turn) => Ok(Some(turn)),
-        Err(NodeFault::NotReady | NodeFault::Unexpected) => Ok(None),
-        Err(_) => Err(AllocError),
+        Err(fault) => {
+            refused(fault)?;
+            Ok(None)
+        }
+    }
+}
+
+// A node that answers this has not failed.
+fn refused(fault: NodeFault) -> Result<(), AllocError>
+    ensures { OnOk result ((fault ≡ NotReady) ⊎ (fault ≡ Unexpected)) }
+{
+    match fault {
+        NodeFault::NotReady | NodeFault::Unexpected => Ok(()),
+        _ => Err(AllocError),
+    }
+}
+
+// Takes the message at the place out of flight, if it was taken.
+fn forget(flight: &mut VecDeque<Envelope>, place: usize, is_taken: bool)
+    ensures kept { is_taken ≡ false → flight.new ≡ flight.old }
+    ensures removed { is_taken ≡ true → place < length flight.old.items → flight.new.items ≡ remove flight.old.items place }
+{
+    if is_taken {
+        let _taken = flight.remove(place);
     }
 }

@@ -1,4 +1,3 @@
-pub mod Acts
-pub mod Objects
-pub mod Courses
+pub mod Names
 pub mod States
+pub mod Players

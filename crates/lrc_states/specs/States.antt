@@ -1,5 +1,5 @@
 -- The lines of a run's turns with the states of its nodes.
-use Rattle.std.specs.Prelude.{◌≡◌, ◌⊎◌, ◌<◌, ◌≤◌, ℕ, ◌+◌, Bool, true, Option, None, Some, List, [], ◌∷◌, ◌++◌, codes, decimal, filter, length, map, nat_le, slice_get}
+use Rattle.std.specs.Prelude.{◌≡◌, ◌⊎◌, ◌<◌, ◌≤◌, ℕ, ◌+◌, Bool, true, Option, None, Some, List, [], ◌∷◌, ◌++◌, codes, decimal, drop, filter, length, map, nat_le, slice_get, take}
 use Rattle.std.specs.List.{enumerate_from, flat_map}
 use Rattle.std.specs.Option.{option_to_list}
 use Rattle.lrc_trace.specs.declared.act.Act.{Act}
@@ -16,14 +16,18 @@ use Rattle.lrc_messages.specs.Lists.{before}
 use Rattle.lrc_private.specs.Spelling.{AreNamesOf}
 use Rattle.lrc_protocol.specs.declared.event.Event.{Event}
 use Rattle.lrc_protocol.specs.Node.{Node, OptionsRecord}
-use Rattle.lrc_protocol.specs.Run.{event_on, Flying, Logged, run_of, World}
+use Rattle.lrc_protocol.specs.Turn.{TurnRecord}
+use Rattle.lrc_protocol.specs.Run.{event_on, Logged, run_of, World}
 use Rattle.lrc_state_text.specs.Intervals.{StoredInterval, stored_in}
 use Rattle.lrc_state_text.specs.State.{state_text}
 use Rattle.lrc_text.specs.Each.{each}
-use Rattle.lrc_states.specs.Acts.{last_notes, names_behind, notes_behind, Plan, spot_behind}
+use Rattle.lrc_states.specs.declared.told.Range.{Range}
+use Rattle.lrc_states.specs.declared.told.Told as code_told
+use Rattle.lrc_replay.specs.Acts.{last_notes, notes_behind, Plan, spot_behind}
+use Rattle.lrc_states.specs.Names.{names_behind}
 use Rattle.lrc_states.specs.declared.fault.StatesFault.{StatesFault}
 use Rattle.lrc_states.specs.declared.fault.StatesFault.TheVariants.{NoMemory, TooLong}
-use Rattle.lrc_states.specs.Objects.{act_or_null, labels_list, messages_list, notes_list, taken_object, truth_text}
+use Rattle.lrc_turn_objects.specs.Objects.{act_or_null, labels_list, messages_list, notes_list, taken_object, truth_text}
 use Rattle.lrc_replay.specs.Turns.{is_again, Turn, turns_from, turns_of}
 
 -- ---- states
@@ -76,22 +80,17 @@ turn_head number turn =
     ++ codes ",\"take\":" ++ taken_object turn.input ++ codes ",\"again\":"
     ++ truth_text (is_again (slice_get turn.before.nodes turn.node) turn.input)
 
-abbrev pub turn_done_members : Plan → Turn → List ℕ
-turn_done_members plan turn =
-    codes ",\"act\":" ++ act_or_null (spot_behind plan turn.before.acts turn.node) turn.made.act
-    ++ codes ",\"sends\":[" ++ messages_list turn.made.out ++ codes "]"
+-- what a node did in a turn behind these acts
+abbrev pub made_members : Plan → List Act → (node : ℕ) → TurnRecord → List ℕ
+made_members plan acts node made =
+    codes ",\"act\":" ++ act_or_null (spot_behind plan acts node) made.act ++ codes ",\"sends\":[" ++ messages_list made.out ++ codes "]"
 
 abbrev pub turn_line : Plan → (number : ℕ) → Turn → List ℕ
 turn_line plan number turn =
-    turn_head number turn ++ turn_done_members plan turn ++ codes ",\"state\":"
+    turn_head number turn ++ made_members plan turn.before.acts turn.node turn.made ++ codes ",\"state\":"
     ++ state_behind plan (acts_after turn) turn.node (known_of (slice_get turn.before.nodes turn.node)) turn.after ++ codes "}\n"
 
 -- ---- which turns are shown
-
--- the positions of the acts from whose turn on, and up to whose turn, turns are shown
-pub record Range : Type 0 where
-  pub from : Option ℕ
-  pub to : Option ℕ
 
 -- Turns are shown from this world on, before these events: from the beginning; or from the turn on that makes the act at a position, and
 -- where there is no such act, none is left.
@@ -103,10 +102,10 @@ abbrev pub BeginsAt : Option ℕ → World → (before rest : List Event) → Ty
 BeginsAt None world before rest = before ≡ []
 BeginsAt (Some position) world before rest = (length world.acts ≤ position) × MakesAct world position rest
 
--- a turn is no later than that of the act at a position
-abbrev pub is_within : Option ℕ → Turn → Bool
-is_within None turn = true
-is_within (Some position) turn = nat_le (length turn.before.acts) position
+-- a turn that begins behind so many acts is no later than that of the act at a position
+abbrev pub is_within : Option ℕ → (acts : ℕ) → Bool
+is_within None acts = true
+is_within (Some position) acts = nat_le acts position
 
 -- the events of a run up to those whose turns are shown, and the others
 pub record IsCut (program : Program) (nodes : ℕ) (options : OptionsRecord) (from : Option ℕ) (events before rest : List Event) (world : World) : Type 0 where
@@ -114,9 +113,17 @@ pub record IsCut (program : Program) (nodes : ℕ) (options : OptionsRecord) (fr
   pub stands : run_of program nodes options before ≡ Some world
   pub begins : BeginsAt from world before rest
 
--- the turns that are shown with their numbers, where so many come before
+-- so many events come before those whose turns are shown
+abbrev pub IsStart : Program → (nodes : ℕ) → OptionsRecord → (from : Option ℕ) → List Event → (count : ℕ) → Type 0
+IsStart program nodes options from events count =
+    (count ≤ length events) × ((world : World) × IsCut program nodes options from events (take count events) (drop count events) world)
+
+-- those of some turns that are shown, with their numbers, where so many come before
+abbrev pub shown_now : Option ℕ → (number : ℕ) → List Turn → List (ℕ × Turn)
+shown_now to number turns = filter (λ at. is_within to (length at.1.before.acts)) (enumerate_from number turns)
+
 abbrev pub turns_shown : Option ℕ → (number : ℕ) → World → (rest : List Event) → List (ℕ × Turn)
-turns_shown to number world rest = filter (λ at. is_within to at.1) (enumerate_from number (turns_from (Some world) rest))
+turns_shown to number world rest = shown_now to number (turns_from (Some world) rest)
 
 abbrev pub turn_lines : Plan → List (ℕ × Turn) → List ℕ
 turn_lines plan turns = flat_map (λ at. turn_line plan at.0 at.1) turns
@@ -134,6 +141,9 @@ pub record Told : Type 0 where
   pub nodes : ℕ
   pub options : OptionsRecord
   pub events : List Event
+
+abbrev pub told_seen : code_told.Told → Told
+told_seen told = record { text = told.text.now; program = told.program.now; nodes = told.nodes; options = told.options; events = told.events.now }
 
 abbrev pub labels_in : Told → List Label
 labels_in told = labels_of told.program.words told.program.locks (cut (divides LineFeed) told.text)

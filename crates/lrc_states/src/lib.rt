@@ -2,12 +2,9 @@
 //! each turn. The run is played again by its events.
 #![tactic(auto)]
 
-mod course;
 mod fault;
 mod first;
-mod notes;
-mod objects;
-mod plan;
+mod names;
 mod player;
 mod start;
 mod states;

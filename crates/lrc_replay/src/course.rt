@@ -1,26 +1,25 @@
 // What the acts so far have led to.
 
-ghost use Rattle.std.specs.Prelude.{◌≡◌, ◌+◌, ◌++◌, ◌∷◌, [], All, IfOk, List, OnOk, filter, length, map, slice_index};
+ghost use Rattle.std.specs.Prelude.{◌≡◌, ◌+◌, ◌++◌, ◌∷◌, [], All, IfOk, IfSome, List, OnOk, length};
+ghost use Rattle.lrc_lines.specs.Walks.{walk_behind};
 ghost use Rattle.lrc_private.specs.Ways.{IsOnWay};
-ghost use Rattle.lrc_state_text.specs.Place.{named_seen};
 ghost use Rattle.lrc_trace.specs.declared.act.Act.{Act as AnyAct};
 ghost use Rattle.lrc_trace.specs.Interval.{closes, interval_at};
-ghost use Rattle.lrc_states.specs.Acts.{Plan as AnyPlan, is_set, last_notes, names_behind, names_set, notes_behind, spot_behind};
-ghost use Rattle.lrc_states.specs.Courses.{AreClosed, AreWays, IsCourse, plan_of};
+ghost use Rattle.lrc_replay.specs.Acts.{Plan as AnyPlan, last_notes, notes_behind, spot_behind};
+ghost use Rattle.lrc_replay.specs.Courses.{AreClosed, AreWays, IsCourse, plan_of};
 ghost use Rattle.std.specs.Option.{option_to_list};
 
 use crate::notes::{Note, Notes, Spot};
 use crate::plan::Plan;
 use lrc_lines::walks::Walks;
 use lrc_private::Way;
-use lrc_state_text::NamedValue;
 use lrc_trace::act::{Act, Deed};
 use std::alloc::{AllocError, Global};
 
 /// How many acts there were; how many of each node closed an interval; where each node is in the text, and what its private names are; and
 /// the last Write to each word.
 #[derive(Drop)]
-pub(crate) struct Course<'c> {
+pub struct Course<'c> {
     acts: u64,
     closed: Vec<u64>,
     walks: Walks<'c>,
@@ -49,7 +48,7 @@ fn ways_at_start<'c>(alloc: Global, plan: Plan<'c>) -> Result<Vec<Way<'c>>, Allo
 
 impl<'c> Course<'c> {
     /// Before any act.
-    pub(crate) fn start(alloc: Global, plan: Plan<'c>) -> Result<Course<'c>, AllocError>
+    pub fn start(alloc: Global, plan: Plan<'c>) -> Result<Course<'c>, AllocError>
         ensures on { IfOk result (λ course. All IsOnWay course.ways.items) }
         ensures course { IfOk result (IsCourse (plan_of plan) []) }
     {
@@ -63,14 +62,14 @@ impl<'c> Course<'c> {
     }
 
     /// How many acts there were.
-    pub(crate) fn acts(&self) -> u64
+    pub fn acts(&self) -> u64
         ensures { result ≡ self.now.acts }
     {
         self.acts
     }
 
     /// Where the node's next act stands.
-    pub(crate) fn spot(&self, node: u8) -> Spot
+    pub fn spot(&self, node: u8) -> Spot
         ensures { (plan : AnyPlan) (acts : List AnyAct) → IsCourse plan acts self.now → result ≡ spot_behind plan acts node }
     {
         Spot {
@@ -80,24 +79,19 @@ impl<'c> Course<'c> {
         }
     }
 
-    /// The private names of a node whose value is not 0.
-    pub(crate) fn names<'t>(
-        &self,
-        alloc: Global,
-        node: u8,
-        names: &[&'t [u8]],
-    ) -> Result<Vec<NamedValue<'t>>, AllocError>
-        ensures { (plan : AnyPlan) (acts : List AnyAct) → IsCourse plan acts self.now → plan.names ≡ map (λ name. name.now) names.now
-            → IfOk result (λ found. map named_seen found.items ≡ names_behind plan acts node) }
+    /// The values of the private names of a node, by their numbers; none where there is no such node.
+    pub fn privates(&self, node: u8) -> Option<&[u64; 32]>
+        ensures { (plan : AnyPlan) (acts : List AnyAct) → IsCourse plan acts self.now
+            → IfSome result (λ values. values.now ≡ (walk_behind plan.program plan.nodes plan.lines acts node).thread.privates) }
     {
         match self.ways.get(usize::from(node)) {
-            Some(way) => names_set(alloc, names, &way.spot.privates),
-            None => Err(AllocError),
+            Some(way) => Some(&way.spot.privates),
+            None => None,
         }
     }
 
     /// The last Write to each word that was written, by word.
-    pub(crate) fn notes(&self, alloc: Global) -> Result<Vec<Note>, AllocError>
+    pub fn notes(&self, alloc: Global) -> Result<Vec<Note>, AllocError>
         ensures { (plan : AnyPlan) (acts : List AnyAct) → IsCourse plan acts self.now
             → IfOk result (λ notes. notes.items ≡ last_notes plan.program.words (notes_behind plan [] acts)) }
     {
@@ -105,7 +99,7 @@ impl<'c> Course<'c> {
     }
 
     /// The turn's act is done, if it makes one.
-    pub(crate) fn follow(&mut self, act: Option<Act>) -> Result<(), AllocError>
+    pub fn follow(&mut self, act: Option<Act>) -> Result<(), AllocError>
         requires { All IsOnWay self.old.ways.items }
         ensures on { All IsOnWay self.new.ways.items }
         ensures course { (plan : AnyPlan) (acts : List AnyAct) → IsCourse plan acts self.old
@@ -175,41 +169,4 @@ fn close(closed: &mut Vec<u64>, act: Act) -> Result<(), AllocError>
         closed[node] = next(closed[node])?;
     }
     Ok(())
-}
-
-// The names whose value is not 0.
-fn names_set<'t>(
-    alloc: Global,
-    names: &[&'t [u8]],
-    values: &[u64; 32],
-) -> Result<Vec<NamedValue<'t>>, AllocError>
-    ensures { IfOk result (λ found. map named_seen found.items ≡ names_set (map (λ name. name.now) names.now) values.now) }
-{
-    let mut set = Vec::new(alloc);
-    for number in 0..names.len() {
-        keep_set(&mut set, names[number], value_of(values, number))?;
-    }
-    Ok(set)
-}
-
-// Keeps a name with its value, if that is not 0.
-fn keep_set<'t>(
-    set: &mut Vec<NamedValue<'t>>,
-    name: &'t [u8],
-    value: u64,
-) -> Result<(), AllocError>
-    ensures { OnOk result (map named_seen set.new.items
-        ≡ map named_seen set.old.items ++ filter is_set (record { name = name.entry.now; value = value } ∷ [])) }
-{
-    if value != 0 {
-        set.push(NamedValue { name, value })?;
-    }
-    Ok(())
-}
-
-// The value of the name of this number.
-fn value_of(values: &[u64; 32], number: usize) -> u64
-    ensures { result ≡ slice_index values.now number }
-{
-    if number < 32 { values[number] } else { 0 }
 }

@@ -1,6 +1,6 @@
 -- What the acts so far have led to: where each node's text stands, what its private names are, and the last Write to each word.
-use Rattle.std.specs.Prelude.{ℕ, ◌==◌, Bool, not, Option, None, Some, List, [], ◌∷◌, ◌++◌, filter, fold, if◌then◌else◌, length, map, slice_index}
-use Rattle.std.specs.List.{enumerate_from, flat_map, range_with_len}
+use Rattle.std.specs.Prelude.{ℕ, ◌==◌, Option, None, Some, List, [], ◌∷◌, ◌++◌, fold, if◌then◌else◌, length}
+use Rattle.std.specs.List.{flat_map, range_with_len}
 use Rattle.std.specs.Option.{option_to_list}
 use Rattle.lrc_lang.specs.declared.program.Program.{Program}
 use Rattle.lrc_lang.specs.Symbol.{Names}
@@ -8,11 +8,9 @@ use Rattle.lrc_trace.specs.declared.act.Act.{Act}
 use Rattle.lrc_trace.specs.declared.act.Deed.{Deed}
 use Rattle.lrc_trace.specs.declared.act.Deed.TheVariants.{Write}
 use Rattle.lrc_trace.specs.Interval.{interval_at}
-use Rattle.lrc_exec.specs.Meaning.{Thread}
-use Rattle.lrc_lines.specs.Walks.{line_behind, walk_behind}
-use Rattle.lrc_state_text.specs.Place.{Named}
-use Rattle.lrc_states.specs.declared.notes.Note.{Note}
-use Rattle.lrc_states.specs.declared.notes.Spot.{Spot}
+use Rattle.lrc_lines.specs.Walks.{line_behind}
+use Rattle.lrc_replay.specs.declared.notes.Note.{Note}
+use Rattle.lrc_replay.specs.declared.notes.Spot.{Spot}
 
 -- a program on so many nodes, the lines of its statements, and its private names
 pub record Plan : Type 0 where
@@ -28,23 +26,6 @@ spot_behind plan acts node = record {
   line = line_behind plan.program plan.nodes plan.lines acts node;
   interval = interval_at acts node (length acts);
 }
-
--- ---- private names
-
--- names with their values, by their numbers
-abbrev pub with_values : Names → (values : List ℕ) → List Named
-with_values names values = map (λ at. record { name = at.1; value = slice_index values at.0 }) (enumerate_from 0 names)
-
--- those whose value is not 0
-abbrev pub is_set : Named → Bool
-is_set named = not (named.value == 0)
-
-abbrev pub names_set : Names → (values : List ℕ) → List Named
-names_set names values = filter is_set (with_values names values)
-
--- those of a node
-abbrev pub names_behind : Plan → List Act → (node : ℕ) → List Named
-names_behind plan acts node = names_set plan.names (walk_behind plan.program plan.nodes plan.lines acts node).thread.privates
 
 -- ---- what was written
 

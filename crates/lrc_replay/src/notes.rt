@@ -3,28 +3,28 @@
 ghost use Rattle.std.specs.Prelude.{◌≡◌, ◌++◌, ◌∷◌, [], ℕ, IfOk, List, OnOk};
 ghost use Rattle.std.specs.List.{flat_map};
 ghost use Rattle.std.specs.Option.{option_to_list};
-ghost use Rattle.lrc_states.specs.Acts.{note_of};
-ghost use Rattle.lrc_states.specs.Courses.{AreNotes};
-ghost use Rattle.lrc_states.specs.declared.notes.Note.{Note as AnyNote};
+ghost use Rattle.lrc_replay.specs.Acts.{note_of};
+ghost use Rattle.lrc_replay.specs.Courses.{AreNotes};
+ghost use Rattle.lrc_replay.specs.declared.notes.Note.{Note as AnyNote};
 
 use lrc_trace::act::Deed;
 use std::alloc::{AllocError, Global};
 
 /// Where an act stands: its position in the run, its line in the text, and its interval.
 #[derive(Clone, Copy)]
-pub(crate) struct Spot {
-    pub(crate) position: u64,
-    pub(crate) line: u32,
-    pub(crate) interval: u64,
+pub struct Spot {
+    pub position: u64,
+    pub line: u32,
+    pub interval: u64,
 }
 
 /// A Write: its word and value, its node, and where it stands.
 #[derive(Clone, Copy)]
-pub(crate) struct Note {
-    pub(crate) word: u32,
-    pub(crate) value: u64,
-    pub(crate) node: u8,
-    pub(crate) spot: Spot,
+pub struct Note {
+    pub word: u32,
+    pub value: u64,
+    pub node: u8,
+    pub spot: Spot,
 }
 
 /// Of each word the last Write to it.

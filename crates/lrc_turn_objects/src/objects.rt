@@ -1,21 +1,20 @@
 // Objects of JSON: messages, labels, acts, and the last Write to a word.
 
-ghost use Rattle.std.specs.Prelude.{◌≡◌, ◌++◌, OnOk, map};
+ghost use Rattle.std.specs.Prelude.{◌≡◌, ◌++◌, OnOk, codes, map};
 ghost use Rattle.lrc_labels.specs.Reading.{first_of, label_seen, last_of};
-ghost use Rattle.lrc_messages.specs.Lists.{before, separated};
-ghost use Rattle.std.specs.Prelude.{codes};
-ghost use Rattle.lrc_states.specs.Objects.{act_object, act_or_null, label_object, labels_list, message_head, message_object, messages_list, note_object, notes_list, spot_members, target_name, truth_text};
+ghost use Rattle.lrc_messages.specs.Lists.{before};
+ghost use Rattle.lrc_turn_objects.specs.Objects.{act_object, act_or_null, label_object, labels_list, message_head, message_object, messages_list, note_object, notes_list, spot_members, target_name, truth_text};
 
-use crate::notes::{Note, Spot};
 use lrc_envelope::Envelope;
 use lrc_labels::label::{Label, Target};
 use lrc_messages::{push_message, push_size};
+use lrc_replay::{Note, Spot};
 use lrc_text::{push_deed, push_number};
 use lrc_trace::act::{Act, Deed};
 use std::alloc::{AllocError, Global};
 
 /// Adds a comma before an item of a list, but before the first nothing.
-pub(crate) fn push_comma(text: &mut Vec<u8>, place: usize) -> Result<(), AllocError>
+pub fn push_comma(text: &mut Vec<u8>, place: usize) -> Result<(), AllocError>
     ensures { OnOk result (text.new.items ≡ text.old.items ++ before place (codes ",")) }
 {
     if place == 0 {
@@ -34,7 +33,7 @@ fn push_message_head(text: &mut Vec<u8>, envelope: &Envelope) -> Result<(), Allo
 }
 
 /// Adds a message.
-pub(crate) fn push_envelope(
+pub fn push_envelope(
     alloc: Global,
     text: &mut Vec<u8>,
     envelope: &Envelope,
@@ -50,7 +49,7 @@ pub(crate) fn push_envelope(
 }
 
 // Adds a message at this place of a list.
-pub(crate) fn push_listed(
+pub fn push_listed(
     alloc: Global,
     text: &mut Vec<u8>,
     place: usize,
@@ -63,7 +62,7 @@ pub(crate) fn push_listed(
 }
 
 /// Adds messages, with commas between them.
-pub(crate) fn push_envelopes(
+pub fn push_envelopes(
     alloc: Global,
     text: &mut Vec<u8>,
     envelopes: &[Envelope],
@@ -122,7 +121,7 @@ fn push_label(text: &mut Vec<u8>, place: usize, label: Label<'_>) -> Result<(), 
 }
 
 /// Adds labels, with commas between them.
-pub(crate) fn push_labels(text: &mut Vec<u8>, labels: &[Label<'_>]) -> Result<(), AllocError>
+pub fn push_labels(text: &mut Vec<u8>, labels: &[Label<'_>]) -> Result<(), AllocError>
     ensures { OnOk result (text.new.items ≡ text.old.items ++ labels_list (map label_seen labels.now)) }
 {
     for (place, label) in labels.iter().enumerate() {
@@ -152,7 +151,7 @@ fn push_done(text: &mut Vec<u8>, spot: Spot, deed: Deed) -> Result<(), AllocErro
 }
 
 /// Adds the act that is made at this spot, if one is.
-pub(crate) fn push_act(
+pub fn push_act(
     text: &mut Vec<u8>,
     spot: Spot,
     act: Option<Act>,
@@ -179,7 +178,7 @@ fn push_note(text: &mut Vec<u8>, place: usize, note: Note) -> Result<(), AllocEr
 }
 
 /// Adds the last Writes to words, with commas between them.
-pub(crate) fn push_notes(text: &mut Vec<u8>, notes: &[Note]) -> Result<(), AllocError>
+pub fn push_notes(text: &mut Vec<u8>, notes: &[Note]) -> Result<(), AllocError>
     ensures { OnOk result (text.new.items ≡ text.old.items ++ notes_list notes.now) }
 {
     for (place, note) in notes.iter().enumerate() {
@@ -190,7 +189,7 @@ pub(crate) fn push_notes(text: &mut Vec<u8>, notes: &[Note]) -> Result<(), Alloc
 
 /// Adds whether something is so.
 #[tactic(auto, unfolding(crate::specs::Objects::truth_text))]
-pub(crate) fn truth(is_so: bool) -> &'static [u8]
+pub fn truth(is_so: bool) -> &'static [u8]
     ensures { result.now ≡ truth_text is_so }
 {
     if is_so { b"true" } else { b"false" }

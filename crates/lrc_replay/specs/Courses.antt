@@ -8,11 +8,11 @@ use Rattle.lrc_lines.specs.Seen.{walks_of}
 use Rattle.lrc_lines.specs.Walks.{end_line, walks_behind}
 use Rattle.lrc_private.specs.declared.way.Way.{Way}
 use Rattle.lrc_private.specs.Ways.{thread_of}
-use Rattle.lrc_states.specs.declared.course.Course.{Course}
-use Rattle.lrc_states.specs.declared.notes.Note.{Note}
-use Rattle.lrc_states.specs.declared.notes.Notes.{Notes}
-use Rattle.lrc_states.specs.declared.plan.Plan as code_plan
-use Rattle.lrc_states.specs.Acts.{last_note, notes_behind, Plan}
+use Rattle.lrc_replay.specs.declared.course.Course.{Course}
+use Rattle.lrc_replay.specs.declared.notes.Note.{Note}
+use Rattle.lrc_replay.specs.declared.notes.Notes.{Notes}
+use Rattle.lrc_replay.specs.declared.plan.Plan as code_plan
+use Rattle.lrc_replay.specs.Acts.{last_note, notes_behind, Plan}
 
 -- what does not change along a run, as the definitions see it
 abbrev pub plan_of : code_plan.Plan → Plan

@@ -12,8 +12,8 @@ use Rattle.lrc_messages.specs.TurnText.{size_text}
 use Rattle.lrc_text.specs.ActText.{deed_text}
 use Rattle.lrc_trace.specs.declared.act.Act.{Act}
 use Rattle.lrc_trace.specs.declared.act.Deed.{Deed}
-use Rattle.lrc_states.specs.declared.notes.Note.{Note}
-use Rattle.lrc_states.specs.declared.notes.Spot.{Spot}
+use Rattle.lrc_replay.specs.declared.notes.Note.{Note}
+use Rattle.lrc_replay.specs.declared.notes.Spot.{Spot}
 
 -- ---- messages
 
