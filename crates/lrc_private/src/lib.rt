@@ -2,7 +2,6 @@
 #![tactic(auto)]
 
 pub mod laws;
-
 mod names;
 mod statement;
 mod way;

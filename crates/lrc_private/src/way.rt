@@ -51,7 +51,12 @@ fn value_given(deed: Deed) -> u64
 
 impl<'c> Way<'c> {
     /// Node `me` of `nodes` at the beginning of a program.
-    pub fn start(alloc: Global, code: &'c Code<'_>, nodes: u8, me: u8) -> Result<Way<'c>, AllocError>
+    pub fn start(
+        alloc: Global,
+        code: &'c Code<'_>,
+        nodes: u8,
+        me: u8,
+    ) -> Result<Way<'c>, AllocError>
         ensures on { IfOk result IsOnWay }
         ensures thread { IfOk result (λ way. thread_of way ≡ start_of code.now nodes me) }
         ensures unset { IfOk result (λ way. (name : ℕ) → slice_index_or way.set.items name None ≡ None) }

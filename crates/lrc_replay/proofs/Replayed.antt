@@ -1,8 +1,9 @@
 -- What an event does to the nodes and to the messages in flight.
 use Rattle.std.proofs.Common.{◌≡◌, ◌∙◌, ℕ, zero, suc, ◌+◌, arith, List, [], ◌∷◌, ◌++◌, Bool, true, false, cond, Option, Some, None}
-use Rattle.std.proofs.Common.{refl, sym, ap, ap₂, subst, map, take, drop, length, ◌<◌, ◌≤◌, ◌⊎◌, inl, inr, append-nil, Result, Ok, Err}
-use Rattle.std.specs.Prelude.{◌==◌, IfOk, is_some, nat_le, option_map, remove, slice_get, slice_index_or, slice_set}
-use Rattle.std.specs.List.{enumerate_from}
+use Rattle.std.proofs.Common.{refl, sym, ap, ap₂, subst, map, take, drop, length, ◌<◌, ◌≤◌, ◌⊎◌, inl, inr, Result, Ok, Err, zero-add}
+use Rattle.std.specs.Prelude.{◌==◌, IfOk, is_some, MatchOption, nat_le, option_map, remove, slice_get, slice_index_or, slice_set}
+use Rattle.std.specs.List.{enumerate_from, range_with_len}
+use Rattle.std.proofs.lemmas.List.FromFn.{map-range_with_len_more}
 use Rattle.std.specs.Option.{option_to_list}
 use Rattle.std.proofs.lemmas.List.{length-map, map-append, map-set}
 use Rattle.std.proofs.lemmas.Option.{same_Some, slice_get-get_or, slice_get_past, slice_get_within}
@@ -52,7 +53,7 @@ map_drop f (x ∷ xs) zero = refl
 map_drop f (x ∷ xs) (suc n) = map_drop f xs n
 
 map_remove : {X Y : Type 0} (f : X → Y) (xs : List X) (n : ℕ) → map f (remove xs n) ≡ remove (map f xs) n
-map_remove f xs n = map-append f (take n xs) (drop (n + 1) xs) ∙ ap₂ ◌++◌ (map_take f xs n) (map_drop f xs (n + 1))
+map_remove f xs n = map-append f (take n xs) (drop (suc n) xs) ∙ ap₂ ◌++◌ (map_take f xs n) (map_drop f xs (suc n))
 
 -- ---- messages
 
@@ -158,7 +159,7 @@ module _ (world : World) (event : Event) (flight : List Flying) (n : ℕ) (input
   stays l outcome after now there none same after_is now_is = (
     none,
     now_is ∙ ap (slice_set (nodes_in world) n) after_is ∙ set_same (nodes_in world) n (Some l.node) there ∙ ap nodes_in (sym same),
-    same
+    same,
   )
 
   here : (l : Logged) (outcome : Outcome) (made : Option TurnRecord) (after : Option Node) (now : List (Option Node))
@@ -201,14 +202,16 @@ pub run_made : (world next : World) (n : ℕ) (old new : Replay) (made : Option 
     → new.flight ≡ old.flight → IsMade world (events.Run n) next made new
 run_made world next n old new None is goes answers flight =
     let a = answered world (events.Run n) world.flight n log.run next 0 (slice_get world.nodes n) (nodes_played old.nodes.items) None (nodes_played new.nodes.items)
-        refl is.nodes answers goes in
+    refl is.nodes answers goes in
     (a.0, a.2, record { nodes = a.1; flight = ap (λ f. f.items) flight ∙ is.flight ∙ ap flight_in (sym a.2) })
 run_made world next n old new (Some made) is goes answers flight =
     let a = answered world (events.Run n) world.flight n log.run next 0 (slice_get world.nodes n) (nodes_played old.nodes.items) (Some made) (nodes_played new.nodes.items)
-        refl is.nodes answers goes in
-    (a.turn, a.made_is,
-    record { is = a.is; before_is = a.before_is; event_is = a.event_is; names = ap Some (sym a.node_is); takes = sym (ap brought_by a.input_is); acts = a.acts; stands = a.stands },
-    record { nodes = a.nodes; flight = ap (λ f. f.items ++ made.out) flight ∙ ap (λ f. f ++ made.out) is.flight ∙ sym a.flying })
+    refl is.nodes answers goes in (
+      a.turn,
+      a.made_is,
+      record { is = a.is; before_is = a.before_is; event_is = a.event_is; names = ap Some (sym a.node_is); takes = sym (ap brought_by a.input_is); acts = a.acts; stands = a.stands },
+      record { nodes = a.nodes; flight = ap (λ f. f.items ++ made.out) flight ∙ ap (λ f. f ++ made.out) is.flight ∙ sym a.flying },
+    )
 
 -- what is in flight once a message was taken, or was not
 abbrev FlightLeft : World → List Flying → Replay → Option TurnRecord → Type 0
@@ -237,11 +240,20 @@ module _ (world next : World) (event : Event) (left : List Flying) (old new : Re
       (same ∙ a.0, a.2, record { nodes = a.1; flight = flight ∙ ap flight_in (sym a.2) })
   taken_made (Some sent) (Some made) goes takes flight same names message_is =
       let to = sent.envelope.to in
-      let a = answered world event left to (log.taken sent.envelope) next sent.stamp (slice_get world.nodes to) nodes (Some made) now refl is.nodes takes goes in
-      (a.turn, a.made_is,
-      record { is = same ∙ a.is; before_is = a.before_is; event_is = a.event_is; names = names ∙ ap Some (sym a.node_is);
-        takes = message_is ∙ sym (ap brought_by a.input_is); acts = a.acts; stands = a.stands },
-      record { nodes = a.nodes; flight = ap (λ f. f ++ made.out) flight ∙ sym a.flying })
+      let a = answered world event left to (log.taken sent.envelope) next sent.stamp (slice_get world.nodes to) nodes (Some made) now refl is.nodes takes goes in (
+        a.turn,
+        a.made_is,
+        record {
+          is = same ∙ a.is;
+          before_is = a.before_is;
+          event_is = a.event_is;
+          names = names ∙ ap Some (sym a.node_is);
+          takes = message_is ∙ sym (ap brought_by a.input_is);
+          acts = a.acts;
+          stands = a.stands;
+        },
+        record { nodes = a.nodes; flight = ap (λ f. f ++ made.out) flight ∙ sym a.flying },
+      )
 
 left_after : (world : World) (place : ℕ) (old new : Replay) → IsReplay old world → (made : Option TurnRecord)
     → new.flight.items ≡ left_behind old.flight.items place made → FlightLeft world (remove world.flight place) new made
@@ -280,14 +292,14 @@ repeat_made world next place old new made is goes takes flight =
 -- ---- one node
 
 -- a node that does not begin, or does not expect a message, is as it was
-pub is_refused : (outcome : Outcome) (was : Node) (fault : NodeFault) (now : Option Node) → AnswersTurn outcome was fault now
+pub is_refused : {outcome : Outcome} {was : Node} {fault : NodeFault} {now : Option Node} → AnswersTurn outcome was fault now
     → (fault ≡ NotReady) ⊎ (fault ≡ Unexpected) → Answers outcome was None now
-is_refused not_ready was NotReady (Some was) unready which = refl
-is_refused unexpected was Unexpected (Some was) unawaited which = refl
-is_refused worn was Worn None too_large (inl same) = cc
-is_refused worn was Worn None too_large (inr same) = cc
-is_refused outcome was NoMemory None without_memory (inl same) = cc
-is_refused outcome was NoMemory None without_memory (inr same) = cc
+is_refused unready which = refl
+is_refused unawaited which = refl
+is_refused too_large (inl same) = cc
+is_refused too_large (inr same) = cc
+is_refused without_memory (inl same) = cc
+is_refused without_memory (inr same) = cc
 
 -- a node that is there
 answers_there : (nodes : List TracedNode) (n : ℕ) (input : Input) (old new : TracedNode) (made : Option TurnRecord) (o : Option Node)
@@ -325,27 +337,27 @@ answers_none nodes n input past =
 
 -- ---- a turn that may be refused memory
 
-pub run_so : {E : Type 0} (world next : World) (n : ℕ) (old new : Replay) (result : Result (Option TurnRecord) E) → IsReplay old world
+run_ok : {E : Type 0} (world next : World) (n : ℕ) (old new : Replay) (result : Result (Option TurnRecord) E) → IsReplay old world
     → event_on world (events.Run n) ≡ Some next
     → IfOk result (λ made. AnswersAt (nodes_played old.nodes.items) n log.run (slice_get (nodes_played old.nodes.items) n) made (nodes_played new.nodes.items))
     → new.flight ≡ old.flight → IfOk result (λ made. IsMade world (events.Run n) next made new)
-run_so world next n old new (Ok made) is goes answers flight = run_made world next n old new made is goes answers flight
-run_so world next n old new (Err error) is goes answers flight = tt
+run_ok world next n old new (Ok made) is goes answers flight = run_made world next n old new made is goes answers flight
+run_ok world next n old new (Err error) is goes answers flight = tt
 
-pub deliver_so : {E : Type 0} (world next : World) (place : ℕ) (old new : Replay) (result : Result (Option TurnRecord) E) → IsReplay old world
+deliver_ok : {E : Type 0} (world next : World) (place : ℕ) (old new : Replay) (result : Result (Option TurnRecord) E) → IsReplay old world
     → event_on world (events.Deliver place) ≡ Some next
     → IfOk result (λ made. TakesAt (nodes_played old.nodes.items) (slice_get old.flight.items place) made (nodes_played new.nodes.items))
     → IfOk result (λ made. new.flight.items ≡ left_behind old.flight.items place made)
     → IfOk result (λ made. IsMade world (events.Deliver place) next made new)
-deliver_so world next place old new (Ok made) is goes takes flight = deliver_made world next place old new made is goes takes flight
-deliver_so world next place old new (Err error) is goes takes flight = tt
+deliver_ok world next place old new (Ok made) is goes takes flight = deliver_made world next place old new made is goes takes flight
+deliver_ok world next place old new (Err error) is goes takes flight = tt
 
-pub repeat_so : {E : Type 0} (world next : World) (place : ℕ) (old new : Replay) (result : Result (Option TurnRecord) E) → IsReplay old world
+repeat_ok : {E : Type 0} (world next : World) (place : ℕ) (old new : Replay) (result : Result (Option TurnRecord) E) → IsReplay old world
     → event_on world (events.Repeat place) ≡ Some next
     → IfOk result (λ made. TakesAt (nodes_played old.nodes.items) (slice_get old.flight.items place) made (nodes_played new.nodes.items))
     → new.flight ≡ old.flight → IfOk result (λ made. IsMade world (events.Repeat place) next made new)
-repeat_so world next place old new (Ok made) is goes takes flight = repeat_made world next place old new made is goes takes flight
-repeat_so world next place old new (Err error) is goes takes flight = tt
+repeat_ok world next place old new (Ok made) is goes takes flight = repeat_made world next place old new made is goes takes flight
+repeat_ok world next place old new (Err error) is goes takes flight = tt
 
 -- a message that was taken was there
 within_taken : (nodes : List (Option Node)) (flight : List EnvelopeRecord) (place : ℕ) (o : Option EnvelopeRecord) (made : TurnRecord)
@@ -359,3 +371,67 @@ pub left_so : (nodes : List (Option Node)) (old new : List EnvelopeRecord) (plac
 left_so nodes old new place None now takes kept removed = kept refl
 left_so nodes old new place (Some made) now takes kept removed =
     removed refl (within_taken nodes old place (slice_get old place) made now refl takes)
+
+-- the same by an event that is this one
+module _ {E : Type 0} (world next : World) (event : Event) (n : ℕ) (old new : Replay) (result : Result (Option TurnRecord) E) (is : IsReplay old world) where
+  pub run_so : event ≡ events.Run n → event_on world event ≡ Some next
+      → IfOk result (λ made. AnswersAt (nodes_played old.nodes.items) n log.run (slice_get (nodes_played old.nodes.items) n) made (nodes_played new.nodes.items))
+      → new.flight ≡ old.flight → IfOk result (λ made. IsMade world event next made new)
+  run_so same goes answers flight =
+      subst (λ (e : Event). event_on world e ≡ Some next → IfOk result (λ made. IsMade world e next made new)) (sym same)
+      (λ so. run_ok world next n old new result is so answers flight) goes
+
+  pub deliver_so : event ≡ events.Deliver n → event_on world event ≡ Some next
+      → IfOk result (λ made. TakesAt (nodes_played old.nodes.items) (slice_get old.flight.items n) made (nodes_played new.nodes.items))
+      → IfOk result (λ made. new.flight.items ≡ left_behind old.flight.items n made)
+      → IfOk result (λ made. IsMade world event next made new)
+  deliver_so same goes takes flight =
+      subst (λ (e : Event). event_on world e ≡ Some next → IfOk result (λ made. IsMade world e next made new)) (sym same)
+      (λ so. deliver_ok world next n old new result is so takes flight) goes
+
+  pub repeat_so : event ≡ events.Repeat n → event_on world event ≡ Some next
+      → IfOk result (λ made. TakesAt (nodes_played old.nodes.items) (slice_get old.flight.items n) made (nodes_played new.nodes.items))
+      → new.flight ≡ old.flight → IfOk result (λ made. IsMade world event next made new)
+  repeat_so same goes takes flight =
+      subst (λ (e : Event). event_on world e ≡ Some next → IfOk result (λ made. IsMade world e next made new)) (sym same)
+      (λ so. repeat_ok world next n old new result is so takes flight) goes
+
+-- ---- at the beginning
+
+pub fresh_more : (f : ℕ → Node) (made new : List TracedNode) (x : TracedNode) (me : ℕ) → nodes_played made ≡ map (λ n. Some (f n)) (range_with_len 0 me)
+    → new ≡ made ++ x ∷ [] → x.node ≡ Some (f me) → nodes_played new ≡ map (λ n. Some (f n)) (range_with_len 0 (me + 1))
+fresh_more f made new x me so_far is one =
+    ap nodes_played is ∙ map-append (λ (t : TracedNode). t.node) made (x ∷ []) ∙ ap₂ (λ l o. l ++ o ∷ []) so_far one
+    ∙ sym (map-range_with_len_more (λ n. Some (f n)) 0 me me (zero-add me))
+
+pub fresh_are : (f : ℕ → Node) (ns : List ℕ)
+    → map (λ n. Some (f n)) ns ≡ map (λ (l : Logged). Some l.node) (map (λ (node : Node). record { node = node; log = [] }) (map f ns))
+fresh_are f [] = refl
+fresh_are f (n ∷ ns) = ap (λ l. Some (f n) ∷ l) (fresh_are f ns)
+
+-- ---- the state of a node
+
+state_of : {S : Type 0} (now : S → Node) (o : Option Logged) (t : Option Node) (found : Option S) → option_map (λ (l : Logged). Some l.node) o ≡ Some t
+    → MatchOption found (t ≡ None) (λ s. t ≡ Some (now s)) → option_map now found ≡ option_map (λ (l : Logged). l.node) o
+state_of now None t found there is = cc
+state_of now (Some l) t None there is = let same : Some l.node ≡ t = same_Some (Some l.node) t there in let never : Some l.node ≡ None = same ∙ is in cc
+state_of now (Some l) t (Some s) there is = sym is ∙ sym (same_Some (Some l.node) t there)
+
+module _ {S : Type 0} (now : S → Node) (replay : Replay) (world : World) (n : ℕ) (is : IsReplay replay world) where
+  abbrev found_there : slice_get (nodes_played replay.nodes.items) n ≡ option_map (λ (l : Logged). Some l.node) (slice_get world.nodes n)
+  found_there = ap (λ l. slice_get l n) is.nodes ∙ map_get (λ (l : Logged). Some l.node) world.nodes n
+
+  pub state_there : (t : TracedNode) (found : Option S) → slice_get replay.nodes.items n ≡ Some t
+      → MatchOption found (t.node ≡ None) (λ s. t.node ≡ Some (now s)) → option_map now found ≡ option_map (λ (l : Logged). l.node) (slice_get world.nodes n)
+  state_there t found there said =
+      state_of now (slice_get world.nodes n) t.node found
+      (sym found_there ∙ map_get (λ (x : TracedNode). x.node) replay.nodes.items n ∙ ap (option_map (λ (x : TracedNode). x.node)) there) said
+
+  no_state : (o : Option Logged) → None ≡ option_map (λ (l : Logged). Some l.node) o → None ≡ option_map (λ (l : Logged). l.node) o
+  no_state None is = refl
+  no_state (Some l) is = cc
+
+  pub state_past : slice_get replay.nodes.items n ≡ None → None ≡ option_map (λ (l : Logged). l.node) (slice_get world.nodes n)
+  state_past past =
+      no_state (slice_get world.nodes n)
+      (sym (map_get (λ (x : TracedNode). x.node) replay.nodes.items n ∙ ap (option_map (λ (x : TracedNode). x.node)) past) ∙ found_there)

@@ -48,7 +48,10 @@ impl<'c> Replay<'c> {
         ensures { (world : World) → IsReplay self.now world
             → option_map (λ state. state.now) result ≡ option_map (λ l. l.node) (slice_get world.nodes node) }
     {
-        self.nodes.get(node)?.state()
+        match self.nodes.get(node) {
+            Some(found) => found.state(),
+            None => None,
+        }
     }
 
     /// The message that an event names, where it is in flight.
@@ -121,7 +124,10 @@ impl<'c> Replay<'c> {
         ensures flight { self.new.flight ≡ self.old.flight }
     {
         match self.flight.get(place) {
-            Some(envelope) => take_at(&mut self.nodes, envelope),
+            Some(envelope) => {
+                let to = usize::from(envelope.to);
+                take_at(&mut self.nodes, to, envelope)
+            }
             None => Ok(None),
         }
     }
@@ -140,11 +146,14 @@ fn run_at(nodes: &mut Vec<Node<'_>>, node: usize) -> Result<Option<Turn>, AllocE
 }
 
 // The receiver of a message takes it, if it is there and expects it.
-fn take_at(nodes: &mut Vec<Node<'_>>, envelope: &Envelope) -> Result<Option<Turn>, AllocError>
-    ensures { IfOk result (λ made. AnswersAt (nodes_played nodes.old.items) envelope.now.to (log.taken envelope.now)
-        (slice_get (nodes_played nodes.old.items) envelope.now.to) made (nodes_played nodes.new.items)) }
+fn take_at(
+    nodes: &mut Vec<Node<'_>>,
+    to: usize,
+    envelope: &Envelope,
+) -> Result<Option<Turn>, AllocError>
+    ensures { IfOk result (λ made. AnswersAt (nodes_played nodes.old.items) to (log.taken envelope.now)
+        (slice_get (nodes_played nodes.old.items) to) made (nodes_played nodes.new.items)) }
 {
-    let to = usize::from(envelope.to);
     if to < nodes.len() {
         take_node(&mut nodes[to], envelope)
     } else {

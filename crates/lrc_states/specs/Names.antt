@@ -21,4 +21,3 @@ names_set names values = filter is_set (with_values names values)
 -- those of a node
 abbrev pub names_behind : Plan → List Act → (node : ℕ) → List Named
 names_behind plan acts node = names_set plan.names (walk_behind plan.program plan.nodes plan.lines acts node).thread.privates
-

@@ -7,21 +7,17 @@ ghost use Rattle.lrc_replay.specs.Acts.{Plan as AnyPlan};
 ghost use Rattle.lrc_states.specs.Players.{IsPlayer};
 ghost use Rattle.lrc_states.specs.States.{first_line, first_state, flight_list, setting_members, states_list, written_list};
 
-use lrc_turn_objects::{push_comma, push_labels, push_listed, push_notes};
 use crate::player::Player;
 use lrc_labels::label::Label;
 use lrc_page::Size;
 use lrc_state_text::Known;
 use lrc_text::push_number;
+use lrc_turn_objects::{push_comma, push_labels, push_listed, push_notes};
 use std::alloc::AllocError;
 
 impl Player<'_> {
     /// The line of how all stands.
-    pub(crate) fn first_line(
-        &self,
-        size: Size,
-        labels: &[Label<'_>],
-    ) -> Result<Vec<u8>, AllocError>
+    pub(crate) fn first_line(&self, size: Size, labels: &[Label<'_>]) -> Result<Vec<u8>, AllocError>
         ensures { (plan : AnyPlan) (world : World) (turns : ℕ) → IsPlayer plan world turns self.now
             → IfOk result (λ line. line.items ≡ first_line plan size (map label_seen labels.now) world) }
     {
@@ -45,7 +41,11 @@ impl Player<'_> {
     {
         push_number(line, b"{\"nodes\":", u64::from(self.plan.nodes))?;
         push_number(line, b",\"words\":", u64::from(self.plan.code.words()))?;
-        push_number(line, b",\"locks\":", u64::from(self.plan.code.program().locks()))?;
+        push_number(
+            line,
+            b",\"locks\":",
+            u64::from(self.plan.code.program().locks()),
+        )?;
         push_number(line, b",\"page\":", u64::from(size.words()))
     }
 

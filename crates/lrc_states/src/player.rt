@@ -12,15 +12,15 @@ ghost use Rattle.lrc_states.specs.Players.{IsPlayer, LeavesTurn, TellsTurn, head
 ghost use Rattle.lrc_states.specs.States.{made_members, state_behind};
 ghost use Rattle.lrc_trace.specs.declared.act.Act.{Act};
 
-use lrc_turn_objects::{push_act, push_envelope, push_envelopes, truth};
-use lrc_replay::{Course, Plan, Replay};
 use crate::names::names_set;
 use lrc_envelope::Envelope;
 use lrc_events::push_event;
 use lrc_node::{Options, Turn};
 use lrc_protocol::Event;
+use lrc_replay::{Course, Plan, Replay};
 use lrc_state_text::{Known, Place, push_state};
 use lrc_text::push_number;
+use lrc_turn_objects::{push_act, push_envelope, push_envelopes, truth};
 use std::alloc::{AllocError, Global};
 
 /// How all stands, and how many turns were made.
@@ -134,12 +134,7 @@ impl<'c> Player<'c> {
     }
 
     // Adds the state of a node behind its turn, and the end of the line.
-    fn push_end(
-        &self,
-        line: &mut Vec<u8>,
-        node: u8,
-        known: &Known,
-    ) -> Result<(), AllocError>
+    fn push_end(&self, line: &mut Vec<u8>, node: u8, known: &Known) -> Result<(), AllocError>
         ensures { (plan : AnyPlan) (world : World) (turns : ℕ) (l : Logged) → IsPlayer plan world turns self.now → slice_get world.nodes node ≡ Some l
             → OnOk result (line.new.items ≡ line.old.items ++ (codes ",\"state\":" ++ state_behind plan world.acts node known.now l.node ++ codes "}\n")) }
     {

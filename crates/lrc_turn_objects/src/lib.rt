@@ -3,4 +3,7 @@
 
 mod objects;
 
-pub use objects::{push_act, push_comma, push_envelope, push_envelopes, push_labels, push_listed, push_notes, truth};
+pub use objects::{
+    push_act, push_comma, push_envelope, push_envelopes, push_labels, push_listed, push_notes,
+    truth,
+};

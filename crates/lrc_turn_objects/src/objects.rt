@@ -151,11 +151,7 @@ fn push_done(text: &mut Vec<u8>, spot: Spot, deed: Deed) -> Result<(), AllocErro
 }
 
 /// Adds the act that is made at this spot, if one is.
-pub fn push_act(
-    text: &mut Vec<u8>,
-    spot: Spot,
-    act: Option<Act>,
-) -> Result<(), AllocError>
+pub fn push_act(text: &mut Vec<u8>, spot: Spot, act: Option<Act>) -> Result<(), AllocError>
     ensures { OnOk result (text.new.items ≡ text.old.items ++ act_or_null spot act) }
 {
     match act {

@@ -201,14 +201,7 @@ fn push_statement(
     ensures { OnOk result (text.new.items ≡ text.old.items
         ++ statement_text shown.entry (map (λ name. name.now) names.now) (thread_of way.now) way.now.set.items deed statement.now) }
 {
-    push_names(
-        text,
-        shown,
-        names,
-        &way.spot.privates,
-        statement,
-        &way.set,
-    )?;
+    push_names(text, shown, names, &way.spot.privates, statement, &way.set)?;
     push_quiet(way, text, names, deed, statement)
 }
 
