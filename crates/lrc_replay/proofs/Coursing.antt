@@ -1,11 +1,13 @@
 -- What the code keeps of the acts so far, with one act more.
-use Rattle.std.proofs.Common.{◌≡◌, ◌∙◌, ℕ, zero, suc, ◌+◌, ◌<◌, ◌≤◌, arith, List, [], ◌∷◌, ◌++◌, Bool, true, false, cond, Option, Some, None}
-use Rattle.std.proofs.Common.{refl, sym, ap, ap₂, subst, map, length, get_or, set, take, append-nil, append_assoc, zero-add, inl, inr}
-use Rattle.std.specs.Prelude.{◌==◌, ◌&&◌, fold, if◌then◌else◌, slice_index, slice_index_or, slice_set}
-use Rattle.std.specs.List.{count_by, range_with_len}
+use Rattle.std.proofs.Common.{◌≡◌, ◌∙◌, ℕ, zero, suc, ◌+◌, ◌<◌, arith, List, [], ◌∷◌, ◌++◌, Bool, true, false, cond, Option, Some, None}
+use Rattle.std.proofs.Common.{refl, sym, ap, ap₂, subst, map, length, get_or, set, take, append-nil, append_assoc, zero-add, inl, inr, replicate, ◌≤◌}
+use Rattle.std.specs.Prelude.{◌==◌, ◌&&◌, fold, if◌then◌else◌, slice_get, slice_index, slice_index_or, slice_set, Result, Ok, Err, OnOk}
+use Rattle.std.specs.List.{count_by, flat_map, range_with_len}
+use Rattle.std.specs.Option.{option_to_list}
+use Rattle.std.proofs.lemmas.Option.{get_or_from_slice_get, slice_get_within}
 use Rattle.std.proofs.lemmas.Bool.{cases_eq, cases_lt, eq-eqb, ne_eqb}
-use Rattle.std.proofs.lemmas.List.{get_or-map, length-map, map-set, take_all, get_or_past}
-use Rattle.std.proofs.lemmas.List.FromFn.{get_or-map-range_with_len, length-map-range_with_len}
+use Rattle.std.proofs.lemmas.List.{get_or-map, length_push, length-map, map-set, take_all}
+use Rattle.std.proofs.lemmas.List.FromFn.{get_or-map-range_with_len, length-map-range_with_len, map-range_with_len_more}
 use Rattle.std.proofs.lemmas.List.Sums.{fold-append, sum_by-append}
 use Rattle.lrc_trace.specs.declared.act.Act.{Act}
 use Rattle.lrc_trace.specs.declared.act.Deed.{Deed}
@@ -13,15 +15,19 @@ use Rattle.lrc_trace.specs.declared.act.Deed.TheVariants as deeds
 use Rattle.lrc_trace.specs.Interval.{closes, interval_at}
 use Rattle.lrc_trace.specs.Run.{count_of}
 use Rattle.lrc_exec.specs.Meaning.{Thread}
-use Rattle.lrc_lines.specs.Walks.{led, Walk, walk_behind, walks_behind}
-use Rattle.lrc_lines.proofs.Several.{more_other, more_own}
+use Rattle.lrc_exec.specs.Plain.{start_of}
+use Rattle.lrc_lines.specs.Seen.{walks_of}
+use Rattle.lrc_lines.specs.Walks.{led, line_at, Walk, walk_behind, walks_behind}
+use Rattle.lrc_lines.proofs.Several.{line_found, more_other, more_own}
 use Rattle.lrc_private.specs.declared.way.Way.{Way}
 use Rattle.lrc_private.specs.Ways.{thread_led, thread_of}
 use Rattle.lrc_private.proofs.Led.{led-thread}
 use Rattle.lrc_replay.specs.declared.notes.Note.{Note}
+use Rattle.lrc_replay.specs.declared.course.Course.{Course}
 use Rattle.lrc_replay.specs.declared.notes.Notes.{Notes}
-use Rattle.lrc_replay.specs.Acts.{last_note, note_of, notes_behind, Plan, spot_behind}
-use Rattle.lrc_replay.specs.Courses.{AreClosed, AreNotes, AreWays}
+use Rattle.lrc_replay.specs.declared.notes.Spot.{Spot}
+use Rattle.lrc_replay.specs.Acts.{last_note, last_notes, note_of, notes_behind, Plan, spot_behind}
+use Rattle.lrc_replay.specs.Courses.{AreClosed, AreNotes, AreWays, IsCourse}
 
 -- ---- numbers in a row
 
@@ -55,6 +61,17 @@ unset_at : {X : Type 0} (f g : ℕ → X) (n k : ℕ) → n ≤ k → ((i : ℕ)
     → map f (range_with_len 0 n) ≡ map g (range_with_len 0 n)
 unset_at f g n k past same = same_in_range f g 0 n (λ i low high. same i (λ e. omega (arith, e, past, high)))
 
+all_same : {X : Type 0} (f : ℕ → X) (from n : ℕ) (x : X) → ((i : ℕ) → f i ≡ x) → replicate n x ≡ map f (range_with_len from n)
+all_same f from zero x same = refl
+all_same f from (suc n) x same = ap₂ ◌∷◌ (sym (same from)) (all_same f (from + 1) n x same)
+
+flat_map_map : {X Y : Type 0} (f : X → Option Y) (xs : List X) → flat_map option_to_list (map f xs) ≡ flat_map (λ x. option_to_list (f x)) xs
+flat_map_map f [] = refl
+flat_map_map f (x ∷ xs) = ap (λ l. option_to_list (f x) ++ l) (flat_map_map f xs)
+
+same_spot : (a b : Spot) → a.position ≡ b.position → a.line ≡ b.line → a.interval ≡ b.interval → a ≡ b
+same_spot a b position line interval = cc
+
 -- ---- the last Writes
 
 last_more : (notes : List Note) (note : Note) (word : ℕ)
@@ -69,17 +86,23 @@ last_other : (notes : List Note) (note : Note) (word : ℕ) → (word ≡ note.w
 last_other notes note word other =
     sym (last_more notes note word ∙ ap (λ b. if b then Some note else last_note notes word) (ne_eqb note.word word (λ e. other (sym e))))
 
-pub note_kept : (words : ℕ) (all : List Note) (note : Note) (old new : Notes) → AreNotes words all old
-    → new.last.items ≡ slice_set old.last.items note.word (Some note) → AreNotes words (all ++ note ∷ []) new
-note_kept words all note old new are is =
-    is ∙ ap (λ l. slice_set l note.word (Some note)) are
+pub note_kept : (words : ℕ) (all : List Note) (note : Note) (old : Notes) → AreNotes words all old
+    → slice_set old.last.items note.word (Some note) ≡ map (last_note (all ++ note ∷ [])) (range_with_len 0 words)
+note_kept words all note old are =
+    ap (λ l. slice_set l note.word (Some note)) are
     ∙ set_at (last_note all) (last_note (all ++ note ∷ [])) words note.word (Some note) (last_own all note) (last_other all note)
 
-pub note_past : (words : ℕ) (all : List Note) (note : Note) (old new : Notes) → AreNotes words all old
-    → length old.last.items ≤ note.word → new.last.items ≡ old.last.items → AreNotes words (all ++ note ∷ []) new
-note_past words all note old new are past is =
+pub note_past : (words : ℕ) (all : List Note) (note : Note) (old : Notes) → AreNotes words all old
+    → length old.last.items ≤ note.word → old.last.items ≡ map (last_note (all ++ note ∷ [])) (range_with_len 0 words)
+note_past words all note old are past =
     let long : length old.last.items ≡ words = ap length are ∙ length-map-range_with_len (last_note all) 0 words in
-    is ∙ are ∙ unset_at (last_note all) (last_note (all ++ note ∷ [])) words note.word (omega (arith, long, past)) (last_other all note)
+    are ∙ unset_at (last_note all) (last_note (all ++ note ∷ [])) words note.word (omega (arith, long, past)) (last_other all note)
+
+-- before any
+pub none_more : (last new : List (Option Note)) (word : ℕ) → last ≡ map (last_note []) (range_with_len 0 word) → new ≡ last ++ None ∷ []
+    → new ≡ map (last_note []) (range_with_len 0 (word + 1))
+none_more last new word so_far is =
+    is ∙ ap (λ l. l ++ None ∷ []) so_far ∙ sym (map-range_with_len_more (last_note []) 0 word word (zero-add word))
 
 -- the Writes behind one act more
 pub notes_more : (plan : Plan) (acts before : List Act) (act : Act) → notes_behind plan before (acts ++ act ∷ [])
@@ -95,11 +118,11 @@ notes_more plan (a ∷ acts) before act =
 
 -- ---- intervals
 
-once : Bool → ℕ
+abbrev once : Bool → ℕ
 once b = cond b 1 0
 
 count_more : (acts : List Act) (act : Act) (node : ℕ)
-    → count_of closes node (acts ++ act ∷ []) ≡ count_of closes node acts + cond (act.node == node && closes act.deed) 1 0
+    → count_of closes node (acts ++ act ∷ []) ≡ count_of closes node acts + once (act.node == node && closes act.deed)
 count_more acts act node =
     let both = sum_by-append (λ (a : Act). cond (a.node == node && closes a.deed) 1 0) acts (act ∷ []) in
     omega (arith, both)
@@ -108,15 +131,15 @@ count_other : (acts : List Act) (act : Act) (node : ℕ) → (node ≡ act.node 
     → count_of closes node acts ≡ count_of closes node (acts ++ act ∷ [])
 count_other acts act node other =
     let more = count_more acts act node in
-    let none : cond (act.node == node && closes act.deed) 1 0 ≡ 0 = ap (λ b. cond (b && closes act.deed) 1 0) (ne_eqb act.node node (λ e. other (sym e))) in
+    let none : once (act.node == node && closes act.deed) ≡ 0 = ap (λ b. once (b && closes act.deed)) (ne_eqb act.node node (λ e. other (sym e))) in
     omega (arith, more, none)
 
 count_own : (acts : List Act) (act : Act) → closes act.deed ≡ true
     → count_of closes act.node acts + 1 ≡ count_of closes act.node (acts ++ act ∷ [])
 count_own acts act does =
     let more = count_more acts act act.node in
-    let one : cond (act.node == act.node && closes act.deed) 1 0 ≡ 1 =
-    ap (λ b. cond (b && closes act.deed) 1 0) (eq-eqb act.node act.node refl) ∙ ap (λ b. cond b 1 0) does in
+    let one : once (act.node == act.node && closes act.deed) ≡ 1 =
+    ap (λ b. once (b && closes act.deed)) (eq-eqb act.node act.node refl) ∙ ap once does in
     omega (arith, more, one)
 
 open_same : (b : Bool) → (b && false) ≡ false
@@ -127,34 +150,46 @@ count_open : (acts : List Act) (act : Act) (node : ℕ) → closes act.deed ≡ 
     → count_of closes node acts ≡ count_of closes node (acts ++ act ∷ [])
 count_open acts act node does_not =
     let more = count_more acts act node in
-    let none : cond (act.node == node && closes act.deed) 1 0 ≡ 0 =
-    ap (λ b. cond (act.node == node && b) 1 0) does_not ∙ ap (λ b. cond b 1 0) (open_same (act.node == node)) in
+    let none : once (act.node == node && closes act.deed) ≡ 0 =
+    ap (λ b. once (act.node == node && b)) does_not ∙ ap once (open_same (act.node == node)) in
     omega (arith, more, none)
+
+abbrev next_of_node : List Act → ℕ → ℕ
+next_of_node acts node = 1 + count_of closes node acts
 
 pub closed_more : (acts : List Act) (act : Act) (old new : List ℕ) → AreClosed acts old → closes act.deed ≡ true → act.node < 256
     → new ≡ slice_set old act.node (slice_index old act.node + 1) → AreClosed (acts ++ act ∷ []) new
 closed_more acts act old new are does few is =
-    let here : slice_index old act.node ≡ count_of closes act.node acts =
-    ap (λ l. slice_index l act.node) are ∙ get_or-map-range_with_len (λ node. count_of closes node acts) 0 256 act.node act.node 0 few (zero-add act.node) in
+    let here : slice_index old act.node ≡ next_of_node acts act.node =
+    ap (λ l. slice_index l act.node) are ∙ get_or-map-range_with_len (next_of_node acts) 0 256 act.node act.node 0 few (zero-add act.node) in
+    let own = count_own acts act does in
     is ∙ ap (λ l. slice_set l act.node (slice_index old act.node + 1)) are
-    ∙ set_at (λ node. count_of closes node acts) (λ node. count_of closes node (acts ++ act ∷ [])) 256 act.node (slice_index old act.node + 1)
-    (ap (λ n. n + 1) here ∙ count_own acts act does) (count_other acts act)
+    ∙ set_at (next_of_node acts) (next_of_node (acts ++ act ∷ [])) 256 act.node (slice_index old act.node + 1)
+    (omega (arith, here, own)) (λ i other. ap (λ n. 1 + n) (count_other acts act i other))
 
 pub closed_same : (acts : List Act) (act : Act) (old new : List ℕ) → AreClosed acts old → closes act.deed ≡ false → new ≡ old
     → AreClosed (acts ++ act ∷ []) new
 closed_same acts act old new are does_not is =
-    is ∙ are ∙ same_in_range (λ node. count_of closes node acts) (λ node. count_of closes node (acts ++ act ∷ [])) 0 256
-    (λ i low high. count_open acts act i does_not)
+    is ∙ are ∙ same_in_range (next_of_node acts) (next_of_node (acts ++ act ∷ [])) 0 256
+    (λ i low high. ap (λ n. 1 + n) (count_open acts act i does_not))
+
+-- each node has its place
+pub none_past : (acts : List Act) (closed : List ℕ) (node : ℕ) → AreClosed acts closed → node < 256 → length closed ≤ node → ⊥
+none_past acts closed node are few past =
+    let long : length closed ≡ 256 = ap length are ∙ length-map-range_with_len (next_of_node acts) 0 256 in
+    omega (arith, long, few, past)
+
+pub closed_past : (acts : List Act) (act : Act) (closed : List ℕ) → AreClosed acts closed → act.node < 256 → length closed ≤ act.node
+    → AreClosed (acts ++ act ∷ []) closed
+closed_past acts act closed are few past = absurd (none_past acts closed act.node are few past)
 
 -- the interval that comes next
 pub interval_is : (acts : List Act) (closed : List ℕ) (node : ℕ) → AreClosed acts closed → node < 256
-    → slice_index closed node + 1 ≡ interval_at acts node (length acts)
+    → slice_index closed node ≡ interval_at acts node (length acts)
 interval_is acts closed node are few =
-    let here : slice_index closed node ≡ count_of closes node acts =
-    ap (λ l. slice_index l node) are ∙ get_or-map-range_with_len (λ n. count_of closes n acts) 0 256 node node 0 few (zero-add node) in
-    let all : count_of closes node (take (length acts) acts) ≡ count_of closes node acts =
-    ap (count_of closes node) (take_all (length acts) acts (omega arith)) in
-    omega (arith, here, all)
+    let here : slice_index closed node ≡ next_of_node acts node =
+    ap (λ l. slice_index l node) are ∙ get_or-map-range_with_len (next_of_node acts) 0 256 node node 0 few (zero-add node) in
+    here ∙ ap (λ l. 1 + count_of closes node l) (sym (take_all (length acts) acts (omega arith)))
 
 -- ---- private names
 
@@ -163,7 +198,7 @@ map_both f [] = refl
 map_both f (n ∷ ns) = ap (λ l. (f n).thread ∷ l) (map_both f ns)
 
 module _ (plan : Plan) (acts : List Act) (act : Act) where
-  abbrev threads : List Act → List Thread
+  abbrev pub threads : List Act → List Thread
   threads l = map (λ (w : Walk). w.thread) (walks_behind plan.program plan.nodes plan.lines l)
 
   abbrev thread_at_node : List Act → ℕ → Thread
@@ -202,3 +237,70 @@ module _ (plan : Plan) (acts : List Act) (act : Act) where
       are ∙ threads_are acts
       ∙ unset_at (thread_at_node acts) (thread_at_node (acts ++ act ∷ [])) plan.nodes act.node (omega (arith, past, long ways are)) other
       ∙ sym (threads_are (acts ++ act ∷ []))
+
+-- ---- the whole
+
+pub on_ok : {E A : Type 0} {P Q : Type 0} (r : Result A E) → OnOk r P → (P → Q) → OnOk r Q
+on_ok (Ok x) holds leads = leads holds
+on_ok (Err e) holds leads = tt
+
+pub closed_long : (acts : List Act) (closed : List ℕ) → AreClosed acts closed → length closed ≡ 256
+closed_long acts closed are = ap length are ∙ length-map-range_with_len (next_of_node acts) 0 256
+
+pub nothing_noted : (words : ℕ) (all : List Note) (notes : Notes) → AreNotes words all notes → AreNotes words (all ++ []) notes
+nothing_noted words all notes are = subst (λ (l : List Note). AreNotes words l notes) (sym (append-nil all)) are
+
+pub closed_at_start : (closed : List ℕ) → closed ≡ replicate 256 1 → AreClosed [] closed
+closed_at_start closed is = is ∙ all_same (next_of_node []) 0 256 1 (λ i. refl)
+
+pub spot_is : (plan : Plan) (acts : List Act) (course : Course) (node : ℕ) (spot : Spot) → IsCourse plan acts course → spot.position ≡ course.acts
+    → spot.line ≡ slice_index_or (map (line_at course.walks.end) (walks_of course.walks)) node course.walks.end
+    → spot.interval ≡ interval_at acts node (length acts) → spot ≡ spot_behind plan acts node
+spot_is plan acts course node spot is position line interval =
+    same_spot spot (spot_behind plan acts node) (position ∙ is.counted)
+    (line ∙ line_found plan.program plan.nodes plan.lines acts course.walks.nodes.items course.walks.end node is.walks is.end) interval
+
+pub no_act : (plan : Plan) (acts : List Act) (course : Course) → IsCourse plan acts course → IsCourse plan (acts ++ []) course
+no_act plan acts course is = subst (λ (l : List Act). IsCourse plan l course) (sym (append-nil acts)) is
+
+pub notes_passed : (plan : Plan) (acts : List Act) (act : Act) (notes : Notes)
+    → AreNotes plan.program.words (notes_behind plan [] acts ++ note_of (spot_behind plan acts act.node) act.node act.deed) notes
+    → AreNotes plan.program.words (notes_behind plan [] (acts ++ act ∷ [])) notes
+notes_passed plan acts act notes are =
+    subst (λ (l : List Note). AreNotes plan.program.words l notes) (sym (notes_more plan acts [] act)) are
+
+pub act_passed : (plan : Plan) (acts : List Act) (act : Act) (old new : Course) → IsCourse plan acts old → new.acts ≡ old.acts + 1
+    → AreClosed (acts ++ act ∷ []) new.closed.items → walks_of new.walks ≡ walks_behind plan.program plan.nodes plan.lines (acts ++ act ∷ [])
+    → new.walks.end ≡ old.walks.end → AreWays plan (acts ++ act ∷ []) new.ways.items
+    → AreNotes plan.program.words (notes_behind plan [] (acts ++ act ∷ [])) new.notes → IsCourse plan (acts ++ act ∷ []) new
+act_passed plan acts act old new is counted closed walks end ways notes = record {
+  counted = counted ∙ ap (λ n. n + 1) is.counted ∙ sym (length_push acts act);
+  closed = closed;
+  walks = walks;
+  end = end ∙ is.end;
+  ways = ways;
+  notes = notes;
+}
+
+-- the last Writes, one after another
+pub notes_are : (plan : Plan) (acts : List Act) (course : Course) → IsCourse plan acts course
+    → flat_map option_to_list course.notes.last.items ≡ last_notes plan.program.words (notes_behind plan [] acts)
+notes_are plan acts course is =
+    ap (flat_map option_to_list) is.notes ∙ flat_map_map (last_note (notes_behind plan [] acts)) (range_with_len 0 plan.program.words)
+
+-- the private names of a node that is there
+pub privates_are : (plan : Plan) (acts : List Act) (course : Course) (k node : ℕ) (way : Way) → IsCourse plan acts course → k ≡ node
+    → k < length course.ways.items → way ≡ get_or course.ways.items k way
+    → way.spot.privates ≡ (walk_behind plan.program plan.nodes plan.lines acts node).thread.privates
+privates_are plan acts course k node way is place within at =
+    let any : Act = record { node = 0; deed = deeds.Quiet } in
+    let inside : k < plan.nodes = omega (arith, within, long plan acts any course.ways.items is.ways) in
+    let here : thread_of way ≡ thread_at_node plan acts any acts node =
+    ap thread_of at ∙ sym (get_or-map thread_of course.ways.items k way (thread_of way) within)
+    ∙ ap (λ l. get_or l k (thread_of way)) (is.ways ∙ threads_are plan acts any acts)
+    ∙ get_or-map-range_with_len (thread_at_node plan acts any acts) 0 plan.nodes k node (thread_of way) inside (zero-add k ∙ place) in
+    ap (λ (t : Thread). t.privates) here
+
+pub ways_at_start : (plan : Plan) (ways : List Way) → map thread_of ways ≡ map (λ me. start_of plan.program plan.nodes me) (range_with_len 0 plan.nodes)
+    → AreWays plan [] ways
+ways_at_start plan ways is = is ∙ sym (threads_are plan [] (record { node = 0; deed = deeds.Quiet }) [])

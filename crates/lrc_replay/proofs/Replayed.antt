@@ -421,9 +421,10 @@ module _ {S : Type 0} (now : S → Node) (replay : Replay) (world : World) (n : 
   abbrev found_there : slice_get (nodes_played replay.nodes.items) n ≡ option_map (λ (l : Logged). Some l.node) (slice_get world.nodes n)
   found_there = ap (λ l. slice_get l n) is.nodes ∙ map_get (λ (l : Logged). Some l.node) world.nodes n
 
-  pub state_there : (t : TracedNode) (found : Option S) → slice_get replay.nodes.items n ≡ Some t
+  pub state_there : (t : TracedNode) (found : Option S) → n < length replay.nodes.items → t ≡ slice_index_or replay.nodes.items n t
       → MatchOption found (t.node ≡ None) (λ s. t.node ≡ Some (now s)) → option_map now found ≡ option_map (λ (l : Logged). l.node) (slice_get world.nodes n)
-  state_there t found there said =
+  state_there t found within at said =
+      let there : slice_get replay.nodes.items n ≡ Some t = slice_get-get_or replay.nodes.items n t within ∙ ap Some (sym at) in
       state_of now (slice_get world.nodes n) t.node found
       (sym found_there ∙ map_get (λ (x : TracedNode). x.node) replay.nodes.items n ∙ ap (option_map (λ (x : TracedNode). x.node)) there) said
 
@@ -431,7 +432,7 @@ module _ {S : Type 0} (now : S → Node) (replay : Replay) (world : World) (n : 
   no_state None is = refl
   no_state (Some l) is = cc
 
-  pub state_past : slice_get replay.nodes.items n ≡ None → None ≡ option_map (λ (l : Logged). l.node) (slice_get world.nodes n)
+  pub state_past : length replay.nodes.items ≤ n → None ≡ option_map (λ (l : Logged). l.node) (slice_get world.nodes n)
   state_past past =
       no_state (slice_get world.nodes n)
-      (sym (map_get (λ (x : TracedNode). x.node) replay.nodes.items n ∙ ap (option_map (λ (x : TracedNode). x.node)) past) ∙ found_there)
+      (sym (map_get (λ (x : TracedNode). x.node) replay.nodes.items n ∙ ap (option_map (λ (x : TracedNode). x.node)) (slice_get_past replay.nodes.items n past)) ∙ found_there)

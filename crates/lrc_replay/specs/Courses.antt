@@ -1,5 +1,5 @@
 -- What the code keeps of the acts so far.
-use Rattle.std.specs.Prelude.{◌≡◌, ℕ, List, [], length, map}
+use Rattle.std.specs.Prelude.{◌≡◌, ℕ, ◌+◌, List, [], length, map}
 use Rattle.std.specs.List.{range_with_len}
 use Rattle.lrc_trace.specs.declared.act.Act.{Act}
 use Rattle.lrc_trace.specs.Interval.{closes}
@@ -22,9 +22,9 @@ plan_of plan = record { program = plan.code.now; nodes = plan.nodes; lines = pla
 abbrev pub AreNotes : (words : ℕ) → List Note → Notes → Type 0
 AreNotes words all notes = notes.last.items ≡ map (last_note all) (range_with_len 0 words)
 
--- of each node how many of these acts close an interval
+-- of each node the interval that comes after these acts
 abbrev pub AreClosed : List Act → List ℕ → Type 0
-AreClosed acts closed = closed ≡ map (λ node. count_of closes node acts) (range_with_len 0 256)
+AreClosed acts closed = closed ≡ map (λ node. 1 + count_of closes node acts) (range_with_len 0 256)
 
 -- these acts have led the nodes' threads here
 abbrev pub AreWays : Plan → List Act → List Way → Type 0

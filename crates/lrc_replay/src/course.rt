@@ -1,6 +1,6 @@
 // What the acts so far have led to.
 
-ghost use Rattle.std.specs.Prelude.{◌≡◌, ◌+◌, ◌++◌, ◌∷◌, [], All, IfOk, IfSome, List, OnOk, length};
+ghost use Rattle.std.specs.Prelude.{◌≡◌, ◌+◌, ◌++◌, ◌∷◌, [], All, IfOk, IfSome, List, OnOk, length, slice_index, slice_set};
 ghost use Rattle.lrc_lines.specs.Walks.{walk_behind};
 ghost use Rattle.lrc_private.specs.Ways.{IsOnWay};
 ghost use Rattle.lrc_trace.specs.declared.act.Act.{Act as AnyAct};
@@ -16,11 +16,12 @@ use lrc_private::Way;
 use lrc_trace::act::{Act, Deed};
 use std::alloc::{AllocError, Global};
 
-/// How many acts there were; how many of each node closed an interval; where each node is in the text, and what its private names are; and
+/// How many acts there were; of each node the interval that comes next; where each node is in the text, and what its private names are; and
 /// the last Write to each word.
 #[derive(Drop)]
 pub struct Course<'c> {
     acts: u64,
+    // By nodes; there are no more than 256.
     closed: Vec<u64>,
     walks: Walks<'c>,
     ways: Vec<Way<'c>>,
@@ -37,7 +38,7 @@ fn closes(deed: Deed) -> bool
 // Nodes 0, 1, .. at the beginning of the program.
 fn ways_at_start<'c>(alloc: Global, plan: Plan<'c>) -> Result<Vec<Way<'c>>, AllocError>
     ensures on { IfOk result (λ ways. All IsOnWay ways.items) }
-    ensures ways { IfOk result (λ ways. AreWays (plan_of plan) [] ways.items) }
+    ensures ways { IfOk result (λ ways. AreWays (plan_of plan.entry) [] ways.items) }
 {
     let mut ways = Vec::new(alloc);
     for me in 0..plan.nodes {
@@ -50,11 +51,11 @@ impl<'c> Course<'c> {
     /// Before any act.
     pub fn start(alloc: Global, plan: Plan<'c>) -> Result<Course<'c>, AllocError>
         ensures on { IfOk result (λ course. All IsOnWay course.ways.items) }
-        ensures course { IfOk result (IsCourse (plan_of plan) []) }
+        ensures course { IfOk result (IsCourse (plan_of plan.entry) []) }
     {
         Ok(Course {
             acts: 0,
-            closed: vec![in alloc; 0u64; 256usize]?,
+            closed: vec![in alloc; 1u64; 256usize]?,
             walks: Walks::start(alloc, plan.code, plan.lines, plan.nodes)?,
             ways: ways_at_start(alloc, plan)?,
             notes: Notes::none(alloc, plan.code.words())?,
@@ -84,13 +85,16 @@ impl<'c> Course<'c> {
         ensures { (plan : AnyPlan) (acts : List AnyAct) → IsCourse plan acts self.now
             → IfSome result (λ values. values.now ≡ (walk_behind plan.program plan.nodes plan.lines acts node).thread.privates) }
     {
-        match self.ways.get(usize::from(node)) {
-            Some(way) => Some(&way.spot.privates),
-            None => None,
+        let node = usize::from(node);
+        if node < self.ways.len() {
+            Some(&self.ways[node].spot.privates)
+        } else {
+            None
         }
     }
 
     /// The last Write to each word that was written, by word.
+    #[tactic(auto, using(crate::proofs::Coursing::notes_are))]
     pub fn notes(&self, alloc: Global) -> Result<Vec<Note>, AllocError>
         ensures { (plan : AnyPlan) (acts : List AnyAct) → IsCourse plan acts self.now
             → IfOk result (λ notes. notes.items ≡ last_notes plan.program.words (notes_behind plan [] acts)) }
@@ -136,16 +140,13 @@ fn next(count: u64) -> Result<u64, AllocError>
     }
 }
 
-// The number of the interval that comes after so many of the node.
+// The interval of the node's next act.
+#[tactic(auto, using(crate::proofs::Coursing::interval_is, crate::proofs::Coursing::none_past))]
 fn interval_after(closed: &[u64], node: u8) -> u64
     ensures { (acts : List AnyAct) → AreClosed acts closed.now → result ≡ interval_at acts node (length acts) }
 {
     let node = usize::from(node);
-    if node < closed.len() {
-        closed[node].saturating_add(1)
-    } else {
-        1
-    }
+    if node < closed.len() { closed[node] } else { 1 }
 }
 
 // The private names of the act's node are those once it is done.
@@ -164,8 +165,19 @@ fn lead(ways: &mut Vec<Way<'_>>, act: Act)
 fn close(closed: &mut Vec<u64>, act: Act) -> Result<(), AllocError>
     ensures { (acts : List AnyAct) → AreClosed acts closed.old.items → OnOk result (AreClosed (acts ++ act ∷ []) closed.new.items) }
 {
-    let node = usize::from(act.node);
-    if node < closed.len() && closes(act.deed) {
+    if closes(act.deed) {
+        return open_next(closed, act.node);
+    }
+    Ok(())
+}
+
+// The next interval of a node is one later.
+fn open_next(closed: &mut Vec<u64>, node: u8) -> Result<(), AllocError>
+    ensures { length closed.old.items ≡ 256
+        → OnOk result (closed.new.items ≡ slice_set closed.old.items node (slice_index closed.old.items node + 1)) }
+{
+    let node = usize::from(node);
+    if node < closed.len() {
         closed[node] = next(closed[node])?;
     }
     Ok(())

@@ -38,12 +38,15 @@ impl Notes {
     pub(crate) fn none(alloc: Global, words: u32) -> Result<Notes, AllocError>
         ensures { IfOk result (AreNotes words []) }
     {
-        Ok(Notes {
-            last: vec![in alloc; None; words as usize]?,
-        })
+        let mut last = Vec::new(alloc);
+        for _word in 0..words {
+            last.push(None)?;
+        }
+        Ok(Notes { last })
     }
 
     /// Notes what a deed writes, if it writes a word.
+    #[tactic(auto, using(crate::proofs::Coursing::nothing_noted))]
     pub(crate) fn note(&mut self, node: u8, deed: Deed, spot: Spot)
         ensures { (words : ℕ) (all : List AnyNote) → AreNotes words all self.old → AreNotes words (all ++ note_of spot node deed) self.new }
     {

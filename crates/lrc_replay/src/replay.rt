@@ -48,9 +48,10 @@ impl<'c> Replay<'c> {
         ensures { (world : World) → IsReplay self.now world
             → option_map (λ state. state.now) result ≡ option_map (λ l. l.node) (slice_get world.nodes node) }
     {
-        match self.nodes.get(node) {
-            Some(found) => found.state(),
-            None => None,
+        if node < self.nodes.len() {
+            self.nodes[node].state()
+        } else {
+            None
         }
     }
 
