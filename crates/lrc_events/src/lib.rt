@@ -5,4 +5,4 @@ pub mod events;
 pub mod laws;
 mod writing;
 
-pub use writing::events_part;
+pub use writing::{events_part, push_event};

@@ -19,8 +19,8 @@ pub fn events_part(alloc: Global, events: &[Event]) -> Result<Vec<u8>, AllocErro
     Ok(text)
 }
 
-// Adds the words of an event.
-fn push_event(text: &mut Vec<u8>, event: Event) -> Result<(), AllocError>
+/// Adds the words of an event.
+pub fn push_event(text: &mut Vec<u8>, event: Event) -> Result<(), AllocError>
     ensures { OnOk result (text.new.items ≡ text.old.items ++ event_text event) }
 {
     match event {

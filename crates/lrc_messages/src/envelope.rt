@@ -90,7 +90,8 @@ fn size_of(alloc: Global, envelope: &Envelope) -> Result<Option<u64>, AllocError
     }
 }
 
-fn push_size(alloc: Global, text: &mut Vec<u8>, envelope: &Envelope) -> Result<(), AllocError>
+/// Adds how many bytes an envelope has, or `no` where it has more than may be sent.
+pub fn push_size(alloc: Global, text: &mut Vec<u8>, envelope: &Envelope) -> Result<(), AllocError>
     ensures ok { OnOk result (text.new.items ≡ text.old.items ++ size_text envelope.now) }
     ensures err { OnErr result (BeginsWith text.new.items text.old.items) }
 {

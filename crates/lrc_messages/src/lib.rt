@@ -7,5 +7,5 @@ mod lists;
 mod message;
 mod news;
 
-pub use envelope::{push_all_sent, push_sent, push_taken};
+pub use envelope::{push_all_sent, push_sent, push_size, push_taken};
 pub use message::{kind_name, push_message};

@@ -1,4 +1,0 @@
-pub mod Led
-pub mod Lasts
-pub mod Onward
-pub mod Values

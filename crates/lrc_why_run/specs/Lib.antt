@@ -1,6 +1,2 @@
-pub mod Statement
-pub mod Spelling
-pub mod Standing
-pub mod Ways
 pub mod Private
 pub mod Answers

@@ -1,11 +1,7 @@
 //! What `why` prints of an act of a run, and of two: the reasons of its acts, with the lines, the names and the labels of the text.
 #![tactic(auto)]
 
-pub mod laws;
 mod private;
 mod run;
-mod spelling;
-mod statement;
-mod way;
 
 pub use run::why_run;

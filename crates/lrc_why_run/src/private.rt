@@ -6,14 +6,12 @@ ghost use Rattle.lrc_exec.specs.Meaning.{value_in};
 ghost use Rattle.lrc_lang.specs.Sizes.{names_in_expression, names_in_statement};
 ghost use Rattle.lrc_lang.specs.Statements.{expression_of, statement_of};
 ghost use Rattle.lrc_why_run.specs.Private.{condition_line, is_quiet, is_text, name_line, name_text, names_text, private_text, quiet_text, set_text, sets_line, statement_text, unseen_text};
-ghost use Rattle.lrc_why_run.specs.Ways.{IsOnWay, thread_of};
+ghost use Rattle.lrc_private.specs.Ways.{IsOnWay, thread_of};
 
-use crate::spelling::spelling;
-use crate::statement::reads_name;
-use crate::way::Way;
 use lrc_exec::machine::Machine;
 use lrc_exec::value::evaluate;
 use lrc_lang::program::{Expression, Statement};
+use lrc_private::{Way, reads_name, spelling};
 use lrc_text::push_number;
 use lrc_trace::act::Deed;
 use lrc_why_lines::places::push_there;
@@ -128,108 +126,99 @@ fn is_quiet(deed: Deed) -> bool
     matches!(deed, Deed::Quiet)
 }
 
-impl Way<'_> {
-    // The value of an expression, if it has one.
-    fn value(&self, expression: &Expression) -> Option<u64>
-        requires { names_in_expression (expression_of expression.now) ≤ 32 }
-        ensures { result ≡ value_in (thread_of self.now) expression.now }
-    {
-        let spot = &self.spot;
-        evaluate(expression, &spot.privates, spot.me, self.flat.nodes).ok()
-    }
+// The value of an expression, if it has one.
+fn value(way: &Way<'_>, expression: &Expression) -> Option<u64>
+    requires { names_in_expression (expression_of expression.now) ≤ 32 }
+    ensures { result ≡ value_in (thread_of way.now) expression.now }
+{
+    let spot = &way.spot;
+    evaluate(expression, &spot.privates, spot.me, way.flat.nodes).ok()
+}
 
-    // Whether the condition holds that comes next.
-    fn condition_holds(&self) -> bool
-        requires { IsOnWay self.now }
-        ensures { result ≡ condition_holds (thread_of self.now) }
-    {
-        Machine::at(&self.flat, &self.spot).condition_holds()
-    }
+// Whether the condition holds that comes next.
+fn condition_holds(way: &Way<'_>) -> bool
+    requires { IsOnWay way.now }
+    ensures { result ≡ condition_holds (thread_of way.now) }
+{
+    Machine::at(&way.flat, &way.spot).condition_holds()
+}
 
-    // Adds what the node does by its statement that only it sees.
-    #[tactic(auto, unfolding(crate::specs::Private::unseen_text))]
-    fn push_unseen(
-        &self,
-        text: &mut Vec<u8>,
-        names: &[&[u8]],
-        statement: &Statement,
-    ) -> Result<(), AllocError>
-        requires on { IsOnWay self.now }
-        requires names { names_in_statement (statement_of statement.now) ≤ 32 }
-        ensures { OnOk result (text.new.items ≡ text.old.items
-            ++ unseen_text (map (λ name. name.now) names.now) (thread_of self.now) statement.now) }
-    {
-        match statement {
-            Statement::Assign(name, value) => {
-                push_sets(text, spelling(names, usize::from(*name)), self.value(value))
-            }
-            Statement::If(..) | Statement::While(..) => {
-                text.extend_from_slice(condition_words(self.condition_holds()))
-            }
-            _ => Ok(()),
+// Adds what the node does by its statement that only it sees.
+#[tactic(auto, unfolding(crate::specs::Private::unseen_text))]
+fn push_unseen(
+    way: &Way<'_>,
+    text: &mut Vec<u8>,
+    names: &[&[u8]],
+    statement: &Statement,
+) -> Result<(), AllocError>
+    requires on { IsOnWay way.now }
+    requires names { names_in_statement (statement_of statement.now) ≤ 32 }
+    ensures { OnOk result (text.new.items ≡ text.old.items
+        ++ unseen_text (map (λ name. name.now) names.now) (thread_of way.now) statement.now) }
+{
+    match statement {
+        Statement::Assign(name, value) => {
+            push_sets(text, spelling(names, usize::from(*name)), value(way, value))
         }
-    }
-
-    // Adds what the node does by a deed that only it sees.
-    #[tactic(auto, unfolding(crate::specs::Private::quiet_text))]
-    fn push_quiet(
-        &self,
-        text: &mut Vec<u8>,
-        names: &[&[u8]],
-        deed: Deed,
-        statement: &Statement,
-    ) -> Result<(), AllocError>
-        requires on { IsOnWay self.now }
-        requires names { names_in_statement (statement_of statement.now) ≤ 32 }
-        ensures { OnOk result (text.new.items ≡ text.old.items
-            ++ quiet_text (map (λ name. name.now) names.now) (thread_of self.now) deed statement.now) }
-    {
-        if is_quiet(deed) {
-            return self.push_unseen(text, names, statement);
+        Statement::If(..) | Statement::While(..) => {
+            text.extend_from_slice(condition_words(condition_holds(way)))
         }
-        Ok(())
+        _ => Ok(()),
     }
+}
 
-    #[tactic(auto, unfolding(crate::specs::Private::statement_text))]
-    fn push_statement(
-        &self,
-        text: &mut Vec<u8>,
-        shown: Shown<'_>,
-        names: &[&[u8]],
-        deed: Deed,
-        statement: &Statement,
-    ) -> Result<(), AllocError>
-        requires on { IsOnWay self.now }
-        requires names { names_in_statement (statement_of statement.now) ≤ 32 }
-        ensures { OnOk result (text.new.items ≡ text.old.items
-            ++ statement_text shown.entry (map (λ name. name.now) names.now) (thread_of self.now) self.now.set.items deed statement.now) }
-    {
-        push_names(
-            text,
-            shown,
-            names,
-            &self.spot.privates,
-            statement,
-            &self.set,
-        )?;
-        self.push_quiet(text, names, deed, statement)
+// Adds what the node does by a deed that only it sees.
+#[tactic(auto, unfolding(crate::specs::Private::quiet_text))]
+fn push_quiet(
+    way: &Way<'_>,
+    text: &mut Vec<u8>,
+    names: &[&[u8]],
+    deed: Deed,
+    statement: &Statement,
+) -> Result<(), AllocError>
+    requires on { IsOnWay way.now }
+    requires names { names_in_statement (statement_of statement.now) ≤ 32 }
+    ensures { OnOk result (text.new.items ≡ text.old.items
+        ++ quiet_text (map (λ name. name.now) names.now) (thread_of way.now) deed statement.now) }
+{
+    if is_quiet(deed) {
+        return push_unseen(way, text, names, statement);
     }
+    Ok(())
+}
 
-    /// Adds what is told from the text of the node's next deed.
-    pub(crate) fn push_private(
-        &self,
-        text: &mut Vec<u8>,
-        shown: Shown<'_>,
-        names: &[&[u8]],
-        deed: Deed,
-    ) -> Result<(), AllocError>
-        requires { IsOnWay self.now }
-        ensures { OnOk result (text.new.items ≡ text.old.items
-            ++ private_text shown.entry (map (λ name. name.now) names.now) (thread_of self.now) self.now.set.items deed) }
-    {
-        match self.statement() {
-            Some(statement) => self.push_statement(text, shown, names, deed, statement),
-            None => Ok(()),
-        }
+#[tactic(auto, unfolding(crate::specs::Private::statement_text))]
+fn push_statement(
+    way: &Way<'_>,
+    text: &mut Vec<u8>,
+    shown: Shown<'_>,
+    names: &[&[u8]],
+    deed: Deed,
+    statement: &Statement,
+) -> Result<(), AllocError>
+    requires on { IsOnWay way.now }
+    requires names { names_in_statement (statement_of statement.now) ≤ 32 }
+    ensures { OnOk result (text.new.items ≡ text.old.items
+        ++ statement_text shown.entry (map (λ name. name.now) names.now) (thread_of way.now) way.now.set.items deed statement.now) }
+{
+    push_names(text, shown, names, &way.spot.privates, statement, &way.set)?;
+    push_quiet(way, text, names, deed, statement)
+}
+
+/// Adds what is told from the text of the node's next deed.
+pub(crate) fn push_private(
+    way: &Way<'_>,
+    text: &mut Vec<u8>,
+    shown: Shown<'_>,
+    names: &[&[u8]],
+    deed: Deed,
+) -> Result<(), AllocError>
+    requires { IsOnWay way.now }
+    ensures { OnOk result (text.new.items ≡ text.old.items
+        ++ private_text shown.entry (map (λ name. name.now) names.now) (thread_of way.now) way.now.set.items deed) }
+{
+    match way.statement() {
+        Some(statement) => push_statement(way, text, shown, names, deed, statement),
+        None => Ok(()),
     }
 }

@@ -10,8 +10,7 @@ ghost use Rattle.lrc_text.specs.Parts.{whole_text};
 ghost use Rattle.lrc_why_text.specs.Answers.{IsThere, TellsOf};
 ghost use Rattle.lrc_why_run.specs.Answers.{AnswersRun, RefusesRun, TellsBehind, TellsPrivate};
 
-use crate::spelling::names_of;
-use crate::way::Way;
+use crate::private::push_private;
 use lrc_exec::code::Code;
 use lrc_judge::intervals_of;
 use lrc_judge::order::happens_before;
@@ -20,6 +19,7 @@ use lrc_lang::lines::lines_of;
 use lrc_lang::program::Program;
 use lrc_lines::walks::lines_of_acts;
 use lrc_page::Size;
+use lrc_private::{Way, names_of};
 use lrc_trace::act::Act;
 use lrc_why_lines::look::act_at;
 use lrc_why_lines::shown::Shown;
@@ -45,7 +45,7 @@ fn private_part(
     let act = act_at(shown, position);
     let way = Way::to(alloc, code, nodes, shown.acts, act.node, position)?;
     let mut text = Vec::new(alloc);
-    way.push_private(&mut text, shown, names, act.deed)?;
+    push_private(&way, &mut text, shown, names, act.deed)?;
     Ok(text)
 }
 

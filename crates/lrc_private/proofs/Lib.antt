@@ -1,0 +1,4 @@
+pub mod Led
+pub mod Lasts
+pub mod Onward
+pub mod Values

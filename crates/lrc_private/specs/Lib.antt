@@ -1,0 +1,4 @@
+pub mod Statement
+pub mod Spelling
+pub mod Standing
+pub mod Ways

@@ -1,0 +1,4 @@
+pub mod Turns
+pub mod Replays
+pub mod Acts
+pub mod Courses

@@ -1,0 +1,10 @@
+pub mod Json
+pub mod Words
+pub mod Place
+pub mod Needs
+pub mod Waits
+pub mod Tokens
+pub mod Manager
+pub mod Copies
+pub mod Intervals
+pub mod State

@@ -1,0 +1,142 @@
+// A node's state as an object.
+
+ghost use Rattle.std.specs.Prelude.{◌≡◌, ◌++◌, IfOk, OnOk, length, map};
+ghost use Rattle.lrc_state_text.specs.Place.{named_seen};
+ghost use Rattle.lrc_state_text.specs.State.{control_members, course_members, mail_members, memory_members, state_text, taken_counts};
+ghost use Rattle.lrc_state_text.specs.Waits.{clock_members, wait_members};
+
+use crate::copies::push_pages;
+use crate::intervals::push_intervals;
+use crate::json::{push_numbers, push_time};
+use crate::known::Known;
+use crate::locks::push_locks;
+use crate::manager::push_barrier;
+use crate::needs::push_needs;
+use crate::place::{Place, push_place};
+use crate::waits::push_wait;
+use lrc_mail::Mail;
+use lrc_node::NodeState;
+use lrc_text::push_number;
+use std::alloc::{AllocError, Global};
+
+// Adds the node's time, and the number of its open interval.
+fn push_clock(text: &mut Vec<u8>, state: &NodeState<'_>) -> Result<(), AllocError>
+    ensures { OnOk result (text.new.items ≡ text.old.items ++ clock_members state.now) }
+{
+    let clock = state.clock();
+    text.extend_from_slice(b"\"time\":")?;
+    push_time(text, clock.time())?;
+    push_number(
+        text,
+        b",\"open\":",
+        u64::from(clock.time().at(state.me())) + 1,
+    )
+}
+
+// Adds what the node waits for, and what is needed then.
+fn push_waits(text: &mut Vec<u8>, state: &NodeState<'_>) -> Result<(), AllocError>
+    ensures { OnOk result (text.new.items ≡ text.old.items ++ wait_members state.now) }
+{
+    let wait = state.mail().wait();
+    let course = state.text();
+    let episode = state.barrier().episode();
+    text.extend_from_slice(b",\"waits\":\"")?;
+    push_wait(text, course.end(), course.is_ready(), episode, wait)?;
+    text.extend_from_slice(b"\",\"needs\":[")?;
+    push_needs(text, wait.needs())?;
+    text.extend_from_slice(b"]")
+}
+
+// Adds how far the node has come.
+fn push_course(
+    text: &mut Vec<u8>,
+    state: &NodeState<'_>,
+    place: &Place<'_>,
+) -> Result<(), AllocError>
+    ensures { OnOk result (text.new.items
+        ≡ text.old.items ++ course_members state.now place.now.at (map named_seen place.now.names.now)) }
+{
+    push_clock(text, state)?;
+    push_waits(text, state)?;
+    push_place(text, place.at, place.names)
+}
+
+// Adds what the node has of locks and barriers.
+fn push_control(text: &mut Vec<u8>, state: &NodeState<'_>) -> Result<(), AllocError>
+    ensures { OnOk result (text.new.items ≡ text.old.items ++ control_members state.now) }
+{
+    // For the proof: the node is one of its nodes.
+    let _here = state.me();
+    push_locks(text, state.clock(), state.locks())?;
+    push_barrier(text, state.barrier(), state.nodes())
+}
+
+// Adds what the node knows of the shared memory, of the intervals those that were not known before.
+fn push_memory(text: &mut Vec<u8>, state: &NodeState<'_>, known: &Known) -> Result<(), AllocError>
+    ensures { OnOk result (text.new.items ≡ text.old.items ++ memory_members state.now known.now) }
+{
+    let memory = state.memory();
+    let stored = known.new_in(*text.allocator(), state)?;
+    push_pages(text, memory, state.pages())?;
+    push_intervals(text, memory.size(), &stored)?;
+    text.extend_from_slice(b",\"collected\":")?;
+    push_time(text, memory.collected())
+}
+
+// How many messages were sent to each of so many nodes.
+fn sent_counts(alloc: Global, mail: &Mail, nodes: u8) -> Result<Vec<u64>, AllocError>
+    requires { nodes ≡ length mail.now.sent }
+    ensures { IfOk result (λ counts. counts.items ≡ mail.now.sent) }
+{
+    let mut counts = Vec::new(alloc);
+    for to in 0..nodes {
+        counts.push(mail.sent(to))?;
+    }
+    Ok(counts)
+}
+
+// How many messages were taken from each of so many nodes.
+fn taken_counts(alloc: Global, mail: &Mail, nodes: u8) -> Result<Vec<u64>, AllocError>
+    requires { nodes ≡ length mail.now.taken }
+    ensures { IfOk result (λ counts. counts.items ≡ taken_counts mail.now) }
+{
+    let mut counts = Vec::new(alloc);
+    for from in 0..nodes {
+        counts.push(mail.taken(from))?;
+    }
+    Ok(counts)
+}
+
+// Adds how many messages the node has sent and taken.
+fn push_mail(text: &mut Vec<u8>, mail: &Mail, nodes: u8) -> Result<(), AllocError>
+    requires sent { nodes ≡ length mail.now.sent }
+    requires taken { nodes ≡ length mail.now.taken }
+    ensures { OnOk result (text.new.items ≡ text.old.items ++ mail_members mail.now) }
+{
+    let sent = sent_counts(*text.allocator(), mail, nodes)?;
+    let taken = taken_counts(*text.allocator(), mail, nodes)?;
+    text.extend_from_slice(b",\"sent\":")?;
+    push_numbers(text, &sent)?;
+    text.extend_from_slice(b",\"taken\":")?;
+    push_numbers(text, &taken)
+}
+
+/// Adds a node's state as an object. What the state itself has not is given: the line of the statement that comes next, with the
+/// private names whose value is not 0. Of the intervals that the node stores those are shown that are not known, or have other
+/// changes than those known.
+pub fn push_state(
+    text: &mut Vec<u8>,
+    state: &NodeState<'_>,
+    place: &Place<'_>,
+    known: &Known,
+) -> Result<(), AllocError>
+    ensures { OnOk result (text.new.items
+        ≡ text.old.items ++ state_text state.now place.now.at (map named_seen place.now.names.now) known.now) }
+{
+    text.extend_from_slice(b"{")?;
+    push_course(text, state, place)?;
+    push_control(text, state)?;
+    push_memory(text, state, known)?;
+    push_mail(text, state.mail(), state.nodes())?;
+    text.extend_from_slice(b"}")
+}

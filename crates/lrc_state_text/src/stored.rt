@@ -1,0 +1,167 @@
+// The intervals that a node stores, with the changes that are stored.
+
+ghost use Rattle.std.specs.Prelude.{◌≡◌, ◌<◌, IfOk, OnOk, length};
+ghost use Rattle.std.specs.Cmp.Lexicographic.{pointwise};
+ghost use Rattle.lrc_protocol.specs.Pages.{Memory as MemoryRecord};
+ghost use Rattle.lrc_store.specs.Interval.{IntervalRecord};
+ghost use Rattle.lrc_time.specs.Time.{zeros};
+ghost use Rattle.lrc_state_text.specs.Intervals.{changes_stored, intervals_stored, is_same, page_changes, same_changes, stored_in, with_changes};
+
+use lrc_memory::Memory;
+use lrc_page::Changes;
+use lrc_store::{Interval, Intervals};
+use lrc_time::Time;
+use std::alloc::{AllocError, Global};
+use std::marker::Model;
+
+/// What an interval changed in a page.
+#[derive(Drop)]
+pub struct PageChanges {
+    pub page: u16,
+    pub changes: Changes,
+}
+
+/// An interval that a node stores, with its changes that are stored too, by page.
+#[derive(Drop)]
+pub(crate) struct StoredInterval {
+    pub(crate) interval: Interval,
+    pub(crate) changes: Vec<PageChanges>,
+}
+
+impl Model for StoredInterval {
+    ghost use Rattle.lrc_state_text.specs.Intervals as intervals;
+
+    ghost Value = { intervals.StoredInterval };
+
+    ghost view = { λ s. record { interval = s.interval; changes = s.changes.items } };
+}
+
+impl PageChanges {
+    // Whether the other ones are the same changes of the same page.
+    fn is_same(&self, other: &PageChanges) -> bool
+        ensures { result ≡ same_changes self.now other.now }
+    {
+        self.page == other.page && self.changes == other.changes
+    }
+}
+
+impl StoredInterval {
+    /// Whether the other one is the same interval and has the same changes.
+    pub(crate) fn is_same(&self, other: &StoredInterval) -> bool
+        ensures { result ≡ is_same self.now other.now }
+    {
+        self.interval.node == other.interval.node
+            && self.interval.index() == other.interval.index()
+            && are_same(&self.changes, &other.changes)
+    }
+}
+
+// Whether these are the same changes.
+fn are_same(some: &[PageChanges], others: &[PageChanges]) -> bool
+    ensures { result ≡ pointwise same_changes some.now others.now }
+{
+    if some.len() != others.len() {
+        return false;
+    }
+    for (place, part) in some.iter().enumerate() {
+        if !part.is_same(&others[place]) {
+            return false;
+        }
+    }
+    true
+}
+
+// The indices of the intervals that were added last.
+fn last_added(memory: &Memory, nodes: u8) -> Time
+    requires nodes { nodes ≡ length memory.now.memory.store.last }
+    requires some { 0 < nodes }
+    requires few { nodes ≤ 16 }
+    ensures { result ≡ memory.now.memory.store.last }
+{
+    let mut time = Time::new(nodes);
+    for node in 0..nodes {
+        time.set(node, memory.last(node));
+    }
+    time
+}
+
+// All intervals that are stored, by node and index.
+fn intervals_stored(memory: &Memory, nodes: u8) -> Result<Intervals, AllocError>
+    requires nodes { nodes ≡ length memory.now.memory.store.last }
+    requires some { 0 < nodes }
+    requires few { nodes ≤ 16 }
+    ensures { IfOk result (λ found. found ≡ intervals_stored memory.now.memory) }
+{
+    memory.newer(&Time::new(nodes), &last_added(memory, nodes))
+}
+
+// The changes of a page that an interval names, where they are stored.
+fn changes_stored(
+    memory: &Memory,
+    count: u16,
+    interval: &Interval,
+    page: u16,
+) -> Result<Option<Changes>, AllocError>
+    requires { count ≡ length memory.now.memory.copies }
+    ensures { IfOk result (λ changes. changes ≡ changes_stored memory.now.memory interval.now page) }
+{
+    if page < count {
+        memory.changes_known(interval.node, interval.index(), page)
+    } else {
+        Ok(None)
+    }
+}
+
+// Puts the changes of a page that an interval names behind others, where they are stored.
+fn put_changes(
+    all: &mut Vec<PageChanges>,
+    memory: &Memory,
+    count: u16,
+    interval: &Interval,
+    page: u16,
+) -> Result<(), AllocError>
+    requires { count ≡ length memory.now.memory.copies }
+    ensures { OnOk result (all.new.items ≡ all.old.items ++ option_to_list (page_changes memory.now.memory interval.now page)) }
+{
+    if let Some(changes) = changes_stored(memory, count, interval, page)? {
+        all.push(PageChanges { page, changes })?;
+    }
+    Ok(())
+}
+
+// An interval with its changes that are stored.
+fn with_changes(
+    alloc: Global,
+    memory: &Memory,
+    count: u16,
+    interval: Interval,
+) -> Result<StoredInterval, AllocError>
+    requires { count ≡ length memory.now.memory.copies }
+    ensures { IfOk result (λ stored. stored ≡ with_changes memory.now.memory interval) }
+{
+    let mut changes = Vec::new(alloc);
+    for page in interval.pages.as_slice() {
+        put_changes(&mut changes, memory, count, &interval, *page)?;
+    }
+    Ok(StoredInterval { interval, changes })
+}
+
+/// All intervals that are stored at a node among so many, with so many pages.
+pub(crate) fn stored_in(
+    alloc: Global,
+    memory: &Memory,
+    nodes: u8,
+    count: u16,
+) -> Result<Vec<StoredInterval>, AllocError>
+    requires nodes { nodes ≡ length memory.now.memory.store.last }
+    requires some { 0 < nodes }
+    requires few { nodes ≤ 16 }
+    requires pages { count ≡ length memory.now.memory.copies }
+    ensures { IfOk result (λ stored. stored.items ≡ stored_in memory.now.memory) }
+{
+    let mut all = Vec::new(alloc);
+    for interval in intervals_stored(memory, nodes)?.into_vec() {
+        all.push(with_changes(alloc, memory, count, interval)?)?;
+    }
+    Ok(all)
+}

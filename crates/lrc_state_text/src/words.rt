@@ -1,0 +1,120 @@
+// Words with their values.
+
+ghost use Rattle.std.specs.Prelude.{◌≡◌, ◌++◌, ◌*◌, ◌<◌, ◌^◌, IfOk, OnOk};
+ghost use Rattle.lrc_state_text.specs.Json.{later};
+ghost use Rattle.lrc_state_text.specs.Words.{changed_words, changes_text, first_word, used_words, values_text, word_text, words_text};
+
+use lrc_page::{Changes, Size};
+use lrc_text::push_number;
+use std::alloc::{AllocError, Global};
+
+/// A word of the shared memory, with a value.
+#[derive(Clone, Copy)]
+pub struct Word {
+    pub number: u64,
+    pub value: u64,
+}
+
+/// The number of the first word of a page.
+pub(crate) fn first_word(size: Size, page: u16) -> u32
+    ensures { result ≡ first_word size page }
+{
+    u32::from(page) * u32::from(size.words())
+}
+
+fn push_word(text: &mut Vec<u8>, word: Word) -> Result<(), AllocError>
+    ensures { OnOk result (text.new.items ≡ text.old.items ++ word_text word) }
+{
+    push_number(text, b"\"", word.number)?;
+    push_number(text, b"\":\"", word.value)?;
+    text.extend_from_slice(b"\"")
+}
+
+// Adds a word behind others.
+fn push_next(text: &mut Vec<u8>, word: Word) -> Result<(), AllocError>
+    ensures { OnOk result (text.new.items ≡ text.old.items ++ (codes "," ++ word_text word)) }
+{
+    text.extend_from_slice(b",")?;
+    push_word(text, word)
+}
+
+fn push_later(text: &mut Vec<u8>, words: &[Word]) -> Result<(), AllocError>
+    ensures { OnOk result (text.new.items ≡ text.old.items ++ later word_text words.now) }
+{
+    for word in words {
+        push_next(text, *word)?;
+    }
+    Ok(())
+}
+
+#[tactic(auto, unfolding(crate::specs::Json::listed))]
+fn push_listed(text: &mut Vec<u8>, words: &[Word]) -> Result<(), AllocError>
+    ensures { OnOk result (text.new.items ≡ text.old.items ++ listed word_text words.now) }
+{
+    match words {
+        [] => Ok(()),
+        [first, rest @ ..] => {
+            push_word(text, *first)?;
+            push_later(text, rest)
+        }
+    }
+}
+
+fn push_words(text: &mut Vec<u8>, words: &[Word]) -> Result<(), AllocError>
+    ensures { OnOk result (text.new.items ≡ text.old.items ++ words_text words.now) }
+{
+    text.extend_from_slice(b"{")?;
+    push_listed(text, words)?;
+    text.extend_from_slice(b"}")
+}
+
+// The words with these values, from this word on, whose value is not 0.
+fn used_words(alloc: Global, first: u32, values: &[u64]) -> Result<Vec<Word>, AllocError>
+    ensures { IfOk result (λ words. words.items ≡ used_words first values.now) }
+{
+    let mut words = Vec::new(alloc);
+    for (place, value) in values.iter().enumerate() {
+        if *value != 0 {
+            words.push(Word {
+                number: u64::from(first) + place as u64,
+                value: *value,
+            })?;
+        }
+    }
+    Ok(words)
+}
+
+// The words that changes name, of the page that begins with this word.
+fn changed_words(alloc: Global, first: u32, changes: &Changes) -> Result<Vec<Word>, AllocError>
+    ensures { IfOk result (λ words. words.items ≡ changed_words first changes.now) }
+{
+    let mut words = Vec::new(alloc);
+    for place in 0..changes.len() {
+        let change = changes.at(place);
+        words.push(Word {
+            number: u64::from(first) + u64::from(change.offset),
+            value: change.value,
+        })?;
+    }
+    Ok(words)
+}
+
+/// Adds the values of a page that begins with this word, but those that are 0.
+pub(crate) fn push_values(text: &mut Vec<u8>, first: u32, values: &[u64]) -> Result<(), AllocError>
+    ensures { OnOk result (text.new.items ≡ text.old.items ++ values_text first values.now) }
+{
+    let words = used_words(*text.allocator(), first, values)?;
+    push_words(text, &words)
+}
+
+/// Adds changes of a page that begins with this word.
+pub(crate) fn push_changes(
+    text: &mut Vec<u8>,
+    first: u32,
+    changes: &Changes,
+) -> Result<(), AllocError>
+    ensures { OnOk result (text.new.items ≡ text.old.items ++ changes_text first changes.now) }
+{
+    let words = changed_words(*text.allocator(), first, changes)?;
+    push_words(text, &words)
+}
