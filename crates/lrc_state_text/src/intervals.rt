@@ -1,7 +1,8 @@
 // Intervals that a node stores, as objects.
 
 ghost use Rattle.std.specs.Prelude.{◌≡◌, ◌++◌, IfOk, OnOk, codes};
-ghost use Rattle.lrc_state_text.specs.Json.{later, listed, numbers_text};
+ghost use Rattle.lrc_store.specs.Interval.{index_of};
+ghost use Rattle.lrc_state_text.specs.Json.{interval_name, later, listed, numbers_text};
 ghost use Rattle.lrc_state_text.specs.Intervals.{interval_text, page_changes_text};
 
 use crate::json::{push_interval_name, push_numbers, push_time};
@@ -12,6 +13,7 @@ use lrc_store::Interval;
 use lrc_text::push_number;
 use std::alloc::{AllocError, Global};
 
+#[tactic(auto, unfolding(crate::specs::Intervals::page_changes_text))]
 fn push_part(text: &mut Vec<u8>, size: Size, part: &PageChanges) -> Result<(), AllocError>
     ensures { OnOk result (text.new.items ≡ text.old.items ++ page_changes_text size part.now) }
 {
@@ -61,28 +63,48 @@ fn numbers_of(alloc: Global, pages: &Pages) -> Result<Vec<u64>, AllocError>
     Ok(numbers)
 }
 
-// Adds the name of an interval, its stamp, and its pages.
-fn push_head(text: &mut Vec<u8>, interval: &Interval) -> Result<(), AllocError>
+// Adds the name of an interval, and its stamp.
+fn push_stamp(text: &mut Vec<u8>, interval: &Interval) -> Result<(), AllocError>
     ensures { OnOk result (text.new.items ≡ text.old.items
         ++ (codes "{\"interval\":" ++ interval_name interval.now.node (index_of interval.now)
-        ++ codes ",\"stamp\":" ++ numbers_text interval.now.stamp ++ codes ",\"pages\":" ++ numbers_text interval.now.pages)) }
+        ++ codes ",\"stamp\":" ++ numbers_text interval.now.stamp)) }
 {
-    let pages = numbers_of(*text.allocator(), &interval.pages)?;
     text.extend_from_slice(b"{\"interval\":")?;
     push_interval_name(text, interval.node, interval.index())?;
     text.extend_from_slice(b",\"stamp\":")?;
-    push_time(text, &interval.stamp)?;
-    text.extend_from_slice(b",\"pages\":")?;
-    push_numbers(text, &pages)
+    push_time(text, &interval.stamp)
 }
 
+// Adds the pages that an interval names.
+fn push_pages(text: &mut Vec<u8>, pages: &Pages) -> Result<(), AllocError>
+    ensures { OnOk result (text.new.items ≡ text.old.items ++ (codes ",\"pages\":" ++ numbers_text pages.now)) }
+{
+    let numbers = numbers_of(*text.allocator(), pages)?;
+    text.extend_from_slice(b",\"pages\":")?;
+    push_numbers(text, &numbers)
+}
+
+// Adds changes of an interval as a member.
+fn push_parts_member(
+    text: &mut Vec<u8>,
+    size: Size,
+    parts: &[PageChanges],
+) -> Result<(), AllocError>
+    ensures { OnOk result (text.new.items
+        ≡ text.old.items ++ (codes ",\"changes\":{" ++ listed (page_changes_text size) parts.now ++ codes "}}")) }
+{
+    text.extend_from_slice(b",\"changes\":{")?;
+    push_parts(text, size, parts)?;
+    text.extend_from_slice(b"}}")
+}
+
+#[tactic(auto, unfolding(crate::specs::Intervals::interval_text))]
 fn push_interval(text: &mut Vec<u8>, size: Size, stored: &StoredInterval) -> Result<(), AllocError>
     ensures { OnOk result (text.new.items ≡ text.old.items ++ interval_text size stored.now) }
 {
-    push_head(text, &stored.interval)?;
-    text.extend_from_slice(b",\"changes\":{")?;
-    push_parts(text, size, &stored.changes)?;
-    text.extend_from_slice(b"}}")
+    push_stamp(text, &stored.interval)?;
+    push_pages(text, &stored.interval.pages)?;
+    push_parts_member(text, size, &stored.changes)
 }
 
 // Adds an interval behind others.

@@ -1,15 +1,16 @@
 // A node's part in barriers.
 
-ghost use Rattle.std.specs.Prelude.{◌≡◌, ◌++◌, ◌<◌, IfOk, OnOk, length};
+ghost use Rattle.std.specs.Prelude.{◌≡◌, ◌++◌, ◌<◌, IfOk, OnOk, codes, length};
 ghost use Rattle.lrc_control.specs.Barrier.{IsOfNodes};
 ghost use Rattle.lrc_state_text.specs.Manager.{arrived_nodes, barrier_members, clean_text, cleaned_nodes, has_cleaned, manager_or_null, manager_text};
 
-use crate::json::push_numbers;
+use crate::json::{push_numbers, put_if};
 use lrc_barrier::Manager;
 use lrc_control::Barrier;
 use lrc_text::push_number;
 use std::alloc::{AllocError, Global};
 
+#[tactic(auto, using(crate::proofs::Lists::shown_more))]
 // The nodes that have arrived at the next episode.
 fn arrived_nodes(alloc: Global, manager: &Manager, nodes: u8) -> Result<Vec<u64>, AllocError>
     requires { nodes ≡ length manager.now.last }
@@ -17,9 +18,7 @@ fn arrived_nodes(alloc: Global, manager: &Manager, nodes: u8) -> Result<Vec<u64>
 {
     let mut arrived = Vec::new(alloc);
     for node in 0..nodes {
-        if manager.has_arrived(node) {
-            arrived.push(u64::from(node))?;
-        }
+        put_if(&mut arrived, u64::from(node), manager.has_arrived(node))?;
     }
     Ok(arrived)
 }
@@ -31,6 +30,7 @@ fn has_cleaned(manager: &Manager, node: u8) -> bool
     manager.has_cleaned(node).unwrap_or(false)
 }
 
+#[tactic(auto, using(crate::proofs::Lists::shown_more))]
 // The nodes that have sent their Clean.
 fn cleaned_nodes(alloc: Global, manager: &Manager, nodes: u8) -> Result<Vec<u64>, AllocError>
     requires { nodes ≡ length manager.now.last }
@@ -38,9 +38,7 @@ fn cleaned_nodes(alloc: Global, manager: &Manager, nodes: u8) -> Result<Vec<u64>
 {
     let mut cleaned = Vec::new(alloc);
     for node in 0..nodes {
-        if has_cleaned(manager, node) {
-            cleaned.push(u64::from(node))?;
-        }
+        put_if(&mut cleaned, u64::from(node), has_cleaned(manager, node))?;
     }
     Ok(cleaned)
 }
@@ -84,6 +82,16 @@ fn push_manager_or_null(text: &mut Vec<u8>, barrier: &Barrier, nodes: u8) -> Res
     }
 }
 
+// Adds the manager as a member.
+fn push_manager_member(text: &mut Vec<u8>, barrier: &Barrier, nodes: u8) -> Result<(), AllocError>
+    requires nodes { IsOfNodes nodes barrier.now }
+    requires some { 0 < nodes }
+    ensures { OnOk result (text.new.items ≡ text.old.items ++ (codes ",\"manager\":" ++ manager_or_null barrier.now.manager)) }
+{
+    text.extend_from_slice(b",\"manager\":")?;
+    push_manager_or_null(text, barrier, nodes)
+}
+
 /// Adds how often the node has arrived, and the manager of the barrier of so many nodes, null where it is not here.
 pub(crate) fn push_barrier(
     text: &mut Vec<u8>,
@@ -95,6 +103,5 @@ pub(crate) fn push_barrier(
     ensures { OnOk result (text.new.items ≡ text.old.items ++ barrier_members barrier.now) }
 {
     push_number(text, b",\"episode\":", u64::from(barrier.episode()))?;
-    text.extend_from_slice(b",\"manager\":")?;
-    push_manager_or_null(text, barrier, nodes)
+    push_manager_member(text, barrier, nodes)
 }

@@ -1,9 +1,9 @@
 // A node's state as an object.
 
-ghost use Rattle.std.specs.Prelude.{◌≡◌, ◌++◌, IfOk, OnOk, length, map};
+ghost use Rattle.std.specs.Prelude.{◌≡◌, ◌++◌, IfOk, OnOk, codes, length, map};
 ghost use Rattle.lrc_state_text.specs.Place.{named_seen};
 ghost use Rattle.lrc_state_text.specs.State.{control_members, course_members, mail_members, memory_members, state_text, taken_counts};
-ghost use Rattle.lrc_state_text.specs.Waits.{clock_members, wait_members};
+ghost use Rattle.lrc_state_text.specs.Waits.{clock_members, wait_members, waits_text};
 
 use crate::copies::push_pages;
 use crate::intervals::push_intervals;
@@ -33,17 +33,24 @@ fn push_clock(text: &mut Vec<u8>, state: &NodeState<'_>) -> Result<(), AllocErro
     )
 }
 
+// Adds what the node waits for.
+fn push_wait_member(text: &mut Vec<u8>, state: &NodeState<'_>) -> Result<(), AllocError>
+    ensures { OnOk result (text.new.items ≡ text.old.items ++ (codes ",\"waits\":\"" ++ waits_text state.now)) }
+{
+    let course = state.text();
+    let episode = state.barrier().episode();
+    let wait = state.mail().wait();
+    text.extend_from_slice(b",\"waits\":\"")?;
+    push_wait(text, course.end(), course.is_ready(), episode, wait)
+}
+
 // Adds what the node waits for, and what is needed then.
 fn push_waits(text: &mut Vec<u8>, state: &NodeState<'_>) -> Result<(), AllocError>
     ensures { OnOk result (text.new.items ≡ text.old.items ++ wait_members state.now) }
 {
-    let wait = state.mail().wait();
-    let course = state.text();
-    let episode = state.barrier().episode();
-    text.extend_from_slice(b",\"waits\":\"")?;
-    push_wait(text, course.end(), course.is_ready(), episode, wait)?;
+    push_wait_member(text, state)?;
     text.extend_from_slice(b"\",\"needs\":[")?;
-    push_needs(text, wait.needs())?;
+    push_needs(text, state.mail().wait().needs())?;
     text.extend_from_slice(b"]")
 }
 
