@@ -68,12 +68,22 @@ unfoldable pub page_changes_text : Size → PageChanges → List ℕ
 page_changes_text size part =
     codes "\"" ++ decimal part.page ++ codes "\":" ++ changes_text (first_word size part.page) part.changes
 
+-- its name and its stamp, the pages that it names, and its changes
+unfoldable pub stamp_text : IntervalRecord → List ℕ
+stamp_text interval =
+    codes "{\"interval\":" ++ interval_name interval.node (index_of interval) ++ codes ",\"stamp\":" ++ numbers_text interval.stamp
+
+unfoldable pub pages_text : List ℕ → List ℕ
+pages_text pages = codes ",\"pages\":" ++ numbers_text pages
+
+unfoldable pub parts_text : Size → List PageChanges → List ℕ
+parts_text size parts = codes ",\"changes\":{" ++ listed (page_changes_text size) parts ++ codes "}}"
+
 unfoldable pub interval_text : Size → StoredInterval → List ℕ
-interval_text size stored =
-    codes "{\"interval\":" ++ interval_name stored.interval.node (index_of stored.interval)
-    ++ codes ",\"stamp\":" ++ numbers_text stored.interval.stamp ++ codes ",\"pages\":" ++ numbers_text stored.interval.pages
-    ++ codes ",\"changes\":{" ++ listed (page_changes_text size) stored.changes ++ codes "}}"
+interval_text size stored = stamp_text stored.interval ++ pages_text stored.interval.pages ++ parts_text size stored.changes
+
+unfoldable pub intervals_text : Size → List StoredInterval → List ℕ
+intervals_text size stored = codes ",\"intervals\":[" ++ listed (interval_text size) stored ++ codes "]"
 
 abbrev pub intervals_member : Size → Memory → (known : List StoredInterval) → List ℕ
-intervals_member size memory known =
-    codes ",\"intervals\":[" ++ listed (interval_text size) (not_known known (stored_in memory)) ++ codes "]"
+intervals_member size memory known = intervals_text size (not_known known (stored_in memory))

@@ -1,9 +1,8 @@
 // Intervals that a node stores, as objects.
 
 ghost use Rattle.std.specs.Prelude.{◌≡◌, ◌++◌, IfOk, OnOk, codes};
-ghost use Rattle.lrc_store.specs.Interval.{index_of};
-ghost use Rattle.lrc_state_text.specs.Json.{interval_name, later, listed, numbers_text};
-ghost use Rattle.lrc_state_text.specs.Intervals.{interval_text, page_changes_text};
+ghost use Rattle.lrc_state_text.specs.Json.{later, listed};
+ghost use Rattle.lrc_state_text.specs.Intervals.{interval_text, intervals_text, page_changes_text, pages_text, parts_text, stamp_text};
 
 use crate::json::{push_interval_name, push_numbers, push_time};
 use crate::stored::{PageChanges, StoredInterval};
@@ -63,11 +62,10 @@ fn numbers_of(alloc: Global, pages: &Pages) -> Result<Vec<u64>, AllocError>
     Ok(numbers)
 }
 
+#[tactic(auto, unfolding(crate::specs::Intervals::stamp_text))]
 // Adds the name of an interval, and its stamp.
 fn push_stamp(text: &mut Vec<u8>, interval: &Interval) -> Result<(), AllocError>
-    ensures { OnOk result (text.new.items ≡ text.old.items
-        ++ (codes "{\"interval\":" ++ interval_name interval.now.node (index_of interval.now)
-        ++ codes ",\"stamp\":" ++ numbers_text interval.now.stamp)) }
+    ensures { OnOk result (text.new.items ≡ text.old.items ++ stamp_text interval.now) }
 {
     text.extend_from_slice(b"{\"interval\":")?;
     push_interval_name(text, interval.node, interval.index())?;
@@ -75,9 +73,10 @@ fn push_stamp(text: &mut Vec<u8>, interval: &Interval) -> Result<(), AllocError>
     push_time(text, &interval.stamp)
 }
 
+#[tactic(auto, unfolding(crate::specs::Intervals::pages_text))]
 // Adds the pages that an interval names.
 fn push_pages(text: &mut Vec<u8>, pages: &Pages) -> Result<(), AllocError>
-    ensures { OnOk result (text.new.items ≡ text.old.items ++ (codes ",\"pages\":" ++ numbers_text pages.now)) }
+    ensures { OnOk result (text.new.items ≡ text.old.items ++ pages_text pages.now) }
 {
     let numbers = numbers_of(*text.allocator(), pages)?;
     text.extend_from_slice(b",\"pages\":")?;
@@ -90,8 +89,7 @@ fn push_parts_member(
     size: Size,
     parts: &[PageChanges],
 ) -> Result<(), AllocError>
-    ensures { OnOk result (text.new.items
-        ≡ text.old.items ++ (codes ",\"changes\":{" ++ listed (page_changes_text size) parts.now ++ codes "}}")) }
+    ensures { OnOk result (text.new.items ≡ text.old.items ++ parts_text size parts.now) }
 {
     text.extend_from_slice(b",\"changes\":{")?;
     push_parts(text, size, parts)?;
@@ -143,8 +141,7 @@ pub(crate) fn push_intervals(
     size: Size,
     stored: &[StoredInterval],
 ) -> Result<(), AllocError>
-    ensures { OnOk result (text.new.items ≡ text.old.items
-        ++ (codes ",\"intervals\":[" ++ listed (interval_text size) stored.now ++ codes "]")) }
+    ensures { OnOk result (text.new.items ≡ text.old.items ++ intervals_text size stored.now) }
 {
     text.extend_from_slice(b",\"intervals\":[")?;
     push_listed(text, size, stored)?;

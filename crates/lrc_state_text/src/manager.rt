@@ -1,6 +1,6 @@
 // A node's part in barriers.
 
-ghost use Rattle.std.specs.Prelude.{◌≡◌, ◌++◌, ◌<◌, IfOk, OnOk, codes, length};
+ghost use Rattle.std.specs.Prelude.{◌≡◌, ◌++◌, ◌<◌, IfOk, OnOk, length};
 ghost use Rattle.lrc_control.specs.Barrier.{IsOfNodes};
 ghost use Rattle.lrc_state_text.specs.Manager.{arrived_nodes, barrier_members, clean_text, cleaned_nodes, has_cleaned, manager_or_null, manager_text};
 
@@ -82,16 +82,6 @@ fn push_manager_or_null(text: &mut Vec<u8>, barrier: &Barrier, nodes: u8) -> Res
     }
 }
 
-// Adds the manager as a member.
-fn push_manager_member(text: &mut Vec<u8>, barrier: &Barrier, nodes: u8) -> Result<(), AllocError>
-    requires nodes { IsOfNodes nodes barrier.now }
-    requires some { 0 < nodes }
-    ensures { OnOk result (text.new.items ≡ text.old.items ++ (codes ",\"manager\":" ++ manager_or_null barrier.now.manager)) }
-{
-    text.extend_from_slice(b",\"manager\":")?;
-    push_manager_or_null(text, barrier, nodes)
-}
-
 /// Adds how often the node has arrived, and the manager of the barrier of so many nodes, null where it is not here.
 pub(crate) fn push_barrier(
     text: &mut Vec<u8>,
@@ -103,5 +93,6 @@ pub(crate) fn push_barrier(
     ensures { OnOk result (text.new.items ≡ text.old.items ++ barrier_members barrier.now) }
 {
     push_number(text, b",\"episode\":", u64::from(barrier.episode()))?;
-    push_manager_member(text, barrier, nodes)
+    text.extend_from_slice(b",\"manager\":")?;
+    push_manager_or_null(text, barrier, nodes)
 }

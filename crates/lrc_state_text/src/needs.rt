@@ -3,6 +3,7 @@
 ghost use Rattle.std.specs.Prelude.{◌≡◌, ◌++◌, IfOk, OnOk, codes, decimal, map};
 ghost use Rattle.lrc_need.specs.Seen.{seen_base};
 ghost use Rattle.lrc_state_text.specs.Json.{later, listed};
+ghost use Rattle.lrc_state_text.specs.Waits.{needs_member};
 ghost use Rattle.lrc_state_text.specs.Needs.{asked_names, asked_of_maker, base_name, name_of, name_text, names_text, need_text};
 
 use crate::json::push_interval_name;
@@ -145,8 +146,8 @@ fn push_later_needs(text: &mut Vec<u8>, needs: &[Need]) -> Result<(), AllocError
 }
 
 #[tactic(auto, unfolding(crate::specs::Json::listed))]
-/// Adds what pages need.
-pub(crate) fn push_needs(text: &mut Vec<u8>, needs: &[Need]) -> Result<(), AllocError>
+// Adds what pages need.
+fn push_needs(text: &mut Vec<u8>, needs: &[Need]) -> Result<(), AllocError>
     ensures { OnOk result (text.new.items ≡ text.old.items ++ listed need_text needs.now) }
 {
     match needs {
@@ -156,4 +157,13 @@ pub(crate) fn push_needs(text: &mut Vec<u8>, needs: &[Need]) -> Result<(), Alloc
             push_later_needs(text, rest)
         }
     }
+}
+
+/// Adds what pages need as a member.
+pub(crate) fn push_needs_member(text: &mut Vec<u8>, needs: &[Need]) -> Result<(), AllocError>
+    ensures { OnOk result (text.new.items ≡ text.old.items ++ needs_member needs.now) }
+{
+    text.extend_from_slice(b"\",\"needs\":[")?;
+    push_needs(text, needs)?;
+    text.extend_from_slice(b"]")
 }
