@@ -1,12 +1,13 @@
 -- What the code keeps of the acts so far, with one act more.
 use Rattle.std.proofs.Common.{◌≡◌, ◌∙◌, ℕ, zero, suc, ◌+◌, ◌<◌, arith, List, [], ◌∷◌, ◌++◌, Bool, true, false, cond, Option, Some, None}
 use Rattle.std.proofs.Common.{refl, sym, ap, ap₂, subst, map, length, get_or, set, take, append-nil, append_assoc, zero-add, inl, inr, replicate, ◌≤◌}
-use Rattle.std.specs.Prelude.{◌==◌, ◌&&◌, fold, if◌then◌else◌, slice_get, slice_index, slice_index_or, slice_set, Result, Ok, Err, OnOk}
+use Rattle.std.proofs.lemmas.List.Elements.{All-append}
+use Rattle.std.specs.Prelude.{All, ◌==◌, ◌&&◌, fold, if◌then◌else◌, slice_get, slice_index, slice_index_or, slice_set, Result, Ok, Err, OnOk}
 use Rattle.std.specs.List.{count_by, flat_map, range_with_len}
 use Rattle.std.specs.Option.{option_to_list}
 use Rattle.std.proofs.lemmas.Option.{get_or_from_slice_get, slice_get_within}
 use Rattle.std.proofs.lemmas.Bool.{cases_eq, cases_lt, eq-eqb, ne_eqb}
-use Rattle.std.proofs.lemmas.List.{get_or-map, length_push, length-map, map-set, take_all}
+use Rattle.std.proofs.lemmas.List.{get_or-map, length_push, length-map, map-append, map-set, take_all}
 use Rattle.std.proofs.lemmas.List.FromFn.{get_or-map-range_with_len, length-map-range_with_len, map-range_with_len_more}
 use Rattle.std.proofs.lemmas.List.Sums.{fold-append, sum_by-append}
 use Rattle.lrc_trace.specs.declared.act.Act.{Act}
@@ -17,7 +18,7 @@ use Rattle.lrc_trace.specs.Run.{count_of}
 use Rattle.lrc_exec.specs.Meaning.{Thread}
 use Rattle.lrc_exec.specs.Plain.{start_of}
 use Rattle.lrc_lines.specs.Seen.{walks_of}
-use Rattle.lrc_lines.specs.Walks.{led, line_at, Walk, walk_behind, walks_behind}
+use Rattle.lrc_lines.specs.Walks.{led, line_at, line_behind, Walk, walk_behind, walks_behind}
 use Rattle.lrc_lines.proofs.Several.{line_found, more_other, more_own}
 use Rattle.lrc_private.specs.declared.way.Way.{Way}
 use Rattle.lrc_private.specs.Ways.{thread_led, thread_of}
@@ -69,8 +70,11 @@ flat_map_map : {X Y : Type 0} (f : X → Option Y) (xs : List X) → flat_map op
 flat_map_map f [] = refl
 flat_map_map f (x ∷ xs) = ap (λ l. option_to_list (f x) ++ l) (flat_map_map f xs)
 
-same_spot : (a b : Spot) → a.position ≡ b.position → a.line ≡ b.line → a.interval ≡ b.interval → a ≡ b
-same_spot a b position line interval = cc
+abbrev spot_at : (position line interval : ℕ) → Spot
+spot_at position line interval = record { position = position; line = line; interval = interval }
+
+same_spot : (p q l m i j : ℕ) → p ≡ q → l ≡ m → i ≡ j → spot_at p l i ≡ spot_at q m j
+same_spot p q l m i j pq lm ij = ap (λ x. spot_at x l i) pq ∙ ap (λ x. spot_at q x i) lm ∙ ap (λ x. spot_at q m x) ij
 
 -- ---- the last Writes
 
@@ -253,12 +257,12 @@ nothing_noted words all notes are = subst (λ (l : List Note). AreNotes words l 
 pub closed_at_start : (closed : List ℕ) → closed ≡ replicate 256 1 → AreClosed [] closed
 closed_at_start closed is = is ∙ all_same (next_of_node []) 0 256 1 (λ i. refl)
 
-pub spot_is : (plan : Plan) (acts : List Act) (course : Course) (node : ℕ) (spot : Spot) → IsCourse plan acts course → spot.position ≡ course.acts
-    → spot.line ≡ slice_index_or (map (line_at course.walks.end) (walks_of course.walks)) node course.walks.end
-    → spot.interval ≡ interval_at acts node (length acts) → spot ≡ spot_behind plan acts node
-spot_is plan acts course node spot is position line interval =
-    same_spot spot (spot_behind plan acts node) (position ∙ is.counted)
-    (line ∙ line_found plan.program plan.nodes plan.lines acts course.walks.nodes.items course.walks.end node is.walks is.end) interval
+pub spot_is : (plan : Plan) (acts : List Act) (course : Course) (node line interval : ℕ) → IsCourse plan acts course
+    → line ≡ slice_index_or (map (line_at course.walks.end) (walks_of course.walks)) node course.walks.end
+    → interval ≡ interval_at acts node (length acts) → spot_at course.acts line interval ≡ spot_behind plan acts node
+spot_is plan acts course node line interval is line_is interval_is =
+    same_spot course.acts (length acts) line (line_behind plan.program plan.nodes plan.lines acts node) interval (interval_at acts node (length acts)) is.counted
+    (line_is ∙ line_found plan.program plan.nodes plan.lines acts course.walks.nodes.items course.walks.end node is.walks is.end) interval_is
 
 pub no_act : (plan : Plan) (acts : List Act) (course : Course) → IsCourse plan acts course → IsCourse plan (acts ++ []) course
 no_act plan acts course is = subst (λ (l : List Act). IsCourse plan l course) (sym (append-nil acts)) is
@@ -304,3 +308,17 @@ privates_are plan acts course k node way is place within at =
 pub ways_at_start : (plan : Plan) (ways : List Way) → map thread_of ways ≡ map (λ me. start_of plan.program plan.nodes me) (range_with_len 0 plan.nodes)
     → AreWays plan [] ways
 ways_at_start plan ways is = is ∙ sym (threads_are plan [] (record { node = 0; deed = deeds.Quiet }) [])
+
+one_all : {X : Type 0} (P : X → Type 0) (x : X) → P x → All P (x ∷ [])
+one_all P x holds zero d within = holds
+one_all P x holds (suc k) d within = absurd (omega (arith, within))
+
+pub all_more : {X : Type 0} (P : X → Type 0) (xs : List X) (x : X) → All P xs → P x → All P (xs ++ x ∷ [])
+all_more P xs x on holds = All-append P xs (x ∷ []) on (one_all P x holds)
+
+-- one way more
+pub ways_more : (f : ℕ → Thread) (ways new : List Way) (way : Way) (me : ℕ) → map thread_of ways ≡ map f (range_with_len 0 me)
+    → new ≡ ways ++ way ∷ [] → thread_of way ≡ f me → map thread_of new ≡ map f (range_with_len 0 (me + 1))
+ways_more f ways new way me so_far is one =
+    ap (map thread_of) is ∙ map-append thread_of ways (way ∷ []) ∙ ap₂ (λ l t. l ++ t ∷ []) so_far one
+    ∙ sym (map-range_with_len_more f 0 me me (zero-add me))

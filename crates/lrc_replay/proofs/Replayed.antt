@@ -417,22 +417,24 @@ state_of now None t found there is = cc
 state_of now (Some l) t None there is = let same : Some l.node ≡ t = same_Some (Some l.node) t there in let never : Some l.node ≡ None = same ∙ is in cc
 state_of now (Some l) t (Some s) there is = sym is ∙ sym (same_Some (Some l.node) t there)
 
-module _ {S : Type 0} (now : S → Node) (replay : Replay) (world : World) (n : ℕ) (is : IsReplay replay world) where
+module _ (replay : Replay) (world : World) (n : ℕ) (is : IsReplay replay world) where
   abbrev found_there : slice_get (nodes_played replay.nodes.items) n ≡ option_map (λ (l : Logged). Some l.node) (slice_get world.nodes n)
   found_there = ap (λ l. slice_get l n) is.nodes ∙ map_get (λ (l : Logged). Some l.node) world.nodes n
 
-  pub state_there : (t : TracedNode) (found : Option S) → n < length replay.nodes.items → t ≡ slice_index_or replay.nodes.items n t
-      → MatchOption found (t.node ≡ None) (λ s. t.node ≡ Some (now s)) → option_map now found ≡ option_map (λ (l : Logged). l.node) (slice_get world.nodes n)
-  state_there t found within at said =
+  pub state_there : {S : Type 0} (now : S → Node) (t : TracedNode) (found : Option S) → n < length replay.nodes.items
+      → t ≡ slice_index_or replay.nodes.items n t → MatchOption found (t.node ≡ None) (λ s. t.node ≡ Some (now s))
+      → option_map now found ≡ option_map (λ (l : Logged). l.node) (slice_get world.nodes n)
+  state_there now t found within at said =
       let there : slice_get replay.nodes.items n ≡ Some t = slice_get-get_or replay.nodes.items n t within ∙ ap Some (sym at) in
       state_of now (slice_get world.nodes n) t.node found
       (sym found_there ∙ map_get (λ (x : TracedNode). x.node) replay.nodes.items n ∙ ap (option_map (λ (x : TracedNode). x.node)) there) said
 
   no_state : (o : Option Logged) → None ≡ option_map (λ (l : Logged). Some l.node) o → None ≡ option_map (λ (l : Logged). l.node) o
-  no_state None is = refl
-  no_state (Some l) is = cc
+  no_state None same = refl
+  no_state (Some l) same = cc
 
   pub state_past : length replay.nodes.items ≤ n → None ≡ option_map (λ (l : Logged). l.node) (slice_get world.nodes n)
   state_past past =
       no_state (slice_get world.nodes n)
-      (sym (map_get (λ (x : TracedNode). x.node) replay.nodes.items n ∙ ap (option_map (λ (x : TracedNode). x.node)) (slice_get_past replay.nodes.items n past)) ∙ found_there)
+      (sym (map_get (λ (x : TracedNode). x.node) replay.nodes.items n ∙ ap (option_map (λ (x : TracedNode). x.node)) (slice_get_past replay.nodes.items n past))
+      ∙ found_there)

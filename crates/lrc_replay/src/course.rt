@@ -1,8 +1,10 @@
 // What the acts so far have led to.
 
-ghost use Rattle.std.specs.Prelude.{◌≡◌, ◌+◌, ◌++◌, ◌∷◌, [], All, IfOk, IfSome, List, OnOk, length, slice_index, slice_set};
+ghost use Rattle.std.specs.Prelude.{◌≡◌, ◌+◌, ◌++◌, ◌∷◌, [], All, IfOk, IfSome, List, OnOk, length, map, slice_index, slice_set};
 ghost use Rattle.lrc_lines.specs.Walks.{walk_behind};
-ghost use Rattle.lrc_private.specs.Ways.{IsOnWay};
+ghost use Rattle.lrc_exec.specs.Plain.{start_of};
+ghost use Rattle.lrc_private.specs.Ways.{IsOnWay, thread_of};
+ghost use Rattle.std.specs.List.{range_with_len};
 ghost use Rattle.lrc_trace.specs.declared.act.Act.{Act as AnyAct};
 ghost use Rattle.lrc_trace.specs.Interval.{closes, interval_at};
 ghost use Rattle.lrc_replay.specs.Acts.{Plan as AnyPlan, last_notes, notes_behind, spot_behind};
@@ -11,6 +13,7 @@ ghost use Rattle.std.specs.Option.{option_to_list};
 
 use crate::notes::{Note, Notes, Spot};
 use crate::plan::Plan;
+use lrc_exec::code::Code;
 use lrc_lines::walks::Walks;
 use lrc_private::Way;
 use lrc_trace::act::{Act, Deed};
@@ -35,14 +38,18 @@ fn closes(deed: Deed) -> bool
     matches!(deed, Deed::Acquire(_) | Deed::Release(_) | Deed::Arrive)
 }
 
-// Nodes 0, 1, .. at the beginning of the program.
-fn ways_at_start<'c>(alloc: Global, plan: Plan<'c>) -> Result<Vec<Way<'c>>, AllocError>
+// Nodes 0, 1, .. at the beginning of a program.
+fn ways_at_start<'c>(
+    alloc: Global,
+    code: &'c Code<'_>,
+    nodes: u8,
+) -> Result<Vec<Way<'c>>, AllocError>
     ensures on { IfOk result (λ ways. All IsOnWay ways.items) }
-    ensures ways { IfOk result (λ ways. AreWays (plan_of plan.entry) [] ways.items) }
+    ensures ways { IfOk result (λ ways. map thread_of ways.items ≡ map (λ me. start_of code.now nodes me) (range_with_len 0 nodes)) }
 {
     let mut ways = Vec::new(alloc);
-    for me in 0..plan.nodes {
-        ways.push(Way::start(alloc, plan.code, plan.nodes, me)?)?;
+    for me in 0..nodes {
+        ways.push(Way::start(alloc, code, nodes, me)?)?;
     }
     Ok(ways)
 }
@@ -57,7 +64,7 @@ impl<'c> Course<'c> {
             acts: 0,
             closed: vec![in alloc; 1u64; 256usize]?,
             walks: Walks::start(alloc, plan.code, plan.lines, plan.nodes)?,
-            ways: ways_at_start(alloc, plan)?,
+            ways: ways_at_start(alloc, plan.code, plan.nodes)?,
             notes: Notes::none(alloc, plan.code.words())?,
         })
     }

@@ -43,7 +43,7 @@ unfoldable pub base_text : (first : ℕ) → Option (List ℕ) → List ℕ
 base_text first None = codes "null"
 base_text first (Some values) = values_text first values
 
-abbrev pub page_text : Size → Memory → (page : ℕ) → List ℕ
+unfoldable pub page_text : Size → Memory → (page : ℕ) → List ℕ
 page_text size memory page =
     codes "{\"page\":" ++ decimal page ++ copy_members (first_word size page) (copy_at memory page)
     ++ codes ",\"lacks\":" ++ names_text (lacking (missing_at memory page)) ++ codes ",\"keeper\":" ++ decimal (keeper_at memory page)
@@ -64,5 +64,5 @@ is_at_start memory page = is_fresh (copy_at memory page) && (keeper_at memory pa
 abbrev pub pages_shown : Memory → List ℕ
 pages_shown memory = filter (λ page. not (is_at_start memory page)) (range_with_len 0 (length memory.copies))
 
-abbrev pub pages_member : Size → Memory → List ℕ
+unfoldable pub pages_member : Size → Memory → List ℕ
 pages_member size memory = codes ",\"pages\":[" ++ listed (page_text size memory) (pages_shown memory) ++ codes "]"

@@ -2,11 +2,13 @@
 use Rattle.std.specs.Prelude.{ℕ, ◌==◌, ◌&&◌, Bool, not, Option, None, Some, List, ◌++◌, codes, decimal, filter, filter_map}
 use Rattle.std.specs.Prelude.{if◌then◌else◌, length, map, nat_lt, option_map}
 use Rattle.std.specs.List.{list_any}
+use Rattle.std.specs.Cmp.{IsEquivalence, and_equiv, nat_eq_equiv, on_equiv}
 use Rattle.std.specs.Cmp.Lexicographic.{pointwise}
+use Rattle.std.specs.Ordering.{on, eq_of_both}
 use Rattle.lrc_time.specs.Time.{zeros}
 use Rattle.lrc_page.specs.declared.changes.Change.{Change}
 use Rattle.lrc_page.specs.declared.size.Size.{Size}
-use Rattle.lrc_page.specs.Changes.{same_change}
+use Rattle.lrc_page.specs.Changes.{same_change, same_changes_equiv as same_page_changes_equiv}
 use Rattle.lrc_store.specs.Interval.{index_of, IntervalRecord}
 use Rattle.lrc_store.specs.Store.{changes_at, key_of, newer_of}
 use Rattle.lrc_protocol.specs.Pages.{Memory}
@@ -42,7 +44,11 @@ stored_in memory = map (with_changes memory) (intervals_stored memory)
 -- ---- those that were shown before
 
 abbrev pub same_changes : PageChanges → PageChanges → Bool
-same_changes a b = (a.page == b.page) && pointwise same_change a.changes b.changes
+same_changes = eq_of_both (on (λ c. c.page) ◌==◌) (on (λ c. c.changes) (pointwise same_change))
+
+-- the test is an equivalence
+pub same_changes_equiv : IsEquivalence same_changes
+same_changes_equiv = and_equiv (on_equiv (λ c. c.page) nat_eq_equiv) (on_equiv (λ c. c.changes) same_page_changes_equiv)
 
 -- it is the same interval, and has the same changes
 abbrev pub is_same : StoredInterval → StoredInterval → Bool
@@ -58,16 +64,26 @@ not_known known all = filter (λ stored. not (is_known known stored)) all
 
 -- ---- as objects
 
-abbrev pub page_changes_text : Size → PageChanges → List ℕ
+unfoldable pub page_changes_text : Size → PageChanges → List ℕ
 page_changes_text size part =
     codes "\"" ++ decimal part.page ++ codes "\":" ++ changes_text (first_word size part.page) part.changes
 
-abbrev pub interval_text : Size → StoredInterval → List ℕ
-interval_text size stored =
-    codes "{\"interval\":" ++ interval_name stored.interval.node (index_of stored.interval)
-    ++ codes ",\"stamp\":" ++ numbers_text stored.interval.stamp ++ codes ",\"pages\":" ++ numbers_text stored.interval.pages
-    ++ codes ",\"changes\":{" ++ listed (page_changes_text size) stored.changes ++ codes "}}"
+-- its name and its stamp, the pages that it names, and its changes
+unfoldable pub stamp_text : IntervalRecord → List ℕ
+stamp_text interval =
+    codes "{\"interval\":" ++ interval_name interval.node (index_of interval) ++ codes ",\"stamp\":" ++ numbers_text interval.stamp
+
+unfoldable pub pages_text : List ℕ → List ℕ
+pages_text pages = codes ",\"pages\":" ++ numbers_text pages
+
+unfoldable pub parts_text : Size → List PageChanges → List ℕ
+parts_text size parts = codes ",\"changes\":{" ++ listed (page_changes_text size) parts ++ codes "}}"
+
+unfoldable pub interval_text : Size → StoredInterval → List ℕ
+interval_text size stored = stamp_text stored.interval ++ pages_text stored.interval.pages ++ parts_text size stored.changes
+
+unfoldable pub intervals_text : Size → List StoredInterval → List ℕ
+intervals_text size stored = codes ",\"intervals\":[" ++ listed (interval_text size) stored ++ codes "]"
 
 abbrev pub intervals_member : Size → Memory → (known : List StoredInterval) → List ℕ
-intervals_member size memory known =
-    codes ",\"intervals\":[" ++ listed (interval_text size) (not_known known (stored_in memory)) ++ codes "]"
+intervals_member size memory known = intervals_text size (not_known known (stored_in memory))

@@ -13,7 +13,7 @@ listed text_of [] = []
 listed text_of (first ∷ more) = text_of first ++ later text_of more
 
 -- a list of numbers, as a time is
-abbrev pub numbers_text : List ℕ → List ℕ
+unfoldable pub numbers_text : List ℕ → List ℕ
 numbers_text numbers = codes "[" ++ with_commas numbers ++ codes "]"
 
 -- a number, and null where there is none

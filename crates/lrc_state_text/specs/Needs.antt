@@ -11,9 +11,12 @@ base_name unneeded = codes "unneeded"
 base_name (due keeper) = codes "due"
 base_name (come values) = codes "come"
 
+abbrev pub name_of : (node index : ℕ) → IntervalName
+name_of node index = record { node = node; index = index }
+
 -- the intervals whose changes are asked of a maker, and have not come
 abbrev pub asked_of_maker : Asked → List IntervalName
-asked_of_maker asked = map (λ index. record { node = asked.maker; index = index }) asked.indices
+asked_of_maker asked = map (name_of asked.maker) asked.indices
 
 -- the same of all makers
 abbrev pub asked_names : List Asked → List IntervalName
@@ -25,7 +28,7 @@ name_text name = interval_name name.node name.index
 abbrev pub names_text : List IntervalName → List ℕ
 names_text names = codes "[" ++ listed name_text names ++ codes "]"
 
-abbrev pub need_text : Need → List ℕ
+unfoldable pub need_text : Need → List ℕ
 need_text need =
     codes "{\"page\":" ++ decimal need.page ++ codes ",\"base\":\"" ++ base_name need.base ++ codes "\",\"changes\":"
     ++ names_text (asked_names need.asked) ++ codes "}"

@@ -11,7 +11,7 @@ pub record Named : Type 0 where
 abbrev pub named_seen : code_name.NamedValue → Named
 named_seen named = record { name = named.name.now; value = named.value }
 
-abbrev pub named_text : Named → List ℕ
+unfoldable pub named_text : Named → List ℕ
 named_text named = codes "\"" ++ named.name ++ codes "\":\"" ++ decimal named.value ++ codes "\""
 
 -- the line of the statement that comes next, and the private names whose value is not 0, in order

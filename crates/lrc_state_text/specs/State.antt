@@ -24,11 +24,15 @@ course_members node line names = clock_members node ++ wait_members node ++ plac
 abbrev pub control_members : Node → List ℕ
 control_members node = locks_member node.locks node.setting.locks ++ barrier_members node.barrier
 
+-- the time of the last collection
+unfoldable pub collected_member : (time : List ℕ) → List ℕ
+collected_member time = codes ",\"collected\":" ++ numbers_text time
+
 -- what it knows of the shared memory; of the intervals those are shown that were not known before
 abbrev pub memory_members : Node → (known : List StoredInterval) → List ℕ
 memory_members node known =
     pages_member node.options.size node.memory ++ intervals_member node.options.size node.memory known
-    ++ codes ",\"collected\":" ++ numbers_text node.memory.collected
+    ++ collected_member node.memory.collected
 
 -- the state of a node whose next statement is in this line, with its private names whose value is not 0
 abbrev pub state_text : Node → (line : ℕ) → List Named → (known : List StoredInterval) → List ℕ

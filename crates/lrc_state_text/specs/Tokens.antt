@@ -40,7 +40,7 @@ abbrev pub asker_of : ManagedRecord → (lock_number : ℕ) → Option ℕ
 asker_of managed lock_number =
     if manager_of managed.nodes lock_number == managed.me then Some (recent_asker managed lock_number) else None
 
-abbrev pub lock_text : Locks → (lock_number : ℕ) → List ℕ
+unfoldable pub lock_text : Locks → (lock_number : ℕ) → List ℕ
 lock_text locks lock_number =
     codes "{\"lock\":" ++ decimal lock_number ++ codes ",\"token\":\"" ++ token_name (lock_at locks.held lock_number)
     ++ codes "\",\"released\":" ++ released_text (lock_at locks.held lock_number)

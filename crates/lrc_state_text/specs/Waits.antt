@@ -5,6 +5,7 @@ use Rattle.lrc_trace.specs.declared.end.End.{End}
 use Rattle.lrc_trace.specs.declared.end.End.TheVariants.{Ended, Trapped, Unfinished}
 use Rattle.lrc_control.specs.Text.{end_of}
 use Rattle.lrc_protocol.specs.Node.{access, departure, discard, grant, Node, needs_of, nothing, own_index, upkeep, Wait}
+use Rattle.lrc_protocol.specs.Pages.{Need}
 use Rattle.lrc_protocol.specs.Turn.{begins_of}
 use Rattle.lrc_state_text.specs.Json.{listed, numbers_text}
 use Rattle.lrc_state_text.specs.Needs.{need_text}
@@ -37,6 +38,11 @@ waits_text node =
 abbrev pub clock_members : Node → List ℕ
 clock_members node = codes "\"time\":" ++ numbers_text node.locks.time ++ codes ",\"open\":" ++ decimal (own_index node + 1)
 
+unfoldable pub waits_member : Node → List ℕ
+waits_member node = codes ",\"waits\":\"" ++ waits_text node
+
+unfoldable pub needs_member : List Need → List ℕ
+needs_member needs = codes "\",\"needs\":[" ++ listed need_text needs ++ codes "]"
+
 abbrev pub wait_members : Node → List ℕ
-wait_members node =
-    codes ",\"waits\":\"" ++ waits_text node ++ codes "\",\"needs\":[" ++ listed need_text (needs_of node.mail.wait) ++ codes "]"
+wait_members node = waits_member node ++ needs_member (needs_of node.mail.wait)

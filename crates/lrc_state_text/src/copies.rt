@@ -1,14 +1,16 @@
 // A node's copies of the pages.
 
-ghost use Rattle.std.specs.Prelude.{◌≡◌, ◌++◌, ◌<◌, All, IfOk, OnOk, codes, decimal, length};
+ghost use Rattle.std.specs.Prelude.{◌≡◌, ◌++◌, ◌<◌, ◌==◌, All, IfOk, OnOk, codes, decimal, length};
+ghost use Rattle.std.specs.List.{list_all};
 ghost use Rattle.lrc_memory.specs.Shown.{copy_shown};
 ghost use Rattle.lrc_protocol.specs.Barriers.{base_at};
-ghost use Rattle.lrc_protocol.specs.Pages.{values_of};
+ghost use Rattle.lrc_protocol.specs.Pages.{copy_at, keeper_at, missing_at, values_of};
+ghost use Rattle.lrc_state_text.specs.Needs.{names_text};
 ghost use Rattle.lrc_state_text.specs.Json.{later, listed};
 ghost use Rattle.lrc_state_text.specs.Copies.{base_text, copy_members, copy_name, is_at_start, is_fresh, lacking, page_text};
 ghost use Rattle.lrc_state_text.specs.Copies.{pages_member, pages_shown, since_text, twin_text};
 
-use crate::json::push_time;
+use crate::json::{push_time, put_if};
 use crate::needs::{IntervalName, push_interval_names};
 use crate::words::{first_word, push_values};
 use lrc_memory::{Memory, SeenCopy};
@@ -133,6 +135,7 @@ fn push_fetching(
     push_base(text, first, memory, page)
 }
 
+#[tactic(auto, unfolding(crate::specs::Copies::page_text))]
 fn push_page(text: &mut Vec<u8>, memory: &Memory, page: u16) -> Result<(), AllocError>
     requires { page < length memory.now.memory.copies }
     ensures { OnOk result (text.new.items ≡ text.old.items ++ page_text memory.now.size memory.now.memory page) }
@@ -177,11 +180,17 @@ fn push_listed(text: &mut Vec<u8>, memory: &Memory, pages: &[u16]) -> Result<(),
     }
 }
 
+fn are_zero(values: &[u64]) -> bool
+    ensures { result ≡ list_all (λ value. value == 0) values.now }
+{
+    values.iter().all(|value| *value == 0)
+}
+
 fn is_fresh(copy: SeenCopy<'_>) -> bool
     ensures { result ≡ is_fresh (copy_shown copy.entry) }
 {
     match copy {
-        SeenCopy::Valid(values) => values.iter().all(|value| *value == 0),
+        SeenCopy::Valid(values) => are_zero(values),
         SeenCopy::Written(_values, _twin) => false,
         SeenCopy::Invalid(_values, _since) => false,
         SeenCopy::Absent => false,
@@ -196,21 +205,20 @@ fn is_at_start(memory: &Memory, page: u16) -> bool
     is_fresh(memory.copy(page)) && memory.keeper(page) == 0 && memory.base(page).is_none()
 }
 
+#[tactic(auto, using(crate::proofs::Lists::shown_more))]
 // The pages that are not as at the start, of all.
 fn pages_shown(alloc: Global, memory: &Memory, count: u16) -> Result<Vec<u16>, AllocError>
     requires { count ≡ length memory.now.memory.copies }
-    ensures shown { IfOk result (λ shown. shown.items ≡ pages_shown memory.now.memory) }
-    ensures in_range { IfOk result (λ shown. All (λ page. page < length memory.now.memory.copies) shown.items) }
+    ensures { IfOk result (λ shown. shown.items ≡ pages_shown memory.now.memory) }
 {
     let mut shown = Vec::new(alloc);
     for page in 0..count {
-        if !is_at_start(memory, page) {
-            shown.push(page)?;
-        }
+        put_if(&mut shown, page, !is_at_start(memory, page))?;
     }
     Ok(shown)
 }
 
+#[tactic(auto, unfolding(crate::specs::Copies::pages_member))]
 /// Adds the pages, of all, that are not as at the start.
 pub(crate) fn push_pages(text: &mut Vec<u8>, memory: &Memory, count: u16) -> Result<(), AllocError>
     requires { count ≡ length memory.now.memory.copies }

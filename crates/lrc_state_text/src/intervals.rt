@@ -1,8 +1,8 @@
 // Intervals that a node stores, as objects.
 
 ghost use Rattle.std.specs.Prelude.{◌≡◌, ◌++◌, IfOk, OnOk, codes};
-ghost use Rattle.lrc_state_text.specs.Json.{later, listed, numbers_text};
-ghost use Rattle.lrc_state_text.specs.Intervals.{interval_text, page_changes_text};
+ghost use Rattle.lrc_state_text.specs.Json.{later, listed};
+ghost use Rattle.lrc_state_text.specs.Intervals.{interval_text, intervals_text, page_changes_text, pages_text, parts_text, stamp_text};
 
 use crate::json::{push_interval_name, push_numbers, push_time};
 use crate::stored::{PageChanges, StoredInterval};
@@ -12,6 +12,7 @@ use lrc_store::Interval;
 use lrc_text::push_number;
 use std::alloc::{AllocError, Global};
 
+#[tactic(auto, unfolding(crate::specs::Intervals::page_changes_text))]
 fn push_part(text: &mut Vec<u8>, size: Size, part: &PageChanges) -> Result<(), AllocError>
     ensures { OnOk result (text.new.items ≡ text.old.items ++ page_changes_text size part.now) }
 {
@@ -61,28 +62,47 @@ fn numbers_of(alloc: Global, pages: &Pages) -> Result<Vec<u64>, AllocError>
     Ok(numbers)
 }
 
-// Adds the name of an interval, its stamp, and its pages.
-fn push_head(text: &mut Vec<u8>, interval: &Interval) -> Result<(), AllocError>
-    ensures { OnOk result (text.new.items ≡ text.old.items
-        ++ (codes "{\"interval\":" ++ interval_name interval.now.node (index_of interval.now)
-        ++ codes ",\"stamp\":" ++ numbers_text interval.now.stamp ++ codes ",\"pages\":" ++ numbers_text interval.now.pages)) }
+#[tactic(auto, unfolding(crate::specs::Intervals::stamp_text))]
+// Adds the name of an interval, and its stamp.
+fn push_stamp(text: &mut Vec<u8>, interval: &Interval) -> Result<(), AllocError>
+    ensures { OnOk result (text.new.items ≡ text.old.items ++ stamp_text interval.now) }
 {
-    let pages = numbers_of(*text.allocator(), &interval.pages)?;
     text.extend_from_slice(b"{\"interval\":")?;
     push_interval_name(text, interval.node, interval.index())?;
     text.extend_from_slice(b",\"stamp\":")?;
-    push_time(text, &interval.stamp)?;
-    text.extend_from_slice(b",\"pages\":")?;
-    push_numbers(text, &pages)
+    push_time(text, &interval.stamp)
 }
 
+#[tactic(auto, unfolding(crate::specs::Intervals::pages_text))]
+// Adds the pages that an interval names.
+fn push_pages(text: &mut Vec<u8>, pages: &Pages) -> Result<(), AllocError>
+    ensures { OnOk result (text.new.items ≡ text.old.items ++ pages_text pages.now) }
+{
+    let numbers = numbers_of(*text.allocator(), pages)?;
+    text.extend_from_slice(b",\"pages\":")?;
+    push_numbers(text, &numbers)
+}
+
+// Adds changes of an interval as a member.
+fn push_parts_member(
+    text: &mut Vec<u8>,
+    size: Size,
+    parts: &[PageChanges],
+) -> Result<(), AllocError>
+    ensures { OnOk result (text.new.items ≡ text.old.items ++ parts_text size parts.now) }
+{
+    text.extend_from_slice(b",\"changes\":{")?;
+    push_parts(text, size, parts)?;
+    text.extend_from_slice(b"}}")
+}
+
+#[tactic(auto, unfolding(crate::specs::Intervals::interval_text))]
 fn push_interval(text: &mut Vec<u8>, size: Size, stored: &StoredInterval) -> Result<(), AllocError>
     ensures { OnOk result (text.new.items ≡ text.old.items ++ interval_text size stored.now) }
 {
-    push_head(text, &stored.interval)?;
-    text.extend_from_slice(b",\"changes\":{")?;
-    push_parts(text, size, &stored.changes)?;
-    text.extend_from_slice(b"}}")
+    push_stamp(text, &stored.interval)?;
+    push_pages(text, &stored.interval.pages)?;
+    push_parts_member(text, size, &stored.changes)
 }
 
 // Adds an interval behind others.
@@ -121,8 +141,7 @@ pub(crate) fn push_intervals(
     size: Size,
     stored: &[StoredInterval],
 ) -> Result<(), AllocError>
-    ensures { OnOk result (text.new.items ≡ text.old.items
-        ++ (codes ",\"intervals\":[" ++ listed (interval_text size) stored.now ++ codes "]")) }
+    ensures { OnOk result (text.new.items ≡ text.old.items ++ intervals_text size stored.now) }
 {
     text.extend_from_slice(b",\"intervals\":[")?;
     push_listed(text, size, stored)?;

@@ -1,6 +1,6 @@
 // Lists and texts of JSON.
 
-ghost use Rattle.std.specs.Prelude.{◌≡◌, ◌++◌, OnOk};
+ghost use Rattle.std.specs.Prelude.{◌≡◌, ◌++◌, ◌∷◌, [], OnOk, cond};
 ghost use Rattle.lrc_acts_text.specs.Json.{entry_text, with_commas};
 ghost use Rattle.lrc_state_text.specs.Json.{interval_name, number_or_null, numbers_text};
 
@@ -29,6 +29,7 @@ fn push_all(text: &mut Vec<u8>, numbers: &[u64]) -> Result<(), AllocError>
     Ok(())
 }
 
+#[tactic(auto, unfolding(crate::specs::Json::numbers_text))]
 /// Adds a list of numbers.
 pub(crate) fn push_numbers(text: &mut Vec<u8>, numbers: &[u64]) -> Result<(), AllocError>
     ensures { OnOk result (text.new.items ≡ text.old.items ++ numbers_text numbers.now) }
@@ -38,6 +39,7 @@ pub(crate) fn push_numbers(text: &mut Vec<u8>, numbers: &[u64]) -> Result<(), Al
     text.extend_from_slice(b"]")
 }
 
+#[tactic(auto, unfolding(crate::specs::Json::numbers_text))]
 /// Adds a time as a list.
 pub(crate) fn push_time(text: &mut Vec<u8>, time: &Time) -> Result<(), AllocError>
     ensures { OnOk result (text.new.items ≡ text.old.items ++ numbers_text time.now) }
@@ -65,4 +67,14 @@ pub(crate) fn push_interval_name(text: &mut Vec<u8>, node: u8, index: u32) -> Re
     push_number(text, b"\"", u64::from(node))?;
     push_number(text, b".", u64::from(index))?;
     text.extend_from_slice(b"\"")
+}
+
+/// Puts an item behind others, where it is shown.
+pub(crate) fn put_if<T: Copy>(all: &mut Vec<T>, item: T, is_shown: bool) -> Result<(), AllocError>
+    ensures { OnOk result (all.new.items ≡ all.old.items ++ cond is_shown (item ∷ []) []) }
+{
+    if is_shown {
+        all.push(item)?;
+    }
+    Ok(())
 }

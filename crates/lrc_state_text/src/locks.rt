@@ -2,11 +2,11 @@
 
 ghost use Rattle.std.specs.Prelude.{◌≡◌, ◌++◌, ◌<◌, ◌≤◌, All, IfOk, OnOk, codes, decimal, length};
 ghost use Rattle.lrc_lock.specs.Held.{lock_at};
-ghost use Rattle.lrc_state_text.specs.Json.{later, listed};
+ghost use Rattle.lrc_state_text.specs.Json.{later, listed, number_or_null, numbers_text};
 ghost use Rattle.lrc_state_text.specs.Tokens.{asker_of, is_shown, lock_text, locks_member, locks_shown, next_text, released_text};
 ghost use Rattle.lrc_state_text.specs.Tokens.{successor_text, token_name};
 
-use crate::json::{push_or_null, push_time};
+use crate::json::{push_or_null, push_time, put_if};
 use lrc_control::Clock;
 use lrc_lock::{LockState, Waiter};
 use lrc_text::push_number;
@@ -68,18 +68,33 @@ fn push_next(text: &mut Vec<u8>, state: &LockState) -> Result<(), AllocError>
     }
 }
 
-// Adds where the token of a lock is, with the time of the last release here, and the successor.
-fn push_token(text: &mut Vec<u8>, state: &LockState) -> Result<(), AllocError>
-    ensures { OnOk result (text.new.items ≡ text.old.items
-        ++ (codes ",\"token\":\"" ++ token_name state.now ++ codes "\",\"released\":" ++ released_text state.now
-        ++ codes ",\"next\":" ++ next_text state.now)) }
+// Adds where the token of a lock is.
+fn push_token_name(text: &mut Vec<u8>, state: &LockState) -> Result<(), AllocError>
+    ensures { OnOk result (text.new.items ≡ text.old.items ++ (codes ",\"token\":\"" ++ token_name state.now)) }
 {
     text.extend_from_slice(b",\"token\":\"")?;
-    text.extend_from_slice(token_name(state))?;
+    text.extend_from_slice(token_name(state))
+}
+
+// Adds where the token of a lock is, and the time of the last release here.
+fn push_token(text: &mut Vec<u8>, state: &LockState) -> Result<(), AllocError>
+    ensures { OnOk result (text.new.items ≡ text.old.items
+        ++ (codes ",\"token\":\"" ++ token_name state.now ++ codes "\",\"released\":" ++ released_text state.now)) }
+{
+    push_token_name(text, state)?;
     text.extend_from_slice(b"\",\"released\":")?;
-    push_released(text, state)?;
+    push_released(text, state)
+}
+
+// Adds the successor, and who asked last.
+fn push_askers(text: &mut Vec<u8>, state: &LockState, recent: Option<u8>) -> Result<(), AllocError>
+    ensures { OnOk result (text.new.items ≡ text.old.items
+        ++ (codes ",\"next\":" ++ next_text state.now ++ codes ",\"recent\":" ++ number_or_null recent)) }
+{
     text.extend_from_slice(b",\"next\":")?;
-    push_next(text, state)
+    push_next(text, state)?;
+    text.extend_from_slice(b",\"recent\":")?;
+    push_or_null(text, recent)
 }
 
 // Who asked last for a lock, where it is managed here.
@@ -92,14 +107,14 @@ fn asker_of(clock: &Clock, lock: u8) -> Option<u8>
     clock.managed().last_asker(lock)
 }
 
+#[tactic(auto, unfolding(crate::specs::Tokens::lock_text))]
 fn push_lock(text: &mut Vec<u8>, clock: &Clock, lock: u8) -> Result<(), AllocError>
     requires { lock < length clock.now.held.locks }
     ensures { OnOk result (text.new.items ≡ text.old.items ++ lock_text clock.now lock) }
 {
     push_number(text, b"{\"lock\":", u64::from(lock))?;
     push_token(text, clock.held().state(lock))?;
-    text.extend_from_slice(b",\"recent\":")?;
-    push_or_null(text, asker_of(clock, lock))?;
+    push_askers(text, clock.held().state(lock), asker_of(clock, lock))?;
     text.extend_from_slice(b"}")
 }
 
@@ -144,17 +159,15 @@ fn is_shown(clock: &Clock, lock: u8) -> bool
     !matches!(clock.held().state(lock), LockState::Away) || asker_of(clock, lock).is_some()
 }
 
+#[tactic(auto, using(crate::proofs::Lists::shown_more))]
 // The locks that are shown, of so many.
 fn locks_shown(alloc: Global, clock: &Clock, count: u8) -> Result<Vec<u8>, AllocError>
     requires { count ≤ length clock.now.held.locks }
-    ensures shown { IfOk result (λ shown. shown.items ≡ locks_shown clock.now count) }
-    ensures in_range { IfOk result (λ shown. All (λ l. l < length clock.now.held.locks) shown.items) }
+    ensures { IfOk result (λ shown. shown.items ≡ locks_shown clock.now count) }
 {
     let mut shown = Vec::new(alloc);
     for lock in 0..count {
-        if is_shown(clock, lock) {
-            shown.push(lock)?;
-        }
+        put_if(&mut shown, lock, is_shown(clock, lock))?;
     }
     Ok(shown)
 }

@@ -4,12 +4,13 @@ ghost use Rattle.std.specs.Prelude.{◌≡◌, ◌++◌, ◌<◌, IfOk, OnOk, le
 ghost use Rattle.lrc_control.specs.Barrier.{IsOfNodes};
 ghost use Rattle.lrc_state_text.specs.Manager.{arrived_nodes, barrier_members, clean_text, cleaned_nodes, has_cleaned, manager_or_null, manager_text};
 
-use crate::json::push_numbers;
+use crate::json::{push_numbers, put_if};
 use lrc_barrier::Manager;
 use lrc_control::Barrier;
 use lrc_text::push_number;
 use std::alloc::{AllocError, Global};
 
+#[tactic(auto, using(crate::proofs::Lists::shown_more))]
 // The nodes that have arrived at the next episode.
 fn arrived_nodes(alloc: Global, manager: &Manager, nodes: u8) -> Result<Vec<u64>, AllocError>
     requires { nodes ≡ length manager.now.last }
@@ -17,9 +18,7 @@ fn arrived_nodes(alloc: Global, manager: &Manager, nodes: u8) -> Result<Vec<u64>
 {
     let mut arrived = Vec::new(alloc);
     for node in 0..nodes {
-        if manager.has_arrived(node) {
-            arrived.push(u64::from(node))?;
-        }
+        put_if(&mut arrived, u64::from(node), manager.has_arrived(node))?;
     }
     Ok(arrived)
 }
@@ -31,6 +30,7 @@ fn has_cleaned(manager: &Manager, node: u8) -> bool
     manager.has_cleaned(node).unwrap_or(false)
 }
 
+#[tactic(auto, using(crate::proofs::Lists::shown_more))]
 // The nodes that have sent their Clean.
 fn cleaned_nodes(alloc: Global, manager: &Manager, nodes: u8) -> Result<Vec<u64>, AllocError>
     requires { nodes ≡ length manager.now.last }
@@ -38,9 +38,7 @@ fn cleaned_nodes(alloc: Global, manager: &Manager, nodes: u8) -> Result<Vec<u64>
 {
     let mut cleaned = Vec::new(alloc);
     for node in 0..nodes {
-        if has_cleaned(manager, node) {
-            cleaned.push(u64::from(node))?;
-        }
+        put_if(&mut cleaned, u64::from(node), has_cleaned(manager, node))?;
     }
     Ok(cleaned)
 }

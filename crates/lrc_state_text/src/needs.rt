@@ -1,11 +1,13 @@
 // What pages need before they can be read.
 
-ghost use Rattle.std.specs.Prelude.{◌≡◌, ◌++◌, IfOk, OnOk, codes};
+ghost use Rattle.std.specs.Prelude.{◌≡◌, ◌++◌, IfOk, OnOk, codes, decimal, map};
 ghost use Rattle.lrc_need.specs.Seen.{seen_base};
 ghost use Rattle.lrc_state_text.specs.Json.{later, listed};
-ghost use Rattle.lrc_state_text.specs.Needs.{asked_names, asked_of_maker, base_name, name_text, names_text, need_text};
+ghost use Rattle.lrc_state_text.specs.Waits.{needs_member};
+ghost use Rattle.lrc_state_text.specs.Needs.{asked_names, asked_of_maker, base_name, name_of, name_text, names_text, need_text};
 
 use crate::json::push_interval_name;
+use lrc_envelope::Indices;
 use lrc_need::{Asked, Base, Need};
 use lrc_text::push_number;
 use std::alloc::{AllocError, Global};
@@ -65,17 +67,22 @@ pub(crate) fn push_interval_names(
     text.extend_from_slice(b"]")
 }
 
+// Puts the names of a node's intervals behind others.
+fn put_names(names: &mut Vec<IntervalName>, node: u8, indices: &Indices) -> Result<(), AllocError>
+    ensures { OnOk result (names.new.items ≡ names.old.items ++ map (name_of node) indices.now) }
+{
+    for place in 0..indices.len() {
+        let index = indices.at(place);
+        names.push(IntervalName { node, index })?;
+    }
+    Ok(())
+}
+
 // Puts the intervals whose changes are asked of one maker behind others.
 fn put_asked(names: &mut Vec<IntervalName>, asked: &Asked) -> Result<(), AllocError>
     ensures { OnOk result (names.new.items ≡ names.old.items ++ asked_of_maker asked.now) }
 {
-    for place in 0..asked.indices.len() {
-        names.push(IntervalName {
-            node: asked.maker,
-            index: asked.indices.at(place),
-        })?;
-    }
-    Ok(())
+    put_names(names, asked.maker, &asked.indices)
 }
 
 // The intervals whose changes are asked of their makers.
@@ -110,6 +117,7 @@ fn push_base(text: &mut Vec<u8>, need: &Need) -> Result<(), AllocError>
     text.extend_from_slice(base_name(need.base()))
 }
 
+#[tactic(auto, unfolding(crate::specs::Needs::need_text))]
 fn push_need(text: &mut Vec<u8>, need: &Need) -> Result<(), AllocError>
     ensures { OnOk result (text.new.items ≡ text.old.items ++ need_text need.now) }
 {
@@ -138,8 +146,8 @@ fn push_later_needs(text: &mut Vec<u8>, needs: &[Need]) -> Result<(), AllocError
 }
 
 #[tactic(auto, unfolding(crate::specs::Json::listed))]
-/// Adds what pages need.
-pub(crate) fn push_needs(text: &mut Vec<u8>, needs: &[Need]) -> Result<(), AllocError>
+// Adds what pages need.
+fn push_needs(text: &mut Vec<u8>, needs: &[Need]) -> Result<(), AllocError>
     ensures { OnOk result (text.new.items ≡ text.old.items ++ listed need_text needs.now) }
 {
     match needs {
@@ -149,4 +157,13 @@ pub(crate) fn push_needs(text: &mut Vec<u8>, needs: &[Need]) -> Result<(), Alloc
             push_later_needs(text, rest)
         }
     }
+}
+
+/// Adds what pages need as a member.
+pub(crate) fn push_needs_member(text: &mut Vec<u8>, needs: &[Need]) -> Result<(), AllocError>
+    ensures { OnOk result (text.new.items ≡ text.old.items ++ needs_member needs.now) }
+{
+    text.extend_from_slice(b"\",\"needs\":[")?;
+    push_needs(text, needs)?;
+    text.extend_from_slice(b"]")
 }

@@ -22,6 +22,7 @@ pub struct Place<'p> {
     pub names: &'p [NamedValue<'p>],
 }
 
+#[tactic(auto, unfolding(crate::specs::Place::named_text))]
 fn push_name(text: &mut Vec<u8>, named: NamedValue<'_>) -> Result<(), AllocError>
     ensures { OnOk result (text.new.items ≡ text.old.items ++ named_text (named_seen named.entry)) }
 {

@@ -2,8 +2,8 @@
 
 ghost use Rattle.std.specs.Prelude.{◌≡◌, ◌++◌, IfOk, OnOk, length, map};
 ghost use Rattle.lrc_state_text.specs.Place.{named_seen};
-ghost use Rattle.lrc_state_text.specs.State.{control_members, course_members, mail_members, memory_members, state_text, taken_counts};
-ghost use Rattle.lrc_state_text.specs.Waits.{clock_members, wait_members};
+ghost use Rattle.lrc_state_text.specs.State.{collected_member, control_members, course_members, mail_members, memory_members, state_text, taken_counts};
+ghost use Rattle.lrc_state_text.specs.Waits.{clock_members, wait_members, waits_member};
 
 use crate::copies::push_pages;
 use crate::intervals::push_intervals;
@@ -11,12 +11,13 @@ use crate::json::{push_numbers, push_time};
 use crate::known::Known;
 use crate::locks::push_locks;
 use crate::manager::push_barrier;
-use crate::needs::push_needs;
+use crate::needs::push_needs_member;
 use crate::place::{Place, push_place};
 use crate::waits::push_wait;
 use lrc_mail::Mail;
 use lrc_node::NodeState;
 use lrc_text::push_number;
+use lrc_time::Time;
 use std::alloc::{AllocError, Global};
 
 // Adds the node's time, and the number of its open interval.
@@ -33,18 +34,24 @@ fn push_clock(text: &mut Vec<u8>, state: &NodeState<'_>) -> Result<(), AllocErro
     )
 }
 
+#[tactic(auto, unfolding(crate::specs::Waits::waits_member))]
+// Adds what the node waits for.
+fn push_wait_member(text: &mut Vec<u8>, state: &NodeState<'_>) -> Result<(), AllocError>
+    ensures { OnOk result (text.new.items ≡ text.old.items ++ waits_member state.now) }
+{
+    let course = state.text();
+    let episode = state.barrier().episode();
+    let wait = state.mail().wait();
+    text.extend_from_slice(b",\"waits\":\"")?;
+    push_wait(text, course.end(), course.is_ready(), episode, wait)
+}
+
 // Adds what the node waits for, and what is needed then.
 fn push_waits(text: &mut Vec<u8>, state: &NodeState<'_>) -> Result<(), AllocError>
     ensures { OnOk result (text.new.items ≡ text.old.items ++ wait_members state.now) }
 {
-    let wait = state.mail().wait();
-    let course = state.text();
-    let episode = state.barrier().episode();
-    text.extend_from_slice(b",\"waits\":\"")?;
-    push_wait(text, course.end(), course.is_ready(), episode, wait)?;
-    text.extend_from_slice(b"\",\"needs\":[")?;
-    push_needs(text, wait.needs())?;
-    text.extend_from_slice(b"]")
+    push_wait_member(text, state)?;
+    push_needs_member(text, state.mail().wait().needs())
 }
 
 // Adds how far the node has come.
@@ -71,6 +78,14 @@ fn push_control(text: &mut Vec<u8>, state: &NodeState<'_>) -> Result<(), AllocEr
     push_barrier(text, state.barrier(), state.nodes())
 }
 
+// Adds the time of the last collection.
+fn push_collected(text: &mut Vec<u8>, time: &Time) -> Result<(), AllocError>
+    ensures { OnOk result (text.new.items ≡ text.old.items ++ collected_member time.now) }
+{
+    text.extend_from_slice(b",\"collected\":")?;
+    push_time(text, time)
+}
+
 // Adds what the node knows of the shared memory, of the intervals those that were not known before.
 fn push_memory(text: &mut Vec<u8>, state: &NodeState<'_>, known: &Known) -> Result<(), AllocError>
     ensures { OnOk result (text.new.items ≡ text.old.items ++ memory_members state.now known.now) }
@@ -79,8 +94,7 @@ fn push_memory(text: &mut Vec<u8>, state: &NodeState<'_>, known: &Known) -> Resu
     let stored = known.new_in(*text.allocator(), state)?;
     push_pages(text, memory, state.pages())?;
     push_intervals(text, memory.size(), &stored)?;
-    text.extend_from_slice(b",\"collected\":")?;
-    push_time(text, memory.collected())
+    push_collected(text, memory.collected())
 }
 
 // How many messages were sent to each of so many nodes.

@@ -1,11 +1,8 @@
 // The intervals that a node stores, with the changes that are stored.
 
-ghost use Rattle.std.specs.Prelude.{◌≡◌, ◌<◌, IfOk, OnOk, length};
-ghost use Rattle.std.specs.Cmp.Lexicographic.{pointwise};
-ghost use Rattle.lrc_protocol.specs.Pages.{Memory as MemoryRecord};
-ghost use Rattle.lrc_store.specs.Interval.{IntervalRecord};
-ghost use Rattle.lrc_time.specs.Time.{zeros};
-ghost use Rattle.lrc_state_text.specs.Intervals.{changes_stored, intervals_stored, is_same, page_changes, same_changes, stored_in, with_changes};
+ghost use Rattle.std.specs.Prelude.{◌≡◌, ◌<◌, ◌≤◌, ◌++◌, IfOk, OnOk, length};
+ghost use Rattle.std.specs.Option.{option_to_list};
+ghost use Rattle.lrc_state_text.specs.Intervals.{changes_stored, intervals_stored, is_same, page_changes, stored_in, with_changes};
 
 use lrc_memory::Memory;
 use lrc_page::Changes;
@@ -36,10 +33,18 @@ impl Model for StoredInterval {
     ghost view = { λ s. record { interval = s.interval; changes = s.changes.items } };
 }
 
-impl PageChanges {
-    // Whether the other ones are the same changes of the same page.
-    fn is_same(&self, other: &PageChanges) -> bool
-        ensures { result ≡ same_changes self.now other.now }
+impl PartialEq for PageChanges {
+    ghost use Rattle.std.specs.Prelude.{◌≡◌, ◌↔◌, IsTrue};
+    ghost use Rattle.std.specs.Cmp.{partial_equiv_from_equiv};
+    ghost use Rattle.lrc_state_text.specs.Intervals.{same_changes, same_changes_equiv};
+
+    ghost eq = { same_changes };
+
+    ghost laws = { partial_equiv_from_equiv same_changes_equiv };
+
+    fn eq(&self, other: &PageChanges) -> bool
+        ensures eq { result ≡ same_changes self.now other.now }
+        ensures same { IsTrue result ↔ (self.now ≡ other.now) }
     {
         self.page == other.page && self.changes == other.changes
     }
@@ -52,25 +57,11 @@ impl StoredInterval {
     {
         self.interval.node == other.interval.node
             && self.interval.index() == other.interval.index()
-            && are_same(&self.changes, &other.changes)
+            && self.changes.as_slice() == other.changes.as_slice()
     }
 }
 
-// Whether these are the same changes.
-fn are_same(some: &[PageChanges], others: &[PageChanges]) -> bool
-    ensures { result ≡ pointwise same_changes some.now others.now }
-{
-    if some.len() != others.len() {
-        return false;
-    }
-    for (place, part) in some.iter().enumerate() {
-        if !part.is_same(&others[place]) {
-            return false;
-        }
-    }
-    true
-}
-
+#[tactic(auto, using(crate::proofs::Lists::set_next))]
 // The indices of the intervals that were added last.
 fn last_added(memory: &Memory, nodes: u8) -> Time
     requires nodes { nodes ≡ length memory.now.memory.store.last }
@@ -134,16 +125,19 @@ fn with_changes(
     alloc: Global,
     memory: &Memory,
     count: u16,
-    interval: Interval,
+    interval: &Interval,
 ) -> Result<StoredInterval, AllocError>
     requires { count ≡ length memory.now.memory.copies }
-    ensures { IfOk result (λ stored. stored ≡ with_changes memory.now.memory interval) }
+    ensures { IfOk result (λ stored. stored ≡ with_changes memory.now.memory interval.now) }
 {
     let mut changes = Vec::new(alloc);
     for page in interval.pages.as_slice() {
-        put_changes(&mut changes, memory, count, &interval, *page)?;
+        put_changes(&mut changes, memory, count, interval, *page)?;
     }
-    Ok(StoredInterval { interval, changes })
+    Ok(StoredInterval {
+        interval: interval.duplicate()?,
+        changes,
+    })
 }
 
 /// All intervals that are stored at a node among so many, with so many pages.
@@ -160,7 +154,8 @@ pub(crate) fn stored_in(
     ensures { IfOk result (λ stored. stored.items ≡ stored_in memory.now.memory) }
 {
     let mut all = Vec::new(alloc);
-    for interval in intervals_stored(memory, nodes)?.into_vec() {
+    let intervals = intervals_stored(memory, nodes)?;
+    for interval in intervals.as_slice() {
         all.push(with_changes(alloc, memory, count, interval)?)?;
     }
     Ok(all)

@@ -1,10 +1,11 @@
 // Words with their values.
 
-ghost use Rattle.std.specs.Prelude.{◌≡◌, ◌++◌, ◌*◌, ◌<◌, ◌^◌, IfOk, OnOk};
-ghost use Rattle.lrc_state_text.specs.Json.{later};
-ghost use Rattle.lrc_state_text.specs.Words.{changed_words, changes_text, first_word, used_words, values_text, word_text, words_text};
+ghost use Rattle.std.specs.Prelude.{◌≡◌, ◌++◌, ◌<◌, ◌^◌, IfOk, OnOk, codes};
+ghost use Rattle.lrc_state_text.specs.Json.{later, listed};
+ghost use Rattle.lrc_state_text.specs.Words.{changed_word, changed_words, changes_text, first_word, used_word, used_words};
+ghost use Rattle.lrc_state_text.specs.Words.{values_text, word_text, words_text};
 
-use lrc_page::{Changes, Size};
+use lrc_page::{Change, Changes, Size};
 use lrc_text::push_number;
 use std::alloc::{AllocError, Global};
 
@@ -22,6 +23,7 @@ pub(crate) fn first_word(size: Size, page: u16) -> u32
     u32::from(page) * u32::from(size.words())
 }
 
+#[tactic(auto, unfolding(crate::specs::Words::word_text))]
 fn push_word(text: &mut Vec<u8>, word: Word) -> Result<(), AllocError>
     ensures { OnOk result (text.new.items ≡ text.old.items ++ word_text word) }
 {
@@ -60,6 +62,7 @@ fn push_listed(text: &mut Vec<u8>, words: &[Word]) -> Result<(), AllocError>
     }
 }
 
+#[tactic(auto, unfolding(crate::specs::Words::words_text))]
 fn push_words(text: &mut Vec<u8>, words: &[Word]) -> Result<(), AllocError>
     ensures { OnOk result (text.new.items ≡ text.old.items ++ words_text words.now) }
 {
@@ -68,20 +71,37 @@ fn push_words(text: &mut Vec<u8>, words: &[Word]) -> Result<(), AllocError>
     text.extend_from_slice(b"}")
 }
 
+// Puts a word behind others, at this place from the first word on, unless its value is 0.
+fn put_used(words: &mut Vec<Word>, first: u32, place: usize, value: u64) -> Result<(), AllocError>
+    requires { place < 2 ^ 63 }
+    ensures { OnOk result (words.new.items ≡ words.old.items ++ used_word first place value) }
+{
+    if value != 0 {
+        let number = u64::from(first) + place as u64;
+        words.push(Word { number, value })?;
+    }
+    Ok(())
+}
+
 // The words with these values, from this word on, whose value is not 0.
 fn used_words(alloc: Global, first: u32, values: &[u64]) -> Result<Vec<Word>, AllocError>
     ensures { IfOk result (λ words. words.items ≡ used_words first values.now) }
 {
     let mut words = Vec::new(alloc);
     for (place, value) in values.iter().enumerate() {
-        if *value != 0 {
-            words.push(Word {
-                number: u64::from(first) + place as u64,
-                value: *value,
-            })?;
-        }
+        put_used(&mut words, first, place, *value)?;
     }
     Ok(words)
+}
+
+// The word that a change is of, on the page that begins with this word.
+fn changed_word(first: u32, change: Change) -> Word
+    ensures { result ≡ changed_word first change }
+{
+    Word {
+        number: u64::from(first) + u64::from(change.offset),
+        value: change.value,
+    }
 }
 
 // The words that changes name, of the page that begins with this word.
@@ -90,11 +110,7 @@ fn changed_words(alloc: Global, first: u32, changes: &Changes) -> Result<Vec<Wor
 {
     let mut words = Vec::new(alloc);
     for place in 0..changes.len() {
-        let change = changes.at(place);
-        words.push(Word {
-            number: u64::from(first) + u64::from(change.offset),
-            value: change.value,
-        })?;
+        words.push(changed_word(first, changes.at(place)))?;
     }
     Ok(words)
 }

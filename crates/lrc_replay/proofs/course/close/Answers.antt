@@ -10,7 +10,7 @@ returns-then-closes c acts are =
     on_ok c.open_next.result (c.open_next.ensures (closed_long acts c.args.closed.now.items are))
     (λ is. closed_more acts c.args.act c.args.closed.now.items _ are does few is)
 
-pub returns-else-closes : goal.returns-else-closes
-returns-else-closes c acts are =
+pub returns : goal.returns
+returns c acts are =
     let does_not : closes c.args.act.deed ≡ false = search rules in
     closed_same acts c.args.act c.args.closed.now.items c.args.closed.now.items are does_not refl

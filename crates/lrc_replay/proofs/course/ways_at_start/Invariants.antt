@@ -9,5 +9,5 @@ use Rattle.lrc_replay.proofs.course.ways_at_start.Given as goal
 abbrev pub invariant-loop-me : goal.invariant-loop-me
 invariant-loop-me l = record {
   on : All IsOnWay l.ways.items;
-  ways : map thread_of l.ways.items ≡ map (λ me. start_of l.plan.code.now l.plan.nodes me) (range_with_len 0 l.me);
+  ways : map thread_of l.ways.items ≡ map (λ me. start_of l.code l.nodes me) (range_with_len 0 l.me);
 }
