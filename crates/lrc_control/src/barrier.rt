@@ -1,6 +1,6 @@
 // A node's part in barriers.
 
-ghost use Rattle.std.specs.Prelude.{◌≡◌, ℕ, ◌<◌, ◌≤◌, IfOk, IfSome, IsTrue, OnErr, Some, length, false, option_map, unwrap_or};
+ghost use Rattle.std.specs.Prelude.{◌≡◌, ℕ, ◌<◌, ◌≤◌, IfOk, IfSome, IsTrue, MatchOption, OnErr, None, Some, length, false, option_map, unwrap_or};
 ghost use Rattle.lrc_barrier.specs.Barrier.{is_accepted, IsArrival, is_clean};
 ghost use Rattle.lrc_barrier.specs.declared.arrival.Arrival.{Arrival as ArrivalRecord};
 ghost use Rattle.lrc_protocol.specs.Times.{MOST_NUMBER};
@@ -48,6 +48,16 @@ impl Barrier {
             episode: 0,
             sent: 0,
             manager,
+        }
+    }
+
+    /// The manager of barriers, if it is here.
+    pub fn manager(&self) -> Option<&Manager>
+        ensures { MatchOption result (self.now.manager ≡ None) (λ manager. self.now.manager ≡ Some manager.now) }
+    {
+        match &self.manager {
+            Some(manager) => Some(manager),
+            None => None,
         }
     }
 

@@ -52,6 +52,20 @@ impl Clock {
         }
     }
 
+    /// What the node knows of each lock's token.
+    pub fn held(&self) -> &Held
+        ensures { result.now ≡ self.now.held }
+    {
+        &self.held
+    }
+
+    /// Who asked last for the locks that the node manages.
+    pub fn managed(&self) -> &Managed
+        ensures { result.now ≡ self.now.managed }
+    {
+        &self.managed
+    }
+
     /// The node's time.
     pub fn time(&self) -> &Time
         ensures time { result.now ≡ self.now.time }

@@ -1,6 +1,6 @@
 // A node's mail.
 
-ghost use Rattle.std.specs.Prelude.{◌≡◌, ◌+◌, ◌<◌, ◌≤◌, Some, None, Err, All, IfOk, OnErr, OnOk, OnSome, false, [], ◌∷◌, ◌++◌, length, replicate, slice_index, slice_set};
+ghost use Rattle.std.specs.Prelude.{◌≡◌, ◌+◌, ◌<◌, ◌≤◌, Some, None, Err, All, IfOk, OnErr, OnOk, OnSome, false, [], ◌∷◌, ◌++◌, length, replicate, slice_index, slice_index_or, slice_set};
 ghost use Rattle.lrc_envelope.specs.declared.limits.TheConstants.{MOST_NODES};
 ghost use Rattle.lrc_mail.specs.declared.fault.MailFault.TheVariants.{Worn};
 ghost use Rattle.lrc_protocol.specs.Times.{MOST_NUMBER};
@@ -64,6 +64,22 @@ impl Mail {
         ensures { seen_wait result.now ≡ self.now.wait }
     {
         &self.wait
+    }
+
+    /// How many messages were sent to a node.
+    pub fn sent(&self, to: u8) -> u64
+        requires { to < length self.now.sent }
+        ensures { result ≡ slice_index self.now.sent to }
+    {
+        self.sent[usize::from(to)]
+    }
+
+    /// How many messages from a node were taken, repeats not counted.
+    pub fn taken(&self, from: u8) -> u64
+        requires { from < length self.now.taken }
+        ensures { result ≡ length (slice_index_or self.now.taken from []) }
+    {
+        self.taken[usize::from(from)].len()
     }
 
     /// From now on this is awaited.

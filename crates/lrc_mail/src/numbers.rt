@@ -45,6 +45,24 @@ impl Numbers {
         }
     }
 
+    /// How many numbers there are.
+    pub fn len(&self) -> u64
+        ensures { result ≡ length self.now }
+    {
+        let mut count = 0;
+        for span in &self.spans {
+            count += u64::from(span.last - span.first) + 1;
+        }
+        count
+    }
+
+    /// Whether there are none.
+    pub fn is_empty(&self) -> bool
+        ensures { result ≡ is_nil self.now }
+    {
+        self.spans.is_empty()
+    }
+
     /// Whether this number is among them.
     pub fn contains(&self, number: u32) -> bool
         ensures { result ≡ list_any (λ n. n == number) self.now }

@@ -88,8 +88,8 @@ impl Memory {
         )
     }
 
-    // The notices of a page that its copy lacks, in the order in which their changes are applied.
-    fn lacking(&self, page: u16) -> Result<Vec<Key>, AllocError>
+    /// The notices of a page that its copy lacks, in the order in which their changes are applied.
+    pub fn lacking(&self, page: u16) -> Result<Vec<Key>, AllocError>
         requires { page < length self.now.memory.copies }
         ensures keys { IfOk result (λ keys. keys.items ≡ missing_at self.now.memory page) }
         ensures askable { IfOk result (λ keys. AreAskable keys.items) }

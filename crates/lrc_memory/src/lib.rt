@@ -6,6 +6,8 @@ mod collecting;
 mod fetching;
 mod learning;
 mod memory;
+mod seen;
 mod settle;
 
 pub use memory::Memory;
+pub use seen::SeenCopy;

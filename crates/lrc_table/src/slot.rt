@@ -84,6 +84,42 @@ impl Slot {
         }
     }
 
+    /// The present values, whether or not they may be read.
+    pub(crate) fn words(&self) -> &[u64]
+        ensures { result.now ≡ self.now.values }
+    {
+        self.words.as_slice()
+    }
+
+    /// The twin, if one is kept.
+    pub(crate) fn twin(&self) -> Option<&[u64]>
+        ensures { MatchOption result (self.now.twin ≡ None) (λ twin. self.now.twin ≡ Some twin.now) }
+    {
+        match &self.twin {
+            Some(twin) => Some(twin.as_slice()),
+            None => None,
+        }
+    }
+
+    /// The pending changes, if there are any.
+    pub(crate) fn pending_changes(&self, alloc: Global) -> Result<Option<Changes>, AllocError>
+        requires same { ForSome self.now.twin (λ twin. length twin ≡ length self.now.values) }
+        requires few { length self.now.values ≤ MOST_PAGE_WORDS }
+        ensures { IfOk result (λ changes. changes ≡ pending_changes self.now) }
+    {
+        match (&self.twin, self.state) {
+            (Some(twin), State::Valid) => {
+                let changes = Changes::between_words(
+                    alloc,
+                    twin.as_slice(),
+                    self.words.as_slice(),
+                )?;
+                Ok(Some(changes))
+            }
+            _ => Ok(None),
+        }
+    }
+
     /// A list of the present values, in place of a spare one where there is one.
     pub(crate) fn values(&self, spare: Option<Vec<u64>>) -> Result<Vec<u64>, AllocError>
         ensures { IfOk result (λ values. values.items ≡ self.now.values) }
@@ -134,13 +170,8 @@ impl Slot {
         ensures ok { OnOk result (self.new ≡ settled self.old) }
         ensures err { OnErr result (self.new ≡ self.old) }
     {
-        let changes = match (&self.twin, self.state) {
-            (Some(twin), State::Valid) => Changes::between_words(
-                alloc,
-                twin.as_slice(),
-                self.words.as_slice(),
-            )?,
-            _ => return Ok(None),
+        let Some(changes) = self.pending_changes(alloc)? else {
+            return Ok(None);
         };
         if let Some(twin) = self.twin.take() {
             // Without memory for it the twin is given up.

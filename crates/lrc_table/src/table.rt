@@ -130,6 +130,30 @@ impl PageTable {
         Ok(pages)
     }
 
+    /// The values of the copy of a page, whether or not they may be read.
+    pub fn values(&self, page: u16) -> &[u64]
+        requires { page < length self.now.copies }
+        ensures { result.now ≡ (copy_at self.now page).values }
+    {
+        self.slots[usize::from(page)].words()
+    }
+
+    /// The twin of a page, if one is kept: of a written copy, or of a pending one.
+    pub fn twin(&self, page: u16) -> Option<&[u64]>
+        requires { page < length self.now.copies }
+        ensures { MatchOption result ((copy_at self.now page).twin ≡ None) (λ twin. (copy_at self.now page).twin ≡ Some twin.now) }
+    {
+        self.slots[usize::from(page)].twin()
+    }
+
+    /// The changes of a pending page, as `settle` would make them, and `None` if the page is not pending.
+    pub fn pending_changes(&self, page: u16) -> Result<Option<Changes>, AllocError>
+        requires { page < length self.now.copies }
+        ensures { IfOk result (λ changes. changes ≡ pending_changes (copy_at self.now page)) }
+    {
+        self.slots[usize::from(page)].pending_changes(*self.slots.allocator())
+    }
+
     /// Whether a page was written before the last close and its changes are not made yet.
     pub fn pending(&self, page: u16) -> bool
         requires { page < length self.now.copies }

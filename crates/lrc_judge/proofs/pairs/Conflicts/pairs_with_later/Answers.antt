@@ -44,15 +44,17 @@ returns c =
           let adds : Adds [] found (IsPairOfAct conflicts act.node act.deed later) =
           subst (λ xs. Adds xs found (IsPairOfAct conflicts act.node act.deed later)) c.new-pairs.ensures.items added in
           λ pair.
-          let race = pairs_of_act run conflicts c.requires.conflicts c.requires.acts act.node later act.deed does pair in
-          (λ h. race.0 (elim ((adds.exact pair).0 h) [ inl (k, lt, _) ↦ absurd (omega arith) | inr one ↦ one ]),
-          λ r. (adds.exact pair).1 (inr (race.1 r)))
+          let race = pairs_of_act run conflicts c.requires.conflicts c.requires.acts act.node later act.deed does pair in (
+            λ h. race.0 (elim ((adds.exact pair).0 h) [ inl (k, lt, _) ↦ absurd (omega arith) | inr one ↦ one ]),
+            λ r. (adds.exact pair).1 (inr (race.1 r)),
+          )
       | else-later-acts w ↦
           let none : found ≡ [] = ap (λ (v : Vec Pair Global). v.items) w.pairs-is ∙ c.new-pairs.ensures.items in
           let past : length run ≤ later = w.if-later-acts.false in
-          λ pair.
-          (λ h. absurd (nothing_is_there pair (subst (λ xs. Contains xs pair) none h)),
-          λ (at, r). absurd (nothing_races_past_the_end run pair later at (λ within. omega (arith, past, within)) r))
+          λ pair. (
+            λ h. absurd (nothing_is_there pair (subst (λ xs. Contains xs pair) none h)),
+            λ (at, r). absurd (nothing_races_past_the_end run pair later at (λ within. omega (arith, past, within)) r),
+          )
     ] in
     record {
       ascending = unique-ascending found sorted unique permutation in_order is;
