@@ -1,5 +1,5 @@
 -- The lines of a run's data that are not its states, and the document.
-use Rattle.std.specs.Prelude.{◌==◌, ◌≢◌, All, ℕ, List, [], ◌++◌, Option, None, Some, codes, decimal, if◌then◌else◌}
+use Rattle.std.specs.Prelude.{◌==◌, ◌≢◌, ◌<◌, ◌^◌, All, ℕ, List, [], ◌++◌, Option, None, Some, codes, decimal, if◌then◌else◌}
 use Rattle.lrc_judge.specs.declared.lanes.Pair.{Pair}
 use Rattle.lrc_text.specs.Each.{each}
 use Rattle.lrc_step_page.specs.Spelling.{spelled}
@@ -7,7 +7,7 @@ use Rattle.lrc_step_page.specs.declared.frame.TheConstants.{OPENING}
 use Rattle.lrc_step_page.specs.declared.script.TheConstants.{CLOSING}
 
 -- a text between its quotation marks
-abbrev pub quoted : List ℕ → List ℕ
+unfoldable pub quoted : List ℕ → List ℕ
 quoted text = codes "\"" ++ spelled text ++ codes "\""
 
 -- something in a list: a comma stands before each but the first
@@ -20,17 +20,25 @@ quoted_at place text = comma_text place ++ quoted text
 abbrev pub quoted_each : List (List ℕ) → List ℕ
 quoted_each texts = each quoted_at texts
 
+-- what ends the line of the program
+unfoldable pub text_part : List ℕ → List ℕ
+text_part text = codes ",\"text\":" ++ quoted text ++ codes "}\n"
+
 -- the program: the name of its file, and its text
 abbrev pub program_line : (name text : List ℕ) → List ℕ
-program_line name text = codes "{\"program\":" ++ quoted name ++ codes ",\"text\":" ++ quoted text ++ codes "}\n"
+program_line name text = codes "{\"program\":" ++ quoted name ++ text_part text
+
+-- what ends a line with a list of texts
+unfoldable pub lines_part : List (List ℕ) → List ℕ
+lines_part lines = quoted_each lines ++ codes "]}\n"
 
 -- the run with reasons, by its lines
 abbrev pub explain_line : List (List ℕ) → List ℕ
-explain_line lines = codes "{\"explain\":[" ++ quoted_each lines ++ codes "]}\n"
+explain_line lines = codes "{\"explain\":[" ++ lines_part lines
 
 -- why the act at a position is as it is, by lines
 abbrev pub why_line : ℕ → List (List ℕ) → List ℕ
-why_line position lines = codes "{\"why\":" ++ decimal position ++ codes ",\"lines\":[" ++ quoted_each lines ++ codes "]}\n"
+why_line position lines = codes "{\"why\":" ++ decimal position ++ codes ",\"lines\":[" ++ lines_part lines
 
 -- two acts that race
 abbrev pub pair_text : ℕ → Pair → List ℕ
@@ -62,3 +70,7 @@ document lines = opening ++ lines ++ closing
 -- bytes with none of the signs that markup begins with, ends with, or names signs by
 abbrev pub HasNoMarkup : List ℕ → Type 0
 HasNoMarkup bytes = All (λ byte. (byte ≢ 60) × (byte ≢ 62) × (byte ≢ 38)) bytes
+
+-- the two positions are numbers of 64 bits
+abbrev pub IsPairOfWords : Pair → Type 0
+IsPairOfWords pair = (pair.earlier < 2 ^ 64) × (pair.later < 2 ^ 64)

@@ -1,7 +1,7 @@
 // The lines of a run's data that are not its states.
 
 ghost use Rattle.std.specs.Prelude.{◌≡◌, ◌++◌, OnOk};
-ghost use Rattle.lrc_step_page.specs.Lines.{comma_text, explain_line, group_text, pair_text, pairs_text, program_line, quoted_at, quoted_each, race_line, why_line};
+ghost use Rattle.lrc_step_page.specs.Lines.{comma_text, explain_line, group_text, lines_part, pair_text, pairs_text, program_line, quoted_at, quoted_each, race_line, text_part, why_line};
 ghost use Rattle.lrc_text.specs.Parts.{texts_of};
 
 use crate::spelling::push_quoted;
@@ -9,15 +9,30 @@ use lrc_judge::pairs::Pair;
 use lrc_text::push_number;
 use std::alloc::AllocError;
 
+#[tactic(auto, unfolding(crate::specs::Lines::text_part))]
+fn push_text_part(text: &mut Vec<u8>, program: &[u8]) -> Result<(), AllocError>
+    ensures { OnOk result (text.new.items ≡ text.old.items ++ text_part program.now) }
+{
+    text.extend_from_slice(b",\"text\":")?;
+    push_quoted(text, program)?;
+    text.extend_from_slice(b"}\n")
+}
+
 /// Adds the line of the program: the name of its file, and its text.
 pub fn push_program_line(text: &mut Vec<u8>, name: &[u8], program: &[u8]) -> Result<(), AllocError>
     ensures { OnOk result (text.new.items ≡ text.old.items ++ program_line name.now program.now) }
 {
     text.extend_from_slice(b"{\"program\":")?;
     push_quoted(text, name)?;
-    text.extend_from_slice(b",\"text\":")?;
-    push_quoted(text, program)?;
-    text.extend_from_slice(b"}\n")
+    push_text_part(text, program)
+}
+
+#[tactic(auto, unfolding(crate::specs::Lines::lines_part))]
+fn push_lines_part(text: &mut Vec<u8>, lines: &[Vec<u8>]) -> Result<(), AllocError>
+    ensures { OnOk result (text.new.items ≡ text.old.items ++ lines_part (texts_of lines.now)) }
+{
+    push_quoted_each(text, lines)?;
+    text.extend_from_slice(b"]}\n")
 }
 
 /// Adds the line of the run with reasons, by the lines that `explain` prints.
@@ -25,8 +40,7 @@ pub fn push_explain_line(text: &mut Vec<u8>, lines: &[Vec<u8>]) -> Result<(), Al
     ensures { OnOk result (text.new.items ≡ text.old.items ++ explain_line (texts_of lines.now)) }
 {
     text.extend_from_slice(b"{\"explain\":[")?;
-    push_quoted_each(text, lines)?;
-    text.extend_from_slice(b"]}\n")
+    push_lines_part(text, lines)
 }
 
 /// Adds the line that says why the act at a position is as it is, by the lines that `why` prints.
@@ -39,8 +53,7 @@ pub fn push_why_line(
 {
     push_number(text, b"{\"why\":", position as u64)?;
     text.extend_from_slice(b",\"lines\":[")?;
-    push_quoted_each(text, lines)?;
-    text.extend_from_slice(b"]}\n")
+    push_lines_part(text, lines)
 }
 
 /// Adds the line of a group of races, or of the races of none, with the pairs of acts that are of it.

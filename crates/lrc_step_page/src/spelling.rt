@@ -62,6 +62,7 @@ pub fn push_spelled(text: &mut Vec<u8>, of: &[u8]) -> Result<(), AllocError>
 }
 
 /// Adds a text between its quotation marks.
+#[tactic(auto, unfolding(crate::specs::Lines::quoted))]
 pub(crate) fn push_quoted(text: &mut Vec<u8>, of: &[u8]) -> Result<(), AllocError>
     ensures { OnOk result (text.new.items ≡ text.old.items ++ quoted of.now) }
 {

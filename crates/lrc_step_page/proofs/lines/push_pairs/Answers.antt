@@ -1,4 +1,4 @@
-use Rattle.std.proofs.Common.{◌≡◌, ◌∙◌, ◌<◌, ◌++◌, ℕ, ap, sym, arith, append_assoc, length, take, get_or}
+use Rattle.std.proofs.Common.{◌∙◌, ◌<◌, ◌++◌, ap, sym, append_assoc, length, take, get_or}
 use Rattle.lrc_judge.specs.declared.lanes.Pair.{Pair}
 use Rattle.lrc_text.proofs.Each.{each_more}
 use Rattle.lrc_step_page.specs.Lines.{pair_text, pairs_text}
