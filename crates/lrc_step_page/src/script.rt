@@ -1,13 +1,13 @@
-// The script of the document, behind the run's lines.
-//
-// Data flows one way. `readRun` takes the lines apart, once, and makes a moment of each turn: the states of all nodes just after it. `at` is
-// the moment that is shown. `draw` makes each region of the page anew from that moment: header, source, nodes, story, timeline. A key or a
-// button calls `go`, which sets `at` and draws. Only text nodes are made from data, never markup.
+// The script of the document.
 
 /// What stands behind the lines.
 pub const CLOSING: &[u8] = br##"</script>
 <script>
 "use strict";
+
+// Data flows one way. `readRun` takes the lines apart, once, and makes a moment of each turn: the states of all nodes just after it. `at` is
+// the moment that is shown. `draw` makes each region of the page anew from that moment: header, source, nodes, story, timeline. A key or a
+// button calls `go`, which sets `at` and draws. Only text nodes are made from data, never markup.
 
 // ---- The run, as the lines of the data say it ----
 // A moment is a state of all nodes: moment 0 is the start, moment k stands just after the k-th turn of the data.
@@ -35,14 +35,15 @@ function readRun(text) {
 function racesBeyond({ why, explain, momentOfAct, turns }) {
   const heads = explain.filter(line => line.startsWith("race line"));
   return [...why].flatMap(([position, lines]) => lines.flatMap(line => {
-    const [, act, node, place, kind] = /^  races with act (\d+), node (\d+), (line \d+): (\w+)/.exec(line) ?? [];
+    const [, act, node, place, kind] = /^  races with act (\d+), node (\d+), line (\d+): (\w+)/.exec(line) ?? [];
     if (!act || momentOfAct.has(+act)) return [];
     const moment = momentOfAct.get(position);
     const own = turns[moment - 1].act;
-    const sides = [`${place} ${kind}`, `line ${own.line} ${own.kind}`];
-    const isBefore = act < position;
-    const race = heads.findIndex(head => head.startsWith(`race ${(isBefore ? sides : sides.reverse()).join(", ")}:`)) + 1;
-    const beyond = { node: +node, act: { word: own.word, line: +place.slice(5) } };
+    const [there, here] = [`line ${place} ${kind}`, `line ${own.line} ${own.kind}`];
+    const isBefore = +act < position;
+    const head = isBefore ? `race ${there}, ${here}:` : `race ${here}, ${there}:`;
+    const race = heads.findIndex(other => other.startsWith(head)) + 1;
+    const beyond = { node: +node, act: { word: own.word, line: +place } };
     return [{ race: race || null, pair: isBefore ? [0, moment] : [moment, Infinity], beyond }];
   }));
 }
@@ -280,7 +281,8 @@ function draw() {
 
 function drawHeader(turn, before) {
   const last = run.turns.at(-1)?.turn;
-  const place = turn ? `turn ${turn.turn}${isPart() ? ` (part: ${run.turns[0].turn} to ${last})` : ` of ${last}`}` : isPart() ? `part: turns ${run.turns[0].turn} to ${last}` : counted(run.turns.length, "turn");
+  const whole = isPart() ? `part: turns ${run.turns[0].turn} to ${last}` : counted(run.turns.length, "turn");
+  const place = turn ? `turn ${turn.turn} ${isPart() ? `(part: ${run.turns[0].turn} to ${last})` : `of ${last}`}` : whole;
   const act = turn?.act ? [`act ${turn.act.position}`, `line ${turn.act.line}`] : [];
   const races = run.races.length ? [counted(run.races.filter(({ race }) => race).length, "race")] : [];
   regions.place.textContent = [run.program, counted(run.nodes, "node"), ...races, place, ...act].join(" \u00b7 ");
@@ -405,7 +407,10 @@ function drawStory(turn, flight) {
   regions.flight.replaceChildren(...list(flight.length ? `In flight: ${flight.length}` : "Nothing in flight", [...more, ...flying]));
 }
 
-function lineItem(line) { return make("li", { class: /^ *(gives|races?|deadlock)/.exec(line)?.[1] ?? null }, ...withLinks(line)); }
+function lineItem(line) {
+  const [, indent, begins] = /^( *)(gives|races?|deadlock)?/.exec(line);
+  return make("li", { class: [begins, indent.length > 2 ? "nested" : ""].join(" ").trim() || null }, ...withLinks(line));
+}
 function list(title, items) { return [make("h2", {}, title), make("ul", {}, ...items)]; }
 function messageItem({ from, to, message }, holds = {}) { return make("li", { class: classes(holds) }, badge(from), " \u2192 ", badge(to), ` ${message}`); }
 
