@@ -1,5 +1,5 @@
 -- Acts of which something is so, and the words that they write.
-use Rattle.std.specs.Prelude.{◌≡◌, ℕ, ◌<◌, ◌⊎◌, ◌↔◌, IsTrue, List, Option, Some, None, Contains}
+use Rattle.std.specs.Prelude.{◌≡◌, ℕ, ◌<◌, ◌≤◌, ◌⊎◌, ◌↔◌, IsTrue, List, Option, Some, None, Contains}
 use Rattle.std.specs.Ordering.{nat_cmp}
 use Rattle.std.specs.List.Sorted.{IsStrictlySortedBy}
 use Rattle.lrc_trace.specs.declared.act.Act.{Act}
@@ -17,6 +17,11 @@ use Rattle.lrc_why.specs.declared.positions.Which.TheVariants.{RacingOf, Closing
 pub record IsRacing (run : List Act) (node position k : ℕ) : Type 0 where
   pub acts : IsActOf run node k
   pub races : Races run k position ⊎ Races run position k
+
+-- the first of them
+pub record IsLeastRacing (run : List Act) (node position k : ℕ) : Type 0 where
+  pub racing : IsRacing run node position k
+  pub least : (m : ℕ) → IsRacing run node position m → k ≤ m
 
 -- an act that closes an interval of the node, and is the one at the position or known at it
 pub record IsClosed (run : List Act) (node position k : ℕ) : Type 0 where

@@ -3,6 +3,7 @@
 
 mod about;
 mod known;
+pub mod least;
 mod opponents;
 mod parting;
 mod positions;

@@ -93,8 +93,8 @@ pub(crate) fn races(acts: &[Act], order: &Order, earlier: usize, later: usize) -
     conflict_at(acts, earlier, later)
 }
 
-// Whether the act is of the node, and races with the one at the position.
-fn is_racing(acts: &[Act], order: &Order, node: u8, position: usize, k: usize) -> bool
+/// Whether the act is of the node, and races with the one at the position.
+pub(crate) fn is_racing(acts: &[Act], order: &Order, node: u8, position: usize, k: usize) -> bool
     requires order { IsOrderOf acts.now order.now }
     requires position { position < length acts.now }
     requires within { k < length acts.now }
