@@ -1,6 +1,8 @@
 -- The lines of a run's data that are not its states, and the document.
-use Rattle.std.specs.Prelude.{◌==◌, ◌≢◌, ◌<◌, ◌^◌, All, ℕ, List, [], ◌++◌, Option, None, Some, codes, decimal, if◌then◌else◌}
+use Rattle.std.specs.Prelude.{◌==◌, ◌≢◌, ◌<◌, ◌-◌, ◌^◌, All, ℕ, List, [], ◌++◌, Option, None, Some, codes, decimal, if◌then◌else◌, length, take}
 use Rattle.lrc_judge.specs.declared.lanes.Pair.{Pair}
+use Rattle.lrc_labels.specs.declared.cut.Divider.TheVariants.{LineFeed}
+use Rattle.lrc_labels.specs.Cut.{cut, divides}
 use Rattle.lrc_text.specs.Each.{each}
 use Rattle.lrc_step_page.specs.Spelling.{spelled}
 use Rattle.lrc_step_page.specs.declared.frame.TheConstants.{OPENING}
@@ -31,6 +33,10 @@ program_line name text = codes "{\"program\":" ++ quoted name ++ text_part text
 -- what ends a line with a list of texts
 unfoldable pub lines_part : List (List ℕ) → List ℕ
 lines_part lines = quoted_each lines ++ codes "]}\n"
+
+-- the lines of what a command prints: what stands before each line feed and behind the one before
+abbrev pub lines_in : List ℕ → List (List ℕ)
+lines_in printed = let pieces = cut (divides LineFeed) printed in take (length pieces - 1) pieces
 
 -- the run with reasons, by its lines
 abbrev pub explain_line : List (List ℕ) → List ℕ
@@ -66,6 +72,10 @@ closing = CLOSING.now
 -- the document: its frame, with the lines in the one place for them
 abbrev pub document : List ℕ → List ℕ
 document lines = opening ++ lines ++ closing
+
+-- the lines of a run: the program, the states, the run with reasons, its races, and the reasons of its acts
+abbrev pub run_lines : (name text states explained races reasons : List ℕ) → List ℕ
+run_lines name text states explained races reasons = program_line name text ++ states ++ explain_line (lines_in explained) ++ races ++ reasons
 
 -- bytes with none of the signs that markup begins with, ends with, or names signs by
 abbrev pub HasNoMarkup : List ℕ → Type 0

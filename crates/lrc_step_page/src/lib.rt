@@ -9,7 +9,7 @@ mod lines;
 mod script;
 mod spelling;
 
-pub use document::document_parts;
+pub use document::{document_parts, step_document};
 pub use frame::OPENING;
 pub use lines::{push_explain_line, push_program_line, push_race_line, push_why_line};
 pub use script::CLOSING;

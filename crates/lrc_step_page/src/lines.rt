@@ -1,13 +1,22 @@
 // The lines of a run's data that are not its states.
 
-ghost use Rattle.std.specs.Prelude.{◌≡◌, ◌++◌, OnOk};
-ghost use Rattle.lrc_step_page.specs.Lines.{comma_text, explain_line, group_text, lines_part, pair_text, pairs_text, program_line, quoted_at, quoted_each, race_line, text_part, why_line};
-ghost use Rattle.lrc_text.specs.Parts.{texts_of};
+ghost use Rattle.std.specs.Prelude.{◌≡◌, ◌++◌, IfOk, OnOk, map};
+ghost use Rattle.lrc_step_page.specs.Lines.{comma_text, explain_line, group_text, lines_in, lines_part, pair_text, pairs_text, program_line, quoted_at, quoted_each, race_line, text_part, why_line};
 
 use crate::spelling::push_quoted;
 use lrc_judge::pairs::Pair;
+use lrc_labels::cut::{Divider, cut};
 use lrc_text::push_number;
-use std::alloc::AllocError;
+use std::alloc::{AllocError, Global};
+
+// The lines of what a command prints.
+fn lines_in(alloc: Global, printed: &[u8]) -> Result<Vec<&[u8]>, AllocError>
+    ensures { IfOk result (λ lines. map (λ line. line.now) lines.items ≡ lines_in printed.now) }
+{
+    let mut lines = cut(alloc, Divider::LineFeed, printed)?;
+    lines.truncate(lines.len().saturating_sub(1));
+    Ok(lines)
+}
 
 #[tactic(auto, unfolding(crate::specs::Lines::text_part))]
 fn push_text_part(text: &mut Vec<u8>, program: &[u8]) -> Result<(), AllocError>
@@ -28,32 +37,38 @@ pub fn push_program_line(text: &mut Vec<u8>, name: &[u8], program: &[u8]) -> Res
 }
 
 #[tactic(auto, unfolding(crate::specs::Lines::lines_part))]
-fn push_lines_part(text: &mut Vec<u8>, lines: &[Vec<u8>]) -> Result<(), AllocError>
-    ensures { OnOk result (text.new.items ≡ text.old.items ++ lines_part (texts_of lines.now)) }
+fn push_lines_part(alloc: Global, text: &mut Vec<u8>, printed: &[u8]) -> Result<(), AllocError>
+    ensures { OnOk result (text.new.items ≡ text.old.items ++ lines_part (lines_in printed.now)) }
 {
-    push_quoted_each(text, lines)?;
+    let lines = lines_in(alloc, printed)?;
+    push_quoted_each(text, &lines)?;
     text.extend_from_slice(b"]}\n")
 }
 
-/// Adds the line of the run with reasons, by the lines that `explain` prints.
-pub fn push_explain_line(text: &mut Vec<u8>, lines: &[Vec<u8>]) -> Result<(), AllocError>
-    ensures { OnOk result (text.new.items ≡ text.old.items ++ explain_line (texts_of lines.now)) }
+/// Adds the line of the run with reasons, by what `explain` prints.
+pub fn push_explain_line(
+    alloc: Global,
+    text: &mut Vec<u8>,
+    printed: &[u8],
+) -> Result<(), AllocError>
+    ensures { OnOk result (text.new.items ≡ text.old.items ++ explain_line (lines_in printed.now)) }
 {
     text.extend_from_slice(b"{\"explain\":[")?;
-    push_lines_part(text, lines)
+    push_lines_part(alloc, text, printed)
 }
 
-/// Adds the line that says why the act at a position is as it is, by the lines that `why` prints.
+/// Adds the line that says why the act at a position is as it is, by what `why` prints.
 pub fn push_why_line(
+    alloc: Global,
     text: &mut Vec<u8>,
     position: usize,
-    lines: &[Vec<u8>],
+    printed: &[u8],
 ) -> Result<(), AllocError>
-    ensures { OnOk result (text.new.items ≡ text.old.items ++ why_line position (texts_of lines.now)) }
+    ensures { OnOk result (text.new.items ≡ text.old.items ++ why_line position (lines_in printed.now)) }
 {
     push_number(text, b"{\"why\":", position as u64)?;
     text.extend_from_slice(b",\"lines\":[")?;
-    push_lines_part(text, lines)
+    push_lines_part(alloc, text, printed)
 }
 
 /// Adds the line of a group of races, or of the races of none, with the pairs of acts that are of it.
@@ -99,8 +114,8 @@ fn push_pair(text: &mut Vec<u8>, place: usize, pair: Pair) -> Result<(), AllocEr
 }
 
 // Adds texts between their quotation marks, with commas between them.
-fn push_quoted_each(text: &mut Vec<u8>, lines: &[Vec<u8>]) -> Result<(), AllocError>
-    ensures { OnOk result (text.new.items ≡ text.old.items ++ quoted_each (texts_of lines.now)) }
+fn push_quoted_each(text: &mut Vec<u8>, lines: &[&[u8]]) -> Result<(), AllocError>
+    ensures { OnOk result (text.new.items ≡ text.old.items ++ quoted_each (map (λ line. line.now) lines.now)) }
 {
     for (place, line) in lines.iter().enumerate() {
         push_quoted_at(text, place, line)?;
