@@ -379,7 +379,7 @@ function tokens({ state, before }) {
       lock.recent === null ? null : caption(`last asked: ${lock.recent}`)];
   });
   const { arrived, clean } = state.manager ?? { arrived: [] };
-  return [...chips, clean?.length ? `clean: ${clean.join(", ")}` : arrived.length ? `arrived: ${arrived.join(", ")}` : null];
+  return [...chips, clean?.length ? `clean: ${listed(clean)}` : arrived.length ? `arrived: ${listed(arrived)}` : null];
 }
 
 function namesAndPrints({ node, state, before }) {
