@@ -6,5 +6,5 @@ mod groups;
 mod shown;
 mod whole;
 
-pub use shown::{Part, shown_pairs};
+pub use shown::{Part, is_shown, shown_pairs};
 pub use whole::races_part;

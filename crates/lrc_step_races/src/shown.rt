@@ -19,7 +19,8 @@ pub struct Part {
     pub until: usize,
 }
 
-fn is_shown(part: Part, position: usize) -> bool
+/// Whether the act at the position is shown.
+pub fn is_shown(part: Part, position: usize) -> bool
     ensures { MatchBool result (IsShown part position) (¬ IsShown part position) }
 {
     part.from <= position && position < part.until

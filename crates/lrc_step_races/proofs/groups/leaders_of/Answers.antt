@@ -20,7 +20,7 @@ loop-at-preserved c =
     let so_far : List Pair = each (leader_at acts lines firsts) (take at firsts) in
     let more = each_more (leader_at acts lines firsts) firsts at no_pair c.loop-at-test.true in
     let here : (b : Bool) → c.is_among.result ≡ b → so_far ++ cond b [] (pair ∷ []) ≡ each (leader_at acts lines firsts) (take (at + 1) firsts) =
-        λ b is. ap (λ (x : Bool). so_far ++ cond x [] (pair ∷ [])) (sym is ∙ c.is_among.ensures) ∙ sym more in
+    λ b is. ap (λ (x : Bool). so_far ++ cond x [] (pair ∷ [])) (sym is ∙ c.is_among.ensures) ∙ sym more in
     elim c.if-not-is_among.branch [
       | then-not-is_among+in_ok-push w ↦ rw w.leaders-is
           (w.in_ok-push.ensures.items ∙ ap (λ (l : List Pair). l ++ pair ∷ []) c.loop-at.invariant ∙ here false w.if-not-is_among.true)
