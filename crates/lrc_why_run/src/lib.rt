@@ -8,4 +8,4 @@ mod spelling;
 mod statement;
 mod way;
 
-pub use run::why_run;
+pub use run::{why_each, why_run};
