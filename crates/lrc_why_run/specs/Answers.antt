@@ -1,5 +1,5 @@
 -- What `why` prints of the acts of a run.
-use Rattle.std.specs.Prelude.{◌≡◌, ℕ, List, [], Option, Some, None, length, map}
+use Rattle.std.specs.Prelude.{◌≡◌, ◌≢◌, ℕ, IfSome, List, [], Option, Some, None, length, map}
 use Rattle.lrc_lang.specs.Lines.{HasLines}
 use Rattle.lrc_lang.specs.Symbol.{Names}
 use Rattle.lrc_lang.specs.Tree.{program_of}
@@ -40,6 +40,17 @@ pub record TellsPrivate (shown : Shown) (names : Names) (program : Program) (nod
 abbrev pub TellsBehind : Shown → Names → Program → (nodes : ℕ) → (lines : List ℕ) → (act : ℕ) → Option ℕ → List ℕ → Type 0
 TellsBehind shown names program nodes lines act None text = TellsPrivate shown names program nodes lines act text
 TellsBehind shown names program nodes lines act (Some other) text = text ≡ []
+
+-- it can be answered what is asked: the acts are there, and if they are two, apart
+pub record IsAnswerable (count : ℕ) (asked : Asked) : Type 0 where
+  pub there : IsThere asked.act asked.and count
+  pub apart : IfSome asked.and (λ other. other ≢ asked.act)
+
+-- the text answers what is asked of the acts shown, whatever lines the statements have
+abbrev pub Tells : Shown → Names → Program → (nodes : ℕ) → Size → Asked → List ℕ → Type 0
+Tells shown names program nodes page asked text = (lines : List ℕ) → (behind : List ℕ)
+    × TellsBehind shown names program nodes lines asked.act asked.and behind
+    × TellsOf shown nodes (words_of page) asked.act asked.and behind text
 
 -- What is printed of the acts of a run of the program that this text is of: the answer to what is asked, where each act stands on the line
 -- of its statement, with the labels of the text.

@@ -4,4 +4,4 @@
 mod private;
 mod run;
 
-pub use run::why_run;
+pub use run::{why_each, why_run};

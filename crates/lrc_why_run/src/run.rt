@@ -1,19 +1,21 @@
 // What is printed of the acts of a run.
 
-ghost use Rattle.std.specs.Prelude.{◌≢◌, ◌<◌, ◌≤◌, ℕ, All, IfErr, IfOk, IfSome, List, length, map};
+ghost use Rattle.std.specs.Prelude.{◌≡◌, ◌≢◌, ◌<◌, ◌≤◌, ℕ, All, IfErr, IfOk, IfSome, List, Some, length, map, slice_get};
 ghost use Rattle.lrc_lang.specs.Faults.{IsText};
 ghost use Rattle.lrc_lang.specs.Tree.{program_of};
 ghost use Rattle.lrc_judge.specs.declared.TheConstants.{NODES};
 ghost use Rattle.lrc_judge.specs.Firsts.{AreIntervals};
-ghost use Rattle.lrc_page.specs.Page.{words_of};
+ghost use Rattle.lrc_judge.specs.Order.{IsOrderOf};
 ghost use Rattle.lrc_text.specs.Parts.{whole_text};
-ghost use Rattle.lrc_why_text.specs.Answers.{IsThere, TellsOf};
-ghost use Rattle.lrc_why_run.specs.Answers.{AnswersRun, RefusesRun, TellsBehind, TellsPrivate};
+ghost use Rattle.lrc_why.specs.Spread.{OfEach};
+ghost use Rattle.lrc_why_text.specs.Answers.{IsThere};
+ghost use Rattle.lrc_why_text.specs.declared.asked.Asked.{Asked as AskedRecord};
+ghost use Rattle.lrc_why_run.specs.Answers.{AnswersRun, IsAnswerable, RefusesRun, Tells, TellsBehind, TellsPrivate};
 
 use crate::private::push_private;
 use lrc_exec::code::Code;
 use lrc_judge::intervals_of;
-use lrc_judge::order::happens_before;
+use lrc_judge::order::{Order, happens_before};
 use lrc_labels::read_labels;
 use lrc_lang::lines::lines_of;
 use lrc_lang::program::Program;
@@ -76,40 +78,62 @@ fn told(
     page: Size,
     shown: Shown<'_>,
     names: &[&[u8]],
+    order: &Order,
     asked: Asked,
+) -> Result<Vec<u8>, AllocError>
+    requires nodes { All (λ act. act.node < NODES) shown.acts.now }
+    requires order { IsOrderOf shown.acts.now order.now }
+    requires intervals { AreIntervals shown.acts.now (length shown.acts.now) shown.intervals.now }
+    requires asked { IsAnswerable (length shown.acts.now) asked }
+    ensures { IfOk result (λ part. Tells shown.entry (map (λ name. name.now) names.now) code.now nodes page asked part.items) }
+{
+    let behind = behind(alloc, code, nodes, shown, names, asked)?;
+    let size = u32::from(page.words());
+    let part = why_part(alloc, shown, order, nodes, size, asked, &behind)?;
+    Ok(part)
+}
+
+// What is printed of each of these.
+fn told_each(
+    alloc: Global,
+    code: &Code<'_>,
+    nodes: u8,
+    page: Size,
+    shown: Shown<'_>,
+    names: &[&[u8]],
+    asked: &[Asked],
 ) -> Result<Vec<Vec<u8>>, AllocError>
     requires nodes { All (λ act. act.node < NODES) shown.acts.now }
     requires intervals { AreIntervals shown.acts.now (length shown.acts.now) shown.intervals.now }
-    requires there { IsThere asked.act asked.and (length shown.acts.now) }
-    requires apart { IfSome asked.and (λ other. other ≢ asked.act) }
-    ensures { IfOk result (λ parts. (lines : List ℕ) → (behind : List ℕ)
-        × TellsBehind shown.entry (map (λ name. name.now) names.now) code.now nodes lines asked.act asked.and behind
-        × TellsOf shown.entry nodes (words_of page) asked.act asked.and behind (whole_text parts.items)) }
+    requires asked { All (IsAnswerable (length shown.acts.now)) asked.now }
+    ensures { IfOk result (λ parts. OfEach (length asked.now) (λ place part. (one : AskedRecord) → slice_get asked.now place ≡ Some one
+        → Tells shown.entry (map (λ name. name.now) names.now) code.now nodes page one part.items) parts.items) }
 {
     let order = happens_before(alloc, shown.acts)?;
-    let behind = behind(alloc, code, nodes, shown, names, asked)?;
-    let size = u32::from(page.words());
-    let part = why_part(alloc, shown, &order, nodes, size, asked, &behind)?;
     let mut parts = Vec::new(alloc);
-    parts.push(part)?;
+    for one in asked {
+        let part = told(alloc, code, nodes, page, shown, names, &order, *one)?;
+        parts.push(part)?;
+    }
     Ok(parts)
 }
 
-// The same, with the lines, the names and the labels of the text.
-fn told_of_text(
+/// What `why` prints of each of these of a run of the program that this text is of, on so many nodes and on pages of this size. What is
+/// the same for all of them is made once.
+pub fn why_each(
     alloc: Global,
     text: &[u8],
     program: &Program,
     nodes: u8,
     page: Size,
     acts: &[Act],
-    asked: Asked,
+    asked: &[Asked],
 ) -> Result<Vec<Vec<u8>>, AllocError>
     requires text { IsText text.now (program_of program.now) }
     requires nodes { All (λ act. act.node < NODES) acts.now }
-    requires there { IsThere asked.act asked.and (length acts.now) }
-    requires apart { IfSome asked.and (λ other. other ≢ asked.act) }
-    ensures { IfOk result (λ parts. AnswersRun text.now program.now nodes page acts.now asked (whole_text parts.items)) }
+    requires asked { All (IsAnswerable (length acts.now)) asked.now }
+    ensures { IfOk result (λ parts. OfEach (length asked.now) (λ place part. (one : AskedRecord) → slice_get asked.now place ≡ Some one
+        → AnswersRun text.now program.now nodes page acts.now one part.items) parts.items) }
 {
     let places = lines_of(alloc, text)?;
     let code = Code::new(alloc, program)?;
@@ -123,7 +147,26 @@ fn told_of_text(
         intervals: intervals.as_slice(),
         labels: labels.said.as_slice(),
     };
-    let parts = told(alloc, &code, nodes, page, shown, &names, asked)?;
+    let parts = told_each(alloc, &code, nodes, page, shown, &names, asked)?;
+    Ok(parts)
+}
+
+// The same of one.
+fn told_alone(
+    alloc: Global,
+    text: &[u8],
+    program: &Program,
+    nodes: u8,
+    page: Size,
+    acts: &[Act],
+    asked: Asked,
+) -> Result<Vec<Vec<u8>>, AllocError>
+    requires text { IsText text.now (program_of program.now) }
+    requires nodes { All (λ act. act.node < NODES) acts.now }
+    requires asked { IsAnswerable (length acts.now) asked }
+    ensures { IfOk result (λ parts. AnswersRun text.now program.now nodes page acts.now asked (whole_text parts.items)) }
+{
+    let parts = why_each(alloc, text, program, nodes, page, acts, &[asked])?;
     Ok(parts)
 }
 
@@ -147,6 +190,6 @@ pub fn why_run(
     if let Some(position) = missing(asked, acts.len()) {
         return Err(WhyFault::NoAct(position));
     }
-    let parts = told_of_text(alloc, text, program, nodes, page, acts, asked)?;
+    let parts = told_alone(alloc, text, program, nodes, page, acts, asked)?;
     Ok(parts)
 }

@@ -1,0 +1,231 @@
+// The frame of the document: what stands before the run's lines, and behind them.
+
+/// What stands before the lines: style and markup, up to the place of the lines in the element `<script type="application/json" ..>`. Its
+/// head forbids the page to fetch anything.
+pub const OPENING: &[u8] = br##"<!doctype html>
+<html lang="en">
+<head>
+<meta charset="utf-8">
+<meta name="viewport" content="width=device-width, initial-scale=1">
+<meta http-equiv="Content-Security-Policy" content="default-src 'none'; style-src 'unsafe-inline'; script-src 'unsafe-inline'; img-src data:">
+<link rel="icon" href="data:,">
+<title>treadmarks step</title>
+<style>
+:root {
+  color-scheme: light dark;
+  --paper: #ffffff; --field: #f3f5f8; --line: #c3cad4; --soft: #566070; --ink: #14171c;
+  --now: #0b57d0; --now-field: #dde9ff; --changed: #ffe38f; --mark: #b57a00; --off: #9a4a00; --off-field: #ffe4cc; --race: #b3001e;
+}
+@media screen and (prefers-color-scheme: dark) {
+  :root {
+    --paper: #101317; --field: #1a1f26; --line: #414a56; --soft: #a9b3c0; --ink: #f1f4f8;
+    --now: #8fb8ff; --now-field: #1b3157; --changed: #5c4800; --mark: #f0c24b; --off: #ffb978; --off-field: #3d2a16; --race: #ff8f88;
+  }
+}
+* { box-sizing: border-box; margin: 0; padding: 0; }
+html { font: clamp(15px, 0.8vw + 5.6px, 40px)/1.35 system-ui, "Segoe UI", "DejaVu Sans", sans-serif; }
+body { display: grid; grid-template-rows: auto minmax(0, 1fr) auto auto; gap: .5rem; height: 100dvh; padding: .5rem .9rem;
+  background: var(--paper); color: var(--ink); }
+h2, h3 { font: inherit; }
+ol, ul { list-style: none; }
+code, .number, .time, .value, kbd { font-family: ui-monospace, "Cascadia Mono", Menlo, "DejaVu Sans Mono", monospace; }
+a { color: var(--now); }
+:focus-visible { outline: .18rem solid var(--now); outline-offset: .1rem; }
+.caption { color: var(--soft); font-size: .85em; font-weight: 400; }
+.badge { display: inline-block; min-width: 1.5em; padding: 0 .3em; border-radius: .75em; background: var(--ink); color: var(--paper);
+  font-weight: 700; text-align: center; text-indent: 0; line-height: 1.5; }
+.race-mark { padding: .05em .45em; border-radius: .25em; background: var(--race); color: var(--paper); font-weight: 700; white-space: nowrap; }
+.changed { background: var(--changed); box-shadow: inset 0 -.14em var(--mark); border-radius: .2em; }
+.off { color: var(--off); font-weight: 700; }
+
+#headline { font-size: 1.75rem; font-weight: 650; line-height: 1.2; }
+#headline .race-mark { margin-left: .6em; font-size: 1.1rem; vertical-align: .15em; }
+#because { min-height: 1.35em; font-size: 1.1rem; }
+
+main { display: grid; gap: .7rem .9rem;
+  grid-template: "source nodes" fit-content(75%) "source story" minmax(0, 1fr) / minmax(14rem, 25%) minmax(0, 1fr); }
+main > * { min-height: 0; overflow: auto; scrollbar-width: thin; }
+#source { grid-area: source; }
+#source li { display: grid; grid-template-columns: 1.8em calc(var(--badges) * 1.2em + .5em) minmax(0, 1fr); align-items: baseline; border-radius: .2em; }
+#source .number { color: var(--soft); font-size: .8rem; text-align: right; padding-right: .4em; }
+#source .next { font-size: .75rem; white-space: nowrap; padding-left: .2em; }
+#source code { white-space: pre; overflow: hidden; text-overflow: ellipsis; tab-size: 4; min-height: 1.35em; }
+#source .now { background: var(--now-field); box-shadow: inset .25rem 0 var(--now); font-weight: 700; }
+#source .raced .number { box-shadow: inset -.2rem 0 var(--race); }
+
+#nodes { grid-area: nodes; container-type: inline-size; display: grid; grid-template-columns: repeat(var(--nodes), minmax(0, 1fr)); gap: .6rem; align-content: start; padding: .15rem; }
+.node { display: grid; grid-template-columns: auto minmax(0, 1fr); gap: .25em .5em; font-size: clamp(.9rem, 6.5cqi / var(--nodes), 1.25rem); align-items: baseline; align-content: start;
+  padding: .4em .6em; border: .1rem solid var(--line); border-radius: .5rem; }
+.node > * { grid-column: 1 / -1; }
+.node h2, .node .line { grid-column: auto; justify-self: start; font-size: 1.1em; font-weight: 650; }
+.node .waits { min-height: 1.35em; white-space: nowrap; overflow: hidden; text-overflow: ellipsis; }
+.node.now { border-color: var(--now); box-shadow: 0 0 0 .12rem var(--now); }
+.node.now h2 .badge { background: var(--now); }
+.wide .node { grid-template-columns: auto auto minmax(0, 1fr); }
+.wide .waits { grid-column: auto; text-align: right; }
+.wide .page { display: grid; grid-template-columns: auto 1fr; gap: 0 .8em; align-items: baseline; }
+.wide .notes { min-height: 0; }
+.wide .page .words { --least: 5em; grid-column: 1 / -1; }
+.headings { display: none; }
+.time { display: flex; flex-wrap: wrap; gap: .2em; }
+.time li { min-width: 1.9em; padding: 0 .25em; border: .08rem solid var(--line); border-radius: .2em; text-align: center; font-size: 1.1em; line-height: 1.25; }
+.time .own { border-color: var(--ink); border-bottom-width: .2rem; font-weight: 700; }
+.time::before { content: "time"; align-self: center; margin-right: .2em; color: var(--soft); font: .85em system-ui, "DejaVu Sans", sans-serif; }
+.notes { display: flex; flex-wrap: wrap; gap: 0 .6em; min-height: 1.35em; font-size: .85em; }
+.page b { font-weight: 700; }
+.words { --least: 4em; display: flex; flex-wrap: wrap; gap: .2em; }
+.word { position: relative; min-width: min(100%, max(var(--least), var(--digits) * var(--narrow) * 1.3ch + 1em)); max-width: 100%; padding: .05em .3em; border: .12rem solid var(--line);
+  border-radius: .25em; text-align: center; line-height: 1.15; }
+.word .value { display: block; font-size: calc(1.4em * var(--narrow)); font-weight: 650; }
+.word .note { display: block; min-height: 1.15em; font-size: .8em; }
+.word .name { font-size: .75em; color: var(--soft); }
+.stale::after { content: ""; position: absolute; top: 0; right: 0; border: .3em solid; border-color: var(--off) var(--off) transparent transparent; }
+[data-copy=written] .word { border-color: var(--now); border-style: double; border-width: .2rem; }
+[data-copy=invalid] .word { border-color: var(--off);
+  background-image: repeating-linear-gradient(-45deg, transparent 0 .4rem, var(--off-field) .4rem .8rem); }
+[data-copy=invalid] .value { color: var(--soft); text-decoration: line-through; }
+[data-copy=absent] .word { border-style: dashed; color: var(--soft); }
+[data-copy=written] h3 b { color: var(--now); }
+[data-copy=invalid] h3 b { color: var(--off); }
+.word.touched { outline: .2rem solid var(--now); outline-offset: .05rem; }
+.word.raced { outline-color: var(--race); outline-style: dashed; }
+.chips { display: flex; flex-wrap: wrap; gap: .15em .6em; align-items: baseline; min-height: 1.45em; }
+.chip { padding: 0 .35em; border: .08rem solid var(--line); border-radius: .3em; }
+.chip.away { border-color: transparent; padding: 0; }
+.chip.full { border-color: var(--ink); font-weight: 650; }
+
+/* Many nodes: a row for each. */
+.rows main { grid-template: "source nodes" minmax(0, 3fr) "story nodes" minmax(0, 2fr) / minmax(15rem, 21%) minmax(0, 1fr); }
+.rows #nodes { container-type: normal; grid-template-columns: auto auto auto auto fit-content(45%) minmax(8em, 1fr); gap: 0 .6em; padding: 0; }
+.rows .node { grid-column: 1 / -1; grid-template-columns: subgrid; font-size: .85rem; align-items: center; padding: .04em .3em; border-width: 0 0 .08rem; border-radius: 0; scroll-margin-top: 4em; }
+.rows .node > * { grid-column: auto; }
+.rows .node.now { background: var(--now-field); box-shadow: none; }
+.rows .headings { display: grid; position: sticky; top: 0; z-index: 1; background: var(--paper); color: var(--soft); }
+.rows .headings li { border-color: transparent; }
+.rows .time { flex-wrap: nowrap; gap: 0; }
+.rows .time li { min-width: 1.6em; padding: 0; font-size: 1em; }
+.rows .waits { width: 8em; }
+.rows .pages { display: flex; flex-wrap: wrap; gap: .2em .8em; }
+.rows .words { gap: .1em; }
+.rows .node, .rows .node .badge, .rows .node .time li { line-height: 1.15; }
+.rows .chips { min-height: 0; }
+.rows .word { min-width: calc(var(--digits) * 1ch + .6em); padding: 0; border-width: .1rem; }
+.rows .word .value { font-size: 1em; text-decoration: none; }
+.rows .stale::after { border-width: .22em; }
+.rows .chips { flex-wrap: nowrap; overflow: hidden; white-space: nowrap; }
+.rows .node:not(.headings) h3, .rows .notes, .rows .name, .rows .note, .rows .stored, .rows .time::before, .rows .line .caption { display: none; }
+
+#story { grid-area: story; display: flex; gap: .6rem 1.5rem; }
+.rows #story { flex-direction: column; }
+#story h2:not(:empty) { margin-top: .2rem; }
+#story h2 { color: var(--soft); font-size: .9rem; font-weight: 650; }
+#story ul { display: grid; gap: .15rem; }
+#story li { padding-left: .9em; text-indent: -.9em; }
+#story .nested { margin-left: 1.2em; }
+#why { flex: 1; }
+#flight { flex: 0 0 auto; }
+#flight:has(li) { flex-basis: 40%; }
+.rows #why, .rows #flight { flex: none; }
+.gives, .fresh { font-weight: 700; }
+.races, .race, .deadlock { color: var(--race); font-weight: 700; }
+dl { display: grid; grid-template-columns: auto 1fr; gap: .2rem 1rem; }
+kbd { padding: 0 .3em; margin-right: .3em; border: .08rem solid var(--line); border-radius: .25em; font-size: .9em; }
+
+#timeline { display: block; width: 100%; font-size: .85rem; border-block: .08rem solid var(--line); cursor: pointer; }
+#timeline text { fill: var(--ink); text-anchor: middle; dominant-baseline: central; }
+#timeline .margin { fill: var(--paper); }
+#timeline .lane { stroke: var(--line); stroke-width: .11em; }
+#timeline .known { fill: var(--now-field); }
+#timeline line.limit { stroke: var(--now); stroke-width: .2em; }
+#timeline .cursor { fill: var(--changed); opacity: .6; }
+#timeline .mark { fill: var(--paper); stroke: var(--soft); stroke-width: .1em; }
+#timeline .mark.now { stroke: var(--now); stroke-width: .26em; }
+#timeline .mark.raced { stroke: var(--race); stroke-width: .18em; }
+#timeline .quiet { fill: var(--soft); }
+#timeline .later { fill: var(--line); }
+#timeline .message { fill: none; stroke: var(--soft); stroke-width: .1em; }
+#timeline .flying { stroke: var(--now); stroke-width: .18em; stroke-dasharray: .5em .3em; }
+#timeline path.racing { fill: none; stroke: var(--race); stroke-width: .25em; }
+#timeline text.racing { fill: var(--race); font-weight: 700; paint-order: stroke; stroke: var(--paper); stroke-width: .35em; }
+#timeline text.limit { fill: var(--soft); font-size: .75em; text-anchor: end; }
+#timeline text.after { text-anchor: start; }
+
+#controls { display: flex; flex-wrap: wrap; gap: .35rem; align-items: center; }
+#controls input { flex: 1 1 12rem; accent-color: var(--now); height: 1.8rem; }
+button { padding: .2rem .6rem; border: .08rem solid var(--line); border-radius: .35rem; background: var(--field); color: inherit;
+  font: inherit; font-size: .95rem; cursor: pointer; }
+dialog button { margin-top: 1rem; }
+dialog dl + dl { margin-top: 1rem; }
+dialog { margin: auto; padding: 1.2rem 1.6rem; border: .1rem solid var(--line); border-radius: .6rem; background: var(--paper); color: inherit; }
+
+@media screen and (max-height: 48em) {
+  .node { font-size: clamp(.9rem, 6.5cqi / var(--nodes), 1.05rem); }
+}
+@media screen and (max-width: 60em), screen and (max-height: 32em) {
+  body { display: block; height: auto; }
+  .rows main, main { display: flex; flex-direction: column; }
+  #controls { position: sticky; bottom: 0; padding: .3rem 0; background: var(--paper); }
+}
+@media print {
+  @page { size: landscape; margin: 10mm; }
+  * { print-color-adjust: exact; }
+  html { font-size: 10.5pt; }
+  html:has(.rows) { font-size: 8.5pt; }
+  body { display: block; height: auto; padding: 0; }
+  main, .rows main { grid-template-rows: auto auto; }
+  main > * { overflow: visible; }
+  #controls { display: none; }
+}
+</style>
+</head>
+<body>
+<header>
+  <p class="caption" id="place"></p>
+  <h1 id="headline" aria-live="polite"></h1>
+  <p id="because"></p>
+</header>
+<main>
+  <ol id="source" aria-label="Program" tabindex="0"></ol>
+  <div id="nodes" role="region" aria-label="Nodes"><div class="node headings" id="headings" aria-hidden="true"></div></div>
+  <div id="story" tabindex="0" role="region" aria-label="Reasons and messages">
+    <section id="why"></section>
+    <section id="flight"></section>
+  </div>
+</main>
+<svg id="timeline" role="img" aria-label="The turns so far, a lane for each node"></svg>
+<nav id="controls" aria-label="Turns">
+  <button data-key="Home" title="to the start (Home)">First</button>
+  <button data-key="Shift+ArrowLeft" title="ten turns back (Shift &larr;)">&minus;10</button>
+  <button data-key="ArrowLeft" title="one turn back (&larr; or Page Up)">Back</button>
+  <button data-key="ArrowRight" title="one turn on (&rarr; or Page Down)">Next</button>
+  <button data-key="Shift+ArrowRight" title="ten turns on (Shift &rarr;)">+10</button>
+  <button data-key="End" title="to the last turn (End)">Last</button>
+  <button data-key="a" title="to the next act (a)">Act</button>
+  <button data-key="r" title="to the next act that races (r)">Race</button>
+  <button data-key=" " title="play and stop (Space)" id="play">Play</button>
+  <input id="slider" type="range" min="0" aria-label="turn">
+  <button data-key="?" title="keys and signs (?)">Help</button>
+</nav>
+<dialog id="help" aria-label="Keys and signs">
+  <dl>
+    <dt><kbd>&rarr;</kbd> <kbd>&larr;</kbd></dt><dd>one turn on, one back (also Page Down, Page Up)</dd>
+    <dt><kbd>Shift &rarr;</kbd> <kbd>Shift &larr;</kbd></dt><dd>ten turns</dd>
+    <dt><kbd>Home</kbd> <kbd>End</kbd></dt><dd>to the start, to the last turn</dd>
+    <dt><kbd>a</kbd></dt><dd>to the next act: turns that only take or send are left out</dd>
+    <dt><kbd>r</kbd></dt><dd>to the next act that races</dd>
+    <dt><kbd>Space</kbd></dt><dd>play and stop</dd>
+  </dl>
+  <dl>
+    <dt class="off">now 2</dt><dd>a newer value was written, and this copy does not have it</dd>
+    <dt class="off">lacks 0.2</dt><dd>it was told of interval 2 of node 0 and has not fetched its changes</dd>
+    <dt class="off">not told of 0.3</dt><dd>no notice of interval 3 of node 0 has come</dd>
+    <dt>twin 0</dt><dd>the value before the first write in this interval</dd>
+    <dt><span class="chip">0.2 p0</span></dt><dd>a notice: interval 2 of node 0 wrote page 0; bold where its changes are here</dd>
+    <dt>next 1, last asked: 2</dt><dd>who gets the lock at its release; whom its manager forwards to</dd>
+    <dt>r1=0, w1=2</dt><dd>word 1 is read, written; a ring is a turn without an act, a dot a step of the node's own</dd>
+    <dt>blue band</dt><dd>what the node of this turn knows of each node</dd>
+  </dl>
+  <form method="dialog"><button>Close</button></form>
+</dialog>
+<script type="application/json" id="run">
+"##;
