@@ -6,7 +6,7 @@ use Rattle.lrc_reasons.specs.Writes.{AreExactly}
 use Rattle.lrc_why_text.specs.declared.asked.Asked.{Asked}
 use Rattle.lrc_why_run.specs.Answers.{IsAnswerable}
 use Rattle.lrc_step_reasons.specs.Lines.{asked_alone}
-use Rattle.std.specs.Prelude.{All, Some, slice_get}
+use Rattle.std.specs.Prelude.{All}
 use Rattle.std.proofs.lemmas.Option.{same_Some, slice_get-get_or}
 use Rattle.lrc_trace.specs.declared.act.Act.{Act}
 use Rattle.lrc_trace.specs.declared.act.Deed.{Deed}

@@ -1,6 +1,6 @@
 use Rattle.std.proofs.Common.{◌≡◌, ◌∙◌, ◌<◌, ◌++◌, [], ℕ, List, Vec, ap, append_assoc, arith, get_or, length, sym, take}
 use Rattle.std.specs.declared.alloc.Global.{Global}
-use Rattle.std.proofs.lemmas.List.{get_or-map, length-map}
+use Rattle.std.proofs.lemmas.List.{get_or-map}
 use Rattle.lrc_text.specs.Each.{each}
 use Rattle.lrc_text.specs.Parts.{texts_of}
 use Rattle.lrc_text.proofs.Each.{each_more}

@@ -1,4 +1,4 @@
-use Rattle.std.proofs.Common.{◌<◌, ℕ, List, arith, length}
+use Rattle.std.proofs.Common.{◌<◌, ℕ, arith, length}
 use Rattle.lrc_reasons.proofs.Exactly.{below_all, below_none, below_push, below_same}
 use Rattle.lrc_step_reasons.specs.Told.{IsTold}
 use Rattle.lrc_step_reasons.proofs.Nodes.{told_within}
