@@ -1,11 +1,11 @@
 -- The acts of an order of the plain machine.
-use Rattle.std.proofs.Common.{◌≡◌, ℕ, suc, ◌+◌, ◌<◌, ◌≤◌, List, [], ◌∷◌, ◌++◌, length, refl, sym, subst, ◌∙◌, ap, arith}
+use Rattle.std.proofs.Common.{◌≡◌, ℕ, suc, ◌+◌, ◌<◌, List, [], ◌∷◌, ◌++◌, length, refl, sym, subst, ◌∙◌, ap, arith}
 use Rattle.std.specs.Prelude.{All, Some, option_map}
 use Rattle.std.proofs.lemmas.Option.{same_Some}
 use Rattle.lrc_lang.specs.declared.program.Program.{Program}
 use Rattle.lrc_trace.specs.declared.act.Act.{Act}
 use Rattle.lrc_judge.specs.declared.TheConstants.{NODES}
-use Rattle.lrc_exec.specs.Plain.{Plain, plain, plain_from, plain_start}
+use Rattle.lrc_exec.specs.Plain.{Plain, plain}
 use Rattle.lrc_consistency_laws.proofs.Plainly.{facts}
 use Rattle.lrc_lines.specs.Walks.{lines_behind}
 use Rattle.lrc_explore.specs.Stuck.{GetsStuck}

@@ -1,5 +1,5 @@
 -- The races that racing pairs of one later position name.
-use Rattle.std.proofs.Common.{◌≡◌, ℕ, zero, suc, ◌+◌, ◌<◌, ◌⊎◌, List, [], ◌∷◌, Bool, true, false, inl, inr, length, refl, sym, subst, ◌∙◌, ap, ap₂, arith}
+use Rattle.std.proofs.Common.{◌≡◌, ℕ, zero, suc, ◌<◌, ◌⊎◌, List, [], ◌∷◌, Bool, true, false, inl, inr, length, refl, sym, subst, ◌∙◌, ap, ap₂, arith}
 use Rattle.std.proofs.Common.{get_or}
 use Rattle.std.proofs.Common.{◌++◌}
 use Rattle.std.specs.Prelude.{◌↔◌, ◌==◌, Contains, if◌then◌else◌}
@@ -12,7 +12,7 @@ use Rattle.lrc_trace.specs.declared.act.Deed.{Deed}
 use Rattle.lrc_trace.specs.declared.act.Deed.TheVariants.{Quiet}
 use Rattle.lrc_trace.specs.declared.race.Race.{Race}
 use Rattle.lrc_trace.specs.Run.{Does, act_of}
-use Rattle.lrc_trace.specs.Conflict.{Accesses, ConflictAt, Races}
+use Rattle.lrc_trace.specs.Conflict.{Accesses, Races}
 use Rattle.lrc_trace.specs.Interval.{interval_at, Names}
 use Rattle.lrc_trace.proofs.Conflicts.{ConflictAt-symmetric}
 use Rattle.lrc_judge.specs.declared.lanes.Pair.{Pair}

@@ -1,5 +1,5 @@
 -- What is told of a program.
-use Rattle.std.proofs.Common.{◌≡◌, ℕ, ◌+◌, ◌-◌, List, [], ◌++◌, Bool, true, false, Result, Ok, Err, IfOk, IfErr, length, length-append, refl, sym, subst, ◌∙◌, ap, ap₂, arith}
+use Rattle.std.proofs.Common.{◌≡◌, ℕ, ◌+◌, ◌-◌, List, ◌++◌, Bool, true, false, Result, Ok, Err, IfOk, length, length-append, sym, subst, ◌∙◌, ap, arith}
 use Rattle.std.specs.Prelude.{◌≢◌, Some, codes}
 use Rattle.std.proofs.lemmas.Option.{same_Some}
 use Rattle.lrc_lang.specs.declared.program.Program.{Program}

@@ -2,3 +2,4 @@ pub mod Explored
 pub mod LastRaces
 pub mod Orders
 pub mod Outcomes
+pub mod OutcomeRun

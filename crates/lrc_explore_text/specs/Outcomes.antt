@@ -28,16 +28,24 @@ outcome_line nodes notes = on_one_line (report_text notes (ends_of nodes notes))
 abbrev pub none_ends : (count : ℕ) → List ℕ
 none_ends count = if count == 0 then codes "no run ends\n" else []
 
--- the text has the lines of these outcomes, ascending as texts, behind the line that counts them
-pub record ListsOutcomes (nodes : ℕ) (outcomes : List Outcome) (out : List ℕ) : Type 0 where
-  pub lines : List (List ℕ)
+-- the lines of these outcomes, ascending as texts
+pub record AreLinesOf (nodes : ℕ) (outcomes : List Outcome) (lines : List (List ℕ)) : Type 0 where
   pub same : IsPermutation (map (λ outcome. outcome_line nodes outcome.notes.items) outcomes) lines
   pub ascending : IsSorted (slice_cmp nat_cmp) lines
+
+-- the text has these lines behind the line that counts them
+pub record ListsOutcomes (nodes : ℕ) (outcomes : List Outcome) (out : List ℕ) : Type 0 where
+  pub lines : List (List ℕ)
+  pub are : AreLinesOf nodes outcomes lines
   pub whole : out ≡ codes "outcomes " ++ decimal (length outcomes) ++ codes " in every order\n" ++ none_ends (length outcomes) ++ concat lines
 
--- so it is of exactly the outcomes of the program, each once
-pub record TellsOutcomes (program : Program) (nodes : ℕ) (out : List ℕ) : Type 0 where
-  pub outcomes : List Outcome
+-- these are exactly the outcomes of the program, each once
+pub record AreOutcomesOf (program : Program) (nodes : ℕ) (outcomes : List Outcome) : Type 0 where
   pub exact : (notes : List Act) → HasOutcome outcomes notes ↔ IsOutcome program nodes notes
   pub once : IsDistinct eq-value.it outcomes
+
+-- the text has their lines
+pub record TellsOutcomes (program : Program) (nodes : ℕ) (out : List ℕ) : Type 0 where
+  pub outcomes : List Outcome
+  pub are : AreOutcomesOf program nodes outcomes
   pub listed : ListsOutcomes nodes outcomes out

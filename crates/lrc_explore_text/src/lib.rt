@@ -5,4 +5,5 @@ pub mod explored;
 mod last_races;
 pub mod laws;
 mod orders;
+pub mod outcome_run;
 mod outcomes;

@@ -212,8 +212,8 @@ fn ends_told(
     stuck_part(alloc, labels, &code, lines, nodes, None, acts)
 }
 
-// A line for each act of an order.
-fn acts_told(
+/// A line for each act of an order.
+pub(crate) fn acts_told(
     alloc: Global,
     program: &Program,
     lines: &[u32],

@@ -6,7 +6,7 @@ ghost use Rattle.lrc_exec.specs.Nodes.{AreNodes};
 ghost use Rattle.lrc_explore.specs.contracts.outcomes.OutcomePartialEq.TheImpl.{eq-value};
 ghost use Rattle.lrc_text.specs.Parts.{texts_of, whole_text};
 ghost use Rattle.lrc_breadth.specs.Answers.{FitsSettledNoted, MetTooMany};
-ghost use Rattle.lrc_explore_text.specs.Outcomes.{ListsOutcomes, TellsOutcomes, none_ends, on_one_line, outcome_line, spaced};
+ghost use Rattle.lrc_explore_text.specs.Outcomes.{AreLinesOf, ListsOutcomes, TellsOutcomes, none_ends, on_one_line, outcome_line, spaced};
 
 use crate::explored::Printout;
 use indexmap::IndexSet;
@@ -51,8 +51,7 @@ fn outcomes_listed(
     let count = outcomes.len();
     let head = head_of(alloc, count)?;
     let found = outcomes.as_slice();
-    let mut lines = lines_of(alloc, nodes, found)?;
-    lines.sort_unstable();
+    let lines = sorted_lines(alloc, nodes, found)?;
     with_head(head, lines)
 }
 
@@ -78,6 +77,19 @@ fn head_of(alloc: Global, count: usize) -> Result<Vec<u8>, AllocError>
     Ok(head)
 }
 
+/// The lines of outcomes, ascending.
+pub(crate) fn sorted_lines(
+    alloc: Global,
+    nodes: u8,
+    outcomes: &[Outcome],
+) -> Result<Vec<Vec<u8>>, AllocError>
+    ensures { IfOk result (λ lines. AreLinesOf nodes outcomes.now (texts_of lines.items)) }
+{
+    let mut lines = lines_of(alloc, nodes, outcomes)?;
+    lines.sort_unstable();
+    Ok(lines)
+}
+
 // A line for each outcome.
 fn lines_of(alloc: Global, nodes: u8, outcomes: &[Outcome]) -> Result<Vec<Vec<u8>>, AllocError>
     ensures { IfOk result (λ lines. texts_of lines.items ≡ map (λ outcome. outcome_line nodes outcome.notes.items) outcomes.now) }
@@ -89,8 +101,8 @@ fn lines_of(alloc: Global, nodes: u8, outcomes: &[Outcome]) -> Result<Vec<Vec<u8
     Ok(lines)
 }
 
-// The line of an outcome.
-fn outcome_line(alloc: Global, nodes: u8, notes: &[Act]) -> Result<Vec<u8>, AllocError>
+/// The line of an outcome.
+pub(crate) fn outcome_line(alloc: Global, nodes: u8, notes: &[Act]) -> Result<Vec<u8>, AllocError>
     ensures { IfOk result (λ line. line.items ≡ outcome_line nodes notes.now) }
 {
     let ends = ends(alloc, nodes, notes)?;

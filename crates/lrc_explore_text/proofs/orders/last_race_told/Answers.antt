@@ -1,4 +1,4 @@
-use Rattle.std.proofs.Common.{◌∙◌, ◌++◌, ℕ, List, Some, ap, map}
+use Rattle.std.proofs.Common.{◌∙◌, ◌++◌, ℕ, List, ap, map}
 use Rattle.lrc_trace.specs.declared.race.Race.{Race}
 use Rattle.lrc_labels.specs.Reading.{label_seen}
 use Rattle.lrc_text.specs.Parts.{whole_text}

@@ -1,9 +1,8 @@
-use Rattle.std.proofs.Common.{◌≡◌, ◌<◌, ◌∙◌, ℕ, List, sym, subst, ap}
+use Rattle.std.proofs.Common.{◌<◌, ◌∙◌, ℕ, List, sym, subst, ap}
 use Rattle.std.specs.Prelude.{All, Some}
 use Rattle.lrc_trace.specs.declared.act.Act.{Act}
 use Rattle.lrc_trace.specs.Conflict.{Races}
 use Rattle.lrc_judge.specs.declared.TheConstants.{NODES}
-use Rattle.lrc_exec.specs.Plain.{plain}
 use Rattle.lrc_causes.specs.Told.{TellsRace}
 use Rattle.lrc_explore_text.proofs.Led.{in_range, race_there}
 use Rattle.lrc_consistency_laws.specs.Follows.{nodes_of_acts}
