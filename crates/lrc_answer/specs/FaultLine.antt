@@ -69,6 +69,7 @@ fault_words (faults.Acts line) = codes "acts line " ++ decimal line ++ codes ": 
 fault_words (faults.TooManyStates most) = codes "more than " ++ decimal most ++ codes " states"
 fault_words faults.LongActs = codes "acts line 1: text too long"
 fault_words (faults.NoAct position) = codes "no act " ++ decimal position
+fault_words (faults.NoOutcome number) = codes "no outcome " ++ decimal number
 fault_words faults.Worn = codes "message numbers used up"
 fault_words faults.TooLong = codes "too long for a chart"
 fault_words faults.Mismatch = codes "logs and wires differ"

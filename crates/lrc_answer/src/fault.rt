@@ -33,6 +33,8 @@ pub enum Fault {
     Worn,
     /// A search through every order met more states than this, which it might.
     TooManyStates(u32),
+    /// The program has no outcome of this number.
+    NoOutcome(u64),
     /// A chart would have more rows than a chart may have.
     TooLong,
     /// What the nodes of a run on threads say that they sent and took is not what went through the post.
@@ -56,6 +58,7 @@ impl Display for Fault {
             Fault::NoAct(position) => write!(f, "no act {position}"),
             Fault::Worn => write!(f, "message numbers used up"),
             Fault::TooManyStates(most) => write!(f, "more than {most} states"),
+            Fault::NoOutcome(number) => write!(f, "no outcome {number}"),
             Fault::TooLong => write!(f, "too long for a chart"),
             Fault::Mismatch => write!(f, "logs and wires differ"),
             Fault::NoMemory => write!(f, "out of memory"),

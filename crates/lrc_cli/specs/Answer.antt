@@ -1,5 +1,5 @@
 -- What the program answers to a choice: a text that it prints and its status, or the first fault.
-use Rattle.std.specs.Prelude.{◌≡◌, ◌⊎◌, ℕ, Bool, true, false, List, Option, Result, Ok, Err, codes, option_map}
+use Rattle.std.specs.Prelude.{◌≡◌, ◌⊎◌, ℕ, Bool, true, false, List, Option, None, Some, Result, Ok, Err, codes, option_map}
 use Rattle.lrc_acts.specs.ActsText.{ReadsActs}
 use Rattle.lrc_acts.specs.declared.reading.ActsFault.TheVariants.{BadAct, TooLong}
 use Rattle.lrc_exec.specs.Rounds.{AreActsOfRounds}
@@ -8,7 +8,10 @@ use Rattle.lrc_lang.specs.Tree.{program_of}
 use Rattle.lrc_lang.specs.declared.program.Program.{Program}
 use Rattle.lrc_trace.specs.declared.act.Act.{Act}
 use Rattle.lrc_text.specs.Parts.{whole_text}
+use Rattle.lrc_breadth.specs.Answers.{FitsSettledNoted}
 use Rattle.lrc_explore_text.specs.Explored.{Explores, MeetsFew, MeetsTooMany}
+use Rattle.lrc_explore_text.specs.OutcomeRun.{HasFewerOutcomes, TellsNumberedRun}
+use Rattle.lrc_labels.specs.Reading.{Label}
 use Rattle.lrc_verdict.specs.Judgement.{Judges}
 use Rattle.lrc_verdict.specs.PairsTold.{HasItsRaces, told_text}
 use Rattle.lrc_lint.specs.Told.{TellsNoProgram}
@@ -36,9 +39,10 @@ use Rattle.lrc_shown.specs.Charted.{IsDrawn, part_of}
 use Rattle.lrc_title.specs.Title.{title_text_of_acts}
 use Rattle.lrc_args.specs.declared.choice.ForeignActs.{ForeignActs}
 use Rattle.lrc_args.specs.declared.choice.Exploring.{Exploring}
+use Rattle.lrc_args.specs.declared.choice.OutcomeNumber.{OutcomeNumber}
 use Rattle.lrc_args.specs.declared.choice.Judging.{Judging}
 use Rattle.lrc_answer.specs.declared.fault.Fault.{Fault}
-use Rattle.lrc_answer.specs.declared.fault.Fault.TheVariants.{Acts, LongActs, NoAct, TooManyStates, NoMemory}
+use Rattle.lrc_answer.specs.declared.fault.Fault.TheVariants.{Acts, LongActs, NoAct, NoOutcome, TooManyStates, NoMemory}
 use Rattle.lrc_answer.specs.declared.fault.Fault.TheVariants as printout_faults
 
 -- the text is a program's, and `ok` says so
@@ -59,12 +63,25 @@ IsPrintoutOfRounds program nodes steps out status =
 abbrev pub judged_nodes : Judging → Option ℕ
 judged_nodes judging = option_map (λ nodes. nodes.count) judging.nodes
 
--- The text and the status are what is said of every order of the program that this text is of, with the labels of the text, and the
--- search met no more states than it may.
+-- the text shows a run that has the outcome of this number, and the search met no more states than it may
+abbrev pub ShowsOutcome : Exploring → Program → (places : List ℕ) → (number : ℕ) → List ℕ → ℕ → Type 0
+ShowsOutcome exploring program places number out status = TellsNumberedRun program exploring.nodes.count places number out × (status ≡ 0)
+    × FitsSettledNoted program exploring.nodes.count exploring.most.count
+
+-- the text and the status are what is said of every order, and the search met no more states than it may
+abbrev pub ShowsOrders : Exploring → List Label → Program → (places : List ℕ) → List ℕ → ℕ → Type 0
+ShowsOrders exploring labels program places out status = Explores labels program exploring.nodes.count places exploring.outcomes out status
+    × MeetsFew program exploring.nodes.count exploring.most.count exploring.outcomes status
+
+-- of the outcome that is asked for, or of every order
+abbrev pub IsAnswerTo : Option OutcomeNumber → Exploring → List Label → Program → (places : List ℕ) → List ℕ → ℕ → Type 0
+IsAnswerTo (Some outcome) exploring labels program places out status = ShowsOutcome exploring program places outcome.number out status
+IsAnswerTo None exploring labels program places out status = ShowsOrders exploring labels program places out status
+
+-- The text and the status are what is said of the program that this text is of, with the labels of the text.
 abbrev pub IsExploration : Exploring → List ℕ → Program → List ℕ → ℕ → Type 0
 IsExploration exploring text program out status = (places : List ℕ) × HasLines text (program_of program) places
-    × Explores (labels_in text program) program exploring.nodes.count places exploring.outcomes out status
-    × MeetsFew program exploring.nodes.count exploring.most.count exploring.outcomes status
+    × IsAnswerTo exploring.outcome exploring (labels_in text program) program places out status
 
 -- the text and the status are what `lint` says of the text of this file: that it is no program, or its warnings
 abbrev pub IsLinted : List ℕ → List ℕ → List ℕ → ℕ → Type 0
@@ -127,8 +144,18 @@ IsActsChartFault acts charting text printout_faults.TooLong = IsActsPortraitFaul
 IsActsChartFault acts charting text NoMemory = Unit {0}
 IsActsChartFault acts charting text _ = ⊥
 
--- the fault of a search through every order: it met more states than it might
+-- the fault where the outcome of this number is asked for: there are fewer, or the search met more states than it might
+abbrev pub HasOutcomeFault : Exploring → Program → (number : ℕ) → Fault → Type 0
+HasOutcomeFault exploring program number (NoOutcome missed) = (missed ≡ number) × HasFewerOutcomes program exploring.nodes.count number
+HasOutcomeFault exploring program number (TooManyStates most) =
+    (most ≡ exploring.most.count) × MeetsTooMany program exploring.nodes.count most exploring.outcomes
+HasOutcomeFault exploring program number NoMemory = Unit {0}
+HasOutcomeFault exploring program number _ = ⊥
+
+-- the fault of a search through every order: it met more states than it might, or the program has no outcome of the number that is asked for
 abbrev pub IsSearchFault : Exploring → Program → Fault → Type 0
+IsSearchFault exploring program (NoOutcome number) =
+    (option_map (λ outcome. outcome.number) exploring.outcome ≡ Some number) × HasFewerOutcomes program exploring.nodes.count number
 IsSearchFault exploring program (TooManyStates most) =
     (most ≡ exploring.most.count) × MeetsTooMany program exploring.nodes.count most exploring.outcomes
 IsSearchFault exploring program NoMemory = Unit {0}

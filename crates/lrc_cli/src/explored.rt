@@ -1,15 +1,17 @@
 // What the program answers to the command `explore`.
 
-ghost use Rattle.std.specs.Prelude.{◌≡◌, IfErr, IfOk, None};
-ghost use Rattle.lrc_cli.specs.Answer.{IsExploration, IsFault, IsSearchFault, Prints};
+ghost use Rattle.std.specs.Prelude.{◌≡◌, ◌≤◌, IfErr, IfOk, None};
+ghost use Rattle.lrc_cli.specs.Answer.{HasOutcomeFault, IsExploration, IsFault, IsSearchFault, Prints, ShowsOrders, ShowsOutcome};
+ghost use Rattle.lrc_answer.specs.Labels.{labels_in};
 ghost use Rattle.lrc_answer.specs.Texts.{IsTextOf};
 ghost use Rattle.lrc_text.specs.Parts.{whole_text};
 ghost use Rattle.lrc_args.specs.declared.choice.Choice.TheVariants.{Explore};
 
 use lrc_answer::fault::Fault;
-use lrc_answer::printout::Printout;
+use lrc_answer::printout::{Printout, in_one};
 use lrc_args::choice::Exploring;
 use lrc_explore::search::ExploreFault;
+use lrc_explore_text::outcome_run::outcome_run_told;
 use lrc_labels::read_labels;
 use lrc_lang::lines::lines_of;
 use lrc_lang::parse;
@@ -30,7 +32,7 @@ pub(crate) fn explored(
     all_orders(alloc, exploring, text, &program)
 }
 
-// What is said of every order of the program that this text is of, with the labels of the text.
+// What is said of the program that this text is of, with the labels of the text.
 fn all_orders(
     alloc: Global,
     exploring: &Exploring<'_>,
@@ -43,6 +45,24 @@ fn all_orders(
     ensures err { IfErr result (IsSearchFault exploring.now program.now) }
 {
     let lines = lines_of(alloc, text)?;
+    match exploring.outcome {
+        Some(outcome) => one_outcome(alloc, exploring, program, &lines, outcome.number),
+        None => every_order(alloc, exploring, text, program, &lines),
+    }
+}
+
+// What is said of every order.
+fn every_order(
+    alloc: Global,
+    exploring: &Exploring<'_>,
+    text: &[u8],
+    program: &Program,
+    lines: &[u32],
+) -> Result<Printout, Fault>
+    requires { IsTextOf text.now program.now }
+    ensures ok { IfOk result (λ printout. ShowsOrders exploring.now (labels_in text.now program.now) program.now lines.now (whole_text printout.parts.items) printout.status) }
+    ensures err { IfErr result (IsSearchFault exploring.now program.now) }
+{
     let labels = read_labels(alloc, text, program.words, program.locks)?;
     let nodes = exploring.nodes.count;
     let most = exploring.most.count;
@@ -51,7 +71,7 @@ fn all_orders(
         alloc,
         &labels.said,
         program,
-        &lines,
+        lines,
         nodes,
         most as usize,
         outcomes,
@@ -60,6 +80,31 @@ fn all_orders(
             parts: told.parts,
             status: told.status,
         }),
+        Err(ExploreFault::TooMany) => Err(Fault::TooManyStates(most)),
+        Err(ExploreFault::NoMemory) => Err(Fault::NoMemory),
+        Err(ExploreFault::BadNodes) => unreachable!(),
+    }
+}
+
+// What is said of the outcome of this number.
+fn one_outcome(
+    alloc: Global,
+    exploring: &Exploring<'_>,
+    program: &Program,
+    lines: &[u32],
+    number: u64,
+) -> Result<Printout, Fault>
+    requires { 1 ≤ number }
+    ensures ok { IfOk result (λ printout. ShowsOutcome exploring.now program.now lines.now number (whole_text printout.parts.items) printout.status) }
+    ensures err { IfErr result (HasOutcomeFault exploring.now program.now number) }
+{
+    let most = exploring.most.count;
+    match outcome_run_told(alloc, program, lines, exploring.nodes.count, most as usize, number) {
+        Ok(Some(text)) => Ok(Printout {
+            parts: in_one(alloc, text)?,
+            status: 0,
+        }),
+        Ok(None) => Err(Fault::NoOutcome(number)),
         Err(ExploreFault::TooMany) => Err(Fault::TooManyStates(most)),
         Err(ExploreFault::NoMemory) => Err(Fault::NoMemory),
         Err(ExploreFault::BadNodes) => unreachable!(),
