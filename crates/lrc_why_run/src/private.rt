@@ -127,7 +127,7 @@ fn is_quiet(deed: Deed) -> bool
 }
 
 // The value of an expression, if it has one.
-fn value(way: &Way<'_>, expression: &Expression) -> Option<u64>
+fn value_of(way: &Way<'_>, expression: &Expression) -> Option<u64>
     requires { names_in_expression (expression_of expression.now) ≤ 32 }
     ensures { result ≡ value_in (thread_of way.now) expression.now }
 {
@@ -158,7 +158,11 @@ fn push_unseen(
 {
     match statement {
         Statement::Assign(name, value) => {
-            push_sets(text, spelling(names, usize::from(*name)), value(way, value))
+            push_sets(
+                text,
+                spelling(names, usize::from(*name)),
+                value_of(way, value),
+            )
         }
         Statement::If(..) | Statement::While(..) => {
             text.extend_from_slice(condition_words(condition_holds(way)))
