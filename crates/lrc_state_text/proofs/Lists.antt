@@ -1,6 +1,6 @@
 -- Lists with one item more.
-use Rattle.std.proofs.Common.{◌≡◌, ◌∙◌, ◌+◌, ◌-◌, ◌<◌, ◌≤◌, ℕ, zero, suc, Bool, List, [], ◌∷◌, ◌++◌, cond, map, length, take, get_or, ap, sym, refl, subst, arith}
-use Rattle.std.specs.Prelude.{All, Option, None, Some, filter, filter_map, slice_get, slice_set, replicate}
+use Rattle.std.proofs.Common.{◌≡◌, ◌∙◌, ◌+◌, ◌-◌, ◌<◌, ◌≤◌, ℕ, suc, Bool, List, [], ◌∷◌, ◌++◌, cond, map, length, take, get_or, ap, sym, refl, subst, arith}
+use Rattle.std.specs.Prelude.{All, Option, None, Some, filter, filter_map, slice_get, slice_set}
 use Rattle.std.specs.List.{range_with_len}
 use Rattle.std.specs.Option.{option_to_list}
 use Rattle.std.proofs.lemmas.List.{append_assoc, map_more, take_more, length-take-le, set-append_right}

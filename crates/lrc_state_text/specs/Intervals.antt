@@ -1,5 +1,5 @@
 -- The intervals that are stored at a node, with the changes that are.
-use Rattle.std.specs.Prelude.{ℕ, ◌==◌, ◌&&◌, Bool, not, Option, None, Some, List, ◌++◌, codes, decimal, filter, filter_map}
+use Rattle.std.specs.Prelude.{ℕ, ◌==◌, ◌&&◌, Bool, not, Option, None, List, ◌++◌, codes, decimal, filter, filter_map}
 use Rattle.std.specs.Prelude.{if◌then◌else◌, length, map, nat_lt, option_map}
 use Rattle.std.specs.List.{list_any}
 use Rattle.std.specs.Cmp.{IsEquivalence, and_equiv, nat_eq_equiv, on_equiv}

@@ -1,4 +1,4 @@
-use Rattle.std.proofs.Common.{◌∙◌, List, ap, not, rules}
+use Rattle.std.proofs.Common.{◌∙◌, ap, not, rules}
 use Rattle.std.specs.Prelude.{filter}
 use Rattle.std.proofs.lemmas.Fn.{filter_same}
 use Rattle.lrc_state_text.specs.Intervals.{is_known, StoredInterval}
