@@ -17,11 +17,11 @@ use Rattle.lrc_replay.specs.declared.notes.Spot.{Spot}
 
 -- ---- messages
 
-abbrev pub message_head : EnvelopeRecord → List ℕ
+unfoldable pub message_head : EnvelopeRecord → List ℕ
 message_head envelope =
     codes "{\"from\":" ++ decimal envelope.from ++ codes ",\"to\":" ++ decimal envelope.to ++ codes ",\"number\":" ++ decimal envelope.number
 
-abbrev pub message_object : EnvelopeRecord → List ℕ
+unfoldable pub message_object : EnvelopeRecord → List ℕ
 message_object envelope =
     message_head envelope ++ codes ",\"bytes\":" ++ size_text envelope ++ codes ",\"message\":\"" ++ message_text envelope.message ++ codes "\"}"
 
@@ -61,10 +61,13 @@ abbrev pub act_or_null : Spot → Option Act → List ℕ
 act_or_null spot None = codes "null"
 act_or_null spot (Some act) = act_object spot act.deed
 
-abbrev pub note_object : Note → List ℕ
-note_object note =
+unfoldable pub note_head : Note → List ℕ
+note_head note =
     codes "{\"word\":" ++ decimal note.word ++ codes ",\"value\":\"" ++ decimal note.value ++ codes "\",\"node\":" ++ decimal note.node
-    ++ codes ",\"position\":" ++ decimal note.spot.position ++ spot_members note.spot ++ codes "}"
+
+unfoldable pub note_object : Note → List ℕ
+note_object note =
+    note_head note ++ codes ",\"position\":" ++ decimal note.spot.position ++ spot_members note.spot ++ codes "}"
 
 abbrev pub notes_list : List Note → List ℕ
 notes_list notes = separated (codes ",") note_object notes

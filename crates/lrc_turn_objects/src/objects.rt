@@ -3,7 +3,7 @@
 ghost use Rattle.std.specs.Prelude.{◌≡◌, ◌++◌, OnOk, codes, map};
 ghost use Rattle.lrc_labels.specs.Reading.{first_of, label_seen, last_of};
 ghost use Rattle.lrc_messages.specs.Lists.{before};
-ghost use Rattle.lrc_turn_objects.specs.Objects.{act_object, act_or_null, label_object, labels_list, message_head, message_object, messages_list, note_object, notes_list, spot_members, target_name, truth_text};
+ghost use Rattle.lrc_turn_objects.specs.Objects.{act_object, act_or_null, label_object, labels_list, message_head, message_object, messages_list, note_head, note_object, notes_list, spot_members, target_name, truth_text};
 
 use lrc_envelope::Envelope;
 use lrc_labels::label::{Label, Target};
@@ -24,6 +24,7 @@ pub fn push_comma(text: &mut Vec<u8>, place: usize) -> Result<(), AllocError>
 }
 
 // Adds where a message comes from and goes to, and its number.
+#[tactic(auto, unfolding(crate::specs::Objects::message_head))]
 fn push_message_head(text: &mut Vec<u8>, envelope: &Envelope) -> Result<(), AllocError>
     ensures { OnOk result (text.new.items ≡ text.old.items ++ message_head envelope.now) }
 {
@@ -33,6 +34,7 @@ fn push_message_head(text: &mut Vec<u8>, envelope: &Envelope) -> Result<(), Allo
 }
 
 /// Adds a message.
+#[tactic(auto, unfolding(crate::specs::Objects::message_object))]
 pub fn push_envelope(
     alloc: Global,
     text: &mut Vec<u8>,
@@ -160,17 +162,33 @@ pub fn push_act(text: &mut Vec<u8>, spot: Spot, act: Option<Act>) -> Result<(), 
     }
 }
 
+// Adds the word and the value of a Write, and its node.
+#[tactic(auto, unfolding(crate::specs::Objects::note_head))]
+fn push_note_head(text: &mut Vec<u8>, note: Note) -> Result<(), AllocError>
+    ensures { OnOk result (text.new.items ≡ text.old.items ++ note_head note) }
+{
+    push_number(text, b"{\"word\":", u64::from(note.word))?;
+    push_number(text, b",\"value\":\"", note.value)?;
+    push_number(text, b"\",\"node\":", u64::from(note.node))
+}
+
+// Adds a Write.
+#[tactic(auto, unfolding(crate::specs::Objects::note_object))]
+fn push_write(text: &mut Vec<u8>, note: Note) -> Result<(), AllocError>
+    ensures { OnOk result (text.new.items ≡ text.old.items ++ note_object note) }
+{
+    push_note_head(text, note)?;
+    push_number(text, b",\"position\":", note.spot.position)?;
+    push_spot(text, note.spot)?;
+    text.extend_from_slice(b"}")
+}
+
 // Adds the last Write to a word at this place of a list.
 fn push_note(text: &mut Vec<u8>, place: usize, note: Note) -> Result<(), AllocError>
     ensures { OnOk result (text.new.items ≡ text.old.items ++ before place (codes ",") ++ note_object note) }
 {
     push_comma(text, place)?;
-    push_number(text, b"{\"word\":", u64::from(note.word))?;
-    push_number(text, b",\"value\":\"", note.value)?;
-    push_number(text, b"\",\"node\":", u64::from(note.node))?;
-    push_number(text, b",\"position\":", note.spot.position)?;
-    push_spot(text, note.spot)?;
-    text.extend_from_slice(b"}")
+    push_write(text, note)
 }
 
 /// Adds the last Writes to words, with commas between them.
