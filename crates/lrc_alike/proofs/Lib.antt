@@ -1,1 +1,2 @@
 pub mod Stepping
+mod Mattering

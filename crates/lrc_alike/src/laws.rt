@@ -8,6 +8,7 @@ ghost use Rattle.lrc_exec.specs.Plain.{Plain, plain_step, plain_from};
 ghost use Rattle.lrc_explore.specs.Meeting.{Meet};
 ghost use Rattle.lrc_explore.specs.Stuck.{IsAtRest, IsStuck};
 ghost use Rattle.lrc_alike.specs.Alike.{By, GoOnAlike, StandAlike, StepsAlike, RunsAlike};
+ghost use Rattle.lrc_alike.specs.Names.{AgreeWhereItMatters};
 
 /// Where the threads of two states go on alike, each step of the one is a step of the other, with the same deed.
 pub fn steps_are_alike()
@@ -29,4 +30,9 @@ pub fn what_is_seen_is_alike()
         → (IsAtRest machine ↔ IsAtRest other) }
     ensures stuck { (related : Thread → Thread → Bool) (machine other : Plain) → GoOnAlike (By related) → StandAlike (By related) machine other
         → (IsStuck machine ↔ IsStuck other) }
+{}
+
+/// Threads that have the same values of the names that matter go on alike.
+pub fn names_that_do_not_matter_change_nothing()
+    ensures { GoOnAlike AgreeWhereItMatters }
 {}
