@@ -99,7 +99,14 @@ fn one_outcome(
     ensures err { IfErr result (HasOutcomeFault exploring.now program.now number) }
 {
     let most = exploring.most.count;
-    match outcome_run_told(alloc, program, lines, exploring.nodes.count, most as usize, number) {
+    match outcome_run_told(
+        alloc,
+        program,
+        lines,
+        exploring.nodes.count,
+        most as usize,
+        number,
+    ) {
         Ok(Some(text)) => Ok(Printout {
             parts: in_one(alloc, text)?,
             status: 0,
