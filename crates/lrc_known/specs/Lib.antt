@@ -1,0 +1,3 @@
+pub mod Knowing
+pub mod Word
+pub mod Effect
