@@ -6,7 +6,9 @@ use Rattle.lrc_known.specs.declared.known.Last.{Last}
 use Rattle.lrc_known.specs.declared.known.Last.TheVariants.{Nothing, Value, Unordered}
 use Rattle.lrc_known.specs.declared.known.Known.{Known}
 use Rattle.lrc_known.specs.Word.{last_of, values_of, is_above, AreChained, IsLastOf, IsLast, HasLast, Describes}
-use Rattle.lrc_known.specs.Word.{Source, Own, Taught, Neither, source_by, source_of, last_by, above_then, above_by, above_learned, IsLearned}
+use Rattle.lrc_known.specs.declared.word.Source.{Source}
+use Rattle.lrc_known.specs.declared.word.Source.TheVariants.{Own, Taught, Neither}
+use Rattle.lrc_known.specs.Word.{source_by, source_of, last_by, above_then, above_by, above_learned, IsLearned}
 use Rattle.lrc_known.proofs.Sets.{or_and_parts, or_and_left, or_and_right, last_same, has_last_same}
 
 module _ (before : ℕ → ℕ → Type 0) (known : ℕ → ℕ → ℕ → Type 0)

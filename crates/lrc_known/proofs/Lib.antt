@@ -4,3 +4,6 @@ pub mod Writing
 pub mod Telling
 pub mod Stepping
 pub mod Giving
+pub mod Made
+pub mod After
+pub mod Beginning

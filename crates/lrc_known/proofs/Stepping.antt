@@ -14,7 +14,7 @@ use Rattle.lrc_known.specs.declared.known.Known.{Known}
 use Rattle.lrc_known.specs.declared.known.Knowledge.{Knowledge}
 use Rattle.lrc_known.specs.Knowing.{Tells, to_node, to_lock, to_barrier, Knows, KnowsWrite}
 use Rattle.lrc_known.specs.Word.{Describes, IsLast, IsSame, IsLearned, IsWritten, last_of}
-use Rattle.lrc_known.specs.Effect.{Effect, passes, writes, learns, effect_of, word_of, IsAfter, IsKnowledgeAfter, IsKnowledgeOf, AreOf}
+use Rattle.lrc_known.specs.Effect.{effect_of, word_of, IsAfter, IsKnowledgeAfter, IsKnowledgeOf, AreOf}
 use Rattle.lrc_known.proofs.Sets.{describes_moved}
 use Rattle.lrc_known.proofs.Learning.{learned, describes_learned}
 use Rattle.lrc_known.proofs.Writing.{written, describes_written}

@@ -3,6 +3,8 @@ use Rattle.std.specs.Prelude.{◌≡◌, ◌≢◌, ℕ, ◌<◌, ◌≤◌, ◌
 use Rattle.lrc_known.specs.declared.known.Last.{Last}
 use Rattle.lrc_known.specs.declared.known.Last.TheVariants.{Nothing, Value, Unordered}
 use Rattle.lrc_known.specs.declared.known.Known.{Known}
+use Rattle.lrc_known.specs.declared.word.Source.{Source}
+use Rattle.lrc_known.specs.declared.word.Source.TheVariants.{Own, Taught, Neither}
 
 -- ---- what is kept of one of them; nothing is known where nothing is kept
 
@@ -14,9 +16,9 @@ abbrev pub values_in : Option Known → List ℕ
 values_in None = []
 values_in (Some known) = known.values.items
 
-abbrev pub above_in : Option Known → ℕ → Bool
-above_in None other = false
-above_in (Some known) other = slice_index_or known.above.items other false
+abbrev pub row_in : Option Known → List Bool
+row_in None = []
+row_in (Some known) = known.above.items
 
 abbrev pub last_of : List Known → ℕ → Last
 last_of word knower = last_in (slice_get word knower)
@@ -24,8 +26,11 @@ last_of word knower = last_in (slice_get word knower)
 abbrev pub values_of : List Known → ℕ → List ℕ
 values_of word knower = values_in (slice_get word knower)
 
+abbrev pub row_of : List Known → ℕ → List Bool
+row_of word knower = row_in (slice_get word knower)
+
 abbrev pub is_above : List Known → ℕ → ℕ → Bool
-is_above word knower other = above_in (slice_get word knower) other
+is_above word knower other = slice_index_or (row_of word knower) other false
 
 -- ---- what it says of sets of writes, by position and value, under an order of the positions
 
@@ -59,12 +64,6 @@ pub record Describes (before : ℕ → ℕ → Type 0) (known : ℕ → ℕ → 
   pub above : (k z : ℕ) → (is_above word k z ≡ true) ↔ HasLast before (known z) (known k)
 
 -- ---- what is kept after one of them learns what another knows
-
--- the last write of both is the learner's own, or the other's, or they are not ordered
-pub data Source : Type 0 where
-  Own : Source
-  Taught : Source
-  Neither : Source
 
 abbrev pub source_by : Last → Last → (has_it is_had : Bool) → Source
 source_by own Nothing has_it is_had = Own

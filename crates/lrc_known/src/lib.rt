@@ -2,3 +2,5 @@
 #![tactic(auto)]
 
 pub mod known;
+pub mod laws;
+pub mod word;
