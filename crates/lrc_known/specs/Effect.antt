@@ -1,5 +1,5 @@
 -- What an act changes of what is known, and what knowledge of every word is kept.
-use Rattle.std.specs.Prelude.{◌≡◌, ℕ, ◌+◌, ◌<◌, ◌^◌, ◌⊎◌, Option, Some, None, List, [], slice_get}
+use Rattle.std.specs.Prelude.{◌≡◌, ℕ, ◌+◌, ◌-◌, ◌<◌, ◌^◌, ◌⊎◌, Option, Some, None, List, [], slice_get}
 use Rattle.lrc_trace.specs.declared.act.Act.{Act}
 use Rattle.lrc_trace.specs.declared.act.Deed.{Deed}
 use Rattle.lrc_trace.specs.declared.act.Deed.TheVariants.{Write, Acquire, Release, Arrive, Depart}
@@ -55,8 +55,8 @@ pub record AreOf (nodes locks : ℕ) (run : List Act) : Type 0 where
 -- the numbers of those who know and of words leave room for one more
 abbrev pub IsSmall : Effect → Type 0
 IsSmall Passes = Unit {0}
-IsSmall (Writes writer written value) = (writer < 2 ^ 63) × (written < 2 ^ 63)
-IsSmall (Learns learner teacher) = learner < 2 ^ 63
+IsSmall (Writes writer written value) = (writer < 2 ^ 64 - 1) × (written < 2 ^ 64 - 1)
+IsSmall (Learns learner teacher) = learner < 2 ^ 64 - 1
 
 -- the word that is written is one of so many
 abbrev pub IsWithin : Effect → ℕ → Type 0

@@ -1,6 +1,6 @@
 // What is kept of the writes of one word that are known, and how an act changes it.
 
-ghost use Rattle.std.specs.Prelude.{◌≡◌, ◌≤◌, ◌<◌, ◌⊎◌, ◌↔◌, ◌^◌, ℕ, IfOk, OnOk, Contains, length, slice_index_or, false};
+ghost use Rattle.std.specs.Prelude.{◌≡◌, ◌≤◌, ◌<◌, ◌⊎◌, ◌↔◌, ◌^◌, ◌-◌, ℕ, IfOk, OnOk, Contains, length, slice_index_or, false};
 ghost use Rattle.lrc_known.specs.Word.{above_by, above_learned, above_then, above_written, is_above, is_ordered, last_by, last_of, last_then, row_of, source_by, source_of, values_of, IsLearned, IsSame, IsWritten};
 ghost use Rattle.lrc_known.specs.Made.{last_learned, last_written, values_taught, IsCopyOf, IsLearnedBy, IsWrittenBy};
 ghost use Rattle.lrc_known.specs.Effect.{IsAfter, IsSmall};
@@ -175,7 +175,7 @@ fn row_learned(
     teacher: usize,
     knower: usize,
 ) -> Result<Vec<bool>, AllocError>
-    requires { learner < 2 ^ 63 }
+    requires { learner < 2 ^ 64 - 1 }
     ensures { IfOk result (λ row. (z : ℕ) → slice_index_or row.items z false ≡ above_learned word.now learner teacher knower z) }
 {
     let own = row_of(word, knower);
@@ -196,7 +196,7 @@ fn learned_by(
     teacher: usize,
     knower: usize,
 ) -> Result<Known, AllocError>
-    requires { learner < 2 ^ 63 }
+    requires { learner < 2 ^ 64 - 1 }
     ensures { IfOk result (IsLearnedBy word.now learner teacher knower) }
 {
     let last = last_learned(word, learner, teacher, knower);
@@ -218,7 +218,7 @@ fn learned(
     learner: usize,
     teacher: usize,
 ) -> Result<Vec<Known>, AllocError>
-    requires { learner < 2 ^ 63 }
+    requires { learner < 2 ^ 64 - 1 }
     ensures { IfOk result (λ after. IsLearned word.now learner teacher after.items) }
 {
     let count = past(word.len(), learner);
@@ -295,7 +295,7 @@ fn row_written(
     writer: usize,
     knower: usize,
 ) -> Result<Vec<bool>, AllocError>
-    requires { writer < 2 ^ 63 }
+    requires { writer < 2 ^ 64 - 1 }
     ensures { IfOk result (λ row. (z : ℕ) → slice_index_or row.items z false ≡ above_written word.now writer knower z) }
 {
     let own = row_of(word, knower);
@@ -315,7 +315,7 @@ fn written_by(
     value: u64,
     knower: usize,
 ) -> Result<Known, AllocError>
-    requires { writer < 2 ^ 63 }
+    requires { writer < 2 ^ 64 - 1 }
     ensures { IfOk result (IsWrittenBy word.now writer value knower) }
 {
     let last = last_written(word, writer, value, knower);
@@ -335,7 +335,7 @@ fn written(
     writer: usize,
     value: u64,
 ) -> Result<Vec<Known>, AllocError>
-    requires { writer < 2 ^ 63 }
+    requires { writer < 2 ^ 64 - 1 }
     ensures { IfOk result (λ after. IsWritten word.now writer value after.items) }
 {
     let count = past(word.len(), writer);
@@ -444,14 +444,13 @@ pub fn copied<T: Copy>(alloc: Global, items: &[T]) -> Result<Vec<T>, AllocError>
 fn wider(one: usize, other: usize) -> usize
     ensures one { one ≤ result }
     ensures other { other ≤ result }
-    ensures small { one < 2 ^ 63 → other < 2 ^ 63 → result < 2 ^ 63 }
 {
     if one < other { other } else { one }
 }
 
 /// A count that has a number too.
 pub fn past(count: usize, number: usize) -> usize
-    requires { number < 2 ^ 63 }
+    requires { number < 2 ^ 64 - 1 }
     ensures count { count ≤ result }
     ensures number { number < result }
 {

@@ -1,2 +1,6 @@
 pub mod Coming
 pub mod Stepping
+pub mod Making
+pub mod Same
+pub mod Searched
+pub mod Adding

@@ -1,5 +1,5 @@
 -- How the states of the machine that makes lazy runs are searched.
-use Rattle.std.specs.Prelude.{◌≡◌, ℕ, ◌<◌, ◌≤◌, true, List, Some, length, slice_get, slice_index, slice_set}
+use Rattle.std.specs.Prelude.{◌≡◌, ℕ, ◌<◌, ◌≤◌, true, List, [], Some, length, slice_get, slice_index, slice_set}
 use Rattle.std.specs.List.{IsDistinct}
 use Rattle.lrc_lang.specs.declared.program.Program.{Program}
 use Rattle.lrc_trace.specs.declared.act.Act.{Act}
@@ -35,6 +35,7 @@ pub record IsPoked (flat : Flat) (key : LazyState) (deed : Deed) (state : State)
 pub record Makes (flat : Flat) (before : State) (node : ℕ) (deed : Deed) (after : State) : Type 0 where
   pub memory : List ℕ
   pub later : List ℕ
+  pub long : length memory ≡ flat.words
   pub made : plain_step (with_memory (plain_at flat before) memory) node ≡ Some (deed, with_memory (plain_at flat after) later)
 
 -- and what is known and noted changes as it says
@@ -84,6 +85,38 @@ pub record HasKey (keys : List LazyState) (key : LazyState) : Type 0 where
   pub stored : LazyState
   pub there : slice_get keys place ≡ Some stored
   pub same : eq-value.it key stored ≡ true
+
+-- each of the states has one among the keys
+abbrev pub AreThere : (keys states : List LazyState) → Type 0
+AreThere keys states = (k : ℕ) (after : LazyState) → slice_get states k ≡ Some after → HasKey keys after
+
+-- a node's deed leads to a state that is among them
+pub record HasNext (flat : Flat) (keys : List LazyState) (key : LazyState) (node : ℕ) (deed : Deed) : Type 0 where
+  pub after : LazyState
+  pub steps : Steps flat key node deed after
+  pub has : HasKey keys after
+
+-- the state's next ones are there, and its outcome where it has none
+pub record IsSearched (flat : Flat) (keys : List LazyState) (outcomes : List Outcome) (key : LazyState) : Type 0 where
+  pub next : (node : ℕ) (deed : Deed) → CanMake flat.words (plain_at flat key.state) key.knowledge node deed → HasNext flat keys key node deed
+  pub gathered : ((node : ℕ) (deed : Deed) → CanMake flat.words (plain_at flat key.state) key.knowledge node deed → ⊥)
+      → HasOutcome outcomes key.notes.items
+
+-- so it is of the states before an index
+abbrev pub AreSearched : Flat → List LazyState → List Outcome → (index : ℕ) → Type 0
+AreSearched flat keys outcomes index = (k : ℕ) (key : LazyState) → k < index → slice_get keys k ≡ Some key → IsSearched flat keys outcomes key
+
+-- the outcomes are of lazy runs
+abbrev pub AreSound : Program → Flat → List Outcome → Type 0
+AreSound program flat outcomes = (k : ℕ) (outcome : Outcome) → slice_get outcomes k ≡ Some outcome → IsLazyOutcome program flat.nodes outcome.notes.items
+
+-- one of the states is the beginning
+pub record IsBegun (program : Program) (flat : Flat) (keys : List LazyState) : Type 0 where
+  pub place : ℕ
+  pub key : LazyState
+  pub at : slice_get keys place ≡ Some key
+  pub stands : Stands program flat.nodes [] (plain_at flat key.state) key.knowledge
+  pub none : key.notes.items ≡ []
 
 -- a search met more states than a bound, no two of them equal, to each of which some lazy run leads
 pub record MeetsMore (program : Program) (nodes most : ℕ) : Type 0 where

@@ -93,7 +93,7 @@ impl LazyState {
         requires flat { IsFlat flat.now }
         requires fit { IsFit flat.now self.now }
         requires can { CanMake flat.now.words (plain_at flat.now self.now.state) self.now.knowledge node deed }
-        requires room { slice_index self.now.state.arrivals.items node < 2 ^ 62 }
+        requires room { slice_index self.now.state.arrivals.items node < 2 ^ 63 }
         ensures made { IfOk result (Makes flat.now self.now.state node deed) }
         ensures state { IfOk result (IsStateOf flat.now) }
     {
@@ -119,7 +119,7 @@ impl LazyState {
         requires flat { IsFlat flat.now }
         requires fit { IsFit flat.now self.now }
         requires can { CanMake flat.now.words (plain_at flat.now self.now.state) self.now.knowledge node deed }
-        requires room { slice_index self.now.state.arrivals.items node < 2 ^ 62 }
+        requires room { slice_index self.now.state.arrivals.items node < 2 ^ 63 }
         ensures steps { IfOk result (Steps flat.now self.now node deed) }
         ensures state { IfOk result (λ after. IsStateOf flat.now after.state) }
     {
@@ -144,7 +144,7 @@ impl LazyState {
     pub fn nexts(&self, alloc: Global, flat: &Flat) -> Result<Vec<LazyState>, AllocError>
         requires flat { IsFlat flat.now }
         requires fit { IsFit flat.now self.now }
-        requires room { (node : ℕ) → slice_index self.now.state.arrivals.items node < 2 ^ 62 }
+        requires room { (node : ℕ) → slice_index self.now.state.arrivals.items node < 2 ^ 63 }
         ensures sound { IfOk result (λ all. AreNext flat.now self.now all.items) }
         ensures all { IfOk result (λ all. (node : ℕ) → HasAll flat.now self.now node all.items) }
     {
@@ -165,7 +165,7 @@ impl LazyState {
     ) -> Result<(), AllocError>
         requires flat { IsFlat flat.now }
         requires fit { IsFit flat.now self.now }
-        requires room { (node : ℕ) → slice_index self.now.state.arrivals.items node < 2 ^ 62 }
+        requires room { (node : ℕ) → slice_index self.now.state.arrivals.items node < 2 ^ 63 }
         requires sound { AreNext flat.now self.now all.old.items }
         ensures sound { OnOk result (AreNext flat.now self.now all.new.items) }
         ensures all { OnOk result (HasAll flat.now self.now node all.new.items) }
@@ -192,8 +192,8 @@ fn reads_of(alloc: Global, word: u32, values: &[u64]) -> Result<Vec<Deed>, Alloc
 
 // What the deed of a node that has arrived so often changes of what is known.
 fn effect_of(flat: &Flat, arrived: u64, node: usize, deed: Deed) -> Effect
-    requires node { node < 2 ^ 62 }
-    requires arrived { arrived < 2 ^ 62 }
+    requires node { node < 2 ^ 63 }
+    requires arrived { arrived < 2 ^ 63 }
     ensures effect { result ≡ effect_of_flat flat.now arrived node deed }
     ensures small { IsSmall result }
 {
