@@ -28,12 +28,12 @@ use Rattle.lrc_known.specs.Effect.{word_of, IsKnowledgeAfter}
 use Rattle.lrc_lazy_search.specs.declared.state.LazyState.{LazyState}
 use Rattle.lrc_lazy_search.specs.declared.search.Task.{Task}
 use Rattle.lrc_lazy_search.specs.contracts.state.LazyStatePartialEq.TheImpl.{eq-value}
-use Rattle.lrc_lazy_search.specs.Standing.{with_memory, Stands, CanMake, effect_at}
+use Rattle.lrc_lazy_machine.specs.Standing.{with_memory, Stands, CanMake, effect_at}
 use Rattle.lrc_lazy_search.specs.Searching.{Makes, Steps, IsNext, AreNext, HasStep, HasAll, IsReached, AreReached, HasKey, AreThere, HasNext, IsSearched, AreSearched, IsBegun}
 use Rattle.lrc_lazy_search.specs.Task.{IsTask, IsInOrder}
-use Rattle.lrc_lazy_search.proofs.Searched.{stands_first, first_notes}
+use Rattle.lrc_lazy_machine.proofs.Beginning.{stands_first, first_notes}
 use Rattle.lrc_lazy_search.proofs.Same.{stands_same, notes_same}
-use Rattle.lrc_lazy_search.proofs.Stepping.{stands_on}
+use Rattle.lrc_lazy_machine.proofs.Stepping.{stands_on}
 
 -- ---- lists of next states
 
@@ -82,7 +82,7 @@ reached_more le r = record {
 
 none_arrived : (count node : ℕ) → slice_index (replicate count 0) node ≤ 0
 none_arrived count node = elim (cases_lt node count) [
-  | inl lt ↦ let zero_is = get_or-replicate count node 0 0 lt in omega (arith, zero_is)
+  | inl lt ↦ let zero_is = get_or-replicate {A = ℕ} count node 0 0 lt in omega (arith, zero_is)
   | inr le ↦ let zero_is = get_or_past (replicate count 0) node 0 (omega (arith, le, length-replicate {A = ℕ} count 0)) in omega (arith, zero_is)
 ]
 

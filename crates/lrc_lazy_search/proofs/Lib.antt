@@ -1,5 +1,3 @@
-pub mod Coming
-pub mod Stepping
 pub mod Making
 pub mod Same
 pub mod Searched

@@ -1,13 +1,14 @@
 -- What a node can do with other words is the same but for what a read gives.
 use Rattle.std.proofs.Common.{◌≡◌, ◌⊎◌, ℕ, ◌+◌, ◌<◌, ◌≤◌, List, [], ◌∷◌, length, map, inl, inr, refl, sym, subst, ◌∙◌, ap, arith, zero, suc}
 use Rattle.std.specs.Prelude.{◌↔◌, Option, Some, None, Contains, option_map, slice_get, slice_index, slice_index_or, slice_set}
-use Rattle.std.proofs.lemmas.List.{get_or-set_same, length-set}
+use Rattle.std.proofs.lemmas.List.{get_or-set_same, length-set, length-map}
 use Rattle.std.proofs.lemmas.Option.{same_Some, slice_get_within, get_or_from_slice_get}
 use Rattle.lrc_trace.specs.declared.act.Deed.{Deed}
 use Rattle.lrc_trace.specs.declared.act.Deed.TheVariants.{Quiet, Print, Read, Write, Acquire, Release, Arrive, Depart, Trap, End}
 use Rattle.lrc_exec.specs.declared.spot.Flat.{Flat}
 use Rattle.lrc_exec.specs.Meaning.{Thread, Next, next_of}
 use Rattle.lrc_exec.specs.Plain.{Plain, thread_in, plain_step}
+use Rattle.lrc_exec.specs.Spots.{spot_thread}
 use Rattle.lrc_exec.proofs.NextLaws.{next_of-fine}
 use Rattle.lrc_consistency_laws.specs.Follows.{Goes, quietly, printing, reading, writing, acquiring, releasing, arriving, departing, trapping, ending}
 use Rattle.lrc_consistency_laws.proofs.Runs.{CanDo}
@@ -19,9 +20,10 @@ use Rattle.lrc_known.specs.Word.{Gives}
 use Rattle.lrc_known.specs.Effect.{word_of}
 use Rattle.lrc_known.proofs.Made.{get_at}
 use Rattle.lrc_lazy_search.specs.declared.state.LazyState.{LazyState}
-use Rattle.lrc_lazy_search.specs.Standing.{with_memory, MayGive, CanMake, IsFit}
+use Rattle.lrc_lazy_machine.specs.Standing.{with_memory, MayGive, CanMake}
+use Rattle.lrc_lazy_search.specs.Fit.{IsFit}
 use Rattle.lrc_lazy_search.specs.Searching.{poked}
-use Rattle.lrc_lazy_search.proofs.Coming.{read_stays}
+use Rattle.lrc_lazy_machine.proofs.Coming.{read_stays}
 
 -- the same deed, or reads of one word
 pub data Kind (d e : Deed) : Type 0 where
@@ -205,3 +207,17 @@ module _ (flat : Flat) (key : LazyState) (fit : IsFit flat key) (node : ℕ) whe
         let too = made_too machine can.memory words node d can.after can.made in
         let same : too.deed ≡ deed = same_Some too.deed deed (sym (ap (option_map (λ (s : Deed × Plain). s.0)) too.made) ∙ is) in
         (0, ap Some (one_kind d too.deed too.kind same))
+
+pub poked_long : (d : Deed) (words : List ℕ) → length (poked d words) ≡ length words
+poked_long (Read w v) words = length-set words w v
+poked_long d words = refl
+
+-- who can make a deed is one of the nodes
+pub can_below : (flat : Flat) (key : LazyState) (node : ℕ) (d : Deed) → IsFit flat key → CanMake flat.words (plain_at flat key.state) key.knowledge node d
+    → node < flat.nodes
+can_below flat key node d fit can =
+    let s = stepped (with_memory (plain_at flat key.state) can.memory) node d can.after can.made in
+    let lt = s.within in
+    let mapped = length-map key.state.spots.items (spot_thread flat) in
+    let count = fit.valid.spots in
+    omega (arith, lt, mapped, count)

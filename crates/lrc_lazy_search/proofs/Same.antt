@@ -29,7 +29,7 @@ use Rattle.lrc_known.specs.Effect.{knowers_in, word_of, IsKnowledgeOf}
 use Rattle.lrc_known.proofs.Sets.{describes_moved}
 use Rattle.lrc_lazy_search.specs.declared.state.LazyState.{LazyState}
 use Rattle.lrc_lazy_search.specs.contracts.state.LazyStatePartialEq.TheImpl.{eq-value}
-use Rattle.lrc_lazy_search.specs.Standing.{Stands}
+use Rattle.lrc_lazy_machine.specs.Standing.{Stands}
 
 -- two lists that compare equal have at each place nothing, or items that compare equal
 pub data Both {A : Type 0} (E : A → A → Bool) (xs ys : List A) (k : ℕ) : Type 0 where

@@ -12,8 +12,6 @@ use Rattle.lrc_trace.proofs.Positions.{Does-within, Does-last}
 use Rattle.lrc_exec.specs.declared.spot.Flat.{Flat}
 use Rattle.lrc_exec.specs.Plain.{Plain, plain_start, start_of, thread_in}
 use Rattle.lrc_consistency_laws.specs.Follows.{deeds_of}
-use Rattle.lrc_consistency_laws.proofs.Plainly.{facts}
-use Rattle.lrc_consistency_laws.proofs.Runs.{start_matches, thread_at_start}
 use Rattle.lrc_consistency_laws.proofs.UpToRace.{in_range}
 use Rattle.lrc_explore.specs.declared.outcomes.Outcome.{Outcome}
 use Rattle.lrc_explore.specs.Notes.{notes_from, notes_of, notes_with}
@@ -23,46 +21,14 @@ use Rattle.lrc_explore.proofs.Noting.{notes_more}
 use Rattle.lrc_lazy.specs.Lazy.{IsLazyRun, IsOver, IsLazyOutcome}
 use Rattle.lrc_known.specs.declared.known.Knowledge.{Knowledge}
 use Rattle.lrc_known.specs.Effect.{word_of, AreOf, IsKnowledgeAfter}
-use Rattle.lrc_known.proofs.Beginning.{nothing_known}
+use Rattle.lrc_lazy_machine.proofs.Beginning.{stands_first, first_notes}
 use Rattle.lrc_lazy_search.specs.declared.state.LazyState.{LazyState}
-use Rattle.lrc_lazy_search.specs.Standing.{with_memory, Comes, there, Stands, CanMake, IsFit, effect_at}
+use Rattle.lrc_lazy_machine.specs.Standing.{with_memory, Comes, there, Stands, CanMake, effect_at}
+use Rattle.lrc_lazy_search.specs.Fit.{IsFit}
 use Rattle.lrc_lazy_search.specs.Searching.{Makes, Steps, IsReached, AreReached, HasKey, IsSearched, AreSearched, AreSound, IsBegun}
-use Rattle.lrc_lazy_search.proofs.Coming.{lazy_shorter}
-use Rattle.lrc_lazy_search.proofs.Stepping.{stands_on, can_make, over_there, none_there}
+use Rattle.lrc_lazy_machine.proofs.Coming.{lazy_shorter}
+use Rattle.lrc_lazy_machine.proofs.Stepping.{stands_on, can_make, over_there, none_there}
 use Rattle.lrc_lazy_search.proofs.Same.{stands_same, notes_same}
-
--- ---- the beginning
-
-pub stands_first : (program : Program) (nodes : ℕ) (knowledge : Knowledge) → ((word : ℕ) → word_of knowledge word ≡ [])
-    → Stands program nodes [] (plain_start program nodes) knowledge
-stands_first program nodes knowledge nothing =
-    let f = facts program nodes [] [] refl in
-    record {
-      run = record {
-        follows = f.follows;
-        synchronized = f.synchronized;
-        lazily = λ j word value h. let lt = Does-within h.1 in absurd (omega (arith, lt));
-      };
-      memory = (plain_start program nodes).memory;
-      matches = start_matches program nodes [];
-      long = length-replicate {A = ℕ} program.words 0;
-      holders = length-replicate {A = Option ℕ} program.locks None;
-      size = length-replicate {A = ℕ} nodes 0;
-      leads = λ n lt. subst (λ o. Comes (Some (start_of program nodes n)) [] o) (sym (thread_at_start program nodes n lt)) there;
-      are = record {
-        in_nodes = λ i n d does. let lt = Does-within does in absurd (omega (arith, lt));
-        in_locks = λ i n l does. let lt = Does-within does in absurd (omega (arith, lt));
-      };
-      known = nothing_known nodes program.locks knowledge nothing;
-    }
-
--- the first notes are none
-notes_none : (first count : ℕ) → notes_from first count [] ≡ []
-notes_none first zero = refl
-notes_none first (suc count) = notes_none (suc first) count
-
-pub first_notes : (nodes : ℕ) → notes_of nodes [] ≡ []
-first_notes nodes = notes_none 0 nodes
 
 -- ---- all lazy runs
 

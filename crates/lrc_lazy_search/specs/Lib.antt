@@ -1,3 +1,3 @@
-pub mod Standing
+pub mod Fit
 pub mod Searching
 pub mod Task

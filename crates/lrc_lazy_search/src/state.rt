@@ -3,7 +3,7 @@
 ghost use Rattle.std.specs.Prelude.{◌≡◌, ◌<◌, ◌^◌, ◌*◌, IfOk, OnOk, map};
 ghost use Rattle.lrc_trace.specs.declared.act.Deed.TheVariants.{Read};
 ghost use Rattle.lrc_known.specs.Effect.{IsSmall};
-ghost use Rattle.lrc_lazy_search.specs.Standing.{effect_of_flat};
+ghost use Rattle.lrc_lazy_search.specs.Fit.{effect_of_flat};
 
 use lrc_exec::spot::Flat;
 use lrc_explore::notes::note;
@@ -29,7 +29,8 @@ impl LazyState {
     ghost use Rattle.lrc_explore.specs.Led.{IsFirst};
     ghost use Rattle.lrc_explore.specs.States.{plain_at, IsStateOf};
     ghost use Rattle.lrc_known.specs.Effect.{word_of};
-    ghost use Rattle.lrc_lazy_search.specs.Standing.{CanMake, IsFit};
+    ghost use Rattle.lrc_lazy_machine.specs.Standing.{CanMake};
+    ghost use Rattle.lrc_lazy_search.specs.Fit.{IsFit};
     ghost use Rattle.lrc_lazy_search.specs.Searching.{HasAll, AreNext, Makes, Steps, IsPoked};
 
     /// The beginning of a program, whose text begins at this place of the code.
@@ -120,9 +121,11 @@ impl LazyState {
         requires fit { IsFit flat.now self.now }
         requires can { CanMake flat.now.words (plain_at flat.now self.now.state) self.now.knowledge node deed }
         requires room { slice_index self.now.state.arrivals.items node < 2 ^ 63 }
+        requires node { node < flat.now.nodes }
         ensures steps { IfOk result (Steps flat.now self.now node deed) }
         ensures state { IfOk result (λ after. IsStateOf flat.now after.state) }
     {
+        let _nodes = flat.nodes;
         let arrived = self.state.arrivals[node];
         let effect = effect_of(flat, arrived, node, deed);
         let state = self.state_after(alloc, flat, node, deed)?;

@@ -9,9 +9,6 @@ use Rattle.lrc_exec.specs.Plain.{Plain, thread_in, plain_step, start_of}
 use Rattle.lrc_consistency_laws.specs.Follows.{Goes, deeds_of}
 use Rattle.lrc_consistency_laws.proofs.Matching.{Matches}
 use Rattle.lrc_lazy.specs.Lazy.{IsLazyRun}
-use Rattle.lrc_exec.specs.declared.spot.Flat.{Flat}
-use Rattle.lrc_explore.specs.States.{plain_at, IsStateOf}
-use Rattle.lrc_lazy_search.specs.declared.state.LazyState.{LazyState}
 use Rattle.lrc_known.specs.declared.known.Knowledge.{Knowledge}
 use Rattle.lrc_known.specs.declared.word.Effect.{Effect}
 use Rattle.lrc_known.specs.Word.{Gives}
@@ -54,12 +51,3 @@ pub record CanMake (words : ℕ) (machine : Plain) (knowledge : Knowledge) (node
   pub after : Plain
   pub made : plain_step (with_memory machine memory) node ≡ Some (deed, after)
   pub gives : MayGive knowledge node deed
-
--- what a node's deed changes of what is known, in flat code
-abbrev pub effect_of_flat : Flat → (arrived node : ℕ) → Deed → Effect
-effect_of_flat flat arrived node deed = effect_of flat.nodes flat.locks arrived (arrived - 1) node deed
-
--- the state is in order, and its threads are of as many words as the code
-pub record IsFit (flat : Flat) (key : LazyState) : Type 0 where
-  pub valid : IsStateOf flat key.state
-  pub words : (node : ℕ) (thread : Thread) → thread_in (plain_at flat key.state) node ≡ Some thread → thread.setting.words ≡ flat.words

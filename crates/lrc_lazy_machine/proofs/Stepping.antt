@@ -17,9 +17,9 @@ use Rattle.lrc_exec.specs.Plain.{Plain, thread_in, plain_step, start_of, with_th
 use Rattle.lrc_exec.proofs.NextLaws.{IsFine, Stays, next_of-fine}
 use Rattle.lrc_exec.proofs.PlainParts.{thread_within}
 use Rattle.lrc_consistency_laws.specs.Follows.{Goes, Makes, deeds_of, FollowsText}
-use Rattle.lrc_consistency_laws.proofs.Matching.{Matches}
+use Rattle.lrc_consistency_laws.proofs.Matching.{Matches, IsPaired}
 use Rattle.lrc_consistency_laws.proofs.Step.{IsNoLock, step, passes_on}
-use Rattle.lrc_consistency_laws.proofs.Runs.{CanDo, SoundAt, can_do, is_sound, waits_paired}
+use Rattle.lrc_consistency_laws.proofs.Runs.{CanDo, SoundAt, can_do, is_sound}
 use Rattle.lrc_consistency_laws.proofs.UpToRace.{in_range}
 use Rattle.lrc_explore.proofs.Effects.{after_of, goes_on, memory_after, holders_after, length-memory, length-holders, length-arrivals}
 use Rattle.lrc_settled.proofs.Parts.{Stepped, stepped, can_step}
@@ -31,9 +31,9 @@ use Rattle.lrc_known.specs.Word.{Gives}
 use Rattle.lrc_known.specs.Effect.{effect_of, word_of, IsKnowledgeAfter, IsKnowledgeOf, AreOf}
 use Rattle.lrc_known.proofs.Stepping.{knowledge_on}
 use Rattle.lrc_known.proofs.Giving.{gives_read}
-use Rattle.lrc_lazy_search.specs.Standing.{with_memory, Comes, Stands, effect_at, MayGive, CanMake}
-use Rattle.lrc_lazy_search.proofs.Coming.{comes_makes, comes_more, GoesFrom, comes_goes, deeds_same, follows_more, matches_longer}
-use Rattle.lrc_lazy_search.proofs.Coming.{read_stays, acquire_below, release_below, depart_waits, may_go, sound_of}
+use Rattle.lrc_lazy_machine.specs.Standing.{with_memory, Comes, Stands, effect_at, MayGive, CanMake}
+use Rattle.lrc_lazy_machine.proofs.Coming.{comes_makes, comes_more, GoesFrom, comes_goes, deeds_same, follows_more, matches_longer}
+use Rattle.lrc_lazy_machine.proofs.Coming.{read_stays, acquire_below, release_below, depart_waits, may_go, sound_of}
 
 no_lock_read : (w v : ℕ) → IsNoLock (Read w v)
 no_lock_read w v = record { acquires_not = λ l e. cc; releases_not = λ l e. cc }
@@ -114,7 +114,7 @@ module _ (program : Program) (nodes : ℕ) (acts : List Act) (machine : Plain) (
       in_locks = λ i n l does. elim (Does-cases does) [
         | inl (lt, before) ↦ s.are.in_locks i n l before
         | inr (here, own, is) ↦
-            subst (λ y. l < y) locks_are (release_below fine (subst (λ y. Goes (next_of thread) y t) is goes))
+            subst (λ y. l < y) locks_are (release_below thread fine (subst (λ y. Goes (next_of thread) y t) is goes))
       ];
     }
 
@@ -126,8 +126,12 @@ module _ (program : Program) (nodes : ℕ) (acts : List Act) (machine : Plain) (
         let within : node < length machine.arrivals = let size = s.size in let lt = below in omega arith in
         ap (λ n. effect_of nodes program.locks n (departs_before acts node (length acts)) node Arrive) (s.matches.arrivals node within)
     effect_is Depart t goes =
-        let paired = waits_paired acts nodes (length acts) node now thread at s.matches s.size (depart_waits fine goes) in
-        ap (λ n. effect_of nodes program.locks (arrives_before acts node (length acts)) n node Depart) (omega (arith, paired))
+        let within : node < length machine.arrivals = let size = s.size in let lt = below in omega arith in
+        let count = s.matches.arrivals node within in
+        let paired : IsPaired true (arrives_before acts node (length acts)) (departs_before acts node (length acts)) =
+        subst (λ b. IsPaired b (arrives_before acts node (length acts)) (departs_before acts node (length acts))) (depart_waits thread fine goes)
+        (s.matches.threads node thread at).paired in
+        ap (λ n. effect_of nodes program.locks (arrives_before acts node (length acts)) n node Depart) (omega (arith, paired, count))
     effect_is Quiet t goes = refl
     effect_is (Print v) t goes = refl
     effect_is (Read w v) t goes = refl
@@ -181,7 +185,7 @@ module _ (program : Program) (nodes : ℕ) (acts : List Act) (machine : Plain) (
         are = are_after node thread at deed t goes;
         known = knowledge_on nodes program.locks acts act knowledge kept s.are lt
             (λ l e. subst (λ y. l < y) (locks_are node thread at)
-            (acquire_below (fine node thread at) (subst (λ y. Goes (next_of thread) y t) e goes)))
+            (acquire_below thread (fine node thread at) (subst (λ y. Goes (next_of thread) y t) e goes)))
             s.known (subst (λ x. IsKnowledgeAfter x knowledge kept) (effect_is node thread at deed t goes) effect);
       }
 

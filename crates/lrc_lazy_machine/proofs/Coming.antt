@@ -24,21 +24,21 @@ use Rattle.lrc_consistency_laws.proofs.Runs.{SoundAt, deeds_of-other}
 use Rattle.lrc_consistency_laws.proofs.UpToRace.{in_range}
 use Rattle.lrc_lazy.specs.Lazy.{IsLazyRun}
 use Rattle.lrc_lazy.proofs.Onward.{deeds_more-own, all_in_range}
-use Rattle.lrc_lazy_search.specs.Standing.{Comes, there, onward}
+use Rattle.lrc_lazy_machine.specs.Standing.{Comes, there, onward}
 
 -- ---- deeds of a thread
 
-goes_one : {n : Next} {d : Deed} {s t : Option Thread} → Goes n d s → Goes n d t → s ≡ t
-goes_one quietly quietly = refl
-goes_one printing printing = refl
-goes_one reading reading = refl
-goes_one writing writing = refl
-goes_one acquiring acquiring = refl
-goes_one releasing releasing = refl
-goes_one arriving arriving = refl
-goes_one departing departing = refl
-goes_one trapping trapping = refl
-goes_one ending ending = refl
+goes_one : {n : Next} {d e : Deed} {s t : Option Thread} → Goes n d s → Goes n e t → d ≡ e → s ≡ t
+goes_one quietly quietly same = refl
+goes_one printing printing same = refl
+goes_one (reading {t = f} {w = w} {v = v}) (reading {v = u}) same = let value : v ≡ u = cc in ap (λ x. Some (f x)) value
+goes_one writing writing same = refl
+goes_one acquiring acquiring same = refl
+goes_one releasing releasing same = refl
+goes_one arriving arriving same = refl
+goes_one departing departing same = refl
+goes_one trapping trapping same = refl
+goes_one ending ending same = refl
 
 pub comes_makes : {o t : Option Thread} {ds : List Deed} → Comes o ds t → Makes o ds
 comes_makes there = nothing_more
@@ -59,7 +59,7 @@ pub record GoesFrom (t : Option Thread) (d : Deed) : Type 0 where
 pub comes_goes : {o t : Option Thread} (ds : List Deed) {d : Deed} → Comes o ds t → Makes o (ds ++ d ∷ []) → GoesFrom t d
 comes_goes [] there (and_then g m) = record { thread = _; stands = refl; after = _; goes = g }
 comes_goes (x ∷ ds) {d} (onward g c) (and_then h m) =
-    comes_goes ds c (subst (λ o. Makes o (ds ++ d ∷ [])) (goes_one h g) m)
+    comes_goes ds c (subst (λ o. Makes o (ds ++ d ∷ [])) (goes_one h g refl) m)
 
 makes_front : {o : Option Thread} (ds es : List Deed) → Makes o (ds ++ es) → Makes o ds
 makes_front [] es m = nothing_more
@@ -132,14 +132,14 @@ pub read_stays : {t : Thread} {n : Next} {w v : ℕ} {after : Option Thread} →
     → (w < t.setting.words) × ((u : Thread) × (after ≡ Some u) × Stays t u)
 read_stays fine (reading {t = f} {v = v}) = (fine.0, (f v, refl, fine.1 v))
 
-pub acquire_below : {t : Thread} {n : Next} {l : ℕ} {after : Option Thread} → IsFine t n → Goes n (Acquire l) after → l < t.setting.locks
-acquire_below fine acquiring = fine.0
+pub acquire_below : (t : Thread) {n : Next} {l : ℕ} {after : Option Thread} → IsFine t n → Goes n (Acquire l) after → l < t.setting.locks
+acquire_below t fine acquiring = fine.0
 
-pub release_below : {t : Thread} {n : Next} {l : ℕ} {after : Option Thread} → IsFine t n → Goes n (Release l) after → l < t.setting.locks
-release_below fine releasing = fine.0
+pub release_below : (t : Thread) {n : Next} {l : ℕ} {after : Option Thread} → IsFine t n → Goes n (Release l) after → l < t.setting.locks
+release_below t fine releasing = fine.0
 
-pub depart_waits : {t : Thread} {n : Next} {after : Option Thread} → IsFine t n → Goes n Depart after → t.arrived ≡ true
-depart_waits fine departing = fine.0
+pub depart_waits : (t : Thread) {n : Next} {after : Option Thread} → IsFine t n → Goes n Depart after → t.arrived ≡ true
+depart_waits t fine departing = fine.0
 
 -- a run may go on with a sound deed
 pub may_go : (nodes : ℕ) (run : List Act) (node : ℕ) (d : Deed) → ((w v : ℕ) → d ≡ Read w v → ⊥) → SoundAt run nodes (length run) node d
