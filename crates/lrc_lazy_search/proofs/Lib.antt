@@ -1,4 +1,0 @@
-pub mod Making
-pub mod Same
-pub mod Searched
-pub mod Adding

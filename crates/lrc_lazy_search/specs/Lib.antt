@@ -1,3 +1,0 @@
-pub mod Fit
-pub mod Searching
-pub mod Task
