@@ -4,7 +4,7 @@ use Rattle.std.specs.Prelude.{Option, Some, None, if◌then◌else◌, slice_get
 use Rattle.std.specs.List.{IsDistinct}
 use Rattle.std.proofs.lemmas.Bool.{cases_lt, cases_eq}
 use Rattle.std.proofs.lemmas.Option.{same_Some}
-use Rattle.std.proofs.lemmas.List.{get_or-replicate, get_or_past, length-replicate}
+use Rattle.std.proofs.lemmas.List.{get_or-replicate, get_or_past, length-replicate, length-append}
 use Rattle.lrc_lang.specs.declared.program.Program.{Program}
 use Rattle.lrc_trace.specs.declared.act.Act.{Act}
 use Rattle.lrc_trace.specs.declared.act.Deed.{Deed}
@@ -83,7 +83,7 @@ reached_more le r = record {
 none_arrived : (count node : ℕ) → slice_index (replicate count 0) node ≤ 0
 none_arrived count node = elim (cases_lt node count) [
   | inl lt ↦ let zero_is = get_or-replicate {A = ℕ} count node 0 0 lt in omega (arith, zero_is)
-  | inr le ↦ let zero_is = get_or_past (replicate count 0) node 0 (omega (arith, le, length-replicate {A = ℕ} count 0)) in omega (arith, zero_is)
+  | inr le ↦ let zero_is = get_or_past {X = ℕ} (replicate count 0) node 0 (omega (arith, le, length-replicate {A = ℕ} count 0)) in omega (arith, zero_is)
 ]
 
 pub first_reached : (task : Task) (key : LazyState) → IsTask task → IsFirst task.flat task.start key.state → IsStateOf task.flat key.state
@@ -235,3 +235,20 @@ searched_more flat old new outcomes more place g h within before here k key lt a
           subst (IsSearched flat new more) same
           (searched_on flat old new outcomes more stood.0 g h (before k stood.0 (omega (arith, lt, other)) stood.1))
     ]
+
+pub grows_long : {A : Type 0} {old new : List A} → Grows old new → length old ≤ length new
+grows_long {old = old} g = let long = ap length g.is ∙ length-append old g.more in omega (arith, long)
+
+-- ---- no states, and the first of some
+
+pub no_items : {A : Type 0} (xs : List A) → length xs ≡ 0 → xs ≡ []
+no_items [] e = refl
+no_items (x ∷ xs) e = absurd (omega (arith, e))
+
+pub first_item : {A : Type 0} (xs : List A) → 0 < length xs → (x : A) × (slice_get xs 0 ≡ Some x)
+first_item [] lt = absurd (omega (arith, lt))
+first_item (x ∷ xs) lt = (x, refl)
+
+pub none_there : (keys states : List LazyState) → states ≡ [] → AreThere keys states
+none_there keys states none k x at =
+    let never : ◌≡◌ {A = Option LazyState} None (Some x) = ap (λ l. slice_get l k) (sym none) ∙ at in cc

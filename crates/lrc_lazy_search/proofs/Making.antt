@@ -208,9 +208,9 @@ module _ (flat : Flat) (key : LazyState) (fit : IsFit flat key) (node : ℕ) whe
         let same : too.deed ≡ deed = same_Some too.deed deed (sym (ap (option_map (λ (s : Deed × Plain). s.0)) too.made) ∙ is) in
         (0, ap Some (one_kind d too.deed too.kind same))
 
-pub poked_long : (d : Deed) (words : List ℕ) → length (poked d words) ≡ length words
-poked_long (Read w v) words = length-set words w v
-poked_long d words = refl
+pub poked_long : (d : Deed) (memory : List ℕ) → length (poked d memory) ≡ length memory
+poked_long (Read w v) memory = length-set memory w v
+poked_long d memory = refl
 
 -- who can make a deed is one of the nodes
 pub can_below : (flat : Flat) (key : LazyState) (node : ℕ) (d : Deed) → IsFit flat key → CanMake flat.words (plain_at flat key.state) key.knowledge node d

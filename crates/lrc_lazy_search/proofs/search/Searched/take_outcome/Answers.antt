@@ -22,7 +22,7 @@ returns-clause-sound c =
     item_in keys c.as_slice.result.now c.args.place key c.as_slice.ensures.keys c.requires.within c.index-as_slice-place.is in
     put_all (λ k (o : Outcome). IsLazyOutcome program nodes o.notes.items) _ c.args.self.now.outcomes.keys c.insert_full.new.self.keys _
     c.in_ok-insert_full.ensures.keys c.requires.sound
-    (subst (λ notes. IsLazyOutcome program nodes notes) (sym (c.in_ok-notes.ensures ∙ c.deref.ensures.value)) (c.requires.over key there))
+    (subst (λ notes. IsLazyOutcome program nodes notes) (sym (c.in_ok-notes.ensures ∙ c.deref.ensures.value ∙ sym (ap (λ (k : LazyState). k.notes.items) c.index-as_slice-place.is))) (c.requires.over key there))
 
 pub returns-clause-has : goal.returns-clause-has
 returns-clause-has c = λ wanted at.
@@ -37,5 +37,5 @@ returns-clause-has c = λ wanted at.
       outcome = s.0;
       there = s.1;
       same = sym (acts_same c.in_ok-notes.notes.items s.0.notes.items s.2) ∙ c.in_ok-notes.ensures ∙ c.deref.ensures.value
-          ∙ ap (λ (k : LazyState). k.notes.items) same;
+          ∙ sym (ap (λ (k : LazyState). k.notes.items) c.index-as_slice-place.is) ∙ ap (λ (k : LazyState). k.notes.items) same;
     }

@@ -15,7 +15,7 @@ returns-clause-steps c =
     let deed = c.args.deed in
     let within : node < length key.state.arrivals.items = omega (arith, c.requires.node, c.requires.fit.valid.arrivals) in
     let arrived : c.index-arrived.result.now ≡ slice_index key.state.arrivals.items node =
-    sym (get_or_read key.state.arrivals.items node c.index-arrived.result.now within c.index-arrived.ensures 0) in
+    get_or_read key.state.arrivals.items node c.index-arrived.result.now within c.index-arrived.ensures 0 in
     record {
       makes = c.in_ok-state.ensures.made;
       gives = c.requires.can.gives;
