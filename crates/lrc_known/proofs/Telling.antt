@@ -141,6 +141,7 @@ module _ (nodes locks : ℕ) where
         where
           count : ℕ
           count = departs_before run a.node here
+
           go : (k : ℕ) → Tells nodes locks run k (nodes + locks + departs_before run a.node here) → Reaches run i k → HappensBefore run_on i here
           go k (to_node d) r = let lt = are.in_nodes k _ _ d in absurd (omega arith)
           go k (to_lock {node = q} {l = m} e d) r = let lt = are.in_locks k q m d in absurd (omega arith)

@@ -64,12 +64,7 @@ impl Knowledge {
     }
 
     /// What a node that knows this may read of a word.
-    pub fn readable(
-        &self,
-        alloc: Global,
-        word: usize,
-        node: usize,
-    ) -> Result<Vec<u64>, AllocError>
+    pub fn readable(&self, alloc: Global, word: usize, node: usize) -> Result<Vec<u64>, AllocError>
         ensures { IfOk result (λ all. (value : ℕ) → (Contains all.items value ↔ Gives (word_of self.now word) node value)) }
     {
         let known = self.word(word);

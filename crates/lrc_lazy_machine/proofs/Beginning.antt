@@ -43,4 +43,3 @@ notes_none first (suc count) = notes_none (suc first) count
 
 pub first_notes : (nodes : ℕ) → notes_of nodes [] ≡ []
 first_notes nodes = notes_none 0 nodes
-

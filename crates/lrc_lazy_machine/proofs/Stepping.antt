@@ -63,20 +63,18 @@ module _ (program : Program) (nodes : ℕ) (acts : List Act) (machine : Plain) (
     matches_after memory (Read w v) t goes can =
         let stays = read_stays fine goes in
         let u = stays.1.0 in
-        let run = acts ++ act_of node (Read w v) ∷ [] in
-        (
+        let run = acts ++ act_of node (Read w v) ∷ [] in (
           s.memory,
           subst (λ x. Matches run (length acts + 1) (with_memory (after_of machine node (Read w v) x) s.memory)) (sym stays.1.1)
-          (passes_on run (length acts) node now thread at (matches_longer acts (act_of node (Read w v) ∷ []) now s.matches) (Read w v)
-          (Does-last acts (act_of node (Read w v))) (no_lock_read w v) (λ x y. refl) (λ x. cc) (λ x. cc) u stays.1.2),
+              (passes_on run (length acts) node now thread at (matches_longer acts (act_of node (Read w v) ∷ []) now s.matches) (Read w v)
+              (Does-last acts (act_of node (Read w v))) (no_lock_read w v) (λ x y. refl) (λ x. cc) (λ x. cc) u stays.1.2),
           refl,
         )
     matches_after memory d t goes can =
-        let run = acts ++ act_of node d ∷ [] in
-        (
+        let run = acts ++ act_of node d ∷ [] in (
           memory_after d s.memory,
           step run (length acts) node now thread at (matches_longer acts (act_of node d ∷ []) now s.matches) (next_of thread) fine d
-          (after_of now node d t) (goes_on now node goes can) (Does-last acts (act_of node d)),
+              (after_of now node d t) (goes_on now node goes can) (Does-last acts (act_of node d)),
           length-memory d s.memory,
         )
 

@@ -6,30 +6,28 @@ use Rattle.std.proofs.lemmas.Bool.{cases_lt, cases_eq}
 use Rattle.std.proofs.lemmas.Option.{same_Some}
 use Rattle.std.proofs.lemmas.List.{get_or-replicate, get_or_past, length-replicate, length-append}
 use Rattle.lrc_lang.specs.declared.program.Program.{Program}
-use Rattle.lrc_trace.specs.declared.act.Act.{Act}
 use Rattle.lrc_trace.specs.declared.act.Deed.{Deed}
 use Rattle.lrc_trace.specs.Run.{act_of}
 use Rattle.lrc_trace.proofs.Positions.{Does-last, slice_get-seam}
 use Rattle.lrc_exec.specs.declared.spot.Flat.{Flat}
-use Rattle.lrc_exec.specs.Plain.{Plain, plain_start, plain_step}
+use Rattle.lrc_exec.specs.Plain.{Plain}
 use Rattle.lrc_consistency_laws.proofs.UpToRace.{in_range}
 use Rattle.lrc_explore.specs.declared.outcomes.Outcome.{Outcome}
 use Rattle.lrc_explore.specs.Kept.{Grows}
 use Rattle.lrc_explore.specs.Led.{IsFirst}
-use Rattle.lrc_explore.specs.Notes.{notes_of, notes_with}
+use Rattle.lrc_explore.specs.Notes.{notes_with}
 use Rattle.lrc_explore.specs.Outcome.{HasOutcome}
-use Rattle.lrc_explore.specs.States.{plain_at, machine_begun, IsStateOf}
+use Rattle.lrc_explore.specs.States.{plain_at, IsStateOf}
 use Rattle.lrc_explore.proofs.Counting.{step_counts}
 use Rattle.lrc_explore.proofs.Gathering.{put_all}
-use Rattle.lrc_explore.proofs.Keeping.{stands_on as stays, put_grows, grows_again, item_at}
+use Rattle.lrc_explore.proofs.Keeping.{stands_on as stays, put_grows, item_at}
 use Rattle.lrc_explore.proofs.Noting.{notes_more}
-use Rattle.lrc_known.specs.declared.known.Knowledge.{Knowledge}
 use Rattle.lrc_known.specs.Effect.{word_of, IsKnowledgeAfter}
 use Rattle.lrc_lazy_search.specs.declared.state.LazyState.{LazyState}
 use Rattle.lrc_lazy_search.specs.declared.search.Task.{Task}
 use Rattle.lrc_lazy_search.specs.contracts.state.LazyStatePartialEq.TheImpl.{eq-value}
 use Rattle.lrc_lazy_machine.specs.Standing.{with_memory, Stands, CanMake, effect_at}
-use Rattle.lrc_lazy_search.specs.Searching.{Makes, Steps, IsNext, AreNext, HasStep, HasAll, IsReached, AreReached, HasKey, AreThere, HasNext, IsSearched, AreSearched, IsBegun}
+use Rattle.lrc_lazy_search.specs.Searching.{IsNext, AreNext, HasStep, HasAll, IsReached, HasKey, AreThere, IsSearched, AreSearched, IsBegun}
 use Rattle.lrc_lazy_search.specs.Task.{IsTask, IsInOrder}
 use Rattle.lrc_lazy_machine.proofs.Beginning.{stands_first, first_notes}
 use Rattle.lrc_lazy_search.proofs.Same.{stands_same, notes_same}

@@ -1,6 +1,6 @@
 -- States that compare equal stand for the same runs.
-use Rattle.std.proofs.Common.{◌≡◌, ◌⊎◌, ℕ, zero, suc, List, [], ◌∷◌, Bool, true, false, inl, inr, refl, sym, subst, ◌∙◌, ap, ◌∷◌}
-use Rattle.std.specs.Prelude.{◌↔◌, Option, Some, None, Contains, nat_eq, slice_get, slice_index_or}
+use Rattle.std.proofs.Common.{◌≡◌, ℕ, zero, suc, List, [], ◌∷◌, Bool, true, false, refl, sym, subst, ◌∙◌, ap, ◌∷◌}
+use Rattle.std.specs.Prelude.{Some, None, Contains, nat_eq, slice_get, slice_index_or}
 use Rattle.std.proofs.lemmas.Bool.{and_parts, eqb-true, true≢false}
 use lib.Pointwise.{pointwise}
 use mathlib.Core.Bool.{beq}
@@ -17,7 +17,6 @@ use Rattle.lrc_explore.proofs.Same.{pointwise_same, state_same}
 use Rattle.lrc_known.specs.declared.known.Last.{Last}
 use Rattle.lrc_known.specs.declared.known.Last.TheVariants.{Nothing, Value, Unordered}
 use Rattle.lrc_known.specs.declared.known.Known.{Known}
-use Rattle.lrc_known.specs.declared.known.KnownWord.{KnownWord}
 use Rattle.lrc_known.specs.declared.known.Knowledge.{Knowledge}
 use Rattle.lrc_known.specs.contracts.known.LastPartialEq.TheImpl.{eq-value as last_eq}
 use Rattle.lrc_known.specs.contracts.known.KnownPartialEq.TheImpl.{eq-value as known_eq}

@@ -1,31 +1,27 @@
 -- Where all states are searched, the outcomes are exactly those of the lazy runs.
-use Rattle.std.proofs.Common.{◌≡◌, ℕ, zero, suc, ◌+◌, ◌<◌, ◌≤◌, List, [], ◌∷◌, ◌++◌, length, true, inl, inr, refl, sym, subst, ◌∙◌, ap, arith}
-use Rattle.std.specs.Prelude.{◌↔◌, Option, Some, None, slice_get, slice_index}
-use Rattle.std.proofs.lemmas.List.{length_push, length-replicate}
+use Rattle.std.proofs.Common.{◌≡◌, ℕ, zero, suc, List, [], ◌∷◌, ◌++◌, length, refl, sym, subst, ◌∙◌, ap, arith}
+use Rattle.std.specs.Prelude.{◌↔◌, Some, slice_get}
+use Rattle.std.proofs.lemmas.List.{length_push}
 use Rattle.std.proofs.lemmas.Option.{slice_get_within}
 use Rattle.lrc_lang.specs.declared.program.Program.{Program}
 use Rattle.lrc_trace.specs.declared.act.Act.{Act}
 use Rattle.lrc_trace.specs.declared.act.Deed.{Deed}
-use Rattle.lrc_trace.specs.declared.act.Deed.TheVariants.{Read}
 use Rattle.lrc_trace.specs.Run.{act_of}
-use Rattle.lrc_trace.proofs.Positions.{Does-within, Does-last}
+use Rattle.lrc_trace.proofs.Positions.{Does-last}
 use Rattle.lrc_exec.specs.declared.spot.Flat.{Flat}
-use Rattle.lrc_exec.specs.Plain.{Plain, plain_start, start_of, thread_in}
-use Rattle.lrc_consistency_laws.specs.Follows.{deeds_of}
 use Rattle.lrc_consistency_laws.proofs.UpToRace.{in_range}
 use Rattle.lrc_explore.specs.declared.outcomes.Outcome.{Outcome}
-use Rattle.lrc_explore.specs.Notes.{notes_from, notes_of, notes_with}
+use Rattle.lrc_explore.specs.Notes.{notes_of, notes_with}
 use Rattle.lrc_explore.specs.Outcome.{HasOutcome}
-use Rattle.lrc_explore.specs.States.{plain_at, IsStateOf}
+use Rattle.lrc_explore.specs.States.{plain_at}
 use Rattle.lrc_explore.proofs.Noting.{notes_more}
-use Rattle.lrc_lazy.specs.Lazy.{IsLazyRun, IsOver, IsLazyOutcome}
-use Rattle.lrc_known.specs.declared.known.Knowledge.{Knowledge}
-use Rattle.lrc_known.specs.Effect.{word_of, AreOf, IsKnowledgeAfter}
-use Rattle.lrc_lazy_machine.proofs.Beginning.{stands_first, first_notes}
+use Rattle.lrc_lazy.specs.Lazy.{IsLazyRun, IsLazyOutcome}
+use Rattle.lrc_known.specs.Effect.{IsKnowledgeAfter}
+use Rattle.lrc_lazy_machine.proofs.Beginning.{first_notes}
 use Rattle.lrc_lazy_search.specs.declared.state.LazyState.{LazyState}
-use Rattle.lrc_lazy_machine.specs.Standing.{with_memory, Comes, there, Stands, CanMake, effect_at}
+use Rattle.lrc_lazy_machine.specs.Standing.{Stands, CanMake, effect_at}
 use Rattle.lrc_lazy_search.specs.Fit.{IsFit}
-use Rattle.lrc_lazy_search.specs.Searching.{Makes, Steps, IsReached, AreReached, HasKey, IsSearched, AreSearched, AreSound, IsBegun}
+use Rattle.lrc_lazy_search.specs.Searching.{IsReached, AreSearched, AreSound, IsBegun}
 use Rattle.lrc_lazy_machine.proofs.Coming.{lazy_shorter}
 use Rattle.lrc_lazy_machine.proofs.Stepping.{stands_on, can_make, over_there, none_there}
 use Rattle.lrc_lazy_search.proofs.Same.{stands_same, notes_same}

@@ -1,6 +1,3 @@
-use Rattle.std.proofs.Common.{◌≡◌, ◌∙◌, ap, sym, ◌≤◌, length, arith}
-use Rattle.std.specs.Prelude.{◌++◌, []}
-use Rattle.std.specs.Prelude.{option_to_list}
 use Rattle.lrc_explore.proofs.Keeping.{put_grows, grows_again}
 use Rattle.lrc_lazy_search.proofs.Adding.{more_in_order, take_one, item_of, reached_more, grows_long}
 use Rattle.lrc_lazy_search.proofs.search.Searched.add_all.Goals as goal

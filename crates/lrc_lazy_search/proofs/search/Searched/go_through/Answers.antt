@@ -1,4 +1,4 @@
-use Rattle.std.proofs.Common.{◌<◌, length, arith}
+use Rattle.std.proofs.Common.{arith}
 use Rattle.lrc_lazy_search.proofs.Adding.{searched_more}
 use Rattle.lrc_lazy_search.proofs.Searched.{exact}
 use Rattle.lrc_lazy_search.proofs.search.Searched.go_through.Goals as goal

@@ -1,5 +1,5 @@
 -- The states before the place are searched.
-use Rattle.std.proofs.Common.{◌≤◌, ◌-◌, length}
+use Rattle.std.proofs.Common.{◌-◌}
 use Rattle.lrc_lazy_search.specs.Searching.{AreSearched, AreSound}
 use Rattle.lrc_lazy_search.specs.Task.{IsInOrder}
 use Rattle.lrc_lazy_search.proofs.search.Searched.go_through.Given as goal

@@ -1,10 +1,7 @@
-use Rattle.std.proofs.Common.{◌≡◌, ◌∙◌, ℕ, List, map, ap, sym, subst}
+use Rattle.std.proofs.Common.{◌≡◌, ◌∙◌, ℕ, map, ap, sym}
 use Rattle.std.specs.Prelude.{Some, slice_get}
 use Rattle.std.proofs.lemmas.Result.{IfOk-weaker}
-use Rattle.lrc_trace.specs.declared.act.Deed.{Deed}
 use Rattle.lrc_trace.specs.declared.act.Deed.TheVariants.{Read}
-use Rattle.lrc_explore.specs.States.{plain_at}
-use Rattle.lrc_lazy_machine.specs.Standing.{CanMake}
 use Rattle.lrc_lazy_search.proofs.Making.{reads_sound, reads_all, one_sound, one_all}
 use Rattle.lrc_lazy_search.proofs.state.LazyState.deeds.Goals as goal
 

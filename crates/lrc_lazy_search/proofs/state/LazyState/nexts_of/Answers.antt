@@ -1,14 +1,14 @@
-use Rattle.std.proofs.Common.{◌≡◌, ◌<◌, ◌+◌, ◌∙◌, ap, sym, subst, arith, length, refl}
-use Rattle.std.specs.Prelude.{Some, slice_get}
+use Rattle.std.proofs.Common.{◌≡◌, ◌<◌, ◌∙◌, ap, sym, subst, arith, length, refl}
+use Rattle.std.specs.Prelude.{slice_get}
 use Rattle.std.proofs.lemmas.Option.{slice_get_within}
-use Rattle.std.proofs.Common.{◌++◌, ◌∷◌, [], inl, inr}
+use Rattle.std.proofs.Common.{◌∷◌, [], inl, inr}
 use Rattle.std.proofs.lemmas.Bool.{cases_eq}
 use Rattle.std.proofs.lemmas.Option.{same_Some}
 use Rattle.lrc_trace.proofs.Positions.{slice_get-seam}
 use Rattle.lrc_trace.specs.declared.act.Deed.{Deed}
 use Rattle.lrc_explore.specs.Kept.{Grows}
 use Rattle.lrc_explore.proofs.Keeping.{item_in, grows_again}
-use Rattle.lrc_lazy_search.specs.Searching.{Steps, HasStep}
+use Rattle.lrc_lazy_search.specs.Searching.{HasStep}
 use Rattle.lrc_lazy_search.proofs.Making.{can_below}
 use Rattle.lrc_lazy_search.proofs.Adding.{step_on, next_push}
 use Rattle.lrc_lazy_search.proofs.state.LazyState.nexts_of.Goals as goal
