@@ -1,0 +1,9 @@
+pub mod Sets
+pub mod Learning
+pub mod Writing
+pub mod Telling
+pub mod Stepping
+pub mod Giving
+pub mod Made
+pub mod After
+pub mod Beginning

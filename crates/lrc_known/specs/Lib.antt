@@ -1,0 +1,4 @@
+pub mod Knowing
+pub mod Word
+pub mod Made
+pub mod Effect

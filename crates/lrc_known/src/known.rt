@@ -1,0 +1,103 @@
+// What is known of the writes of each word.
+
+ghost use Rattle.std.specs.Prelude.{◌≤◌};
+ghost use Rattle.lrc_known.specs.Effect.{IsSmall, IsWithin};
+
+use crate::word::{Effect, copied, last_of, past, values_of, values_with, word_after};
+use std::alloc::{AllocError, Global};
+
+/// Of the writes that are known: what the last of them wrote, where they are ordered.
+#[derive(Clone, Copy, Debug, PartialEq, Eq, Hash)]
+pub enum Last {
+    /// No write is known.
+    Nothing,
+    /// They are ordered, and the last one wrote this value.
+    Value(u64),
+    /// Two of them are not ordered.
+    Unordered,
+}
+
+/// What one knows of the writes of a word.
+#[derive(PartialEq, Eq, Hash, Drop)]
+pub struct Known {
+    pub last: Last,
+    /// The values that they wrote.
+    pub values: Vec<u64>,
+    /// Whose last write is one of them.
+    pub above: Vec<bool>,
+}
+
+/// What each of those who know knows of the writes of one word.
+#[derive(PartialEq, Eq, Hash, Drop)]
+pub struct KnownWord {
+    pub knowers: Vec<Known>,
+}
+
+/// What each of those who know knows of the writes of each word.
+#[derive(PartialEq, Eq, Hash, Drop)]
+pub struct Knowledge {
+    pub words: Vec<KnownWord>,
+}
+
+impl Knowledge {
+    ghost use Rattle.std.specs.Prelude.{◌≡◌, ◌↔◌, ◌<◌, ◌^◌, ℕ, IfOk, Contains, []};
+    ghost use Rattle.lrc_known.specs.Word.{Gives};
+    ghost use Rattle.lrc_known.specs.Effect.{IsAfter, IsKnowledgeAfter, IsSmall, word_of};
+
+    /// Nothing is known of any word.
+    pub fn nothing(alloc: Global) -> Knowledge
+        ensures { (word : ℕ) → word_of result word ≡ [] }
+    {
+        Knowledge {
+            words: Vec::new(alloc),
+        }
+    }
+
+    /// What is known of the writes of a word.
+    pub fn word(&self, word: usize) -> &[Known]
+        ensures { result.now ≡ word_of self.now word }
+    {
+        match self.words.get(word) {
+            Some(known) => &known.knowers,
+            None => &[],
+        }
+    }
+
+    /// What a node that knows this may read of a word.
+    pub fn readable(&self, alloc: Global, word: usize, node: usize) -> Result<Vec<u64>, AllocError>
+        ensures { IfOk result (λ all. (value : ℕ) → (Contains all.items value ↔ Gives (word_of self.now word) node value)) }
+    {
+        let known = self.word(word);
+        match last_of(known, node) {
+            Last::Nothing => copied(alloc, &[0]),
+            Last::Value(last) => copied(alloc, &[last]),
+            Last::Unordered => values_with(alloc, values_of(known, node), 0),
+        }
+    }
+
+    /// What is known after an act.
+    pub fn after(&self, alloc: Global, effect: Effect) -> Result<Knowledge, AllocError>
+        requires { IsSmall effect }
+        ensures { IfOk result (IsKnowledgeAfter effect self.now) }
+    {
+        let count = count_after(self.words.len(), effect);
+        let mut words = Vec::new(alloc);
+        for word in 0..count {
+            let knowers = word_after(alloc, self.word(word), effect, word)?;
+            words.push(KnownWord { knowers })?;
+        }
+        Ok(Knowledge { words })
+    }
+}
+
+// How many words something is kept of after an act.
+fn count_after(count: usize, effect: Effect) -> usize
+    requires { IsSmall effect }
+    ensures least { count ≤ result }
+    ensures written { IsWithin effect result }
+{
+    match effect {
+        Effect::Writes(_, word, _) => past(count, word),
+        _ => count,
+    }
+}

@@ -1,0 +1,3 @@
+pub mod Coming
+pub mod Stepping
+pub mod Beginning

@@ -1,0 +1,252 @@
+-- States that are found from others, and put to those that were found before.
+use Rattle.std.proofs.Common.{◌≡◌, ℕ, zero, suc, ◌+◌, ◌<◌, ◌≤◌, List, [], ◌∷◌, ◌++◌, length, Bool, true, false, inl, inr, refl, sym, subst, ◌∙◌, ap, arith, replicate}
+use Rattle.std.specs.Prelude.{Option, Some, None, if◌then◌else◌, slice_get, slice_index}
+use Rattle.std.specs.List.{IsDistinct}
+use Rattle.std.proofs.lemmas.Bool.{cases_lt, cases_eq}
+use Rattle.std.proofs.lemmas.Option.{same_Some}
+use Rattle.std.proofs.lemmas.List.{get_or-replicate, get_or_past, length-replicate, length-append}
+use Rattle.lrc_lang.specs.declared.program.Program.{Program}
+use Rattle.lrc_trace.specs.declared.act.Deed.{Deed}
+use Rattle.lrc_trace.specs.Run.{act_of}
+use Rattle.lrc_trace.proofs.Positions.{Does-last, slice_get-seam}
+use Rattle.lrc_exec.specs.declared.spot.Flat.{Flat}
+use Rattle.lrc_exec.specs.Plain.{Plain}
+use Rattle.lrc_consistency_laws.proofs.UpToRace.{in_range}
+use Rattle.lrc_explore.specs.declared.outcomes.Outcome.{Outcome}
+use Rattle.lrc_explore.specs.Kept.{Grows}
+use Rattle.lrc_explore.specs.Led.{IsFirst}
+use Rattle.lrc_explore.specs.Notes.{notes_with}
+use Rattle.lrc_explore.specs.Outcome.{HasOutcome}
+use Rattle.lrc_explore.specs.States.{plain_at, IsStateOf}
+use Rattle.lrc_explore.proofs.Counting.{step_counts}
+use Rattle.lrc_explore.proofs.Gathering.{put_all}
+use Rattle.lrc_explore.proofs.Keeping.{stands_on as stays, put_grows, item_at}
+use Rattle.lrc_explore.proofs.Noting.{notes_more}
+use Rattle.lrc_known.specs.Effect.{word_of, IsKnowledgeAfter}
+use Rattle.lrc_lazy_search.specs.declared.state.LazyState.{LazyState}
+use Rattle.lrc_lazy_search.specs.declared.search.Task.{Task}
+use Rattle.lrc_lazy_search.specs.contracts.state.LazyStatePartialEq.TheImpl.{eq-value}
+use Rattle.lrc_lazy_machine.specs.Standing.{with_memory, Stands, CanMake, effect_at}
+use Rattle.lrc_lazy_search.specs.Searching.{IsNext, AreNext, HasStep, HasAll, IsReached, HasKey, AreThere, IsSearched, AreSearched, IsBegun}
+use Rattle.lrc_lazy_search.specs.Task.{IsTask, IsInOrder}
+use Rattle.lrc_lazy_machine.proofs.Beginning.{stands_first, first_notes}
+use Rattle.lrc_lazy_search.proofs.Same.{stands_same, notes_same}
+use Rattle.lrc_lazy_machine.proofs.Stepping.{stands_on}
+
+-- ---- lists of next states
+
+pub step_on : {flat : Flat} {key : LazyState} {node : ℕ} {deed : Deed} {old new : List LazyState} → Grows old new → HasStep flat key node deed old
+    → HasStep flat key node deed new
+step_on g h = record { place = h.place; after = h.after; there = stays h.place h.after g h.there; steps = h.steps }
+
+pub next_push : (flat : Flat) (key after : LazyState) (old new : List LazyState) → new ≡ old ++ after ∷ [] → AreNext flat key old → IsNext flat key after
+    → AreNext flat key new
+next_push flat key after old new e all next = put_all (λ k x. IsNext flat key x) false old new after e all next
+
+-- ---- a state to which an act leads
+
+module _ (program : Program) (flat : Flat) (words : flat.words ≡ program.words) (locks : flat.locks ≡ program.locks) where
+  pub reached_next : (key after : LazyState) (most : ℕ) → IsReached program flat key most → IsNext flat key after → IsReached program flat after (most + 1)
+  reached_next key after most r n =
+      let act = act_of n.node n.deed in
+      let steps = n.steps in
+      let effect = subst (λ l. IsKnowledgeAfter (effect_at flat.nodes l (plain_at flat key.state) n.node n.deed) key.knowledge after.knowledge) locks steps.effect in
+      let stands = stands_on program flat.nodes r.acts (plain_at flat key.state) key.knowledge r.stands n.node n.deed steps.makes.memory steps.makes.later
+      (plain_at flat after.state) after.knowledge steps.makes.made steps.gives effect in
+      let lt = in_range stands.run.follows (length r.acts) n.node n.deed (Does-last r.acts act) in
+      record {
+        acts = r.acts ++ act ∷ [];
+        stands = stands;
+        noted = notes_more flat.nodes r.acts act lt ∙ ap (λ notes. notes_with notes act) r.noted ∙ sym steps.notes;
+        valid = n.valid;
+        counted = λ node.
+            let few = r.counted node in
+            let more = step_counts (with_memory (plain_at flat key.state) steps.makes.memory) (with_memory (plain_at flat after.state) steps.makes.later)
+            n.node node n.deed steps.makes.made in
+            omega (arith, few, more);
+      }
+
+pub reached_more : {program : Program} {flat : Flat} {key : LazyState} {less more : ℕ} → less ≤ more → IsReached program flat key less
+    → IsReached program flat key more
+reached_more le r = record {
+  acts = r.acts;
+  stands = r.stands;
+  noted = r.noted;
+  valid = r.valid;
+  counted = λ node. let few = r.counted node in omega (arith, few, le);
+}
+
+-- ---- the beginning
+
+none_arrived : (count node : ℕ) → slice_index (replicate count 0) node ≤ 0
+none_arrived count node = elim (cases_lt node count) [
+  | inl lt ↦ let zero_is = get_or-replicate {A = ℕ} count node 0 0 lt in omega (arith, zero_is)
+  | inr le ↦ let zero_is = get_or_past {X = ℕ} (replicate count 0) node 0 (omega (arith, le, length-replicate {A = ℕ} count 0)) in omega (arith, zero_is)
+]
+
+pub first_reached : (task : Task) (key : LazyState) → IsTask task → IsFirst task.flat task.start key.state → IsStateOf task.flat key.state
+    → ((word : ℕ) → word_of key.knowledge word ≡ []) → key.notes.items ≡ [] → IsReached task.program.now task.flat key 0
+first_reached task key is first valid nothing none =
+    let machine = first.begun ∙ is.begun in
+    record {
+      acts = [];
+      stands = subst (λ (m : Plain). Stands task.program.now task.flat.nodes [] m key.knowledge) (sym machine)
+          (stands_first task.program.now task.flat.nodes key.knowledge nothing);
+      noted = first_notes task.flat.nodes ∙ sym none;
+      valid = valid;
+      counted = λ node.
+          let few = none_arrived task.flat.nodes node in
+          let same = ap (λ (m : Plain). slice_index m.arrivals node) machine in
+          omega (arith, few, same);
+    }
+
+pub begun_on : {program : Program} {flat : Flat} {old new : List LazyState} → Grows old new → IsBegun program flat old → IsBegun program flat new
+begun_on g b = record { place = b.place; key = b.key; at = stays b.place b.key g b.at; stands = b.stands; none = b.none }
+
+-- the first state, put to none
+pub first_in_order : (task : Task) (old new : List LazyState) (key : LazyState) (b : Bool) (place : ℕ) → IsTask task → old ≡ []
+    → new ≡ (if b then old else old ++ key ∷ []) → IsFirst task.flat task.start key.state → IsStateOf task.flat key.state
+    → ((word : ℕ) → word_of key.knowledge word ≡ []) → key.notes.items ≡ []
+    → (stored : LazyState) → slice_get new place ≡ Some stored → eq-value.it key stored ≡ true → IsDistinct eq-value.it new → IsInOrder task new
+first_in_order task old new key b place is none put first valid nothing notes stored there same distinct =
+    let reached = first_reached task key is first valid nothing notes in
+    let machine = first.begun ∙ is.begun in
+    record {
+      reached = put_all (λ k x. IsReached task.program.now task.flat x k) b old new key put
+          (λ k x at. let never : ◌≡◌ {A = Option LazyState} None (Some x) = ap (λ l. slice_get l k) (sym none) ∙ at in cc)
+          (reached_more (omega arith) reached);
+      begun = record {
+        place = place;
+        key = stored;
+        at = there;
+        stands = stands_same task.program.now task.flat.nodes task.flat [] key stored same
+            (subst (λ (m : Plain). Stands task.program.now task.flat.nodes [] m key.knowledge) (sym machine)
+            (stands_first task.program.now task.flat.nodes key.knowledge nothing));
+        none = sym (notes_same key stored same) ∙ notes;
+      };
+      distinct = distinct;
+    }
+
+-- one state more
+pub more_in_order : (task : Task) (old new : List LazyState) (key : LazyState) (b : Bool) → IsInOrder task old
+    → new ≡ (if b then old else old ++ key ∷ []) → IsReached task.program.now task.flat key (length old) → IsDistinct eq-value.it new → IsInOrder task new
+more_in_order task old new key b order put reached distinct = record {
+  reached = put_all (λ k x. IsReached task.program.now task.flat x k) b old new key put order.reached reached;
+  begun = begun_on (put_grows b old new key put) order.begun;
+  distinct = distinct;
+}
+
+-- ---- all of them are there
+
+pub key_on : {old new : List LazyState} {key : LazyState} → Grows old new → HasKey old key → HasKey new key
+key_on g h = record { place = h.place; stored = h.stored; there = stays h.place h.stored g h.there; same = h.same }
+
+-- those that were taken from the end, and are there
+pub record Taken (keys all left : List LazyState) : Type 0 where
+  pub taken : List LazyState
+  pub is : all ≡ left ++ taken
+  pub there : AreThere keys taken
+
+pub none_taken : (keys all : List LazyState) → Taken keys all all
+none_taken keys all = record { taken = []; is = sym (all_of all); there = λ k x at. cc }
+  where
+    all_of : (xs : List LazyState) → xs ++ [] ≡ xs
+    all_of [] = refl
+    all_of (x ∷ xs) = ap (λ ys. x ∷ ys) (all_of xs)
+
+behind : (xs ys : List LazyState) (x : LazyState) → (xs ++ x ∷ []) ++ ys ≡ xs ++ x ∷ ys
+behind [] ys x = refl
+behind (z ∷ xs) ys x = ap (λ l. z ∷ l) (behind xs ys x)
+
+pub take_one : (old new all before after : List LazyState) (x : LazyState) → before ≡ after ++ x ∷ [] → Grows old new → HasKey new x
+    → Taken old all before → Taken new all after
+take_one old new all before after x e g has t = record {
+  taken = x ∷ t.taken;
+  is = t.is ∙ ap (λ l. l ++ t.taken) e ∙ behind after t.taken x;
+  there = go;
+}
+  where
+    go : AreThere new (x ∷ t.taken)
+    go zero y at = let same : x ≡ y = same_Some x y at in subst (HasKey new) same has
+    go (suc k) y at = key_on g (t.there k y at)
+
+pub all_taken : (keys all left : List LazyState) → left ≡ [] → Taken keys all left → AreThere keys all
+all_taken keys all left none t k x at = t.there k x (sym (ap (λ l. slice_get l k) (t.is ∙ ap (λ l. l ++ t.taken) none)) ∙ at)
+
+-- the states that are taken from the end are among all
+pub item_of : (keys all before after : List LazyState) (x : LazyState) → before ≡ after ++ x ∷ [] → Taken keys all before
+    → (k : ℕ) × (slice_get all k ≡ Some x)
+item_of keys all before after x e t =
+    (length after, ap (λ l. slice_get l (length after)) (t.is ∙ ap (λ l. l ++ t.taken) e ∙ behind after t.taken x) ∙ slice_get-seam after x t.taken)
+
+-- ---- a state that was searched
+
+pub searched_next : (flat : Flat) (keys : List LazyState) (outcomes : List Outcome) (key : LazyState) (nexts : List LazyState)
+    → ((node : ℕ) → HasAll flat key node nexts) → AreThere keys nexts
+    → (((node : ℕ) (deed : Deed) → CanMake flat.words (plain_at flat key.state) key.knowledge node deed → ⊥) → HasOutcome outcomes key.notes.items)
+    → IsSearched flat keys outcomes key
+searched_next flat keys outcomes key nexts all there gathered = record {
+  next = λ node deed can.
+      let h = all node deed can in
+      record { after = h.after; steps = h.steps; has = there h.place h.after h.there };
+  gathered = gathered;
+}
+
+-- where there are no next ones, no node can make an act
+pub none_next : (flat : Flat) (key : LazyState) (nexts : List LazyState) → nexts ≡ [] → ((node : ℕ) → HasAll flat key node nexts)
+    → (node : ℕ) (deed : Deed) → CanMake flat.words (plain_at flat key.state) key.knowledge node deed → ⊥
+none_next flat key nexts none all node deed can =
+    let h = all node deed can in
+    let never : ◌≡◌ {A = Option LazyState} None (Some h.after) = ap (λ l. slice_get l h.place) (sym none) ∙ h.there in
+    cc
+
+-- and where there are some, one can
+pub some_next : (flat : Flat) (key after : LazyState) → IsNext flat key after
+    → ((node : ℕ) (deed : Deed) → CanMake flat.words (plain_at flat key.state) key.knowledge node deed → ⊥) → ⊥
+some_next flat key after n none = none n.node n.deed (record {
+  memory = n.steps.makes.memory;
+  long = n.steps.makes.long;
+  after = with_memory (plain_at flat after.state) n.steps.makes.later;
+  made = n.steps.makes.made;
+  gives = n.steps.gives;
+})
+
+-- what was searched stays so
+pub searched_on : (flat : Flat) (old new : List LazyState) (outcomes more : List Outcome) (key : LazyState) → Grows old new → Grows outcomes more
+    → IsSearched flat old outcomes key → IsSearched flat new more key
+searched_on flat old new outcomes more key g h s = record {
+  next = λ node deed can. let n = s.next node deed can in record { after = n.after; steps = n.steps; has = key_on g n.has };
+  gathered = λ none. let o = s.gathered none in record { place = o.place; outcome = o.outcome; there = stays o.place o.outcome h o.there; same = o.same };
+}
+
+-- and with one state more
+pub searched_more : (flat : Flat) (old new : List LazyState) (outcomes more : List Outcome) (place : ℕ) → Grows old new → Grows outcomes more
+    → place < length old → AreSearched flat old outcomes place
+    → ((key : LazyState) → slice_get old place ≡ Some key → IsSearched flat new more key) → AreSearched flat new more (place + 1)
+searched_more flat old new outcomes more place g h within before here k key lt at =
+    let stood = item_at old k (omega (arith, lt, within)) in
+    let same : stood.0 ≡ key = same_Some stood.0 key (sym (stays k stood.0 g stood.1) ∙ at) in
+    elim (cases_eq k place) [
+      | inl now ↦
+          subst (IsSearched flat new more) same (here stood.0 (ap (slice_get old) (sym now) ∙ stood.1))
+      | inr other ↦
+          subst (IsSearched flat new more) same
+          (searched_on flat old new outcomes more stood.0 g h (before k stood.0 (omega (arith, lt, other)) stood.1))
+    ]
+
+pub grows_long : {A : Type 0} {old new : List A} → Grows old new → length old ≤ length new
+grows_long {old = old} g = let long = ap length g.is ∙ length-append old g.more in omega (arith, long)
+
+-- ---- no states, and the first of some
+
+pub no_items : {A : Type 0} (xs : List A) → length xs ≡ 0 → xs ≡ []
+no_items [] e = refl
+no_items (x ∷ xs) e = absurd (omega (arith, e))
+
+pub first_item : {A : Type 0} (xs : List A) → 0 < length xs → (x : A) × (slice_get xs 0 ≡ Some x)
+first_item [] lt = absurd (omega (arith, lt))
+first_item (x ∷ xs) lt = (x, refl)
+
+pub none_there : (keys states : List LazyState) → states ≡ [] → AreThere keys states
+none_there keys states none k x at =
+    let never : ◌≡◌ {A = Option LazyState} None (Some x) = ap (λ l. slice_get l k) (sym none) ∙ at in cc

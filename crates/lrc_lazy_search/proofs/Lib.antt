@@ -1,0 +1,4 @@
+pub mod Making
+pub mod Same
+pub mod Searched
+pub mod Adding

@@ -1,0 +1,128 @@
+-- How the states of the machine that makes lazy runs are searched.
+use Rattle.std.specs.Prelude.{◌≡◌, ℕ, ◌<◌, ◌≤◌, true, List, [], Some, length, slice_get, slice_index, slice_set}
+use Rattle.std.specs.List.{IsDistinct}
+use Rattle.lrc_lang.specs.declared.program.Program.{Program}
+use Rattle.lrc_trace.specs.declared.act.Act.{Act}
+use Rattle.lrc_trace.specs.declared.act.Deed.{Deed}
+use Rattle.lrc_trace.specs.declared.act.Deed.TheVariants.{Read}
+use Rattle.lrc_trace.specs.Run.{act_of}
+use Rattle.lrc_exec.specs.Plain.{plain_step}
+use Rattle.lrc_exec.specs.declared.spot.Flat.{Flat}
+use Rattle.lrc_explore.specs.declared.outcomes.Outcome.{Outcome}
+use Rattle.lrc_explore.specs.declared.state.State.{State}
+use Rattle.lrc_explore.specs.Notes.{notes_of, notes_with}
+use Rattle.lrc_explore.specs.Outcome.{HasOutcome}
+use Rattle.lrc_explore.specs.States.{plain_at, IsStateOf}
+use Rattle.lrc_lazy.specs.Lazy.{IsLazyOutcome}
+use Rattle.lrc_known.specs.Effect.{IsKnowledgeAfter}
+use Rattle.lrc_lazy_search.specs.declared.state.LazyState.{LazyState}
+use Rattle.lrc_lazy_search.specs.contracts.state.LazyStatePartialEq.TheImpl.{eq-value}
+use Rattle.lrc_lazy_machine.specs.Standing.{with_memory, Stands, MayGive, CanMake, effect_at}
+
+-- ---- steps
+
+-- the words, where a read finds the value that it gives
+abbrev pub poked : Deed → List ℕ → List ℕ
+poked (Read w v) memory = slice_set memory w v
+poked _ memory = memory
+
+pub record IsPoked (flat : Flat) (key : LazyState) (deed : Deed) (state : State) : Type 0 where
+  pub is : plain_at flat state ≡ with_memory (plain_at flat key.state) (poked deed key.state.memory.items)
+  pub valid : IsStateOf flat state
+  pub arrivals : state.arrivals.items ≡ key.state.arrivals.items
+
+-- with some words the deed leads from one state to another
+pub record Makes (flat : Flat) (before : State) (node : ℕ) (deed : Deed) (after : State) : Type 0 where
+  pub memory : List ℕ
+  pub later : List ℕ
+  pub long : length memory ≡ flat.words
+  pub made : plain_step (with_memory (plain_at flat before) memory) node ≡ Some (deed, with_memory (plain_at flat after) later)
+
+-- and what is known and noted changes as it says
+pub record Steps (flat : Flat) (before : LazyState) (node : ℕ) (deed : Deed) (after : LazyState) : Type 0 where
+  pub makes : Makes flat before.state node deed after.state
+  pub gives : MayGive before.knowledge node deed
+  pub effect : IsKnowledgeAfter (effect_at flat.nodes flat.locks (plain_at flat before.state) node deed) before.knowledge after.knowledge
+  pub notes : after.notes.items ≡ notes_with before.notes.items (act_of node deed)
+
+-- some act leads to the state
+pub record IsNext (flat : Flat) (key after : LazyState) : Type 0 where
+  pub node : ℕ
+  pub deed : Deed
+  pub steps : Steps flat key node deed after
+  pub valid : IsStateOf flat after.state
+
+abbrev pub AreNext : Flat → LazyState → List LazyState → Type 0
+AreNext flat key all = (k : ℕ) (after : LazyState) → slice_get all k ≡ Some after → IsNext flat key after
+
+-- among the states is one to which a node's deed leads
+pub record HasStep (flat : Flat) (key : LazyState) (node : ℕ) (deed : Deed) (all : List LazyState) : Type 0 where
+  pub place : ℕ
+  pub after : LazyState
+  pub there : slice_get all place ≡ Some after
+  pub steps : Steps flat key node deed after
+
+abbrev pub HasAll : Flat → LazyState → (node : ℕ) → List LazyState → Type 0
+HasAll flat key node all =
+    (deed : Deed) → CanMake flat.words (plain_at flat key.state) key.knowledge node deed → HasStep flat key node deed all
+
+-- ---- the search
+
+-- a lazy run leads to the state, in so many acts at most
+pub record IsReached (program : Program) (flat : Flat) (key : LazyState) (most : ℕ) : Type 0 where
+  pub acts : List Act
+  pub stands : Stands program flat.nodes acts (plain_at flat key.state) key.knowledge
+  pub noted : notes_of flat.nodes acts ≡ key.notes.items
+  pub valid : IsStateOf flat key.state
+  pub counted : (node : ℕ) → slice_index key.state.arrivals.items node ≤ most
+
+abbrev pub AreReached : Program → Flat → List LazyState → Type 0
+AreReached program flat keys = (k : ℕ) (key : LazyState) → slice_get keys k ≡ Some key → IsReached program flat key k
+
+-- a state that compares equal to this one is among them
+pub record HasKey (keys : List LazyState) (key : LazyState) : Type 0 where
+  pub place : ℕ
+  pub stored : LazyState
+  pub there : slice_get keys place ≡ Some stored
+  pub same : eq-value.it key stored ≡ true
+
+-- each of the states has one among the keys
+abbrev pub AreThere : (keys states : List LazyState) → Type 0
+AreThere keys states = (k : ℕ) (after : LazyState) → slice_get states k ≡ Some after → HasKey keys after
+
+-- a node's deed leads to a state that is among them
+pub record HasNext (flat : Flat) (keys : List LazyState) (key : LazyState) (node : ℕ) (deed : Deed) : Type 0 where
+  pub after : LazyState
+  pub steps : Steps flat key node deed after
+  pub has : HasKey keys after
+
+-- the state's next ones are there, and its outcome where it has none
+pub record IsSearched (flat : Flat) (keys : List LazyState) (outcomes : List Outcome) (key : LazyState) : Type 0 where
+  pub next : (node : ℕ) (deed : Deed) → CanMake flat.words (plain_at flat key.state) key.knowledge node deed → HasNext flat keys key node deed
+  pub gathered : ((node : ℕ) (deed : Deed) → CanMake flat.words (plain_at flat key.state) key.knowledge node deed → ⊥)
+      → HasOutcome outcomes key.notes.items
+
+-- so it is of the states before an index
+abbrev pub AreSearched : Flat → List LazyState → List Outcome → (index : ℕ) → Type 0
+AreSearched flat keys outcomes index = (k : ℕ) (key : LazyState) → k < index → slice_get keys k ≡ Some key → IsSearched flat keys outcomes key
+
+-- the outcomes are of lazy runs
+abbrev pub AreSound : Program → Flat → List Outcome → Type 0
+AreSound program flat outcomes = (k : ℕ) (outcome : Outcome) → slice_get outcomes k ≡ Some outcome → IsLazyOutcome program flat.nodes outcome.notes.items
+
+-- one of the states is the beginning
+pub record IsBegun (program : Program) (flat : Flat) (keys : List LazyState) : Type 0 where
+  pub place : ℕ
+  pub key : LazyState
+  pub at : slice_get keys place ≡ Some key
+  pub stands : Stands program flat.nodes [] (plain_at flat key.state) key.knowledge
+  pub none : key.notes.items ≡ []
+
+-- a search met more states than a bound, no two of them equal, to each of which some lazy run leads
+pub record MeetsMore (program : Program) (nodes most : ℕ) : Type 0 where
+  pub flat : Flat
+  pub count : flat.nodes ≡ nodes
+  pub keys : List LazyState
+  pub many : most < length keys
+  pub distinct : IsDistinct eq-value.it keys
+  pub reached : AreReached program flat keys

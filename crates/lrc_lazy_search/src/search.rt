@@ -1,0 +1,259 @@
+// The search through the states of the machine that makes lazy runs.
+
+ghost use Rattle.std.specs.Prelude.{◌≡◌, ◌≢◌, ◌↔◌, List, IfOk, IfErr, MatchResult, Err};
+ghost use Rattle.lrc_trace.specs.declared.act.Act.{Act as ActType};
+ghost use Rattle.lrc_exec.specs.Nodes.{AreNodes};
+ghost use Rattle.lrc_explore.specs.Outcome.{HasOutcome};
+ghost use Rattle.lrc_lazy.specs.Lazy.{IsLazyOutcome};
+ghost use Rattle.lrc_lazy_search.specs.Searching.{MeetsMore};
+ghost use Rattle.lrc_lazy_search.specs.Task.{IsTask};
+
+use crate::state::LazyState;
+use indexmap::IndexSet;
+use lrc_exec::code::Code;
+use lrc_exec::spot::Flat;
+use lrc_explore::outcomes::Outcome;
+use lrc_explore::search::ExploreFault;
+use lrc_known::word::copied;
+use lrc_lang::program::Program;
+use std::alloc::{AllocError, Global};
+
+/// Every outcome of the lazy runs of a program on so many nodes, after which no node can make an act. Gives up where there are more states
+/// to tell apart than `most`.
+pub fn lazy_outcomes(
+    alloc: Global,
+    program: &Program,
+    nodes: u32,
+    most: usize,
+) -> Result<IndexSet<Outcome>, ExploreFault>
+    ensures exact { IfOk result (λ found. (notes : List ActType) → (IsLazyOutcome program.now nodes notes ↔ HasOutcome found.keys notes)) }
+    ensures bad_nodes { (result ≡ Err ExploreFault.BadNodes) ↔ (¬ AreNodes nodes) }
+    ensures too_many { IfErr result (λ fault. fault ≡ ExploreFault.TooMany → MeetsMore program.now nodes most) }
+{
+    let count = count_of(nodes)?;
+    let code = Code::new(alloc, program)?;
+    lazy_outcomes_of(alloc, &code, count, most)
+}
+
+// The same of a program's flat code.
+fn lazy_outcomes_of(
+    alloc: Global,
+    code: &Code<'_>,
+    nodes: u8,
+    most: usize,
+) -> Result<IndexSet<Outcome>, ExploreFault>
+    ensures exact { IfOk result (λ found. (notes : List ActType) → (IsLazyOutcome code.now nodes notes ↔ HasOutcome found.keys notes)) }
+    ensures nodes { IfErr result (λ fault. fault ≢ ExploreFault.BadNodes) }
+    ensures too_many { IfErr result (λ fault. fault ≡ ExploreFault.TooMany → MeetsMore code.now nodes most) }
+{
+    let task = task_of(code, nodes, most);
+    let mut searched = Searched::none(alloc);
+    let all = searched.search(alloc, &task);
+    let outcomes = searched.into_outcomes();
+    match all {
+        Ok(()) => Ok(outcomes),
+        Err(fault) => Err(fault),
+    }
+}
+
+// What is searched of a program's code.
+fn task_of<'c>(code: &'c Code<'c>, nodes: u8, most: usize) -> Task<'c>
+    ensures task { IsTask result }
+    ensures program { result.program.now ≡ code.now }
+    ensures nodes { result.flat.nodes ≡ nodes }
+    ensures most { result.most ≡ most }
+{
+    let (instructions, start) = code.parts();
+    Task {
+        program: code.program(),
+        flat: Flat {
+            code: instructions,
+            words: code.words(),
+            locks: code.locks(),
+            nodes,
+        },
+        start,
+        most,
+    }
+}
+
+// How many nodes there are, where they are 1 to 16.
+fn count_of(nodes: u32) -> Result<u8, ExploreFault>
+    ensures { MatchResult result (λ count. (count ≡ nodes) × AreNodes nodes) (λ fault. (fault ≡ ExploreFault.BadNodes) × ¬ AreNodes nodes) }
+{
+    if nodes < 1 || nodes > 16 {
+        return Err(ExploreFault::BadNodes);
+    }
+    Ok(nodes as u8)
+}
+
+/// What is searched: a program, its code and the place where that begins, and how many states there may be.
+#[derive(Clone, Copy)]
+pub(crate) struct Task<'c> {
+    program: &'c Program,
+    flat: Flat<'c>,
+    start: usize,
+    most: usize,
+}
+
+// States, each once, in the order in which they were found, and the outcomes of those at which no node can make an act.
+#[derive(Drop)]
+pub(crate) struct Searched {
+    states: IndexSet<LazyState>,
+    outcomes: IndexSet<Outcome>,
+}
+
+impl Searched {
+    ghost use Rattle.std.specs.Prelude.{◌≡◌, ◌≢◌, ◌↔◌, ◌<◌, ◌≤◌, ◌^◌, ℕ, List, IfOk, IfErr, OnOk, Some, [], length, slice_get};
+    ghost use Rattle.std.specs.List.{IsDistinct};
+    ghost use Rattle.lrc_trace.specs.declared.act.Act.{Act as ActType};
+    ghost use Rattle.lrc_explore.specs.Kept.{Grows};
+    ghost use Rattle.lrc_explore.specs.Outcome.{HasOutcome};
+    ghost use Rattle.lrc_lazy.specs.Lazy.{IsLazyOutcome};
+    ghost use Rattle.lrc_lazy_search.specs.declared.state.LazyState.{LazyState as StateType};
+    ghost use Rattle.lrc_lazy_search.specs.Searching.{AreNext, AreReached, AreSearched, AreSound, AreThere, HasAll, IsBegun, IsReached, IsSearched, MeetsMore};
+    ghost use Rattle.lrc_lazy_search.specs.Task.{IsTask, IsInOrder};
+
+    // No states, and no outcomes.
+    fn none(alloc: Global) -> Searched
+        ensures states { result.states.keys ≡ [] }
+        ensures outcomes { result.outcomes.keys ≡ [] }
+    {
+        Searched {
+            states: IndexSet::new(alloc),
+            outcomes: IndexSet::new(alloc),
+        }
+    }
+
+    // The outcomes.
+    fn into_outcomes(self) -> IndexSet<Outcome>
+        ensures { result ≡ self.outcomes }
+    {
+        self.outcomes
+    }
+
+    // From the start on, where there is nothing yet, goes through all states.
+    fn search(&mut self, alloc: Global, task: &Task<'_>) -> Result<(), ExploreFault>
+        requires task { IsTask task.now }
+        requires none { self.old.states.keys ≡ [] }
+        requires outcomes { self.old.outcomes.keys ≡ [] }
+        ensures exact { OnOk result ((notes : List ActType) → (IsLazyOutcome task.now.program.now task.now.flat.nodes notes ↔ HasOutcome self.new.outcomes.keys notes)) }
+        ensures nodes { IfErr result (λ fault. fault ≢ ExploreFault.BadNodes) }
+        ensures too_many { IfErr result (λ fault. fault ≡ ExploreFault.TooMany → MeetsMore task.now.program.now task.now.flat.nodes task.now.most) }
+    {
+        self.begin(alloc, task)?;
+        self.go_through(alloc, task)
+    }
+
+    // Adds the start, where there are no states yet.
+    fn begin(&mut self, alloc: Global, task: &Task<'_>) -> Result<(), AllocError>
+        requires task { IsTask task.now }
+        requires none { self.old.states.keys ≡ [] }
+        ensures order { OnOk result (IsInOrder task.now self.new.states.keys) }
+        ensures same { self.new.outcomes ≡ self.old.outcomes }
+    {
+        let first = LazyState::start(alloc, &task.flat, task.start)?;
+        self.states.insert_full(first)?;
+        Ok(())
+    }
+
+    // Goes through the states, in the order in which they are found.
+    fn go_through(&mut self, alloc: Global, task: &Task<'_>) -> Result<(), ExploreFault>
+        requires task { IsTask task.now }
+        requires order { IsInOrder task.now self.old.states.keys }
+        requires outcomes { self.old.outcomes.keys ≡ [] }
+        ensures exact { OnOk result ((notes : List ActType) → (IsLazyOutcome task.now.program.now task.now.flat.nodes notes ↔ HasOutcome self.new.outcomes.keys notes)) }
+        ensures nodes { IfErr result (λ fault. fault ≢ ExploreFault.BadNodes) }
+        ensures too_many { IfErr result (λ fault. fault ≡ ExploreFault.TooMany → MeetsMore task.now.program.now task.now.flat.nodes task.now.most) }
+    {
+        let mut place = 0;
+        while place < self.states.len() {
+            if self.states.len() > task.most {
+                return Err(ExploreFault::TooMany);
+            }
+            self.visit(alloc, task, place)?;
+            place += 1;
+        }
+        Ok(())
+    }
+
+    // Looks at a state: finds those after it, and takes its outcome where there are none.
+    fn visit(&mut self, alloc: Global, task: &Task<'_>, place: usize) -> Result<(), AllocError>
+        requires task { IsTask task.now }
+        requires order { IsInOrder task.now self.old.states.keys }
+        requires sound { AreSound task.now.program.now task.now.flat self.old.outcomes.keys }
+        requires within { place < length self.old.states.keys }
+        requires small { place < 2 ^ 63 }
+        ensures order { OnOk result (IsInOrder task.now self.new.states.keys) }
+        ensures grows { OnOk result (Grows self.old.states.keys self.new.states.keys) }
+        ensures more { OnOk result (Grows self.old.outcomes.keys self.new.outcomes.keys) }
+        ensures sound { OnOk result (AreSound task.now.program.now task.now.flat self.new.outcomes.keys) }
+        ensures done { OnOk result ((key : StateType) → slice_get self.old.states.keys place ≡ Some key
+            → IsSearched task.now.flat self.new.states.keys self.new.outcomes.keys key) }
+    {
+        let nexts = self.nexts_at(alloc, task, place)?;
+        if nexts.is_empty() {
+            self.take_outcome(alloc, task, place)
+        } else {
+            self.add_all(task, nexts)
+        }
+    }
+
+    // The states that an act leads to from one of them.
+    fn nexts_at(
+        &self,
+        alloc: Global,
+        task: &Task<'_>,
+        place: usize,
+    ) -> Result<Vec<LazyState>, AllocError>
+        requires task { IsTask task.now }
+        requires order { IsInOrder task.now self.now.states.keys }
+        requires within { place < length self.now.states.keys }
+        requires small { place < 2 ^ 63 }
+        ensures reached { IfOk result (λ all. (k : ℕ) (after : StateType) → slice_get all.items k ≡ Some after
+            → IsReached task.now.program.now task.now.flat after (length self.now.states.keys)) }
+        ensures sound { IfOk result (λ all. (key : StateType) → slice_get self.now.states.keys place ≡ Some key → AreNext task.now.flat key all.items) }
+        ensures all { IfOk result (λ all. (key : StateType) → slice_get self.now.states.keys place ≡ Some key → (node : ℕ) → HasAll task.now.flat key node all.items) }
+    {
+        self.states.as_slice()[place].nexts(alloc, &task.flat)
+    }
+
+    // Takes the outcome of a state at which no node can make an act.
+    fn take_outcome(
+        &mut self,
+        alloc: Global,
+        task: &Task<'_>,
+        place: usize,
+    ) -> Result<(), AllocError>
+        requires sound { AreSound task.now.program.now task.now.flat self.old.outcomes.keys }
+        requires within { place < length self.old.states.keys }
+        requires over { (key : StateType) → slice_get self.old.states.keys place ≡ Some key → IsLazyOutcome task.now.program.now task.now.flat.nodes key.notes.items }
+        ensures same { self.new.states ≡ self.old.states }
+        ensures more { OnOk result (Grows self.old.outcomes.keys self.new.outcomes.keys) }
+        ensures sound { OnOk result (AreSound task.now.program.now task.now.flat self.new.outcomes.keys) }
+        ensures has { OnOk result ((key : StateType) → slice_get self.old.states.keys place ≡ Some key → HasOutcome self.new.outcomes.keys key.notes.items) }
+    {
+        let _task = task;
+        let notes = copied(alloc, &self.states.as_slice()[place].notes)?;
+        self.outcomes.insert_full(Outcome { notes })?;
+        Ok(())
+    }
+
+    // Adds those of the states that are new.
+    fn add_all(&mut self, task: &Task<'_>, states: Vec<LazyState>) -> Result<(), AllocError>
+        requires order { IsInOrder task.now self.old.states.keys }
+        requires reached { (k : ℕ) (after : StateType) → slice_get states.items k ≡ Some after
+            → IsReached task.now.program.now task.now.flat after (length self.old.states.keys) }
+        ensures order { OnOk result (IsInOrder task.now self.new.states.keys) }
+        ensures grows { OnOk result (Grows self.old.states.keys self.new.states.keys) }
+        ensures has { OnOk result (AreThere self.new.states.keys states.items) }
+        ensures same { self.new.outcomes ≡ self.old.outcomes }
+    {
+        let _task = task;
+        let mut states = states;
+        while let Some(state) = states.pop() {
+            self.states.insert_full(state)?;
+        }
+        Ok(())
+    }
+}

@@ -1,0 +1,7 @@
+//! Tests alone: the outcomes of the lazy runs of programs.
+#![tactic(auto)]
+
+#[cfg(test)]
+mod checks;
+#[cfg(test)]
+mod outcomes;
