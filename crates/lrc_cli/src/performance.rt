@@ -1,6 +1,8 @@
 // Doing what the words ask for, over any two writers.
 
-ghost use Rattle.std.specs.Prelude.{◌≡◌, ◌⊎◌, ℕ, List, Option, false, is_some, option_map};
+ghost use Rattle.std.specs.Prelude.{◌≡◌, ◌⊎◌, ℕ, List, OnErr, OnOk, Option, false, is_some, option_map};
+ghost use Rattle.std.specs.Io.KnownBytes.{Appends};
+ghost use Rattle.lrc_report.specs.Output.{AppendsFront};
 ghost use Rattle.lrc_cli.specs.Answer.{Answers, KeepsRaces};
 ghost use Rattle.lrc_args.specs.Files.{names_events, starts_threads};
 ghost use Rattle.lrc_answer.specs.FaultLine.{fault_line};
@@ -116,6 +118,25 @@ fn print<W: Write>(printout: &Printout, out: &mut W) -> u8
     }
 }
 
+// Writes a judgement while its racing pairs are found.
+fn write_pairs<W: Write>(
+    alloc: Global,
+    judgement: &PairsJudgement,
+    out: &mut W,
+) -> Result<(), BrokenOff>
+    requires { HasItsRaces judgement.now }
+    ensures ok { OnOk result (Appends (W.contents out.old) (W.contents out.new)
+        (told_text judgement.now)) }
+    ensures err { OnErr result (AppendsFront (W.contents out.old) (W.contents out.new)
+        (told_text judgement.now)) }
+{
+    let mut output = Output::new(out);
+    match put_pairs(alloc, &mut output, judgement) {
+        Ok(()) => Ok(()),
+        Err(broken) => Err(broken),
+    }
+}
+
 // Writes a judgement while its racing pairs are found, and the line that memory ran out where it did.
 fn print_pairs<W: Write, E: Write>(
     alloc: Global,
@@ -127,8 +148,7 @@ fn print_pairs<W: Write, E: Write>(
     ensures { IsPrintedOrCut (W.contents out.old) (W.contents out.new) (E.contents err.old) (E.contents err.new)
         (told_text judgement.now) judgement.now.status result }
 {
-    let mut output = Output::new(out);
-    match put_pairs(alloc, &mut output, judgement) {
+    match write_pairs(alloc, judgement, out) {
         Ok(()) => judgement.status,
         Err(BrokenOff::Unwritten(_)) => 1,
         Err(BrokenOff::NoMemory) => put_line(NO_MEMORY_LINE, err),

@@ -1,4 +1,4 @@
-use Rattle.std.proofs.Common.{◌≡◌, ◌⊎◌, ℕ, true, List, Option, Some, None, refl, subst, inl, inr}
+use Rattle.std.proofs.Common.{◌≡◌, ◌⊎◌, ℕ, true, List, Ok, Option, Some, None, refl, subst, inl, inr}
 use Rattle.std.specs.Io.KnownBytes.{Keeps}
 use Rattle.lrc_cli.specs.Answer.{Answers, IsFault, Prints, asks_pairs}
 use Rattle.lrc_answer.specs.FaultLine.{fault_line}
@@ -20,7 +20,8 @@ complained choice text events out err err' result fault is (inr line) = faults N
 
 pub returns-in-Ok-Printed : goal.returns-in-Ok-Printed
 returns-in-Ok-Printed g c choice text events answers =
-    prints _ _ (subst (Answers choice text events) (c.in-Ok-Printed.is) answers) c.print.ensures (same (g.E.Write.contents c.args.err.now))
+    prints _ _ (subst (λ answered. Answers choice text events (Ok answered)) c.in-Ok-Printed.field-0-is
+    (subst (Answers choice text events) c.in-Ok-Printed.is answers)) c.print.ensures (same (g.E.Write.contents c.args.err.now))
 
 -- what comes of a judgement that is written while its racing pairs are found
 judged : (choice : Choice) (text : List ℕ) (events out out' err err' : Option (List ℕ)) (printed : List ℕ) (status result : ℕ)
@@ -31,7 +32,8 @@ judged choice text events out out' err err' printed status result asks is (inr c
 
 pub returns-in-Ok-Judged : goal.returns-in-Ok-Judged
 returns-in-Ok-Judged g c choice text events answers =
-    let is = subst (Answers choice text events) (c.in-Ok-Judged.is) answers in
+    let is = subst (λ answered. Answers choice text events (Ok answered)) c.in-Ok-Judged.field-0-is
+    (subst (Answers choice text events) c.in-Ok-Judged.is answers) in
     judged choice text events _ _ _ _ _ _ c.print_pairs.result is.0 is.2 c.print_pairs.ensures
 
 pub returns-in-Err : goal.returns-in-Err
