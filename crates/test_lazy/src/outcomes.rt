@@ -227,20 +227,6 @@ fn lost_update(rt: HostRuntime) {
     passes(&rt, first_wrong(rt.alloc(), LOST_UPDATE));
 }
 
-const MANY_VALUES: &[Row] = &[Row {
-    name: "many_values",
-    text: b"words 1024; locks 0; while i < 300 { [me * 300 + i] = i + me; i = i + 1; } barrier; x = [299]; y = [599]; print x; print y;",
-    nodes: 3,
-    outcomes: &[
-        b"node 0 prints 299 / node 0 prints 300 / node 0 ended / node 1 prints 299 / node 1 prints 300 / node 1 ended / node 2 prints 299 / node 2 prints 300 / node 2 ended",
-    ],
-}];
-
-#[test]
-fn many_values(rt: HostRuntime) {
-    passes(&rt, first_wrong(rt.alloc(), MANY_VALUES));
-}
-
 const MESSAGE_LATE: &[Row] = &[Row {
     name: "message_late",
     text: b"words 2; locks 1; if me == 0 { acquire 0; [1] = 1; release 0; [0] = 7; } else { acquire 0; f = [1]; release 0; x = [0]; print f; print x; }",
