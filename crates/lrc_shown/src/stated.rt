@@ -50,7 +50,7 @@ pub(crate) fn stated(
         options: options_of(&setting_of(options)),
         events: &run.events,
     };
-    match states_parts(alloc, told, range_of(part)) {
+    match states_parts(alloc, &told, range_of(part)) {
         Ok(parts) => Ok(parts),
         Err(StatesFault::TooLong) => Err(Fault::TooManyTurns),
         Err(StatesFault::NoMemory) => Err(Fault::NoMemory),
@@ -131,7 +131,7 @@ struct Besides {
     reasons: Vec<u8>,
 }
 
-fn besides(
+fn tell_besides(
     alloc: Global,
     part: Part,
     text: &[u8],
@@ -178,7 +178,7 @@ pub(crate) fn stepped(
     ensures err { IfErr result (IsStatesFault part text.now program.now options.now run.now) }
 {
     let states = stated(alloc, part, text, program, options, run)?;
-    let told = besides(alloc, part, text, program, options, run)?;
+    let told = tell_besides(alloc, part, text, program, options, run)?;
     let name = name_of(alloc, options.file.as_bytes())?;
     let document = step_document(
         alloc,

@@ -17,6 +17,7 @@ use crate::player::Player;
 use crate::start::events_skipped;
 use crate::told::{Range, Told};
 use lrc_exec::code::Code;
+use lrc_labels::label::Label;
 use lrc_labels::read_labels;
 use lrc_lang::lines::lines_of;
 use lrc_private::names_of;
@@ -44,17 +45,32 @@ pub fn states_parts(
     let lines = lines_of(alloc, told.text)?;
     let names = names_of(alloc, told.text)?;
     let labels = read_labels(alloc, told.text, told.program.words(), told.program.locks())?;
+    parts_of(alloc, told, range, &code, &lines, &names, &labels.said)
+}
+
+// The same, where the program's code, the lines of its statements, its private names and its labels are known.
+fn parts_of(
+    alloc: Global,
+    told: &Told<'_>,
+    range: Range,
+    code: &Code<'_>,
+    lines: &[u32],
+    names: &[&[u8]],
+    labels: &[Label<'_>],
+) -> Result<Vec<Vec<u8>>, StatesFault>
+    requires few { told.now.nodes ≤ 16 }
+{
     let plan = Plan {
-        code: &code,
+        code,
         nodes: told.nodes,
-        lines: &lines,
-        names: &names,
+        lines,
+        names,
     };
-    let skipped = events_skipped(alloc, &code, told, range.from)?;
+    let skipped = events_skipped(alloc, code, told, range.from)?;
     let mut player = Player::start(alloc, plan, &told.options)?;
     player.pass_all(&told.events[..skipped])?;
     let mut parts = Vec::new(alloc);
-    parts.push(player.first_line(told.options.size, &labels.said)?)?;
+    parts.push(player.first_line(told.options.size, labels)?)?;
     player.tell_all(&told.events[skipped..], range.to, &mut parts)?;
     Ok(parts)
 }
