@@ -3,6 +3,7 @@
 ghost use Rattle.std.specs.Prelude.{◌≡◌, ◌<◌, All, IfErr, IfOk, length};
 ghost use Rattle.lrc_answer.specs.Texts.{IsTextOf};
 ghost use Rattle.lrc_answer.specs.declared.fault.Fault.TheVariants.{TooManyTurns};
+ghost use Rattle.lrc_judge.specs.Order.{IsOrderOf};
 ghost use Rattle.lrc_shown.specs.Explained.{IsExplained};
 ghost use Rattle.lrc_shown.specs.Runs.{IsRunWith};
 ghost use Rattle.lrc_shown.specs.Stated.{IsStated, IsStatesFault, IsStepped, acts_shown, end_shown, first_shown, name_of, range_of};
@@ -123,43 +124,76 @@ fn joined(alloc: Global, parts: &[Vec<u8>]) -> Result<Vec<u8>, AllocError>
     Ok(text)
 }
 
-// What the document tells of a run besides its turns: the run with reasons, its races, and why acts are as they are.
-#[derive(Drop)]
-struct Besides {
-    explained: Vec<u8>,
-    races: Vec<u8>,
-    reasons: Vec<u8>,
+// The text of a run with reasons.
+fn explained_text(
+    alloc: Global,
+    text: &[u8],
+    program: &Program,
+    options: &RunOptions<'_>,
+    run: &Run,
+) -> Result<Vec<u8>, AllocError>
+    requires text { IsTextOf text.now program.now }
+    requires ran { (keep : AnyKeep) × IsRunWith program.now options.now keep run.now }
+    ensures { IfOk result (λ told. IsExplained text.now program.now options.now run.now.report.acts.items
+        run.now.report.first_race told.items) }
+{
+    let acts = run.report.acts.as_slice();
+    let parts = explained(alloc, text, program, options, acts, run.report.first_race)?;
+    joined(alloc, &parts)
 }
 
-fn tell_besides(
+// The lines of a part of a run's races.
+fn races_text(
     alloc: Global,
     part: Part,
     text: &[u8],
     program: &Program,
     options: &RunOptions<'_>,
     run: &Run,
-) -> Result<Besides, AllocError>
+    order: &Order,
+) -> Result<Vec<u8>, AllocError>
     requires text { IsTextOf text.now program.now }
     requires ran { (keep : AnyKeep) × IsRunWith program.now options.now keep run.now }
-    ensures explained { IfOk result (λ told. IsExplained text.now program.now options.now run.now.report.acts.items
-        run.now.report.first_race told.explained.items) }
-    ensures races { IfOk result (λ told. (lines : List ℕ)
+    requires order { IsOrderOf run.now.report.acts.items order.now }
+    ensures { IfOk result (λ told. (lines : List ℕ)
         × AreLinesIn text.now program.now options.now.nodes.count run.now.report.acts.items lines
-        × TellsRaces run.now.report.acts.items lines (acts_shown part (length run.now.report.acts.items)) told.races.items) }
-    ensures reasons { IfOk result (λ told. TellsWhys text.now program.now options.now.nodes.count options.now.size
-        run.now.report.acts.items (acts_shown part (length run.now.report.acts.items)) told.reasons.items) }
+        × TellsRaces run.now.report.acts.items lines (acts_shown part (length run.now.report.acts.items)) told.items) }
+{
+    let acts = run.report.acts.as_slice();
+    let nodes = options.nodes.count as u8;
+    let lines = lines_in(alloc, text, program, nodes, acts)?;
+    races_part(alloc, acts, &lines, order, nodes, acts_shown(part, acts.len()))
+}
+
+// The lines of why the acts of a part of a run are as they are.
+fn reasons_text(
+    alloc: Global,
+    part: Part,
+    text: &[u8],
+    program: &Program,
+    options: &RunOptions<'_>,
+    run: &Run,
+    order: &Order,
+) -> Result<Vec<u8>, AllocError>
+    requires text { IsTextOf text.now program.now }
+    requires ran { (keep : AnyKeep) × IsRunWith program.now options.now keep run.now }
+    requires order { IsOrderOf run.now.report.acts.items order.now }
+    ensures { IfOk result (λ told. TellsWhys text.now program.now options.now.nodes.count options.now.size
+        run.now.report.acts.items (acts_shown part (length run.now.report.acts.items)) told.items) }
 {
     let acts = run.report.acts.as_slice();
     let nodes = options.nodes.count as u8;
     let shown = acts_shown(part, acts.len());
-    let order = happens_before(alloc, acts)?;
-    let lines = lines_in(alloc, text, program, nodes, acts)?;
-    let explained = explained(alloc, text, program, options, acts, run.report.first_race)?;
-    Ok(Besides {
-        explained: joined(alloc, &explained)?,
-        races: races_part(alloc, acts, &lines, &order, nodes, shown)?,
-        reasons: reasons_part(alloc, text, program, nodes, options.size, acts, &order, shown)?,
-    })
+    reasons_part(
+        alloc,
+        text,
+        program,
+        nodes,
+        options.size,
+        acts,
+        order,
+        shown,
+    )
 }
 
 /// The document that shows the turns of a part of a run.
@@ -178,16 +212,11 @@ pub(crate) fn stepped(
     ensures err { IfErr result (IsStatesFault part text.now program.now options.now run.now) }
 {
     let states = stated(alloc, part, text, program, options, run)?;
-    let told = tell_besides(alloc, part, text, program, options, run)?;
+    let explained = explained_text(alloc, text, program, options, run)?;
+    let order = happens_before(alloc, &run.report.acts)?;
+    let races = races_text(alloc, part, text, program, options, run, &order)?;
+    let reasons = reasons_text(alloc, part, text, program, options, run, &order)?;
     let name = name_of(alloc, options.file.as_bytes())?;
-    let document = step_document(
-        alloc,
-        &name,
-        text,
-        states,
-        &told.explained,
-        told.races,
-        told.reasons,
-    )?;
+    let document = step_document(alloc, &name, text, states, &explained, races, reasons)?;
     Ok(document)
 }

@@ -5,3 +5,4 @@ pub mod Telling
 pub mod Shown
 pub mod Starting
 pub mod Lines
+pub mod Whole

@@ -12,7 +12,11 @@ use Rattle.lrc_states.specs.declared.player.Player.{Player}
 use Rattle.lrc_replay.specs.Acts.{Plan}
 use Rattle.lrc_replay.specs.Courses.{IsCourse, plan_of}
 use Rattle.lrc_turn_objects.specs.Objects.{message_object, truth_text}
-use Rattle.lrc_states.specs.States.{turn_line, turn_lines}
+use Rattle.lrc_lang.specs.Lines.{HasLines}
+use Rattle.lrc_lang.specs.Tree.{program_of}
+use Rattle.lrc_labels.specs.Reading.{Label}
+use Rattle.lrc_private.specs.Spelling.{AreNamesOf}
+use Rattle.lrc_states.specs.States.{labels_in, Told, turn_line, turn_lines}
 use Rattle.lrc_text.specs.Parts.{whole_text}
 
 -- all stands as in this world, behind so many turns
@@ -55,3 +59,11 @@ was_taken (Some l) (Some envelope) = is_repeat l.node envelope
 -- the message that is taken, and whether it was taken before
 abbrev pub take_members : Option EnvelopeRecord → (again : Bool) → List ℕ
 take_members message again = codes ",\"take\":" ++ message_or_null message ++ codes ",\"again\":" ++ truth_text again
+
+-- the plan and the labels are those of what the lines are told of
+pub record IsSetting (told : Told) (plan : Plan) (labels : List Label) : Type 0 where
+  pub program_is : plan.program ≡ told.program
+  pub nodes_are : plan.nodes ≡ told.nodes
+  pub lines_are : HasLines told.text (program_of told.program) plan.lines
+  pub names_are : AreNamesOf told.text plan.names
+  pub labels_are : labels ≡ labels_in told

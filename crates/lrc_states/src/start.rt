@@ -26,7 +26,8 @@ fn events_before(
     position: u64,
 ) -> Result<usize, AllocError>
     requires few { told.now.nodes ≤ 16 }
-    ensures { (made : World) → run_of code.now told.now.nodes told.now.options told.now.events.now ≡ Some made
+    ensures within { IfOk result (λ count. count ≤ length told.now.events.now) }
+    ensures start { (made : World) → run_of code.now told.now.nodes told.now.options told.now.events.now ≡ Some made
         → IfOk result (IsStart code.now told.now.nodes told.now.options (Some position) told.now.events.now) }
 {
     let mut replay = Replay::start(alloc, code, told.nodes, &told.options)?;
@@ -53,7 +54,8 @@ pub(crate) fn events_skipped(
     from: Option<u64>,
 ) -> Result<usize, AllocError>
     requires few { told.now.nodes ≤ 16 }
-    ensures { (made : World) → run_of code.now told.now.nodes told.now.options told.now.events.now ≡ Some made
+    ensures within { IfOk result (λ count. count ≤ length told.now.events.now) }
+    ensures start { (made : World) → run_of code.now told.now.nodes told.now.options told.now.events.now ≡ Some made
         → IfOk result (IsStart code.now told.now.nodes told.now.options from told.now.events.now) }
 {
     match from {

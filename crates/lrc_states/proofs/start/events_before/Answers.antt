@@ -12,8 +12,8 @@ loop-place-preserved-in_default c made goes =
     c.loop-place.replay c.make.new.self c.loop-place-test.true goes (c.loop-place.invariant made goes) none
     (λ now next is on. c.in_ok-turn.ensures now next is on)
 
-pub returns-then-left-acts : goal.returns-then-left-acts
-returns-then-left-acts c made goes =
+pub returns-then-left-acts-clause-start : goal.returns-then-left-acts-clause-start
+returns-then-left-acts-clause-start c made goes =
     let told = c.args.told.now in
     let turn = c.in-Some.turn in
     let acts : c.acts_of-acts.result ≡ length (option_to_list turn.act) = search rules in
@@ -33,8 +33,8 @@ loop-place-preserved c made goes =
     (c.loop-place.invariant made goes) c.in-Some.is (λ now next is on. c.in_ok-turn.ensures now next is on)
     c.in_ok-post.ensures.nodes (c.in_ok-post.ensures.flight ∙ ap (λ l. c.make.new.self.flight.items ++ l) out) acts (omega (arith, c.if-left-acts.false))
 
-pub returns : goal.returns
-returns c made goes =
+pub returns-clause-start : goal.returns-clause-start
+returns-clause-start c made goes =
     let told = c.args.told.now in
     passed c.args.code.now told.nodes told.options told.events.now made goes c.loop-place.place c.args.position c.loop-place.left
     c.loop-place.replay (c.loop-place.invariant made goes) c.loop-place-test.false
