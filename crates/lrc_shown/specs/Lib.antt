@@ -4,5 +4,3 @@ pub mod Reasoned
 pub mod Runs
 pub mod Showing
 pub mod Shown
-pub mod Explained
-pub mod Stated

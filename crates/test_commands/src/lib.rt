@@ -13,8 +13,6 @@ mod large;
 #[cfg(test)]
 mod progress;
 #[cfg(test)]
-mod refused;
-#[cfg(test)]
 mod shell;
 #[cfg(test)]
 mod threads;

@@ -1,3 +1,0 @@
-pub mod Names
-pub mod States
-pub mod Players
