@@ -1,2 +1,2 @@
 pub mod Stepping
-mod Mattering
+pub mod Mattering

@@ -11,7 +11,6 @@ use Rattle.lrc_explore.specs.Stuck.{GetsStuck, IsStuck}
 use Rattle.lrc_explore.specs.Verdict.{EndsInRace, NeverStuck}
 use Rattle.lrc_explore.proofs.Searching.{copy_same}
 use Rattle.lrc_explore.proofs.Ways.{noted_copy}
-use Rattle.lrc_settled.proofs.GoingOn.{back}
 use Rattle.lrc_settled.proofs.Settled.{ends_in_race}
 use Rattle.lrc_breadth.specs.declared.task.Task.{Task}
 use Rattle.lrc_breadth.specs.declared.task.Found.{Found}
@@ -19,14 +18,14 @@ use Rattle.lrc_breadth.specs.declared.task.End.TheVariants.{Meeting, Through}
 use Rattle.lrc_breadth.specs.Answers.{IsEnd, IsFault, IsFaultOf, looked_at}
 use Rattle.lrc_breadth.specs.Reached.{AreFound, HasStart, IsTask}
 use Rattle.lrc_breadth.specs.Told.{LeadTo}
-use Rattle.lrc_breadth.proofs.Alike.{meet_alike}
+use Rattle.lrc_live.proofs.Like.{like_back, meet_like}
 use Rattle.lrc_breadth.proofs.Reaching.{gets_stuck, never_stuck, no_race}
 
 pub race_answer : (task : Task) (found : Found) (place p q : ℕ) (acts : List Act) (order : List ℕ) → LeadTo task found place acts
     → IsEnd task found (Meeting place p q) → order ≡ nodes_of_acts acts ++ p ∷ q ∷ [] → EndsInRace task.program.now task.flat.nodes order
 race_answer task found place p q acts order led end is =
     let same = copy_same task.flat end.0.state led.key.state (noted_copy found.states place end.0 led.key end.1 led.there).state in
-    let meet = meet_alike (back led.alike) p q (subst (λ m. Meet m p q) same end.2) in
+    let meet = meet_like (like_back led.alike) p q (subst (λ m. Meet m p q) same end.2) in
     subst (EndsInRace task.program.now task.flat.nodes) (sym is) (ends_in_race task.program.now task.flat.nodes acts led.machine p q led.led meet)
 
 pub stuck_answer : (task : Task) (found : Found) (place : ℕ) (acts : List Act) (order : List ℕ) → AreFound task found → HasStart task found.states

@@ -17,14 +17,14 @@ use Rattle.lrc_explore.specs.Stuck.{IsAtRest}
 use Rattle.lrc_explore.proofs.KeptAlike.{both_true, nat_itself}
 use Rattle.lrc_explore.proofs.Searching.{copy_same}
 use Rattle.lrc_explore.proofs.Ways.{noted_copy, noted_within}
-use Rattle.lrc_settled.proofs.GoingOn.{back, state_fine}
+use Rattle.lrc_settled.proofs.GoingOn.{state_fine}
 use Rattle.lrc_settled.proofs.Settled.{outcomes, state_run}
 use Rattle.lrc_breadth.specs.declared.task.Task.{Task}
 use Rattle.lrc_breadth.specs.declared.task.Found.{Found}
 use Rattle.lrc_breadth.specs.Ended.{AreAllFound, HasNoEndBefore, IsEndAt, IsRunWith}
 use Rattle.lrc_breadth.specs.Reached.{AreExpanded, AreFound, HasStart}
 use Rattle.lrc_breadth.specs.Told.{LeadTo}
-use Rattle.lrc_breadth.proofs.Alike.{rest_alike}
+use Rattle.lrc_live.proofs.Like.{like_back, rest_like}
 use Rattle.lrc_breadth.proofs.Reaching.{all_reached, fine_key}
 
 -- ---- acts are equal to themselves
@@ -66,8 +66,8 @@ run_to task found notes place acts noting f is led =
     record {
       machine = led.machine;
       led = state_run led.led;
-      still = rest_alike (plain_at task.flat led.key.state) led.machine (fine_key task led.key (f.reached.each place led.key led.there))
-          (state_fine led.led) (back led.alike) still;
+      still = rest_like (plain_at task.flat led.key.state) led.machine (fine_key task led.key (f.reached.each place led.key led.there))
+          (state_fine led.led) (like_back led.alike) still;
       are = led.noted noting ∙ sym copy.notes ∙ is.are;
     }
 
@@ -78,7 +78,7 @@ no_outcome task found notes noting a none is =
     let o = (outcomes task.program.now task.flat.nodes notes).0 is in
     let has = all_reached task found.states a.are.reached a.start a.expanded o.led in
     let key = has.key in
-    let still = rest_alike o.machine (plain_at task.flat key.state) (state_fine o.led) (fine_key task key (a.are.reached.each has.place key has.there))
+    let still = rest_like o.machine (plain_at task.flat key.state) (state_fine o.led) (fine_key task key (a.are.reached.each has.place key has.there))
     has.alike o.still in
     none has.place (noted_within found.states has.place key has.there)
     (record { key = key; there = has.there; still = still; are = has.noted noting ∙ o.are })

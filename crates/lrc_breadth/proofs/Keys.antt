@@ -19,19 +19,19 @@ use Rattle.lrc_explore.proofs.Searching.{copy_same, copy_state}
 use Rattle.lrc_explore.proofs.Standing.{step_within}
 use Rattle.lrc_explore.proofs.Stores.{added_all, full_more}
 use Rattle.lrc_explore.proofs.Ways.{IsNotedCopy, noted_grows, noted_store, noted_within, widens_further}
-use Rattle.lrc_settled.specs.Rows.{AreAlike}
 use Rattle.lrc_settled.specs.Steps.{beginning}
-use Rattle.lrc_settled.proofs.GoingOn.{back}
 use Rattle.lrc_settled.proofs.Rounds.{one_settling}
 use Rattle.lrc_steps.specs.declared.step.Step.{Step}
 use Rattle.lrc_steps.specs.declared.step.Step.TheVariants.{Alone, Together}
-use Rattle.lrc_steps.specs.Taking.{count_of, IsCounted, Takes, TakesTo, alone}
+use Rattle.lrc_steps.specs.Taking.{count_of, IsCounted, Takes, alone}
 use Rattle.lrc_breadth.specs.declared.task.Task.{Task}
 use Rattle.lrc_breadth.specs.declared.task.Origin.{Origin}
 use Rattle.lrc_breadth.specs.declared.task.Found.{Found}
 use Rattle.lrc_breadth.specs.Reached.{AreFound, CannotTake, ComesFrom, HasAfter, HasReached, HasStart, HasTakenTo, IsExpanded, IsFirstKey, IsFound}
 use Rattle.lrc_breadth.specs.Reached.{IsFrom, IsKept, IsKeyOf, IsMore, IsReached, SettlesStart, noted_on}
-use Rattle.lrc_breadth.proofs.Alike.{alike_on, alike_same, takes_once}
+use Rattle.lrc_live.specs.Like.{AreLike, TakesLike}
+use Rattle.lrc_live.proofs.Alike.{takes_once}
+use Rattle.lrc_live.proofs.Like.{like_alike, like_back, like_is, like_on, like_same}
 use Rattle.lrc_breadth.proofs.Reaching.{Further, further, notes_on, notes_start}
 
 -- one act more
@@ -58,17 +58,17 @@ reached_copy task copy key c r = record {
   acts = r.acts;
   machine = r.machine;
   led = r.led;
-  alike = alike_same r.alike (sym (copy_same task.flat copy.state key.state c.state));
+  alike = like_is r.alike (sym (copy_same task.flat copy.state key.state c.state));
   noted = λ e. r.noted e ∙ sym c.notes;
   bare = λ e. c.notes ∙ r.bare e;
 }
 
 takes_copy : (task : Task) (from : Plain) (step : Step) (acts : List Act) (copy key : Noted) → IsNotedCopy copy key
-    → TakesTo from step acts (plain_at task.flat key.state) → TakesTo from step acts (plain_at task.flat copy.state)
+    → TakesLike from step acts (plain_at task.flat key.state) → TakesLike from step acts (plain_at task.flat copy.state)
 takes_copy task from step acts copy key c t = record {
   there = t.there;
   takes = t.takes;
-  alike = alike_same t.alike (sym (copy_same task.flat copy.state key.state c.state));
+  alike = like_is t.alike (sym (copy_same task.flat copy.state key.state c.state));
 }
 
 from_copy : (task : Task) (all : NotedStates) (origin : Origin) (copy key : Noted) → IsNotedCopy copy key → IsFrom task all origin key
@@ -93,7 +93,7 @@ from_grown task old new origin key w f = record {
 
 first_copy : (task : Task) (copy key : Noted) → IsNotedCopy copy key → IsFirstKey task key → IsFirstKey task copy
 first_copy task copy key c f =
-    (f.0, f.1, f.2, alike_same f.3 (sym (copy_same task.flat copy.state key.state c.state)), λ e. c.notes ∙ f.4 e)
+    (f.0, f.1, f.2, like_is f.3 (sym (copy_same task.flat copy.state key.state c.state)), λ e. c.notes ∙ f.4 e)
 
 -- ---- what was found
 
@@ -193,13 +193,13 @@ module _ (task : Task) (state : State) (acts : List Act) (key : Noted) (s : Sett
     acts = s.acts;
     machine = s.settles.there;
     led = beginning s.acts s.settles.there s.settles.settles;
-    alike = alike_on s.settles.alike (back k.alike);
+    alike = like_on (like_alike s.settles.alike) (like_back k.alike);
     noted = start_noted;
     bare = k.bare;
   }
 
   pub start_first : IsFirstKey task key
-  start_first = (s.acts, s.settles.there, s.settles.settles, alike_on s.settles.alike (back k.alike), λ e. sym (start_noted e))
+  start_first = (s.acts, s.settles.there, s.settles.settles, like_on (like_alike s.settles.alike) (like_back k.alike), λ e. sym (start_noted e))
 
   pub has_start : (all : NotedStates) → IsKept all key → HasStart task all
   has_start all kept others machine settles =
@@ -208,8 +208,7 @@ module _ (task : Task) (state : State) (acts : List Act) (key : Noted) (s : Sett
         place = kept.0;
         key = key;
         there = kept.1;
-        alike = alike_on (subst (λ m. AreAlike machine m) one.1 (record { memory = refl; holders = refl; threads = refl }))
-            (alike_on s.settles.alike (back k.alike));
+        alike = like_on (subst (λ m. AreLike machine m) one.1 (like_same machine)) (like_on (like_alike s.settles.alike) (like_back k.alike));
         noted = λ e. sym (start_noted e) ∙ ap (notes_of task.flat.nodes) (sym one.0);
       }
 
@@ -230,15 +229,15 @@ module _ (task : Task) (before : Noted) (step : Step) (acts : List Act) (state :
     acts = r.acts ++ t.acts;
     machine = on.machine;
     led = on.led;
-    alike = alike_on on.alike (back k.alike);
+    alike = like_on on.alike (like_back k.alike);
     noted = λ e.
         notes_on task.program.now task.flat.nodes r.acts t.acts on.machine on.led
         ∙ ap (λ n. noted_on n t.acts) (r.noted e) ∙ ap (noted_on before.notes.items) same ∙ sym (k.noted e);
     bare = k.bare;
   }
 
-  pub next_takes : TakesTo (plain_at task.flat before.state) step t.acts (plain_at task.flat key.state)
-  next_takes = record { there = t.takes.there; takes = t.takes.takes; alike = alike_on t.takes.alike (back k.alike) }
+  pub next_takes : TakesLike (plain_at task.flat before.state) step t.acts (plain_at task.flat key.state)
+  next_takes = record { there = t.takes.there; takes = t.takes.takes; alike = like_on (like_alike t.takes.alike) (like_back k.alike) }
 
   pub next_from : (found : Found) (place : ℕ) (origin : Origin) → origin ≡ record { parent = place; step = step } → IsNotedAt found.states place before
       → ComesFrom task found origin key
@@ -259,8 +258,7 @@ module _ (task : Task) (before : Noted) (step : Step) (acts : List Act) (state :
         place = kept.0;
         key = key;
         there = kept.1;
-        alike = alike_on (subst (λ m. AreAlike after m) one.1 (record { memory = refl; holders = refl; threads = refl }))
-            (alike_on t.takes.alike (back k.alike));
+        alike = like_on (subst (λ m. AreLike after m) one.1 (like_same after)) (like_on (like_alike t.takes.alike) (like_back k.alike));
         noted = λ e. k.noted e ∙ ap (noted_on before.notes.items) (sym (one.0 ∙ same));
       }
 

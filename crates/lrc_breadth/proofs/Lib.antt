@@ -1,4 +1,3 @@
-pub mod Alike
 pub mod Reaching
 pub mod Keys
 pub mod Seeking

@@ -19,10 +19,9 @@ use Rattle.lrc_explore.proofs.Counting.{step_threads}
 use Rattle.lrc_explore.proofs.Noting.{notes_more}
 use Rattle.lrc_explore.proofs.Standing.{step_within}
 use Rattle.lrc_explore.proofs.Ways.{noted_within}
-use Rattle.lrc_settled.specs.Rows.{AreAlike}
 use Rattle.lrc_settled.specs.Settling.{IsSettled}
 use Rattle.lrc_settled.specs.Steps.{IsSettledState, beginning, onward}
-use Rattle.lrc_settled.proofs.GoingOn.{back, state_fine}
+use Rattle.lrc_settled.proofs.GoingOn.{state_fine}
 use Rattle.lrc_settled.proofs.Held.{threads_at_start}
 use Rattle.lrc_settled.proofs.Onward.{Fine}
 use Rattle.lrc_settled.proofs.Settled.{state_run, state_settled, races, stuck}
@@ -30,13 +29,15 @@ use Rattle.lrc_steps.specs.declared.step.Step.{Step}
 use Rattle.lrc_steps.specs.Taking.{TakesTo}
 use Rattle.lrc_breadth.specs.declared.task.Task.{Task}
 use Rattle.lrc_breadth.specs.Reached.{AreCalm, AreExpanded, AreNowhereStuck, AreReached, HasReached, HasStart, IsReached, noted_on}
-use Rattle.lrc_breadth.proofs.Alike.{alike_on, fine_counted, meet_alike, settled_alike, stuck_alike, takes_alike, takes_leads, leads_takes}
+use Rattle.lrc_live.specs.Like.{AreLike}
+use Rattle.lrc_live.proofs.Alike.{takes_leads, leads_takes}
+use Rattle.lrc_live.proofs.Like.{fine_counted, like_alike, like_back, like_on, meet_like, settled_like, stuck_like, takes_like}
 
 pub fine_key : (task : Task) (key : Noted) → IsReached task key → Fine (plain_at task.flat key.state)
 fine_key task key r = fine_counted task.flat key.state r.valid r.counted r.machine (state_fine r.led).held r.alike
 
 pub settled_key : (task : Task) (key : Noted) → IsReached task key → IsSettled (plain_at task.flat key.state)
-settled_key task key r = settled_alike r.alike (state_settled r.led)
+settled_key task key r = settled_like r.alike (state_settled r.led)
 
 -- ---- notes of more acts
 
@@ -101,18 +102,18 @@ module _ (program : Program) (nodes : ℕ) where
 pub record Further (task : Task) (acts : List Act) (like : Plain) : Type 0 where
   pub machine : Plain
   pub led : IsSettledState task.program.now task.flat.nodes acts machine
-  pub alike : AreAlike machine like
+  pub alike : AreLike machine like
 
 -- a step from what is kept leads the program on
 pub further : (task : Task) (key : Noted) → IsReached task key → (first : List Act) (machine : Plain)
-    → IsSettledState task.program.now task.flat.nodes first machine → AreAlike machine (plain_at task.flat key.state) → (step : Step) (acts : List Act)
+    → IsSettledState task.program.now task.flat.nodes first machine → AreLike machine (plain_at task.flat key.state) → (step : Step) (acts : List Act)
     (like : Plain) → TakesTo (plain_at task.flat key.state) step acts like → Further task (first ++ acts) like
 further task key r first machine led a step acts like t =
-    let on = takes_alike t.takes (fine_key task key r) machine (state_fine led) (back a) in
+    let on = takes_like t.takes (fine_key task key r) machine (state_fine led) (like_back a) in
     record {
       machine = on.there;
       led = onward first acts machine on.there led (takes_leads on.takes);
-      alike = alike_on (back on.alike) t.alike;
+      alike = like_on on.alike (like_alike t.alike);
     }
 
 -- ---- where all states are expanded
@@ -126,13 +127,13 @@ module _ (task : Task) (all : NotedStates) (reached : AreReached task all) (star
       let key = has.key in
       let r = reached.each has.place key has.there in
       let st = leads_takes leads in
-      let on = takes_alike st.1 (state_fine state) (plain_at task.flat key.state) (fine_key task key r) has.alike in
+      let on = takes_like st.1 (state_fine state) (plain_at task.flat key.state) (fine_key task key r) has.alike in
       let next = expanded has.place (noted_within all has.place key has.there) key has.there st.0 more on.there on.takes in
       record {
         place = next.place;
         key = next.key;
         there = next.there;
-        alike = alike_on on.alike next.alike;
+        alike = like_on (like_back on.alike) next.alike;
         noted = λ e.
             next.noted e ∙ ap (λ n. noted_on n more) (has.noted e)
             ∙ sym (notes_on task.program.now task.flat.nodes acts more after (onward acts more before after state leads));
@@ -141,23 +142,23 @@ module _ (task : Task) (all : NotedStates) (reached : AreReached task all) (star
   pub no_race : AreCalm task all (noted_count all) → HasNoRace task.program.now task.flat.nodes
   no_race calm = (races task.program.now task.flat.nodes).1 (λ acts machine state p q meet.
       let has = all_reached state in
-      calm has.place has.key (noted_within all has.place has.key has.there) has.there p q (meet_alike has.alike p q meet))
+      calm has.place has.key (noted_within all has.place has.key has.there) has.there p q (meet_like has.alike p q meet))
 
   pub never_stuck : AreNowhereStuck task all (noted_count all) → NeverStuck task.program.now task.flat.nodes
   never_stuck nowhere = λ order gets.
       let s = (stuck task.program.now task.flat.nodes).0 (order, gets) in
       let has = all_reached s.led in
       nowhere has.place has.key (noted_within all has.place has.key has.there) has.there
-      (stuck_alike s.machine (plain_at task.flat has.key.state) (state_fine s.led) (fine_key task has.key (reached.each has.place has.key has.there)) has.alike
+      (stuck_like s.machine (plain_at task.flat has.key.state) (state_fine s.led) (fine_key task has.key (reached.each has.place has.key has.there)) has.alike
       s.stuck)
 
 -- an order that gets stuck
 pub gets_stuck : (task : Task) (key : Noted) → IsReached task key → (acts : List Act) (machine : Plain)
-    → IsSettledState task.program.now task.flat.nodes acts machine → AreAlike machine (plain_at task.flat key.state)
+    → IsSettledState task.program.now task.flat.nodes acts machine → AreLike machine (plain_at task.flat key.state)
     → IsStuck (plain_at task.flat key.state) → GetsStuck task.program.now task.flat.nodes (nodes_of_acts acts)
 gets_stuck task key r acts machine led a is = record {
   acts = acts;
   machine = machine;
   led = state_run led;
-  stuck = stuck_alike (plain_at task.flat key.state) machine (fine_key task key r) (state_fine led) (back a) is;
+  stuck = stuck_like (plain_at task.flat key.state) machine (fine_key task key r) (state_fine led) (like_back a) is;
 }

@@ -24,13 +24,13 @@ use Rattle.lrc_explore.specs.declared.search.ExploreFault.TheVariants.{BadNodes,
 use Rattle.lrc_exec.specs.Plain.{plain_start, thread_in}
 use Rattle.lrc_search.specs.Settling.{MakesFree}
 use Rattle.lrc_settled.specs.Steps.{IsSettledOutcome}
-use Rattle.lrc_settled.proofs.GoingOn.{back, state_fine}
+use Rattle.lrc_settled.proofs.GoingOn.{state_fine}
 use Rattle.lrc_settled.proofs.Settled.{outcomes}
 use Rattle.lrc_breadth.specs.declared.task.Task.{Task}
 use Rattle.lrc_breadth.specs.declared.task.Found.{Found}
 use Rattle.lrc_breadth.specs.Reached.{AreCalm, AreExpanded, AreFound, AreNowhereStuck, AreReached, HasStart, IsExpanded, IsMore, IsReached, IsTask}
 use Rattle.lrc_breadth.specs.Answers.{AddsOnly, AreGathered, AreSound, HasMoreSettled, IsFault, IsLongFault, starts_long, settles_long, has_more, IsGathered, IsGatheredAt, IsSeen, IsStuckFirst}
-use Rattle.lrc_breadth.proofs.Alike.{rest_alike}
+use Rattle.lrc_live.proofs.Like.{like_back, rest_like}
 use Rattle.lrc_breadth.proofs.Keys.{expanded_copy, expanded_grown, more_again, more_same}
 use Rattle.lrc_breadth.proofs.Reaching.{all_reached, fine_key}
 
@@ -194,7 +194,7 @@ sound_on task old new key sound adds r still k outcome at noting = elim (adds k 
     acts = r.acts;
     machine = r.machine;
     led = r.led;
-    still = rest_alike (plain_at task.flat key.state) r.machine (fine_key task key r) (state_fine r.led) (back r.alike) still;
+    still = rest_like (plain_at task.flat key.state) r.machine (fine_key task key r) (state_fine r.led) (like_back r.alike) still;
     are = r.noted noting ∙ sym same;
   }
 ]
@@ -209,7 +209,7 @@ exact task all found reached start sound done noting notes =
           let o = law.0 is in
           let has = all_reached task all reached start (λ k lt key at. (done k lt key at).expanded) o.led in
           let key = has.key in
-          let still = rest_alike o.machine (plain_at task.flat key.state) (state_fine o.led) (fine_key task key (reached.each has.place key has.there))
+          let still = rest_like o.machine (plain_at task.flat key.state) (state_fine o.led) (fine_key task key (reached.each has.place key has.there))
           has.alike o.still in
           let h = (done has.place (noted_within all has.place key has.there) key has.there).gathered still in
           record { place = h.place; outcome = h.outcome; there = h.there; same = h.same ∙ has.noted noting ∙ o.are },

@@ -11,17 +11,16 @@ use Rattle.lrc_explore.specs.Notes.{notes_of}
 use Rattle.lrc_explore.specs.States.{plain_at}
 use Rattle.lrc_explore.proofs.Searching.{copy_same}
 use Rattle.lrc_explore.proofs.Ways.{IsNotedCopy, noted_copy}
-use Rattle.lrc_settled.specs.Rows.{AreAlike}
 use Rattle.lrc_settled.specs.Steps.{beginning, IsSettledState}
-use Rattle.lrc_settled.proofs.GoingOn.{back}
 use Rattle.lrc_settled.proofs.Rounds.{one_settling}
-use Rattle.lrc_steps.specs.Taking.{TakesTo}
 use Rattle.lrc_breadth.specs.declared.task.Task.{Task}
 use Rattle.lrc_breadth.specs.declared.task.Origin.{Origin}
 use Rattle.lrc_breadth.specs.declared.task.Found.{Found}
 use Rattle.lrc_breadth.specs.Reached.{AreFound, CannotTake, HasTakenTo, IsFound, SettlesStart, noted_on}
 use Rattle.lrc_breadth.specs.Told.{Comes, here, on, IsParentLed, LeadTo}
-use Rattle.lrc_breadth.proofs.Alike.{alike_on, alike_same, takes_once}
+use Rattle.lrc_live.specs.Like.{AreLike, TakesLike}
+use Rattle.lrc_live.proofs.Alike.{takes_once}
+use Rattle.lrc_live.proofs.Like.{like_alike, like_back, like_is, like_on}
 use Rattle.lrc_breadth.proofs.Reaching.{further, notes_on}
 
 -- the first state
@@ -36,7 +35,7 @@ led_first task found place acts state f lt s =
       led = subst (λ l. IsSettledState task.program.now task.flat.nodes l s.settles.there) (sym s.made) (beginning s.acts s.settles.there s.settles.settles);
       key = at.0;
       there = at.1;
-      alike = subst (λ m. AreAlike m (plain_at task.flat at.0.state)) (sym one.1) first.3;
+      alike = subst (λ m. AreLike m (plain_at task.flat at.0.state)) (sym one.1) first.3;
       noted = λ e. ap (notes_of task.flat.nodes) (s.made ∙ one.0) ∙ sym (first.4 e);
     }
 
@@ -61,10 +60,10 @@ module _ (task : Task) (found : Found) (place : ℕ) (origin : Origin) (key : No
   before_is : plain_at task.flat was.from.before.state ≡ plain_at task.flat key.state
   before_is = copy_same task.flat was.from.before.state key.state before_copy.state
 
-  takes_it : TakesTo (plain_at task.flat key.state) origin.step was.from.acts (plain_at task.flat here_is.0.state)
+  takes_it : TakesLike (plain_at task.flat key.state) origin.step was.from.acts (plain_at task.flat here_is.0.state)
   takes_it =
-      subst (λ (o : Origin). TakesTo (plain_at task.flat key.state) o.step was.from.acts (plain_at task.flat here_is.0.state)) same_origin
-      (subst (λ m. TakesTo m was.origin.step was.from.acts (plain_at task.flat here_is.0.state)) before_is was.from.takes)
+      subst (λ (o : Origin). TakesLike (plain_at task.flat key.state) o.step was.from.acts (plain_at task.flat here_is.0.state)) same_origin
+      (subst (λ m. TakesLike m was.origin.step was.from.acts (plain_at task.flat here_is.0.state)) before_is was.from.takes)
 
   pub led_on : (acts later_acts : List Act) (o : Option State) → LeadTo task found origin.parent acts
       → MatchOption o (CannotTake task key.state origin.step) (HasTakenTo task key.state origin.step acts later_acts) → LeadTo task found place later_acts
@@ -72,7 +71,7 @@ module _ (task : Task) (found : Found) (place : ℕ) (origin : Origin) (key : No
   led_on acts later_acts (Some state) led t =
       let r = f.reached.each origin.parent key there in
       let copy = noted_copy found.states origin.parent led.key key led.there there in
-      let alike : AreAlike led.machine (plain_at task.flat key.state) = alike_same led.alike (copy_same task.flat led.key.state key.state copy.state) in
+      let alike : AreLike led.machine (plain_at task.flat key.state) = like_is led.alike (copy_same task.flat led.key.state key.state copy.state) in
       let next = further task key r acts led.machine led.led alike origin.step t.acts (plain_at task.flat state) t.takes in
       let one = takes_once t.takes.takes takes_it.takes in
       record {
@@ -80,7 +79,7 @@ module _ (task : Task) (found : Found) (place : ℕ) (origin : Origin) (key : No
         led = subst (λ l. IsSettledState task.program.now task.flat.nodes l next.machine) (sym t.made) next.led;
         key = here_is.0;
         there = here_is.1;
-        alike = alike_on next.alike (alike_on (back t.takes.alike) (subst (λ m. AreAlike m (plain_at task.flat here_is.0.state)) (sym one.1) takes_it.alike));
+        alike = like_on next.alike (like_on (like_back (like_alike t.takes.alike)) (subst (λ m. AreLike m (plain_at task.flat here_is.0.state)) (sym one.1) takes_it.alike));
         noted = λ e.
             ap (notes_of task.flat.nodes) t.made
             ∙ notes_on task.program.now task.flat.nodes acts t.acts next.machine next.led

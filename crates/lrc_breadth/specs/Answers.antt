@@ -19,7 +19,6 @@ use Rattle.lrc_explore.specs.Notes.{notes_of}
 use Rattle.lrc_explore.specs.States.{plain_at}
 use Rattle.lrc_explore.specs.Stuck.{GetsStuck, IsAtRest, IsStuck}
 use Rattle.lrc_explore.specs.Verdict.{EndsInRace, NeverStuck}
-use Rattle.lrc_settled.specs.Rows.{AreAlike}
 use Rattle.lrc_settled.specs.Steps.{IsSettledOutcome, IsSettledState}
 use Rattle.lrc_steps.specs.Taking.{ComputesLong}
 use Rattle.lrc_breadth.specs.declared.task.Task.{Task}
@@ -31,6 +30,7 @@ use Rattle.lrc_breadth.specs.declared.task.Visit.TheVariants as visit
 use Rattle.lrc_explore.specs.declared.state.State.{State}
 use Rattle.lrc_explore.specs.declared.outcomes.Outcome.{Outcome}
 use Rattle.lrc_explore.specs.Outcome.{HasOutcome}
+use Rattle.lrc_live.specs.Like.{AreLike}
 use Rattle.lrc_breadth.specs.Reached.{AreCalm, AreExpanded, AreNowhereStuck, IsExpanded, IsReached, IsTask}
 
 -- so many free acts are looked at where there may be so many states
@@ -49,7 +49,7 @@ pub record SettlesLong (program : Program) (nodes most : ℕ) : Type 0 where
   pub machine : Plain
   pub led : IsSettledState program nodes acts machine
   pub like : Plain
-  pub alike : AreAlike machine like
+  pub alike : AreLike machine like
   pub long : ComputesLong like most
 
 -- more states than a bound, no two of them equal, each of which stands for a settled state of the program
@@ -64,14 +64,14 @@ pub record FitsSettled (program : Program) (nodes most : ℕ) : Type 0 where
   pub states : List Plain
   pub few : length states ≤ most
   pub all : (acts : List Act) (machine : Plain) → IsSettledState program nodes acts machine
-      → (like : Plain) × Contains states like × AreAlike machine like
+      → (like : Plain) × Contains states like × AreLike machine like
 
 -- so it is of each with the notes of the acts that lead to it
 pub record FitsSettledNoted (program : Program) (nodes most : ℕ) : Type 0 where
   pub states : List (Plain × List Act)
   pub few : length states ≤ most
   pub all : (acts : List Act) (machine : Plain) → IsSettledState program nodes acts machine
-      → (like : Plain) × Contains states (like, notes_of nodes acts) × AreAlike machine like
+      → (like : Plain) × Contains states (like, notes_of nodes acts) × AreLike machine like
 
 -- why a search gives up: some node makes as many free acts as it may look at, or it met too many states; or it had no memory
 pub data IsTooMany (task : Task) : Type 0 where

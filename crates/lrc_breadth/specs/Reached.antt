@@ -12,7 +12,6 @@ use Rattle.lrc_explore.specs.Kept.{Grows}
 use Rattle.lrc_explore.specs.Meeting.{IsCalm}
 use Rattle.lrc_explore.specs.States.{machine_begun, plain_at, IsStateOf}
 use Rattle.lrc_explore.specs.Stuck.{IsStuck}
-use Rattle.lrc_settled.specs.Rows.{AreAlike}
 use Rattle.lrc_settled.specs.Settling.{Settles}
 use Rattle.lrc_settled.specs.Steps.{IsSettledState}
 use Rattle.lrc_steps.specs.declared.step.Step.{Step}
@@ -20,28 +19,31 @@ use Rattle.lrc_steps.specs.Gone.{SettlesTo}
 use Rattle.lrc_steps.specs.Taking.{IsCounted, Takes, TakesTo}
 use Rattle.lrc_breadth.specs.declared.task.Task.{Task}
 use Rattle.lrc_breadth.specs.declared.task.Origin.{Origin}
+use Rattle.lrc_live.specs.Like.{AreLike, TakesLike}
+use Rattle.lrc_live.specs.Live.{AreLive}
 use Rattle.lrc_breadth.specs.declared.task.Found.{Found}
 
--- the code is the program's
+-- the code is the program's, and of each place of it the names are known that matter there
 pub record IsTask (task : Task) : Type 0 where
   pub flat : IsFlat task.flat
   pub placed : task.start ≤ length task.flat.code.now
   pub begun : machine_begun task.flat task.start ≡ plain_start task.program.now task.flat.nodes
+  pub live : AreLive task.flat.code.now task.live.items
 
 -- notes with several acts more
 abbrev pub noted_on : List Act → List Act → List Act
 noted_on notes [] = notes
 noted_on notes (act ∷ acts) = noted_on (notes_with notes act) acts
 
--- a settled state of the program stands behind what is kept: the same words, holders of locks and threads, and if notes are kept
--- the notes of the acts that lead there, and else none
+-- a settled state of the program stands behind what is kept: the same but for how often nodes have arrived and for private values that
+-- nothing depends on any more; and if notes are kept the notes of the acts that lead there, and else none
 pub record IsReached (task : Task) (key : Noted) : Type 0 where
   pub valid : IsStateOf task.flat key.state
   pub counted : IsCounted key.state
   pub acts : List Act
   pub machine : Plain
   pub led : IsSettledState task.program.now task.flat.nodes acts machine
-  pub alike : AreAlike machine (plain_at task.flat key.state)
+  pub alike : AreLike machine (plain_at task.flat key.state)
   pub noted : task.noting ≡ true → notes_of task.flat.nodes acts ≡ key.notes.items
   pub bare : task.noting ≡ false → key.notes.items ≡ []
 
@@ -56,7 +58,7 @@ pub record HasReached (task : Task) (all : NotedStates) (machine : Plain) (notes
   pub place : ℕ
   pub key : Noted
   pub there : IsNotedAt all place key
-  pub alike : AreAlike machine (plain_at task.flat key.state)
+  pub alike : AreLike machine (plain_at task.flat key.state)
   pub noted : task.noting ≡ true → key.notes.items ≡ notes
 
 -- the states have what this step leads to from one of them
@@ -85,7 +87,7 @@ pub record IsFrom (task : Task) (all : NotedStates) (origin : Origin) (key : Not
   pub before : Noted
   pub there : IsNotedAt all origin.parent before
   pub acts : List Act
-  pub takes : TakesTo (plain_at task.flat before.state) origin.step acts (plain_at task.flat key.state)
+  pub takes : TakesLike (plain_at task.flat before.state) origin.step acts (plain_at task.flat key.state)
   pub noted : task.noting ≡ true → key.notes.items ≡ noted_on before.notes.items acts
 
 -- how the state at this place was found
@@ -98,7 +100,7 @@ pub record IsFound (task : Task) (found : Found) (place : ℕ) (key : Noted) : T
 -- the first state is where the program's start settles, with the notes of the acts by which it does if notes are kept
 abbrev pub IsFirstKey : Task → Noted → Type 0
 IsFirstKey task key = (acts : List Act) × (machine : Plain) × Settles (plain_start task.program.now task.flat.nodes) acts machine
-    × AreAlike machine (plain_at task.flat key.state) × (task.noting ≡ true → key.notes.items ≡ notes_of task.flat.nodes acts)
+    × AreLike machine (plain_at task.flat key.state) × (task.noting ≡ true → key.notes.items ≡ notes_of task.flat.nodes acts)
 
 -- all that was found stands for settled states, and of each but the first it is known from where it was found
 pub record AreFound (task : Task) (found : Found) : Type 0 where
@@ -127,7 +129,7 @@ CannotTake task state step = (acts : List Act) (after : Plain) → ¬ Takes (pla
 pub record IsKeyOf (task : Task) (state : State) (notes acts : List Act) (key : Noted) : Type 0 where
   pub valid : IsStateOf task.flat key.state
   pub counted : IsCounted key.state
-  pub alike : AreAlike (plain_at task.flat key.state) (plain_at task.flat state)
+  pub alike : AreLike (plain_at task.flat key.state) (plain_at task.flat state)
   pub noted : task.noting ≡ true → key.notes.items ≡ noted_on notes acts
   pub bare : task.noting ≡ false → key.notes.items ≡ []
 

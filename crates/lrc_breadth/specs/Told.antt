@@ -6,10 +6,10 @@ use Rattle.lrc_explore.specs.declared.noted.Noted.{Noted}
 use Rattle.lrc_explore.specs.Noted.{IsNotedAt}
 use Rattle.lrc_explore.specs.Notes.{notes_of}
 use Rattle.lrc_explore.specs.States.{plain_at}
-use Rattle.lrc_settled.specs.Rows.{AreAlike}
 use Rattle.lrc_settled.specs.Steps.{IsSettledState}
 use Rattle.lrc_breadth.specs.declared.task.Task.{Task}
 use Rattle.lrc_breadth.specs.declared.task.Origin.{Origin}
+use Rattle.lrc_live.specs.Like.{AreLike}
 use Rattle.lrc_breadth.specs.declared.task.Found.{Found}
 
 -- by the states at these places, each found from the one before it, a way goes from one place to another
@@ -24,7 +24,7 @@ pub record LeadTo (task : Task) (found : Found) (place : ℕ) (acts : List Act) 
   pub led : IsSettledState task.program.now task.flat.nodes acts machine
   pub key : Noted
   pub there : IsNotedAt found.states place key
-  pub alike : AreAlike machine (plain_at task.flat key.state)
+  pub alike : AreLike machine (plain_at task.flat key.state)
   pub noted : task.noting ≡ true → notes_of task.flat.nodes acts ≡ key.notes.items
 
 -- they lead to the state from which that at a place was found

@@ -16,6 +16,7 @@ use lrc_exec::spot::Flat;
 use lrc_explore::outcomes::Outcome;
 use lrc_explore::search::{ExploreFault, Verdict};
 use lrc_lang::program::Program;
+use lrc_live::live_names;
 use lrc_trace::act::Act;
 use std::alloc::{AllocError, Global};
 
@@ -48,7 +49,7 @@ fn explore_code(
     ensures fits { IfOk result (λ verdict. FindsNoRace verdict → FitsSettled code.now nodes most) }
     ensures faults { IfErr result (IsFaultOf code.now nodes most) }
 {
-    let task = task_of(code, nodes, most, false);
+    let task = task_of(alloc, code, nodes, most, false)?;
     let mut found = Found::none(alloc);
     found.answer(alloc, &task)
 }
@@ -82,7 +83,7 @@ fn outcomes_of(
     ensures fits { IfOk result (λ _. FitsSettledNoted code.now nodes most) }
     ensures faults { IfErr result (IsFaultOf code.now nodes most) }
 {
-    let task = task_of(code, nodes, most, true);
+    let task = task_of(alloc, code, nodes, most, true)?;
     let mut found = Found::none(alloc);
     let mut outcomes = IndexSet::new(alloc);
     let all = found.all_outcomes(alloc, &task, &mut outcomes);
@@ -93,16 +94,22 @@ fn outcomes_of(
 }
 
 /// What is searched of a program's code.
-pub fn task_of<'c>(code: &'c Code<'c>, nodes: u8, most: usize, noting: bool) -> Task<'c>
-    ensures task { IsTask result }
-    ensures program { result.program.now ≡ code.now }
-    ensures nodes { result.flat.nodes ≡ nodes }
-    ensures most { result.most ≡ most }
-    ensures looked { result.looked ≡ looked_at most }
-    ensures noting { result.noting ≡ noting }
+pub fn task_of<'c>(
+    alloc: Global,
+    code: &'c Code<'c>,
+    nodes: u8,
+    most: usize,
+    noting: bool,
+) -> Result<Task<'c>, AllocError>
+    ensures task { IfOk result IsTask }
+    ensures program { IfOk result (λ task. task.program.now ≡ code.now) }
+    ensures nodes { IfOk result (λ task. task.flat.nodes ≡ nodes) }
+    ensures most { IfOk result (λ task. task.most ≡ most) }
+    ensures looked { IfOk result (λ task. task.looked ≡ looked_at most) }
+    ensures noting { IfOk result (λ task. task.noting ≡ noting) }
 {
     let (instructions, start) = code.parts();
-    Task {
+    Ok(Task {
         program: code.program(),
         flat: Flat {
             code: instructions,
@@ -111,10 +118,11 @@ pub fn task_of<'c>(code: &'c Code<'c>, nodes: u8, most: usize, noting: bool) -> 
             nodes,
         },
         start,
+        live: live_names(alloc, instructions)?,
         most,
         looked: looked_at(most),
         noting,
-    }
+    })
 }
 
 // How many free acts of a thread are looked at.

@@ -14,6 +14,7 @@ use lrc_explore::noted::Noted;
 use lrc_explore::notes::note;
 use lrc_explore::search::ExploreFault;
 use lrc_explore::state::State;
+use lrc_live::forget_dead;
 use lrc_steps::settle::settle;
 use lrc_steps::step::{Step, all_wait, contended_deed, count, take_alone, take_together};
 use lrc_trace::act::Act;
@@ -123,11 +124,13 @@ fn key_of(
     notes: &[Act],
     acts: &[Act],
 ) -> Result<Noted, AllocError>
-    requires { IsStateOf task.now.flat state }
+    requires task { IsTask task.now }
+    requires state { IsStateOf task.now.flat state }
     ensures { IfOk result (IsKeyOf task.now state notes.now acts.now) }
 {
     let mut state = state;
     count(&task.flat, &mut state)?;
+    forget_dead(&task.flat, &task.live, &mut state);
     let notes = notes_on(alloc, task, notes, acts)?;
     Ok(Noted { state, notes })
 }

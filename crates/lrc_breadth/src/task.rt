@@ -5,13 +5,14 @@ use lrc_explore::noted::NotedStates;
 use lrc_lang::program::Program;
 use lrc_steps::step::Step;
 
-/// What is searched: a program, its code and the place where that begins, how many states there may be, how many free acts of a thread are
-/// looked at, and whether notes are kept.
-#[derive(Clone, Copy)]
+/// What is searched: a program, its code and the place where that begins, the names that matter at each place, how many states there may
+/// be, how many free acts of a thread are looked at, and whether notes are kept.
+#[derive(Drop)]
 pub struct Task<'c> {
     pub program: &'c Program,
     pub flat: Flat<'c>,
     pub start: usize,
+    pub live: Vec<[bool; 32]>,
     pub most: usize,
     pub looked: u64,
     pub noting: bool,

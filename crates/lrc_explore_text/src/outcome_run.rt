@@ -79,7 +79,7 @@ fn run_in(
     ensures fits { IfOk result (λ _. FitsSettledNoted code.now nodes most) }
     ensures faults { IfErr result (IsFaultOf code.now nodes most) }
 {
-    let task = task_of(code, nodes, most, true);
+    let task = task_of(alloc, code, nodes, most, true)?;
     run_of(alloc, &task, number)
 }
 

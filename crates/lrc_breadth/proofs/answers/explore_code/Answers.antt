@@ -4,7 +4,7 @@ use Rattle.lrc_breadth.proofs.answers.explore_code.Goals as goal
 
 pub returns-clause-faults : goal.returns-clause-faults
 returns-clause-faults c =
-    let t = c.task_of-task.ensures in
+    let t = c.in_ok-task.ensures in
     fault_says c.answer.result
-    (λ fault is. fault_of_task c.task_of-task.result c.args.code.now c.args.nodes c.args.most fault t.task t.program t.nodes t.most t.looked is)
+    (λ fault is. fault_of_task c.in_ok-task.task c.args.code.now c.args.nodes c.args.most fault t.task t.program t.nodes t.most t.looked is)
     c.answer.ensures.faults

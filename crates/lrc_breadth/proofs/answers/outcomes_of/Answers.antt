@@ -3,5 +3,5 @@ use Rattle.lrc_breadth.proofs.answers.outcomes_of.Goals as goal
 
 pub returns-clause-faults : goal.returns-clause-faults
 returns-clause-faults c =
-    let t = c.task_of-task.ensures in
-    fault_of_task c.task_of-task.result c.args.code.now c.args.nodes c.args.most c.in-Err.fault t.task t.program t.nodes t.most t.looked c.in-Err.ensures.faults
+    let t = c.in_ok-task.ensures in
+    fault_of_task c.in_ok-task.task c.args.code.now c.args.nodes c.args.most c.in-Err.fault t.task t.program t.nodes t.most t.looked c.in-Err.ensures.faults

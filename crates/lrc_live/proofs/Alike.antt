@@ -1,6 +1,6 @@
 -- States alike but for how often nodes have arrived: they take the same steps.
 use Rattle.std.proofs.Common.{◌≡◌, ℕ, ◌+◌, ◌<◌, ◌≤◌, List, [], ◌∷◌, ◌++◌, Bool, true, false, inl, inr, length, get_or, map, refl, sym, ap, ◌∙◌, subst, arith}
-use Rattle.std.specs.Prelude.{Option, Some, None, if◌then◌else◌, slice_index, slice_index_or}
+use Rattle.std.specs.Prelude.{Option, Some, None, if◌then◌else◌, slice_index}
 use Rattle.std.specs.List.{range_with_len}
 use Rattle.std.proofs.lemmas.Bool.{cases_lt}
 use Rattle.std.proofs.lemmas.List.{get_or-map, length-map, get_or_past}
@@ -22,8 +22,7 @@ use Rattle.lrc_settled.specs.Rows.{AreAlike}
 use Rattle.lrc_settled.specs.Settling.{IsSettled, Settles}
 use Rattle.lrc_settled.specs.Steps as steps
 use Rattle.lrc_settled.specs.Steps.{AllWait, Leads, waits_in}
-use Rattle.lrc_settled.proofs.Held.{Held}
-use Rattle.lrc_settled.proofs.Aligned.{AtBarrier}
+use Rattle.lrc_settled.proofs.Aligned.{Aligned, AtBarrier}
 use Rattle.lrc_settled.proofs.Onward.{Fine, contended_no_depart}
 use Rattle.lrc_settled.proofs.Rounds.{one_settling}
 use Rattle.lrc_settled.proofs.GoingOn.{same_thread, step_alike, settled_at_alike, settles_alike, departs_alike, barrier_of_all, rests_alike}
@@ -79,19 +78,15 @@ module _ (flat : Flat) (state : State) (valid : IsStateOf flat state) (counted :
         omega (arith, e)
   ]
 
-  pub fine_counted : (machine : Plain) → Held machine → AreAlike machine (plain_at flat state) → Fine (plain_at flat state)
-  fine_counted machine held a = record {
-    held = record {
-      locks = λ n t at. held.locks n t (same_thread a n ∙ at) ∙ ap (λ l. length l) a.holders;
-      theirs = λ n lock t at h. ap (λ hs. slice_index_or hs lock None) (sym a.holders) ∙ held.theirs n lock t (same_thread a n ∙ at) h;
-      sizes = valid.arrivals ∙ sym valid.spots ∙ sym (length-map state.spots.items (spot_thread flat));
-    };
-    aligned = record {
-      episode = 0;
-      waiting = λ n t at waits. arrived_at n t at true waits;
-      going = λ n t at stays. arrived_at n t at false stays;
-      over = over_at;
-    };
+  pub sizes_counted : length (plain_at flat state).arrivals ≡ length (plain_at flat state).threads
+  sizes_counted = valid.arrivals ∙ sym valid.spots ∙ sym (length-map state.spots.items (spot_thread flat))
+
+  pub aligned_counted : Aligned (plain_at flat state)
+  aligned_counted = record {
+    episode = 0;
+    waiting = λ n t at waits. arrived_at n t at true waits;
+    going = λ n t at stays. arrived_at n t at false stays;
+    over = over_at;
   }
 
 -- ---- steps

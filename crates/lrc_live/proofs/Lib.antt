@@ -1,0 +1,4 @@
+pub mod Alike
+pub mod Dead
+mod Tables
+pub mod Like
