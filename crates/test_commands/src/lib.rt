@@ -13,6 +13,8 @@ mod large;
 #[cfg(test)]
 mod progress;
 #[cfg(test)]
+mod refused;
+#[cfg(test)]
 mod shell;
 #[cfg(test)]
 mod threads;
