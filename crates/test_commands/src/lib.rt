@@ -17,6 +17,8 @@ mod refused;
 #[cfg(test)]
 mod shell;
 #[cfg(test)]
+mod stepped;
+#[cfg(test)]
 mod threads;
 #[cfg(test)]
 mod words;
