@@ -36,6 +36,7 @@ class Browser:
         self.session = self.call("Target.attachToTarget", targetId=target, flatten=True)["sessionId"]
         for domain in ("Page", "Runtime", "Network", "Log"):
             self.call(f"{domain}.enable")
+        self.call("Performance.enable", timeDomain="threadTicks")
 
     def read(self):
         text = bytearray()
@@ -73,6 +74,10 @@ class Browser:
         if "exceptionDetails" in answer:
             raise RuntimeError(json.dumps(answer["exceptionDetails"])[:800])
         return answer["result"].get("value")
+
+    def busy(self):
+        """For how many seconds of a processor the page's thread has worked, whatever else the machine does."""
+        return next(it["value"] for it in self.call("Performance.getMetrics")["metrics"] if it["name"] == "TaskDuration")
 
     def key(self, key, code=None, text=None, shift=False):
         number = {"Escape": 27, "Tab": 9, "Enter": 13, " ": 32}.get(key, 0)

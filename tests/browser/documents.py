@@ -19,6 +19,9 @@ WORDS = {
     "store_buffering": "{E}/litmus/store_buffering.tm --nodes 2",
 }
 
+# A run of 320 turns.
+LONG = "{E}/counter.tm --nodes 9 --collect 20"
+
 HOSTILE_NAME = "<b>&amp;'\"\\.tm"
 HOSTILE_COMMENT = b"# </script><script>document.title = 'evil'</script> <!-- & \" \\ \xe2\x80\xa8 \xc3\xbc \xff\xe2 \x01 \t|\n"
 HOSTILE_PROGRAM = b"words 2;\nlocks 0;\n[1 - me] = 18446744073709551615;\nx = [me];\nprint x;\n"
@@ -27,19 +30,22 @@ LARGE_PROGRAM = "words 65536;\nlocks 0;\nwhile 1 {\n  [x * 16 + me] = x;\n  x = 
 
 
 class Program:
-    """The program of `./run`."""
+    """The program of `./run`, or another one."""
 
-    def __init__(self, folder):
-        self.folder = folder
+    def __init__(self, folder, program):
+        self.folder, self.program = folder, program
 
     def document(self, name):
         return self.step([word.replace("{E}", str(EXAMPLES)) for word in WORDS[name].split()])
 
     def step(self, words):
-        done = subprocess.run([TOP / "run", "step", *words], capture_output=True)
+        done = subprocess.run([self.program, "step", *words], capture_output=True)
         if done.returncode not in (0, 3, 4):
             raise SystemExit(f"step {words}: status {done.returncode}, {done.stderr.decode(errors='replace')}")
         return done.stdout
+
+    def long(self):
+        return self.step([word.replace("{E}", str(EXAMPLES)) for word in LONG.split()])
 
     def hostile(self):
         file = self.folder / HOSTILE_NAME
