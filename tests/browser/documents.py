@@ -13,6 +13,7 @@ DATA = re.compile(rb'<script type="application/json" id="run">\n(.*?)</script>',
 WORDS = {
     "late": "{E}/late.tm --nodes 2 --events {E}/late.events",
     "late_part": "{E}/late.tm --nodes 2 --events {E}/late.events --from 6 --to 9",
+    "front_part": "{E}/late.tm --nodes 2 --events {E}/late.events --to 4",
     "counter": "{E}/counter.tm --nodes 4",
     "sixteen_part": "{E}/counter.tm --nodes 16 --from 56 --to 66",
     "collecting": "{E}/collecting.tm --nodes 3 --collect 3",
@@ -66,7 +67,13 @@ class Lines:
         self.directory = directory
 
     def lines(self, name):
-        return (self.directory / f"{name}.jsonl").read_bytes()
+        return self.front() if name == "front_part" else (self.directory / f"{name}.jsonl").read_bytes()
+
+    def front(self):
+        """The lines of late up to turn 4, of which no act races with another of them."""
+        lines = [json.loads(line) for line in self.lines("late").splitlines()]
+        kept = [line | {"pairs": []} if "race" in line else line for line in lines if line.get("turn", 0) <= 4 and line.get("why", 0) <= 4]
+        return "\n".join(json.dumps(line, separators=(",", ":")) for line in kept).encode()
 
     def document(self, name):
         return document_of(self.lines(name))

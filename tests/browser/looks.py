@@ -11,7 +11,7 @@ from browser import Browser
 from shown import SHOWN, Differs, Looks, moments_of
 
 SIZES = [(1280, 800), (1920, 1080), (1024, 768)]
-SHOT_AT = {"late": 13, "late_part": 12, "counter": 33, "sixteen_part": 277, "collecting": 43, "store_buffering": 3}
+SHOT_AT = {"late": 13, "late_part": 12, "front_part": 4, "counter": 33, "sixteen_part": 277, "collecting": 43, "store_buffering": 3}
 # Ten steps, drawn and laid out.
 TEN_STEPS = "for (let k = 0; k < 10; k++) { go(1000 + k); document.body.getBoundingClientRect(); }"
 TEXTS = "(selector => [...document.querySelectorAll(selector)].map(element => element.textContent))"
@@ -50,8 +50,8 @@ class Pages:
         self.same(f"{name}: logged", [event for event in self.browser.events if event["method"] in logs], [])
 
 
-def place_of(turns):
-    return f"(part: {turns[0]} to {turns[-1]})" if turns[0] else f"of {turns[-1]}"
+def place_of(name, turns):
+    return f"(part: {turns[0]} to {turns[-1]})" if name.endswith("_part") else f"of {turns[-1]}"
 
 
 def states(pages, name, document):
@@ -61,10 +61,10 @@ def states(pages, name, document):
     browser.size(1280, 800)
     browser.open(url)
     turns = [turn for turn in moments if turn is not None]
-    pages.looks.moment(browser.value(SHOWN), moments[None], f"{name} at the start", place_of(turns))
+    pages.looks.moment(browser.value(SHOWN), moments[None], f"{name} at the start", place_of(name, turns))
     for turn in sorted({turns[k * (len(turns) - 1) // 9] for k in range(10)}):
         pages.at_turn(turn)
-        pages.looks.moment(browser.value(SHOWN), moments[turn], f"{name} at {turn}", place_of(turns))
+        pages.looks.moment(browser.value(SHOWN), moments[turn], f"{name} at {turn}", place_of(name, turns))
     pages.is_quiet(name)
     for width, height in [*SIZES, (3840, 2160)]:
         browser.size(width, height)
@@ -162,7 +162,7 @@ def part(pages, whole, shorter):
     pages.same("old by writes before the part", pages.texts("#node-1 .stale .note"), [" now 1", " now 2"])
     for turn in turns[1:]:
         browser.open(f"{url}#turn={turn}")
-        pages.looks.moment(browser.value(SHOWN), moments[turn], f"part at {turn}", place_of(turns))
+        pages.looks.moment(browser.value(SHOWN), moments[turn], f"part at {turn}", place_of("late_part", turns))
         pages.same(f"part at {turn}: panels", browser.value(panels_shown), panels[turn])
     browser.open(f"{url}#turn=13")
     pages.same("no link to an act that is not shown", pages.texts("#why a").count("act 4"), 0)
@@ -196,7 +196,8 @@ def empty(pages, document):
     head, tail = document[:document.index(b'{"program"')], documents.constant("script.rt", "CLOSING")
     lines = documents.DATA.search(document)[1].split(b"\n")[:2]
     pages.browser.open(pages.save("empty", head + b"\n".join(lines) + b"\n" + tail))
-    pages.same("no turns", pages.text("#headline"), "Before the first turn")
+    pages.same("no turns", pages.text("#headline"), "No turn is shown")
+    pages.same("no turns, the place", pages.text("#place").endswith("no turn shown"), True)
     for key in ("End", "ArrowRight", "a", "r"):
         pages.browser.key(key)
         pages.same(f"no turns, {key}", pages.link(), "")
