@@ -20,8 +20,8 @@ WORDS = {
     "store_buffering": "{E}/litmus/store_buffering.tm --nodes 2",
 }
 
-# A run of 320 turns.
-LONG = "{E}/counter.tm --nodes 9 --collect 20"
+# A run of 417 turns.
+LONG = "{E}/counter.tm --nodes 12"
 
 HOSTILE_NAME = "<b>&amp;'\"\\.tm"
 HOSTILE_COMMENT = b"# </script><script>document.title = 'evil'</script> <!-- & \" \\ \xe2\x80\xa8 \xc3\xbc \xff\xe2 \x01 \t|\n"

@@ -11,7 +11,7 @@ from browser import Browser
 from shown import SHOWN, Differs, Looks, moments_of
 
 SIZES = [(1280, 800), (1920, 1080), (1024, 768)]
-SHOT_AT = {"late": 13, "late_part": 12, "front_part": 4, "counter": 33, "sixteen_part": 277, "collecting": 43, "store_buffering": 3}
+SHOT_AT = {"late": 13, "late_part": 12, "front_part": 4, "counter": 33, "sixteen_part": 277, "collecting": 22, "store_buffering": 3}
 # Ten steps, drawn and laid out.
 TEN_STEPS = "for (let k = 0; k < 10; k++) { go(1000 + k); document.body.getBoundingClientRect(); }"
 TEXTS = "(selector => [...document.querySelectorAll(selector)].map(element => element.textContent))"
