@@ -45,6 +45,10 @@ class Program:
             raise SystemExit(f"step {words}: status {done.returncode}, {done.stderr.decode(errors='replace')}")
         return done.stdout
 
+    def past_the_end(self):
+        """No turn, and the states in the end."""
+        return self.step([str(EXAMPLES / "late.tm"), "--nodes", "2", "--from", "1000"])
+
     def long(self):
         return self.step([word.replace("{E}", str(EXAMPLES)) for word in LONG.split()])
 

@@ -204,6 +204,15 @@ def empty(pages, document):
     pages.is_quiet("empty")
 
 
+def past_the_end(pages, document):
+    """No turns either, and nothing is said of the start of the run."""
+    pages.browser.open(pages.save("past_the_end", document))
+    pages.looks.moment(pages.browser.value(SHOWN), moments_of(documents.lines_of(document))[None], "past the end", "")
+    pages.same("past the end", pages.text("#headline"), "No turn is shown")
+    pages.same("past the end, what stands there", "left them" in pages.text("#because"), True)
+    pages.is_quiet("past the end")
+
+
 def large(pages, document):
     """2,000 turns of 16 nodes open in two seconds of a processor, and a step takes less than a tenth of one."""
     browser = pages.browser
@@ -260,9 +269,10 @@ def look(pages, source):
     frame(pages, document)
     hostile(pages, document)
     empty(pages, made["late"])
-    large(pages, source.large())
     if isinstance(source, documents.Program):
+        past_the_end(pages, source.past_the_end())
         long(pages, source.long())
+    large(pages, source.large())
 
 
 def main():
