@@ -6,7 +6,8 @@ _treadmarks_options() {
     plain) echo "--nodes --steps" ;;
     sim) echo "--nodes --steps --collect --order --page --events --seed" ;;
     run) echo "--nodes --steps --collect --order --page" ;;
-    trace) echo "--nodes --steps --collect --order --page --events --seed --threads --as --messages" ;;
+    trace) echo "--nodes --steps --collect --order --page --events --seed --threads --as --messages --from --to" ;;
+    step) echo "--nodes --steps --collect --order --page --events --seed --threads --from --to" ;;
     explain) echo "--nodes --steps --collect --order --page --events --seed --threads" ;;
     why) echo "--nodes --steps --collect --order --page --events --seed --acts --act --and" ;;
     stats) echo "--nodes --steps --collect --order --page --events --seed --threads" ;;
@@ -21,7 +22,7 @@ _treadmarks_options() {
 _treadmarks_values() {
     case $1,$2 in
     run,--order) echo "oldest newest twice" ;;
-    trace,--as) echo "acts events json rapid" ;;
+    trace,--as) echo "acts events json rapid states" ;;
     races,--as) echo "std acts" ;;
     *,--order) echo "oldest newest twice random" ;;
     *,--page) echo "64 256" ;;
@@ -34,7 +35,7 @@ _treadmarks_values() {
 
 _treadmarks() {
     local word=${COMP_WORDS[COMP_CWORD]} before=${COMP_WORDS[COMP_CWORD - 1]} command=${COMP_WORDS[1]} values
-    local commands="check lint plain sim run trace explain why stats chart judge races explore help version"
+    local commands="check lint plain sim run trace step explain why stats chart judge races explore help version"
     COMPREPLY=()
     if ((COMP_CWORD == 1)) || [[ $command == help ]]; then
         COMPREPLY=($(compgen -W "$commands" -- "$word"))

@@ -71,6 +71,7 @@ fault_words faults.LongActs = codes "acts line 1: text too long"
 fault_words (faults.NoAct position) = codes "no act " ++ decimal position
 fault_words (faults.NoOutcome number) = codes "no outcome " ++ decimal number
 fault_words faults.Worn = codes "message numbers used up"
+fault_words faults.TooManyTurns = codes "more than 2000 turns"
 fault_words faults.TooLong = codes "too long for a chart"
 fault_words faults.Mismatch = codes "logs and wires differ"
 fault_words faults.NoMemory = codes "out of memory"

@@ -35,6 +35,8 @@ pub enum Fault {
     TooManyStates(u32),
     /// The program has no outcome of this number.
     NoOutcome(u64),
+    /// More turns are to be shown with the states of the nodes than may be.
+    TooManyTurns,
     /// A chart would have more rows than a chart may have.
     TooLong,
     /// What the nodes of a run on threads say that they sent and took is not what went through the post.
@@ -59,6 +61,7 @@ impl Display for Fault {
             Fault::Worn => write!(f, "message numbers used up"),
             Fault::TooManyStates(most) => write!(f, "more than {most} states"),
             Fault::NoOutcome(number) => write!(f, "no outcome {number}"),
+            Fault::TooManyTurns => write!(f, "more than 2000 turns"),
             Fault::TooLong => write!(f, "too long for a chart"),
             Fault::Mismatch => write!(f, "logs and wires differ"),
             Fault::NoMemory => write!(f, "out of memory"),

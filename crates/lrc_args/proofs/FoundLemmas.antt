@@ -10,7 +10,7 @@ use Rattle.clap.specs.declared.parser.matches.ArgMatches.TheViews.{out-SubComman
 use Rattle.clap.specs.declared.parser.matches.SubCommand.{SubCommand}
 use Rattle.lrc_args.specs.CommandLine.{IsAnswerTaken, IsAskTaken, IsCommandTaken, IsRequestTaken, IsShowTaken}
 use Rattle.lrc_args.specs.Options.{HasValue, IsChartTaken, IsExploreTaken, IsJudgeTaken, IsPlainTaken, IsRacesTaken, IsRunTaken, IsShowingTaken, IsSimTaken, IsTraceTaken}
-use Rattle.lrc_args.specs.Options.{IsWhyTaken}
+use Rattle.lrc_args.specs.Options.{IsStepTaken, IsWhyTaken}
 use Rattle.lrc_args.specs.declared.misfit.Misfit.{Misfit}
 
 module _ {Z : Type 0} where
@@ -68,8 +68,9 @@ taken_as name rows =
     one_or (bytes_eq name (codes "sim")) (IsSimTaken rows) (
     one_or (bytes_eq name (codes "run")) (IsRunTaken rows) (
     one_or (bytes_eq name (codes "trace")) (IsTraceTaken rows) (
+    one_or (bytes_eq name (codes "step")) (IsStepTaken rows) (
     one_or (bytes_eq name (codes "chart")) (IsChartTaken rows) (
-    IsShowingTaken rows)))))))))))))
+    IsShowingTaken rows))))))))))))))
 
 -- the rows of a command whose name is known are as clap makes sure of for it
 named_rows : (found : Option (Text × List Row)) (name : Text) (rows : List Row) → option_map (λ p. p.0) found ≡ Some name
@@ -99,9 +100,10 @@ named_rows (Some f) name rows named held taken =
       | inr (inr (inr (inr (inr (inr (inr (inl t))))))) ↦ as_named (codes "sim") t.0 t.1
       | inr (inr (inr (inr (inr (inr (inr (inr (inl t)))))))) ↦ as_named (codes "run") t.0 t.1
       | inr (inr (inr (inr (inr (inr (inr (inr (inr (inl t))))))))) ↦ as_named (codes "trace") t.0 t.1
-      | inr (inr (inr (inr (inr (inr (inr (inr (inr (inr (inl t)))))))))) ↦ as_named (codes "explain") t.0 t.1
-      | inr (inr (inr (inr (inr (inr (inr (inr (inr (inr (inr (inl t))))))))))) ↦ as_named (codes "stats") t.0 t.1
-      | inr (inr (inr (inr (inr (inr (inr (inr (inr (inr (inr (inr t))))))))))) ↦ as_named (codes "chart") t.0 t.1
+      | inr (inr (inr (inr (inr (inr (inr (inr (inr (inr (inl t)))))))))) ↦ as_named (codes "step") t.0 t.1
+      | inr (inr (inr (inr (inr (inr (inr (inr (inr (inr (inr (inl t))))))))))) ↦ as_named (codes "explain") t.0 t.1
+      | inr (inr (inr (inr (inr (inr (inr (inr (inr (inr (inr (inr (inl t)))))))))))) ↦ as_named (codes "stats") t.0 t.1
+      | inr (inr (inr (inr (inr (inr (inr (inr (inr (inr (inr (inr (inr t)))))))))))) ↦ as_named (codes "chart") t.0 t.1
     ]))
 
 module _ (found : Option (Text × List Row)) (rows : List Row) (held : option_map (λ p. p.1) found ≡ Some rows) (taken : IsCommandTaken found) where
@@ -125,6 +127,9 @@ module _ (found : Option (Text × List Row)) (rows : List Row) (held : option_ma
 
   pub trace_rows : option_map (λ p. p.0) found ≡ Some (codes "trace") → IsTraceTaken rows
   trace_rows named = named_rows found (codes "trace") rows named held (inr (inr (inr taken)))
+
+  pub step_rows : option_map (λ p. p.0) found ≡ Some (codes "step") → IsStepTaken rows
+  step_rows named = named_rows found (codes "step") rows named held (inr (inr (inr taken)))
 
   pub explain_rows : option_map (λ p. p.0) found ≡ Some (codes "explain") → IsShowingTaken rows
   explain_rows named = named_rows found (codes "explain") rows named held (inr (inr (inr taken)))
@@ -200,14 +205,16 @@ ask_left (Some f) sim run shows = elim shows [
   | inr (inr asks) ↦ asks
 ]
 
--- one that is none of the other three is `stats`
+-- one that is none of the other four is `stats`
 pub stats_left : (found : Option (Text × List Row)) → (option_map (λ p. p.0) found ≡ Some (codes "trace") → false ≡ true)
-    → (option_map (λ p. p.0) found ≡ Some (codes "chart") → false ≡ true) → (option_map (λ p. p.0) found ≡ Some (codes "explain") → false ≡ true)
-    → IsSomeAnd found IsAskTaken → option_map (λ p. p.0) found ≡ Some (codes "stats")
-stats_left None trace chart explain asks = absurd asks
-stats_left (Some f) trace chart explain asks = elim asks [
+    → (option_map (λ p. p.0) found ≡ Some (codes "step") → false ≡ true) → (option_map (λ p. p.0) found ≡ Some (codes "chart") → false ≡ true)
+    → (option_map (λ p. p.0) found ≡ Some (codes "explain") → false ≡ true) → IsSomeAnd found IsAskTaken
+    → option_map (λ p. p.0) found ≡ Some (codes "stats")
+stats_left None trace step chart explain asks = absurd asks
+stats_left (Some f) trace step chart explain asks = elim asks [
   | inl t ↦ let bad : false ≡ true = trace (ap Some t.0) in absurd cc
-  | inr (inl t) ↦ let bad : false ≡ true = explain (ap Some t.0) in absurd cc
-  | inr (inr (inl t)) ↦ ap Some t.0
-  | inr (inr (inr t)) ↦ let bad : false ≡ true = chart (ap Some t.0) in absurd cc
+  | inr (inl t) ↦ let bad : false ≡ true = step (ap Some t.0) in absurd cc
+  | inr (inr (inl t)) ↦ let bad : false ≡ true = explain (ap Some t.0) in absurd cc
+  | inr (inr (inr (inl t))) ↦ ap Some t.0
+  | inr (inr (inr (inr t))) ↦ let bad : false ≡ true = chart (ap Some t.0) in absurd cc
 ]

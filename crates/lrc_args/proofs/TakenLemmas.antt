@@ -16,10 +16,10 @@ use Rattle.clap.specs.declared.error.kind.ErrorKind.TheVariants.{InvalidValue, V
 use Rattle.clap.proofs.ValueTestLemmas.{accepts-Accepts}
 use Rattle.lrc_args.specs.CommandLine.{IsRequestTaken}
 use Rattle.lrc_commands.specs.Commands.{act, bare_number, chart_command, check_command, collect, explain_command, explore_command, flag_option, form, help_command, judge_command, lint_command, nodes, number_option, order, page}
-use Rattle.lrc_commands.specs.Commands.{plain_command, races_command, run_command, sim_command, stats_command, steps, trace_command, trace_form, treadmarks, treadmarks_shape, version_command}
+use Rattle.lrc_commands.specs.Commands.{plain_command, races_command, run_command, sim_command, stats_command, step_command, steps, trace_command, trace_form, treadmarks, treadmarks_shape, version_command}
 use Rattle.lrc_commands.specs.Commands.{why_command}
 use Rattle.lrc_args.specs.Options.{HasValue, IsBareNumber, IsChartTaken, IsExploreTaken, IsFlagOption, IsJudgeTaken, IsNumberOption, IsPlainTaken, IsRunTaken}
-use Rattle.lrc_args.specs.Options.{IsRacesTaken, IsShowingTaken, IsSimTaken, IsTraceTaken, IsWhyTaken}
+use Rattle.lrc_args.specs.Options.{IsPartTaken, IsRacesTaken, IsShowingTaken, IsSimTaken, IsStepTaken, IsTraceTaken, IsWhyTaken}
 use Rattle.lrc_args.proofs.RowLemmas.{IsKeyed, IsLevel, first_passes, given_some, level_good, neither, required_given, same_bytes}
 
 abbrev check_built : Shape
@@ -36,6 +36,9 @@ run_built = built_leaf (inherited treadmarks_shape run_command.top)
 
 abbrev trace_built : Shape
 trace_built = built_leaf (inherited treadmarks_shape trace_command.top)
+
+abbrev step_built : Shape
+step_built = built_leaf (inherited treadmarks_shape step_command.top)
 
 abbrev explain_built : Shape
 explain_built = built_leaf (inherited treadmarks_shape explain_command.top)
@@ -146,43 +149,10 @@ run_keyed = (
 )
 
 trace_keyed : AllByRecursion (IsKeyed trace_built.rules) trace_built.rules
-trace_keyed = (
-  record { own = refl; acts = inl (refl, lit< tt) },
-  (
-    record { own = refl; acts = inl (refl, lit< tt) },
-    (
-      record { own = refl; acts = inl (refl, lit< tt) },
-      (
-        record { own = refl; acts = inl (refl, lit< tt) },
-        (
-          record { own = refl; acts = inl (refl, lit< tt) },
-          (
-            record { own = refl; acts = inl (refl, lit< tt) },
-            (
-              record { own = refl; acts = inl (refl, lit< tt) },
-              (
-                record { own = refl; acts = inl (refl, lit< tt) },
-                (
-                  record { own = refl; acts = inr (inl (refl, lit< tt)) },
-                  (
-                    record { own = refl; acts = inl (refl, lit< tt) },
-                    (
-                      record { own = refl; acts = inr (inl (refl, lit< tt)) },
-                      (
-                        record { own = refl; acts = inr (inr refl) },
-                        tt,
-                      ),
-                    ),
-                  ),
-                ),
-              ),
-            ),
-          ),
-        ),
-      ),
-    ),
-  ),
-)
+trace_keyed = (record { own = refl; acts = inl (refl, lit< tt) }, (record { own = refl; acts = inl (refl, lit< tt) }, (record { own = refl; acts = inl (refl, lit< tt) }, (record { own = refl; acts = inl (refl, lit< tt) }, (record { own = refl; acts = inl (refl, lit< tt) }, (record { own = refl; acts = inl (refl, lit< tt) }, (record { own = refl; acts = inl (refl, lit< tt) }, (record { own = refl; acts = inl (refl, lit< tt) }, (record { own = refl; acts = inr (inl (refl, lit< tt)) }, (record { own = refl; acts = inl (refl, lit< tt) }, (record { own = refl; acts = inr (inl (refl, lit< tt)) }, (record { own = refl; acts = inl (refl, lit< tt) }, (record { own = refl; acts = inl (refl, lit< tt) }, (record { own = refl; acts = inr (inr refl) }, tt))))))))))))))
+
+step_keyed : AllByRecursion (IsKeyed step_built.rules) step_built.rules
+step_keyed = (record { own = refl; acts = inl (refl, lit< tt) }, (record { own = refl; acts = inl (refl, lit< tt) }, (record { own = refl; acts = inl (refl, lit< tt) }, (record { own = refl; acts = inl (refl, lit< tt) }, (record { own = refl; acts = inl (refl, lit< tt) }, (record { own = refl; acts = inl (refl, lit< tt) }, (record { own = refl; acts = inl (refl, lit< tt) }, (record { own = refl; acts = inl (refl, lit< tt) }, (record { own = refl; acts = inr (inl (refl, lit< tt)) }, (record { own = refl; acts = inl (refl, lit< tt) }, (record { own = refl; acts = inl (refl, lit< tt) }, (record { own = refl; acts = inr (inr refl) }, tt))))))))))))
 
 explain_keyed : AllByRecursion (IsKeyed explain_built.rules) explain_built.rules
 explain_keyed = (
@@ -386,6 +356,11 @@ module _ (s : Shape) (rows : List Row) (level : IsLevel s rows) where
   all_showing_taken : IsSimTaken rows → arg_by_id s.rules (codes "threads") ≡ Some (filled (flag_option (codes "threads"))) → IsShowingTaken rows
   all_showing_taken sim threads_own = record { sim = sim; threads = flag_taken (codes "threads") threads_own }
 
+  -- of one that shows a part of a run
+  all_part_taken : arg_by_id s.rules (codes "from") ≡ Some (filled (bare_number (codes "from")))
+      → arg_by_id s.rules (codes "to") ≡ Some (filled (bare_number (codes "to"))) → IsPartTaken rows
+  all_part_taken from_own to_own = record { from = bare_taken (codes "from") from_own; to = bare_taken (codes "to") to_own }
+
 check_taken : (words : List Text) → level_fault check_built [] nothing_held words false [] ≡ [] → HasValue (codes "FILE") (rows_after check_built.rules [] words)
 check_taken words none =
     let rows = rows_after check_built.rules [] words in
@@ -424,6 +399,18 @@ trace_taken words none =
       showing = all_showing_taken trace_built rows level (all_sim_taken trace_built rows level run refl) refl;
       form = level.there (filled form) refl (lit< tt);
       messages = flag_taken trace_built rows level (codes "messages") refl;
+      part = all_part_taken trace_built rows level refl refl;
+    }
+
+step_taken : (words : List Text) → level_fault step_built [] nothing_held words false [] ≡ [] → IsStepTaken (rows_after step_built.rules [] words)
+step_taken words none =
+    let rows = rows_after step_built.rules [] words in
+    let level = level_good step_built words step_keyed none in
+    let file = given_some step_built.rules (codes "FILE") rows level.good ((required_given step_built rows level.checked).0 refl) in
+    let run = all_run_taken step_built rows level (all_plain_taken step_built rows level file refl refl) refl refl refl in
+    record {
+      showing = all_showing_taken step_built rows level (all_sim_taken step_built rows level run refl) refl;
+      part = all_part_taken step_built rows level refl refl;
     }
 
 explain_taken : (words : List Text) → level_fault explain_built [] nothing_held words false [] ≡ [] → IsShowingTaken (rows_after explain_built.rules [] words)
@@ -520,7 +507,7 @@ why_taken words none =
 abbrev top_built : App
 top_built = record {
   top = built_leaf (record treadmarks_shape { is_leaf = false });
-  subs = check_built ∷ plain_built ∷ sim_built ∷ run_built ∷ trace_built ∷ explain_built ∷ stats_built ∷ chart_built ∷ judge_built ∷ explore_built ∷ why_built ∷ lint_built ∷ races_built ∷ help_built ∷ version_built ∷ [];
+  subs = check_built ∷ plain_built ∷ sim_built ∷ run_built ∷ trace_built ∷ step_built ∷ explain_built ∷ stats_built ∷ chart_built ∷ judge_built ∷ explore_built ∷ why_built ∷ lint_built ∷ races_built ∷ help_built ∷ version_built ∷ [];
 }
 
 one_named : (rows : List Row) (stop : Option (Text × List Text)) → entered_fault top_built stop ≡ []
@@ -529,36 +516,37 @@ one_named : (rows : List Row) (stop : Option (Text × List Text)) → entered_fa
 one_named rows None none checked = absurd cc
 one_named rows (Some p) none checked =
     go (answers_to p.0 (label_of check_built)) (answers_to p.0 (label_of plain_built)) (answers_to p.0 (label_of sim_built)) (answers_to p.0 (label_of run_built))
-    (answers_to p.0 (label_of trace_built)) (answers_to p.0 (label_of explain_built)) (answers_to p.0 (label_of stats_built)) (answers_to p.0 (label_of chart_built))
-    (answers_to p.0 (label_of judge_built)) (answers_to p.0 (label_of explore_built)) (answers_to p.0 (label_of why_built)) (answers_to p.0 (label_of lint_built))
-    (answers_to p.0 (label_of races_built)) (answers_to p.0 (label_of help_built)) (answers_to p.0 (label_of version_built)) none checked
+    (answers_to p.0 (label_of trace_built)) (answers_to p.0 (label_of step_built)) (answers_to p.0 (label_of explain_built)) (answers_to p.0 (label_of stats_built))
+    (answers_to p.0 (label_of chart_built)) (answers_to p.0 (label_of judge_built)) (answers_to p.0 (label_of explore_built)) (answers_to p.0 (label_of why_built))
+    (answers_to p.0 (label_of lint_built)) (answers_to p.0 (label_of races_built)) (answers_to p.0 (label_of help_built)) (answers_to p.0 (label_of version_built)) none checked
   where
-    shape : Bool → Bool → Bool → Bool → Bool → Bool → Bool → Bool → Bool → Bool → Bool → Bool → Bool → Bool → Bool → Option Shape
-    shape a b d f h i k l m n o q t u w =
-        cond a (Some check_built) (cond b (Some plain_built) (cond d (Some sim_built) (cond f (Some run_built) (cond h (Some trace_built)
-        (cond i (Some explain_built) (cond k (Some stats_built) (cond l (Some chart_built) (cond m (Some judge_built) (cond n (Some explore_built)
-        (cond o (Some why_built) (cond q (Some lint_built) (cond t (Some races_built) (cond u (Some help_built)
-        (cond w (Some version_built) None))))))))))))))
+    shape : Bool → Bool → Bool → Bool → Bool → Bool → Bool → Bool → Bool → Bool → Bool → Bool → Bool → Bool → Bool → Bool → Option Shape
+    shape a b d f h j i k l m n o q t u w =
+        cond a (Some check_built) (cond b (Some plain_built) (cond d (Some sim_built) (cond f (Some run_built)
+        (cond h (Some trace_built) (cond j (Some step_built) (cond i (Some explain_built) (cond k (Some stats_built)
+        (cond l (Some chart_built) (cond m (Some judge_built) (cond n (Some explore_built) (cond o (Some why_built)
+        (cond q (Some lint_built) (cond t (Some races_built) (cond u (Some help_built) (cond w (Some version_built) None)))))))))))))))
 
-    go : (a b d f h i k l m n o q t u w : Bool) → option_map_or (λ s. level_fault s [] nothing_held p.1 false []) (shape a b d f h i k l m n o q t u w) [] ≡ []
-        → check_fault top_built.top rows (is_some (option_map (λ s. rows_at s p.1) (shape a b d f h i k l m n o q t u w))) ≡ []
-        → IsRequestTaken (option_map (λ s. rows_at s p.1) (shape a b d f h i k l m n o q t u w))
-    go true b d f h i k l m n o q t u w e checked = inr (inr (inr (inl (refl, check_taken p.1 e))))
-    go false true d f h i k l m n o q t u w e checked = inr (inr (inr (inr (inl (refl, plain_taken p.1 e)))))
-    go false false true f h i k l m n o q t u w e checked = inr (inr (inr (inr (inr (inr (inr (inl (refl, sim_taken p.1 e))))))))
-    go false false false true h i k l m n o q t u w e checked = inr (inr (inr (inr (inr (inr (inr (inr (inl (refl, run_taken p.1 e)))))))))
-    go false false false false true i k l m n o q t u w e checked = inr (inr (inr (inr (inr (inr (inr (inr (inr (inl (refl, trace_taken p.1 e))))))))))
-    go false false false false false true k l m n o q t u w e checked = inr (inr (inr (inr (inr (inr (inr (inr (inr (inr (inl (refl, explain_taken p.1 e)))))))))))
-    go false false false false false false true l m n o q t u w e checked = inr (inr (inr (inr (inr (inr (inr (inr (inr (inr (inr (inl (refl, stats_taken p.1 e))))))))))))
-    go false false false false false false false true m n o q t u w e checked = inr (inr (inr (inr (inr (inr (inr (inr (inr (inr (inr (inr (refl, chart_taken p.1 e))))))))))))
-    go false false false false false false false false true n o q t u w e checked = inr (inr (inr (inr (inr (inl (refl, judge_taken p.1 e))))))
-    go false false false false false false false false false true o q t u w e checked = inr (inr (inr (inr (inr (inr (inl (refl, explore_taken p.1 e)))))))
-    go false false false false false false false false false false true q t u w e checked = inr (inr (inl (inr (refl, why_taken p.1 e))))
-    go false false false false false false false false false false false true t u w e checked = inr (inr (inl (inl (refl, lint_taken p.1 e))))
-    go false false false false false false false false false false false false true u w e checked = inr (inl (refl, races_taken p.1 e))
-    go false false false false false false false false false false false false false true w e checked = inl (inl refl)
-    go false false false false false false false false false false false false false false true e checked = inl (inr refl)
-    go false false false false false false false false false false false false false false false e checked = absurd cc
+    go : (a b d f h j i k l m n o q t u w : Bool) → option_map_or (λ s. level_fault s [] nothing_held p.1 false []) (shape a b d f h j i k l m n o q t u w) [] ≡ []
+        → check_fault top_built.top rows (is_some (option_map (λ s. rows_at s p.1) (shape a b d f h j i k l m n o q t u w))) ≡ []
+        → IsRequestTaken (option_map (λ s. rows_at s p.1) (shape a b d f h j i k l m n o q t u w))
+    go true b d f h j i k l m n o q t u w e checked = inr (inr (inr (inl (refl, check_taken p.1 e))))
+    go false true d f h j i k l m n o q t u w e checked = inr (inr (inr (inr (inl (refl, plain_taken p.1 e)))))
+    go false false true f h j i k l m n o q t u w e checked = inr (inr (inr (inr (inr (inr (inr (inl (refl, sim_taken p.1 e))))))))
+    go false false false true h j i k l m n o q t u w e checked = inr (inr (inr (inr (inr (inr (inr (inr (inl (refl, run_taken p.1 e)))))))))
+    go false false false false true j i k l m n o q t u w e checked = inr (inr (inr (inr (inr (inr (inr (inr (inr (inl (refl, trace_taken p.1 e))))))))))
+    go false false false false false true i k l m n o q t u w e checked = inr (inr (inr (inr (inr (inr (inr (inr (inr (inr (inl (refl, step_taken p.1 e)))))))))))
+    go false false false false false false true k l m n o q t u w e checked = inr (inr (inr (inr (inr (inr (inr (inr (inr (inr (inr (inl (refl, explain_taken p.1 e))))))))))))
+    go false false false false false false false true l m n o q t u w e checked = inr (inr (inr (inr (inr (inr (inr (inr (inr (inr (inr (inr (inl (refl, stats_taken p.1 e)))))))))))))
+    go false false false false false false false false true m n o q t u w e checked = inr (inr (inr (inr (inr (inr (inr (inr (inr (inr (inr (inr (inr (refl, chart_taken p.1 e)))))))))))))
+    go false false false false false false false false false true n o q t u w e checked = inr (inr (inr (inr (inr (inl (refl, judge_taken p.1 e))))))
+    go false false false false false false false false false false true o q t u w e checked = inr (inr (inr (inr (inr (inr (inl (refl, explore_taken p.1 e)))))))
+    go false false false false false false false false false false false true q t u w e checked = inr (inr (inl (inr (refl, why_taken p.1 e))))
+    go false false false false false false false false false false false false true t u w e checked = inr (inr (inl (inl (refl, lint_taken p.1 e))))
+    go false false false false false false false false false false false false false true u w e checked = inr (inl (refl, races_taken p.1 e))
+    go false false false false false false false false false false false false false false true w e checked = inl (inl refl)
+    go false false false false false false false false false false false false false false false true e checked = inl (inr refl)
+    go false false false false false false false false false false false false false false false false e checked = absurd cc
 
 pub taken : (words : List Text) → fault_of treadmarks words ≡ [] → IsRequestTaken (subcommand_of treadmarks words)
 unfolding treadmarks

@@ -23,15 +23,15 @@ use Rattle.lrc_args.specs.declared.choice.Request.{Request}
 use Rattle.lrc_args.specs.declared.choice.Request.TheVariants.{About, Races, Answer}
 use Rattle.lrc_args.specs.declared.choice.RunChoice.{RunChoice}
 use Rattle.lrc_args.specs.declared.choice.Shape.{Shape}
-use Rattle.lrc_args.specs.declared.choice.Shape.TheVariants.{Report, Trace, Explain, Stats, Chart, Why}
+use Rattle.lrc_args.specs.declared.choice.Shape.TheVariants.{Report, Trace, Step, Explain, Stats, Chart, Why}
 use Rattle.lrc_args.specs.declared.choice.Topic.{Topic}
 use Rattle.lrc_args.specs.declared.choice.Topic.TheVariants.{Commands, Command, Version}
 use Rattle.lrc_args.specs.declared.choice.Way.{Way}
 use Rattle.lrc_args.specs.declared.misfit.Misfit.{Misfit}
-use Rattle.lrc_args.specs.declared.misfit.Misfit.TheVariants.{Order, RunOrder, Page, Form as FormMisfit, Seed, Threads, Messages, Topic as TopicMisfit, TraceForm, Hide, TextSource, SameAct, Sources, NoSource, RunOption, ChartRunOption, Number}
+use Rattle.lrc_args.specs.declared.misfit.Misfit.TheVariants.{Order, RunOrder, Page, Form as FormMisfit, Seed, Threads, Messages, Part as PartMisfit, Topic as TopicMisfit, TraceForm, Hide, TextSource, SameAct, Sources, NoSource, RunOption, ChartRunOption, Number}
 use Rattle.lrc_commands.specs.Commands.{is_command, treadmarks}
 use Rattle.lrc_args.specs.Options.{AreChartedActs, AreForeignActs, AreOptions, AreRunOptions, HasBadCount, HasChartedActsMisfit, HasForeignMisfit, HasFormMisfitIn, HasOptionsMisfit, HasRacesMisfit, HasValue, HasWayMisfitIn, IsAsking, IsChartTaken, IsHiding}
-use Rattle.lrc_args.specs.Options.{IsExploreTaken, IsFlag, IsFormIn, IsJudgeTaken, IsPicker, IsPlainTaken, IsRacesTaken, IsRunTaken, IsShowingTaken}
+use Rattle.lrc_args.specs.Options.{IsExploreTaken, IsFlag, IsFormIn, IsJudgeTaken, IsPart, IsPicker, IsPlainTaken, IsRacesTaken, IsRunTaken, IsShowingTaken, IsStepTaken}
 use Rattle.lrc_args.specs.Options.{IsSimTaken, IsThreadsWayIn, IsTraceForm, IsTraceTaken, IsWayIn, IsWhyTaken, most_in, nodes_in, option_number, outcome_in, some_number_in}
 
 -- no words at all stand for `sim -`
@@ -44,6 +44,7 @@ words_meant (word ∷ words) = word ∷ words
 -- the command that asks more of a run of the nodes, with what clap makes sure of in its matches
 abbrev pub IsAskTaken : Text × List Row → Type 0
 IsAskTaken found = ((found.0 ≡ codes "trace") × IsTraceTaken found.1)
+    ⊎ ((found.0 ≡ codes "step") × IsStepTaken found.1)
     ⊎ ((found.0 ≡ codes "explain") × IsShowingTaken found.1)
     ⊎ ((found.0 ≡ codes "stats") × IsShowingTaken found.1)
     ⊎ ((found.0 ≡ codes "chart") × IsChartTaken found.1)
@@ -150,6 +151,7 @@ pub record IsWhy (rows : List Row) (run : RunChoice) (asking : Asking) : Type 0 
 abbrev pub IsShowChoice : Text × List Row → RunChoice → Shape → Type 0
 IsShowChoice found run Report = ((found.0 ≡ codes "sim") × IsRun false found.1 run) ⊎ ((found.0 ≡ codes "run") × IsThreadsRun found.1 run)
 IsShowChoice found run (Trace form) = (found.0 ≡ codes "trace") × IsFormIn found.1 form × IsShowingRun found.1 run
+IsShowChoice found run (Step part) = (found.0 ≡ codes "step") × IsPart found.1 part × IsShowingRun found.1 run
 IsShowChoice found run Explain = (found.0 ≡ codes "explain") × IsShowingRun found.1 run
 IsShowChoice found run Stats = (found.0 ≡ codes "stats") × IsShowingRun found.1 run
 IsShowChoice found run (Chart charting) = (found.0 ≡ codes "chart") × IsRunChart found.1 run charting
@@ -240,6 +242,7 @@ abbrev pub HasShowMisfit : Text × List Row → Misfit → Type 0
 HasShowMisfit found misfit = ((found.0 ≡ codes "sim") × HasMisfitOfRun false found.1 misfit)
     ⊎ ((found.0 ≡ codes "run") × HasThreadsMisfit found.1 misfit)
     ⊎ ((found.0 ≡ codes "trace") × HasTraceMisfit found.1 misfit)
+    ⊎ ((found.0 ≡ codes "step") × HasShowingMisfit found.1 misfit)
     ⊎ ((found.0 ≡ codes "explain") × HasShowingMisfit found.1 misfit)
     ⊎ ((found.0 ≡ codes "stats") × HasShowingMisfit found.1 misfit)
     ⊎ ((found.0 ≡ codes "chart") × HasChartMisfit found.1 misfit)
@@ -285,6 +288,7 @@ IsUsageKind FormMisfit kind = kind ≡ InvalidValue
 IsUsageKind Seed kind = kind ≡ ArgumentConflict
 IsUsageKind Threads kind = kind ≡ ArgumentConflict
 IsUsageKind Messages kind = kind ≡ ArgumentConflict
+IsUsageKind PartMisfit kind = kind ≡ ArgumentConflict
 IsUsageKind TopicMisfit kind = kind ≡ InvalidSubcommand
 IsUsageKind TraceForm kind = kind ≡ InvalidValue
 IsUsageKind Hide kind = kind ≡ InvalidValue

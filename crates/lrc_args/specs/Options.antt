@@ -1,8 +1,8 @@
 -- What the options of a command say, by the matches that clap made of its words.
-use Rattle.std.specs.Prelude.{◌≡◌, ◌≢◌, ◌⊎◌, ℕ, Bool, false, true, List, [], ◌∷◌, Option, None, Some, IfSome, IsSome, IsSomeAnd, codes, if◌then◌else◌, option_map, unwrap_or}
+use Rattle.std.specs.Prelude.{◌≡◌, ◌≢◌, ◌⊎◌, ℕ, Bool, false, true, List, [], ◌∷◌, Option, None, Some, IfSome, IsSome, IsSomeAnd, codes, if◌then◌else◌, option_map, unwrap_or, ◌&&◌}
 use Rattle.std.specs.Int.{IsOutOfRange}
 use Rattle.std.specs.List.{list_any}
-use Rattle.std.specs.Option.{option_map_or}
+use Rattle.std.specs.Option.{is_none, option_map_or}
 use Rattle.std.specs.Str.Parse.{digits_value, without_leading_plus}
 use Rattle.clap.specs.Values.{bool_text}
 use Rattle.clap.specs.Takes.{is_given}
@@ -16,6 +16,7 @@ use Rattle.lrc_args.specs.declared.choice.ChartedActs.{ChartedActs}
 use Rattle.lrc_args.specs.declared.choice.ForeignActs.{ForeignActs}
 use Rattle.lrc_args.specs.declared.choice.Form.{Form}
 use Rattle.lrc_args.specs.declared.choice.Form.TheVariants as forms
+use Rattle.lrc_args.specs.declared.choice.Part.{Part}
 use Rattle.lrc_args.specs.declared.choice.RunOptions.{RunOptions}
 use Rattle.lrc_args.specs.declared.choice.TraceForm.{TraceForm}
 use Rattle.lrc_args.specs.declared.choice.TraceForm.TheVariants.{Std, Acts}
@@ -104,11 +105,22 @@ pub record IsShowingTaken (rows : List Row) : Type 0 where
   pub sim : IsSimTaken rows
   pub threads : IsFlagOption (codes "threads") rows
 
+-- of a command that shows a part of a run
+pub record IsPartTaken (rows : List Row) : Type 0 where
+  pub from : IsBareNumber (codes "from") rows
+  pub to : IsBareNumber (codes "to") rows
+
 -- of `trace`
 pub record IsTraceTaken (rows : List Row) : Type 0 where
   pub showing : IsShowingTaken rows
   pub form : HasValue (codes "as") rows
   pub messages : IsFlagOption (codes "messages") rows
+  pub part : IsPartTaken rows
+
+-- of `step`
+pub record IsStepTaken (rows : List Row) : Type 0 where
+  pub showing : IsShowingTaken rows
+  pub part : IsPartTaken rows
 
 -- of `chart`: a FILE need not be there
 pub record IsChartTaken (rows : List Row) : Type 0 where
@@ -165,13 +177,19 @@ abbrev pub IsPageSize : Option Text → Size → Type 0
 IsPageSize word Words64 = word ≡ Some (codes "64")
 IsPageSize word Words256 = word ≡ Some (codes "256")
 
--- the form that a word names, where messages are asked for or not
-abbrev pub IsForm : Option Text → Bool → Form → Type 0
-IsForm word messages forms.Acts = (word ≡ Some (codes "acts")) × (messages ≡ false)
-IsForm word messages forms.Messages = (word ≡ Some (codes "acts")) × (messages ≡ true)
-IsForm word messages forms.Events = (word ≡ Some (codes "events")) × (messages ≡ false)
-IsForm word messages forms.Json = (word ≡ Some (codes "json")) × (messages ≡ false)
-IsForm word messages forms.Rapid = (word ≡ Some (codes "rapid")) × (messages ≡ false)
+-- the part is the whole run: neither of its ends is given
+abbrev pub is_whole : Part → Bool
+is_whole part = is_none part.from && is_none part.to
+
+-- The form that a word names, where messages are asked for or not, and a part of the run. Messages are of acts alone, and a
+-- part is of states alone.
+abbrev pub IsForm : Option Text → Bool → Part → Form → Type 0
+IsForm word messages part forms.Acts = (word ≡ Some (codes "acts")) × (messages ≡ false) × (is_whole part ≡ true)
+IsForm word messages part forms.Messages = (word ≡ Some (codes "acts")) × (messages ≡ true) × (is_whole part ≡ true)
+IsForm word messages part forms.Events = (word ≡ Some (codes "events")) × (messages ≡ false) × (is_whole part ≡ true)
+IsForm word messages part forms.Json = (word ≡ Some (codes "json")) × (messages ≡ false) × (is_whole part ≡ true)
+IsForm word messages part forms.Rapid = (word ≡ Some (codes "rapid")) × (messages ≡ false) × (is_whole part ≡ true)
+IsForm word messages part (forms.States shown) = (word ≡ Some (codes "states")) × (messages ≡ false) × (shown ≡ part)
 
 -- the form of a trace that a word names
 abbrev pub IsTraceForm : Option Text → TraceForm → Type 0
@@ -202,11 +220,16 @@ HasWayMisfit order seed events threads misfit =
     ((misfit ≡ unfit.Seed) × IsSome seed × (order ≢ Random))
     ⊎ ((misfit ≡ unfit.Threads) × (threads ≡ true) × (IsSome events ⊎ (order ≡ Random)))
 
--- what keeps a word from naming a form
-abbrev pub HasWordMisfit : Option Text → Bool → Misfit → Type 0
-HasWordMisfit word messages misfit =
-    ((misfit ≡ unfit.Form) × ((messages : Bool) (form : Form) → ¬ IsForm word messages form))
-    ⊎ ((misfit ≡ unfit.Messages) × (messages ≡ true) × (word ≢ Some (codes "acts")))
+-- what keeps a word from naming a form of this part of the run
+abbrev pub HasNameMisfit : Option Text → Part → Misfit → Type 0
+HasNameMisfit word part misfit =
+    ((misfit ≡ unfit.Form) × ((messages : Bool) (part : Part) (form : Form) → ¬ IsForm word messages part form))
+    ⊎ ((misfit ≡ unfit.Part) × (is_whole part ≡ false) × (word ≢ Some (codes "states")))
+
+-- the same, where messages are asked for or not
+abbrev pub HasWordMisfit : Option Text → Bool → Part → Misfit → Type 0
+HasWordMisfit word messages part misfit =
+    HasNameMisfit word part misfit ⊎ ((misfit ≡ unfit.Messages) × (messages ≡ true) × (word ≢ Some (codes "acts")))
 
 -- ---- the choice of the matches
 
@@ -243,11 +266,18 @@ IsThreadsWayIn rows (ways.Rounds picker) = ⊥
 IsThreadsWayIn rows (ways.Random number) = ⊥
 IsThreadsWayIn rows (ways.Threads picker) = IsPicker (first_of (codes "order") rows) picker
 
+-- which part of a run is shown is chosen by these matches
+pub record IsPart (rows : List Row) (part : Part) : Type 0 where
+  pub from : some_number_in (codes "from") rows ≡ part.from
+  pub to : some_number_in (codes "to") rows ≡ part.to
+
 -- the form of a trace is chosen by these matches
 pub record IsFormIn (rows : List Row) (form : Form) : Type 0 where
   pub messages : Bool
+  pub part : Part
   pub asked : IsFlag (codes "messages") messages rows
-  pub named : IsForm (first_of (codes "as") rows) messages form
+  pub part_is : IsPart rows part
+  pub named : IsForm (first_of (codes "as") rows) messages part form
 
 -- Of which acts it is asked: the second is another than the first.
 pub record IsAsking (rows : List Row) (asking : Asking) : Type 0 where
@@ -307,7 +337,8 @@ HasWayMisfitIn threads rows misfit =
 -- what does not fit in the form of a trace
 abbrev pub HasFormMisfitIn : List Row → Misfit → Type 0
 HasFormMisfitIn rows misfit =
-    (messages : Bool) × IsFlag (codes "messages") messages rows × HasWordMisfit (first_of (codes "as") rows) messages misfit
+    (messages : Bool) × (part : Part) × IsFlag (codes "messages") messages rows × IsPart rows part
+    × HasWordMisfit (first_of (codes "as") rows) messages part misfit
 
 -- of `races`: no form has the word of the option
 abbrev pub HasRacesMisfit : List Row → Misfit → Type 0

@@ -71,7 +71,16 @@ pub struct RunChoice<'w> {
     pub way: Way<'w>,
 }
 
-/// The form in which `trace` shows the acts of a run.
+/// Which part of a run is shown, turn by turn.
+#[derive(Clone, Copy)]
+pub struct Part {
+    /// The position of the act of the first turn that is shown, where it is given.
+    pub from: Option<u64>,
+    /// That of the act of the last turn that is shown.
+    pub to: Option<u64>,
+}
+
+/// The form in which `trace` shows a run.
 #[derive(Clone, Copy)]
 pub enum Form {
     /// A line for each act.
@@ -84,6 +93,8 @@ pub enum Form {
     Json,
     /// The trace form of the race detectors' framework RAPID.
     Rapid,
+    /// A JSON object for each turn of a part of the run, with the state of its node.
+    States(Part),
 }
 
 /// Which part of a run a chart shows, and how.
@@ -115,8 +126,10 @@ pub struct Asking {
 pub enum Shape {
     /// What the nodes print, how they end, and the races.
     Report,
-    /// Its acts.
+    /// Its acts, or its turns.
     Trace(Form),
+    /// A page for a browser that shows a part of it turn by turn, with the state of each node.
+    Step(Part),
     /// The report, with reasons.
     Explain,
     /// How much of each thing happened.

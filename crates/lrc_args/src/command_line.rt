@@ -23,7 +23,7 @@ use crate::misfit::{Misfit, fault_of_misfit};
 use crate::reading::{
     is_named, most_of, nodes_of, outcome_of, some_nodes, some_number_of, steps_of, text_of,
 };
-use crate::runs::{run_choice, showing_choice, threads_run, trace_choice};
+use crate::runs::{run_choice, showing_choice, step_choice, threads_run, trace_choice};
 use crate::why::why_choice;
 use clap::ArgMatches;
 use clap::error::ErrorKind;
@@ -179,6 +179,9 @@ fn asked_from<'w>(matches: &ArgMatches<'w>) -> Result<Choice<'w>, Misfit>
 {
     if let Some(options) = matches.subcommand_matches("trace") {
         return trace_choice(options);
+    }
+    if let Some(options) = matches.subcommand_matches("step") {
+        return step_choice(options);
     }
     if let Some(options) = matches.subcommand_matches("chart") {
         return chart_choice(options);

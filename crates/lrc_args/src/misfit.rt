@@ -17,7 +17,7 @@ const BAD_RUN_ORDER: &str = "invalid value for '--order <ORDER>': it is oldest, 
 
 const BAD_PAGE: &str = "invalid value for '--page <WORDS>': it is 64 or 256";
 
-const BAD_FORM: &str = "invalid value for '--as <FORM>': it is acts, events, json or rapid";
+const BAD_FORM: &str = "invalid value for '--as <FORM>': it is acts, events, json, rapid or states";
 
 const IDLE_SEED: &str = "the argument '--seed <X>' cannot be used without '--order random'";
 
@@ -26,6 +26,9 @@ const BAD_THREADS: &str =
 
 const BAD_MESSAGES: &str =
     "the argument '--messages' cannot be used with a form other than '--as acts'";
+
+const BAD_PART: &str =
+    "the arguments '--from <P>' and '--to <Q>' cannot be used with a form other than '--as states'";
 
 const BAD_TOPIC: &str = "invalid value for '[COMMAND]': it is none of the commands";
 
@@ -64,6 +67,8 @@ pub(crate) enum Misfit {
     Threads,
     /// Messages are asked for, and so is another form than that of acts.
     Messages,
+    /// A part of the run is asked for, and so is another form than that of states.
+    Part,
     /// Help is wanted on a word that is no command.
     Topic,
     /// The `--as` of `races` has no word that it takes.
@@ -122,6 +127,7 @@ fn usage_kind(misfit: Misfit) -> ErrorKind
         Misfit::Seed
         | Misfit::Threads
         | Misfit::Messages
+        | Misfit::Part
         | Misfit::TextSource
         | Misfit::SameAct
         | Misfit::Sources
@@ -142,6 +148,7 @@ fn message_of(misfit: Misfit) -> &'static str {
         Misfit::Seed => IDLE_SEED,
         Misfit::Threads => BAD_THREADS,
         Misfit::Messages => BAD_MESSAGES,
+        Misfit::Part => BAD_PART,
         Misfit::Topic => BAD_TOPIC,
         Misfit::TraceForm => BAD_TRACE_FORM,
         Misfit::Hide => BAD_HIDE,

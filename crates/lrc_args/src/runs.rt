@@ -1,19 +1,18 @@
 // The runs of the nodes that the options ask for.
 
-ghost use Rattle.std.specs.Prelude.{◌≡◌, Bool, IfErr, IfOk, IfSome, None, Some, codes, false, option_map};
+ghost use Rattle.std.specs.Prelude.{◌≡◌, IfErr, IfOk, IfSome, None, Some, codes, false, option_map};
 ghost use Rattle.clap.specs.Words.{first_of, found_of, rows_of};
 ghost use Rattle.lrc_envelope.specs.declared.picker.Picker.{Picker as AnyPicker};
 ghost use Rattle.lrc_args.specs.CommandLine.{HasMisfitOfRun, HasShowingMisfit, HasThreadsMisfit, HasTraceMisfit, IsRun, IsShowingRun, IsThreadsRun};
 ghost use Rattle.lrc_args.specs.CommandLine.{IsChoice};
 ghost use Rattle.lrc_args.specs.Options.{AreRunOptions, HasFormMisfitIn, HasOptionsMisfit, HasValue, HasWayMisfit, HasWayMisfitIn};
-ghost use Rattle.lrc_args.specs.Options.{HasWordMisfit, IsForm, IsFormIn, IsOrder, IsPicker, IsRunTaken, IsShowingTaken, IsSimTaken};
-ghost use Rattle.lrc_args.specs.Options.{IsTraceTaken, IsWay, IsWayIn};
+ghost use Rattle.lrc_args.specs.Options.{HasNameMisfit, HasWordMisfit, IsForm, IsFormIn, IsOrder, IsPart, IsPartTaken, IsPicker, IsRunTaken};
+ghost use Rattle.lrc_args.specs.Options.{IsShowingTaken, IsSimTaken, IsStepTaken, IsTraceTaken, IsWay, IsWayIn, is_whole};
 ghost use Rattle.lrc_args.specs.declared.misfit.Misfit.TheVariants as unfit;
-ghost use Rattle.lrc_args.specs.declared.choice.Form.{Form as AnyForm};
 ghost use Rattle.lrc_args.specs.declared.choice.RunChoice.{RunChoice as AnyRun};
 ghost use Rattle.lrc_args.specs.declared.runs.Order.{Order as AnyOrder};
 
-use crate::choice::{Choice, Form, RunChoice, RunOptions, Shape, Way};
+use crate::choice::{Choice, Form, Part, RunChoice, RunOptions, Shape, Way};
 use crate::misfit::Misfit;
 use crate::reading::{collect_of, is_named, nodes_of, size_of, some_number_of, steps_of, text_of};
 use clap::ArgMatches;
@@ -59,6 +58,16 @@ pub(crate) fn trace_choice<'w>(options: &ArgMatches<'w>) -> Result<Choice<'w>, M
 {
     let form = form_of(options)?;
     Ok(Choice::Show(showing_run(options)?, Shape::Trace(form)))
+}
+
+/// The choice of `step`.
+pub(crate) fn step_choice<'w>(options: &ArgMatches<'w>) -> Result<Choice<'w>, Misfit>
+    requires { IsStepTaken (rows_of (found_of options.now)) }
+    ensures ok { IfOk result (IsChoice (codes "step", rows_of (found_of options.now))) }
+    ensures err { IfErr result (HasShowingMisfit (rows_of (found_of options.now))) }
+{
+    let part = part_of(options);
+    Ok(Choice::Show(showing_run(options)?, Shape::Step(part)))
 }
 
 /// The choice of a command that has no options but those of its run.
@@ -212,26 +221,41 @@ fn form_of(options: &ArgMatches<'_>) -> Result<Form, Misfit>
     ensures ok { IfOk result (IsFormIn (rows_of (found_of options.now))) }
     ensures err { IfErr result (HasFormMisfitIn (rows_of (found_of options.now))) }
 {
-    form_named(text_of(options, "as"), is_named(options, "messages"))
+    let messages = is_named(options, "messages");
+    form_named(text_of(options, "as"), messages, part_of(options))
 }
 
-fn form_named(word: &str, messages: bool) -> Result<Form, Misfit>
-    ensures ok { IfOk result (IsForm (Some word.now) messages) }
-    ensures err { IfErr result (HasWordMisfit (Some word.now) messages) }
+// Which part of a run is shown.
+fn part_of(options: &ArgMatches<'_>) -> Part
+    requires { IsPartTaken (rows_of (found_of options.now)) }
+    ensures { IsPart (rows_of (found_of options.now)) result }
 {
-    match form_without_messages(word)? {
+    Part {
+        from: some_number_of(options, "from"),
+        to: some_number_of(options, "to"),
+    }
+}
+
+fn form_named(word: &str, messages: bool, part: Part) -> Result<Form, Misfit>
+    ensures ok { IfOk result (IsForm (Some word.now) messages part) }
+    ensures err { IfErr result (HasWordMisfit (Some word.now) messages part) }
+{
+    match form_without_messages(word, part)? {
         Form::Acts if messages => Ok(Form::Messages),
         _ if messages => Err(Misfit::Messages),
         form => Ok(form),
     }
 }
 
-fn form_without_messages(word: &str) -> Result<Form, Misfit>
-    ensures ok { IfOk result (IsForm (Some word.now) false) }
-    ensures err { IfErr result (λ misfit. (misfit ≡ unfit.Form)
-        × ((messages : Bool) (form : AnyForm) → ¬ IsForm (Some word.now) messages form)) }
+fn form_without_messages(word: &str, part: Part) -> Result<Form, Misfit>
+    ensures ok { IfOk result (IsForm (Some word.now) false part) }
+    ensures err { IfErr result (HasNameMisfit (Some word.now) part) }
 {
-    if word == "acts" {
+    if word == "states" {
+        Ok(Form::States(part))
+    } else if !is_whole(part) {
+        Err(Misfit::Part)
+    } else if word == "acts" {
         Ok(Form::Acts)
     } else if word == "events" {
         Ok(Form::Events)
@@ -242,4 +266,11 @@ fn form_without_messages(word: &str) -> Result<Form, Misfit>
     } else {
         Err(Misfit::Form)
     }
+}
+
+// Whether a part is the whole run.
+fn is_whole(part: Part) -> bool
+    ensures { result ≡ is_whole part }
+{
+    part.from.is_none() && part.to.is_none()
 }

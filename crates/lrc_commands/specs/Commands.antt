@@ -82,8 +82,15 @@ sim_command = with_way_options (new_app (codes "sim"))
 abbrev pub with_showing_options : App → App
 with_showing_options command = with_rule (with_way_options command) (flag_option (codes "threads"))
 
+-- which part of a run is shown need not be said
+abbrev pub with_part : App → App
+with_part command = with_rule (with_rule command (bare_number (codes "from"))) (bare_number (codes "to"))
+
 abbrev pub trace_command : App
-trace_command = with_rule (with_rule (with_showing_options (new_app (codes "trace"))) form) (flag_option (codes "messages"))
+trace_command = with_part (with_rule (with_rule (with_showing_options (new_app (codes "trace"))) form) (flag_option (codes "messages")))
+
+abbrev pub step_command : App
+step_command = with_part (with_showing_options (new_app (codes "step")))
 
 abbrev pub explain_command : App
 explain_command = with_showing_options (new_app (codes "explain"))
@@ -110,11 +117,10 @@ abbrev pub why_command : App
 why_command = with_rule (with_rule (with_rule (with_ways (with_counts (with_rule (new_app (codes "why")) optional_file)))
     (option (codes "acts"))) act) (bare_number (codes "and"))
 
--- the first and the last act that are shown need not be given either
 abbrev pub chart_command : App
-chart_command = with_rule (with_rule (with_rule (with_rule (with_rule (with_rule (with_rule
+chart_command = with_rule (with_rule (with_part (with_rule (with_rule (with_rule
     (with_ways (with_counts (with_rule (new_app (codes "chart")) optional_file))) (flag_option (codes "threads"))) (option (codes "acts")))
-    (flag_option (codes "text"))) (bare_number (codes "from"))) (bare_number (codes "to"))) (option (codes "hide"))) (flag_option (codes "source"))
+    (flag_option (codes "text")))) (option (codes "hide"))) (flag_option (codes "source"))
 
 abbrev pub lint_command : App
 lint_command = with_rule (new_app (codes "lint")) file
@@ -146,7 +152,8 @@ with_reports command = with_subcommand (with_subcommand (with_subcommand (with_s
 
 abbrev pub with_questions : App → App
 with_questions command = with_subcommand (with_subcommand (with_subcommand (with_subcommand
-    (with_subcommand (with_subcommand command trace_command.top) explain_command.top) stats_command.top) chart_command.top) judge_command.top) explore_command.top
+    (with_subcommand (with_subcommand (with_subcommand command trace_command.top) step_command.top) explain_command.top) stats_command.top)
+    chart_command.top) judge_command.top) explore_command.top
 
 abbrev pub with_hints : App → App
 with_hints command = with_subcommand (with_subcommand (with_subcommand command why_command.top) lint_command.top) races_command.top

@@ -4,8 +4,8 @@ ghost use Rattle.std.specs.Prelude.{◌≡◌, [], IfOk, false};
 ghost use Rattle.clap.specs.Words.{App, Rule, app_of, rule_of, with_rule, with_subcommand};
 ghost use Rattle.clap.specs.declared.builder.command.Command.TheViews.{out-Command as fields_of};
 ghost use Rattle.lrc_commands.specs.Commands.{act, bare_number, chart_command, check_command, collect, explain_command, explore_command, file, flag_option, form, help_command, judge_command, lint_command, most, nodes, number_option, option, order};
-ghost use Rattle.lrc_commands.specs.Commands.{optional_file, page, plain_command, races_command, run_command, sim_command, stats_command, steps, trace_command, trace_form, treadmarks, treadmarks_shape, version_command, why_command};
-ghost use Rattle.lrc_commands.specs.Commands.{is_command, with_counts, with_hints, with_ways};
+ghost use Rattle.lrc_commands.specs.Commands.{optional_file, page, plain_command, races_command, run_command, sim_command, stats_command, step_command, steps, trace_command, trace_form, treadmarks, treadmarks_shape, version_command, why_command};
+ghost use Rattle.lrc_commands.specs.Commands.{is_command, with_counts, with_hints, with_part, with_ways};
 ghost use Rattle.lrc_commands.specs.Commands.{with_questions, with_reports, with_run_options, with_showing_options, with_topics, with_way_options};
 
 use clap::{Arg, ArgAction, Command, value_parser};
@@ -39,7 +39,7 @@ const THREADS_HELP: &str =
     "Runs each node on a thread of its own; not with events or a random order";
 
 const FORM_HELP: &str =
-    "How the acts are shown: acts, events (as `--events` reads them), json or rapid (for race detectors)";
+    "How the acts are shown: acts, events (as `--events` reads them), json, rapid (for race detectors), or states (the turns, with the states of the nodes)";
 
 const MESSAGES_HELP: &str = "With the acts: the messages that are taken and sent between them";
 
@@ -50,6 +50,18 @@ const FROM_HELP: &str =
 
 const TO_HELP: &str =
     "The position of the last act that is shown. Left out, the run is shown to its end";
+
+const STATES_FROM_HELP: &str =
+    "With the states: the position of the act of the first turn that is shown, counted from 0. Left out, the run is shown from its beginning";
+
+const STATES_TO_HELP: &str =
+    "With the states: the position of the act of the last turn that is shown. Left out, the run is shown to its end";
+
+const STEP_FROM_HELP: &str =
+    "The position of the act of the first turn that is shown, counted from 0. Left out, the run is shown from its beginning";
+
+const STEP_TO_HELP: &str =
+    "The position of the act of the last turn that is shown. Left out, the run is shown to its end";
 
 const HIDE_HELP: &str =
     "Leaves out rows: quiet leaves out those that have nothing but an assignment or a condition";
@@ -104,9 +116,9 @@ const STATUSES: &str = "Exit status:
   4  no race, and a node trapped or is unfinished (judge: the acts are of no run; explore: some order gets stuck)";
 
 // The names of the commands.
-static COMMANDS: [&str; 15] = [
-    "check", "plain", "sim", "run", "trace", "explain", "stats", "chart", "judge", "explore",
-    "why", "lint", "races", "help", "version",
+static COMMANDS: [&str; 16] = [
+    "check", "plain", "sim", "run", "trace", "step", "explain", "stats", "chart", "judge",
+    "explore", "why", "lint", "races", "help", "version",
 ];
 
 /// Whether a command is called so.
@@ -154,6 +166,7 @@ fn taking_questions<'w>(alloc: Global, command: Command<'w>) -> Result<Command<'
     ensures { IfOk result (λ given. app_of given ≡ with_questions (app_of command.entry)) }
 {
     let command = having(Ok(command), trace_command(alloc));
+    let command = having(command, step_command(alloc));
     let command = having(command, explain_command(alloc));
     let command = having(command, stats_command(alloc));
     let command = having(command, chart_command(alloc));
@@ -254,10 +267,24 @@ fn trace_command<'w>(alloc: Global) -> Result<Command<'w>, AllocError>
     ensures app { IfOk result (λ command. app_of command ≡ trace_command) }
     ensures local { IfOk result (λ command. (fields_of command).has_globals ≡ false) }
 {
-    let command = Command::new(alloc, "trace").about("Shows the acts of a run, one on each line");
+    let command = Command::new(alloc, "trace").about(
+        "Shows the acts of a run, one on each line, or its turns with the states of the nodes",
+    );
     let command = taking_showing_options(alloc, command);
     let command = taking(command, form(alloc));
-    taking(command, flag_option(alloc, "messages", MESSAGES_HELP))
+    let command = taking(command, flag_option(alloc, "messages", MESSAGES_HELP));
+    taking_part(alloc, command, STATES_FROM_HELP, STATES_TO_HELP)
+}
+
+fn step_command<'w>(alloc: Global) -> Result<Command<'w>, AllocError>
+    ensures app { IfOk result (λ command. app_of command ≡ step_command) }
+    ensures local { IfOk result (λ command. (fields_of command).has_globals ≡ false) }
+{
+    let command = Command::new(alloc, "step").about(
+        "Shows a run turn by turn, with the state of each node, as a page for a browser, an HTML document",
+    );
+    let command = taking_showing_options(alloc, command);
+    taking_part(alloc, command, STEP_FROM_HELP, STEP_TO_HELP)
 }
 
 fn explain_command<'w>(alloc: Global) -> Result<Command<'w>, AllocError>
@@ -292,8 +319,7 @@ fn chart_command<'w>(alloc: Global) -> Result<Command<'w>, AllocError>
     let command = taking(command, flag_option(alloc, "threads", THREADS_HELP));
     let command = taking(command, text(alloc, "acts", "PATH", CHART_ACTS_HELP));
     let command = taking(command, flag_option(alloc, "text", TEXT_HELP));
-    let command = taking(command, bare_number(alloc, "from", "P", FROM_HELP));
-    let command = taking(command, bare_number(alloc, "to", "Q", TO_HELP));
+    let command = taking_part(alloc, command, FROM_HELP, TO_HELP);
     let command = taking(command, text(alloc, "hide", "WHAT", HIDE_HELP));
     taking(command, flag_option(alloc, "source", SOURCE_HELP))
 }
@@ -408,6 +434,21 @@ fn taking_ways<'w>(
 {
     let command = taking(command, text(alloc, "events", "PATH", EVENTS_HELP));
     taking(command, bare_number(alloc, "seed", "X", SEED_HELP))
+}
+
+// Adds what says which part of a run is shown.
+fn taking_part<'w>(
+    alloc: Global,
+    command: Result<Command<'w>, AllocError>,
+    from: &'w str,
+    to: &'w str,
+) -> Result<Command<'w>, AllocError>
+    ensures app { (app : App) → IfOk command.entry (λ command. app_of command ≡ app) → IfOk result (λ given. app_of given ≡ with_part app) }
+    ensures local { IfOk command.entry (λ command. (fields_of command).has_globals ≡ false)
+        → IfOk result (λ given. (fields_of given).has_globals ≡ false) }
+{
+    let command = taking(command, bare_number(alloc, "from", "P", from));
+    taking(command, bare_number(alloc, "to", "Q", to))
 }
 
 // Adds what they have in common with `run`, whose orders are others.

@@ -20,7 +20,7 @@ use Rattle.lrc_shown.specs.Lines.{AreLinesIn}
 use Rattle.lrc_shown.specs.Runs.{turns_in}
 use Rattle.lrc_shown.specs.Shown.{IsShowFault}
 use Rattle.lrc_answer.specs.declared.fault.Fault.{Fault}
-use Rattle.lrc_answer.specs.declared.fault.Fault.TheVariants.{LongActs, NoAct, Text, Events, Acts, Worn, TooManyStates, NoOutcome, TooLong, Mismatch, NoMemory}
+use Rattle.lrc_answer.specs.declared.fault.Fault.TheVariants.{LongActs, NoAct, Text, Events, Acts, Worn, TooManyStates, NoOutcome, TooManyTurns, TooLong, Mismatch, NoMemory}
 
 -- what was found of a run's acts is known of the run
 pub course_of_run : (text : List ℕ) (program : Program) (options : RunOptions) (run : Run)
@@ -55,6 +55,7 @@ chart_unshown charting choice text program run course (Acts line) known h = h
 chart_unshown charting choice text program run course Worn known h = h
 chart_unshown charting choice text program run course (TooManyStates most) known h = h
 chart_unshown charting choice text program run course (NoOutcome number) known h = h
+chart_unshown charting choice text program run course TooManyTurns known h = h
 chart_unshown charting choice text program run course Mismatch known h = h
 chart_unshown charting choice text program run course LongActs known h = h
 chart_unshown charting choice text program run course (NoAct position) known h = h

@@ -4,3 +4,5 @@ pub mod Reasoned
 pub mod Runs
 pub mod Showing
 pub mod Shown
+pub mod Explained
+pub mod Stated

@@ -6,5 +6,6 @@ pub mod charted;
 pub mod reasoned;
 mod runs;
 pub mod shown;
+mod stated;
 pub mod threads;
 mod trace;

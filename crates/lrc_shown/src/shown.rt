@@ -3,7 +3,8 @@
 ghost use Rattle.std.specs.Prelude.{◌≡◌, ◌<◌, All, IfErr, IfOk, false, is_some, length, option_map};
 ghost use Rattle.lrc_answer.specs.Texts.{IsTextOf};
 ghost use Rattle.lrc_shown.specs.Showing.{RefusesRun, ShowsRun};
-ghost use Rattle.lrc_shown.specs.Shown.{IsExplained, IsRunFor, IsShowFault, IsShown, keep_for, shown_status};
+ghost use Rattle.lrc_shown.specs.Explained.{IsExplained};
+ghost use Rattle.lrc_shown.specs.Shown.{IsRunFor, IsShowFault, IsShown, keep_for, shown_status};
 ghost use Rattle.lrc_run.specs.Run.{turns_of_nodes};
 ghost use Rattle.lrc_stats.specs.StatsText.{stats_text};
 ghost use Rattle.lrc_text.specs.Parts.{whole_text};
@@ -12,7 +13,8 @@ ghost use Rattle.lrc_args.specs.Files.{events_along, is_on_threads};
 use crate::charted::charted;
 use crate::reasoned::reasons_of_run;
 use crate::runs::run_of;
-use crate::trace::trace_parts;
+use crate::stated::stepped;
+use crate::trace::traced;
 use lrc_answer::fault::Fault;
 use lrc_answer::printout::{Printout, in_one};
 use lrc_args::choice::{RunChoice, RunOptions, Shape};
@@ -55,7 +57,7 @@ fn keep_for(shape: Shape) -> Keep
     ensures { result ≡ keep_for shape }
 {
     match shape {
-        Shape::Report | Shape::Explain | Shape::Why(_) => Keep::Newest,
+        Shape::Report | Shape::Explain | Shape::Step(_) | Shape::Why(_) => Keep::Newest,
         Shape::Trace(_) | Shape::Stats | Shape::Chart(_) => Keep::All,
     }
 }
@@ -89,7 +91,7 @@ fn status_of(shape: Shape, ends: &[End], first_race: Option<usize>) -> u8
 {
     match shape {
         Shape::Chart(_) | Shape::Why(_) => 0,
-        Shape::Report | Shape::Trace(_) | Shape::Explain | Shape::Stats => {
+        Shape::Report | Shape::Trace(_) | Shape::Explain | Shape::Stats | Shape::Step(_) => {
             status_after_run(ends, first_race)
         }
     }
@@ -115,16 +117,17 @@ fn parts_of(
     let first_race = report.first_race;
     match shape {
         Shape::Report => Ok(run_parts(alloc, acts, &report.ends, &report.races, first_race)?),
-        Shape::Trace(form) => Ok(trace_parts(alloc, form, text, program, options, run)?),
+        Shape::Trace(form) => traced(alloc, form, text, program, options, run),
         Shape::Explain => Ok(explained(alloc, text, program, options, acts, first_race)?),
         Shape::Stats => Ok(counted(alloc, run)?),
         Shape::Chart(charting) => charted(alloc, charting, choice, text, program, run),
+        Shape::Step(part) => stepped(alloc, part, text, program, options, run),
         Shape::Why(asking) => Ok(reasons_of_run(alloc, text, program, options, acts, &asking)?),
     }
 }
 
-// The report of a run with reasons, and with the labels of the text.
-fn explained(
+/// The report of a run with reasons, and with the labels of the text.
+pub(crate) fn explained(
     alloc: Global,
     text: &[u8],
     program: &Program,

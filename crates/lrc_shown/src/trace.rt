@@ -1,12 +1,14 @@
 // Traces of a run.
 
-ghost use Rattle.std.specs.Prelude.{◌≡◌, ◌≤◌, ◌<◌, ℕ, All, IfOk, List, length, map};
+ghost use Rattle.std.specs.Prelude.{◌≡◌, ◌≢◌, ◌≤◌, ◌<◌, ℕ, All, IfErr, IfOk, List, length, map};
 ghost use Rattle.lrc_answer.specs.Texts.{IsTextOf};
 ghost use Rattle.lrc_answer.specs.Labels.{labels_in};
 ghost use Rattle.lrc_shown.specs.Lines.{AreLinesIn};
 ghost use Rattle.lrc_shown.specs.Runs.{IsRunWith};
 ghost use Rattle.lrc_world.specs.declared.keep.Keep.TheVariants.{All as Whole};
-ghost use Rattle.lrc_shown.specs.Shown.{IsTraceShown, IsWrittenAs};
+ghost use Rattle.lrc_shown.specs.Shown.{IsFormShown, IsTraceFault, IsTraceShown, IsWrittenAs};
+ghost use Rattle.lrc_args.specs.declared.choice.Form.TheVariants.{States};
+ghost use Rattle.lrc_args.specs.declared.choice.Part.{Part as ShownPart};
 ghost use Rattle.lrc_clock.specs.Keeping.{KeepsTime};
 ghost use Rattle.lrc_events.specs.Writing.{events_text};
 ghost use Rattle.lrc_acts_text.specs.Json.{json_of_acts};
@@ -14,6 +16,8 @@ ghost use Rattle.lrc_text.specs.Parts.{whole_text};
 ghost use Rattle.lrc_turns_text.specs.TurnsText.{messages_text};
 
 use lrc_acts_text::{acts_part, json_part, rapid_part};
+use crate::stated::stated;
+use lrc_answer::fault::Fault;
 use lrc_answer::printout::in_one;
 use lrc_args::choice::{Form, RunOptions};
 use lrc_events::events_part;
@@ -31,8 +35,31 @@ use lrc_world::run::Run;
 use lrc_world::turned::{Turned, turned_events};
 use std::alloc::{AllocError, Global};
 
-/// A trace of a run of the program that this text is of.
-pub(crate) fn trace_parts(
+/// A trace of a run of the program that this text is of, in any form.
+pub(crate) fn traced(
+    alloc: Global,
+    form: Form,
+    text: &[u8],
+    program: &Program,
+    options: &RunOptions<'_>,
+    run: &Run,
+) -> Result<Vec<Vec<u8>>, Fault>
+    requires text { IsTextOf text.now program.now }
+    requires ran { IsRunWith program.now options.now Whole run.now }
+    ensures ok { IfOk result (λ parts. IsTraceShown form text.now program.now options.now run.now
+        (whole_text parts.items)) }
+    ensures err { IfErr result (IsTraceFault form text.now program.now options.now run.now) }
+{
+    match form {
+        Form::States(part) => stated(alloc, part, text, program, options, run),
+        Form::Acts | Form::Messages | Form::Events | Form::Json | Form::Rapid => {
+            Ok(trace_parts(alloc, form, text, program, options, run)?)
+        }
+    }
+}
+
+// A trace in a form that is not one of states.
+fn trace_parts(
     alloc: Global,
     form: Form,
     text: &[u8],
@@ -42,7 +69,8 @@ pub(crate) fn trace_parts(
 ) -> Result<Vec<Vec<u8>>, AllocError>
     requires text { IsTextOf text.now program.now }
     requires ran { IsRunWith program.now options.now Whole run.now }
-    ensures { IfOk result (λ parts. IsTraceShown form text.now program.now options.now run.now
+    requires form { (part : ShownPart) → form ≢ States part }
+    ensures { IfOk result (λ parts. IsFormShown form text.now program.now options.now run.now
         (whole_text parts.items)) }
 {
     let nodes = options.nodes.count as u8;
@@ -63,6 +91,7 @@ fn form_part(
 ) -> Result<Vec<u8>, AllocError>
     requires ran { IsRunWith program.now options.now Whole run.now }
     requires each { length lines.now ≡ length run.now.report.acts.items }
+    requires form { (part : ShownPart) → form ≢ States part }
     ensures { IfOk result (λ part. IsWrittenAs form text.now program.now options.now run.now
         lines.now part.items) }
 {
@@ -84,6 +113,7 @@ fn form_part(
         }
         Form::Json => json_of(alloc, text, program, acts, lines, nodes),
         Form::Rapid => rapid_part(alloc, acts, lines, program.locks, nodes),
+        Form::States(_) => unreachable!(),
     }
 }
 

@@ -28,7 +28,20 @@ function readRun(text) {
   run.source = [...run.text.replace(/\n$/, "").split("\n"), "# end"];
   run.momentOfAct = new Map(run.turns.flatMap(({ act }, k) => act ? [[act.position, k + 1]] : []));
   run.pairs = run.races.flatMap(({ race, pairs }) => pairs.map(pair => ({ race, pair: pair.map(act => run.momentOfAct.get(act)) }))).concat(racesBeyond(run));
-  return Object.assign(run, momentsOf(run), usesOf(run));
+  Object.assign(run, momentsOf(run), usesOf(run));
+  return Object.assign(run, { isPart: run.turns[0]?.turn > 0 || run.turns.length > 0 && goesOn(run) });
+}
+
+/** Whether some node comes to another end, or to another line, than it has at the last turn that is shown. */
+function goesOn({ explain, moments }) {
+  const { states } = moments.at(-1);
+  return explain.some((line, k) => {
+    const [, node, end] = /^node (\d+) (ended|trapped|unfinished)/.exec(line) ?? [];
+    if (!end) return false;
+    const { waits, at } = states[node];
+    const isAtItsEnd = /^(ended|trapped)/.test(waits);
+    return end === "unfinished" ? isAtItsEnd || !explain[k + 1]?.startsWith(`  next, line ${at}: `) : !waits.startsWith(end);
+  });
 }
 
 /** Races with acts that are not shown, by the reasons: moment 0 stands for those before the part, none for those behind it. */
@@ -117,7 +130,6 @@ function labelled(kind, number) {
   const place = label?.of === "words" ? `[${number - label.from}]` : "";
   return label ? `${kind} ${number} (${label.name}${place})` : `${kind} ${number}`;
 }
-function isPart() { return run.turns[0]?.turn > 0; }
 function counted(count, thing) { return count === 1 ? `1 ${thing}` : `${count} ${thing}s`; }
 
 /** At most five, the rest as a number. */
@@ -159,7 +171,7 @@ function numberOf({ message }) { return +message.match(/ (\d+)/)[1]; }
 function inWords(message) { return messageWords[kindOf(message)](numberOf(message)); }
 
 function headline({ turn, states }) {
-  if (!turn) return isPart() ? `Before turn ${run.turns[0].turn}` : "Before the first turn";
+  if (!turn) return !run.turns.length ? "No turn is shown" : run.turns[0].turn ? `Before turn ${run.turns[0].turn}` : "Before the first turn";
   const { node, act, take, again, sends } = turn;
   const does = act && deedWords[act.kind](act, states[node]);
   if (take) return `Node ${node} takes ${inWords(take)} from node ${take.from}${again ? ", again" : ""}${does ? `, and ${does}` : ""}`;
@@ -170,7 +182,9 @@ function headline({ turn, states }) {
 
 /** The rule of the protocol that the turn is a case of; for a read of an old value, why it is old. */
 function because({ turn, states }, before) {
-  if (!turn) return `Press \u2192 to go on, ? for keys and signs. ${isPart() ? "A part of the run: nodes, messages and old values as the turns before it left them."
+  if (!turn && !run.turns.length) return "Nodes and messages are as the turns before left them. Press ? for keys and signs.";
+  if (!turn) return `Press \u2192 to go on, ? for keys and signs. ${run.turns[0].turn
+    ? "A part of the run: nodes, messages and old values as the turns before it left them."
     : "At the start all copies are valid and zero, and a lock's token is with its manager."}`;
   const state = states[turn.node];
   const rule = turn.again ? () => "It was taken before: nothing happens."
@@ -281,8 +295,8 @@ function draw() {
 
 function drawHeader(turn, before) {
   const last = run.turns.at(-1)?.turn;
-  const whole = isPart() ? `part: turns ${run.turns[0].turn} to ${last}` : counted(run.turns.length, "turn");
-  const place = turn ? `turn ${turn.turn} ${isPart() ? `(part: ${run.turns[0].turn} to ${last})` : `of ${last}`}` : whole;
+  const whole = run.isPart ? `part: turns ${run.turns[0].turn} to ${last}` : last === undefined ? "no turn shown" : counted(run.turns.length, "turn");
+  const place = turn ? `turn ${turn.turn} ${run.isPart ? `(part: ${run.turns[0].turn} to ${last})` : `of ${last}`}` : whole;
   const act = turn?.act ? [`act ${turn.act.position}`, `line ${turn.act.line}`] : [];
   const races = run.races.length ? [counted(run.races.filter(({ race }) => race).length, "race")] : [];
   regions.place.textContent = [run.program, counted(run.nodes, "node"), ...races, place, ...act].join(" \u00b7 ");

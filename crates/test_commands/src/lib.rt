@@ -13,7 +13,11 @@ mod large;
 #[cfg(test)]
 mod progress;
 #[cfg(test)]
+mod refused;
+#[cfg(test)]
 mod shell;
+#[cfg(test)]
+mod stepped;
 #[cfg(test)]
 mod threads;
 #[cfg(test)]

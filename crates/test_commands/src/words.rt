@@ -3,7 +3,7 @@
 use crate::checks::passes;
 use lrc_args::choice::{
     Asking, ChartedActs, Charting, Choice, ChooseFault, Exploring, ForeignActs, Form, Judging,
-    PlainRun, Racing, Request, RunOptions, Shape, Topic, TraceForm, Way,
+    Part, PlainRun, Racing, Request, RunOptions, Shape, Topic, TraceForm, Way,
 };
 use lrc_args::choose;
 use lrc_envelope::Picker;
@@ -12,9 +12,10 @@ use std::alloc::{AllocError, Global};
 
 /// What is shown of a run, but for reasons, which a constant cannot have: what they ask of keeps a fact of its own.
 #[derive(Clone, Copy)]
-enum Look {
+pub enum Look {
     Report,
     Trace(Form),
+    Step(Part),
     Explain,
     Stats,
     Chart(Charting),
@@ -22,7 +23,7 @@ enum Look {
 
 /// A run, in plain numbers.
 #[derive(Clone, Copy)]
-struct Run {
+pub struct Run {
     file: &'static str,
     nodes: u32,
     steps: u32,
@@ -34,7 +35,7 @@ struct Run {
 
 /// What is to come of a line of words.
 #[derive(Clone, Copy)]
-enum Wanted {
+pub enum Wanted {
     Lint(&'static str),
     /// The races of a trace, in the form of acts or not, by groups or not.
     Races(&'static str, bool, bool),
@@ -79,15 +80,20 @@ fn is_same_way(made: Way<'_>, wanted: Way<'_>) -> bool {
     }
 }
 
+fn is_same_part(made: Part, wanted: Part) -> bool {
+    made.from == wanted.from && made.to == wanted.to
+}
+
 fn is_same_form(made: Form, wanted: Form) -> bool {
-    matches!(
-        (made, wanted),
+    match (made, wanted) {
         (Form::Acts, Form::Acts)
-            | (Form::Messages, Form::Messages)
-            | (Form::Events, Form::Events)
-            | (Form::Json, Form::Json)
-            | (Form::Rapid, Form::Rapid)
-    )
+        | (Form::Messages, Form::Messages)
+        | (Form::Events, Form::Events)
+        | (Form::Json, Form::Json)
+        | (Form::Rapid, Form::Rapid) => true,
+        (Form::States(made), Form::States(wanted)) => is_same_part(made, wanted),
+        _ => false,
+    }
 }
 
 fn is_same_charting(made: Charting, wanted: Charting) -> bool {
@@ -104,6 +110,7 @@ fn is_same_shape(made: Shape, wanted: Look) -> bool {
         | (Shape::Explain, Look::Explain)
         | (Shape::Stats, Look::Stats) => true,
         (Shape::Trace(made), Look::Trace(wanted)) => is_same_form(made, wanted),
+        (Shape::Step(made), Look::Step(wanted)) => is_same_part(made, wanted),
         (Shape::Chart(made), Look::Chart(wanted)) => is_same_charting(made, wanted),
         _ => false,
     }
@@ -228,9 +235,10 @@ fn is_as_wanted(alloc: Global, line: &str, wanted: &Wanted) -> bool {
 }
 
 /// A line of words, and what is to come of it.
-type Row = (&'static str, Wanted);
+pub type Row = (&'static str, Wanted);
 
-fn first_wrong(alloc: Global, rows: &[Row]) -> Option<&'static str> {
+/// The first line that does not make what is wanted of it.
+pub fn first_wrong(alloc: Global, rows: &[Row]) -> Option<&'static str> {
     for (line, wanted) in rows {
         if !is_as_wanted(alloc, line, wanted) {
             return Some(line);
@@ -256,6 +264,11 @@ const OF_THREE: Run = Run {
     file: "-",
     nodes: 3,
     ..A_RUN
+};
+
+const WHOLE_RUN: Part = Part {
+    from: None,
+    to: None,
 };
 
 const WHOLE_CHART: Charting = Charting {
@@ -335,6 +348,86 @@ const CHOICES: &[Row] = &[
         Wanted::Run(Run {
             way: Way::Threads(Picker::Newest),
             shape: Look::Trace(Form::Rapid),
+            ..A_RUN
+        }),
+    ),
+    // States, and steps.
+    (
+        "trace a.tm --as states",
+        Wanted::Run(Run {
+            shape: Look::Trace(Form::States(WHOLE_RUN)),
+            ..A_RUN
+        }),
+    ),
+    (
+        "trace a.tm --as=states --to 7 --from=2 --order random",
+        Wanted::Run(Run {
+            way: Way::Random(0),
+            shape: Look::Trace(Form::States(Part {
+                from: Some(2),
+                to: Some(7),
+            })),
+            ..A_RUN
+        }),
+    ),
+    (
+        "trace a.tm --to 0 --as states",
+        Wanted::Run(Run {
+            shape: Look::Trace(Form::States(Part {
+                to: Some(0),
+                ..WHOLE_RUN
+            })),
+            ..A_RUN
+        }),
+    ),
+    (
+        "step a.tm",
+        Wanted::Run(Run {
+            shape: Look::Step(WHOLE_RUN),
+            ..A_RUN
+        }),
+    ),
+    (
+        "step - --nodes 3 --from 18446744073709551615",
+        Wanted::Run(Run {
+            shape: Look::Step(Part {
+                from: Some(u64::MAX),
+                ..WHOLE_RUN
+            }),
+            ..OF_THREE
+        }),
+    ),
+    (
+        "step --from=5 --to=3 a.tm --nodes=3 --steps=5 --collect=7 --order=random --seed=9 --page=256",
+        Wanted::Run(Run {
+            nodes: 3,
+            steps: 5,
+            collect: 7,
+            size: Size::Words256,
+            way: Way::Random(9),
+            shape: Look::Step(Part {
+                from: Some(5),
+                to: Some(3),
+            }),
+            ..A_RUN
+        }),
+    ),
+    (
+        "step a.tm --events e",
+        Wanted::Run(Run {
+            way: Way::Events("e"),
+            shape: Look::Step(WHOLE_RUN),
+            ..A_RUN
+        }),
+    ),
+    (
+        "step a.tm --threads --order=newest --to 4",
+        Wanted::Run(Run {
+            way: Way::Threads(Picker::Newest),
+            shape: Look::Step(Part {
+                to: Some(4),
+                ..WHOLE_RUN
+            }),
             ..A_RUN
         }),
     ),
@@ -427,6 +520,7 @@ const CHOICES: &[Row] = &[
     // What the program says of itself.
     ("help", Wanted::Commands),
     ("help explore", Wanted::Help("explore")),
+    ("help step", Wanted::Help("step")),
     ("help -- help", Wanted::Help("help")),
     ("version", Wanted::Version),
     // Charts.
@@ -571,117 +665,4 @@ const CHOICES: &[Row] = &[
 #[test]
 fn words_make_their_choice(rt: HostRuntime) {
     passes(&rt, first_wrong(rt.alloc(), CHOICES));
-}
-
-const REFUSED: &[Row] = &[
-    ("plain a.tm --nodes 17", Wanted::BadNumber),
-    ("plain a.tm --nodes 0", Wanted::BadNumber),
-    ("plain a.tm --steps 0", Wanted::BadNumber),
-    ("plain a.tm --steps 1000001", Wanted::BadNumber),
-    ("sim a.tm --steps 1000001", Wanted::BadNumber),
-    ("sim a.tm --collect 1000001", Wanted::BadNumber),
-    ("sim a.tm --nodes 18446744073709551615", Wanted::BadNumber),
-    ("run a.tm --nodes 17", Wanted::BadNumber),
-    ("trace a.tm --nodes 17", Wanted::BadNumber),
-    ("judge a.acts --nodes 0", Wanted::BadNumber),
-    ("explain a.tm --steps 0", Wanted::BadNumber),
-    ("stats a.tm --collect 1000001", Wanted::BadNumber),
-    ("chart a.tm --nodes 17", Wanted::BadNumber),
-    ("chart a.tm --steps 0", Wanted::BadNumber),
-    ("chart a.tm --collect 1000001", Wanted::BadNumber),
-    ("explore a.tm --most 0", Wanted::BadNumber),
-    ("explore a.tm --most 100000001", Wanted::BadNumber),
-    ("plain a.tm --nodes 18446744073709551616", Wanted::Usage),
-    ("plain a.tm --nodes x", Wanted::Usage),
-    ("plain a.tm --events e", Wanted::Usage),
-    ("plain a.tm b.tm c.tm", Wanted::Usage),
-    ("sim a.tm --steps=1 --steps=2", Wanted::Usage),
-    ("plan a.tm --nodes 1", Wanted::Usage),
-    ("sim a.tm --order Oldest", Wanted::Usage),
-    ("sim a.tm --order ", Wanted::Usage),
-    ("sim a.tm --page 064", Wanted::Usage),
-    ("run a.tm --events e", Wanted::Usage),
-    ("sim --nodes=17 --page=128 a.tm", Wanted::Usage),
-    ("sim a.tm --seed 1", Wanted::Usage),
-    ("sim a.tm --events=e --seed=1", Wanted::Usage),
-    ("run a.tm --order random", Wanted::Usage),
-    ("trace a.tm --threads --order=random", Wanted::Usage),
-    ("trace a.tm --threads --events=e", Wanted::Usage),
-    ("trace a.tm --as xml", Wanted::Usage),
-    ("judge a.acts --steps 1", Wanted::Usage),
-    ("trace a.tm --messages --as=json", Wanted::Usage),
-    ("explain a.tm --as json", Wanted::Usage),
-    ("stats a.tm --threads --seed=1", Wanted::Usage),
-    ("chart a.tm --order Newest", Wanted::Usage),
-    ("chart a.tm --page 128", Wanted::Usage),
-    ("chart a.tm --threads --events=e", Wanted::Usage),
-    ("chart a.tm --threads --order=random", Wanted::Usage),
-    ("chart a.tm --order=newest --seed=1", Wanted::Usage),
-    ("chart a.tm --text --text", Wanted::Usage),
-    ("chart a.tm --text=yes --to=1", Wanted::Usage),
-    ("chart a.tm --from x", Wanted::Usage),
-    ("chart a.tm --text --from", Wanted::Usage),
-    ("chart a.tm --to 18446744073709551616", Wanted::Usage),
-    ("chart a.tm --text --to", Wanted::Usage),
-    ("chart a.tm --as json", Wanted::Usage),
-    ("chart a.tm --hide", Wanted::Usage),
-    ("chart a.tm --hide Quiet", Wanted::Usage),
-    ("chart a.tm --hide quiet --hide quiet", Wanted::Usage),
-    ("chart a.tm --source --text", Wanted::Usage),
-    ("chart a.tm --source=yes", Wanted::Usage),
-    ("chart", Wanted::Usage),
-    ("chart a.tm --acts a.acts", Wanted::Usage),
-    ("chart --acts a.acts --nodes 0", Wanted::BadNumber),
-    ("chart --acts a.acts --nodes 17", Wanted::BadNumber),
-    ("chart --acts a.acts --steps 1000000", Wanted::Usage),
-    ("chart --acts a.acts --collect 0", Wanted::Usage),
-    ("chart --acts a.acts --order oldest", Wanted::Usage),
-    ("chart --acts a.acts --page 64", Wanted::Usage),
-    ("chart --acts a.acts --events e", Wanted::Usage),
-    ("chart --acts a.acts --seed 0", Wanted::Usage),
-    ("chart --acts a.acts --threads", Wanted::Usage),
-    ("chart --acts a.acts --source", Wanted::Usage),
-    ("chart --acts a.acts --source --nodes 17", Wanted::Usage),
-    ("chart --acts a.acts --hide loud", Wanted::Usage),
-    ("explain a.tm --hide quiet", Wanted::Usage),
-    ("judge a.acts --text", Wanted::Usage),
-    ("stats a.tm --from 1", Wanted::Usage),
-    ("explore a.tm --steps 5", Wanted::Usage),
-    ("why a.tm --act 0 --nodes 17", Wanted::BadNumber),
-    ("why --acts a.acts --act 0 --nodes 0", Wanted::BadNumber),
-    ("why a.tm", Wanted::Usage),
-    ("why --act 0", Wanted::Usage),
-    ("why a.tm --acts a.acts --act 0", Wanted::Usage),
-    ("why a.tm --act 3 --and 3 --nodes 17", Wanted::Usage),
-    ("why --acts a.acts --act 3 --and 03", Wanted::Usage),
-    ("why --acts a.acts --act 0 --steps 1000000", Wanted::Usage),
-    ("why --acts a.acts --act 0 --collect 0", Wanted::Usage),
-    ("why --acts a.acts --act 0 --order oldest", Wanted::Usage),
-    ("why --acts a.acts --act 0 --events e", Wanted::Usage),
-    (
-        "why --acts a.acts --act 0 --seed 0 --nodes 17",
-        Wanted::Usage,
-    ),
-    ("why --acts a.acts --act 0 --page 128", Wanted::Usage),
-    ("why a.tm --act 0 --threads", Wanted::Usage),
-    ("why a.tm --act 0 --order latest", Wanted::Usage),
-    ("why a.tm --act -1", Wanted::Usage),
-    ("lint", Wanted::Usage),
-    ("lint a.tm b.tm", Wanted::Usage),
-    ("lint a.tm --nodes 2", Wanted::Usage),
-    ("races t --as rapid", Wanted::Usage),
-    ("races t --group --group", Wanted::Usage),
-    ("races t --nodes 2", Wanted::Usage),
-    ("help plan", Wanted::Usage),
-    ("help Sim", Wanted::Usage),
-    ("help sim run", Wanted::Usage),
-    ("help -- --help", Wanted::Usage),
-    ("help --nodes 1", Wanted::Usage),
-    ("version sim", Wanted::Usage),
-    ("--version sim", Wanted::Usage),
-];
-
-#[test]
-fn words_are_refused(rt: HostRuntime) {
-    passes(&rt, first_wrong(rt.alloc(), REFUSED));
 }

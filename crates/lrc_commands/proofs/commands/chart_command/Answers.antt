@@ -11,10 +11,9 @@ returns-clause-app c =
     let three = c.taking-command-2.ensures.app _ _ c.flag_option.ensures.local c.flag_option.ensures.rule two in
     let four = c.taking-command-3.ensures.app _ _ c.text.ensures.local c.text.ensures.rule three in
     let five = c.taking-command-4.ensures.app _ _ c.flag_option-2.ensures.local c.flag_option-2.ensures.rule four in
-    let six = c.taking-command-5.ensures.app _ _ c.bare_number.ensures.local c.bare_number.ensures.rule five in
-    let seven = c.taking-command-6.ensures.app _ _ c.bare_number-2.ensures.local c.bare_number-2.ensures.rule six in
-    let eight = c.taking-command-7.ensures.app _ _ c.text-2.ensures.local c.text-2.ensures.rule seven in
-    c.taking.ensures.app _ _ c.flag_option-3.ensures.local c.flag_option-3.ensures.rule eight
+    let six = c.taking_part-command.ensures.app _ five in
+    let seven = c.taking-command-5.ensures.app _ _ c.text-2.ensures.local c.text-2.ensures.rule six in
+    c.taking.ensures.app _ _ c.flag_option-3.ensures.local c.flag_option-3.ensures.rule seven
 
 pub returns-clause-local : goal.returns-clause-local
 returns-clause-local c =
@@ -24,7 +23,6 @@ returns-clause-local c =
     let three = c.taking-command-2.ensures.local c.flag_option.ensures.local two in
     let four = c.taking-command-3.ensures.local c.text.ensures.local three in
     let five = c.taking-command-4.ensures.local c.flag_option-2.ensures.local four in
-    let six = c.taking-command-5.ensures.local c.bare_number.ensures.local five in
-    let seven = c.taking-command-6.ensures.local c.bare_number-2.ensures.local six in
-    let eight = c.taking-command-7.ensures.local c.text-2.ensures.local seven in
-    c.taking.ensures.local c.flag_option-3.ensures.local eight
+    let six = c.taking_part-command.ensures.local five in
+    let seven = c.taking-command-5.ensures.local c.text-2.ensures.local six in
+    c.taking.ensures.local c.flag_option-3.ensures.local seven

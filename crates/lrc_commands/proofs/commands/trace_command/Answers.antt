@@ -14,9 +14,10 @@ returns-clause-app c =
     let shown = IfOk-weaker c.taking_showing_options-command.result _ _ (λ r h. h ∙ ap with_showing_options about_is)
     c.taking_showing_options-command.ensures.app in
     let one = c.taking-command.ensures.app _ _ c.form.ensures.local c.form.ensures.rule shown in
-    c.taking.ensures.app _ _ c.flag_option.ensures.local c.flag_option.ensures.rule one
+    let two = c.taking-command-2.ensures.app _ _ c.flag_option.ensures.local c.flag_option.ensures.rule one in
+    c.taking_part.ensures.app _ two
 
 pub returns-clause-local : goal.returns-clause-local
 returns-clause-local c =
     let one = c.taking-command.ensures.local c.form.ensures.local c.taking_showing_options-command.ensures.local in
-    c.taking.ensures.local c.flag_option.ensures.local one
+    c.taking_part.ensures.local (c.taking-command-2.ensures.local c.flag_option.ensures.local one)

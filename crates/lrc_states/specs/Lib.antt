@@ -1,0 +1,3 @@
+pub mod Names
+pub mod States
+pub mod Players

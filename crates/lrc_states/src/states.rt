@@ -1,0 +1,168 @@
+// The lines of a run's turns with the states of its nodes.
+
+ghost use Rattle.std.specs.Prelude.{◌≡◌, ◌<◌, ◌≤◌, ◌+◌, ◌++◌, ◌∷◌, [], All, Err, IfErr, IfOk, OnOk, Some, ℕ, length, map};
+ghost use Rattle.lrc_labels.specs.Reading.{label_seen};
+ghost use Rattle.lrc_lang.specs.Faults.{IsText};
+ghost use Rattle.lrc_lang.specs.Tree.{program_of};
+ghost use Rattle.lrc_private.specs.Ways.{IsOnWay};
+ghost use Rattle.lrc_protocol.specs.Run.{World, event_on, played, run_of};
+ghost use Rattle.lrc_replay.specs.Turns.{turn_by, turns_from};
+ghost use Rattle.lrc_replay.specs.Acts.{Plan as AnyPlan};
+ghost use Rattle.lrc_replay.specs.Courses.{plan_of};
+ghost use Rattle.lrc_states.specs.declared.fault.StatesFault.TheVariants.{TooLong};
+ghost use Rattle.lrc_states.specs.Players.{AddsLines, IsPlayer, IsSetting};
+ghost use Rattle.lrc_states.specs.States.{AreStates, IsUnshown, is_within, most_turns, shown_now, told_seen, turn_lines, turns_shown};
+ghost use Rattle.lrc_text.specs.Parts.{whole_text};
+
+use crate::fault::StatesFault;
+use crate::player::Player;
+use crate::start::events_skipped;
+use crate::told::{Range, Told};
+use lrc_exec::code::Code;
+use lrc_labels::label::Label;
+use lrc_labels::read_labels;
+use lrc_lang::lines::lines_of;
+use lrc_private::names_of;
+use lrc_protocol::Event;
+use lrc_replay::Plan;
+use std::alloc::{AllocError, Global};
+
+/// The most turns that are shown.
+pub const MOST_TURNS: usize = 2_000;
+
+/// The turns of a run with the states of its nodes, each line a part of its own.
+pub fn states_parts(
+    alloc: Global,
+    told: &Told<'_>,
+    range: Range,
+) -> Result<Vec<Vec<u8>>, StatesFault>
+    requires text { IsText told.now.text.now (program_of told.now.program.now) }
+    requires few { told.now.nodes ≤ 16 }
+    ensures states { (made : World) → run_of told.now.program.now told.now.nodes told.now.options told.now.events.now ≡ Some made
+        → IfOk result (λ parts. AreStates (told_seen told.now) range (whole_text parts.items)) }
+    ensures fault { (made : World) → run_of told.now.program.now told.now.nodes told.now.options told.now.events.now ≡ Some made
+        → IfErr result (IsUnshown (told_seen told.now) range) }
+{
+    let code = Code::new(alloc, told.program)?;
+    let lines = lines_of(alloc, told.text)?;
+    let names = names_of(alloc, told.text)?;
+    let labels = read_labels(alloc, told.text, told.program.words(), told.program.locks())?;
+    let plan = Plan {
+        code: &code,
+        nodes: told.nodes,
+        lines: &lines,
+        names: &names,
+    };
+    parts_of(alloc, told, range, plan, &labels.said)
+}
+
+// The same, where the plan and the labels are known.
+fn parts_of(
+    alloc: Global,
+    told: &Told<'_>,
+    range: Range,
+    plan: Plan<'_>,
+    labels: &[Label<'_>],
+) -> Result<Vec<Vec<u8>>, StatesFault>
+    requires few { told.now.nodes ≤ 16 }
+    requires setting { IsSetting (told_seen told.now) (plan_of plan) (map label_seen labels.now) }
+    ensures states { (made : World) → run_of told.now.program.now told.now.nodes told.now.options told.now.events.now ≡ Some made
+        → IfOk result (λ parts. AreStates (told_seen told.now) range (whole_text parts.items)) }
+    ensures fault { (made : World) → run_of told.now.program.now told.now.nodes told.now.options told.now.events.now ≡ Some made
+        → IfErr result (IsUnshown (told_seen told.now) range) }
+{
+    let skipped = events_skipped(alloc, plan.code, told, range.from)?;
+    let mut player = Player::start(alloc, plan, &told.options)?;
+    player.pass_all(&told.events[..skipped])?;
+    let mut parts = Vec::new(alloc);
+    parts.push(player.first_line(told.options.size, labels)?)?;
+    player.tell_all(&told.events[skipped..], range.to, &mut parts)?;
+    Ok(parts)
+}
+
+impl Player<'_> {
+    // Plays events, of whose turns nothing is told.
+    fn pass_all(&mut self, events: &[Event]) -> Result<(), AllocError>
+        requires { All IsOnWay self.old.course.ways.items }
+        ensures on { All IsOnWay self.new.course.ways.items }
+        ensures player { (plan : AnyPlan) (world end : World) (turns : ℕ) → IsPlayer plan world turns self.old → played world events.now ≡ Some end
+            → OnOk result (IsPlayer plan end (turns + length (turns_from (Some world) events.now)) self.new) }
+    {
+        for event in events {
+            self.pass(*event)?;
+        }
+        Ok(())
+    }
+
+    // Plays events, and tells their turns, up to the turn that makes the act at a position.
+    fn tell_all(
+        &mut self,
+        events: &[Event],
+        to: Option<u64>,
+        parts: &mut Vec<Vec<u8>>,
+    ) -> Result<(), StatesFault>
+        requires on { All IsOnWay self.old.course.ways.items }
+        requires first { length parts.old.items ≡ 1 }
+        ensures told { (plan : AnyPlan) (world end : World) (turns : ℕ) → IsPlayer plan world turns self.old → played world events.now ≡ Some end
+            → OnOk result ((whole_text parts.new.items ≡ whole_text parts.old.items ++ turn_lines plan (turns_shown to turns world events.now))
+            × (length (turns_shown to turns world events.now) ≤ most_turns)) }
+        ensures fault { (plan : AnyPlan) (world end : World) (turns : ℕ) → IsPlayer plan world turns self.old → played world events.now ≡ Some end
+            → result ≡ Err TooLong → most_turns < length (turns_shown to turns world events.now) }
+    {
+        for event in events {
+            self.tell_within(*event, to, parts)?;
+        }
+        Ok(())
+    }
+
+    // Plays an event, and tells its turn, if it is no later than that of the act at a position.
+    fn tell_within(
+        &mut self,
+        event: Event,
+        to: Option<u64>,
+        parts: &mut Vec<Vec<u8>>,
+    ) -> Result<(), StatesFault>
+        requires on { All IsOnWay self.old.course.ways.items }
+        requires few { length parts.old.items ≤ most_turns + 1 }
+        ensures on { All IsOnWay self.new.course.ways.items }
+        ensures player { (plan : AnyPlan) (world next : World) (turns : ℕ) → IsPlayer plan world turns self.old → event_on world event ≡ Some next
+            → OnOk result (IsPlayer plan next (turns + length (turn_by world event)) self.new) }
+        ensures told { (plan : AnyPlan) (world next : World) (turns : ℕ) → IsPlayer plan world turns self.old → event_on world event ≡ Some next
+            → OnOk result (AddsLines plan (shown_now to turns (turn_by world event)) parts.old.items parts.new.items) }
+        ensures few { OnOk result (length parts.new.items ≤ most_turns + 1) }
+        ensures fault { (plan : AnyPlan) (world next : World) (turns : ℕ) → IsPlayer plan world turns self.old → event_on world event ≡ Some next
+            → result ≡ Err TooLong → (most_turns < length parts.old.items) × (length (shown_now to turns (turn_by world event)) ≡ 1) }
+    {
+        if !is_within(to, self.course.acts()) {
+            self.pass(event)?;
+            return Ok(());
+        }
+        match self.tell(event)? {
+            Some(line) => keep(parts, line),
+            None => Ok(()),
+        }
+    }
+}
+
+// Whether a turn that begins behind so many acts is no later than that of the act at a position.
+fn is_within(to: Option<u64>, acts: u64) -> bool
+    ensures { result ≡ is_within to acts }
+{
+    match to {
+        Some(position) => acts <= position,
+        None => true,
+    }
+}
+
+// Keeps the line of a turn, unless there are as many as may be.
+fn keep(parts: &mut Vec<Vec<u8>>, line: Vec<u8>) -> Result<(), StatesFault>
+    ensures kept { OnOk result (parts.new.items ≡ parts.old.items ++ line ∷ []) }
+    ensures few { OnOk result (length parts.old.items ≤ most_turns) }
+    ensures fault { result ≡ Err TooLong → most_turns < length parts.old.items }
+{
+    if parts.len() > MOST_TURNS {
+        return Err(StatesFault::TooLong);
+    }
+    parts.push(line)?;
+    Ok(())
+}

@@ -1,0 +1,23 @@
+// What the lines are told of.
+
+use lrc_lang::program::Program;
+use lrc_node::Options;
+use lrc_protocol::Event;
+
+/// A run that was made: the text of its program, the program, how many nodes run it and how they go, and the events of the run.
+#[derive(Clone, Copy)]
+pub struct Told<'a> {
+    pub text: &'a [u8],
+    pub program: &'a Program,
+    pub nodes: u8,
+    pub options: Options,
+    pub events: &'a [Event],
+}
+
+/// Which turns are shown: from the one that makes the act at a position, up to the one that makes another. Without them all are shown, from
+/// the beginning and to the end.
+#[derive(Clone, Copy)]
+pub struct Range {
+    pub from: Option<u64>,
+    pub to: Option<u64>,
+}

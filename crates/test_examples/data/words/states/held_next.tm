@@ -1,0 +1,4 @@
+words 1;
+locks 1;
+acquire 0;
+release 0;

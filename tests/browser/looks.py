@@ -1,0 +1,299 @@
+"""Looks at documents in a browser: looks.py [--program PROGRAM | --lines LINES] [SHOTS]."""
+
+import argparse
+import re
+import tempfile
+import time
+from pathlib import Path
+
+import documents
+from browser import Browser
+from shown import SHOWN, Differs, Looks, moments_of
+
+SIZES = [(1280, 800), (1920, 1080), (1024, 768)]
+SHOT_AT = {"late": 13, "late_part": 12, "front_part": 4, "counter": 33, "sixteen_part": 277, "collecting": 22, "store_buffering": 3}
+# Ten steps, drawn and laid out.
+TEN_STEPS = "for (let k = 0; k < 10; k++) { go(1000 + k); document.body.getBoundingClientRect(); }"
+TEXTS = "(selector => [...document.querySelectorAll(selector)].map(element => element.textContent))"
+
+
+class Pages:
+    """The browser, the documents on a disk, and what was looked at."""
+
+    def __init__(self, browser, folder, shots):
+        self.browser, self.folder, self.shots, self.looks = browser, folder, shots, Looks()
+        self.same = self.looks.same
+
+    def save(self, name, document):
+        path = self.folder / f"{name}.html"
+        path.write_bytes(document)
+        return f"file://{path.resolve()}"
+
+    def text(self, selector):
+        return self.browser.value(f"document.querySelector('{selector}').textContent")
+
+    def texts(self, selector):
+        return self.browser.value(f"{TEXTS}('{selector}')")
+
+    def link(self):
+        """The turn that is shown, by the link to it; nothing before the first."""
+        return self.browser.value("location.hash.slice(6)")
+
+    def at_turn(self, turn):
+        self.browser.value(f"location.hash = '#turn={turn}'; new Promise(done => setTimeout(done, 50))")
+
+    def is_quiet(self, name):
+        """Nothing was fetched but the page, and nothing was logged."""
+        asked = [event["params"]["request"]["url"] for event in self.browser.events if event["method"] == "Network.requestWillBeSent"]
+        self.same(f"{name}: fetched", [url for url in asked if not url.startswith("file:") and url != "data:,"], [])
+        logs = ("Runtime.exceptionThrown", "Runtime.consoleAPICalled", "Log.entryAdded")
+        self.same(f"{name}: logged", [event for event in self.browser.events if event["method"] in logs], [])
+
+
+def place_of(name, turns):
+    return f"(part: {turns[0]} to {turns[-1]})" if name.endswith("_part") else f"of {turns[-1]}"
+
+
+def states(pages, name, document):
+    """At the start and at ten turns the page shows what the lines say, and it is no wider than its window."""
+    browser, moments = pages.browser, moments_of(documents.lines_of(document))
+    url = pages.save(name, document)
+    browser.size(1280, 800)
+    browser.open(url)
+    turns = [turn for turn in moments if turn is not None]
+    pages.looks.moment(browser.value(SHOWN), moments[None], f"{name} at the start", place_of(name, turns))
+    for turn in sorted({turns[k * (len(turns) - 1) // 9] for k in range(10)}):
+        pages.at_turn(turn)
+        pages.looks.moment(browser.value(SHOWN), moments[turn], f"{name} at {turn}", place_of(name, turns))
+    pages.is_quiet(name)
+    for width, height in [*SIZES, (3840, 2160)]:
+        browser.size(width, height)
+        browser.media(prefers_color_scheme="dark" if width == 1920 else "light")
+        browser.open(f"{url}#turn={SHOT_AT[name]}")
+        beyond = browser.value("[document.documentElement, document.querySelector('#nodes')].map(e => e.scrollWidth - e.clientWidth)")
+        pages.same(f"{name}: wider than {width}", beyond, [0, 0])
+        narrow = browser.value("[...document.querySelectorAll('section.node, .word')].filter(e => e.scrollWidth > e.clientWidth).length")
+        pages.same(f"{name}: panels wider than their place, {width}", narrow, 0)
+        if pages.shots and width < 3840:
+            browser.shoot(pages.shots / f"{name}-{width}x{height}.png")
+
+
+def frame(pages, document):
+    """The document forbids to fetch, names no place of the net, and has its lines in one element."""
+    whole = document.decode(errors="replace")
+    pages.same("the first bytes", whole.lower().startswith("<!doctype html>"), True)
+    pages.same("a policy", len(re.findall(r'<meta http-equiv="Content-Security-Policy" content="default-src \'none\';', whole)), 1)
+    pages.same("one element for the lines", whole.count('type="application/json"'), 1)
+    named = re.findall(r"https?://[^\s\"']*", whole)
+    pages.same("places of the net", set(named) - {"http://www.w3.org/2000/svg", "http://www.w3.org/1999/xhtml"}, set())
+
+
+def keys(pages, document):
+    """Every key, every button, the slider, a link, and a click in the picture."""
+    browser = pages.browser
+    browser.size(1280, 800)
+    browser.open(pages.save("late", document))
+    presses = [("ArrowRight", False, "0"), ("PageDown", False, "1"), ("ArrowRight", True, "11"), ("ArrowLeft", False, "10"), ("PageUp", False, "9"),
+               ("a", False, "12"), ("End", False, "18"), ("ArrowRight", False, "18"), ("ArrowLeft", True, "8"), ("Home", False, ""),
+               ("ArrowLeft", False, ""), ("r", False, "4"), ("r", False, "13"), ("r", False, "13")]
+    for key, shift, wanted in presses:
+        browser.key(key, shift=shift)
+        pages.same(f"key {key}", pages.link(), wanted)
+    reasons(pages)
+    help_and_play(pages)
+    browser.value("const slider = document.querySelector('#slider'); slider.value = 4; slider.dispatchEvent(new Event('input'))")
+    pages.same("slider", pages.link(), "3")
+    clicks = [("End", "18"), ("Shift+ArrowLeft", "8"), ("ArrowLeft", "7"), ("ArrowRight", "8"), ("Shift+ArrowRight", "18"), ("Home", ""), ("a", "0"),
+              ("r", "4")]
+    for button, wanted in clicks:
+        browser.value(f"document.querySelector('[data-key=\"{button}\"]').click()")
+        pages.same(f"button {button}", pages.link(), wanted)
+    mark = browser.value("(r => [r.x + r.width / 2, r.y + r.height / 2])(document.querySelector('#timeline .mark').getBoundingClientRect())")
+    browser.click(*mark)
+    pages.same("a click in the picture", pages.link(), "0")
+    for _ in range(3):
+        browser.key("Tab")
+    pages.same("Tab comes to a button", browser.value("document.activeElement.matches('button, input, [tabindex]')"), True)
+    pages.is_quiet("keys")
+
+
+def reasons(pages):
+    """Of a read that gives an old value."""
+    pages.same("race in the headline", pages.text("#headline .race-mark"), "race 1")
+    pages.same("why", pages.text("#why .gives").strip().startswith("gives 0"), True)
+    pages.same("old", pages.text("#node-1 .stale .note"), "read now 2")
+    pages.same("not told of", pages.text("#node-1 .notes"), "not told of 0.3")
+    pages.browser.value("document.querySelector('#why a').click(); new Promise(done => setTimeout(done, 50))")
+    pages.same("a link to an act", pages.link(), "4")
+
+
+def help_and_play(pages):
+    browser = pages.browser
+    browser.key("?", text="?")
+    pages.same("help is open", browser.value("document.querySelector('#help').open"), True)
+    browser.key("ArrowRight")
+    pages.same("keys rest while help is open", pages.link(), "4")
+    browser.key("Escape")
+    pages.same("help is closed", browser.value("document.querySelector('#help').open"), False)
+    browser.key(" ", code="Space", text=" ")
+    until = time.time() + 20
+    while pages.link() != "6" and time.time() < until:
+        time.sleep(0.1)
+    browser.key(" ", code="Space", text=" ")
+    pages.same("played two turns", pages.link(), "6")
+    pages.same("stopped", pages.text("#play"), "Play")
+
+
+def part(pages, whole, shorter):
+    """A part of a run shows what the whole run shows at the same turns, old values by writes before it too."""
+    browser, moments = pages.browser, moments_of(documents.lines_of(whole))
+    turns = [turn for turn in moments_of(documents.lines_of(shorter)) if turn is not None]
+    browser.size(1280, 800)
+    panels_shown = "[...document.querySelectorAll('section.node')].map(element => element.outerHTML)"
+    panels = {}
+    url = pages.save("late", whole)
+    for turn in turns[1:]:
+        browser.open(f"{url}#turn={turn}")
+        panels[turn] = browser.value(panels_shown)
+    url = pages.save("late_part", shorter)
+    browser.open(url)
+    pages.same("the part's headline", pages.text("#headline"), f"Before turn {turns[0]}")
+    pages.same("the part's turns", f"part: turns {turns[0]} to {turns[-1]}" in pages.text("#place"), True)
+    pages.same("old by writes before the part", pages.texts("#node-1 .stale .note"), [" now 1", " now 2"])
+    for turn in turns[1:]:
+        browser.open(f"{url}#turn={turn}")
+        pages.looks.moment(browser.value(SHOWN), moments[turn], f"part at {turn}", place_of("late_part", turns))
+        pages.same(f"part at {turn}: panels", browser.value(panels_shown), panels[turn])
+    browser.open(f"{url}#turn=13")
+    pages.same("no link to an act that is not shown", pages.texts("#why a").count("act 4"), 0)
+    pages.same("what is known ends before the part", pages.text("#timeline text.after"), "known to 0.2")
+    browser.key("Home")
+    pages.same("the start", pages.link(), "")
+    browser.key("r")
+    pages.same("a race with an act before the part", pages.link(), "13")
+    pages.same("its number", pages.text("#headline .race-mark"), "race 1")
+    pages.same("its lines", pages.texts("#source .raced .number"), ["9", "13"])
+    pages.same("its line in the picture", browser.value("document.querySelectorAll('#timeline path.racing').length"), 1)
+    pages.is_quiet("part")
+
+
+def hostile(pages, document):
+    """A name and a text that would end their element, bytes that are no UTF-8, a value of 64 bits."""
+    browser = pages.browser
+    browser.size(1280, 800)
+    browser.open(pages.save("hostile", document))
+    pages.same("the title", browser.value("document.title").startswith(documents.HOSTILE_NAME + ", "), True)
+    wanted = (documents.HOSTILE_COMMENT + documents.HOSTILE_PROGRAM).decode(errors="replace")
+    pages.same("the text", pages.texts("#source code"), wanted.removesuffix("\n").split("\n") + ["# end"])
+    pages.same("markup of the text", browser.value("document.querySelectorAll('#source b, #source script, #place b').length"), 0)
+    browser.key("End")
+    pages.same("64 bits", "18446744073709551615" in pages.texts("section.node .value"), True)
+    pages.is_quiet("hostile")
+
+
+def empty(pages, document):
+    """No turns at all."""
+    head, tail = document[:document.index(b'{"program"')], documents.constant("script.rt", "CLOSING")
+    lines = documents.DATA.search(document)[1].split(b"\n")[:2]
+    pages.browser.open(pages.save("empty", head + b"\n".join(lines) + b"\n" + tail))
+    pages.same("no turns", pages.text("#headline"), "No turn is shown")
+    pages.same("no turns, the place", pages.text("#place").endswith("no turn shown"), True)
+    for key in ("End", "ArrowRight", "a", "r"):
+        pages.browser.key(key)
+        pages.same(f"no turns, {key}", pages.link(), "")
+    pages.is_quiet("empty")
+
+
+def past_the_end(pages, document):
+    """No turns either, and nothing is said of the start of the run."""
+    pages.browser.open(pages.save("past_the_end", document))
+    pages.looks.moment(pages.browser.value(SHOWN), moments_of(documents.lines_of(document))[None], "past the end", "")
+    pages.same("past the end", pages.text("#headline"), "No turn is shown")
+    pages.same("past the end, what stands there", "left them" in pages.text("#because"), True)
+    pages.is_quiet("past the end")
+
+
+def large(pages, document):
+    """2,000 turns of 16 nodes open in two seconds of a processor, and a step takes less than a tenth of one."""
+    browser = pages.browser
+    browser.size(1920, 1080)
+    url = pages.save("large", document)
+    began, before = time.time(), browser.busy()
+    browser.open(url)
+    opened, after = time.time() - began, browser.busy()
+    work = after - before if after > before else after
+    browser.value(TEN_STEPS)
+    step = (browser.busy() - after) / 10
+    print(f"large: {len(document):,} bytes, opened by {work:.2f} s of a processor (in {opened:.2f} s), a step by {step * 1000:.0f} ms")
+    pages.same("turns", documents.lines_of(document)[-2]["turn"] if "explain" in documents.lines_of(document)[-1] else 1999, 1999)
+    pages.same("opened in time", work < 2, True)
+    pages.same("stepped in time", step < 0.1, True)
+    pages.is_quiet("large")
+
+
+def long(pages, document):
+    """A document of some 300 turns is small."""
+    turns = len(moments_of(documents.lines_of(document))) - 1
+    print(f"long: {turns} turns, {len(document):,} bytes")
+    pages.same("a small document", turns >= 300 and len(document) < 500_000, True)
+
+
+def luminance(colour):
+    parts = [int(colour[k:k + 2], 16) / 255 for k in (1, 3, 5)]
+    red, green, blue = [part / 12.92 if part <= 0.04045 else ((part + 0.055) / 1.055) ** 2.4 for part in parts]
+    return 0.2126 * red + 0.7152 * green + 0.0722 * blue
+
+
+def contrast(pages):
+    """Text on its ground has a contrast of 4.5 at least, in light and dark."""
+    roots = re.findall(r":root \{(.*?)\}", documents.constant("frame.rt", "OPENING").decode(), re.S)
+    light, dark = [dict(re.findall(r"--([\w-]+): (#\w{6})", root)) for root in roots]
+    pairs = [("ink", "paper"), ("soft", "paper"), ("off", "paper"), ("now", "paper"), ("race", "paper"), ("ink", "changed"), ("ink", "now-field"),
+             ("ink", "field"), ("off", "off-field"), ("soft", "now-field")]
+    for colours in (light, light | dark):
+        for text, ground in pairs:
+            high, low = sorted([luminance(colours[text]), luminance(colours[ground])], reverse=True)
+            ratio = (high + 0.05) / (low + 0.05)
+            pages.same(f"{text} on {ground}, {ratio:.2f}", ratio >= 4.5, True)
+
+
+def look(pages, source):
+    contrast(pages)
+    made = {name: source.document(name) for name in documents.WORDS}
+    for name, document in made.items():
+        frame(pages, document)
+        states(pages, name, document)
+    keys(pages, made["late"])
+    part(pages, made["late"], made["late_part"])
+    document = source.hostile()
+    frame(pages, document)
+    hostile(pages, document)
+    empty(pages, made["late"])
+    if isinstance(source, documents.Program):
+        past_the_end(pages, source.past_the_end())
+        long(pages, source.long())
+    large(pages, source.large())
+
+
+def main():
+    parser = argparse.ArgumentParser(usage="tests/pages [--program PROGRAM | --lines LINES] [SHOTS]")
+    parser.add_argument("--program", type=Path, default=documents.TOP / "run")
+    parser.add_argument("--lines", type=Path)
+    parser.add_argument("shots", nargs="?", type=Path)
+    words = parser.parse_args()
+    if words.shots:
+        words.shots.mkdir(exist_ok=True)
+    with tempfile.TemporaryDirectory() as folder:
+        source = documents.Lines(words.lines) if words.lines else documents.Program(Path(folder), words.program.resolve())
+        browser = Browser()
+        pages = Pages(browser, Path(folder), words.shots)
+        try:
+            look(pages, source)
+        except Differs as difference:
+            raise SystemExit(f"tests/pages: {difference}")
+        finally:
+            browser.close()
+    print(f"{pages.looks.passed} looks passed")
+
+
+main()

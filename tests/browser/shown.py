@@ -1,0 +1,110 @@
+"""What a page shows, and what its lines say that it should show."""
+
+import re
+
+# What a page shows, read from its elements.
+SHOWN = """(() => {
+  const texts = (of, selector) => [...of.querySelectorAll(selector)].map(element => element.textContent);
+  const word = element => [element.querySelector('.name').textContent.split(' ')[0], element.querySelector('.value').textContent];
+  const page = element => ({
+    title: element.querySelector('h3').textContent,
+    lacks: element.querySelector('.notes').textContent.match(/lacks .*/)?.[0] ?? '',
+    words: Object.fromEntries([...element.querySelectorAll('.word')].map(word)) });
+  const node = panel => ({
+    line: panel.querySelector('.line').textContent, time: texts(panel, '.time li'), waits: panel.querySelector('.waits').textContent,
+    pages: [...panel.querySelectorAll('.page')].map(page), tokens: texts(panel, '.chips:not(.stored) .chip'),
+    names: panel.querySelector('.chips').textContent, stored: panel.querySelector('.stored .caption').textContent,
+    isNow: panel.classList.contains('now') });
+  return { nodes: [...document.querySelectorAll('section.node')].map(node), flight: texts(document, '#flight li'),
+    flightTitle: document.querySelector('#flight h2').textContent, headline: document.querySelector('#headline').textContent,
+    line: texts(document, '#source .now .number'), place: document.querySelector('#place').textContent, hash: location.hash };
+})()"""
+
+
+class Moment:
+    """The states of all nodes, and what is in flight, just after a turn; of no turn before the first one."""
+
+    def __init__(self, turn, states, flight):
+        self.turn, self.states, self.flight = turn, states, flight
+
+
+def moments_of(lines):
+    """The moments by their turns, the one before the first turn at None."""
+    head = next(line for line in lines if "states" in line)
+    states, flight = list(head["states"]), list(head["flight"])
+    moments = {None: Moment(None, list(states), list(flight))}
+    for turn in (line for line in lines if "turn" in line):
+        states[turn["node"]] = followed(states[turn["node"]], turn["state"])
+        if turn["event"].startswith("deliver"):
+            flight.remove(turn["take"])
+        flight += turn["sends"]
+        moments[turn["turn"]] = Moment(turn, list(states), list(flight))
+    return moments
+
+
+def followed(before, state):
+    """A turn's line tells the intervals that are new or changed; those that a collection covers are gone."""
+    stored = {entry["interval"]: entry for entry in [*before["intervals"], *state["intervals"]]}
+
+    def is_covered(name):
+        node, index = map(int, name.split("."))
+        return index <= state["collected"][node]
+
+    return state | {"intervals": [entry for name, entry in stored.items() if not is_covered(name)]}
+
+
+class Differs(Exception):
+    """The page shows something else."""
+
+
+class Looks:
+    """Compares, and counts how often."""
+
+    def __init__(self):
+        self.passed = 0
+
+    def same(self, what, shown, wanted):
+        if shown != wanted:
+            raise Differs(f"{what}: shown {shown!r}, wanted {wanted!r}")
+        self.passed += 1
+
+    def moment(self, shown, moment, name, place):
+        """A page at a moment, of which it is told which turns there are."""
+        flight = [f"{message['from']} → {message['to']} {message['message']}" for message in moment.flight]
+        self.same(f"{name}: in flight", shown["flightTitle"], f"In flight: {len(flight)}" if flight else "Nothing in flight")
+        self.same(f"{name}: messages", shown["flight"] if len(flight) <= 12 else shown["flight"][1:], flight[-12:])
+        self.turn(shown, moment.turn, name, place)
+        for number, (node, state) in enumerate(zip(shown["nodes"], moment.states)):
+            self.same(f"{name}, node {number}: acting", node["isNow"], moment.turn is not None and moment.turn["node"] == number)
+            self.node(node, state, f"{name}, node {number}")
+
+    def turn(self, shown, turn, name, place):
+        act = turn and turn["act"]
+        self.same(f"{name}: line", shown["line"], [str(act["line"])] if act else [])
+        if turn:
+            self.same(f"{name}: node", re.match(r"Node (\d+)", shown["headline"])[1], str(turn["node"]))
+            self.same(f"{name}: place", f"turn {turn['turn']} {place}" in shown["place"], True)
+            self.same(f"{name}: link", shown["hash"], f"#turn={turn['turn']}")
+
+    def node(self, node, state, name):
+        is_over = state["waits"].startswith(("ended", "trapped"))
+        self.same(f"{name}: at", node["line"], f"{'at' if is_over else 'next'} line {state['at']}")
+        self.same(f"{name}: time", node["time"], [str(entry) for entry in state["time"]])
+        self.same(f"{name}: waits", bool(node["waits"]), state["waits"] != "no")
+        self.same(f"{name}: stored", node["stored"], f"{len(state['intervals'])} stored")
+        tokens = [re.match(r"lock (\d+)( \(\S+\))? (\w+)", token).group(1, 3) for token in node["tokens"]]
+        self.same(f"{name}: tokens", tokens, [(str(lock["lock"]), lock["token"]) for lock in state["locks"]])
+        for private, value in state["names"].items():
+            self.same(f"{name}: {private}", f"{private} = {value}" in node["names"], True)
+        pages = {entry["page"]: entry for entry in state["pages"]}
+        for page in node["pages"]:
+            number = int(page["title"].split()[1])
+            self.page(page, pages.get(number, {"copy": "valid", "words": {}, "lacks": []}), f"{name}, page {number}")
+
+    def page(self, page, state, name):
+        copy = page["title"].split()[2]
+        self.same(f"{name}: copy", copy, state["copy"])
+        self.same(f"{name}: lacks", bool(page["lacks"]), bool(state["lacks"]))
+        for word, value in page["words"].items():
+            self.same(f"{name}, word {word}", value, "–" if copy == "absent" else state["words"].get(word, "0"))
+        self.same(f"{name}: words not shown", set(state["words"]) - set(page["words"]), set())
