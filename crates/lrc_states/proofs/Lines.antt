@@ -113,8 +113,16 @@ module _ (plan : Plan) (world end : World) (turns : ℕ) (to : Option ℕ) (even
       let fail = fails at.0 m.0 before at.2 m.1 in
       let some = turns_shown to turns world (take k events) in
       let one = shown_now to before (turn_by at.0 (get_or events k d)) in
-      omega (arith, no_more to turns world events (k + 1), ap length (shown_next world end to turns events k d within goes at.0 at.1),
-      length-append some one, fail.0, fail.1, told.lines.many, first)
+      omega (
+        arith,
+        no_more to turns world events (k + 1),
+        ap length (shown_next world end to turns events k d within goes at.0 at.1),
+        length-append some one,
+        fail.0,
+        fail.1,
+        told.lines.many,
+        first,
+      )
 
 pub told_all : (plan : Plan) (world : World) (turns : ℕ) (to : Option ℕ) (events : List Event) (k : ℕ) (old now : List (Vec ℕ Global)) (player : Player)
     → length events ≤ k → length old ≡ 1 → length now ≤ most_turns + 1 → IsTold plan world turns to events k old now player

@@ -43,13 +43,12 @@ seeks start end events k position left rest acts d o turn old mid new within goe
     let next = goes_on start end events k d within goes at.0 at.1 in
     let made = subst (λ (t : Option TurnRecord). IsMade at.0 (get_or events k d) next.0 t mid) some (makes at.0 next.0 at.2 next.1) in
     let many = more_acts at.0 next.0 (get_or events k d) turn mid made in
-    let replay : IsReplay new next.0 = record { nodes = ap (λ v. nodes_played v.items) nodes ∙ made.3.nodes; flight = flight ∙ made.3.flight; } in
+    let replay : IsReplay new next.0 = record { nodes = ap (λ v. nodes_played v.items) nodes ∙ made.3.nodes; flight = flight ∙ made.3.flight } in
     (next.0, next.2, replay, omega (arith, many, acts_is, rest_is, at.3))
 
 module _ (program : Program) (nodes : ℕ) (options : OptionsRecord) (events : List Event) (end : World)
     (goes : played (fresh_world program nodes options) events ≡ Some end) (k position left : ℕ) (old : Replay)
     (at : IsBefore (fresh_world program nodes options) events k position left old) where
-
   pub found : (acts : ℕ) (d : Event) (o : Option TurnRecord) (turn : TurnRecord) (mid : Replay) → k < length events → o ≡ Some turn
       → Makes (get_or events k d) o old mid
       → acts ≡ length (option_to_list turn.act) → left < acts → IsStart program nodes options (Some position) events k
@@ -59,11 +58,11 @@ module _ (program : Program) (nodes : ℕ) (options : OptionsRecord) (events : L
       let many = more_acts at.0 next.0 (get_or events k d) turn mid made in
       let begins : MakesAct at.0 position (drop k events) =
       subst (MakesAct at.0 position) (sym (drop_more events k d within)) (next.0, next.1, omega (arith, many, acts_is, few, at.3)) in
-      (omega (arith, within), (at.0, record { split = sym (take-append-drop k events); stands = at.1; begins = (omega (arith, at.3), begins); }))
+      (omega (arith, within), (at.0, record { split = sym (take-append-drop k events); stands = at.1; begins = (omega (arith, at.3), begins) }))
 
   pub passed : length events ≤ k → IsStart program nodes options (Some position) events (length events)
   passed past =
       let all = take_all k events past ∙ sym (take_all (length events) events (omega arith)) in
       let stands = ap (played (fresh_world program nodes options)) (sym all) ∙ at.1 in
       let begins : MakesAct at.0 position (drop (length events) events) = subst (MakesAct at.0 position) (sym (drop_all (length events) events (omega arith))) tt in
-      (omega arith, (at.0, record { split = sym (take-append-drop (length events) events); stands = stands; begins = (omega (arith, at.3), begins); }))
+      (omega arith, (at.0, record { split = sym (take-append-drop (length events) events); stands = stands; begins = (omega (arith, at.3), begins) }))

@@ -106,10 +106,10 @@ module _ (told : Told) (range : Range) (plan : Plan) (labels : List Label) (sett
         → AreStates told range (whole_text new)
     states_so line old new first one tells =
         let lines = subst
-            (λ (l : List Event). (whole_text new ≡ whole_text old ++ turn_lines plan (turns_shown range.to turns world (drop count l)))
-            × (length (turns_shown range.to turns world (drop count l)) ≤ most_turns)) same tells in
+        (λ (l : List Event). (whole_text new ≡ whole_text old ++ turn_lines plan (turns_shown range.to turns world (drop count l)))
+        × (length (turns_shown range.to turns world (drop count l)) ≤ most_turns)) same tells in
         let whole = lines.0 ∙ ap (λ (l : List (Vec ℕ Global)). whole_text l ++ turn_lines plan shown) one
-            ∙ ap (λ (l : List ℕ). l ++ turn_lines plan shown) (append-nil line.items ∙ first) in
+        ∙ ap (λ (l : List ℕ). l ++ turn_lines plan shown) (append-nil line.items ∙ first) in
         (length shown, lines.1, shown_so (whole_text new) whole)
 
     pub unshown_so : (fault : StatesFault) → (fault ≡ TooLong → most_turns < length (turns_shown range.to turns world (drop count read)))

@@ -12,7 +12,9 @@ use Rattle.lrc_states.specs.declared.player.Player.{Player}
 use Rattle.lrc_replay.specs.Acts.{Plan}
 use Rattle.lrc_replay.specs.Courses.{IsCourse, plan_of}
 use Rattle.lrc_turn_objects.specs.Objects.{message_object, truth_text}
+use Rattle.lrc_lang.specs.declared.program.Program.{Program}
 use Rattle.lrc_lang.specs.Lines.{HasLines}
+use Rattle.lrc_lang.specs.Symbol.{Names}
 use Rattle.lrc_lang.specs.Tree.{program_of}
 use Rattle.lrc_labels.specs.Reading.{Label}
 use Rattle.lrc_private.specs.Spelling.{AreNamesOf}
@@ -59,6 +61,10 @@ was_taken (Some l) (Some envelope) = is_repeat l.node envelope
 -- the message that is taken, and whether it was taken before
 abbrev pub take_members : Option EnvelopeRecord → (again : Bool) → List ℕ
 take_members message again = codes ",\"take\":" ++ message_or_null message ++ codes ",\"again\":" ++ truth_text again
+
+-- the plan of a program, on so many nodes, with the lines and the names of its text
+abbrev pub plan_with : Program → (nodes : ℕ) → (lines : List ℕ) → Names → Plan
+plan_with program nodes lines names = record { program = program; nodes = nodes; lines = lines; names = names }
 
 -- the plan and the labels are those of what the lines are told of
 pub record IsSetting (told : Told) (plan : Plan) (labels : List Label) : Type 0 where

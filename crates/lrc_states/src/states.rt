@@ -8,9 +8,8 @@ ghost use Rattle.lrc_private.specs.Ways.{IsOnWay};
 ghost use Rattle.lrc_protocol.specs.Run.{World, event_on, played, run_of};
 ghost use Rattle.lrc_replay.specs.Turns.{turn_by, turns_from};
 ghost use Rattle.lrc_replay.specs.Acts.{Plan as AnyPlan};
-ghost use Rattle.lrc_replay.specs.Courses.{plan_of};
 ghost use Rattle.lrc_states.specs.declared.fault.StatesFault.TheVariants.{TooLong};
-ghost use Rattle.lrc_states.specs.Players.{AddsLines, IsPlayer, IsSetting};
+ghost use Rattle.lrc_states.specs.Players.{AddsLines, IsPlayer, IsSetting, plan_with};
 ghost use Rattle.lrc_states.specs.States.{AreStates, IsUnshown, is_within, most_turns, shown_now, told_seen, turn_lines, turns_shown};
 ghost use Rattle.lrc_text.specs.Parts.{whole_text};
 
@@ -47,31 +46,34 @@ pub fn states_parts(
     let lines = lines_of(alloc, told.text)?;
     let names = names_of(alloc, told.text)?;
     let labels = read_labels(alloc, told.text, told.program.words(), told.program.locks())?;
-    let plan = Plan {
-        code: &code,
-        nodes: told.nodes,
-        lines: &lines,
-        names: &names,
-    };
-    parts_of(alloc, told, range, plan, &labels.said)
+    parts_of(alloc, told, range, &code, &lines, &names, &labels.said)
 }
 
-// The same, where the plan and the labels are known.
+// The same, where the program's code, the lines, the names and the labels of its text are known.
 fn parts_of(
     alloc: Global,
     told: &Told<'_>,
     range: Range,
-    plan: Plan<'_>,
+    code: &Code<'_>,
+    lines: &[u32],
+    names: &[&[u8]],
     labels: &[Label<'_>],
 ) -> Result<Vec<Vec<u8>>, StatesFault>
     requires few { told.now.nodes ≤ 16 }
-    requires setting { IsSetting (told_seen told.now) (plan_of plan) (map label_seen labels.now) }
+    requires setting { IsSetting (told_seen told.now) (plan_with code.now told.now.nodes lines.now (map (λ name. name.now) names.now))
+        (map label_seen labels.now) }
     ensures states { (made : World) → run_of told.now.program.now told.now.nodes told.now.options told.now.events.now ≡ Some made
         → IfOk result (λ parts. AreStates (told_seen told.now) range (whole_text parts.items)) }
     ensures fault { (made : World) → run_of told.now.program.now told.now.nodes told.now.options told.now.events.now ≡ Some made
         → IfErr result (IsUnshown (told_seen told.now) range) }
 {
-    let skipped = events_skipped(alloc, plan.code, told, range.from)?;
+    let skipped = events_skipped(alloc, code, told, range.from)?;
+    let plan = Plan {
+        code,
+        nodes: told.nodes,
+        lines,
+        names,
+    };
     let mut player = Player::start(alloc, plan, &told.options)?;
     player.pass_all(&told.events[..skipped])?;
     let mut parts = Vec::new(alloc);

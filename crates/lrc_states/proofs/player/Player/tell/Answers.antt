@@ -47,8 +47,12 @@ returns-clause-told c plan world next turns is goes =
     let node = same ∙ place in
     let there = subst (λ (n : ℕ). slice_get next.nodes n ≡ Some after.0) (sym node) after.1 in
     let head = add_text _ (event_members old.turns event c.place_of-place.result
-        ++ take_members (message_of world event) (was_taken (slice_get world.nodes c.place_of-place.result) (message_of world event)))
-        c.new-line.ensures.items (c.in_ok-push_head.ensures world is.replay) in
-    (made.0, made.2.is, made.2.before_is, line_so plan world next event made.0 turn turns old.turns c.place_of-place.result c.in-Ok.node _ after.0.node _ _ _
-    made.2 made.1 place node is.counted (c.in_ok-known.ensures world is.replay) after.2 head (c.in_ok-push_turn.ensures plan world.acts is.course)
-    (c.in_ok-push_end.ensures plan next (turns + 1) after.0 now there))
+    ++ take_members (message_of world event) (was_taken (slice_get world.nodes c.place_of-place.result) (message_of world event)))
+    c.new-line.ensures.items (c.in_ok-push_head.ensures world is.replay) in (
+      made.0,
+      made.2.is,
+      made.2.before_is,
+      line_so plan world next event made.0 turn turns old.turns c.place_of-place.result c.in-Ok.node _ after.0.node _ _ _
+          made.2 made.1 place node is.counted (c.in_ok-known.ensures world is.replay) after.2 head (c.in_ok-push_turn.ensures plan world.acts is.course)
+          (c.in_ok-push_end.ensures plan next (turns + 1) after.0 now there),
+    )

@@ -1,0 +1,54 @@
+// The lines of a run, beside those that are wanted.
+
+use crate::checks::Mistake;
+use lrc_lang::parse;
+use lrc_node::Options;
+use lrc_protocol::Event;
+use lrc_states::{Range, Told, states_parts};
+use std::alloc::Global;
+
+/// More steps than a node makes here.
+pub const MANY_STEPS: u32 = 1_000_000;
+
+/// All turns.
+pub const ALL: Range = Range {
+    from: None,
+    to: None,
+};
+
+/// The text of a program, how it is run, and by which events.
+#[derive(Clone, Copy)]
+pub struct Run<'a> {
+    pub text: &'a [u8],
+    pub nodes: u8,
+    pub options: Options,
+    pub events: &'a [Event],
+}
+
+/// The lines of those turns of a run that are in a range.
+pub fn lines_of(alloc: Global, run: &Run<'_>, range: Range) -> Result<Vec<Vec<u8>>, Mistake> {
+    if run.nodes > 16 {
+        return Err(Mistake::Nodes);
+    }
+    let program = parse(alloc, run.text)?;
+    let told = Told {
+        text: run.text,
+        program: &program,
+        nodes: run.nodes,
+        options: run.options,
+        events: run.events,
+    };
+    Ok(states_parts(alloc, &told, range)?)
+}
+
+/// Whether the lines are this text, one behind the other.
+pub fn is_text(lines: &[Vec<u8>], text: &[u8]) -> bool {
+    let mut rest = text;
+    for line in lines {
+        match rest.strip_prefix(line.as_slice()) {
+            Some(behind) => rest = behind,
+            None => return false,
+        }
+    }
+    rest.is_empty()
+}
