@@ -27,7 +27,8 @@ use Rattle.lrc_lazy_search.specs.declared.state.LazyState.{LazyState}
 use Rattle.lrc_lazy_search.specs.declared.search.Task.{Task}
 use Rattle.lrc_lazy_search.specs.contracts.state.LazyStatePartialEq.TheImpl.{eq-value}
 use Rattle.lrc_lazy_machine.specs.Standing.{with_memory, Stands, CanMake, effect_at}
-use Rattle.lrc_lazy_search.specs.Searching.{IsNext, AreNext, HasStep, HasAll, IsReached, HasKey, AreThere, IsSearched, AreSearched, IsBegun}
+use Rattle.lrc_lazy_search.specs.Searching.{IsNext, AreNext, HasStep, HasAll, AreEnough, of_one, of_all, IsReached, HasKey, AreThere}
+use Rattle.lrc_lazy_search.specs.Searching.{HasNexts, HasEnough, by_one, by_all, IsSearched, AreSearched, IsBegun}
 use Rattle.lrc_lazy_search.specs.Task.{IsTask, IsInOrder}
 use Rattle.lrc_lazy_machine.proofs.Beginning.{stands_first, first_notes}
 use Rattle.lrc_lazy_search.proofs.Same.{stands_same, notes_same}
@@ -181,24 +182,38 @@ item_of keys all before after x e t =
 
 -- ---- a state that was searched
 
+pub all_next : (flat : Flat) (keys : List LazyState) (key : LazyState) (nexts : List LazyState) (node : ℕ) → HasAll flat key node nexts
+    → AreThere keys nexts → HasNexts flat keys key node
+all_next flat keys key nexts node all there deed can =
+    let h = all deed can in
+    record { after = h.after; steps = h.steps; has = there h.place h.after h.there }
+
+pub enough_next : (flat : Flat) (keys : List LazyState) (key : LazyState) (nexts : List LazyState) → AreEnough flat key nexts → AreThere keys nexts
+    → HasEnough flat keys key
+enough_next flat keys key nexts (of_one node front all) there = by_one node front (all_next flat keys key nexts node all there)
+enough_next flat keys key nexts (of_all none all) there = by_all (λ node. all_next flat keys key nexts node (all node) there)
+
 pub searched_next : (flat : Flat) (keys : List LazyState) (outcomes : List Outcome) (key : LazyState) (nexts : List LazyState)
-    → ((node : ℕ) → HasAll flat key node nexts) → AreThere keys nexts
+    → AreEnough flat key nexts → AreThere keys nexts
     → (((node : ℕ) (deed : Deed) → CanMake flat.words (plain_at flat key.state) key.knowledge node deed → ⊥) → HasOutcome outcomes key.notes.items)
     → IsSearched flat keys outcomes key
-searched_next flat keys outcomes key nexts all there gathered = record {
-  next = λ node deed can.
-      let h = all node deed can in
-      record { after = h.after; steps = h.steps; has = there h.place h.after h.there };
+searched_next flat keys outcomes key nexts enough there gathered = record {
+  next = enough_next flat keys key nexts enough there;
   gathered = gathered;
 }
 
--- where there are no next ones, no node can make an act
-pub none_next : (flat : Flat) (key : LazyState) (nexts : List LazyState) → nexts ≡ [] → ((node : ℕ) → HasAll flat key node nexts)
-    → (node : ℕ) (deed : Deed) → CanMake flat.words (plain_at flat key.state) key.knowledge node deed → ⊥
-none_next flat key nexts none all node deed can =
-    let h = all node deed can in
+-- where there are no states to go on with, no node can make an act
+none_of : (flat : Flat) (key : LazyState) (nexts : List LazyState) (node : ℕ) → nexts ≡ [] → HasAll flat key node nexts
+    → (deed : Deed) → CanMake flat.words (plain_at flat key.state) key.knowledge node deed → ⊥
+none_of flat key nexts node none all deed can =
+    let h = all deed can in
     let never : ◌≡◌ {A = Option LazyState} None (Some h.after) = ap (λ l. slice_get l h.place) (sym none) ∙ h.there in
     cc
+
+pub none_next : (flat : Flat) (key : LazyState) (nexts : List LazyState) → nexts ≡ [] → AreEnough flat key nexts
+    → (node : ℕ) (deed : Deed) → CanMake flat.words (plain_at flat key.state) key.knowledge node deed → ⊥
+none_next flat key nexts none (of_one first front all) node deed can = absurd (none_of flat key nexts first none all front.deed front.can)
+none_next flat key nexts none (of_all behind all) node deed can = none_of flat key nexts node none (all node) deed can
 
 -- and where there are some, one can
 pub some_next : (flat : Flat) (key after : LazyState) → IsNext flat key after
@@ -212,10 +227,18 @@ some_next flat key after n none = none n.node n.deed (record {
 })
 
 -- what was searched stays so
+next_on : (flat : Flat) (old new : List LazyState) (key : LazyState) (node : ℕ) → Grows old new → HasNexts flat old key node → HasNexts flat new key node
+next_on flat old new key node g next deed can =
+    let n = next deed can in record { after = n.after; steps = n.steps; has = key_on g n.has }
+
+enough_on : (flat : Flat) (old new : List LazyState) (key : LazyState) → Grows old new → HasEnough flat old key → HasEnough flat new key
+enough_on flat old new key g (by_one node front next) = by_one node front (next_on flat old new key node g next)
+enough_on flat old new key g (by_all next) = by_all (λ node. next_on flat old new key node g (next node))
+
 pub searched_on : (flat : Flat) (old new : List LazyState) (outcomes more : List Outcome) (key : LazyState) → Grows old new → Grows outcomes more
     → IsSearched flat old outcomes key → IsSearched flat new more key
 searched_on flat old new outcomes more key g h s = record {
-  next = λ node deed can. let n = s.next node deed can in record { after = n.after; steps = n.steps; has = key_on g n.has };
+  next = enough_on flat old new key g s.next;
   gathered = λ none. let o = s.gathered none in record { place = o.place; outcome = o.outcome; there = stays o.place o.outcome h o.there; same = o.same };
 }
 

@@ -1,10 +1,10 @@
 -- What a node can do with other words is the same but for what a read gives.
-use Rattle.std.proofs.Common.{◌≡◌, ℕ, ◌<◌, List, [], ◌∷◌, length, map, refl, sym, subst, ◌∙◌, ap, arith, zero, suc}
+use Rattle.std.proofs.Common.{◌≡◌, ℕ, ◌<◌, List, [], ◌∷◌, length, map, inl, refl, sym, subst, ◌∙◌, ap, arith, zero, suc}
 use Rattle.std.specs.Prelude.{◌↔◌, Option, Some, None, Contains, option_map, slice_get, slice_index, slice_set}
 use Rattle.std.proofs.lemmas.List.{get_or-set_same, length-set, length-map}
 use Rattle.std.proofs.lemmas.Option.{same_Some, slice_get_within, get_or_from_slice_get}
 use Rattle.lrc_trace.specs.declared.act.Deed.{Deed}
-use Rattle.lrc_trace.specs.declared.act.Deed.TheVariants.{Read}
+use Rattle.lrc_trace.specs.declared.act.Deed.TheVariants.{Read, Acquire}
 use Rattle.lrc_exec.specs.declared.spot.Flat.{Flat}
 use Rattle.lrc_exec.specs.Meaning.{Thread, Next, next_of}
 use Rattle.lrc_exec.specs.Plain.{Plain, thread_in, plain_step}
@@ -15,13 +15,16 @@ use Rattle.lrc_consistency_laws.proofs.Runs.{CanDo}
 use Rattle.lrc_explore.proofs.Effects.{after_of}
 use Rattle.lrc_explore.specs.States.{plain_at}
 use Rattle.lrc_settled.proofs.Parts.{stepped, can_step}
-use Rattle.lrc_known.specs.Word.{Gives}
+use Rattle.lrc_known.specs.declared.known.Last.{Last}
+use Rattle.lrc_known.specs.declared.known.Last.TheVariants.{Nothing, Value, Unordered}
+use Rattle.lrc_known.specs.Word.{Gives, MayGive, last_of, values_of}
 use Rattle.lrc_known.specs.Effect.{word_of}
 use Rattle.lrc_known.proofs.Made.{get_at}
 use Rattle.lrc_lazy_search.specs.declared.state.LazyState.{LazyState}
 use Rattle.lrc_lazy_machine.specs.Standing.{with_memory, CanMake}
 use Rattle.lrc_lazy_search.specs.Fit.{IsFit}
-use Rattle.lrc_lazy_search.specs.Searching.{poked}
+use Rattle.lrc_swapped.specs.Swapped.{IsNoAcquire}
+use Rattle.lrc_lazy_search.specs.Searching.{poked, IsInFront}
 use Rattle.lrc_lazy_machine.proofs.Coming.{read_stays}
 
 -- the same deed, or reads of one word
@@ -207,6 +210,37 @@ module _ (flat : Flat) (key : LazyState) (fit : IsFit flat key) (node : ℕ) whe
         let same : too.deed ≡ deed = same_Some too.deed deed (sym (ap (option_map (λ (s : Deed × Plain). s.0)) too.made) ∙ is) in
         (0, ap Some (one_kind d too.deed too.kind same))
 
+-- ---- which nodes can do something other than acquire a lock
+
+some_given : (last : Last) (values : List ℕ) → (v : ℕ) × MayGive last values v
+some_given Nothing values = (0, refl)
+some_given (Value v) values = (v, refl)
+some_given Unordered values = (0, inl refl)
+
+module _ (flat : Flat) (key : LazyState) (fit : IsFit flat key) (node : ℕ) where
+  abbrev next : Option Deed
+  next = option_map (λ (s : Deed × Plain). s.0) (plain_step (plain_at flat key.state) node)
+
+  pub front_can : (deed : Deed) → next ≡ Some deed → IsNoAcquire deed → IsInFront flat key node
+  front_can (Read w u) is free =
+      let s = step_of flat key fit node (Read w u) is in
+      let word = word_of key.knowledge w in
+      let g = some_given (last_of word node) (values_of word node) in
+      record { deed = Read w g.0; can = read_made flat key fit node w u g.0 s.0 s.1 g.1; free = λ l e. cc }
+  front_can deed is free = record { deed = deed; can = one_sound flat key fit node deed is (λ w u e. cc) 0 deed refl; free = free }
+
+  pub front_waits : (l : ℕ) → next ≡ Some (Acquire l) → IsInFront flat key node → ⊥
+  front_waits l is f =
+      let found = one_all flat key fit node (Acquire l) is (λ w u e. cc) f.deed f.can in
+      only found.0 found.1
+    where
+      only : (k : ℕ) → slice_get (Acquire l ∷ []) k ≡ Some f.deed → ⊥
+      only zero e = f.free l (sym (same_Some (Acquire l) f.deed e))
+      only (suc k) e = cc
+
+  pub front_none : next ≡ None → IsInFront flat key node → ⊥
+  front_none none f = none_can flat key fit node none f.deed f.can
+
 pub poked_long : (d : Deed) (memory : List ℕ) → length (poked d memory) ≡ length memory
 poked_long (Read w v) memory = length-set memory w v
 poked_long d memory = refl
@@ -220,3 +254,6 @@ can_below flat key node d fit can =
     let mapped = length-map key.state.spots.items (spot_thread flat) in
     let count = fit.valid.spots in
     omega (arith, lt, mapped, count)
+
+pub front_below : (flat : Flat) (key : LazyState) (node : ℕ) → IsFit flat key → IsInFront flat key node → node < flat.nodes
+front_below flat key node fit f = can_below flat key node f.deed fit f.can

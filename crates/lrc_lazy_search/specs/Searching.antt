@@ -15,6 +15,7 @@ use Rattle.lrc_explore.specs.Outcome.{HasOutcome}
 use Rattle.lrc_explore.specs.States.{plain_at, IsStateOf}
 use Rattle.lrc_lazy.specs.Lazy.{IsLazyOutcome}
 use Rattle.lrc_known.specs.Effect.{IsKnowledgeAfter}
+use Rattle.lrc_swapped.specs.Swapped.{IsNoAcquire}
 use Rattle.lrc_lazy_search.specs.declared.state.LazyState.{LazyState}
 use Rattle.lrc_lazy_search.specs.contracts.state.LazyStatePartialEq.TheImpl.{eq-value}
 use Rattle.lrc_lazy_machine.specs.Standing.{with_memory, Stands, MayGive, CanMake, effect_at}
@@ -66,6 +67,17 @@ abbrev pub HasAll : Flat → LazyState → (node : ℕ) → List LazyState → T
 HasAll flat key node all =
     (deed : Deed) → CanMake flat.words (plain_at flat key.state) key.knowledge node deed → HasStep flat key node deed all
 
+-- the node can do something other than acquire a lock
+pub record IsInFront (flat : Flat) (key : LazyState) (node : ℕ) : Type 0 where
+  pub deed : Deed
+  pub can : CanMake flat.words (plain_at flat key.state) key.knowledge node deed
+  pub free : IsNoAcquire deed
+
+-- the states are enough to go on with: those of one such node, or, where there is none, those of all nodes
+pub data AreEnough (flat : Flat) (key : LazyState) (all : List LazyState) : Type 0 where
+  of_one : (node : ℕ) → IsInFront flat key node → HasAll flat key node all → AreEnough flat key all
+  of_all : ((node : ℕ) → IsInFront flat key node → ⊥) → ((node : ℕ) → HasAll flat key node all) → AreEnough flat key all
+
 -- ---- the search
 
 -- a lazy run leads to the state, in so many acts at most
@@ -96,9 +108,19 @@ pub record HasNext (flat : Flat) (keys : List LazyState) (key : LazyState) (node
   pub steps : Steps flat key node deed after
   pub has : HasKey keys after
 
--- the state's next ones are there, and its outcome where it has none
+-- all that the node can do leads to states that are among them
+abbrev pub HasNexts : Flat → List LazyState → LazyState → (node : ℕ) → Type 0
+HasNexts flat keys key node =
+    (deed : Deed) → CanMake flat.words (plain_at flat key.state) key.knowledge node deed → HasNext flat keys key node deed
+
+-- enough of the state's next ones is there: those of one node that can do something other than acquire a lock, or those of all nodes
+pub data HasEnough (flat : Flat) (keys : List LazyState) (key : LazyState) : Type 0 where
+  by_one : (node : ℕ) → IsInFront flat key node → HasNexts flat keys key node → HasEnough flat keys key
+  by_all : ((node : ℕ) → HasNexts flat keys key node) → HasEnough flat keys key
+
+-- enough of the state's next ones is there, and its outcome where it has none
 pub record IsSearched (flat : Flat) (keys : List LazyState) (outcomes : List Outcome) (key : LazyState) : Type 0 where
-  pub next : (node : ℕ) (deed : Deed) → CanMake flat.words (plain_at flat key.state) key.knowledge node deed → HasNext flat keys key node deed
+  pub next : HasEnough flat keys key
   pub gathered : ((node : ℕ) (deed : Deed) → CanMake flat.words (plain_at flat key.state) key.knowledge node deed → ⊥)
       → HasOutcome outcomes key.notes.items
 

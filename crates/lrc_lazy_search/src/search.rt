@@ -111,7 +111,7 @@ impl Searched {
     ghost use Rattle.lrc_explore.specs.Outcome.{HasOutcome};
     ghost use Rattle.lrc_lazy.specs.Lazy.{IsLazyOutcome};
     ghost use Rattle.lrc_lazy_search.specs.declared.state.LazyState.{LazyState as StateType};
-    ghost use Rattle.lrc_lazy_search.specs.Searching.{AreNext, AreReached, AreSearched, AreSound, AreThere, HasAll, IsBegun, IsReached, IsSearched, MeetsMore};
+    ghost use Rattle.lrc_lazy_search.specs.Searching.{AreEnough, AreNext, AreReached, AreSearched, AreSound, AreThere, IsBegun, IsReached, IsSearched, MeetsMore};
     ghost use Rattle.lrc_lazy_search.specs.Task.{IsTask, IsInOrder};
 
     // No states, and no outcomes.
@@ -177,7 +177,7 @@ impl Searched {
         Ok(())
     }
 
-    // Looks at a state: finds those after it, and takes its outcome where there are none.
+    // Looks at a state: finds those to go on with, and takes its outcome where there are none.
     fn visit(&mut self, alloc: Global, task: &Task<'_>, place: usize) -> Result<(), AllocError>
         requires task { IsTask task.now }
         requires order { IsInOrder task.now self.old.states.keys }
@@ -199,7 +199,7 @@ impl Searched {
         }
     }
 
-    // The states that an act leads to from one of them.
+    // The states to go on with from one of them.
     fn nexts_at(
         &self,
         alloc: Global,
@@ -213,7 +213,7 @@ impl Searched {
         ensures reached { IfOk result (λ all. (k : ℕ) (after : StateType) → slice_get all.items k ≡ Some after
             → IsReached task.now.program.now task.now.flat after (length self.now.states.keys)) }
         ensures sound { IfOk result (λ all. (key : StateType) → slice_get self.now.states.keys place ≡ Some key → AreNext task.now.flat key all.items) }
-        ensures all { IfOk result (λ all. (key : StateType) → slice_get self.now.states.keys place ≡ Some key → (node : ℕ) → HasAll task.now.flat key node all.items) }
+        ensures enough { IfOk result (λ all. (key : StateType) → slice_get self.now.states.keys place ≡ Some key → AreEnough task.now.flat key all.items) }
     {
         self.states.as_slice()[place].nexts(alloc, &task.flat)
     }

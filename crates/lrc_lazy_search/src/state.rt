@@ -23,7 +23,7 @@ pub struct LazyState {
 }
 
 impl LazyState {
-    ghost use Rattle.std.specs.Prelude.{◌≡◌, ◌≤◌, ◌<◌, ◌^◌, ℕ, IfOk, OnOk, Some, Contains, [], length, slice_get, slice_index};
+    ghost use Rattle.std.specs.Prelude.{◌≡◌, ◌≤◌, ◌<◌, ◌^◌, ℕ, IfOk, OnOk, Some, None, true, false, Contains, [], length, slice_get, slice_index};
     ghost use Rattle.lrc_trace.specs.declared.act.Deed.{Deed as DeedType};
     ghost use Rattle.lrc_exec.specs.Spots.{IsFlat};
     ghost use Rattle.lrc_explore.specs.Led.{IsFirst};
@@ -31,7 +31,7 @@ impl LazyState {
     ghost use Rattle.lrc_known.specs.Effect.{word_of};
     ghost use Rattle.lrc_lazy_machine.specs.Standing.{CanMake};
     ghost use Rattle.lrc_lazy_search.specs.Fit.{IsFit};
-    ghost use Rattle.lrc_lazy_search.specs.Searching.{HasAll, AreNext, Makes, Steps, IsPoked};
+    ghost use Rattle.lrc_lazy_search.specs.Searching.{HasAll, AreNext, AreEnough, IsInFront, Makes, Steps, IsPoked};
 
     /// The beginning of a program, whose text begins at this place of the code.
     pub fn start(alloc: Global, flat: &Flat, place: usize) -> Result<LazyState, AllocError>
@@ -143,8 +143,58 @@ impl LazyState {
         })
     }
 
-    /// The states that an act leads to.
+    // Whether a node can do something other than acquire a lock.
+    fn is_in_front(&self, flat: &Flat, node: usize) -> bool
+        requires flat { IsFlat flat.now }
+        requires fit { IsFit flat.now self.now }
+        ensures front { result ≡ true → IsInFront flat.now self.now node }
+        ensures behind { result ≡ false → ¬ IsInFront flat.now self.now node }
+    {
+        let Some(deed) = self.state.next_deed(flat, node) else {
+            return false;
+        };
+        match deed {
+            Deed::Acquire(_) => false,
+            _ => true,
+        }
+    }
+
+    // The lowest node that can do something other than acquire a lock, if there is one.
+    fn in_front(&self, flat: &Flat) -> Option<usize>
+        requires flat { IsFlat flat.now }
+        requires fit { IsFit flat.now self.now }
+        ensures front { (node : ℕ) → result ≡ Some node → IsInFront flat.now self.now node }
+        ensures none { result ≡ None → (node : ℕ) → ¬ IsInFront flat.now self.now node }
+    {
+        for node in 0..self.state.spots.len() {
+            if self.is_in_front(flat, node) {
+                return Some(node);
+            }
+        }
+        None
+    }
+
+    /// The states to go on with: those to which the lowest node leads that can do something other than acquire a lock, and where there is
+    /// none, those to which any node leads.
     pub fn nexts(&self, alloc: Global, flat: &Flat) -> Result<Vec<LazyState>, AllocError>
+        requires flat { IsFlat flat.now }
+        requires fit { IsFit flat.now self.now }
+        requires room { (node : ℕ) → slice_index self.now.state.arrivals.items node < 2 ^ 63 }
+        ensures sound { IfOk result (λ all. AreNext flat.now self.now all.items) }
+        ensures enough { IfOk result (λ all. AreEnough flat.now self.now all.items) }
+    {
+        match self.in_front(flat) {
+            Some(node) => {
+                let mut all = Vec::new(alloc);
+                self.nexts_of(alloc, flat, node, &mut all)?;
+                Ok(all)
+            }
+            None => self.nexts_of_all(alloc, flat),
+        }
+    }
+
+    // Those that an act of any node leads to.
+    fn nexts_of_all(&self, alloc: Global, flat: &Flat) -> Result<Vec<LazyState>, AllocError>
         requires flat { IsFlat flat.now }
         requires fit { IsFit flat.now self.now }
         requires room { (node : ℕ) → slice_index self.now.state.arrivals.items node < 2 ^ 63 }

@@ -1,9 +1,9 @@
-use Rattle.std.proofs.Common.{◌∙◌, ℕ, sym, subst, arith}
+use Rattle.std.proofs.Common.{◌∙◌, sym, subst, arith}
 use Rattle.std.proofs.lemmas.Option.{same_Some}
 use Rattle.std.proofs.lemmas.Result.{IfOk-weaker}
 use Rattle.lrc_explore.proofs.Keeping.{item_in}
 use Rattle.lrc_lazy_search.specs.declared.state.LazyState.{LazyState}
-use Rattle.lrc_lazy_search.specs.Searching.{AreNext, HasAll}
+use Rattle.lrc_lazy_search.specs.Searching.{AreNext, AreEnough}
 use Rattle.lrc_lazy_search.proofs.Adding.{reached_next, reached_more}
 use Rattle.lrc_lazy_search.proofs.Searched.{reached_fit}
 use Rattle.lrc_lazy_search.proofs.search.Searched.nexts_at.Goals as goal
@@ -46,12 +46,12 @@ returns-clause-sound c =
     IfOk-weaker c.nexts.result _ _
     (λ all sound wanted at. subst (λ (k : LazyState). AreNext task.flat k all.items) (same_Some key wanted (sym there ∙ at)) sound) c.nexts.ensures.sound
 
-pub returns-clause-all : goal.returns-clause-all
-returns-clause-all c =
+pub returns-clause-enough : goal.returns-clause-enough
+returns-clause-enough c =
     let task = c.args.task.now in
     let keys = c.args.self.now.states.keys in
     let key = c.index-as_slice-place.result in
     let there = item_in keys c.as_slice.result.now c.args.place key c.as_slice.ensures.keys c.requires.within c.index-as_slice-place.is in
     IfOk-weaker c.nexts.result _ _
-    (λ all each wanted at. subst (λ (k : LazyState). (node : ℕ) → HasAll task.flat k node all.items) (same_Some key wanted (sym there ∙ at)) each)
-    c.nexts.ensures.all
+    (λ all enough wanted at. subst (λ (k : LazyState). AreEnough task.flat k all.items) (same_Some key wanted (sym there ∙ at)) enough)
+    c.nexts.ensures.enough

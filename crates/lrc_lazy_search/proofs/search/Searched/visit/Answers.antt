@@ -10,7 +10,7 @@ take_outcome-requires-clause-over c = λ key at.
     let nexts = c.in_ok-nexts.nexts.items in
     let none : nexts ≡ [] = no_items nexts (grind (arith, c.is_empty.ensures, c.if-is_empty.true)) in
     outcome_there task.program.now task.flat key c.args.place c.requires.task.words (c.requires.order.reached c.args.place key at)
-    (none_next task.flat key nexts none (c.in_ok-nexts.ensures.all key at))
+    (none_next task.flat key nexts none (c.in_ok-nexts.ensures.enough key at))
 
 pub returns-then-is_empty-clause-done : goal.returns-then-is_empty-clause-done
 returns-then-is_empty-clause-done c =
@@ -19,7 +19,7 @@ returns-then-is_empty-clause-done c =
     let none : nexts ≡ [] = no_items nexts (grind (arith, c.is_empty.ensures, c.if-is_empty.true)) in
     ok_says c.take_outcome.result
     (λ has key at.
-    searched_next task.flat c.take_outcome.new.self.states.keys c.take_outcome.new.self.outcomes.keys key nexts (c.in_ok-nexts.ensures.all key at)
+    searched_next task.flat c.take_outcome.new.self.states.keys c.take_outcome.new.self.outcomes.keys key nexts (c.in_ok-nexts.ensures.enough key at)
     (none_there c.take_outcome.new.self.states.keys nexts none) (λ over. has key at))
     c.take_outcome.ensures.has
 
@@ -30,6 +30,6 @@ returns-else-is_empty-clause-done c =
     let first = first_item nexts (grind (arith, c.is_empty.ensures, c.if-is_empty.false)) in
     ok_says c.add_all.result
     (λ has key at.
-    searched_next task.flat c.add_all.new.self.states.keys c.add_all.new.self.outcomes.keys key nexts (c.in_ok-nexts.ensures.all key at) has
+    searched_next task.flat c.add_all.new.self.states.keys c.add_all.new.self.outcomes.keys key nexts (c.in_ok-nexts.ensures.enough key at) has
     (λ over. absurd (some_next task.flat key first.0 (c.in_ok-nexts.ensures.sound key at 0 first.0 first.1) over)))
     c.add_all.ensures.has

@@ -1,7 +1,7 @@
 -- All are next ones, and those of the nodes so far are there.
 use Rattle.std.proofs.Common.{ℕ, ◌<◌}
 use Rattle.lrc_lazy_search.specs.Searching.{AreNext, HasAll}
-use Rattle.lrc_lazy_search.proofs.state.LazyState.nexts.Given as goal
+use Rattle.lrc_lazy_search.proofs.state.LazyState.nexts_of_all.Given as goal
 
 abbrev pub invariant-loop-node : goal.invariant-loop-node
 invariant-loop-node l = record {
