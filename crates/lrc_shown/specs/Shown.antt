@@ -54,11 +54,7 @@ IsFormShown form text program options run out =
 -- the same in any form: with the states of the nodes it is of turns
 abbrev pub IsTraceShown : Form → List ℕ → Program → RunOptions → Run → List ℕ → Type 0
 IsTraceShown (States part) text program options run out = IsStated part text program options run out
-IsTraceShown Acts text program options run out = IsFormShown Acts text program options run out
-IsTraceShown Messages text program options run out = IsFormShown Messages text program options run out
-IsTraceShown Events text program options run out = IsFormShown Events text program options run out
-IsTraceShown Json text program options run out = IsFormShown Json text program options run out
-IsTraceShown Rapid text program options run out = IsFormShown Rapid text program options run out
+IsTraceShown form text program options run out = IsFormShown form text program options run out
 
 -- why there is none: too many turns are to be shown
 abbrev pub IsTraceFault : Form → List ℕ → Program → RunOptions → Run → Fault → Type 0
@@ -81,7 +77,7 @@ IsShown (Why asking) choice text program run out =
 abbrev pub IsShowFault : Shape → RunChoice → List ℕ → Program → Run → Fault → Type 0
 IsShowFault shape choice text program run NoMemory = Unit {0}
 IsShowFault (Chart charting) choice text program run TooLong = IsTooLong charting choice.options text program run
-IsShowFault (Trace form) choice text program run TooManyTurns = IsTraceFault form text program choice.options run TooManyTurns
+IsShowFault (Trace form) choice text program run TooManyTurns = IsFormTooLong form text program choice.options run
 IsShowFault (Step part) choice text program run TooManyTurns = HasTooManyTurns part text program choice.options run
 IsShowFault (Why asking) choice text program run (NoAct position) = IsUntold asking (length run.report.acts.items) (NoAct position)
 IsShowFault shape choice text program run fault = ⊥

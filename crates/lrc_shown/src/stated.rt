@@ -1,18 +1,16 @@
 // The turns of a run with the states of its nodes, and the document that shows them.
 
-ghost use Rattle.std.specs.Prelude.{◌≡◌, ◌<◌, All, IfErr, IfOk, length};
+ghost use Rattle.std.specs.Prelude.{◌≡◌, ◌≤◌, ℕ, IfErr, IfOk, List, length};
 ghost use Rattle.lrc_answer.specs.Texts.{IsTextOf};
-ghost use Rattle.lrc_answer.specs.declared.fault.Fault.TheVariants.{TooManyTurns};
 ghost use Rattle.lrc_judge.specs.Order.{IsOrderOf};
 ghost use Rattle.lrc_shown.specs.Explained.{IsExplained};
+ghost use Rattle.lrc_shown.specs.Lines.{AreLinesIn};
 ghost use Rattle.lrc_shown.specs.Runs.{IsRunWith};
 ghost use Rattle.lrc_shown.specs.Stated.{IsStated, IsStatesFault, IsStepped, acts_shown, end_shown, first_shown, name_of, range_of};
 ghost use Rattle.lrc_step_races.specs.Lines.{TellsRaces};
 ghost use Rattle.lrc_step_reasons.specs.Lines.{TellsWhys};
 ghost use Rattle.lrc_text.specs.Parts.{whole_text};
 ghost use Rattle.lrc_world.specs.declared.keep.Keep.{Keep as AnyKeep};
-ghost use Rattle.std.specs.Prelude.{ℕ, List};
-ghost use Rattle.lrc_shown.specs.Lines.{AreLinesIn};
 
 use crate::runs::setting_of;
 use crate::shown::explained;
@@ -44,11 +42,12 @@ pub(crate) fn stated(
         (whole_text parts.items)) }
     ensures err { IfErr result (IsStatesFault part text.now program.now options.now run.now) }
 {
+    let setting = setting_of(options);
     let told = Told {
         text,
         program,
         nodes: options.nodes.count as u8,
-        options: options_of(&setting_of(options)),
+        options: options_of(&setting),
         events: &run.events,
     };
     match states_parts(alloc, &told, range_of(part)) {
@@ -58,6 +57,7 @@ pub(crate) fn stated(
     }
 }
 
+// Which turns are shown.
 fn range_of(part: Part) -> Range
     ensures { result ≡ range_of part }
 {
@@ -80,7 +80,8 @@ fn first_shown(position: Option<u64>, count: usize) -> usize
 
 // Where the acts end that are shown, of so many.
 fn end_shown(position: Option<u64>, count: usize) -> usize
-    ensures { result ≡ end_shown position count }
+    ensures end { result ≡ end_shown position count }
+    ensures within { result ≤ count }
 {
     match position {
         None => count,
@@ -89,8 +90,10 @@ fn end_shown(position: Option<u64>, count: usize) -> usize
     }
 }
 
+// The acts that are shown, of so many.
 fn acts_shown(part: Part, count: usize) -> ShownActs
-    ensures { result ≡ acts_shown part count }
+    ensures shown { result ≡ acts_shown part count }
+    ensures within { result.until ≤ count }
 {
     ShownActs {
         from: first_shown(part.from, count),
@@ -162,7 +165,8 @@ fn races_text(
     let acts = run.report.acts.as_slice();
     let nodes = options.nodes.count as u8;
     let lines = lines_in(alloc, text, program, nodes, acts)?;
-    races_part(alloc, acts, &lines, order, nodes, acts_shown(part, acts.len()))
+    let shown = acts_shown(part, acts.len());
+    races_part(alloc, acts, &lines, order, nodes, shown)
 }
 
 // The lines of why the acts of a part of a run are as they are.

@@ -15,8 +15,8 @@ ghost use Rattle.lrc_acts_text.specs.Json.{json_of_acts};
 ghost use Rattle.lrc_text.specs.Parts.{whole_text};
 ghost use Rattle.lrc_turns_text.specs.TurnsText.{messages_text};
 
-use lrc_acts_text::{acts_part, json_part, rapid_part};
 use crate::stated::stated;
+use lrc_acts_text::{acts_part, json_part, rapid_part};
 use lrc_answer::fault::Fault;
 use lrc_answer::printout::in_one;
 use lrc_args::choice::{Form, RunOptions};
