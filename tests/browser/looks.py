@@ -117,6 +117,22 @@ def keys(pages, document):
     pages.is_quiet("keys")
 
 
+def printed(pages, document):
+    """Print shows the turn without the buttons; a narrow window has one column."""
+    browser = pages.browser
+    url = pages.save("late", document)
+    browser.media(media="print")
+    browser.open(f"{url}#turn=13")
+    hidden = "['controls', 'headline', 'source', 'node-1', 'why', 'timeline'].filter(id => !document.getElementById(id).getClientRects().length)"
+    pages.same("hidden in print", browser.value(hidden), ["controls"])
+    browser.media()
+    browser.size(600, 900)
+    browser.open(f"{url}#turn=13")
+    ends = browser.value("['source', 'nodes'].map(id => document.getElementById(id).getBoundingClientRect()).map(({ top, bottom }) => [top, bottom])")
+    pages.same("one column", ends[0][1] <= ends[1][0], True)
+    browser.size(1280, 800)
+
+
 def reasons(pages):
     """Of a read that gives an old value."""
     pages.same("race in the headline", pages.text("#headline .race-mark"), "race 1")
@@ -264,6 +280,7 @@ def look(pages, source):
         frame(pages, document)
         states(pages, name, document)
     keys(pages, made["late"])
+    printed(pages, made["late"])
     part(pages, made["late"], made["late_part"])
     document = source.hostile()
     frame(pages, document)

@@ -1,6 +1,8 @@
 // Documents of `step`, to the byte: the frame, and in it the lines of a run.
 
-use crate::checks::passes;
+ghost use Rattle.std.specs.Prelude.{◌≡◌, false};
+ghost use Rattle.lrc_args.specs.Files.{names_events};
+
 use crate::shell::{ON_ONE_NODE, done};
 use lrc_args::choice::{Choice, Nodes, Part, RunChoice, RunOptions, Shape, Way};
 use lrc_envelope::Picker;
@@ -9,15 +11,38 @@ use std::alloc::{AllocError, Global};
 use std::sync::Wait;
 use std::thread::Threads;
 
-/// A program on so many nodes, the part of its run that is shown, the lines of the document by pieces, and the status.
-struct Row {
-    name: &'static str,
-    text: &'static [u8],
-    nodes: Nodes,
-    part: Part,
-    lines: &'static [&'static [u8]],
-    status: u8,
-}
+const OLDEST: Way<'static> = Way::Rounds(Picker::Oldest);
+
+/// The turns of acts 4 to 6, of a run of two nodes.
+const OF_TWO: Choice<'static> = Choice::Show(
+    RunChoice {
+        options: RunOptions {
+            file: "some/where/program.tm",
+            nodes: Nodes { count: 2 },
+            ..ON_ONE_NODE
+        },
+        way: OLDEST,
+    },
+    Shape::Step(Part {
+        from: Some(4),
+        to: Some(6),
+    }),
+);
+
+/// All turns, of a run of one node.
+const OF_ONE: Choice<'static> = Choice::Show(
+    RunChoice {
+        options: RunOptions {
+            file: "program.tm",
+            ..ON_ONE_NODE
+        },
+        way: OLDEST,
+    },
+    Shape::Step(Part {
+        from: None,
+        to: None,
+    }),
+);
 
 const RACING: &[u8] = br##"words 2;
 locks 0;
@@ -31,6 +56,7 @@ if me == 0 {
 }
 "##;
 
+// The lines by pieces. The first group of races has no pair in this part.
 const OF_RACING: &[&[u8]] = &[
     br##"{"program":"program.tm","##,
     br##""text":"words 2;\nlocks 0;\nif me == 0 {\n  [0] = 1;\n  [1] = 2;\n} else {\n  [0] = 3;\n  y = [1];\n  [1] = 4;\n}\n"}"##,
@@ -92,6 +118,7 @@ x = 1; # &amp; &lt; &#60; "quoted" 'single' \ \\ \n \u003c \" `
 if x < 2 { if x > 0 { [0] = x; } } # <script type="application/json">
 "##;
 
+// The text would end the element of the lines.
 const OF_MARKUP: &[&[u8]] = &[
     br##"{"program":"program.tm","text":"words 1; locks 0; # \u003c/script\u003e\u003cscript\u003ealert(1)\u003c/script\u003e "##,
     br##"\u003c/SCRIPT \u003e \u003c!-- \u003cscript\u003e --\u003e ]]\u003e\n"##,
@@ -131,31 +158,6 @@ const OF_MARKUP: &[&[u8]] = &[
     b"\n",
 ];
 
-const ROWS: &[Row] = &[
-    Row {
-        name: "a part of a run with two groups of races, one of which has no pair in it",
-        text: RACING,
-        nodes: Nodes { count: 2 },
-        part: Part {
-            from: Some(4),
-            to: Some(6),
-        },
-        lines: OF_RACING,
-        status: 3,
-    },
-    Row {
-        name: "a text that would end the element of the lines",
-        text: MARKUP,
-        nodes: Nodes { count: 1 },
-        part: Part {
-            from: None,
-            to: None,
-        },
-        lines: OF_MARKUP,
-        status: 0,
-    },
-];
-
 /// The document with these lines.
 fn document(alloc: Global, lines: &[&[u8]]) -> Result<Vec<u8>, AllocError> {
     let mut document = Vec::from_slice(alloc, OPENING)?;
@@ -166,30 +168,28 @@ fn document(alloc: Global, lines: &[&[u8]]) -> Result<Vec<u8>, AllocError> {
     Ok(document)
 }
 
-fn is_shown<R: Threads + Wait + Sync + AllocGlobal>(rt: &R, row: &Row) -> bool {
-    let options = RunOptions {
-        file: "some/where/program.tm",
-        nodes: row.nodes,
-        ..ON_ONE_NODE
-    };
-    let way = Way::Rounds(Picker::Oldest);
-    let choice = Choice::Show(RunChoice { options, way }, Shape::Step(row.part));
-    match document(rt.alloc(), row.lines) {
-        Ok(document) => done(rt, &choice, row.text, None).is(&document, b"", row.status),
+/// Whether the document of a run of this text has just these lines in the frame.
+fn has_lines<R: Threads + Wait + Sync + AllocGlobal>(
+    rt: &R,
+    choice: &Choice<'_>,
+    text: &[u8],
+    lines: &[&[u8]],
+    status: u8,
+) -> bool
+    requires { false ≡ names_events choice.now }
+{
+    match document(rt.alloc(), lines) {
+        Ok(document) => done(rt, choice, text, None).is(&document, b"", status),
         Err(_) => false,
     }
 }
 
-fn first_wrong<R: Threads + Wait + Sync + AllocGlobal>(rt: &R) -> Option<&'static str> {
-    for row in ROWS {
-        if !is_shown(rt, row) {
-            return Some(row.name);
-        }
-    }
-    None
+#[test]
+fn the_document_of_a_part_is_this_to_the_byte(rt: HostRuntime) {
+    assert!(rt; has_lines(&rt, &OF_TWO, RACING, OF_RACING, 3));
 }
 
 #[test]
-fn documents_are_these_to_the_byte(rt: HostRuntime) {
-    passes(&rt, first_wrong(&rt));
+fn the_document_of_a_text_with_markup_is_this_to_the_byte(rt: HostRuntime) {
+    assert!(rt; has_lines(&rt, &OF_ONE, MARKUP, OF_MARKUP, 0));
 }
