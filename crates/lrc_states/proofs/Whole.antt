@@ -1,6 +1,6 @@
 -- The first line, and the lines of all turns that are shown.
 use Rattle.std.proofs.Common.{◌≡◌, ◌∙◌, ◌+◌, ◌-◌, ◌<◌, ◌≤◌, ◌++◌, ℕ, List, [], ◌∷◌, Option, Some, ap, ap₂, refl, sym, subst, append-nil, arith, length, take, drop}
-use Rattle.std.specs.Prelude.{fold, IfOk, Ok, Result, Vec}
+use Rattle.std.specs.Prelude.{Err, fold, IfErr, IfOk, Ok, Result, Vec}
 use Rattle.std.specs.declared.alloc.Global.{Global}
 use Rattle.std.proofs.lemmas.List.{length-drop, take-append-drop, take_all}
 use Rattle.std.proofs.lemmas.List.Sums.{fold-append}
@@ -18,9 +18,16 @@ use Rattle.lrc_states.specs.declared.told.Range.{Range}
 use Rattle.lrc_states.specs.Players.{IsPlayer, IsSetting}
 use Rattle.lrc_states.specs.States.{AreStates, first_line, IsShown, IsStart, IsUnshown, most_turns, Told, turn_lines, turns_shown}
 
--- what holds of a result, where it is this
-pub of_ok : {T E : Type 0} (P : T → Type 0) (r : Result T E) (x : T) → r ≡ Ok x → IfOk r P → P x
-of_ok {T} {E} P r x is holds = subst (λ (o : Result T E). IfOk o P) is holds
+-- what holds of a result leads to what else holds of it
+pub if_ok : {T E : Type 0} {P Q : T → Type 0} (r : Result T E) → IfOk r P → ((x : T) → P x → Q x) → IfOk r Q
+if_ok (Ok x) holds leads = leads x holds
+if_ok (Err e) holds leads = tt
+
+-- lines behind a first one
+pub behind_first : (line : Vec ℕ Global) (first lines : List ℕ) (old new : List (Vec ℕ Global)) → line.items ≡ first → old ≡ line ∷ []
+    → whole_text new ≡ whole_text old ++ lines → whole_text new ≡ first ++ lines
+behind_first line first lines old new is one more =
+    more ∙ ap (λ (l : List (Vec ℕ Global)). whole_text l ++ lines) one ∙ ap (λ (l : List ℕ). l ++ lines) (append-nil line.items ∙ is)
 
 -- the turns begin where they do by the plan's program
 pub starts_so : (told : Told) (range : Range) (plan : Plan) (labels : List Label) → IsSetting told plan labels → (made : World)
@@ -99,22 +106,20 @@ module _ (told : Told) (range : Range) (plan : Plan) (labels : List Label) (sett
         omega (arith, ap (λ (l : List Event). length (turns_of told.program told.nodes told.options (take count l))) same) in
         subst (λ (n : ℕ). IsPlayer plan world n player) many is
 
-    pub states_so : (line : Vec ℕ Global) (old new : List (Vec ℕ Global)) → line.items ≡ first_line plan told.options.size labels world
-        → old ≡ line ∷ []
-        → (whole_text new ≡ whole_text old ++ turn_lines plan (turns_shown range.to turns world (drop count read)))
+    pub states_so : (out : List ℕ)
+        → (out ≡ first_line plan told.options.size labels world ++ turn_lines plan (turns_shown range.to turns world (drop count read)))
         × (length (turns_shown range.to turns world (drop count read)) ≤ most_turns)
-        → AreStates told range (whole_text new)
-    states_so line old new first one tells =
+        → AreStates told range out
+    states_so out tells =
         let lines = subst
-        (λ (l : List Event). (whole_text new ≡ whole_text old ++ turn_lines plan (turns_shown range.to turns world (drop count l)))
+        (λ (l : List Event). (out ≡ first_line plan told.options.size labels world ++ turn_lines plan (turns_shown range.to turns world (drop count l)))
         × (length (turns_shown range.to turns world (drop count l)) ≤ most_turns)) same tells in
-        let whole = lines.0 ∙ ap (λ (l : List (Vec ℕ Global)). whole_text l ++ turn_lines plan shown) one
-        ∙ ap (λ (l : List ℕ). l ++ turn_lines plan shown) (append-nil line.items ∙ first) in
-        (length shown, lines.1, shown_so (whole_text new) whole)
+        (length shown, lines.1, shown_so out lines.0)
 
-    pub unshown_so : (fault : StatesFault) → (fault ≡ TooLong → most_turns < length (turns_shown range.to turns world (drop count read)))
-        → IsUnshown told range fault
-    unshown_so TooLong many =
+    pub unshown_so : {T : Type 0} (r : Result T StatesFault)
+        → (r ≡ Err TooLong → most_turns < length (turns_shown range.to turns world (drop count read))) → IfErr r (IsUnshown told range)
+    unshown_so (Ok x) many = tt
+    unshown_so (Err TooLong) many =
         let long = subst (λ (l : List Event). most_turns < length (turns_shown range.to turns world (drop count l))) same (many refl) in
         (length shown, long, (first_line plan told.options.size labels world ++ turn_lines plan shown, shown_so _ refl))
-    unshown_so NoMemory many = tt
+    unshown_so (Err NoMemory) many = tt

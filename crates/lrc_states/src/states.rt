@@ -10,7 +10,7 @@ ghost use Rattle.lrc_replay.specs.Turns.{turn_by, turns_from};
 ghost use Rattle.lrc_replay.specs.Acts.{Plan as AnyPlan};
 ghost use Rattle.lrc_states.specs.declared.fault.StatesFault.TheVariants.{TooLong};
 ghost use Rattle.lrc_states.specs.Players.{AddsLines, IsPlayer, IsSetting, plan_with};
-ghost use Rattle.lrc_states.specs.States.{AreStates, IsUnshown, is_within, most_turns, shown_now, told_seen, turn_lines, turns_shown};
+ghost use Rattle.lrc_states.specs.States.{AreStates, IsUnshown, first_line, is_within, most_turns, shown_now, told_seen, turn_lines, turns_shown};
 ghost use Rattle.lrc_text.specs.Parts.{whole_text};
 
 use crate::fault::StatesFault;
@@ -21,6 +21,7 @@ use lrc_exec::code::Code;
 use lrc_labels::label::Label;
 use lrc_labels::read_labels;
 use lrc_lang::lines::lines_of;
+use lrc_page::Size;
 use lrc_private::names_of;
 use lrc_protocol::Event;
 use lrc_replay::Plan;
@@ -76,10 +77,7 @@ fn parts_of(
     };
     let mut player = Player::start(alloc, plan, &told.options)?;
     player.pass_all(&told.events[..skipped])?;
-    let mut parts = Vec::new(alloc);
-    parts.push(player.first_line(told.options.size, labels)?)?;
-    player.tell_all(&told.events[skipped..], range.to, &mut parts)?;
-    Ok(parts)
+    player.parts(told.options.size, labels, &told.events[skipped..], range.to)
 }
 
 impl Player<'_> {
@@ -94,6 +92,29 @@ impl Player<'_> {
             self.pass(*event)?;
         }
         Ok(())
+    }
+
+    // How all stands, and the turns of events up to the one that makes the act at a position, each line a part of its own.
+    fn parts(
+        &mut self,
+        size: Size,
+        labels: &[Label<'_>],
+        events: &[Event],
+        to: Option<u64>,
+    ) -> Result<Vec<Vec<u8>>, StatesFault>
+        requires { All IsOnWay self.old.course.ways.items }
+        ensures told { (plan : AnyPlan) (world end : World) (turns : ℕ) → IsPlayer plan world turns self.old → played world events.now ≡ Some end
+            → IfOk result (λ parts. (whole_text parts.items
+            ≡ first_line plan size (map label_seen labels.now) world ++ turn_lines plan (turns_shown to turns world events.now))
+            × (length (turns_shown to turns world events.now) ≤ most_turns)) }
+        ensures fault { (plan : AnyPlan) (world end : World) (turns : ℕ) → IsPlayer plan world turns self.old → played world events.now ≡ Some end
+            → result ≡ Err TooLong → most_turns < length (turns_shown to turns world events.now) }
+    {
+        let first = self.first_line(size, labels)?;
+        let mut parts = Vec::new(self.alloc);
+        parts.push(first)?;
+        self.tell_all(events, to, &mut parts)?;
+        Ok(parts)
     }
 
     // Plays events, and tells their turns, up to the turn that makes the act at a position.

@@ -9,28 +9,8 @@ use Rattle.lrc_states.specs.Players.{IsPlayer, plan_with}
 use Rattle.lrc_states.specs.States.{first_line, most_turns, told_seen, turn_lines, turns_shown}
 use Rattle.lrc_text.specs.Parts.{whole_text}
 use Rattle.lrc_protocol.specs.declared.event.Event.{Event}
-use Rattle.lrc_states.proofs.Whole.{begins_at, goes_so, of_ok, others_so, player_so, stands_so, starts_so, states_so, unshown_so}
+use Rattle.lrc_states.proofs.Whole.{begins_at, goes_so, if_ok, others_so, player_so, stands_so, starts_so, states_so, unshown_so}
 use Rattle.lrc_states.proofs.states.parts_of.Goals as goal
-
-pub returns-in_err-tell_all-clause-fault : goal.returns-in_err-tell_all-clause-fault
-returns-in_err-tell_all-clause-fault c made goes =
-    let told = told_seen c.args.told.now in
-    let plan = plan_with c.args.code.now c.args.told.now.nodes c.args.lines.now (map (λ name. name.now) c.args.names.now) in
-    let labels = map label_seen c.args.labels.now in
-    let setting = c.requires.setting in
-    let range = c.args.range in
-    let count = c.in_ok-skipped.skipped in
-    let start = starts_so told range plan labels setting made goes count (λ run. c.in_ok-skipped.ensures.start made run) in
-    let begun = begins_at told plan labels setting c.in_ok-player.player c.in_ok-player.ensures.player in
-    let same : c.told.inside.0.1.1.1.1.0.now ≡ told.events = search rules in
-    let passed = c.in_ok-pass_all.ensures.player plan (fresh_world told.program told.nodes told.options) start.1.0 0 begun
-    (stands_so told range plan labels setting count start c.told.inside.0.1.1.1.1.0.now same) in
-    let at = player_so told range plan labels setting count start c.told.inside.0.1.1.1.1.0.now same c.pass_all.new.self passed in
-    let others = others_so told range plan labels setting count start c.told.inside.0.1.1.1.1.0.now same in
-    let goes_on = ap (played start.1.0) others ∙ goes_so told range plan labels setting count start c.told.inside.0.1.1.1.1.0.now same made goes in
-    unshown_so told range plan labels setting count start c.told.inside.0.1.1.1.1.0.now same c.in_err-tell_all.field-0.0
-    (λ (fails : c.in_err-tell_all.field-0.0 ≡ TooLong). subst (λ (l : List Event). most_turns < length (turns_shown range.to _ start.1.0 l)) others
-    (c.tell_all.ensures.fault plan start.1.0 made _ at goes_on (search rules)))
 
 pub returns-clause-states : goal.returns-clause-states
 returns-clause-states c made goes =
@@ -48,9 +28,27 @@ returns-clause-states c made goes =
     let at = player_so told range plan labels setting count start c.told.inside.0.1.1.1.1.0.now same c.pass_all.new.self passed in
     let others = others_so told range plan labels setting count start c.told.inside.0.1.1.1.1.0.now same in
     let goes_on = ap (played start.1.0) others ∙ goes_so told range plan labels setting count start c.told.inside.0.1.1.1.1.0.now same made goes in
-    states_so told range plan labels setting count start c.told.inside.0.1.1.1.1.0.now same c.in_ok-first_line.field-0 c.push.new.self.items c.tell_all.new.parts.items
-    (c.in_ok-first_line.ensures plan start.1.0 _ at)
-    (c.in_ok-push.ensures.items ∙ ap (λ (l : List (Vec ℕ Global)). l ++ c.in_ok-first_line.field-0 ∷ []) c.new-parts.ensures.items)
-    (subst (λ (l : List Event). (whole_text c.tell_all.new.parts.items ≡ whole_text c.push.new.self.items ++ turn_lines plan (turns_shown range.to _ start.1.0 l))
-    × (length (turns_shown range.to _ start.1.0 l) ≤ most_turns)) others
-    (c.in_ok-tell_all.ensures.told plan start.1.0 made _ at goes_on))
+    if_ok c.parts.result (c.parts.ensures.told plan start.1.0 made _ at goes_on)
+    (λ parts tells. states_so told range plan labels setting count start c.told.inside.0.1.1.1.1.0.now same (whole_text parts.items)
+    (subst (λ (l : List Event). (whole_text parts.items ≡ first_line plan told.options.size labels start.1.0 ++ turn_lines plan (turns_shown range.to _ start.1.0 l))
+    × (length (turns_shown range.to _ start.1.0 l) ≤ most_turns)) others tells))
+
+pub returns-clause-fault : goal.returns-clause-fault
+returns-clause-fault c made goes =
+    let told = told_seen c.args.told.now in
+    let plan = plan_with c.args.code.now c.args.told.now.nodes c.args.lines.now (map (λ name. name.now) c.args.names.now) in
+    let labels = map label_seen c.args.labels.now in
+    let setting = c.requires.setting in
+    let range = c.args.range in
+    let count = c.in_ok-skipped.skipped in
+    let start = starts_so told range plan labels setting made goes count (λ run. c.in_ok-skipped.ensures.start made run) in
+    let begun = begins_at told plan labels setting c.in_ok-player.player c.in_ok-player.ensures.player in
+    let same : c.told.inside.0.1.1.1.1.0.now ≡ told.events = search rules in
+    let passed = c.in_ok-pass_all.ensures.player plan (fresh_world told.program told.nodes told.options) start.1.0 0 begun
+    (stands_so told range plan labels setting count start c.told.inside.0.1.1.1.1.0.now same) in
+    let at = player_so told range plan labels setting count start c.told.inside.0.1.1.1.1.0.now same c.pass_all.new.self passed in
+    let others = others_so told range plan labels setting count start c.told.inside.0.1.1.1.1.0.now same in
+    let goes_on = ap (played start.1.0) others ∙ goes_so told range plan labels setting count start c.told.inside.0.1.1.1.1.0.now same made goes in
+    unshown_so told range plan labels setting count start c.told.inside.0.1.1.1.1.0.now same c.parts.result
+    (λ fails. subst (λ (l : List Event). most_turns < length (turns_shown range.to _ start.1.0 l)) others
+    (c.parts.ensures.fault plan start.1.0 made _ at goes_on fails))
