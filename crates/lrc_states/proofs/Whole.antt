@@ -5,6 +5,7 @@ use Rattle.std.specs.declared.alloc.Global.{Global}
 use Rattle.std.proofs.lemmas.List.{length-drop, take-append-drop, take_all}
 use Rattle.std.proofs.lemmas.List.Sums.{fold-append}
 use Rattle.lrc_lang.specs.declared.program.Program.{Program}
+use Rattle.lrc_page.specs.declared.size.Size.{Size}
 use Rattle.lrc_labels.specs.Reading.{Label}
 use Rattle.lrc_protocol.specs.declared.event.Event.{Event}
 use Rattle.lrc_protocol.specs.Run.{fresh_world, played, run_of, step_of, World}
@@ -106,20 +107,27 @@ module _ (told : Told) (range : Range) (plan : Plan) (labels : List Label) (sett
         omega (arith, ap (λ (l : List Event). length (turns_of told.program told.nodes told.options (take count l))) same) in
         subst (λ (n : ℕ). IsPlayer plan world n player) many is
 
-    pub states_so : (out : List ℕ)
-        → (out ≡ first_line plan told.options.size labels world ++ turn_lines plan (turns_shown range.to turns world (drop count read)))
-        × (length (turns_shown range.to turns world (drop count read)) ≤ most_turns)
-        → AreStates told range out
-    states_so out tells =
-        let lines = subst
-        (λ (l : List Event). (out ≡ first_line plan told.options.size labels world ++ turn_lines plan (turns_shown range.to turns world (drop count l)))
-        × (length (turns_shown range.to turns world (drop count l)) ≤ most_turns)) same tells in
-        (length shown, lines.1, shown_so out lines.0)
+    -- the same of events that are these
+    module _ (others : List Event) (are : others ≡ drop count read) where
+      pub states_so : (size : Size) → size ≡ told.options.size → (out : List ℕ)
+          → (out ≡ first_line plan size labels world ++ turn_lines plan (turns_shown range.to turns world others))
+          × (length (turns_shown range.to turns world others) ≤ most_turns)
+          → AreStates told range out
+      states_so size sized out tells =
+          let those : others ≡ drop count told.events = are ∙ ap (λ (l : List Event). drop count l) same in
+          let lines = subst
+          (λ (l : List Event). (out ≡ first_line plan told.options.size labels world ++ turn_lines plan (turns_shown range.to turns world l))
+          × (length (turns_shown range.to turns world l) ≤ most_turns)) those
+          (subst
+          (λ (z : Size). (out ≡ first_line plan z labels world ++ turn_lines plan (turns_shown range.to turns world others))
+          × (length (turns_shown range.to turns world others) ≤ most_turns)) sized tells) in
+          (length shown, lines.1, shown_so out lines.0)
 
-    pub unshown_so : {T : Type 0} (r : Result T StatesFault)
-        → (r ≡ Err TooLong → most_turns < length (turns_shown range.to turns world (drop count read))) → IfErr r (IsUnshown told range)
-    unshown_so (Ok x) many = tt
-    unshown_so (Err TooLong) many =
-        let long = subst (λ (l : List Event). most_turns < length (turns_shown range.to turns world (drop count l))) same (many refl) in
-        (length shown, long, (first_line plan told.options.size labels world ++ turn_lines plan shown, shown_so _ refl))
-    unshown_so (Err NoMemory) many = tt
+      pub unshown_so : {T : Type 0} (r : Result T StatesFault)
+          → (r ≡ Err TooLong → most_turns < length (turns_shown range.to turns world others)) → IfErr r (IsUnshown told range)
+      unshown_so (Ok x) many = tt
+      unshown_so (Err TooLong) many =
+          let those : others ≡ drop count told.events = are ∙ ap (λ (l : List Event). drop count l) same in
+          let long = subst (λ (l : List Event). most_turns < length (turns_shown range.to turns world l)) those (many refl) in
+          (length shown, long, (first_line plan told.options.size labels world ++ turn_lines plan shown, shown_so _ refl))
+      unshown_so (Err NoMemory) many = tt

@@ -9,6 +9,7 @@ use Rattle.lrc_states.specs.Players.{IsPlayer, plan_with}
 use Rattle.lrc_states.specs.States.{first_line, most_turns, told_seen, turn_lines, turns_shown}
 use Rattle.lrc_text.specs.Parts.{whole_text}
 use Rattle.lrc_protocol.specs.declared.event.Event.{Event}
+use Rattle.lrc_states.specs.declared.told.Told as code_told
 use Rattle.lrc_states.proofs.Whole.{begins_at, goes_so, if_ok, others_so, player_so, stands_so, starts_so, states_so, unshown_so}
 use Rattle.lrc_states.proofs.states.parts_of.Goals as goal
 
@@ -28,10 +29,11 @@ returns-clause-states c made goes =
     let at = player_so told range plan labels setting count start c.told.inside.0.1.1.1.1.0.now same c.pass_all.new.self passed in
     let others = others_so told range plan labels setting count start c.told.inside.0.1.1.1.1.0.now same in
     let goes_on = ap (played start.1.0) others ∙ goes_so told range plan labels setting count start c.told.inside.0.1.1.1.1.0.now same made goes in
+    let sized : c.told.inside.0.1.1.1.0.size ≡ told.options.size = ap (λ (t : code_told.Told). t.options.size) c.told.view_is in
     if_ok c.parts.result (c.parts.ensures.told plan start.1.0 made _ at goes_on)
-    (λ parts tells. states_so told range plan labels setting count start c.told.inside.0.1.1.1.1.0.now same (whole_text parts.items)
-    (subst (λ (l : List Event). (whole_text parts.items ≡ first_line plan told.options.size labels start.1.0 ++ turn_lines plan (turns_shown range.to _ start.1.0 l))
-    × (length (turns_shown range.to _ start.1.0 l) ≤ most_turns)) others tells))
+    (λ parts tells.
+    states_so told range plan labels setting count start c.told.inside.0.1.1.1.1.0.now same _ others c.told.inside.0.1.1.1.0.size sized
+    (whole_text parts.items) tells)
 
 pub returns-clause-fault : goal.returns-clause-fault
 returns-clause-fault c made goes =
@@ -49,6 +51,5 @@ returns-clause-fault c made goes =
     let at = player_so told range plan labels setting count start c.told.inside.0.1.1.1.1.0.now same c.pass_all.new.self passed in
     let others = others_so told range plan labels setting count start c.told.inside.0.1.1.1.1.0.now same in
     let goes_on = ap (played start.1.0) others ∙ goes_so told range plan labels setting count start c.told.inside.0.1.1.1.1.0.now same made goes in
-    unshown_so told range plan labels setting count start c.told.inside.0.1.1.1.1.0.now same c.parts.result
-    (λ fails. subst (λ (l : List Event). most_turns < length (turns_shown range.to _ start.1.0 l)) others
-    (c.parts.ensures.fault plan start.1.0 made _ at goes_on fails))
+    unshown_so told range plan labels setting count start c.told.inside.0.1.1.1.1.0.now same _ others c.parts.result
+    (λ fails. c.parts.ensures.fault plan start.1.0 made _ at goes_on fails)
