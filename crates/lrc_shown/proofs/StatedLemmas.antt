@@ -1,5 +1,6 @@
 -- What is shown of a run's turns, and why it is not.
-use Rattle.std.proofs.Common.{◌≢◌, ℕ, List, refl}
+use Rattle.std.proofs.Common.{◌≡◌, ◌≢◌, ℕ, List, Option, refl, subst, sym}
+use Rattle.lrc_trace.specs.declared.act.Act.{Act}
 use Rattle.lrc_lang.specs.declared.program.Program.{Program}
 use Rattle.lrc_world.specs.declared.run.Run.{Run}
 use Rattle.lrc_args.specs.declared.choice.Form.{Form}
@@ -10,8 +11,16 @@ use Rattle.lrc_args.specs.declared.choice.RunOptions.{RunOptions}
 use Rattle.lrc_args.specs.declared.choice.Shape.TheVariants.{Step, Trace}
 use Rattle.lrc_answer.specs.declared.fault.Fault.{Fault}
 use Rattle.lrc_answer.specs.declared.fault.Fault.TheVariants.{NoMemory, TooManyTurns}
+use Rattle.lrc_shown.specs.Explained.{IsExplained}
 use Rattle.lrc_shown.specs.Shown.{IsFormShown, IsShowFault, IsTraceFault, IsTraceShown}
 use Rattle.lrc_shown.specs.Stated.{IsStatesFault}
+
+-- a report with reasons, of acts that are these, and its text that is this
+pub explained_so : (text : List ℕ) (program : Program) (options : RunOptions) (acts read : List Act) (first_race : Option ℕ) (told out : List ℕ)
+    → read ≡ acts → out ≡ told → IsExplained text program options read first_race told → IsExplained text program options acts first_race out
+explained_so text program options acts read first_race told out are is explains =
+    subst (λ (o : List ℕ). IsExplained text program options acts first_race o) (sym is)
+    (subst (λ (l : List Act). IsExplained text program options l first_race told) are explains)
 
 -- a trace in a form that is not one of states
 pub form_traced : (form : Form) (text : List ℕ) (program : Program) (options : RunOptions) (run : Run) (out : List ℕ)

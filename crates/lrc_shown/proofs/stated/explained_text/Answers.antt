@@ -1,9 +1,10 @@
-use Rattle.std.proofs.Common.{◌<◌, ◌∙◌, ℕ, All, List, ap, subst, sym}
+use Rattle.std.proofs.Common.{◌≡◌, ◌<◌, ◌∙◌, ℕ, All, List, Vec, Global, ap, subst, sym}
 use Rattle.std.proofs.lemmas.Result.{IfOk-weaker}
 use Rattle.lrc_trace.specs.declared.act.Act.{Act}
 use Rattle.lrc_text.specs.Parts.{whole_text}
 use Rattle.lrc_shown.specs.Explained.{IsExplained}
 use Rattle.lrc_shown.proofs.RunLemmas.{acts_of_few}
+use Rattle.lrc_shown.proofs.StatedLemmas.{explained_so}
 use Rattle.lrc_shown.proofs.stated.explained_text.Goals as goal
 
 pub explained-requires-clause-acts : goal.explained-requires-clause-acts
@@ -17,9 +18,9 @@ returns c =
     let program = c.args.program.now in
     let options = c.args.options.now in
     let report = c.args.run.now.report in
-    IfOk-weaker c.joined.result _ _
-    (λ told whole. subst (λ (out : List ℕ). IsExplained text program options report.acts.items report.first_race out)
-    (sym (whole ∙ ap whole_text c.deref.ensures.value))
-    (subst (λ (acts : List Act). IsExplained text program options acts report.first_race (whole_text c.in_ok-parts.parts.items))
-    c.as_slice-acts.ensures.value c.in_ok-parts.ensures))
+    IfOk-weaker c.joined.result (λ (told : Vec ℕ Global). told.items ≡ whole_text c.deref.result.now)
+    (λ (told : Vec ℕ Global). IsExplained text program options report.acts.items report.first_race told.items)
+    (λ told whole.
+    explained_so text program options report.acts.items c.as_slice-acts.result.now report.first_race (whole_text c.in_ok-parts.parts.items) told.items
+    c.as_slice-acts.ensures.value (whole ∙ ap whole_text c.deref.ensures.value) c.in_ok-parts.ensures)
     c.joined.ensures
