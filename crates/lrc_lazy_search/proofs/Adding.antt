@@ -1,5 +1,5 @@
 -- States that are found from others, and put to those that were found before.
-use Rattle.std.proofs.Common.{◌≡◌, ℕ, zero, suc, ◌+◌, ◌<◌, ◌≤◌, List, [], ◌∷◌, ◌++◌, length, Bool, true, false, inl, inr, refl, sym, subst, ◌∙◌, ap, arith, replicate}
+use Rattle.std.proofs.Common.{◌≡◌, ℕ, zero, suc, ◌+◌, ◌<◌, ◌≤◌, ◌^◌, List, [], ◌∷◌, ◌++◌, length, Bool, false, inl, inr, refl, sym, subst, ◌∙◌, ap, arith, replicate}
 use Rattle.std.specs.Prelude.{Option, Some, None, if◌then◌else◌, slice_get, slice_index}
 use Rattle.std.specs.List.{IsDistinct}
 use Rattle.std.proofs.lemmas.Bool.{cases_lt, cases_eq}
@@ -27,18 +27,18 @@ use Rattle.lrc_lazy_search.specs.declared.state.LazyState.{LazyState}
 use Rattle.lrc_lazy_search.specs.declared.search.Task.{Task}
 use Rattle.lrc_lazy_search.specs.contracts.state.LazyStatePartialEq.TheImpl.{eq-value}
 use Rattle.lrc_lazy_machine.specs.Standing.{with_memory, Stands, CanMake, effect_at}
-use Rattle.lrc_lazy_search.specs.Searching.{IsNext, AreNext, HasStep, HasAll, AreEnough, of_one, of_all, IsReached, HasKey, AreThere}
+use Rattle.lrc_lazy_search.specs.Searching.{Steps, IsAhead, still, onward, IsNext, AreNext, HasStep, HasAll, AreEnough, of_one, of_all, IsReached, HasKey, AreThere}
 use Rattle.lrc_lazy_search.specs.Searching.{HasNexts, HasEnough, by_one, by_all, IsSearched, AreSearched, IsBegun}
 use Rattle.lrc_lazy_search.specs.Task.{IsTask, IsInOrder}
 use Rattle.lrc_lazy_machine.proofs.Beginning.{stands_first, first_notes}
-use Rattle.lrc_lazy_search.proofs.Same.{stands_same, notes_same}
+use Rattle.lrc_lazy_search.proofs.Ahead.{arrivals_still}
 use Rattle.lrc_lazy_machine.proofs.Stepping.{stands_on}
 
 -- ---- lists of next states
 
 pub step_on : {flat : Flat} {key : LazyState} {node : ℕ} {deed : Deed} {old new : List LazyState} → Grows old new → HasStep flat key node deed old
     → HasStep flat key node deed new
-step_on g h = record { place = h.place; after = h.after; there = stays h.place h.after g h.there; steps = h.steps }
+step_on g h = record { place = h.place; after = h.after; steps = h.steps; ahead = h.ahead; goes = h.goes; there = stays h.place h.ahead g h.there }
 
 pub next_push : (flat : Flat) (key after : LazyState) (old new : List LazyState) → new ≡ old ++ after ∷ [] → AreNext flat key old → IsNext flat key after
     → AreNext flat key new
@@ -47,25 +47,41 @@ next_push flat key after old new e all next = put_all (λ k x. IsNext flat key x
 -- ---- a state to which an act leads
 
 module _ (program : Program) (flat : Flat) (words : flat.words ≡ program.words) (locks : flat.locks ≡ program.locks) where
-  pub reached_next : (key after : LazyState) (most : ℕ) → IsReached program flat key most → IsNext flat key after → IsReached program flat after (most + 1)
-  reached_next key after most r n =
-      let act = act_of n.node n.deed in
-      let steps = n.steps in
-      let effect = subst (λ l. IsKnowledgeAfter (effect_at flat.nodes l (plain_at flat key.state) n.node n.deed) key.knowledge after.knowledge) locks steps.effect in
-      let stands = stands_on program flat.nodes r.acts (plain_at flat key.state) key.knowledge r.stands n.node n.deed steps.makes.memory steps.makes.later
+  reached_step : (key after : LazyState) (most bound node : ℕ) (deed : Deed) → IsReached program flat key most → Steps flat key node deed after
+      → IsStateOf flat after.state → ((n : ℕ) → slice_index after.state.arrivals.items n ≤ bound) → IsReached program flat after bound
+  reached_step key after most bound node deed r steps valid counted =
+      let act = act_of node deed in
+      let effect = subst (λ l. IsKnowledgeAfter (effect_at flat.nodes l (plain_at flat key.state) node deed) key.knowledge after.knowledge) locks steps.effect in
+      let stands = stands_on program flat.nodes r.acts (plain_at flat key.state) key.knowledge r.stands node deed steps.makes.memory steps.makes.later
       (plain_at flat after.state) after.knowledge steps.makes.made steps.gives effect in
-      let lt = in_range stands.run.follows (length r.acts) n.node n.deed (Does-last r.acts act) in
+      let lt = in_range stands.run.follows (length r.acts) node deed (Does-last r.acts act) in
       record {
         acts = r.acts ++ act ∷ [];
         stands = stands;
         noted = notes_more flat.nodes r.acts act lt ∙ ap (λ notes. notes_with notes act) r.noted ∙ sym steps.notes;
-        valid = n.valid;
-        counted = λ node.
-            let few = r.counted node in
-            let more = step_counts (with_memory (plain_at flat key.state) steps.makes.memory) (with_memory (plain_at flat after.state) steps.makes.later)
-            n.node node n.deed steps.makes.made in
-            omega (arith, few, more);
+        valid = valid;
+        counted = counted;
       }
+
+  pub reached_ahead : (key ahead : LazyState) (most : ℕ) → IsReached program flat key most → IsAhead flat key ahead → IsReached program flat ahead most
+  reached_ahead key ahead most r still = r
+  reached_ahead key ahead most r (onward {mid = mid} node deed before forced steps valid) =
+      let earlier = reached_ahead key mid most r before in
+      reached_step mid ahead most most node deed earlier steps valid (λ n.
+      let few = earlier.counted n in
+      let same = arrivals_still flat mid.state ahead.state node deed forced.no_arrive steps.makes n in
+      omega (arith, few, same))
+
+  pub reached_next : (key ahead : LazyState) (most : ℕ) → IsReached program flat key most → IsNext flat key ahead → IsReached program flat ahead (most + 1)
+  reached_next key ahead most r n =
+      let steps = n.steps in
+      reached_ahead n.after ahead (most + 1)
+      (reached_step key n.after most (most + 1) n.node n.deed r steps n.valid (λ node.
+      let few = r.counted node in
+      let more = step_counts (with_memory (plain_at flat key.state) steps.makes.memory) (with_memory (plain_at flat n.after.state) steps.makes.later)
+      n.node node n.deed steps.makes.made in
+      omega (arith, few, more)))
+      n.goes
 
 pub reached_more : {program : Program} {flat : Flat} {key : LazyState} {less more : ℕ} → less ≤ more → IsReached program flat key less
     → IsReached program flat key more
@@ -101,29 +117,38 @@ first_reached task key is first valid nothing none =
           omega (arith, few, same);
     }
 
-pub begun_on : {program : Program} {flat : Flat} {old new : List LazyState} → Grows old new → IsBegun program flat old → IsBegun program flat new
-begun_on g b = record { place = b.place; key = b.key; at = stays b.place b.key g b.at; stands = b.stands; none = b.none }
+pub key_on : {old new : List LazyState} {key : LazyState} → Grows old new → HasKey old key → HasKey new key
+key_on g h = record { place = h.place; stored = h.stored; there = stays h.place h.stored g h.there; same = h.same }
 
--- the first state, put to none
-pub first_in_order : (task : Task) (old new : List LazyState) (key : LazyState) (b : Bool) (place : ℕ) → IsTask task → old ≡ []
-    → new ≡ (if b then old else old ++ key ∷ []) → IsFirst task.flat task.start key.state → IsStateOf task.flat key.state
-    → ((word : ℕ) → word_of key.knowledge word ≡ []) → key.notes.items ≡ []
-    → (stored : LazyState) → slice_get new place ≡ Some stored → eq-value.it key stored ≡ true → IsDistinct eq-value.it new → IsInOrder task new
-first_in_order task old new key b place is none put first valid nothing notes stored there same distinct =
-    let reached = first_reached task key is first valid nothing notes in
+begun_on : {program : Program} {flat : Flat} {old new : List LazyState} → Grows old new → IsBegun program flat old → IsBegun program flat new
+begun_on g b = record { first = b.first; stands = b.stands; none = b.none; ahead = b.ahead; goes = b.goes; has = key_on g b.has }
+
+pub first_room : (task : Task) (key : LazyState) → IsFirst task.flat task.start key.state → (n : ℕ) → slice_index key.state.arrivals.items n < 2 ^ 63
+first_room task key first n =
+    let few = none_arrived task.flat.nodes n in
+    let same = ap (λ (m : Plain). slice_index m.arrivals n) first.begun in
+    omega (arith, few, same)
+
+-- the first state, or one ahead of it, put to none
+pub first_in_order : (task : Task) (old new : List LazyState) (key ahead : LazyState) (b : Bool) → IsTask task → old ≡ []
+    → new ≡ (if b then old else old ++ ahead ∷ []) → IsFirst task.flat task.start key.state → IsStateOf task.flat key.state
+    → ((word : ℕ) → word_of key.knowledge word ≡ []) → key.notes.items ≡ [] → IsAhead task.flat key ahead
+    → HasKey new ahead → IsDistinct eq-value.it new → IsInOrder task new
+first_in_order task old new key ahead b is none put first valid nothing notes goes has distinct =
+    let reached = reached_ahead task.program.now task.flat is.words is.locks key ahead 0 (first_reached task key is first valid nothing notes) goes in
     let machine = first.begun ∙ is.begun in
     record {
-      reached = put_all (λ k x. IsReached task.program.now task.flat x k) b old new key put
+      reached = put_all (λ k x. IsReached task.program.now task.flat x k) b old new ahead put
           (λ k x at. let never : ◌≡◌ {A = Option LazyState} None (Some x) = ap (λ l. slice_get l k) (sym none) ∙ at in cc)
           (reached_more (omega arith) reached);
       begun = record {
-        place = place;
-        key = stored;
-        at = there;
-        stands = stands_same task.program.now task.flat.nodes task.flat [] key stored same
-            (subst (λ (m : Plain). Stands task.program.now task.flat.nodes [] m key.knowledge) (sym machine)
-            (stands_first task.program.now task.flat.nodes key.knowledge nothing));
-        none = sym (notes_same key stored same) ∙ notes;
+        first = key;
+        stands = subst (λ (m : Plain). Stands task.program.now task.flat.nodes [] m key.knowledge) (sym machine)
+            (stands_first task.program.now task.flat.nodes key.knowledge nothing);
+        none = notes;
+        ahead = ahead;
+        goes = goes;
+        has = has;
       };
       distinct = distinct;
     }
@@ -138,9 +163,6 @@ more_in_order task old new key b order put reached distinct = record {
 }
 
 -- ---- all of them are there
-
-pub key_on : {old new : List LazyState} {key : LazyState} → Grows old new → HasKey old key → HasKey new key
-key_on g h = record { place = h.place; stored = h.stored; there = stays h.place h.stored g h.there; same = h.same }
 
 -- those that were taken from the end, and are there
 pub record Taken (keys all left : List LazyState) : Type 0 where
@@ -186,7 +208,7 @@ pub all_next : (flat : Flat) (keys : List LazyState) (key : LazyState) (nexts : 
     → AreThere keys nexts → HasNexts flat keys key node
 all_next flat keys key nexts node all there deed can =
     let h = all deed can in
-    record { after = h.after; steps = h.steps; has = there h.place h.after h.there }
+    record { after = h.after; steps = h.steps; ahead = h.ahead; goes = h.goes; has = there h.place h.ahead h.there }
 
 pub enough_next : (flat : Flat) (keys : List LazyState) (key : LazyState) (nexts : List LazyState) → AreEnough flat key nexts → AreThere keys nexts
     → HasEnough flat keys key
@@ -207,7 +229,7 @@ none_of : (flat : Flat) (key : LazyState) (nexts : List LazyState) (node : ℕ) 
     → (deed : Deed) → CanMake flat.words (plain_at flat key.state) key.knowledge node deed → ⊥
 none_of flat key nexts node none all deed can =
     let h = all deed can in
-    let never : ◌≡◌ {A = Option LazyState} None (Some h.after) = ap (λ l. slice_get l h.place) (sym none) ∙ h.there in
+    let never : ◌≡◌ {A = Option LazyState} None (Some h.ahead) = ap (λ l. slice_get l h.place) (sym none) ∙ h.there in
     cc
 
 pub none_next : (flat : Flat) (key : LazyState) (nexts : List LazyState) → nexts ≡ [] → AreEnough flat key nexts
@@ -216,12 +238,12 @@ none_next flat key nexts none (of_one first front all) node deed can = absurd (n
 none_next flat key nexts none (of_all behind all) node deed can = none_of flat key nexts node none (all node) deed can
 
 -- and where there are some, one can
-pub some_next : (flat : Flat) (key after : LazyState) → IsNext flat key after
+pub some_next : (flat : Flat) (key ahead : LazyState) → IsNext flat key ahead
     → ((node : ℕ) (deed : Deed) → CanMake flat.words (plain_at flat key.state) key.knowledge node deed → ⊥) → ⊥
-some_next flat key after n none = none n.node n.deed (record {
+some_next flat key ahead n none = none n.node n.deed (record {
   memory = n.steps.makes.memory;
   long = n.steps.makes.long;
-  after = with_memory (plain_at flat after.state) n.steps.makes.later;
+  after = with_memory (plain_at flat n.after.state) n.steps.makes.later;
   made = n.steps.makes.made;
   gives = n.steps.gives;
 })
@@ -229,7 +251,7 @@ some_next flat key after n none = none n.node n.deed (record {
 -- what was searched stays so
 next_on : (flat : Flat) (old new : List LazyState) (key : LazyState) (node : ℕ) → Grows old new → HasNexts flat old key node → HasNexts flat new key node
 next_on flat old new key node g next deed can =
-    let n = next deed can in record { after = n.after; steps = n.steps; has = key_on g n.has }
+    let n = next deed can in record { after = n.after; steps = n.steps; ahead = n.ahead; goes = n.goes; has = key_on g n.has }
 
 enough_on : (flat : Flat) (old new : List LazyState) (key : LazyState) → Grows old new → HasEnough flat old key → HasEnough flat new key
 enough_on flat old new key g (by_one node front next) = by_one node front (next_on flat old new key node g next)

@@ -2,3 +2,4 @@ pub mod Making
 pub mod Same
 pub mod Searched
 pub mod Adding
+pub mod Ahead

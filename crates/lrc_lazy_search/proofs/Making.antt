@@ -13,7 +13,8 @@ use Rattle.lrc_exec.proofs.NextLaws.{next_of-fine}
 use Rattle.lrc_consistency_laws.specs.Follows.{Goes, quietly, printing, reading, writing, acquiring, releasing, arriving, departing, trapping, ending}
 use Rattle.lrc_consistency_laws.proofs.Runs.{CanDo}
 use Rattle.lrc_explore.proofs.Effects.{after_of}
-use Rattle.lrc_explore.specs.States.{plain_at}
+use Rattle.lrc_explore.specs.States.{plain_at, IsStateOf}
+use Rattle.lrc_explore.proofs.Spots.{words_known}
 use Rattle.lrc_settled.proofs.Parts.{stepped, can_step}
 use Rattle.lrc_known.specs.declared.known.Last.{Last}
 use Rattle.lrc_known.specs.declared.known.Last.TheVariants.{Nothing, Value, Unordered}
@@ -257,3 +258,17 @@ can_below flat key node d fit can =
 
 pub front_below : (flat : Flat) (key : LazyState) (node : ℕ) → IsFit flat key → IsInFront flat key node → node < flat.nodes
 front_below flat key node fit f = can_below flat key node f.deed fit f.can
+
+-- a state in order is fit
+pub fit_of : (flat : Flat) (key : LazyState) → IsStateOf flat key.state → IsFit flat key
+fit_of flat key valid = record { valid = valid; words = λ node thread at. (words_known flat key.state node thread at).0 }
+
+-- a deed that is the only one in a list of all
+pub only_one : (flat : Flat) (key : LazyState) (node : ℕ) (deeds : List Deed) (deed : Deed) → length deeds ≡ 1 → slice_get deeds 0 ≡ Some deed
+    → ((other : Deed) → CanMake flat.words (plain_at flat key.state) key.knowledge node other → (k : ℕ) × (slice_get deeds k ≡ Some other))
+    → (other : Deed) → CanMake flat.words (plain_at flat key.state) key.knowledge node other → other ≡ deed
+only_one flat key node deeds deed single first all other can =
+    let found = all other can in
+    let within = slice_get_within deeds found.0 other found.1 in
+    let zeroth : found.0 ≡ 0 = omega (arith, within, single) in
+    same_Some other deed (sym found.1 ∙ ap (slice_get deeds) zeroth ∙ first)

@@ -1,5 +1,5 @@
 -- Where all states are searched, the outcomes are exactly those of the lazy runs.
-use Rattle.std.proofs.Common.{◌≡◌, ℕ, zero, suc, List, [], ◌∷◌, ◌++◌, length, refl, sym, subst, ◌∙◌, ap, arith, append_assoc}
+use Rattle.std.proofs.Common.{◌≡◌, ℕ, zero, suc, ◌≤◌, List, [], ◌∷◌, ◌++◌, length, refl, sym, subst, ◌∙◌, ap, arith, append_assoc}
 use Rattle.std.specs.Prelude.{◌↔◌, Some, slice_get}
 use Rattle.std.proofs.lemmas.List.{append-nil}
 use Rattle.std.proofs.lemmas.Option.{slice_get_within}
@@ -22,7 +22,7 @@ use Rattle.lrc_lazy_machine.proofs.Beginning.{first_notes}
 use Rattle.lrc_lazy_search.specs.declared.state.LazyState.{LazyState}
 use Rattle.lrc_lazy_machine.specs.Standing.{Stands, CanMake, effect_at}
 use Rattle.lrc_lazy_search.specs.Fit.{IsFit}
-use Rattle.lrc_lazy_search.specs.Searching.{IsInFront, HasNexts, HasEnough, by_one, by_all}
+use Rattle.lrc_lazy_search.specs.Searching.{Steps, IsInFront, IsAhead, still, onward, HasKey, HasNexts, HasEnough, by_one, by_all}
 use Rattle.lrc_lazy_search.specs.Searching.{IsReached, IsSearched, AreSearched, AreSound, IsBegun}
 use Rattle.lrc_lazy_front.proofs.Deeds.{lazy_front}
 use Rattle.lrc_lazy_front.proofs.Front.{in_front}
@@ -36,117 +36,196 @@ module _ (program : Program) (flat : Flat) (words : flat.words ≡ program.words
   abbrev nodes : ℕ
   nodes = flat.nodes
 
-  -- some state stands for the run
-  record Found (acts : List Act) : Type 0 where
-    place : ℕ
-    key : LazyState
-    at : slice_get keys place ≡ Some key
+  -- the state stands for the run
+  record IsOf (acts : List Act) (key : LazyState) : Type 0 where
     stands : Stands program nodes acts (plain_at flat key.state) key.knowledge
     noted : notes_of nodes acts ≡ key.notes.items
 
-  found_next : (acts : List Act) (node : ℕ) (deed : Deed) (f : Found acts) → HasNexts flat keys f.key node
-      → IsLazyRun program nodes (acts ++ act_of node deed ∷ []) → Found (acts ++ act_of node deed ∷ [])
-  found_next acts node deed f nexts run =
+  -- a run that ends, behind what was made so far
+  record Ending (acts left : List Act) (notes : List Act) : Type 0 where
+    run : IsLazyRun program nodes (acts ++ left)
+    over : IsOver program nodes (acts ++ left)
+    are : notes_of nodes (acts ++ left) ≡ notes
+
+  -- where the run goes on as the state does, the state after stands for it
+  goes_on : (acts : List Act) (key after : LazyState) (node : ℕ) (deed : Deed) → IsOf acts key → Steps flat key node deed after
+      → IsOf (acts ++ act_of node deed ∷ []) after
+  goes_on acts key after node deed of steps =
       let act = act_of node deed in
-      let can = can_make program nodes acts (plain_at flat f.key.state) f.key.knowledge f.stands node deed run in
-      let next = nexts deed (subst (λ n. CanMake n (plain_at flat f.key.state) f.key.knowledge node deed) (sym words) can) in
-      let after = next.after in
-      let steps = next.steps in
-      let effect = subst (λ n. IsKnowledgeAfter
-      (effect_at nodes n (plain_at flat f.key.state) node deed) f.key.knowledge after.knowledge) locks steps.effect in
-      let stands = stands_on program nodes acts (plain_at flat f.key.state) f.key.knowledge f.stands node deed steps.makes.memory steps.makes.later
+      let effect = subst (λ n. IsKnowledgeAfter (effect_at nodes n (plain_at flat key.state) node deed) key.knowledge after.knowledge) locks steps.effect in
+      let stands = stands_on program nodes acts (plain_at flat key.state) key.knowledge of.stands node deed steps.makes.memory steps.makes.later
       (plain_at flat after.state) after.knowledge steps.makes.made steps.gives effect in
-      let lt = in_range run.follows (length acts) node deed (Does-last acts act) in
+      let lt = in_range stands.run.follows (length acts) node deed (Does-last acts act) in
       record {
-        place = next.has.place;
-        key = next.has.stored;
-        at = next.has.there;
-        stands = stands_same program nodes flat (acts ++ act ∷ []) after next.has.stored next.has.same stands;
-        noted = notes_more nodes acts act lt ∙ ap (λ notes. notes_with notes act) f.noted ∙ sym steps.notes
-            ∙ notes_same after next.has.stored next.has.same;
+        stands = stands;
+        noted = notes_more nodes acts act lt ∙ ap (λ notes. notes_with notes act) of.noted ∙ sym steps.notes;
       }
 
-  -- a node that can do something other than acquire a lock may come next with it
-  comes_next : (acts : List Act) (f : Found acts) (node : ℕ) (front : IsInFront flat f.key node)
-      → MayComeNext program nodes acts (act_of node front.deed)
-  comes_next acts f node front =
-      let can = subst (λ n. CanMake n (plain_at flat f.key.state) f.key.knowledge node front.deed) words front.can in
-      let run = run_made program nodes acts (plain_at flat f.key.state) f.key.knowledge f.stands node front.deed can in
-      record { follows = run.follows; may = MayGoOn-last acts (act_of node front.deed) nodes run.synchronized }
+  -- what the run makes next the machine can make
+  can_next : (acts : List Act) (key : LazyState) (node : ℕ) (deed : Deed) → IsOf acts key → IsLazyRun program nodes (acts ++ act_of node deed ∷ [])
+      → CanMake flat.words (plain_at flat key.state) key.knowledge node deed
+  can_next acts key node deed of run =
+      subst (λ n. CanMake n (plain_at flat key.state) key.knowledge node deed) (sym words)
+      (can_make program nodes acts (plain_at flat key.state) key.knowledge of.stands node deed run)
 
-  -- one act more of a run that ends: its own next one, or one that comes first in a run with the same outcome
-  record Onward (acts more : List Act) : Type 0 where
-    on : List Act
-    found : Found on
-    left : List Act
-    run : IsLazyRun program nodes (on ++ left)
-    over : IsOver program nodes (on ++ left)
-    are : notes_of nodes (on ++ left) ≡ notes_of nodes (acts ++ more)
-    shorter : length more ≡ suc (length left)
+  -- a node that can do something other than acquire a lock may come next with it
+  comes_next : (acts : List Act) (key : LazyState) (node : ℕ) → IsOf acts key → (front : IsInFront flat key node)
+      → MayComeNext program nodes acts (act_of node front.deed)
+  comes_next acts key node of front =
+      let can = subst (λ n. CanMake n (plain_at flat key.state) key.knowledge node front.deed) words front.can in
+      let run = run_made program nodes acts (plain_at flat key.state) key.knowledge of.stands node front.deed can in
+      record { follows = run.follows; may = MayGoOn-last acts (act_of node front.deed) nodes run.synchronized }
 
   one_behind : (acts : List Act) (x : Act) (more : List Act) → acts ++ x ∷ more ≡ (acts ++ x ∷ []) ++ more
   one_behind acts x more = sym (append_assoc acts (x ∷ []) more)
 
-  onward : (acts : List Act) (x : Act) (more : List Act) (f : Found acts) → HasEnough flat keys f.key → IsLazyRun program nodes (acts ++ x ∷ more)
-      → IsOver program nodes (acts ++ x ∷ more) → Onward acts (x ∷ more)
-  onward acts x more f (by_all next) run over =
+  -- the run's next act, and what is left behind it
+  record Next (acts : List Act) (count : ℕ) (notes : List Act) : Type 0 where
+    node : ℕ
+    deed : Deed
+    run : IsLazyRun program nodes (acts ++ act_of node deed ∷ [])
+    left : List Act
+    ending : Ending (acts ++ act_of node deed ∷ []) left notes
+    shorter : count ≡ suc (length left)
+
+  its_next : (acts : List Act) (x : Act) (more notes : List Act) → Ending acts (x ∷ more) notes
+      → (n : Next acts (suc (length more)) notes) × (n.node ≡ x.node)
+  its_next acts x more notes e =
       let is = one_behind acts x more in
-      let run' = subst (IsLazyRun program nodes) is run in
-      record {
-        on = acts ++ x ∷ [];
-        found = found_next acts x.node x.deed f (next x.node) (lazy_front program nodes (acts ++ x ∷ []) more run');
-        left = more;
-        run = run';
-        over = subst (IsOver program nodes) is over;
-        are = ap (notes_of nodes) (sym is);
-        shorter = refl;
-      }
-  onward acts x more f (by_one node front next) run over =
-      let g = in_front program nodes node front.deed front.free (x ∷ more) acts run over (comes_next acts f node front) in
+      let run = subst (IsLazyRun program nodes) is e.run in (
+        record {
+          node = x.node;
+          deed = x.deed;
+          run = lazy_front program nodes (acts ++ x ∷ []) more run;
+          left = more;
+          ending = record { run = run; over = subst (IsOver program nodes) is e.over; are = ap (notes_of nodes) (sym is) ∙ e.are };
+          shorter = refl;
+        },
+        refl,
+      )
+
+  -- of some run with the same outcome it is that of a node in front
+  front_next : (acts left notes : List Act) (key : LazyState) (node : ℕ) → IsOf acts key → IsInFront flat key node → Ending acts left notes
+      → (n : Next acts (length left) notes) × (n.node ≡ node)
+  front_next acts left notes key node of front e =
+      let g = in_front program nodes node front.deed front.free left acts e.run e.over (comes_next acts key node of front) in
       let act = act_of node g.other in
       let is = one_behind acts act g.rest in
-      let run' = subst (IsLazyRun program nodes) is g.run in
+      let run = subst (IsLazyRun program nodes) is g.run in (
+        record {
+          node = node;
+          deed = g.other;
+          run = lazy_front program nodes (acts ++ act ∷ []) g.rest run;
+          left = g.rest;
+          ending = record { run = run; over = subst (IsOver program nodes) is g.over; are = ap (notes_of nodes) (sym is) ∙ g.are ∙ e.are };
+          shorter = g.shorter;
+        },
+        refl,
+      )
+
+  -- a state and what is left of a run, behind what it stands for
+  record Left (key : LazyState) (most : ℕ) (notes : List Act) : Type 0 where
+    acts : List Act
+    of : IsOf acts key
+    left : List Act
+    ending : Ending acts left notes
+    few : length left ≤ most
+
+  -- ahead of a state some run with the same outcome goes
+  left_ahead : {key ahead : LazyState} {most : ℕ} {notes : List Act} → IsAhead flat key ahead → Left key most notes → Left ahead most notes
+  left_ahead still l = l
+  left_ahead {most = most} {notes = notes} (onward {mid = mid} {after = after} node deed before forced steps valid) l =
+      let m = left_ahead before l in
+      let found = front_next m.acts m.left notes mid node m.of forced.front m.ending in
+      let n = found.0 in
+      let run = subst (λ x. IsLazyRun program nodes (m.acts ++ act_of x n.deed ∷ [])) found.1 n.run in
+      let is = forced.only n.deed (can_next m.acts mid node n.deed m.of run) in
+      let act_is : act_of n.node n.deed ≡ act_of node deed = ap (λ x. act_of x n.deed) found.1 ∙ ap (λ d. act_of node d) is in
+      let few = m.few in
       record {
-        on = acts ++ act ∷ [];
-        found = found_next acts node g.other f next (lazy_front program nodes (acts ++ act ∷ []) g.rest run');
-        left = g.rest;
-        run = run';
-        over = subst (IsOver program nodes) is g.over;
-        are = ap (notes_of nodes) (sym is) ∙ g.are;
-        shorter = g.shorter;
+        acts = m.acts ++ act_of node deed ∷ [];
+        of = goes_on m.acts mid after node deed m.of steps;
+        left = n.left;
+        ending = subst (λ (x : Act). Ending (m.acts ++ x ∷ []) n.left notes) act_is n.ending;
+        few = omega (arith, few, n.shorter);
       }
 
-  searched_at : (acts : List Act) (f : Found acts) → IsSearched flat keys outcomes f.key
-  searched_at acts f = searched f.place f.key (slice_get_within keys f.place f.key f.at) f.at
+  -- and where a state that compares equal is among the keys, one of these
+  record Kept (most : ℕ) (notes : List Act) : Type 0 where
+    place : ℕ
+    key : LazyState
+    at : slice_get keys place ≡ Some key
+    rest : Left key most notes
 
-  ended : (acts : List Act) → Found acts → IsOver program nodes acts → HasOutcome outcomes (notes_of nodes acts)
-  ended acts f over =
-      let none : (node : ℕ) (deed : Deed) → CanMake flat.words (plain_at flat f.key.state) f.key.knowledge node deed → ⊥ = λ node deed can.
-      none_there program nodes acts (plain_at flat f.key.state) f.key.knowledge f.stands over node deed
-      (subst (λ n. CanMake n (plain_at flat f.key.state) f.key.knowledge node deed) words can) in
-      subst (HasOutcome outcomes) (sym f.noted) ((searched_at acts f).gathered none)
+  kept : {key : LazyState} {most : ℕ} {notes : List Act} → HasKey keys key → Left key most notes → Kept most notes
+  kept {key} {most} {notes} has l = record {
+    place = has.place;
+    key = has.stored;
+    at = has.there;
+    rest = record {
+      acts = l.acts;
+      of = record {
+        stands = stands_same program nodes flat l.acts key has.stored has.same l.of.stands;
+        noted = l.of.noted ∙ notes_same key has.stored has.same;
+      };
+      left = l.left;
+      ending = l.ending;
+      few = l.few;
+    };
+  }
+
+  -- one act more
+  next_left : (key : LazyState) (acts notes : List Act) (count : ℕ) → IsOf acts key → (n : Next acts (suc count) notes) → HasNexts flat keys key n.node
+      → Kept count notes
+  next_left key acts notes count of n nexts =
+      let next = nexts n.deed (can_next acts key n.node n.deed of n.run) in
+      kept next.has (left_ahead next.goes (record {
+        acts = acts ++ act_of n.node n.deed ∷ [];
+        of = goes_on acts key next.after n.node n.deed of next.steps;
+        left = n.left;
+        ending = n.ending;
+        few = let long = n.shorter in omega (arith, long);
+      }))
+
+  goes_further : (key : LazyState) (acts : List Act) (x : Act) (more notes : List Act) → IsOf acts key → HasEnough flat keys key
+      → Ending acts (x ∷ more) notes → Kept (length more) notes
+  goes_further key acts x more notes of (by_all next) e =
+      let found = its_next acts x more notes e in
+      next_left key acts notes (length more) of found.0 (next found.0.node)
+  goes_further key acts x more notes of (by_one node front next) e =
+      let found = front_next acts (x ∷ more) notes key node of front e in
+      next_left key acts notes (length more) of found.0 (subst (HasNexts flat keys key) (sym found.1) next)
+
+  ended : (key : LazyState) (acts notes : List Act) → IsSearched flat keys outcomes key → IsOf acts key → Ending acts [] notes → HasOutcome outcomes notes
+  ended key acts notes s of e =
+      let is = append-nil acts in
+      let over = subst (IsOver program nodes) is e.over in
+      let none : (node : ℕ) (deed : Deed) → CanMake flat.words (plain_at flat key.state) key.knowledge node deed → ⊥ = λ node deed can.
+      none_there program nodes acts (plain_at flat key.state) key.knowledge of.stands over node deed
+      (subst (λ n. CanMake n (plain_at flat key.state) key.knowledge node deed) words can) in
+      subst (HasOutcome outcomes) (sym of.noted ∙ ap (notes_of nodes) (sym is) ∙ e.are) (s.gathered none)
 
   -- each run that ends has an outcome that was gathered
-  ends : (count : ℕ) (acts more : List Act) → length more ≡ count → Found acts → IsLazyRun program nodes (acts ++ more)
-      → IsOver program nodes (acts ++ more) → HasOutcome outcomes (notes_of nodes (acts ++ more))
-  ends count acts [] long f run over =
-      let is = append-nil acts in
-      subst (λ l. HasOutcome outcomes (notes_of nodes l)) (sym is) (ended acts f (subst (IsOver program nodes) is over))
-  ends zero acts (x ∷ more) long f run over = absurd (omega (arith, long))
-  ends (suc count) acts (x ∷ more) long f run over =
-      let o = onward acts x more f (searched_at acts f).next run over in
-      subst (HasOutcome outcomes) o.are (ends count o.on o.left (omega (arith, long, o.shorter)) o.found o.run o.over)
+  ends : (count : ℕ) (notes : List Act) (place : ℕ) (key : LazyState) → slice_get keys place ≡ Some key → (acts left : List Act) → IsOf acts key
+      → length left ≤ count → Ending acts left notes → HasOutcome outcomes notes
+  ends count notes place key at acts [] of few e =
+      ended key acts notes (searched place key (slice_get_within keys place key at) at) of e
+  ends zero notes place key at acts (x ∷ more) of few e = absurd (omega (arith, few))
+  ends (suc count) notes place key at acts (x ∷ more) of few e =
+      let k = goes_further key acts x more notes of (searched place key (slice_get_within keys place key at) at).next e in
+      let less = k.rest.few in
+      ends count notes k.place k.key k.at k.rest.acts k.rest.left k.rest.of (omega (arith, few, less)) k.rest.ending
 
   has_outcome : (notes : List Act) → IsLazyOutcome program nodes notes → HasOutcome outcomes notes
   has_outcome notes o =
-      let first : Found [] = record {
-        place = begun.place;
-        key = begun.key;
-        at = begun.at;
-        stands = begun.stands;
-        noted = first_notes nodes ∙ sym begun.none;
-      } in
-      subst (HasOutcome outcomes) o.are (ends (length o.acts) [] o.acts refl first o.run o.over)
+      let k = kept begun.has (left_ahead begun.goes (record {
+        acts = [];
+        of = record { stands = begun.stands; noted = first_notes nodes ∙ sym begun.none };
+        left = o.acts;
+        ending = record { run = o.run; over = o.over; are = o.are };
+        few = omega arith;
+      })) in
+      ends (length o.acts) notes k.place k.key k.at k.rest.acts k.rest.left k.rest.of k.rest.few k.rest.ending
 
   pub exact : AreSound program flat outcomes → (notes : List Act) → IsLazyOutcome program nodes notes ↔ HasOutcome outcomes notes
   exact sound notes = (

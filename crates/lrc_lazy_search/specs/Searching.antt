@@ -1,10 +1,10 @@
 -- How the states of the machine that makes lazy runs are searched.
-use Rattle.std.specs.Prelude.{◌≡◌, ℕ, ◌<◌, ◌≤◌, true, List, [], Some, length, slice_get, slice_index, slice_set}
+use Rattle.std.specs.Prelude.{◌≡◌, ◌≢◌, ℕ, ◌<◌, ◌≤◌, true, List, [], Some, length, slice_get, slice_index, slice_set}
 use Rattle.std.specs.List.{IsDistinct}
 use Rattle.lrc_lang.specs.declared.program.Program.{Program}
 use Rattle.lrc_trace.specs.declared.act.Act.{Act}
 use Rattle.lrc_trace.specs.declared.act.Deed.{Deed}
-use Rattle.lrc_trace.specs.declared.act.Deed.TheVariants.{Read}
+use Rattle.lrc_trace.specs.declared.act.Deed.TheVariants.{Read, Arrive}
 use Rattle.lrc_trace.specs.Run.{act_of}
 use Rattle.lrc_exec.specs.Plain.{plain_step}
 use Rattle.lrc_exec.specs.declared.spot.Flat.{Flat}
@@ -46,32 +46,49 @@ pub record Steps (flat : Flat) (before : LazyState) (node : ℕ) (deed : Deed) (
   pub effect : IsKnowledgeAfter (effect_at flat.nodes flat.locks (plain_at flat before.state) node deed) before.knowledge after.knowledge
   pub notes : after.notes.items ≡ notes_with before.notes.items (act_of node deed)
 
--- some act leads to the state
-pub record IsNext (flat : Flat) (key after : LazyState) : Type 0 where
-  pub node : ℕ
-  pub deed : Deed
-  pub steps : Steps flat key node deed after
-  pub valid : IsStateOf flat after.state
-
-abbrev pub AreNext : Flat → LazyState → List LazyState → Type 0
-AreNext flat key all = (k : ℕ) (after : LazyState) → slice_get all k ≡ Some after → IsNext flat key after
-
--- among the states is one to which a node's deed leads
-pub record HasStep (flat : Flat) (key : LazyState) (node : ℕ) (deed : Deed) (all : List LazyState) : Type 0 where
-  pub place : ℕ
-  pub after : LazyState
-  pub there : slice_get all place ≡ Some after
-  pub steps : Steps flat key node deed after
-
-abbrev pub HasAll : Flat → LazyState → (node : ℕ) → List LazyState → Type 0
-HasAll flat key node all =
-    (deed : Deed) → CanMake flat.words (plain_at flat key.state) key.knowledge node deed → HasStep flat key node deed all
-
 -- the node can do something other than acquire a lock
 pub record IsInFront (flat : Flat) (key : LazyState) (node : ℕ) : Type 0 where
   pub deed : Deed
   pub can : CanMake flat.words (plain_at flat key.state) key.knowledge node deed
   pub free : IsNoAcquire deed
+
+-- such a node can do this alone, and does not arrive at a barrier
+pub record IsForced (flat : Flat) (key : LazyState) (node : ℕ) (deed : Deed) : Type 0 where
+  pub front : IsInFront flat key node
+  pub can : CanMake flat.words (plain_at flat key.state) key.knowledge node deed
+  pub only : (other : Deed) → CanMake flat.words (plain_at flat key.state) key.knowledge node other → other ≡ deed
+  pub no_arrive : deed ≢ Arrive
+
+-- deeds of this kind, one after another, lead from the state to one ahead
+pub data IsAhead (flat : Flat) (key : LazyState) : LazyState → Type 0 where
+  still : IsAhead flat key key
+  onward : {mid after : LazyState} (node : ℕ) (deed : Deed) → IsAhead flat key mid → IsForced flat mid node deed → Steps flat mid node deed after
+      → IsStateOf flat after.state → IsAhead flat key after
+
+-- some act, and then such deeds, lead to the state
+pub record IsNext (flat : Flat) (key ahead : LazyState) : Type 0 where
+  pub node : ℕ
+  pub deed : Deed
+  pub after : LazyState
+  pub steps : Steps flat key node deed after
+  pub valid : IsStateOf flat after.state
+  pub goes : IsAhead flat after ahead
+
+abbrev pub AreNext : Flat → LazyState → List LazyState → Type 0
+AreNext flat key all = (k : ℕ) (after : LazyState) → slice_get all k ≡ Some after → IsNext flat key after
+
+-- among the states is one to which a node's deed leads, and then such deeds
+pub record HasStep (flat : Flat) (key : LazyState) (node : ℕ) (deed : Deed) (all : List LazyState) : Type 0 where
+  pub place : ℕ
+  pub after : LazyState
+  pub steps : Steps flat key node deed after
+  pub ahead : LazyState
+  pub goes : IsAhead flat after ahead
+  pub there : slice_get all place ≡ Some ahead
+
+abbrev pub HasAll : Flat → LazyState → (node : ℕ) → List LazyState → Type 0
+HasAll flat key node all =
+    (deed : Deed) → CanMake flat.words (plain_at flat key.state) key.knowledge node deed → HasStep flat key node deed all
 
 -- the states are enough to go on with: those of one such node, or, where there is none, those of all nodes
 pub data AreEnough (flat : Flat) (key : LazyState) (all : List LazyState) : Type 0 where
@@ -102,11 +119,13 @@ pub record HasKey (keys : List LazyState) (key : LazyState) : Type 0 where
 abbrev pub AreThere : (keys states : List LazyState) → Type 0
 AreThere keys states = (k : ℕ) (after : LazyState) → slice_get states k ≡ Some after → HasKey keys after
 
--- a node's deed leads to a state that is among them
+-- a node's deed, and then such deeds, lead to a state that is among them
 pub record HasNext (flat : Flat) (keys : List LazyState) (key : LazyState) (node : ℕ) (deed : Deed) : Type 0 where
   pub after : LazyState
   pub steps : Steps flat key node deed after
-  pub has : HasKey keys after
+  pub ahead : LazyState
+  pub goes : IsAhead flat after ahead
+  pub has : HasKey keys ahead
 
 -- all that the node can do leads to states that are among them
 abbrev pub HasNexts : Flat → List LazyState → LazyState → (node : ℕ) → Type 0
@@ -132,13 +151,14 @@ AreSearched flat keys outcomes index = (k : ℕ) (key : LazyState) → k < index
 abbrev pub AreSound : Program → Flat → List Outcome → Type 0
 AreSound program flat outcomes = (k : ℕ) (outcome : Outcome) → slice_get outcomes k ≡ Some outcome → IsLazyOutcome program flat.nodes outcome.notes.items
 
--- one of the states is the beginning
+-- one of the states is the beginning, or ahead of it
 pub record IsBegun (program : Program) (flat : Flat) (keys : List LazyState) : Type 0 where
-  pub place : ℕ
-  pub key : LazyState
-  pub at : slice_get keys place ≡ Some key
-  pub stands : Stands program flat.nodes [] (plain_at flat key.state) key.knowledge
-  pub none : key.notes.items ≡ []
+  pub first : LazyState
+  pub stands : Stands program flat.nodes [] (plain_at flat first.state) first.knowledge
+  pub none : first.notes.items ≡ []
+  pub ahead : LazyState
+  pub goes : IsAhead flat first ahead
+  pub has : HasKey keys ahead
 
 -- a search met more states than a bound, no two of them equal, to each of which some lazy run leads
 pub record MeetsMore (program : Program) (nodes most : ℕ) : Type 0 where

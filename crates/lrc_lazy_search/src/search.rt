@@ -104,7 +104,7 @@ pub(crate) struct Searched {
 }
 
 impl Searched {
-    ghost use Rattle.std.specs.Prelude.{◌≡◌, ◌≢◌, ◌↔◌, ◌<◌, ◌≤◌, ◌^◌, ℕ, List, IfOk, IfErr, OnOk, Some, [], length, slice_get};
+    ghost use Rattle.std.specs.Prelude.{◌≡◌, ◌≢◌, ◌↔◌, ◌<◌, ◌≤◌, ◌^◌, ◌-◌, ℕ, List, IfOk, IfErr, OnOk, Some, [], length, slice_get};
     ghost use Rattle.std.specs.List.{IsDistinct};
     ghost use Rattle.lrc_trace.specs.declared.act.Act.{Act as ActType};
     ghost use Rattle.lrc_explore.specs.Kept.{Grows};
@@ -145,14 +145,15 @@ impl Searched {
         self.go_through(alloc, task)
     }
 
-    // Adds the start, where there are no states yet.
+    // Adds the start, or what it goes ahead to, where there are no states yet.
     fn begin(&mut self, alloc: Global, task: &Task<'_>) -> Result<(), AllocError>
         requires task { IsTask task.now }
         requires none { self.old.states.keys ≡ [] }
         ensures order { OnOk result (IsInOrder task.now self.new.states.keys) }
         ensures same { self.new.outcomes ≡ self.old.outcomes }
     {
-        let first = LazyState::start(alloc, &task.flat, task.start)?;
+        let mut first = LazyState::start(alloc, &task.flat, task.start)?;
+        first.go_ahead(alloc, &task.flat)?;
         self.states.insert_full(first)?;
         Ok(())
     }
@@ -183,7 +184,7 @@ impl Searched {
         requires order { IsInOrder task.now self.old.states.keys }
         requires sound { AreSound task.now.program.now task.now.flat self.old.outcomes.keys }
         requires within { place < length self.old.states.keys }
-        requires small { place < 2 ^ 63 }
+        requires small { place < 2 ^ 63 - 1 }
         ensures order { OnOk result (IsInOrder task.now self.new.states.keys) }
         ensures grows { OnOk result (Grows self.old.states.keys self.new.states.keys) }
         ensures more { OnOk result (Grows self.old.outcomes.keys self.new.outcomes.keys) }
@@ -209,7 +210,7 @@ impl Searched {
         requires task { IsTask task.now }
         requires order { IsInOrder task.now self.now.states.keys }
         requires within { place < length self.now.states.keys }
-        requires small { place < 2 ^ 63 }
+        requires small { place < 2 ^ 63 - 1 }
         ensures reached { IfOk result (λ all. (k : ℕ) (after : StateType) → slice_get all.items k ≡ Some after
             → IsReached task.now.program.now task.now.flat after (length self.now.states.keys)) }
         ensures sound { IfOk result (λ all. (key : StateType) → slice_get self.now.states.keys place ≡ Some key → AreNext task.now.flat key all.items) }

@@ -1,17 +1,21 @@
 // States of the machine that makes lazy runs.
 
-ghost use Rattle.std.specs.Prelude.{◌≡◌, ◌<◌, ◌^◌, ◌*◌, IfOk, OnOk, map};
+ghost use Rattle.std.specs.Prelude.{◌≡◌, ◌<◌, ◌^◌, ◌*◌, ℕ, IfOk, OnOk, length, map};
 ghost use Rattle.lrc_trace.specs.declared.act.Deed.TheVariants.{Read};
-ghost use Rattle.lrc_known.specs.Effect.{IsSmall};
+ghost use Rattle.lrc_known.specs.declared.word.Effect.TheVariants.{Writes};
+ghost use Rattle.lrc_known.specs.Effect.{IsKnowledgeAfter, IsSmall, word_of};
 ghost use Rattle.lrc_lazy_search.specs.Fit.{effect_of_flat};
 
 use lrc_exec::spot::Flat;
 use lrc_explore::notes::note;
 use lrc_explore::state::State;
-use lrc_known::known::Knowledge;
-use lrc_known::word::{Effect, copied};
+use lrc_known::known::{Knowledge, KnownWord};
+use lrc_known::word::{Effect, copied, word_after};
 use lrc_trace::act::{Act, Deed};
 use std::alloc::{AllocError, Global};
+
+/// The most acts that are made one after another between two states that are told apart.
+const LONGEST: usize = 64;
 
 /// Where the nodes stand, what they know of the writes, and what was noted on the way. The words of the state are all 0: what a read gives
 /// is said by what its node knows.
@@ -23,15 +27,16 @@ pub struct LazyState {
 }
 
 impl LazyState {
-    ghost use Rattle.std.specs.Prelude.{◌≡◌, ◌≤◌, ◌<◌, ◌^◌, ℕ, IfOk, OnOk, Some, None, true, false, Contains, [], length, slice_get, slice_index};
+    ghost use Rattle.std.specs.Prelude.{◌≡◌, ◌≤◌, ◌<◌, ◌^◌, ◌-◌, ℕ, IfOk, OnOk, Some, None, true, false, Contains, []};
+    ghost use Rattle.std.specs.Prelude.{length, slice_get, slice_index};
     ghost use Rattle.lrc_trace.specs.declared.act.Deed.{Deed as DeedType};
     ghost use Rattle.lrc_exec.specs.Spots.{IsFlat};
     ghost use Rattle.lrc_explore.specs.Led.{IsFirst};
     ghost use Rattle.lrc_explore.specs.States.{plain_at, IsStateOf};
-    ghost use Rattle.lrc_known.specs.Effect.{word_of};
-    ghost use Rattle.lrc_lazy_machine.specs.Standing.{CanMake};
+    ghost use Rattle.lrc_known.specs.Effect.{word_of, IsKnowledgeAfter};
+    ghost use Rattle.lrc_lazy_machine.specs.Standing.{with_memory, CanMake};
     ghost use Rattle.lrc_lazy_search.specs.Fit.{IsFit};
-    ghost use Rattle.lrc_lazy_search.specs.Searching.{HasAll, AreNext, AreEnough, IsInFront, Makes, Steps, IsPoked};
+    ghost use Rattle.lrc_lazy_search.specs.Searching.{HasAll, AreNext, AreEnough, IsAhead, IsForced, IsInFront, Makes, Steps, IsPoked};
 
     /// The beginning of a program, whose text begins at this place of the code.
     pub fn start(alloc: Global, flat: &Flat, place: usize) -> Result<LazyState, AllocError>
@@ -166,7 +171,8 @@ impl LazyState {
         ensures front { (node : ℕ) → result ≡ Some node → IsInFront flat.now self.now node }
         ensures none { result ≡ None → (node : ℕ) → ¬ IsInFront flat.now self.now node }
     {
-        for node in 0..self.state.spots.len() {
+        let count = self.state.spots.len();
+        for node in 0..count {
             if self.is_in_front(flat, node) {
                 return Some(node);
             }
@@ -174,12 +180,154 @@ impl LazyState {
         None
     }
 
+    // Puts the value that a read gives to where it is read.
+    fn poke(&mut self, flat: &Flat, deed: Deed)
+        requires state { IsStateOf flat.now self.old.state }
+        requires within { (w v : ℕ) → deed ≡ Deed.Read w v → w < flat.now.words }
+        ensures poked { IsPoked flat.now self.old deed self.new.state }
+        ensures knowledge { self.new.knowledge ≡ self.old.knowledge }
+        ensures notes { self.new.notes ≡ self.old.notes }
+    {
+        let _nodes = flat.nodes;
+        if let Deed::Read(word, value) = deed {
+            self.state.memory[word as usize] = value;
+        }
+    }
+
+    // Makes the word of a deed 0 again.
+    fn blank(&mut self, flat: &Flat, deed: Deed)
+        requires state { IsStateOf flat.now self.old.state }
+        ensures same { plain_at flat.now self.new.state ≡ with_memory (plain_at flat.now self.old.state) self.new.state.memory.items }
+        ensures state { IsStateOf flat.now self.new.state }
+        ensures knowledge { self.new.knowledge ≡ self.old.knowledge }
+        ensures notes { self.new.notes ≡ self.old.notes }
+    {
+        let _nodes = flat.nodes;
+        let word = match deed {
+            Deed::Read(word, _) | Deed::Write(word, _) => word as usize,
+            _ => return,
+        };
+        if word < self.state.memory.len() {
+            self.state.memory[word] = 0;
+        }
+    }
+
+    // Goes on to where the nodes stand after a deed.
+    fn move_on(&mut self, flat: &Flat, node: usize, deed: Deed)
+        requires flat { IsFlat flat.now }
+        requires fit { IsFit flat.now self.old }
+        requires can { CanMake flat.now.words (plain_at flat.now self.old.state) self.old.knowledge node deed }
+        requires room { slice_index self.old.state.arrivals.items node < 2 ^ 63 }
+        ensures made { Makes flat.now self.old.state node deed self.new.state }
+        ensures state { IsStateOf flat.now self.new.state }
+        ensures knowledge { self.new.knowledge ≡ self.old.knowledge }
+        ensures notes { self.new.notes ≡ self.old.notes }
+    {
+        self.poke(flat, deed);
+        self.state.make(flat, node, deed);
+        self.blank(flat, deed);
+    }
+
+    // Changes what is known as an act does.
+    fn learn(&mut self, alloc: Global, effect: Effect) -> Result<(), AllocError>
+        requires { IsSmall effect }
+        ensures known { OnOk result (IsKnowledgeAfter effect self.old.knowledge self.new.knowledge) }
+        ensures state { self.new.state ≡ self.old.state }
+        ensures notes { self.new.notes ≡ self.old.notes }
+    {
+        match effect {
+            Effect::Passes => {}
+            Effect::Writes(writer, word, value) => {
+                learn_write(alloc, &mut self.knowledge, writer, word, value)?
+            }
+            Effect::Learns(_, _) => self.knowledge = self.knowledge.after(alloc, effect)?,
+        }
+        Ok(())
+    }
+
+    // Makes what a node can do.
+    fn make(
+        &mut self,
+        alloc: Global,
+        flat: &Flat,
+        node: usize,
+        deed: Deed,
+    ) -> Result<(), AllocError>
+        requires flat { IsFlat flat.now }
+        requires fit { IsFit flat.now self.old }
+        requires can { CanMake flat.now.words (plain_at flat.now self.old.state) self.old.knowledge node deed }
+        requires room { slice_index self.old.state.arrivals.items node < 2 ^ 63 }
+        requires node { node < flat.now.nodes }
+        ensures steps { OnOk result (Steps flat.now self.old node deed self.new) }
+        ensures state { OnOk result (IsStateOf flat.now self.new.state) }
+    {
+        let _nodes = flat.nodes;
+        let effect = effect_of(flat, self.state.arrivals[node], node, deed);
+        self.move_on(flat, node, deed);
+        self.learn(alloc, effect)?;
+        let act = Act {
+            node: node as u8,
+            deed,
+        };
+        note(&mut self.notes, act)
+    }
+
+    // What the node can do, where that is one deed alone, and no arrive.
+    fn forced(&self, alloc: Global, flat: &Flat, node: usize) -> Result<Option<Deed>, AllocError>
+        requires flat { IsFlat flat.now }
+        requires fit { IsFit flat.now self.now }
+        requires front { IsInFront flat.now self.now node }
+        ensures { IfOk result (λ found. (deed : DeedType) → found ≡ Some deed → IsForced flat.now self.now node deed) }
+    {
+        let deeds = self.deeds(alloc, flat, node)?;
+        if deeds.len() != 1 {
+            return Ok(None);
+        }
+        match deeds[0] {
+            Deed::Arrive => Ok(None),
+            deed => Ok(Some(deed)),
+        }
+    }
+
+    // Makes what the lowest node in front can do, where that is one deed alone, and no arrive; and whether it was made.
+    fn step_ahead(&mut self, alloc: Global, flat: &Flat) -> Result<bool, AllocError>
+        requires flat { IsFlat flat.now }
+        requires fit { IsFit flat.now self.old }
+        requires room { (node : ℕ) → slice_index self.old.state.arrivals.items node < 2 ^ 63 }
+        ensures { OnOk result (IsAhead flat.now self.old self.new) }
+    {
+        let Some(node) = self.in_front(flat) else {
+            return Ok(false);
+        };
+        let Some(deed) = self.forced(alloc, flat, node)? else {
+            return Ok(false);
+        };
+        self.make(alloc, flat, node, deed)?;
+        Ok(true)
+    }
+
+    /// Goes on as long as the lowest node that can do something other than acquire a lock can do one deed alone, which is no arrive, and not
+    /// for too long.
+    pub fn go_ahead(&mut self, alloc: Global, flat: &Flat) -> Result<(), AllocError>
+        requires flat { IsFlat flat.now }
+        requires state { IsStateOf flat.now self.old.state }
+        requires room { (node : ℕ) → slice_index self.old.state.arrivals.items node < 2 ^ 63 }
+        ensures { OnOk result (IsAhead flat.now self.old self.new) }
+    {
+        for _ in 0..LONGEST {
+            if !self.step_ahead(alloc, flat)? {
+                return Ok(());
+            }
+        }
+        Ok(())
+    }
+
     /// The states to go on with: those to which the lowest node leads that can do something other than acquire a lock, and where there is
     /// none, those to which any node leads.
     pub fn nexts(&self, alloc: Global, flat: &Flat) -> Result<Vec<LazyState>, AllocError>
         requires flat { IsFlat flat.now }
         requires fit { IsFit flat.now self.now }
-        requires room { (node : ℕ) → slice_index self.now.state.arrivals.items node < 2 ^ 63 }
+        requires room { (node : ℕ) → slice_index self.now.state.arrivals.items node < 2 ^ 63 - 1 }
         ensures sound { IfOk result (λ all. AreNext flat.now self.now all.items) }
         ensures enough { IfOk result (λ all. AreEnough flat.now self.now all.items) }
     {
@@ -197,7 +345,7 @@ impl LazyState {
     fn nexts_of_all(&self, alloc: Global, flat: &Flat) -> Result<Vec<LazyState>, AllocError>
         requires flat { IsFlat flat.now }
         requires fit { IsFit flat.now self.now }
-        requires room { (node : ℕ) → slice_index self.now.state.arrivals.items node < 2 ^ 63 }
+        requires room { (node : ℕ) → slice_index self.now.state.arrivals.items node < 2 ^ 63 - 1 }
         ensures sound { IfOk result (λ all. AreNext flat.now self.now all.items) }
         ensures all { IfOk result (λ all. (node : ℕ) → HasAll flat.now self.now node all.items) }
     {
@@ -218,7 +366,7 @@ impl LazyState {
     ) -> Result<(), AllocError>
         requires flat { IsFlat flat.now }
         requires fit { IsFit flat.now self.now }
-        requires room { (node : ℕ) → slice_index self.now.state.arrivals.items node < 2 ^ 63 }
+        requires room { (node : ℕ) → slice_index self.now.state.arrivals.items node < 2 ^ 63 - 1 }
         requires sound { AreNext flat.now self.now all.old.items }
         ensures sound { OnOk result (AreNext flat.now self.now all.new.items) }
         ensures all { OnOk result (HasAll flat.now self.now node all.new.items) }
@@ -226,7 +374,9 @@ impl LazyState {
     {
         let deeds = self.deeds(alloc, flat, node)?;
         for place in 0..deeds.len() {
-            all.push(self.after(alloc, flat, node, deeds[place])?)?;
+            let mut next = self.after(alloc, flat, node, deeds[place])?;
+            next.go_ahead(alloc, flat)?;
+            all.push(next)?;
         }
         Ok(())
     }
@@ -260,4 +410,35 @@ fn effect_of(flat: &Flat, arrived: u64, node: usize, deed: Deed) -> Effect
         Deed::Depart => Effect::Learns(node, barriers + arrived.saturating_sub(1) as usize),
         _ => Effect::Passes,
     }
+}
+
+// Has something kept of a word, be it nothing.
+fn make_room(alloc: Global, knowledge: &mut Knowledge, word: usize) -> Result<(), AllocError>
+    ensures room { OnOk result (word < length knowledge.new.words.items) }
+    ensures same { OnOk result ((w : ℕ) → word_of knowledge.new w ≡ word_of knowledge.old w) }
+{
+    while knowledge.words.len() <= word {
+        knowledge.words.push(KnownWord {
+            knowers: Vec::new(alloc),
+        })?;
+    }
+    Ok(())
+}
+
+// Changes what is known of the word that one writes.
+fn learn_write(
+    alloc: Global,
+    knowledge: &mut Knowledge,
+    writer: usize,
+    word: usize,
+    value: u64,
+) -> Result<(), AllocError>
+    requires { IsSmall (Writes writer word value) }
+    ensures { OnOk result (IsKnowledgeAfter (Writes writer word value) knowledge.old knowledge.new) }
+{
+    make_room(alloc, knowledge, word)?;
+    let effect = Effect::Writes(writer, word, value);
+    let knowers = word_after(alloc, knowledge.word(word), effect, word)?;
+    knowledge.words[word] = KnownWord { knowers };
+    Ok(())
 }

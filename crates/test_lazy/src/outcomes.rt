@@ -154,6 +154,34 @@ fn dekker(rt: HostRuntime) {
     passes(&rt, first_wrong(rt.alloc(), DEKKER));
 }
 
+const IRIW_LOCKS: &[Row] = &[Row {
+    name: "iriw_locks",
+    text: b"words 2; locks 2; if me < 2 { acquire me; [me] = 1; release me; } else { acquire me - 2; x = [me - 2]; release me - 2; acquire 3 - me; y = [3 - me]; release 3 - me; print x; print y; }",
+    nodes: 4,
+    outcomes: &[
+        b"node 0 ended / node 1 ended / node 2 prints 0 / node 2 prints 0 / node 2 ended / node 3 prints 0 / node 3 prints 0 / node 3 ended",
+        b"node 0 ended / node 1 ended / node 2 prints 0 / node 2 prints 0 / node 2 ended / node 3 prints 0 / node 3 prints 1 / node 3 ended",
+        b"node 0 ended / node 1 ended / node 2 prints 0 / node 2 prints 0 / node 2 ended / node 3 prints 1 / node 3 prints 0 / node 3 ended",
+        b"node 0 ended / node 1 ended / node 2 prints 0 / node 2 prints 0 / node 2 ended / node 3 prints 1 / node 3 prints 1 / node 3 ended",
+        b"node 0 ended / node 1 ended / node 2 prints 0 / node 2 prints 1 / node 2 ended / node 3 prints 0 / node 3 prints 0 / node 3 ended",
+        b"node 0 ended / node 1 ended / node 2 prints 0 / node 2 prints 1 / node 2 ended / node 3 prints 0 / node 3 prints 1 / node 3 ended",
+        b"node 0 ended / node 1 ended / node 2 prints 0 / node 2 prints 1 / node 2 ended / node 3 prints 1 / node 3 prints 0 / node 3 ended",
+        b"node 0 ended / node 1 ended / node 2 prints 0 / node 2 prints 1 / node 2 ended / node 3 prints 1 / node 3 prints 1 / node 3 ended",
+        b"node 0 ended / node 1 ended / node 2 prints 1 / node 2 prints 0 / node 2 ended / node 3 prints 0 / node 3 prints 0 / node 3 ended",
+        b"node 0 ended / node 1 ended / node 2 prints 1 / node 2 prints 0 / node 2 ended / node 3 prints 0 / node 3 prints 1 / node 3 ended",
+        b"node 0 ended / node 1 ended / node 2 prints 1 / node 2 prints 0 / node 2 ended / node 3 prints 1 / node 3 prints 1 / node 3 ended",
+        b"node 0 ended / node 1 ended / node 2 prints 1 / node 2 prints 1 / node 2 ended / node 3 prints 0 / node 3 prints 0 / node 3 ended",
+        b"node 0 ended / node 1 ended / node 2 prints 1 / node 2 prints 1 / node 2 ended / node 3 prints 0 / node 3 prints 1 / node 3 ended",
+        b"node 0 ended / node 1 ended / node 2 prints 1 / node 2 prints 1 / node 2 ended / node 3 prints 1 / node 3 prints 0 / node 3 ended",
+        b"node 0 ended / node 1 ended / node 2 prints 1 / node 2 prints 1 / node 2 ended / node 3 prints 1 / node 3 prints 1 / node 3 ended",
+    ],
+}];
+
+#[test]
+fn iriw_locks(rt: HostRuntime) {
+    passes(&rt, first_wrong(rt.alloc(), IRIW_LOCKS));
+}
+
 const IRIW_ONE_SIDE: &[Row] = &[Row {
     name: "iriw_one_side",
     text: b"words 2; locks 2; if me < 2 { acquire me; [me] = 1; release me; } else { x = [me - 2]; y = [3 - me]; print x; print y; }",
@@ -227,6 +255,20 @@ fn lost_update(rt: HostRuntime) {
     passes(&rt, first_wrong(rt.alloc(), LOST_UPDATE));
 }
 
+const MANY_VALUES: &[Row] = &[Row {
+    name: "many_values",
+    text: b"words 1024; locks 0; while i < 300 { [me * 300 + i] = i + me; i = i + 1; } barrier; x = [299]; y = [599]; print x; print y;",
+    nodes: 3,
+    outcomes: &[
+        b"node 0 prints 299 / node 0 prints 300 / node 0 ended / node 1 prints 299 / node 1 prints 300 / node 1 ended / node 2 prints 299 / node 2 prints 300 / node 2 ended",
+    ],
+}];
+
+#[test]
+fn many_values(rt: HostRuntime) {
+    passes(&rt, first_wrong(rt.alloc(), MANY_VALUES));
+}
+
 const MESSAGE_LATE: &[Row] = &[Row {
     name: "message_late",
     text: b"words 2; locks 1; if me == 0 { acquire 0; [1] = 1; release 0; [0] = 7; } else { acquire 0; f = [1]; release 0; x = [0]; print f; print x; }",
@@ -294,6 +336,18 @@ const OLDER_RELEASE: &[Row] = &[Row {
 #[test]
 fn older_release(rt: HostRuntime) {
     passes(&rt, first_wrong(rt.alloc(), OLDER_RELEASE));
+}
+
+const ONE_RUN_ENDS: &[Row] = &[Row {
+    name: "one_run_ends",
+    text: b"words 1; locks 0; [0] = me + 1; barrier; x = [0]; while x == 0 { }",
+    nodes: 2,
+    outcomes: &[b"node 0 ended / node 1 ended"],
+}];
+
+#[test]
+fn one_run_ends(rt: HostRuntime) {
+    passes(&rt, first_wrong(rt.alloc(), ONE_RUN_ENDS));
 }
 
 const OTHER_WORDS: &[Row] = &[Row {

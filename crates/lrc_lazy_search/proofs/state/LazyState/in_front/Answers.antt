@@ -7,4 +7,4 @@ returns-clause-none c = λ is node front.
     let below = front_below c.args.flat.now c.args.self.now node c.requires.fit front in
     let count = c.requires.fit.valid.spots in
     c.loop-node.invariant node
-    (omega (arith, below, count, c.loop-node-test.false, c.loop-node.auto.node-end, c.len-node-end.ensures)) front
+    (omega (arith, below, count, c.loop-node-test.false, c.loop-node.auto.node-end, c.len-count.ensures)) front

@@ -7,7 +7,10 @@ use Rattle.std.proofs.lemmas.Option.{same_Some}
 use Rattle.lrc_trace.proofs.Positions.{slice_get-seam}
 use Rattle.lrc_trace.specs.declared.act.Deed.{Deed}
 use Rattle.lrc_explore.specs.Kept.{Grows}
+use Rattle.lrc_explore.specs.States.{plain_at}
+use Rattle.lrc_explore.proofs.Counting.{step_counts}
 use Rattle.lrc_explore.proofs.Keeping.{item_in, grows_again}
+use Rattle.lrc_lazy_machine.specs.Standing.{with_memory}
 use Rattle.lrc_lazy_search.specs.Searching.{HasStep}
 use Rattle.lrc_lazy_search.proofs.Making.{can_below}
 use Rattle.lrc_lazy_search.proofs.Adding.{step_on, next_push}
@@ -31,6 +34,17 @@ returns-clause-all c = λ deed can.
 pub returns-clause-kept : goal.returns-clause-kept
 returns-clause-kept c = λ n all deed can. step_on c.loop-place.invariant.grows (all deed can)
 
+pub go_ahead-requires-clause-room : goal.go_ahead-requires-clause-room
+go_ahead-requires-clause-room c = λ n.
+    let flat = c.args.flat.now in
+    let before = c.args.self.now in
+    let after = c.in_ok-next.next in
+    let makes = c.in_ok-next.ensures.steps.makes in
+    let few = c.requires.room n in
+    let more = step_counts (with_memory (plain_at flat before.state) makes.memory) (with_memory (plain_at flat after.state) makes.later)
+    c.args.node n c.index.result.now makes.made in
+    omega (arith, few, more)
+
 pub loop-place-preserved : goal.loop-place-preserved
 loop-place-preserved c =
     let flat = c.args.flat.now in
@@ -40,16 +54,18 @@ loop-place-preserved c =
     let place = c.loop-place.place in
     let deeds = c.in_ok-deeds.deeds.items in
     let deed = c.index.result.now in
-    let after = c.in_ok-after.field-0 in
+    let after = c.in_ok-next.next in
+    let ahead = c.go_ahead.new.self in
     let old = c.loop-place.all.items in
     let new = c.push.new.self.items in
-    let steps = c.in_ok-after.ensures.steps in
+    let steps = c.in_ok-next.ensures.steps in
+    let goes = c.in_ok-go_ahead.ensures in
     let within : place < length deeds = omega (arith, c.loop-place-test.true, c.loop-place.auto.place-end, c.len-place-end.ensures) in
     let there = item_in deeds deeds place deed refl within c.index.ensures in
-    let grown : Grows old new = record { more = after ∷ []; is = c.in_ok-push.ensures.items } in
+    let grown : Grows old new = record { more = ahead ∷ []; is = c.in_ok-push.ensures.items } in
     record {
-      sound = next_push flat key after old new c.in_ok-push.ensures.items i.sound
-          (record { node = node; deed = deed; steps = steps; valid = c.in_ok-after.ensures.state });
+      sound = next_push flat key ahead old new c.in_ok-push.ensures.items i.sound
+          (record { node = node; deed = deed; after = after; steps = steps; valid = c.in_ok-next.ensures.state; goes = goes });
       grows = grows_again i.grows grown;
       done = λ k other lt at. elim (cases_eq k place) [
         | inl same ↦
@@ -57,8 +73,10 @@ loop-place-preserved c =
             subst (λ (d : Deed). HasStep flat key node d new) is (record {
               place = length old;
               after = after;
-              there = ap (λ l. slice_get l (length old)) c.in_ok-push.ensures.items ∙ slice_get-seam old after [];
               steps = steps;
+              ahead = ahead;
+              goes = goes;
+              there = ap (λ l. slice_get l (length old)) c.in_ok-push.ensures.items ∙ slice_get-seam old ahead [];
             })
         | inr apart ↦ step_on grown (i.done k other (omega (arith, lt, apart)) at)
       ];
