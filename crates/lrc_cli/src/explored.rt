@@ -1,7 +1,7 @@
 // What the program answers to the command `explore`.
 
 ghost use Rattle.std.specs.Prelude.{◌≡◌, ◌≤◌, IfErr, IfOk, None};
-ghost use Rattle.lrc_cli.specs.Answer.{HasOutcomeFault, IsExploration, IsFault, IsSearchFault, Prints, ShowsOrders, ShowsOutcome};
+ghost use Rattle.lrc_cli.specs.Answer.{HasOutcomeFault, HasLazyFault, HasLazyRunFault, IsExploration, IsFault, IsSearchFault, Prints, ShowsLazyOutcomes, ShowsLazyRun, ShowsOrders, ShowsOutcome, tries_asked};
 ghost use Rattle.lrc_answer.specs.Labels.{labels_in};
 ghost use Rattle.lrc_answer.specs.Texts.{IsTextOf};
 ghost use Rattle.lrc_text.specs.Parts.{whole_text};
@@ -9,9 +9,11 @@ ghost use Rattle.lrc_args.specs.declared.choice.Choice.TheVariants.{Explore};
 
 use lrc_answer::fault::Fault;
 use lrc_answer::printout::{Printout, in_one};
-use lrc_args::choice::Exploring;
+use lrc_args::choice::{Exploring, Memory};
 use lrc_explore::search::ExploreFault;
 use lrc_explore_text::outcome_run::outcome_run_told;
+use lrc_lazy_text::listed::lazy_outcomes_told;
+use lrc_lazy_text::one::lazy_run_told;
 use lrc_labels::read_labels;
 use lrc_lang::lines::lines_of;
 use lrc_lang::parse;
@@ -45,9 +47,15 @@ fn all_orders(
     ensures err { IfErr result (IsSearchFault exploring.now program.now) }
 {
     let lines = lines_of(alloc, text)?;
-    match exploring.outcome {
-        Some(outcome) => one_outcome(alloc, exploring, program, &lines, outcome.number),
-        None => every_order(alloc, exploring, text, program, &lines),
+    match (exploring.memory, exploring.outcome) {
+        (Memory::Lazy, Some(outcome)) => {
+            one_lazy_run(alloc, exploring, program, &lines, outcome.number)
+        }
+        (Memory::Lazy, None) if exploring.outcomes => all_lazy_runs(alloc, exploring, program),
+        (Memory::Flat, Some(outcome)) => {
+            one_outcome(alloc, exploring, program, &lines, outcome.number)
+        }
+        (_, None) => every_order(alloc, exploring, text, program, &lines),
     }
 }
 
@@ -104,6 +112,72 @@ fn one_outcome(
         program,
         lines,
         exploring.nodes.count,
+        most as usize,
+        number,
+    ) {
+        Ok(Some(text)) => Ok(Printout {
+            parts: in_one(alloc, text)?,
+            status: 0,
+        }),
+        Ok(None) => Err(Fault::NoOutcome(number)),
+        Err(ExploreFault::TooMany) => Err(Fault::TooManyStates(most)),
+        Err(ExploreFault::NoMemory) => Err(Fault::NoMemory),
+        Err(ExploreFault::BadNodes) => unreachable!(),
+    }
+}
+
+// What is said of the outcomes of all lazy runs.
+fn all_lazy_runs(
+    alloc: Global,
+    exploring: &Exploring<'_>,
+    program: &Program,
+) -> Result<Printout, Fault>
+    ensures ok { IfOk result (λ printout. ShowsLazyOutcomes exploring.now program.now (whole_text printout.parts.items) printout.status) }
+    ensures err { IfErr result (HasLazyFault exploring.now program.now) }
+{
+    let most = exploring.most.count;
+    match lazy_outcomes_told(
+        alloc,
+        program,
+        exploring.nodes,
+        most as usize,
+        tries_of(exploring),
+    ) {
+        Ok(parts) => Ok(Printout { parts, status: 0 }),
+        Err(ExploreFault::TooMany) => Err(Fault::TooManyStates(most)),
+        Err(ExploreFault::NoMemory) => Err(Fault::NoMemory),
+        Err(ExploreFault::BadNodes) => unreachable!(),
+    }
+}
+
+// How many runs at random are tried, if any are.
+fn tries_of(exploring: &Exploring<'_>) -> Option<u32>
+    ensures { result ≡ tries_asked exploring.now }
+{
+    match exploring.tries {
+        Some(tries) => Some(tries.count),
+        None => None,
+    }
+}
+
+// What is said of the outcome of this number of all lazy runs.
+fn one_lazy_run(
+    alloc: Global,
+    exploring: &Exploring<'_>,
+    program: &Program,
+    lines: &[u32],
+    number: u64,
+) -> Result<Printout, Fault>
+    requires { 1 ≤ number }
+    ensures ok { IfOk result (λ printout. ShowsLazyRun exploring.now program.now lines.now number (whole_text printout.parts.items) printout.status) }
+    ensures err { IfErr result (HasLazyRunFault exploring.now program.now number) }
+{
+    let most = exploring.most.count;
+    match lazy_run_told(
+        alloc,
+        program,
+        lines,
+        exploring.nodes,
         most as usize,
         number,
     ) {
