@@ -206,8 +206,8 @@ module _ (program : Program) (nodes : ℕ) (acts : List Act) (machine : Plain) (
     where
       -- what a deed that is no read needs does not depend on the words
       still : (d : Deed) → CanDo now node d → ((w v : ℕ) → d ≡ Read w v → ⊥) → CanDo (with_memory machine memory) node d
-      still (Read w v) can no = absurd (no w v refl)
-      still d can no = can
+      still (Read w v) can other_deed = absurd (other_deed w v refl)
+      still d can other_deed = can
 
   -- ---- the end
 
@@ -228,7 +228,7 @@ module _ (program : Program) (nodes : ℕ) (acts : List Act) (machine : Plain) (
       → MayGoOn nodes acts (act_of node deed) → ⊥
   none_next memory rest node (Read w u) c may =
       let found = any_read (slice_index memory w) c.goes in
-      let on = record { thread = c.thread; there = c.there; after = found.0; goes = found.1 } in
+      let on : Coming node (Read w (slice_index memory w)) = record { thread = c.thread; there = c.there; after = found.0; goes = found.1 } in
       let made = makes_read node w (slice_index memory w) memory on refl in
       let never : ◌≡◌ {A = Option (Deed × Plain)} None (Some (Read w (slice_index memory w), made.0)) = sym (rest node) ∙ made.1 in
       cc

@@ -1,8 +1,8 @@
 -- An act of a lazy run is followed from where the acts before it have led.
-use Rattle.std.proofs.Common.{◌≡◌, ℕ, suc, zero, ◌+◌, ◌<◌, ◌≤◌, ◌^◌, ◌-◌, List, [], ◌∷◌, ◌++◌, drop, length, take, inl, inr, refl, replicate, sym, subst, ◌∙◌, ap, arith, get_or}
+use Rattle.std.proofs.Common.{◌≡◌, ℕ, ◌+◌, ◌<◌, ◌≤◌, ◌^◌, ◌-◌, List, [], ◌∷◌, ◌++◌, drop, length, take, inl, inr, refl, replicate, sym, subst, ◌∙◌, ap, arith, get_or}
 use Rattle.std.specs.Prelude.{Some, slice_index, slice_set}
 use Rattle.std.proofs.lemmas.Bool.{cases_lt}
-use Rattle.std.proofs.lemmas.List.{get_or-replicate, get_or-set_same, get_or_past, length-replicate, take-append-drop}
+use Rattle.std.proofs.lemmas.List.{get_or-replicate, get_or-set_same, get_or_past, length-replicate, take-append-drop, take_more}
 use Rattle.lrc_lang.specs.declared.program.Program.{Program}
 use Rattle.lrc_trace.specs.declared.act.Act.{Act}
 use Rattle.lrc_trace.specs.declared.act.Deed.{Deed}
@@ -21,15 +21,13 @@ use Rattle.lrc_over.proofs.Following.{StandsAt, coming, lazy_front, makes_other,
 
 -- ---- the acts so far, and one more
 
-pub so_far : (acts : List Act) (i : ℕ) (act : Act) → i < length acts → act ≡ get_or acts i act → take i acts ++ act ∷ [] ≡ take (i + 1) acts
-so_far [] i act lt is = absurd (omega (arith, lt))
-so_far (x ∷ acts) zero act lt is = ap (λ a. a ∷ []) is
-so_far (x ∷ acts) (suc i) act lt is = ap (λ l. x ∷ l) (so_far acts i act (omega (arith, lt)) is)
+pub so_far : (acts : List Act) (i : ℕ) (d : Act) → i < length acts → take i acts ++ get_or acts i d ∷ [] ≡ take (i + 1) acts
+so_far acts i d lt = sym (take_more acts i d lt)
 
-pub front_lazy : (program : Program) (nodes : ℕ) (acts : List Act) (i : ℕ) (act : Act) → i < length acts → act ≡ get_or acts i act
-    → IsLazyRun program nodes acts → IsLazyRun program nodes (take i acts ++ act ∷ [])
-front_lazy program nodes acts i act lt is run =
-    subst (IsLazyRun program nodes) (sym (so_far acts i act lt is))
+pub front_lazy : (program : Program) (nodes : ℕ) (acts : List Act) (i : ℕ) (d : Act) → i < length acts
+    → IsLazyRun program nodes acts → IsLazyRun program nodes (take i acts ++ get_or acts i d ∷ [])
+front_lazy program nodes acts i d lt run =
+    subst (IsLazyRun program nodes) (sym (so_far acts i d lt))
     (lazy_front program nodes (take (i + 1) acts) (drop (i + 1) acts) (subst (IsLazyRun program nodes) (sym (take-append-drop (i + 1) acts)) run))
 
 -- ---- the beginning

@@ -13,7 +13,7 @@ use Rattle.lrc_lazy_machine.specs.Standing.{with_memory}
 
 -- the flat code is the program's, for so many nodes, and begins at this place
 pub record IsFlatOf (program : Program) (nodes : ℕ) (flat : Flat) (start : ℕ) : Type 0 where
-  pub flat : IsFlat flat
+  pub sound : IsFlat flat
   pub placed : start ≤ length flat.code.now
   pub words : flat.words ≡ program.words
   pub locks : flat.locks ≡ program.locks

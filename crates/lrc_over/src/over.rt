@@ -27,8 +27,22 @@ pub fn is_over(
     ensures { IfOk result (λ over. IsTrue over ↔ IsOver program.now nodes acts.now) }
 {
     let code = Code::new(alloc, program)?;
-    let (flat, start) = flat_of(&code, nodes);
-    is_over_in(alloc, program, &flat, start, acts)
+    is_over_of(alloc, &code, nodes, acts)
+}
+
+// The same by a program's flat code.
+fn is_over_of(
+    alloc: Global,
+    code: &Code<'_>,
+    nodes: u8,
+    acts: &[Act],
+) -> Result<bool, AllocError>
+    requires nodes { AreNodes nodes }
+    requires run { IsLazyRun code.now nodes acts.now }
+    ensures { IfOk result (λ over. IsTrue over ↔ IsOver code.now nodes acts.now) }
+{
+    let (flat, start) = flat_of(code, nodes);
+    is_over_in(alloc, code.program(), &flat, start, acts)
 }
 
 // The flat code, and the place where the text begins.
@@ -46,7 +60,7 @@ fn flat_of<'c>(code: &'c Code<'c>, nodes: u8) -> (Flat<'c>, usize)
     (flat, start)
 }
 
-// The same by a program's flat code.
+// The same by instructions.
 fn is_over_in(
     alloc: Global,
     program: &Program,

@@ -1,6 +1,8 @@
-use Rattle.std.proofs.Common.{◌∙◌, ℕ, [], ap, arith, rules, subst, sym, take}
+use Rattle.std.proofs.Common.{◌∙◌, ℕ, [], ap, arith, get_or, subst, sym, take}
 use Rattle.std.specs.Prelude.{slice_index}
 use Rattle.std.proofs.lemmas.List.{take_all}
+use Rattle.lrc_trace.specs.declared.act.Act.{Act}
+use Rattle.lrc_trace.specs.declared.act.Deed.TheVariants.{Quiet}
 use Rattle.lrc_exec.specs.Plain.{Plain}
 use Rattle.lrc_explore.specs.States.{plain_at}
 use Rattle.lrc_over.proofs.Following.{StandsAt, over_to_rest, rest_to_over, stands_first}
@@ -28,9 +30,11 @@ follow-requires-clause-may c =
     let acts = c.args.acts.now in
     let i = c.loop-act.invariant in
     let at = c.loop-act.act-index in
-    let few = i.counted c.loop-act.act.now.node in
-    may_follow program flat c.args.start c.requires.flat c.loop-act.state i.valid (take at acts) i.stands c.loop-act.act.now
-    (front_lazy program flat.nodes acts at c.loop-act.act.now c.loop-act-test.true (search rules) c.requires.run) (omega (arith, few))
+    let act : Act = get_or acts at (record { node = 0; deed = Quiet }) in
+    let few = i.counted act.node in
+    may_follow program flat c.args.start c.requires.flat c.loop-act.state i.valid (take at acts) i.stands act
+    (front_lazy program flat.nodes acts at (record { node = 0; deed = Quiet }) c.loop-act-test.true c.requires.run)
+    (omega (arith, few, c.loop-act-test.true))
 
 pub loop-act-preserved : goal.loop-act-preserved
 loop-act-preserved c =
@@ -39,12 +43,12 @@ loop-act-preserved c =
     let acts = c.args.acts.now in
     let i = c.loop-act.invariant in
     let at = c.loop-act.act-index in
-    let act = c.loop-act.act.now in
+    let act : Act = get_or acts at (record { node = 0; deed = Quiet }) in
     let old = c.loop-act.state in
     let new = c.follow.new.state in
     record {
       valid = c.follow.ensures.valid;
-      stands = subst (λ front. StandsAt program flat.nodes front (plain_at flat new)) (so_far acts at act c.loop-act-test.true (search rules))
+      stands = subst (λ front. StandsAt program flat.nodes front (plain_at flat new)) (so_far acts at (record { node = 0; deed = Quiet }) c.loop-act-test.true)
           (follow_on program flat c.args.start c.requires.flat old i.valid (take at acts) i.stands act new c.follow.ensures);
       counted = counts_on flat old new act at c.follow.ensures i.counted;
     }
