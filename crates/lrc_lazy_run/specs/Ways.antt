@@ -1,5 +1,5 @@
 -- States of the machine that makes lazy runs, and how they were found.
-use Rattle.std.specs.Prelude.{◌≡◌, ◌≢◌, ◌+◌, ◌<◌, ◌≤◌, ◌^◌, ℕ, List, [], Option, Some, None, length, slice_get}
+use Rattle.std.specs.Prelude.{◌≡◌, ◌≢◌, ◌+◌, ◌<◌, ◌≤◌, ◌^◌, ℕ, List, [], ◌++◌, Option, Some, None, length, reverse, slice_get}
 use Rattle.std.specs.List.{IsDistinct}
 use Rattle.lrc_lang.specs.declared.program.Program.{Program}
 use Rattle.lrc_trace.specs.declared.act.Act.{Act}
@@ -71,11 +71,6 @@ abbrev pub CanMakeAt : Flat → List LazyState → (place node : ℕ) → Deed �
 CanMakeAt flat keys place node deed =
     (key : LazyState) → slice_get keys place ≡ Some key → CanMake flat.words (plain_at flat key.state) key.knowledge node deed
 
--- these are all that it can do there
-pub record AreDeedsAt (flat : Flat) (keys : List LazyState) (place node : ℕ) (deeds : List Deed) : Type 0 where
-  pub sound : (k : ℕ) (deed : Deed) → slice_get deeds k ≡ Some deed → CanMakeAt flat keys place node deed
-  pub all : (deed : Deed) → CanMakeAt flat keys place node deed → (k : ℕ) × (slice_get deeds k ≡ Some deed)
-
 -- the state after it is among them
 abbrev pub HasStepAt : Flat → List LazyState → (place node : ℕ) → Deed → Type 0
 HasStepAt flat keys place node deed = (key : LazyState) → slice_get keys place ≡ Some key → HasNext flat keys key node deed
@@ -94,10 +89,17 @@ abbrev pub IsFound : (most : ℕ) → (old new : List LazyState) → Option ℕ 
 IsFound most old new (Some place) = IsNewAt most old new place
 IsFound most old new None = new ≡ old
 
--- no node can act at the state at a place, which has these notes
+-- no node can act at the state at a place
+abbrev pub IsStillAt : Flat → List LazyState → (place : ℕ) → Type 0
+IsStillAt flat keys place = (node : ℕ) (deed : Deed) → ¬ CanMakeAt flat keys place node deed
+
+-- the state at a place has these notes
+abbrev pub HasNotesAt : List LazyState → (place : ℕ) → (notes : List Act) → Type 0
+HasNotesAt keys place notes = (key : LazyState) → slice_get keys place ≡ Some key → key.notes.items ≡ notes
+
+-- both
 abbrev pub IsEndWith : Flat → List LazyState → (place : ℕ) → (notes : List Act) → Type 0
-IsEndWith flat keys place notes = (key : LazyState) → slice_get keys place ≡ Some key
-    → ((node : ℕ) (deed : Deed) → ¬ CanMake flat.words (plain_at flat key.state) key.knowledge node deed) × (key.notes.items ≡ notes)
+IsEndWith flat keys place notes = IsStillAt flat keys place × HasNotesAt keys place notes
 
 -- the acts lead to the state at a place
 abbrev pub LeadTo : Sought → List LazyState → List Act → (place : ℕ) → Type 0
@@ -130,3 +132,8 @@ HasAllStepsAt flat keys place node = (deed : Deed) → CanMakeAt flat keys place
 abbrev pub CanMakeIfAny : Flat → List LazyState → (place : ℕ) → Option (ℕ × Deed) → Type 0
 CanMakeIfAny flat keys place (Some act) = CanMakeAt flat keys place act.0 act.1
 CanMakeIfAny flat keys place None = Unit {0}
+
+-- these acts, turned round, lead from the state at one place to that at another
+abbrev pub LeadsFrom : Sought → List LazyState → (from : ℕ) → (back : List Act) → (place : ℕ) → Type 0
+LeadsFrom sought keys from back place = (front : List Act) (key last : LazyState) → slice_get keys from ≡ Some key → slice_get keys place ≡ Some last
+    → LeadsTo sought.program.now sought.flat front key → LeadsTo sought.program.now sought.flat (front ++ reverse back) last

@@ -1,6 +1,7 @@
 // What is searched.
 
 ghost use Rattle.std.specs.Prelude.{◌≡◌};
+ghost use Rattle.lrc_exec.specs.Nodes.{AreNodes};
 ghost use Rattle.lrc_lazy_run.specs.Ways.{IsSought};
 
 use lrc_exec::code::Code;
@@ -18,6 +19,7 @@ pub struct Sought<'c> {
 
 /// What is searched of a program's code.
 pub fn sought_in<'c>(code: &'c Code<'c>, nodes: u8, most: usize) -> Sought<'c>
+    requires { AreNodes nodes }
     ensures sought { IsSought result }
     ensures program { result.program.now ≡ code.now }
     ensures nodes { result.flat.nodes ≡ nodes }

@@ -105,8 +105,8 @@ impl Ways {
         ensures nodes { IfErr result (λ fault. fault ≢ ExploreFault.BadNodes) }
         ensures too_many { IfErr result (λ fault. fault ≡ ExploreFault.TooMany → MeetsMore sought.now.program.now sought.now.flat.nodes sought.now.most) }
     {
-        for node in 0..sought.flat.nodes {
-            self.add_of(alloc, sought, place, node as usize)?;
+        for node in 0..sought.flat.nodes as usize {
+            self.add_of(alloc, sought, place, node)?;
         }
         Ok(())
     }
@@ -174,8 +174,7 @@ impl Ways {
         requires within { place < length self.now.states.keys }
         ensures { IfOk result (CanMakeIfAny sought.now.flat self.now.states.keys place) }
     {
-        for node in 0..sought.flat.nodes {
-            let node = node as usize;
+        for node in 0..sought.flat.nodes as usize {
             let deeds = self.deeds_at(alloc, sought, place, node)?;
             if deeds.len() == 1 && is_free(deeds[0]) {
                 return Ok(Some((node, deeds[0])));
@@ -215,8 +214,7 @@ impl Ways {
         requires ways { AreWays sought.now self.now }
         requires within { place < length self.now.states.keys }
     {
-        for node in 0..sought.flat.nodes {
-            let node = node as usize;
+        for node in 0..sought.flat.nodes as usize {
             if self.deeds_at(alloc, sought, place, node)?.len() > 1 {
                 return Ok(Some(node));
             }
@@ -265,8 +263,7 @@ impl Ways {
         ensures nodes { IfErr result (λ fault. fault ≢ ExploreFault.BadNodes) }
         ensures too_many { IfErr result (λ fault. fault ≡ ExploreFault.TooMany → MeetsMore sought.now.program.now sought.now.flat.nodes sought.now.most) }
     {
-        for node in 0..sought.flat.nodes {
-            let node = node as usize;
+        for node in 0..sought.flat.nodes as usize {
             let deeds = self.deeds_at(alloc, sought, place, node)?;
             if deeds.is_empty() {
                 continue;
@@ -340,13 +337,13 @@ impl Ways {
         ensures too_many { IfErr result (λ fault. fault ≡ ExploreFault.TooMany → MeetsMore sought.now.program.now sought.now.flat.nodes sought.now.most) }
     {
         let mut at = None;
-        for node in 0..sought.flat.nodes {
+        for node in 0..sought.flat.nodes as usize {
             let from = at.unwrap_or(place);
-            let deeds = self.deeds_at(alloc, sought, from, node as usize)?;
+            let deeds = self.deeds_at(alloc, sought, from, node)?;
             if deeds.is_empty() {
                 return Ok(None);
             }
-            at = self.step(alloc, sought, from, node as usize, deeds[0])?;
+            at = self.step(alloc, sought, from, node, deeds[0])?;
             if at.is_none() {
                 return Ok(None);
             }

@@ -23,15 +23,17 @@ pub struct Ways {
 }
 
 impl Ways {
-    ghost use Rattle.std.specs.Prelude.{◌≡◌, ◌≢◌, ◌<◌, ◌↔◌, IfOk, IfErr, OnOk, IsTrue, length};
+    ghost use Rattle.std.specs.Prelude.{◌≡◌, ◌≢◌, ◌<◌, ◌↔◌, ℕ, IfOk, IfErr, OnOk, IsTrue, Some, length, slice_get};
+    ghost use Rattle.lrc_trace.specs.declared.act.Deed.{Deed as DeedType};
     ghost use Rattle.lrc_explore.specs.Kept.{Grows};
     ghost use Rattle.lrc_lazy_search.specs.Searching.{HasKey, IsReached, MeetsMore};
-    ghost use Rattle.lrc_lazy_run.specs.Ways.{AreDeedsAt, AreKept, AreWays, CanMakeAt, ComesFrom, HasStepAt, IsEndWith, IsFound, IsPut, IsSought, LeadTo};
+    ghost use Rattle.lrc_lazy_run.specs.Ways.{AreKept, AreWays, CanMakeAt, ComesFrom, HasNotesAt, HasStepAt, IsEndWith, IsFound, IsPut, IsSought, IsStillAt, LeadTo};
 
     /// The start alone.
     pub fn begin(alloc: Global, sought: &Sought<'_>) -> Result<Ways, AllocError>
         requires { IsSought sought.now }
-        ensures { IfOk result (AreWays sought.now) }
+        ensures ways { IfOk result (AreWays sought.now) }
+        ensures none { IfOk result (λ ways. length ways.settled.items < length ways.states.keys) }
     {
         let first = LazyState::start(alloc, &sought.flat, sought.start)?;
         let mut states = IndexSet::new(alloc);
@@ -62,7 +64,10 @@ impl Ways {
         requires sought { IsSought sought.now }
         requires ways { AreWays sought.now self.now }
         requires within { place < length self.now.states.keys }
-        ensures { IfOk result (λ deeds. AreDeedsAt sought.now.flat self.now.states.keys place node deeds.items) }
+        ensures sound { IfOk result (λ deeds. (k : ℕ) (deed : DeedType) → slice_get deeds.items k ≡ Some deed
+            → CanMakeAt sought.now.flat self.now.states.keys place node deed) }
+        ensures all { IfOk result (λ deeds. (deed : DeedType) → CanMakeAt sought.now.flat self.now.states.keys place node deed
+            → (k : ℕ) × (slice_get deeds.items k ≡ Some deed)) }
     {
         self.states.as_slice()[place].deeds(alloc, &sought.flat, node)
     }
@@ -126,11 +131,7 @@ impl Ways {
     }
 
     /// Notes that steps lead on from the state at a place.
-    pub fn note_settled(
-        &mut self,
-        sought: &Sought<'_>,
-        place: usize,
-    ) -> Result<(), AllocError>
+    pub fn note_settled(&mut self, sought: &Sought<'_>, place: usize) -> Result<(), AllocError>
         requires ways { AreWays sought.now self.old }
         requires within { place < length self.old.states.keys }
         requires room { length self.old.settled.items < length self.old.states.keys }
@@ -155,13 +156,37 @@ impl Ways {
         requires within { place < length self.now.states.keys }
         ensures { IfOk result (λ ends. IsTrue ends ↔ IsEndWith sought.now.flat self.now.states.keys place notes.now) }
     {
-        for node in 0..sought.flat.nodes {
-            let deeds = self.deeds_at(alloc, sought, place, node as usize)?;
+        let still = self.is_still_at(alloc, sought, place)?;
+        Ok(still && self.has_notes_at(place, notes))
+    }
+
+    // Whether no node can act at a state.
+    fn is_still_at(
+        &self,
+        alloc: Global,
+        sought: &Sought<'_>,
+        place: usize,
+    ) -> Result<bool, AllocError>
+        requires sought { IsSought sought.now }
+        requires ways { AreWays sought.now self.now }
+        requires within { place < length self.now.states.keys }
+        ensures { IfOk result (λ still. IsTrue still ↔ IsStillAt sought.now.flat self.now.states.keys place) }
+    {
+        for node in 0..sought.flat.nodes as usize {
+            let deeds = self.deeds_at(alloc, sought, place, node)?;
             if !deeds.is_empty() {
                 return Ok(false);
             }
         }
-        Ok(self.states.as_slice()[place].notes.as_slice() == notes)
+        Ok(true)
+    }
+
+    // Whether a state has these notes.
+    fn has_notes_at(&self, place: usize, notes: &[Act]) -> bool
+        requires { place < length self.now.states.keys }
+        ensures { IsTrue result ↔ HasNotesAt self.now.states.keys place notes.now }
+    {
+        self.states.as_slice()[place].notes.as_slice() == notes
     }
 
     /// The acts that lead to a state.

@@ -1,9 +1,8 @@
 // Every outcome of the lazy runs of a program, as it is printed.
 
-ghost use Rattle.std.specs.Prelude.{◌≡◌, ◌≢◌, ◌++◌, IfErr, IfOk, length};
-ghost use Rattle.std.specs.List.{concat};
-ghost use Rattle.lrc_text.specs.Parts.{texts_of, whole_text};
-ghost use Rattle.lrc_lazy_text.specs.Listed.{AreSeedsFor, AreToldOf, ListsLazyOutcomes, MetTooManyLazily, TellsLazyOutcomes, lazy_head, marked_line, marked_lines, told_pair};
+ghost use Rattle.std.specs.Prelude.{◌≡◌, ◌≢◌, ◌++◌, IfErr, IfOk, OnOk, length};
+ghost use Rattle.lrc_text.specs.Parts.{whole_text};
+ghost use Rattle.lrc_lazy_text.specs.Listed.{AreSeedsFor, AreToldOf, ListsLazyOutcomes, MetTooManyLazily, TellsLazyOutcomes, lazy_head, marked_line, marked_lines, seed_mark, told_pair};
 
 use lrc_explore::outcomes::Outcome;
 use lrc_explore::search::ExploreFault;
@@ -107,11 +106,7 @@ fn sorted_lines(
 }
 
 // The lines, each with its seed, behind a first line.
-fn all_lines(
-    alloc: Global,
-    head: Vec<u8>,
-    told: &[ToldOutcome],
-) -> Result<Vec<Vec<u8>>, AllocError>
+fn all_lines(alloc: Global, head: Vec<u8>, told: &[ToldOutcome]) -> Result<Vec<Vec<u8>>, AllocError>
     ensures { IfOk result (λ parts. whole_text parts.items ≡ head.items ++ marked_lines told.now) }
 {
     let mut parts = Vec::new(alloc);
@@ -127,10 +122,19 @@ fn marked(alloc: Global, told: &ToldOutcome) -> Result<Vec<u8>, AllocError>
     ensures { IfOk result (λ line. line.items ≡ marked_line (told_pair told.now)) }
 {
     let mut line = Vec::new(alloc);
-    line.extend_from_slice(&told.line[..told.line.len().saturating_sub(1)])?;
-    if let Some(seed) = told.seed {
-        push_number(&mut line, b" # seed ", seed)?;
-    }
+    let front = &told.line[..told.line.len().saturating_sub(1)];
+    line.extend_from_slice(front)?;
+    push_seed(&mut line, told.seed)?;
     line.extend_from_slice(b"\n")?;
     Ok(line)
+}
+
+// Adds a seed, if there is one.
+fn push_seed(line: &mut Vec<u8>, seed: Option<u64>) -> Result<(), AllocError>
+    ensures { OnOk result (line.new.items ≡ line.old.items ++ seed_mark seed) }
+{
+    match seed {
+        Some(seed) => push_number(line, b" # seed ", seed),
+        None => Ok(()),
+    }
 }

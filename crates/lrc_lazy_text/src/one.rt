@@ -60,13 +60,7 @@ fn run_at(
     ensures nodes { IfErr result (λ fault. fault ≢ ExploreFault.BadNodes) }
     ensures too_many { IfErr result (λ fault. fault ≡ ExploreFault.TooMany → MetTooManyLazily program.now nodes.count most) }
 {
-    match lazy_run_with(
-        alloc,
-        program,
-        nodes.number(),
-        most,
-        &outcomes[place].notes,
-    )? {
+    match lazy_run_with(alloc, program, nodes.number(), most, &outcomes[place].notes)? {
         Some(acts) => Ok(acts),
         None => unreachable!(),
     }

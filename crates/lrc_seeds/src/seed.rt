@@ -1,9 +1,14 @@
 // The run in the random order of a seed, and the outcome that it has.
 
-ghost use Rattle.std.specs.Prelude.{◌≡◌, IfOk, option_map};
+ghost use Rattle.std.specs.Prelude.{◌≡◌, IfErr, IfOk, option_map};
 ghost use Rattle.lrc_exec.specs.Nodes.{AreNodes};
 ghost use Rattle.lrc_explore.specs.Notes.{notes_of};
 ghost use Rattle.lrc_lazy.specs.Lazy.{IsLazyRun};
+ghost use Rattle.lrc_world.specs.declared.keep.Keep.TheVariants.{Newest};
+ghost use Rattle.lrc_world.specs.declared.run.Order.TheVariants.{Random};
+ghost use Rattle.lrc_world.specs.Random.{WanderingWearsOut};
+ghost use Rattle.lrc_world.specs.Report.{IsWornFault};
+ghost use Rattle.lrc_world.specs.Runs.{IsRunIn};
 ghost use Rattle.lrc_world.specs.Setting.{options_of};
 ghost use Rattle.lrc_seeds.specs.Seeds.{AreNotesIfOver, IsAllOfSeed, seed_options};
 
@@ -15,7 +20,7 @@ use lrc_setting::setting::{Nodes, Setting, Steps};
 use lrc_trace::act::Act;
 use lrc_world::keep::Keep;
 use lrc_world::report::TurnFault;
-use lrc_world::run::{Order, run_in};
+use lrc_world::run::{Order, Run, run_in};
 use std::alloc::{AllocError, Global};
 
 /// What the nodes print in the run of a seed, and how they end, as notes of its acts. None where the run answers a fault, or where a node
@@ -28,18 +33,31 @@ pub fn notes_of_seed(
 ) -> Result<Option<Vec<Act>>, AllocError>
     ensures { IfOk result (λ notes. IsAllOfSeed program.now nodes.count seed (option_map (λ notes. notes.items) notes)) }
 {
+    match run_of_seed(alloc, program, nodes, seed) {
+        Ok(run) => notes_if_over(alloc, program, nodes.number(), &run.report.acts),
+        Err(TurnFault::Worn) => Ok(None),
+        Err(TurnFault::NoMemory) => Err(AllocError),
+    }
+}
+
+// The run of a seed.
+fn run_of_seed(
+    alloc: Global,
+    program: &Program,
+    nodes: Nodes,
+    seed: u64,
+) -> Result<Run, TurnFault>
+    ensures run { IfOk result (IsRunIn (Random seed) program.now nodes.count seed_options Newest) }
+    ensures fault { IfErr result (IsWornFault (WanderingWearsOut program.now nodes.count seed_options seed)) }
+{
     let setting = setting_of(nodes);
-    match run_in(
+    run_in(
         alloc,
         program,
         &setting,
         Order::Random(seed),
         Keep::Newest,
-    ) {
-        Ok(run) => notes_if_over(alloc, program, nodes.number(), &run.report.acts),
-        Err(TurnFault::Worn) => Ok(None),
-        Err(TurnFault::NoMemory) => Err(AllocError),
-    }
+    )
 }
 
 // What a run of so many nodes is made with where nothing else is said.

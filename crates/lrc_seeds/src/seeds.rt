@@ -1,9 +1,9 @@
 // The least seeds whose runs have outcomes.
 
-ghost use Rattle.std.specs.Prelude.{◌≡◌, ◌↔◌, ◌≤◌, [], length, IfOk, IsTrue, None, replicate};
+ghost use Rattle.std.specs.Prelude.{◌≡◌, ◌+◌, ◌↔◌, length, IfOk, IsTrue, OnOk};
 ghost use Rattle.std.specs.List.{list_all};
 ghost use Rattle.std.specs.Option.{is_some};
-ghost use Rattle.lrc_seeds.specs.Seeds.{AreLeastSeeds, AreMarked};
+ghost use Rattle.lrc_seeds.specs.Seeds.{AreLeastSeeds, AreMarked, IsMarked};
 
 use crate::seed::notes_of_seed;
 use lrc_explore::outcomes::Outcome;
@@ -27,12 +27,29 @@ pub fn least_seeds(
         if are_all_found(&seeds) {
             return Ok(seeds);
         }
-        let notes = notes_of_seed(alloc, program, nodes, u64::from(seed))?;
-        if let Some(notes) = notes {
-            mark(&mut seeds, outcomes, &notes, u64::from(seed));
-        }
+        try_seed(alloc, program, nodes, seed, outcomes, &mut seeds)?;
     }
     Ok(seeds)
+}
+
+// One seed more.
+fn try_seed(
+    alloc: Global,
+    program: &Program,
+    nodes: Nodes,
+    seed: u32,
+    outcomes: &[Outcome],
+    seeds: &mut Vec<Option<u64>>,
+) -> Result<(), AllocError>
+    requires { AreLeastSeeds program.now nodes.count seed outcomes.now seeds.old.items }
+    ensures { OnOk result (AreLeastSeeds program.now nodes.count (seed + 1) outcomes.now seeds.new.items) }
+{
+    let seed = u64::from(seed);
+    match notes_of_seed(alloc, program, nodes, seed)? {
+        Some(notes) => mark(seeds, outcomes, &notes, seed),
+        None => (),
+    }
+    Ok(())
 }
 
 // Whether each outcome has a seed.
@@ -48,9 +65,17 @@ fn mark(seeds: &mut Vec<Option<u64>>, outcomes: &[Outcome], notes: &[Act], seed:
     ensures { AreMarked outcomes.now notes.now seed seeds.old.items seeds.new.items }
 {
     for place in 0..outcomes.len() {
-        if seeds[place].is_none() && has_notes(&outcomes[place], notes) {
-            seeds[place] = Some(seed);
-        }
+        seeds[place] = marked(&outcomes[place], notes, seed, seeds[place]);
+    }
+}
+
+// The seed of an outcome, which may be this one.
+fn marked(outcome: &Outcome, notes: &[Act], seed: u64, before: Option<u64>) -> Option<u64>
+    ensures { IsMarked outcome.now notes.now seed before result }
+{
+    match before {
+        None if has_notes(outcome, notes) => Some(seed),
+        _ => before,
     }
 }
 
