@@ -45,11 +45,14 @@ fn try_seed(
     ensures { OnOk result (AreLeastSeeds program.now nodes.count (seed + 1) outcomes.now seeds.new.items) }
 {
     let seed = u64::from(seed);
-    match notes_of_seed(alloc, program, nodes, seed)? {
-        Some(notes) => mark(seeds, outcomes, &notes, seed),
-        None => (),
+    let notes = notes_of_seed(alloc, program, nodes, seed)?;
+    match notes {
+        Some(notes) => {
+            mark(seeds, outcomes, &notes, seed);
+            Ok(())
+        }
+        None => Ok(()),
     }
-    Ok(())
 }
 
 // Whether each outcome has a seed.
