@@ -62,7 +62,7 @@ marked_more program nodes tried outcomes notes old new all least marked = record
 none_more : (program : Program) (nodes tried : ℕ) (notes : List Act) (seed : Option ℕ) → IsAllOfSeed program nodes tried None
     → IsLeastSeed program nodes tried notes seed → IsLeastSeed program nodes (tried + 1) notes seed
 none_more program nodes tried notes (Some seed) all (lt, has, least) = (omega (arith, lt), has, least)
-none_more program nodes tried notes None all none s lt has = elim (cases_eq s tried) [
+none_more program nodes tried notes None all none = λ s lt has. elim (cases_eq s tried) [
   | inl now ↦
       let never : ◌≡◌ {A = Option (List Act)} None (Some notes) = (all notes).0 (subst (λ n. IsOutcomeOfSeed program nodes n notes) now has) in cc
   | inr apart ↦ none s (omega (arith, lt, apart)) has

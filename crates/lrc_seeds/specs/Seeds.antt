@@ -13,7 +13,7 @@ use Rattle.lrc_explore.specs.declared.outcomes.Outcome.{Outcome}
 use Rattle.lrc_lazy.specs.Lazy.{IsOver}
 
 -- what the command `sim` runs with where nothing else is said: 1,000,000 steps, no collection, and pages of 64 words
-abbrev pub seed_options : OptionsRecord
+unfoldable pub seed_options : OptionsRecord
 seed_options = record { steps = 1000000; collect = 0; first = 0; size = Words64 }
 
 -- There is a run in the random order of this seed: it answers no fault. No node can act after it, by the text, locks and barriers, and it

@@ -61,6 +61,7 @@ fn run_of_seed(
 }
 
 // What a run of so many nodes is made with where nothing else is said.
+#[tactic(auto, unfolding(crate::specs::Seeds::seed_options))]
 fn setting_of(nodes: Nodes) -> Setting
     ensures nodes { result.nodes.count ≡ nodes.count }
     ensures options { options_of result ≡ seed_options }

@@ -8,7 +8,7 @@ use Rattle.lrc_lazy_machine.proofs.Beginning.{first_notes}
 use Rattle.lrc_seeds.proofs.seed.notes_of.Goals as goal
 
 pub loop-act-init : goal.loop-act-init
-loop-act-init c = sym (first_notes c.args.nodes)
+loop-act-init c = c.new-notes.ensures.items ∙ sym (first_notes c.args.nodes)
 
 pub loop-act-preserved : goal.loop-act-preserved
 loop-act-preserved c =
