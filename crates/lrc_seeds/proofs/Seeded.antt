@@ -36,19 +36,27 @@ module _ (program : Program) (nodes seed : ℕ) where
       made.events.led (ended keep run made) in
       (says_the_same program nodes seed_options (Random seed) (Random seed) keep other run again made made_again events).acts
 
+  run_notes : (keep : Keep) (run : Run) (other : List Act) → IsRunOfSeed keep run → IsOutcomeOfSeed program nodes seed other
+      → notes_of nodes run.report.acts.items ≡ other
+  run_notes keep run other made o = ap (λ acts. notes_of nodes acts) (sym (same_acts keep o.keep run o.run made o.made)) ∙ o.are
+
+  run_over : (keep : Keep) (run : Run) (other : List Act) → IsRunOfSeed keep run → IsOutcomeOfSeed program nodes seed other
+      → IsOver program nodes run.report.acts.items
+  run_over keep run other made o = subst (λ acts. IsOver program nodes acts) (same_acts keep o.keep run o.run made o.made) o.over
+
+  run_has : (keep : Keep) (run : Run) (notes : List Act) → IsRunOfSeed keep run → IsOver program nodes run.report.acts.items
+      → notes_of nodes run.report.acts.items ≡ notes → IsOutcomeOfSeed program nodes seed notes
+  run_has keep run notes made over are = record { run = run; keep = keep; made = made; over = over; are = are }
+
   pub all_of_run : (keep : Keep) (run : Run) → IsRunOfSeed keep run → (found : Option (List Act)) → AreNotesIfOver program nodes run.report.acts.items found
       → IsAllOfSeed program nodes seed found
-  all_of_run keep run made (Some notes) (over, are) other = (
-    λ o.
-        let acts = same_acts keep o.keep run o.run made o.made in
-        ap Some (are ∙ ap (notes_of nodes) (sym acts) ∙ o.are),
-    λ same. record { run = run; keep = keep; made = made; over = over; are = sym are ∙ same_Some notes other same },
+  all_of_run keep run made (Some notes) ends other = (
+    λ o. ap Some (ends.1 ∙ run_notes keep run other made o),
+    λ same. run_has keep run other made ends.0 (sym ends.1 ∙ same_Some notes other same),
   )
   all_of_run keep run made None never other = (
-    λ o.
-        let acts = same_acts keep o.keep run o.run made o.made in
-        absurd (never (subst (IsOver program nodes) acts o.over)),
-    λ same. cc,
+    λ o. absurd (never (run_over keep run other made o)),
+    λ same. let no : ◌≡◌ {A = Option (List Act)} None (Some other) = same in cc,
   )
 
   -- where the run answers a fault there is none
@@ -58,5 +66,5 @@ module _ (program : Program) (nodes seed : ℕ) where
         let never = wandering_never_worn program nodes seed_options seed o.run.events.items o.made.made o.made.events.led (ended o.keep o.run o.made)
         o.made.makes (o.made.kept.short o.made.made o.made.makes) in
         absurd (never worn),
-    λ same. cc,
+    λ same. let no : ◌≡◌ {A = Option (List Act)} None (Some other) = same in cc,
   )
