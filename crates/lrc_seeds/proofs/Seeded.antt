@@ -17,6 +17,9 @@ use Rattle.lrc_world_laws.proofs.OfWandering.{wandering_determined, wandering_ne
 use Rattle.lrc_world_laws.proofs.Reports.{says_the_same}
 use Rattle.lrc_seeds.specs.Seeds.{AreNotesIfOver, IsAllOfSeed, IsOutcomeOfSeed, seed_options}
 
+no_notes : (notes : List Act) → ◌≡◌ {A = Option (List Act)} None (Some notes) → ⊥
+no_notes notes same = cc
+
 module _ (program : Program) (nodes seed : ℕ) where
   abbrev IsRunOfSeed : Keep → Run → Type 0
   IsRunOfSeed keep run = IsRunIn (Random seed) program nodes seed_options keep run
@@ -56,7 +59,7 @@ module _ (program : Program) (nodes seed : ℕ) where
   )
   all_of_run keep run made None never other = (
     λ o. absurd (never (run_over keep run other made o)),
-    λ same. let no : ◌≡◌ {A = Option (List Act)} None (Some other) = same in cc,
+    λ same. absurd (no_notes other same),
   )
 
   -- where the run answers a fault there is none
@@ -66,5 +69,5 @@ module _ (program : Program) (nodes seed : ℕ) where
         let never = wandering_never_worn program nodes seed_options seed o.run.events.items o.made.made o.made.events.led (ended o.keep o.run o.made)
         o.made.makes (o.made.kept.short o.made.made o.made.makes) in
         absurd (never worn),
-    λ same. let no : ◌≡◌ {A = Option (List Act)} None (Some other) = same in cc,
+    λ same. absurd (no_notes other same),
   )
