@@ -41,23 +41,12 @@ pub fn notes_of_seed(
 }
 
 // The run of a seed.
-fn run_of_seed(
-    alloc: Global,
-    program: &Program,
-    nodes: Nodes,
-    seed: u64,
-) -> Result<Run, TurnFault>
+fn run_of_seed(alloc: Global, program: &Program, nodes: Nodes, seed: u64) -> Result<Run, TurnFault>
     ensures run { IfOk result (IsRunIn (Random seed) program.now nodes.count seed_options Newest) }
     ensures fault { IfErr result (IsWornFault (WanderingWearsOut program.now nodes.count seed_options seed)) }
 {
     let setting = setting_of(nodes);
-    run_in(
-        alloc,
-        program,
-        &setting,
-        Order::Random(seed),
-        Keep::Newest,
-    )
+    run_in(alloc, program, &setting, Order::Random(seed), Keep::Newest)
 }
 
 // What a run of so many nodes is made with where nothing else is said.
