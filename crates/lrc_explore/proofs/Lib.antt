@@ -9,7 +9,6 @@ pub mod Reduced
 pub mod Reducing
 pub mod Meetings
 pub mod Endings
-pub mod Spots
 pub mod Deeds
 pub mod Same
 pub mod Pairs
