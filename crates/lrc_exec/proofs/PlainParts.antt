@@ -1,14 +1,12 @@
 -- What an answer keeps of a thread, and what is there that a deed names.
-use Rattle.std.proofs.Common.{◌≡◌, ℕ, ◌<◌, ◌≤◌, Bool, true, false, List, [], ◌∷◌, length, get_or, set, Option}
-use Rattle.std.proofs.Common.{Some, None, refl, sym, ap, ◌∙◌, subst, ⊎_elim, arith, length-set}
-use Rattle.std.specs.Prelude.{IsSome, IsSomeAnd, option_map, option_and_then, map, slice_index, if◌then◌else◌, All}
-use Rattle.std.specs.Vec.{with_item}
+use Rattle.std.proofs.Common.{◌≡◌, ℕ, ◌<◌, Bool, true, false, length, Option}
+use Rattle.std.proofs.Common.{Some, None, refl, sym, subst, ⊎_elim}
+use Rattle.std.specs.Prelude.{IsSome, option_map, option_and_then, slice_index, if◌then◌else◌}
 use Rattle.std.proofs.lemmas.Bool.{cases_lt}
-use Rattle.std.proofs.lemmas.List.{get_or-map, get_or-set_same, map-set, length-map, get_or_past}
-use Rattle.std.proofs.lemmas.List.Elements.{All-set}
-use Rattle.lrc_exec.specs.Meaning.{Thread, Setting, Next, quiet, prints, reads, writes, acquires, releases, arrives, departs, traps, ends, next_of}
-use Rattle.lrc_exec.specs.Ask.{ask_of, TakesAnswer, done, answered}
-use Rattle.lrc_exec.specs.Plain.{Plain, thread_in, with_thread, nobody_holds, all_arrived, deed_done, plain_step}
+use Rattle.std.proofs.lemmas.List.{get_or_past}
+use Rattle.lrc_exec.specs.Meaning.{Thread, Next, quiet, prints, reads, writes, acquires, releases, arrives, departs, traps, ends, next_of}
+use Rattle.lrc_exec.specs.Ask.{done, answered}
+use Rattle.lrc_exec.specs.Plain.{Plain, thread_in, nobody_holds, all_arrived, deed_done, plain_step}
 use Rattle.lrc_trace.specs.declared.act.Deed.{Deed}
 use Rattle.lrc_trace.specs.declared.act.Deed.TheVariants.{Quiet, Print, Read, Write, Acquire, Release, Arrive, Depart, Trap, End}
 use Rattle.lrc_exec.proofs.NextLaws.{IsFine, next_of-fine}

@@ -1,5 +1,5 @@
 -- States without the code, as the states of the plain machine that they stand for.
-use Rattle.std.specs.Prelude.{◌≡◌, ◌≤◌, ◌<◌, ℕ, List, Option, Some, None, false, true, All, if◌then◌else◌, length, map, replicate, slice_get, slice_index, slice_set}
+use Rattle.std.specs.Prelude.{◌≡◌, ◌≤◌, ◌<◌, ℕ, List, Option, Some, None, true, All, if◌then◌else◌, length, map, replicate, slice_get, slice_index, slice_set}
 use Rattle.std.specs.List.{range_with_len}
 use Rattle.lrc_trace.specs.declared.act.Deed.{Deed}
 use Rattle.lrc_trace.specs.declared.act.Deed.TheVariants as deeds

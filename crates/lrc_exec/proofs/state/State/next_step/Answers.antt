@@ -1,14 +1,10 @@
 -- What a node can do is the deed of what its thread asks for.
-use Rattle.std.proofs.Common.{◌≡◌, ◌∙◌, ◌<◌, ◌≤◌, true, false, Some, None, length, get_or, refl, sym, ap, subst}
+use Rattle.std.proofs.Common.{◌∙◌, ◌<◌, ◌≤◌, length, get_or, sym, ap, subst}
 use Rattle.std.specs.Prelude.{option_map}
-use Rattle.lrc_trace.specs.declared.act.Deed.TheVariants as deeds
-use Rattle.lrc_exec.specs.declared.spot.Wish.{Wish}
 use Rattle.lrc_exec.specs.declared.state.Step.{Step}
-use Rattle.lrc_exec.specs.Plain.{all_arrived}
-use Rattle.lrc_exec.specs.Spots.{thread_at}
 use Rattle.lrc_exec.specs.States.{plain_at}
-use Rattle.lrc_exec.proofs.PlainDeeds.{asked_fits, deed_of, if_first}
-use Rattle.lrc_exec.proofs.States.{going_thread, no_thread, own_deed, placed_at, stopped_thread}
+use Rattle.lrc_exec.proofs.PlainDeeds.{deed_of}
+use Rattle.lrc_exec.proofs.States.{no_thread, placed_at, stopped_thread}
 use Rattle.lrc_exec.proofs.state.State.next_step.Goals as goal
 
 pub returns-in_err-spot-clause-deed : goal.returns-in_err-spot-clause-deed

@@ -2,7 +2,7 @@
 use Rattle.std.proofs.Common.{◌≡◌, ◌∙◌, ◌+◌, ℕ, Some, None, ap, arith, subst, sym, ⊎_elim}
 use Rattle.std.specs.Prelude.{slice_index, slice_set}
 use Rattle.std.proofs.lemmas.List.{get_or_read}
-use Rattle.lrc_trace.specs.declared.act.Deed.TheVariants.{Quiet, Print, Read, Write, Acquire, Release, Arrive, Depart, Trap, End}
+use Rattle.lrc_trace.specs.declared.act.Deed.TheVariants.{Quiet, Print, Write, Acquire, Release, Arrive, Depart, Trap, End}
 use Rattle.lrc_exec.specs.Plain.{Plain}
 use Rattle.lrc_exec.proofs.PlainDeeds.{has_thread, made_as, resumes}
 use Rattle.lrc_exec.proofs.PlainParts.{step-fits}
