@@ -6,7 +6,7 @@ use Rattle.std.specs.Cmp.{IsTotalOrder}
 use Rattle.std.specs.List.{AllByRecursion}
 use Rattle.std.specs.List.Sorted.{IsStrictlySortedBy}
 use Rattle.std.proofs.lemmas.List.Elements.{All-append, All-from_recursion, Contains-get_or, recursion_from_All}
-use Rattle.lrc_store.proofs.Orders.{Contains-first, Contains-later, cases_Contains, none_Contains}
+use Rattle.lrc_time.proofs.Elements.{Contains-first, Contains-later, cases_Contains, none_Contains}
 
 module _ {X : Type 0} (cmp : X → X → Ordering) where
   -- a list, and behind it one of which every element is above each of its own
