@@ -1,7 +1,8 @@
 use Rattle.std.proofs.Common.{◌<◌, ◌≤◌, ◌∙◌, true, length, get_or, sym, ap, subst}
 use Rattle.lrc_exec.specs.declared.machine.Ask.TheVariants.{Read, Write}
 use Rattle.lrc_explore.specs.Meeting.{next_access_in}
-use Rattle.lrc_explore.proofs.Deeds.{going_thread, no_thread, none_asked, own_access, placed_at, stopped_thread}
+use Rattle.lrc_exec.proofs.States.{going_thread, no_thread, placed_at, stopped_thread}
+use Rattle.lrc_explore.proofs.Accesses.{none_asked, own_access}
 use Rattle.lrc_explore.proofs.seen.next_access.Goals as goal
 use Rattle.lrc_explore.proofs.seen.next_access.Goals.{then-spot-via-then-spot, then-spot-via-else-spot+then-spot-2}
 
