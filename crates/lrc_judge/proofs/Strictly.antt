@@ -1,12 +1,48 @@
--- Lists that ascend strictly.
-use Rattle.std.proofs.Common.{◌≡◌, ◌∙◌, ⊎_elim, List, [], ◌∷◌, ◌++◌, get_or, Less, Ordering, refl, sym, ap, subst}
-use Rattle.std.specs.Prelude.{Contains}
+-- The elements of a list, and lists that ascend strictly.
+use Rattle.std.proofs.Common.{◌≡◌, ◌∙◌, ◌⊎◌, ⊎_elim, ℕ, zero, suc, Bool, true, false, cond, List, [], ◌∷◌, ◌++◌, get_or, Less, Ordering, inl, inr, refl, sym, ap, subst, arith}
+use Rattle.std.specs.Prelude.{◌↔◌, Contains}
 use Rattle.std.specs.Ordering.{ordering_reverse}
 use Rattle.std.specs.Cmp.{IsTotalOrder}
-use Rattle.std.specs.List.{AllByRecursion}
+use Rattle.std.specs.List.{AllByRecursion, filter}
 use Rattle.std.specs.List.Sorted.{IsStrictlySortedBy}
-use Rattle.std.proofs.lemmas.List.Elements.{All-append, All-from_recursion, Contains-get_or, recursion_from_All}
-use Rattle.lrc_time.proofs.Elements.{Contains-first, Contains-later, cases_Contains, none_Contains}
+use Rattle.std.proofs.lemmas.Bool.{true≢false}
+use Rattle.std.proofs.lemmas.List.Elements.{All-append, All-contains, All-contains_itself, All-filter, All-from_recursion, Contains-get_or, filter_passes, recursion_from_All}
+
+module _ {X : Type 0} where
+  pub Contains-first : (x : X) (xs : List X) → Contains (x ∷ xs) x
+  Contains-first x xs = (zero, omega arith, refl)
+
+  pub Contains-later : (x : X) (xs : List X) (y : X) → Contains xs y → Contains (x ∷ xs) y
+  Contains-later x xs y in_rest = (suc in_rest.0, omega (arith, in_rest.1), in_rest.2)
+
+  pub cases_Contains : (x : X) (xs : List X) (y : X) → Contains (x ∷ xs) y → (x ≡ y) ⊎ Contains xs y
+  cases_Contains x xs y (zero, within, same) = inl same
+  cases_Contains x xs y (suc k, within, same) = inr (k, omega arith, same)
+
+  pub none_Contains : (y : X) → Contains [] y → ⊥
+  none_Contains y within = omega (arith, within.1)
+
+-- what passes a test is in the list that a filter leaves
+module _ {X : Type 0} (test : X → Bool) (y : X) (passes : test y ≡ true) where
+  kept_by : (x : X) (xs : List X) (b : Bool) → test x ≡ b → (x ≡ y) ⊎ Contains xs y → (Contains xs y → Contains (filter test xs) y)
+      → Contains (cond b (x ∷ filter test xs) (filter test xs)) y
+  kept_by x xs true is (inl same) rest = (zero, omega arith, same)
+  kept_by x xs true is (inr later) rest = Contains-later x (filter test xs) y (rest later)
+  kept_by x xs false is (inl same) rest = absurd (true≢false (sym passes ∙ ap test (sym same) ∙ is))
+  kept_by x xs false is (inr later) rest = rest later
+
+  kept : (xs : List X) → Contains xs y → Contains (filter test xs) y
+  kept [] there = absurd (none_Contains y there)
+  kept (x ∷ xs) there = kept_by x xs (test x) refl (cases_Contains x xs y there) (kept xs)
+
+pub filter-Contains : {X : Type 0} (test : X → Bool) (xs : List X) (y : X) → Contains (filter test xs) y ↔ (Contains xs y × (test y ≡ true))
+filter-Contains test xs y = (
+  λ there. (
+    All-contains (Contains xs) (filter test xs) y (All-filter test (Contains xs) xs (All-contains_itself xs)) there,
+    All-contains (λ x. test x ≡ true) (filter test xs) y (filter_passes test xs) there,
+  ),
+  λ both. kept test y both.1 xs both.0,
+)
 
 module _ {X : Type 0} (cmp : X → X → Ordering) where
   -- a list, and behind it one of which every element is above each of its own
