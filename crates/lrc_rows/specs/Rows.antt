@@ -3,9 +3,8 @@ use Rattle.std.specs.Prelude.{◌≡◌, ℕ, ◌<◌, ◌≤◌, List, Option, 
 use Rattle.std.specs.List.{IsDistinct}
 use Rattle.lrc_trace.specs.declared.act.Act.{Act}
 use Rattle.lrc_exec.specs.declared.spot.Spot.{Spot}
-use Rattle.lrc_exec.specs.contracts.spot.SpotPartialEq.TheImpl.{eq-value as spot_eq}
 use Rattle.lrc_explore.specs.declared.noted.Noted.{Noted}
-use Rattle.lrc_explore.specs.Kept.{Grows}
+use Rattle.lrc_explore.specs.Kept.{AreSpotsDistinct, Grows}
 use Rattle.lrc_steps.specs.Taking.{IsCounted}
 use Rattle.lrc_rows.specs.declared.parts.Shared.{Shared}
 use Rattle.lrc_rows.specs.declared.parts.Notes.{Notes}
@@ -73,9 +72,16 @@ pub record WidensRows (old new : Rows) : Type 0 where
   pub notes : Grows old.notes.keys new.notes.keys
   pub rows : Grows old.rows.keys new.rows.keys
 
+-- no two of them are equal
+abbrev pub AreSharedDistinct : List Shared → Type 0
+AreSharedDistinct keys = IsDistinct shared_eq.it keys
+
+abbrev pub AreNotesDistinct : List Notes → Type 0
+AreNotesDistinct keys = IsDistinct notes_eq.it keys
+
 -- no two parts are equal, and no two rows
 pub record AreRowsDistinct (all : Rows) : Type 0 where
-  pub threads : IsDistinct spot_eq.it all.threads.keys
-  pub shared : IsDistinct shared_eq.it all.shared.keys
-  pub notes : IsDistinct notes_eq.it all.notes.keys
+  pub threads : AreSpotsDistinct all.threads.keys
+  pub shared : AreSharedDistinct all.shared.keys
+  pub notes : AreNotesDistinct all.notes.keys
   pub rows : IsDistinct row_eq.it all.rows.keys

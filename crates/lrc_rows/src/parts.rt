@@ -1,13 +1,9 @@
 // The parts of states, each once, by numbers in the order in which they first came.
 
 ghost use Rattle.std.specs.Prelude.{◌≡◌, ◌≤◌, IfOk, OnOk, Some, length, map, slice_get};
-ghost use Rattle.std.specs.List.{IsDistinct};
-ghost use Rattle.lrc_exec.specs.contracts.spot.SpotPartialEq.TheImpl.{eq-value as spot_eq};
 ghost use Rattle.lrc_explore.specs.Kept.{AreSpotsDistinct, Grows};
 ghost use Rattle.lrc_steps.specs.Taking.{count_of};
-ghost use Rattle.lrc_rows.specs.contracts.parts.SharedPartialEq.TheImpl.{eq-value as shared_eq};
-ghost use Rattle.lrc_rows.specs.contracts.parts.NotesPartialEq.TheImpl.{eq-value as notes_eq};
-ghost use Rattle.lrc_rows.specs.Rows.{AreNotesAt, AreThreadsAt, HaveThreads, IsSharedAt};
+ghost use Rattle.lrc_rows.specs.Rows.{AreNotesAt, AreNotesDistinct, AreSharedDistinct, AreThreadsAt, HaveThreads, IsSharedAt};
 
 use indexmap::IndexSet;
 use lrc_exec::spot::Spot;
@@ -44,27 +40,30 @@ pub fn thread_number(threads: &mut IndexSet<Spot>, thread: Spot) -> Result<u32, 
     ensures there { IfOk result (λ number. slice_get threads.new.keys number ≡ Some thread) }
 {
     let (place, _new) = threads.insert_full(thread)?;
-    short(place)
+    let number = short(place)?;
+    Ok(number)
 }
 
 /// The number of what is shared: its own, where it came before, and else the next.
 pub fn shared_number(all: &mut IndexSet<Shared>, shared: Shared) -> Result<u32, AllocError>
     ensures grows { OnOk result (Grows all.old.keys all.new.keys) }
-    ensures distinct { OnOk result (IsDistinct shared_eq.it all.new.keys) }
+    ensures distinct { OnOk result (AreSharedDistinct all.new.keys) }
     ensures there { IfOk result (λ number. IsSharedAt all.new.keys number shared.memory.items shared.holders.items) }
 {
     let (place, _new) = all.insert_full(shared)?;
-    short(place)
+    let number = short(place)?;
+    Ok(number)
 }
 
 /// The number of notes: their own, where they came before, and else the next.
 pub fn notes_number(all: &mut IndexSet<Notes>, notes: Notes) -> Result<u32, AllocError>
     ensures grows { OnOk result (Grows all.old.keys all.new.keys) }
-    ensures distinct { OnOk result (IsDistinct notes_eq.it all.new.keys) }
+    ensures distinct { OnOk result (AreNotesDistinct all.new.keys) }
     ensures there { IfOk result (λ number. AreNotesAt all.new.keys number notes.acts.items) }
 {
     let (place, _new) = all.insert_full(notes)?;
-    short(place)
+    let number = short(place)?;
+    Ok(number)
 }
 
 /// The numbers of the threads of nodes, and 0 past them. For the threads of more than 16 nodes there is no memory.
@@ -109,7 +108,11 @@ pub fn threads_at(
 pub fn counted(alloc: Global, spots: &[Spot]) -> Result<Vec<u64>, AllocError>
     ensures { IfOk result (λ arrivals. arrivals.items ≡ map count_of spots.now) }
 {
-    spots.iter().map(count_of).collect(alloc)
+    let mut arrivals = Vec::new(alloc);
+    for spot in spots {
+        arrivals.push(count_of(spot))?;
+    }
+    Ok(arrivals)
 }
 
 fn count_of(spot: &Spot) -> u64
