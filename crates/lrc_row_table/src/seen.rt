@@ -48,18 +48,24 @@ impl Table {
 
     /// Whether no node can make an act.
     pub fn is_still(&self, row: &Row) -> bool {
-        let shared = &self.rows.shared.as_slice()[row.shared as usize];
+        let departs = self.all_wait(row);
         for node in 0..self.rows.nodes {
-            let waits = match self.next(row, node) {
-                Next::Stopped | Next::Waits => true,
-                Next::Acquires(lock) => shared.holders[lock as usize].is_some(),
-                _ => false,
-            };
-            if !waits {
+            if self.can_act(row, node, departs) {
                 return false;
             }
         }
-        !self.all_wait(row)
+        true
+    }
+
+    // Whether a node can make an act, where those that wait depart or do not.
+    fn can_act(&self, row: &Row, node: usize, departs: bool) -> bool {
+        let shared = &self.rows.shared.as_slice()[row.shared as usize];
+        match self.next(row, node) {
+            Next::Stopped => false,
+            Next::Waits => departs,
+            Next::Acquires(lock) => shared.holders[lock as usize].is_none(),
+            Next::Turns | Next::Reads(_) | Next::Writes(..) => true,
+        }
     }
 
     /// Whether some node has neither ended nor trapped.
