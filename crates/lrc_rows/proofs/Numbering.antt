@@ -34,5 +34,5 @@ past_more numbers number node past k le =
 pub zeros : (n k : ℕ) → slice_index (replicate n 0) k ≡ 0
 zeros n k = elim (cases_lt k n) [
   | inl lt ↦ get_or-replicate n k 0 0 lt
-  | inr le ↦ get_or_past (replicate n 0) k 0 (omega (arith, le, length-replicate n 0))
+  | inr le ↦ get_or_past (replicate n 0) k 0 (omega (arith, le, length-replicate {A = ℕ} n 0))
 ]

@@ -97,15 +97,17 @@ impl Rows {
         ensures there { IfOk result (λ added. IsRowAt self.new added.0 noted) }
         ensures added { IfOk result (λ added. IsAddedAt (row_count self.old) (row_count self.new) added.0 added.1) }
     {
-        let threads = threads_of(&mut self.threads, &noted.state.spots)?;
+        let state = noted.state;
+        let acts = noted.notes;
+        let threads = threads_of(&mut self.threads, &state.spots)?;
         let shared = shared_number(
             &mut self.shared,
             Shared {
-                memory: noted.state.memory,
-                holders: noted.state.holders,
+                memory: state.memory,
+                holders: state.holders,
             },
         )?;
-        let notes = notes_number(&mut self.notes, Notes { acts: noted.notes })?;
+        let notes = notes_number(&mut self.notes, Notes { acts })?;
         let (place, added) = self.put(Row {
             threads,
             shared,

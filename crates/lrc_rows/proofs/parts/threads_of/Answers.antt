@@ -29,7 +29,7 @@ loop-node-preserved c =
       grows = grows_again i.grows e.grows;
       distinct = e.distinct;
       long = length-set numbers node number ∙ i.long;
-      each = numbered_more old new numbers number spots node e.grows (let n = i.long in omega (arith, within, n, c.if-spots.false)) within i.each
+      each = numbered_more old new numbers number spots node e.grows (let n = i.long in omega (arith, within, n, c.if-spots-gt16.false)) within i.each
           (e.there ∙ sym (slice_get-get_or spots node _ within));
       past = past_more numbers number node i.past;
     }
