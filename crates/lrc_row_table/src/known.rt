@@ -6,7 +6,7 @@ use lrc_explore::noted::Noted;
 use lrc_explore::notes::note;
 use lrc_explore::search::ExploreFault;
 use lrc_live::forget_spot;
-use lrc_row_steps::next::{Next, next_of, settled_after};
+use lrc_row_steps::next::{Next, Settled, next_of, settled_after};
 use lrc_rows::parts::{Notes, Shared, notes_number, shared_number, short, thread_number};
 use lrc_rows::rows::Row;
 use lrc_trace::act::{Act, Deed};
@@ -117,8 +117,18 @@ impl Table {
             return Err(ExploreFault::TooMany);
         };
         forget_spot(means.live, &mut settled.spot);
+        Ok(self.keep_after(&means.flat, asked, settled)?)
+    }
+
+    // Keeps what comes of a thread: its place.
+    fn keep_after(
+        &mut self,
+        flat: &Flat,
+        asked: Asked,
+        settled: Settled,
+    ) -> Result<usize, AllocError> {
         let thread = thread_number(&mut self.rows.threads, settled.spot)?;
-        self.complete(&means.flat)?;
+        self.complete(flat)?;
         let place = self.afters.len();
         let after = After {
             thread,
