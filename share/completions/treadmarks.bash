@@ -14,7 +14,7 @@ _treadmarks_options() {
     chart) echo "--nodes --steps --collect --order --page --events --seed --threads --acts --text --from --to --hide --source" ;;
     judge) echo "--nodes --pairs" ;;
     races) echo "--as --group" ;;
-    explore) echo "--nodes --most --outcomes --outcome" ;;
+    explore) echo "--nodes --most --outcomes --outcome --memory --tries" ;;
     esac
 }
 
@@ -27,6 +27,7 @@ _treadmarks_values() {
     *,--order) echo "oldest newest twice random" ;;
     *,--page) echo "64 256" ;;
     *,--hide) echo "quiet" ;;
+    *,--memory) echo "flat lazy" ;;
     *,--events | *,--acts) echo FILE ;;
     *,--threads | *,--messages | *,--text | *,--source | *,--pairs | *,--group | *,--outcomes) ;;
     *,--*) echo NUMBER ;;

@@ -101,4 +101,6 @@ complete -c treadmarks -n '__fish_seen_subcommand_from explore' -l nodes -r -f -
 complete -c treadmarks -n '__fish_seen_subcommand_from explore' -l most -r -f -d 'how many states the search may meet'
 complete -c treadmarks -n '__fish_seen_subcommand_from explore' -l outcomes -d 'show every outcome'
 complete -c treadmarks -n '__fish_seen_subcommand_from explore' -l outcome -r -f -d 'show a run that has this outcome'
+complete -c treadmarks -n '__fish_seen_subcommand_from explore' -l memory -r -f -a 'flat lazy' -d 'whose runs have the outcomes'
+complete -c treadmarks -n '__fish_seen_subcommand_from explore' -l tries -r -f -d 'of the lazy outcomes: how many seeds are tried'
 complete -c treadmarks -n '__fish_seen_subcommand_from help' -f -a 'check lint plain sim run trace step explain why stats chart judge races explore help version'

@@ -15,7 +15,7 @@ use Rattle.clap.specs.declared.builder.value_parser.ValueParser.TheVariants.{Uns
 use Rattle.clap.specs.declared.error.kind.ErrorKind.TheVariants.{InvalidValue, ValueValidation}
 use Rattle.clap.proofs.ValueTestLemmas.{accepts-Accepts}
 use Rattle.lrc_args.specs.CommandLine.{IsRequestTaken}
-use Rattle.lrc_commands.specs.Commands.{act, bare_number, chart_command, check_command, collect, explain_command, explore_command, flag_option, form, help_command, judge_command, lint_command, nodes, number_option, order, page}
+use Rattle.lrc_commands.specs.Commands.{act, bare_number, chart_command, check_command, collect, explain_command, explore_command, flag_option, form, help_command, judge_command, lint_command, memory, nodes, number_option, order, page}
 use Rattle.lrc_commands.specs.Commands.{plain_command, races_command, run_command, sim_command, stats_command, step_command, steps, trace_command, trace_form, treadmarks, treadmarks_shape, version_command}
 use Rattle.lrc_commands.specs.Commands.{why_command}
 use Rattle.lrc_args.specs.Options.{HasValue, IsBareNumber, IsChartTaken, IsExploreTaken, IsFlagOption, IsJudgeTaken, IsNumberOption, IsPlainTaken, IsRunTaken}
@@ -246,12 +246,18 @@ explore_keyed = (
     (
       record { own = refl; acts = inl (refl, lit< tt) },
       (
-        record { own = refl; acts = inr (inl (refl, lit< tt)) },
+        record { own = refl; acts = inl (refl, lit< tt) },
         (
-          record { own = refl; acts = inl (refl, lit< tt) },
+          record { own = refl; acts = inr (inl (refl, lit< tt)) },
           (
-            record { own = refl; acts = inr (inr refl) },
-            tt,
+            record { own = refl; acts = inl (refl, lit< tt) },
+            (
+              record { own = refl; acts = inl (refl, lit< tt) },
+              (
+                record { own = refl; acts = inr (inr refl) },
+                tt,
+              ),
+            ),
           ),
         ),
       ),
@@ -465,8 +471,10 @@ explore_taken words none =
       file = file;
       nodes = number_taken explore_built rows level (codes "nodes") (codes "1") refl;
       most = number_taken explore_built rows level (codes "most") (codes "1000000") refl;
+      memory = level.there (filled memory) refl (lit< tt);
       outcomes = flag_taken explore_built rows level (codes "outcomes") refl;
       outcome = bare_taken explore_built rows level (codes "outcome") refl;
+      tries = bare_taken explore_built rows level (codes "tries") refl;
     }
 
 lint_taken : (words : List Text) → level_fault lint_built [] nothing_held words false [] ≡ [] → HasValue (codes "FILE") (rows_after lint_built.rules [] words)

@@ -17,6 +17,7 @@ use Rattle.lrc_args.specs.declared.choice.Exploring.{Exploring}
 use Rattle.lrc_args.specs.declared.choice.ForeignActs.{ForeignActs}
 use Rattle.lrc_args.specs.declared.choice.Form.{Form}
 use Rattle.lrc_args.specs.declared.choice.Judging.{Judging}
+use Rattle.lrc_args.specs.declared.choice.Memory.{Memory}
 use Rattle.lrc_args.specs.declared.choice.PlainRun.{PlainRun}
 use Rattle.lrc_args.specs.declared.choice.Racing.{Racing}
 use Rattle.lrc_args.specs.declared.choice.Request.{Request}
@@ -28,11 +29,11 @@ use Rattle.lrc_args.specs.declared.choice.Topic.{Topic}
 use Rattle.lrc_args.specs.declared.choice.Topic.TheVariants.{Commands, Command, Version}
 use Rattle.lrc_args.specs.declared.choice.Way.{Way}
 use Rattle.lrc_args.specs.declared.misfit.Misfit.{Misfit}
-use Rattle.lrc_args.specs.declared.misfit.Misfit.TheVariants.{Order, RunOrder, Page, Form as FormMisfit, Seed, Threads, Messages, Part as PartMisfit, Topic as TopicMisfit, TraceForm, Hide, TextSource, SameAct, Sources, NoSource, RunOption, ChartRunOption, Number}
+use Rattle.lrc_args.specs.declared.misfit.Misfit.TheVariants.{Order, RunOrder, Page, Form as FormMisfit, Seed, Threads, Messages, Part as PartMisfit, Memory as MemoryMisfit, Tries as TriesMisfit, Topic as TopicMisfit, TraceForm, Hide, TextSource, SameAct, Sources, NoSource, RunOption, ChartRunOption, Number}
 use Rattle.lrc_commands.specs.Commands.{is_command, treadmarks}
-use Rattle.lrc_args.specs.Options.{AreChartedActs, AreForeignActs, AreOptions, AreRunOptions, HasBadCount, HasChartedActsMisfit, HasForeignMisfit, HasFormMisfitIn, HasOptionsMisfit, HasRacesMisfit, HasValue, HasWayMisfitIn, IsAsking, IsChartTaken, IsHiding}
-use Rattle.lrc_args.specs.Options.{IsExploreTaken, IsFlag, IsFormIn, IsJudgeTaken, IsPart, IsPicker, IsPlainTaken, IsRacesTaken, IsRunTaken, IsShowingTaken, IsStepTaken}
-use Rattle.lrc_args.specs.Options.{IsSimTaken, IsThreadsWayIn, IsTraceForm, IsTraceTaken, IsWayIn, IsWhyTaken, most_in, nodes_in, option_number, outcome_in, some_number_in}
+use Rattle.lrc_args.specs.Options.{AreChartedActs, AreForeignActs, AreOptions, AreRunOptions, HasBadCount, HasBadExploreNumber, HasChartedActsMisfit, HasForeignMisfit, HasFormMisfitIn, HasOptionsMisfit, HasRacesMisfit, HasValue, HasWayMisfitIn, IsAsking, IsChartTaken, IsHiding}
+use Rattle.lrc_args.specs.Options.{IsExploreTaken, IsFlag, IsFormIn, IsJudgeTaken, IsMemory, IsPart, IsPicker, IsPlainTaken, IsRacesTaken, IsRunTaken, IsShowingTaken, IsStepTaken}
+use Rattle.lrc_args.specs.Options.{IsSimTaken, IsThreadsWayIn, IsTraceForm, IsTraceTaken, IsWayIn, IsWhyTaken, most_in, nodes_in, option_number, outcome_in, some_number_in, takes_tries, tries_in}
 
 -- no words at all stand for `sim -`
 abbrev pub words_meant : List Text → List Text
@@ -126,8 +127,11 @@ pub record IsExploring (rows : List Row) (exploring : Exploring) : Type 0 where
   pub file : first_of (codes "FILE") rows ≡ Some exploring.file.now
   pub nodes : nodes_in rows ≡ exploring.nodes.count
   pub most : most_in rows ≡ exploring.most.count
+  pub memory : IsMemory (first_of (codes "memory") rows) exploring.memory
   pub outcomes : IsFlag (codes "outcomes") exploring.outcomes rows
   pub outcome : outcome_in rows ≡ option_map (λ outcome. outcome.number) exploring.outcome
+  pub tries : tries_in rows ≡ option_map (λ tries. tries.count) exploring.tries
+  pub apart : IsSome (tries_in rows) → takes_tries exploring.memory exploring.outcomes (outcome_in rows) ≡ true
 
 -- a chart of a run
 pub record IsRunChart (rows : List Row) (run : RunChoice) (charting : Charting) : Type 0 where
@@ -233,9 +237,17 @@ pub record HasThreadsMisfit (rows : List Row) (misfit : Misfit) : Type 0 where
 abbrev pub HasJudgeMisfit : List Row → Misfit → Type 0
 HasJudgeMisfit rows misfit = (misfit ≡ Number) × IsSomeAnd (some_number_in (codes "nodes") rows) (IsOutOfRange 1 16)
 
-abbrev pub HasExploreMisfit : List Row → Misfit → Type 0
-HasExploreMisfit rows misfit =
-    (misfit ≡ Number) × (IsOutOfRange 1 16 (nodes_in rows) ⊎ IsOutOfRange 1 100000000 (most_in rows) ⊎ (outcome_in rows ≡ Some 0))
+-- a memory and whether outcomes are asked for are chosen by these matches
+abbrev pub AreSought : List Row → Memory → (outcomes : Bool) → Type 0
+AreSought rows memory outcomes = IsMemory (first_of (codes "memory") rows) memory × IsFlag (codes "outcomes") outcomes rows
+
+-- Of `explore`: the memory; then runs at random that are asked for and may not be; then numbers.
+pub record HasExploreMisfit (rows : List Row) (misfit : Misfit) : Type 0 where
+  pub why : ((misfit ≡ MemoryMisfit) × ((memory : Memory) → ¬ IsMemory (first_of (codes "memory") rows) memory))
+      ⊎ ((misfit ≡ TriesMisfit) × (memory : Memory) × (outcomes : Bool) × AreSought rows memory outcomes × IsSome (tries_in rows)
+      × (takes_tries memory outcomes (outcome_in rows) ≡ false))
+      ⊎ ((misfit ≡ Number) × (memory : Memory) × (outcomes : Bool) × AreSought rows memory outcomes
+      × (IsSome (tries_in rows) → takes_tries memory outcomes (outcome_in rows) ≡ true) × HasBadExploreNumber rows)
 
 -- what does not fit in what clap found of a command that shows something of a run
 abbrev pub HasShowMisfit : Text × List Row → Misfit → Type 0
@@ -289,6 +301,8 @@ IsUsageKind Seed kind = kind ≡ ArgumentConflict
 IsUsageKind Threads kind = kind ≡ ArgumentConflict
 IsUsageKind Messages kind = kind ≡ ArgumentConflict
 IsUsageKind PartMisfit kind = kind ≡ ArgumentConflict
+IsUsageKind MemoryMisfit kind = kind ≡ InvalidValue
+IsUsageKind TriesMisfit kind = kind ≡ ArgumentConflict
 IsUsageKind TopicMisfit kind = kind ≡ InvalidSubcommand
 IsUsageKind TraceForm kind = kind ≡ InvalidValue
 IsUsageKind Hide kind = kind ≡ InvalidValue

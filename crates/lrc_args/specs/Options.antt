@@ -16,6 +16,8 @@ use Rattle.lrc_args.specs.declared.choice.ChartedActs.{ChartedActs}
 use Rattle.lrc_args.specs.declared.choice.ForeignActs.{ForeignActs}
 use Rattle.lrc_args.specs.declared.choice.Form.{Form}
 use Rattle.lrc_args.specs.declared.choice.Form.TheVariants as forms
+use Rattle.lrc_args.specs.declared.choice.Memory.{Memory}
+use Rattle.lrc_args.specs.declared.choice.Memory.TheVariants.{Flat, Lazy}
 use Rattle.lrc_args.specs.declared.choice.Part.{Part}
 use Rattle.lrc_args.specs.declared.choice.RunOptions.{RunOptions}
 use Rattle.lrc_args.specs.declared.choice.TraceForm.{TraceForm}
@@ -56,6 +58,10 @@ most_in = option_number (codes "most")
 -- the number of the outcome that is asked for, if one is
 abbrev pub outcome_in : List Row → Option ℕ
 outcome_in = some_number_in (codes "outcome")
+
+-- how many runs are played at random, if any are
+abbrev pub tries_in : List Row → Option ℕ
+tries_in = some_number_in (codes "tries")
 
 -- the number that the words give an option: a default is none
 abbrev pub given_number : Text → List Row → Option ℕ
@@ -142,8 +148,10 @@ pub record IsExploreTaken (rows : List Row) : Type 0 where
   pub file : HasValue (codes "FILE") rows
   pub nodes : IsNumberOption (codes "nodes") rows
   pub most : IsNumberOption (codes "most") rows
+  pub memory : HasValue (codes "memory") rows
   pub outcomes : IsFlagOption (codes "outcomes") rows
   pub outcome : IsBareNumber (codes "outcome") rows
+  pub tries : IsBareNumber (codes "tries") rows
 
 -- of `races`
 pub record IsRacesTaken (rows : List Row) : Type 0 where
@@ -195,6 +203,16 @@ IsForm word messages part (forms.States shown) = (word ≡ Some (codes "states")
 abbrev pub IsTraceForm : Option Text → TraceForm → Type 0
 IsTraceForm word Std = word ≡ Some (codes "std")
 IsTraceForm word Acts = word ≡ Some (codes "acts")
+
+-- the memory that a word names
+abbrev pub IsMemory : Option Text → Memory → Type 0
+IsMemory word Flat = word ≡ Some (codes "flat")
+IsMemory word Lazy = word ≡ Some (codes "lazy")
+
+-- whether runs at random may be asked for: with the list of the lazy outcomes
+abbrev pub takes_tries : Memory → (outcomes : Bool) → (outcome : Option ℕ) → Bool
+takes_tries Flat outcomes outcome = false
+takes_tries Lazy outcomes outcome = outcomes && is_none outcome
 
 -- whether a word says that rows of quiet acts are left out; without one they are not
 abbrev pub IsHiding : Option Text → Bool → Type 0
@@ -339,6 +357,11 @@ abbrev pub HasFormMisfitIn : List Row → Misfit → Type 0
 HasFormMisfitIn rows misfit =
     (messages : Bool) × (part : Part) × IsFlag (codes "messages") messages rows × IsPart rows part
     × HasWordMisfit (first_of (codes "as") rows) messages part misfit
+
+-- a number of `explore` is not in its range
+abbrev pub HasBadExploreNumber : List Row → Type 0
+HasBadExploreNumber rows = IsOutOfRange 1 16 (nodes_in rows) ⊎ IsOutOfRange 1 100000000 (most_in rows) ⊎ (outcome_in rows ≡ Some 0)
+    ⊎ IsSomeAnd (tries_in rows) (IsOutOfRange 1 1000000)
 
 -- of `races`: no form has the word of the option
 abbrev pub HasRacesMisfit : List Row → Misfit → Type 0

@@ -39,6 +39,14 @@ pub struct OutcomeNumber {
     pub ghost some: { 1 ≤ number },
 }
 
+/// How many runs are played at random, 1 to 1,000,000.
+#[derive(Clone, Copy)]
+pub struct Tries {
+    pub count: u32,
+    pub ghost some: { 1 ≤ count },
+    pub ghost few: { count ≤ 1000000 },
+}
+
 /// What the runs have in common, whichever way they go on.
 #[derive(Clone, Copy)]
 pub struct RunOptions<'w> {
@@ -151,6 +159,15 @@ pub struct Judging<'w> {
     pub pairs: bool,
 }
 
+/// A memory, whose runs are looked at.
+#[derive(Clone, Copy)]
+pub enum Memory {
+    /// One flat memory: its runs are those of the plain machine, in every order.
+    Flat,
+    /// Any memory that keeps lazy reading.
+    Lazy,
+}
+
 /// The options of `explore`.
 #[derive(Clone, Copy)]
 pub struct Exploring<'w> {
@@ -159,10 +176,14 @@ pub struct Exploring<'w> {
     pub nodes: Nodes,
     /// How many states the search may meet.
     pub most: Most,
+    /// Whose runs have the outcomes; races are the same by each.
+    pub memory: Memory,
     /// Whether the outcomes are looked for, in place of a race.
     pub outcomes: bool,
     /// The outcome of which a run is shown, in place of the list of all.
     pub outcome: Option<OutcomeNumber>,
+    /// How many runs at random are looked at for those outcomes that this memory gives; with the list of lazy outcomes alone.
+    pub tries: Option<Tries>,
 }
 
 /// The form of a trace whose races are looked for.

@@ -4,11 +4,11 @@ ghost use Rattle.std.specs.Prelude.{◌≡◌, [], IfErr, IfOk, IsSomeAnd, Ok, O
 ghost use Rattle.std.specs.Int.{IsOutOfRange};
 ghost use Rattle.clap.specs.Words.{fault_of, found_of, rows_of, subcommand_of, subcommand_rows_of};
 ghost use Rattle.lrc_commands.specs.Commands.{treadmarks};
-ghost use Rattle.lrc_args.specs.CommandLine.{Chooses, HasExploreMisfit, HasJudgeMisfit, HasMisfit, HasPlainMisfit, HasRequestMisfit, HasShowMisfit};
+ghost use Rattle.lrc_args.specs.CommandLine.{Chooses, HasJudgeMisfit, HasMisfit, HasPlainMisfit, HasRequestMisfit, HasShowMisfit};
 ghost use Rattle.lrc_args.specs.CommandLine.{HasAnswerMisfit, HasTopicMisfit, IsAnswerTaken, IsRequest, IsRequestTaken};
 ghost use Rattle.lrc_args.specs.CommandLine.{IsAskTaken, IsChoice, IsFoundFault, IsShowTaken};
 ghost use Rattle.lrc_args.specs.CommandLine.{IsCommandTaken, fault_from, words_meant};
-ghost use Rattle.lrc_args.specs.Options.{HasRacesMisfit, IsExploreTaken, IsJudgeTaken, IsPlainTaken, IsRacesTaken, IsTraceForm};
+ghost use Rattle.lrc_args.specs.Options.{HasRacesMisfit, IsJudgeTaken, IsPlainTaken, IsRacesTaken, IsTraceForm};
 ghost use Rattle.lrc_args.specs.declared.choice.TraceForm.{TraceForm as AnyTraceForm};
 ghost use Rattle.lrc_args.specs.declared.choice.ChooseFault.TheVariants.{NoMemory};
 ghost use Rattle.lrc_args.specs.declared.misfit.Misfit.TheVariants.{Number};
@@ -16,13 +16,12 @@ ghost use Rattle.lrc_args.specs.declared.misfit.Misfit.TheVariants as unfit;
 
 use crate::chart::chart_choice;
 use crate::choice::{
-    Choice, ChooseFault, CommandName, Exploring, Judging, PlainRun, Racing, Request, Shape, Topic,
+    Choice, ChooseFault, CommandName, Judging, PlainRun, Racing, Request, Shape, Topic,
     TraceForm,
 };
+use crate::explore::explore_choice;
 use crate::misfit::{Misfit, fault_of_misfit};
-use crate::reading::{
-    is_named, most_of, nodes_of, outcome_of, some_nodes, some_number_of, steps_of, text_of,
-};
+use crate::reading::{is_named, nodes_of, some_nodes, some_number_of, steps_of, text_of};
 use crate::runs::{run_choice, showing_choice, step_choice, threads_run, trace_choice};
 use crate::why::why_choice;
 use clap::ArgMatches;
@@ -215,20 +214,6 @@ fn judge_choice<'w>(options: &ArgMatches<'w>) -> Result<Choice<'w>, Misfit>
         file: text_of(options, "FILE"),
         nodes,
         pairs: is_named(options, "pairs"),
-    }))
-}
-
-fn explore_choice<'w>(options: &ArgMatches<'w>) -> Result<Choice<'w>, Misfit>
-    requires { IsExploreTaken (rows_of (found_of options.now)) }
-    ensures ok { IfOk result (IsChoice (codes "explore", rows_of (found_of options.now))) }
-    ensures err { IfErr result (HasExploreMisfit (rows_of (found_of options.now))) }
-{
-    Ok(Choice::Explore(Exploring {
-        file: text_of(options, "FILE"),
-        nodes: nodes_of(options)?,
-        most: most_of(options)?,
-        outcomes: is_named(options, "outcomes"),
-        outcome: outcome_of(options)?,
     }))
 }
 

@@ -4,6 +4,7 @@
 mod chart;
 pub mod choice;
 mod command_line;
+mod explore;
 mod files;
 mod misfit;
 mod reading;

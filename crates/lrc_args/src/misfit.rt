@@ -30,6 +30,11 @@ const BAD_MESSAGES: &str =
 const BAD_PART: &str =
     "the arguments '--from <P>' and '--to <Q>' cannot be used with a form other than '--as states'";
 
+const BAD_MEMORY: &str = "invalid value for '--memory <MEMORY>': it is flat or lazy";
+
+const BAD_TRIES: &str =
+    "the argument '--tries <T>' is of '--memory lazy --outcomes' alone, and not of '--outcome <K>'";
+
 const BAD_TOPIC: &str = "invalid value for '[COMMAND]': it is none of the commands";
 
 const BAD_HIDE: &str = "invalid value for '--hide <WHAT>': it is quiet";
@@ -69,6 +74,10 @@ pub(crate) enum Misfit {
     Messages,
     /// A part of the run is asked for, and so is another form than that of states.
     Part,
+    /// `--memory` has no word that it takes.
+    Memory,
+    /// Runs at random are asked for, and not the list of the lazy outcomes.
+    Tries,
     /// Help is wanted on a word that is no command.
     Topic,
     /// The `--as` of `races` has no word that it takes.
@@ -128,6 +137,7 @@ fn usage_kind(misfit: Misfit) -> ErrorKind
         | Misfit::Threads
         | Misfit::Messages
         | Misfit::Part
+        | Misfit::Tries
         | Misfit::TextSource
         | Misfit::SameAct
         | Misfit::Sources
@@ -149,6 +159,8 @@ fn message_of(misfit: Misfit) -> &'static str {
         Misfit::Threads => BAD_THREADS,
         Misfit::Messages => BAD_MESSAGES,
         Misfit::Part => BAD_PART,
+        Misfit::Memory => BAD_MEMORY,
+        Misfit::Tries => BAD_TRIES,
         Misfit::Topic => BAD_TOPIC,
         Misfit::TraceForm => BAD_TRACE_FORM,
         Misfit::Hide => BAD_HIDE,

@@ -7,11 +7,11 @@ ghost use Rattle.clap.specs.Facts.{explicit_source};
 ghost use Rattle.clap.specs.Takes.{is_given};
 ghost use Rattle.clap.specs.Words.{first_of, found_of, rows_of};
 ghost use Rattle.lrc_args.specs.Options.{HasBadPage, HasValue, IsBareNumber, IsFlag, IsFlagOption, IsNumberOption, IsPageSize};
-ghost use Rattle.lrc_args.specs.Options.{collect_in, given_number, most_in, nodes_in, option_number, outcome_in, some_number_in, steps_in};
+ghost use Rattle.lrc_args.specs.Options.{collect_in, given_number, most_in, nodes_in, option_number, outcome_in, some_number_in, steps_in, tries_in};
 ghost use Rattle.lrc_args.specs.declared.misfit.Misfit.TheVariants as unfit;
 ghost use Rattle.lrc_page.specs.declared.size.Size.{Size};
 
-use crate::choice::{Collect, Most, Nodes, OutcomeNumber, Steps};
+use crate::choice::{Collect, Most, Nodes, OutcomeNumber, Steps, Tries};
 use crate::misfit::Misfit;
 use clap::ArgMatches;
 use clap::parser::ValueSource;
@@ -156,6 +156,29 @@ pub(crate) fn most_of(options: &ArgMatches<'_>) -> Result<Most, Misfit>
     let count = number_of(options, "most");
     match u32::try_from(count) {
         Ok(count) if 1 <= count && count <= 100_000_000 => Ok(Most { count }),
+        _ => Err(Misfit::Number),
+    }
+}
+
+/// How many runs are played at random, if any are.
+pub(crate) fn tries_of(options: &ArgMatches<'_>) -> Result<Option<Tries>, Misfit>
+    requires { IsBareNumber (codes "tries") (rows_of (found_of options.now)) }
+    ensures ok { IfOk result (λ tries. tries_in (rows_of (found_of options.now)) ≡ option_map (λ tries. tries.count) tries) }
+    ensures err { IfErr result (λ misfit. (misfit ≡ unfit.Number) × IsSomeAnd (tries_in (rows_of (found_of options.now))) (IsOutOfRange 1 1000000)) }
+{
+    match some_number_of(options, "tries") {
+        None => Ok(None),
+        Some(count) => Ok(Some(so_many_tries(count)?)),
+    }
+}
+
+// So many runs.
+fn so_many_tries(count: u64) -> Result<Tries, Misfit>
+    ensures ok { IfOk result (λ tries. count ≡ tries.count) }
+    ensures err { IfErr result (λ misfit. (misfit ≡ unfit.Number) × IsOutOfRange 1 1000000 count) }
+{
+    match u32::try_from(count) {
+        Ok(count) if 1 <= count && count <= 1_000_000 => Ok(Tries { count }),
         _ => Err(Misfit::Number),
     }
 }

@@ -39,6 +39,10 @@ use Rattle.lrc_shown.specs.Charted.{IsDrawn, part_of}
 use Rattle.lrc_title.specs.Title.{title_text_of_acts}
 use Rattle.lrc_args.specs.declared.choice.ForeignActs.{ForeignActs}
 use Rattle.lrc_args.specs.declared.choice.Exploring.{Exploring}
+use Rattle.lrc_args.specs.declared.choice.Memory.{Memory}
+use Rattle.lrc_args.specs.declared.choice.Memory.TheVariants.{Flat, Lazy}
+use Rattle.lrc_lazy_text.specs.Listed.{MetTooManyLazily, TellsLazyOutcomes}
+use Rattle.lrc_lazy_text.specs.One.{HasFewerLazyOutcomes, TellsNumberedLazyRun}
 use Rattle.lrc_args.specs.declared.choice.OutcomeNumber.{OutcomeNumber}
 use Rattle.lrc_args.specs.declared.choice.Judging.{Judging}
 use Rattle.lrc_answer.specs.declared.fault.Fault.{Fault}
@@ -73,15 +77,39 @@ abbrev pub ShowsOrders : Exploring → List Label → Program → (places : List
 ShowsOrders exploring labels program places out status = Explores labels program exploring.nodes.count places exploring.outcomes out status
     × MeetsFew program exploring.nodes.count exploring.most.count exploring.outcomes status
 
--- of the outcome that is asked for, or of every order
-abbrev pub IsAnswerTo : Option OutcomeNumber → Exploring → List Label → Program → (places : List ℕ) → List ℕ → ℕ → Type 0
-IsAnswerTo (Some outcome) exploring labels program places out status = ShowsOutcome exploring program places outcome.number out status
-IsAnswerTo None exploring labels program places out status = ShowsOrders exploring labels program places out status
+-- how many runs at random are tried, if any are
+abbrev pub tries_asked : Exploring → Option ℕ
+tries_asked exploring = option_map (λ tries. tries.count) exploring.tries
+
+-- the text lists the outcomes of all lazy runs
+abbrev pub ShowsLazyOutcomes : Exploring → Program → List ℕ → ℕ → Type 0
+ShowsLazyOutcomes exploring program out status = TellsLazyOutcomes program exploring.nodes.count (tries_asked exploring) out × (status ≡ 0)
+
+-- the text shows a lazy run that has the outcome of this number
+abbrev pub ShowsLazyRun : Exploring → Program → (places : List ℕ) → (number : ℕ) → List ℕ → ℕ → Type 0
+ShowsLazyRun exploring program places number out status = TellsNumberedLazyRun program exploring.nodes.count places number out × (status ≡ 0)
+
+-- of one flat memory: of the outcome that is asked for, or of every order
+abbrev pub IsFlatAnswer : Option OutcomeNumber → Exploring → List Label → Program → (places : List ℕ) → List ℕ → ℕ → Type 0
+IsFlatAnswer (Some outcome) exploring labels program places out status = ShowsOutcome exploring program places outcome.number out status
+IsFlatAnswer None exploring labels program places out status = ShowsOrders exploring labels program places out status
+
+-- of any memory that keeps lazy reading: of the outcome that is asked for, of all outcomes, or else of every order, since races are the same
+abbrev pub IsLazyAnswer : Option OutcomeNumber → (outcomes : Bool) → Exploring → List Label → Program → (places : List ℕ) → List ℕ → ℕ → Type 0
+IsLazyAnswer (Some outcome) outcomes exploring labels program places out status = ShowsLazyRun exploring program places outcome.number out status
+IsLazyAnswer None true exploring labels program places out status = ShowsLazyOutcomes exploring program out status
+IsLazyAnswer None false exploring labels program places out status = ShowsOrders exploring labels program places out status
+
+-- of the memory that is asked for
+abbrev pub IsAnswerTo : Memory → Exploring → List Label → Program → (places : List ℕ) → List ℕ → ℕ → Type 0
+IsAnswerTo Flat exploring labels program places out status = IsFlatAnswer exploring.outcome exploring labels program places out status
+IsAnswerTo Lazy exploring labels program places out status =
+    IsLazyAnswer exploring.outcome exploring.outcomes exploring labels program places out status
 
 -- The text and the status are what is said of the program that this text is of, with the labels of the text.
 abbrev pub IsExploration : Exploring → List ℕ → Program → List ℕ → ℕ → Type 0
 IsExploration exploring text program out status = (places : List ℕ) × HasLines text (program_of program) places
-    × IsAnswerTo exploring.outcome exploring (labels_in text program) program places out status
+    × IsAnswerTo exploring.memory exploring (labels_in text program) program places out status
 
 -- the text and the status are what `lint` says of the text of this file: that it is no program, or its warnings
 abbrev pub IsLinted : List ℕ → List ℕ → List ℕ → ℕ → Type 0
@@ -152,14 +180,43 @@ HasOutcomeFault exploring program number (TooManyStates most) =
 HasOutcomeFault exploring program number NoMemory = Unit {0}
 HasOutcomeFault exploring program number _ = ⊥
 
--- the fault of a search through every order: it met more states than it might, or the program has no outcome of the number that is asked for
-abbrev pub IsSearchFault : Exploring → Program → Fault → Type 0
-IsSearchFault exploring program (NoOutcome number) =
-    (option_map (λ outcome. outcome.number) exploring.outcome ≡ Some number) × HasFewerOutcomes program exploring.nodes.count number
-IsSearchFault exploring program (TooManyStates most) =
+-- the fault of a search through every order: it met more states than it might
+abbrev pub HasOrdersFault : Exploring → Program → Fault → Type 0
+HasOrdersFault exploring program (TooManyStates most) =
     (most ≡ exploring.most.count) × MeetsTooMany program exploring.nodes.count most exploring.outcomes
-IsSearchFault exploring program NoMemory = Unit {0}
-IsSearchFault exploring program _ = ⊥
+HasOrdersFault exploring program NoMemory = Unit {0}
+HasOrdersFault exploring program _ = ⊥
+
+-- of one through all lazy runs
+abbrev pub HasLazyFault : Exploring → Program → Fault → Type 0
+HasLazyFault exploring program (TooManyStates most) = (most ≡ exploring.most.count) × MetTooManyLazily program exploring.nodes.count most
+HasLazyFault exploring program NoMemory = Unit {0}
+HasLazyFault exploring program _ = ⊥
+
+-- the same where the outcome of this number is asked for: there are fewer, too
+abbrev pub HasLazyRunFault : Exploring → Program → (number : ℕ) → Fault → Type 0
+HasLazyRunFault exploring program number (NoOutcome missed) = (missed ≡ number) × HasFewerLazyOutcomes program exploring.nodes.count number
+HasLazyRunFault exploring program number (TooManyStates most) = (most ≡ exploring.most.count) × MetTooManyLazily program exploring.nodes.count most
+HasLazyRunFault exploring program number NoMemory = Unit {0}
+HasLazyRunFault exploring program number _ = ⊥
+
+-- by what is asked for
+abbrev pub IsFlatFault : Option OutcomeNumber → Exploring → Program → Fault → Type 0
+IsFlatFault (Some outcome) exploring program fault = HasOutcomeFault exploring program outcome.number fault
+IsFlatFault None exploring program fault = HasOrdersFault exploring program fault
+
+abbrev pub IsLazyFault : Option OutcomeNumber → (outcomes : Bool) → Exploring → Program → Fault → Type 0
+IsLazyFault (Some outcome) outcomes exploring program fault = HasLazyRunFault exploring program outcome.number fault
+IsLazyFault None true exploring program fault = HasLazyFault exploring program fault
+IsLazyFault None false exploring program fault = HasOrdersFault exploring program fault
+
+-- the fault of a search through the runs of the memory that is asked for
+abbrev pub IsFaultIn : Memory → Exploring → Program → Fault → Type 0
+IsFaultIn Flat exploring program fault = IsFlatFault exploring.outcome exploring program fault
+IsFaultIn Lazy exploring program fault = IsLazyFault exploring.outcome exploring.outcomes exploring program fault
+
+abbrev pub IsSearchFault : Exploring → Program → Fault → Type 0
+IsSearchFault exploring program fault = IsFaultIn exploring.memory exploring program fault
 
 -- The first fault: of the text, then of the events, then of the run or the search, then of what is shown of the run. Memory may run out at any time.
 abbrev pub IsFault : Choice → List ℕ → Option (List ℕ) → Fault → Type 0

@@ -1,7 +1,8 @@
 // What the program answers to the command `explore`.
 
 ghost use Rattle.std.specs.Prelude.{◌≡◌, ◌≤◌, IfErr, IfOk, None};
-ghost use Rattle.lrc_cli.specs.Answer.{HasOutcomeFault, IsExploration, IsFault, IsSearchFault, Prints, ShowsOrders, ShowsOutcome};
+ghost use Rattle.lrc_cli.specs.Answer.{HasLazyFault, HasLazyRunFault, HasOrdersFault, HasOutcomeFault, IsExploration, IsFault, IsFlatAnswer, IsFlatFault};
+ghost use Rattle.lrc_cli.specs.Answer.{IsLazyAnswer, IsLazyFault, IsSearchFault, Prints, ShowsLazyOutcomes, ShowsLazyRun, ShowsOrders, ShowsOutcome, tries_asked};
 ghost use Rattle.lrc_answer.specs.Labels.{labels_in};
 ghost use Rattle.lrc_answer.specs.Texts.{IsTextOf};
 ghost use Rattle.lrc_text.specs.Parts.{whole_text};
@@ -9,13 +10,15 @@ ghost use Rattle.lrc_args.specs.declared.choice.Choice.TheVariants.{Explore};
 
 use lrc_answer::fault::Fault;
 use lrc_answer::printout::{Printout, in_one};
-use lrc_args::choice::Exploring;
+use lrc_args::choice::{Exploring, Memory};
 use lrc_explore::search::ExploreFault;
 use lrc_explore_text::outcome_run::outcome_run_told;
 use lrc_labels::read_labels;
 use lrc_lang::lines::lines_of;
 use lrc_lang::parse;
 use lrc_lang::program::Program;
+use lrc_lazy_text::listed::lazy_outcomes_told;
+use lrc_lazy_text::one::lazy_run_told;
 use std::alloc::Global;
 
 /// Answers the command `explore`, with the text of a program.
@@ -45,9 +48,46 @@ fn all_orders(
     ensures err { IfErr result (IsSearchFault exploring.now program.now) }
 {
     let lines = lines_of(alloc, text)?;
+    match exploring.memory {
+        Memory::Flat => of_flat(alloc, exploring, text, program, &lines),
+        Memory::Lazy => of_lazy(alloc, exploring, text, program, &lines),
+    }
+}
+
+// What is said of the runs of one flat memory.
+fn of_flat(
+    alloc: Global,
+    exploring: &Exploring<'_>,
+    text: &[u8],
+    program: &Program,
+    lines: &[u32],
+) -> Result<Printout, Fault>
+    requires { IsTextOf text.now program.now }
+    ensures ok { IfOk result (λ printout. IsFlatAnswer exploring.now.outcome exploring.now (labels_in text.now program.now) program.now lines.now (whole_text printout.parts.items) printout.status) }
+    ensures err { IfErr result (IsFlatFault exploring.now.outcome exploring.now program.now) }
+{
     match exploring.outcome {
-        Some(outcome) => one_outcome(alloc, exploring, program, &lines, outcome.number),
-        None => every_order(alloc, exploring, text, program, &lines),
+        Some(outcome) => one_outcome(alloc, exploring, program, lines, outcome.number),
+        None => every_order(alloc, exploring, text, program, lines),
+    }
+}
+
+// What is said of the runs of any memory that keeps lazy reading.
+fn of_lazy(
+    alloc: Global,
+    exploring: &Exploring<'_>,
+    text: &[u8],
+    program: &Program,
+    lines: &[u32],
+) -> Result<Printout, Fault>
+    requires { IsTextOf text.now program.now }
+    ensures ok { IfOk result (λ printout. IsLazyAnswer exploring.now.outcome exploring.now.outcomes exploring.now (labels_in text.now program.now) program.now lines.now (whole_text printout.parts.items) printout.status) }
+    ensures err { IfErr result (IsLazyFault exploring.now.outcome exploring.now.outcomes exploring.now program.now) }
+{
+    match exploring.outcome {
+        Some(outcome) => one_lazy_run(alloc, exploring, program, lines, outcome.number),
+        None if exploring.outcomes => all_lazy_runs(alloc, exploring, program),
+        None => every_order(alloc, exploring, text, program, lines),
     }
 }
 
@@ -61,7 +101,7 @@ fn every_order(
 ) -> Result<Printout, Fault>
     requires { IsTextOf text.now program.now }
     ensures ok { IfOk result (λ printout. ShowsOrders exploring.now (labels_in text.now program.now) program.now lines.now (whole_text printout.parts.items) printout.status) }
-    ensures err { IfErr result (IsSearchFault exploring.now program.now) }
+    ensures err { IfErr result (HasOrdersFault exploring.now program.now) }
 {
     let labels = read_labels(alloc, text, program.words, program.locks)?;
     let nodes = exploring.nodes.count;
@@ -104,6 +144,72 @@ fn one_outcome(
         program,
         lines,
         exploring.nodes.count,
+        most as usize,
+        number,
+    ) {
+        Ok(Some(text)) => Ok(Printout {
+            parts: in_one(alloc, text)?,
+            status: 0,
+        }),
+        Ok(None) => Err(Fault::NoOutcome(number)),
+        Err(ExploreFault::TooMany) => Err(Fault::TooManyStates(most)),
+        Err(ExploreFault::NoMemory) => Err(Fault::NoMemory),
+        Err(ExploreFault::BadNodes) => unreachable!(),
+    }
+}
+
+// What is said of the outcomes of all lazy runs.
+fn all_lazy_runs(
+    alloc: Global,
+    exploring: &Exploring<'_>,
+    program: &Program,
+) -> Result<Printout, Fault>
+    ensures ok { IfOk result (λ printout. ShowsLazyOutcomes exploring.now program.now (whole_text printout.parts.items) printout.status) }
+    ensures err { IfErr result (HasLazyFault exploring.now program.now) }
+{
+    let most = exploring.most.count;
+    match lazy_outcomes_told(
+        alloc,
+        program,
+        exploring.nodes,
+        most as usize,
+        tries_of(exploring),
+    ) {
+        Ok(parts) => Ok(Printout { parts, status: 0 }),
+        Err(ExploreFault::TooMany) => Err(Fault::TooManyStates(most)),
+        Err(ExploreFault::NoMemory) => Err(Fault::NoMemory),
+        Err(ExploreFault::BadNodes) => unreachable!(),
+    }
+}
+
+// How many runs at random are tried, if any are.
+fn tries_of(exploring: &Exploring<'_>) -> Option<u32>
+    ensures { result ≡ tries_asked exploring.now }
+{
+    match exploring.tries {
+        Some(tries) => Some(tries.count),
+        None => None,
+    }
+}
+
+// What is said of the outcome of this number of all lazy runs.
+fn one_lazy_run(
+    alloc: Global,
+    exploring: &Exploring<'_>,
+    program: &Program,
+    lines: &[u32],
+    number: u64,
+) -> Result<Printout, Fault>
+    requires { 1 ≤ number }
+    ensures ok { IfOk result (λ printout. ShowsLazyRun exploring.now program.now lines.now number (whole_text printout.parts.items) printout.status) }
+    ensures err { IfErr result (HasLazyRunFault exploring.now program.now number) }
+{
+    let most = exploring.most.count;
+    match lazy_run_told(
+        alloc,
+        program,
+        lines,
+        exploring.nodes,
         most as usize,
         number,
     ) {

@@ -42,7 +42,7 @@ collect = number_option (codes "collect") (codes "0")
 abbrev pub most : Rule
 most = number_option (codes "most") (codes "1000000")
 
--- `order`, `page` and `as` take one of few words, which are looked at once clap has read them
+-- `order`, `page`, `as` and `memory` take one of few words, which are looked at once clap has read them
 abbrev pub order : Rule
 order = defaulted (codes "order") (codes "oldest")
 
@@ -51,6 +51,9 @@ page = defaulted (codes "page") (codes "64")
 
 abbrev pub form : Rule
 form = defaulted (codes "as") (codes "acts")
+
+abbrev pub memory : Rule
+memory = defaulted (codes "memory") (codes "flat")
 
 abbrev pub check_command : App
 check_command = with_rule (new_app (codes "check")) file
@@ -103,8 +106,8 @@ abbrev pub judge_command : App
 judge_command = with_rule (with_rule (with_rule (new_app (codes "judge")) file) (bare_number (codes "nodes"))) (flag_option (codes "pairs"))
 
 abbrev pub explore_command : App
-explore_command = with_rule (with_rule (with_rule (with_rule (with_rule (new_app (codes "explore")) file) nodes) most) (flag_option (codes "outcomes")))
-    (bare_number (codes "outcome"))
+explore_command = with_rule (with_rule (with_rule (with_rule (with_rule (with_rule (with_rule (new_app (codes "explore")) file) nodes) most) memory)
+    (flag_option (codes "outcomes"))) (bare_number (codes "outcome"))) (bare_number (codes "tries"))
 
 -- a FILE need not be given where there is a file of acts, and an act has to be
 abbrev pub optional_file : Rule

@@ -3,7 +3,7 @@
 ghost use Rattle.std.specs.Prelude.{◌≡◌, [], IfOk, false};
 ghost use Rattle.clap.specs.Words.{App, Rule, app_of, rule_of, with_rule, with_subcommand};
 ghost use Rattle.clap.specs.declared.builder.command.Command.TheViews.{out-Command as fields_of};
-ghost use Rattle.lrc_commands.specs.Commands.{act, bare_number, chart_command, check_command, collect, explain_command, explore_command, file, flag_option, form, help_command, judge_command, lint_command, most, nodes, number_option, option, order};
+ghost use Rattle.lrc_commands.specs.Commands.{act, bare_number, chart_command, check_command, collect, explain_command, explore_command, file, flag_option, form, help_command, judge_command, lint_command, memory, most, nodes, number_option, option, order};
 ghost use Rattle.lrc_commands.specs.Commands.{optional_file, page, plain_command, races_command, run_command, sim_command, stats_command, step_command, steps, trace_command, trace_form, treadmarks, treadmarks_shape, version_command, why_command};
 ghost use Rattle.lrc_commands.specs.Commands.{is_command, with_counts, with_hints, with_part, with_ways};
 ghost use Rattle.lrc_commands.specs.Commands.{with_questions, with_reports, with_run_options, with_showing_options, with_topics, with_way_options};
@@ -76,10 +76,16 @@ const PAIRS_HELP: &str = "Names every pair of acts that race, in place of the ra
 
 const MOST_HELP: &str = "How many states the search may meet: 1 to 100000000";
 
-const OUTCOMES_HELP: &str = "Shows every outcome of the orders, and looks for no race";
+const OUTCOMES_HELP: &str = "Shows every outcome of the runs, and looks for no race";
 
 const OUTCOME_HELP: &str =
     "Shows the acts of a run that has the outcome of this number in the list of `--outcomes`, counted from 1, in place of the list";
+
+const MEMORY_HELP: &str =
+    "Whose runs there are: flat (every order over one flat memory), or lazy (every run of any memory that keeps lazy reading). Races are the same by both";
+
+const TRIES_HELP: &str =
+    "With the outcomes of the lazy memory: plays so many runs at random, of the seeds 0, 1, .., and names the least seed whose run has an outcome: 1 to 1000000";
 
 const ACTS_HELP: &str =
     "A file of acts, in place of FILE; `-` is standard input. It goes with `--nodes` and `--page` alone, and `--nodes` left out is one more than the greatest that acts";
@@ -346,8 +352,10 @@ fn explore_command<'w>(alloc: Global) -> Result<Command<'w>, AllocError>
     let command = taking(Ok(command), file(alloc, FILE_HELP));
     let command = taking(command, nodes(alloc));
     let command = taking(command, number_option(alloc, "most", "1000000", MOST_HELP));
+    let command = taking(command, memory(alloc));
     let command = taking(command, flag_option(alloc, "outcomes", OUTCOMES_HELP));
-    taking(command, bare_number(alloc, "outcome", "K", OUTCOME_HELP))
+    let command = taking(command, bare_number(alloc, "outcome", "K", OUTCOME_HELP));
+    taking(command, bare_number(alloc, "tries", "T", TRIES_HELP))
 }
 
 fn why_command<'w>(alloc: Global) -> Result<Command<'w>, AllocError>
@@ -531,6 +539,13 @@ fn page<'w>(alloc: Global) -> Arg<'w>
     ensures local { result.global ≡ false }
 {
     text(alloc, "page", "WORDS", PAGE_HELP).default_value("64")
+}
+
+fn memory<'w>(alloc: Global) -> Arg<'w>
+    ensures rule { rule_of result ≡ memory }
+    ensures local { result.global ≡ false }
+{
+    text(alloc, "memory", "MEMORY", MEMORY_HELP).default_value("flat")
 }
 
 fn number_option<'w>(alloc: Global, name: &'w str, default: &'w str, help: &'w str) -> Arg<'w>

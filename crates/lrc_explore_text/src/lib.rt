@@ -4,6 +4,6 @@
 pub mod explored;
 mod last_races;
 pub mod laws;
-mod orders;
+pub mod orders;
 pub mod outcome_run;
-mod outcomes;
+pub mod outcomes;

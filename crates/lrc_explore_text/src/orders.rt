@@ -213,7 +213,7 @@ fn ends_told(
 }
 
 /// A line for each act of an order.
-pub(crate) fn acts_told(
+pub fn acts_told(
     alloc: Global,
     program: &Program,
     lines: &[u32],

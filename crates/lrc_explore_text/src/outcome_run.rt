@@ -124,8 +124,8 @@ fn run_at(
     }
 }
 
-// The place of the outcome whose line has this number among those of all, ascending, counted from 1.
-fn place_of(
+/// The place of the outcome whose line has this number among those of all, ascending, counted from 1.
+pub fn place_of(
     alloc: Global,
     nodes: u8,
     outcomes: &[Outcome],

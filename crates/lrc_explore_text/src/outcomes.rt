@@ -102,7 +102,7 @@ fn lines_of(alloc: Global, nodes: u8, outcomes: &[Outcome]) -> Result<Vec<Vec<u8
 }
 
 /// The line of an outcome.
-pub(crate) fn outcome_line(alloc: Global, nodes: u8, notes: &[Act]) -> Result<Vec<u8>, AllocError>
+pub fn outcome_line(alloc: Global, nodes: u8, notes: &[Act]) -> Result<Vec<u8>, AllocError>
     ensures { IfOk result (λ line. line.items ≡ outcome_line nodes notes.now) }
 {
     let ends = ends(alloc, nodes, notes)?;

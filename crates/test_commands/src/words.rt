@@ -3,7 +3,7 @@
 use crate::checks::passes;
 use lrc_args::choice::{
     Asking, ChartedActs, Charting, Choice, ChooseFault, Exploring, ForeignActs, Form, Judging,
-    Part, PlainRun, Racing, Request, RunOptions, Shape, Topic, TraceForm, Way,
+    Memory, Part, PlainRun, Racing, Request, RunOptions, Shape, Topic, TraceForm, Way,
 };
 use lrc_args::choose;
 use lrc_envelope::Picker;
@@ -52,7 +52,7 @@ pub enum Wanted {
     /// Of so many nodes, where it is given, by pairs or not.
     Judge(&'static str, Option<u32>, bool),
     /// With so many nodes and states, by outcomes or not.
-    Explore(&'static str, u32, u32, bool),
+    Explore(&'static str, u32, u32, bool, Memory, Option<u32>),
     /// The list of commands.
     Commands,
     /// The help of this command.
@@ -128,6 +128,11 @@ fn is_exploring(made: &Exploring<'_>, nodes: u32, most: u32, outcomes: bool) -> 
     made.nodes.count == nodes && made.most.count == most && made.outcomes == outcomes
 }
 
+fn is_sought(made: &Exploring<'_>, memory: Memory, tries: Option<u32>) -> bool {
+    let is_lazy = matches!(made.memory, Memory::Lazy);
+    is_lazy == matches!(memory, Memory::Lazy) && made.tries.map(|tries| tries.count) == tries
+}
+
 fn is_asking(made: Asking, act: u64, other: Option<u64>) -> bool {
     made.act == act && made.other == other
 }
@@ -177,8 +182,10 @@ fn is_wanted(made: &Choice<'_>, wanted: &Wanted) -> bool {
         (Choice::Judge(made), Wanted::Judge(file, nodes, pairs)) => {
             is_judging(made, file, *nodes, *pairs)
         }
-        (Choice::Explore(made), Wanted::Explore(file, nodes, most, outcomes)) => {
-            made.file == *file && is_exploring(made, *nodes, *most, *outcomes)
+        (Choice::Explore(made), Wanted::Explore(file, nodes, most, outcomes, memory, tries)) => {
+            made.file == *file
+                && is_exploring(made, *nodes, *most, *outcomes)
+                && is_sought(made, *memory, *tries)
         }
         _ => false,
     }
@@ -461,10 +468,21 @@ const CHOICES: &[Row] = &[
             ..A_RUN
         }),
     ),
-    ("explore a.tm", Wanted::Explore("a.tm", 1, 1_000_000, false)),
+    (
+        "explore a.tm",
+        Wanted::Explore("a.tm", 1, 1_000_000, false, Memory::Flat, None),
+    ),
     (
         "explore a.tm --nodes=3 --most=7 --outcomes",
-        Wanted::Explore("a.tm", 3, 7, true),
+        Wanted::Explore("a.tm", 3, 7, true, Memory::Flat, None),
+    ),
+    (
+        "explore a.tm --memory lazy",
+        Wanted::Explore("a.tm", 1, 1_000_000, false, Memory::Lazy, None),
+    ),
+    (
+        "explore a.tm --memory=lazy --outcomes --tries 50",
+        Wanted::Explore("a.tm", 1, 1_000_000, true, Memory::Lazy, Some(50)),
     ),
     // What is wrong with texts and traces, and why acts are as they are.
     ("lint a.tm", Wanted::Lint("a.tm")),

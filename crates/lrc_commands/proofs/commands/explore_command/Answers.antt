@@ -9,8 +9,10 @@ returns-clause-app c =
     let one = c.taking-command.ensures.app (new_app (codes "explore")) _ c.file.ensures.local c.file.ensures.rule about_is in
     let two = c.taking-command-2.ensures.app _ _ c.nodes.ensures.local c.nodes.ensures.rule one in
     let three = c.taking-command-3.ensures.app _ _ c.number_option.ensures.local c.number_option.ensures.rule two in
-    let four = c.taking-command-4.ensures.app _ _ c.flag_option.ensures.local c.flag_option.ensures.rule three in
-    c.taking.ensures.app _ _ c.bare_number.ensures.local c.bare_number.ensures.rule four
+    let four = c.taking-command-4.ensures.app _ _ c.memory.ensures.local c.memory.ensures.rule three in
+    let five = c.taking-command-5.ensures.app _ _ c.flag_option.ensures.local c.flag_option.ensures.rule four in
+    let six = c.taking-command-6.ensures.app _ _ c.bare_number.ensures.local c.bare_number.ensures.rule five in
+    c.taking.ensures.app _ _ c.bare_number-2.ensures.local c.bare_number-2.ensures.rule six
 
 pub returns-clause-local : goal.returns-clause-local
 returns-clause-local c =
@@ -18,5 +20,7 @@ returns-clause-local c =
     let one = c.taking-command.ensures.local c.file.ensures.local about_is in
     let two = c.taking-command-2.ensures.local c.nodes.ensures.local one in
     let three = c.taking-command-3.ensures.local c.number_option.ensures.local two in
-    let four = c.taking-command-4.ensures.local c.flag_option.ensures.local three in
-    c.taking.ensures.local c.bare_number.ensures.local four
+    let four = c.taking-command-4.ensures.local c.memory.ensures.local three in
+    let five = c.taking-command-5.ensures.local c.flag_option.ensures.local four in
+    let six = c.taking-command-6.ensures.local c.bare_number.ensures.local five in
+    c.taking.ensures.local c.bare_number-2.ensures.local six

@@ -1,0 +1,3 @@
+pub mod Keeping
+pub mod Leading
+pub mod Passing

@@ -1,0 +1,69 @@
+// A lazy run with given notes.
+
+ghost use Rattle.std.specs.Prelude.{◌≡◌, ◌≢◌, IfErr, IfOk, option_map};
+ghost use Rattle.lrc_exec.specs.Nodes.{AreNodes};
+ghost use Rattle.lrc_lazy_search.specs.Searching.{MeetsMore};
+ghost use Rattle.lrc_lazy_run.specs.Ended.{IsLazyRunFor};
+ghost use Rattle.lrc_lazy_run.specs.Ways.{IsSought};
+
+use crate::sought::{Sought, sought_in};
+use crate::ways::Ways;
+use lrc_exec::code::Code;
+use lrc_explore::search::ExploreFault;
+use lrc_lang::program::Program;
+use lrc_trace::act::Act;
+use std::alloc::Global;
+
+/// The acts of a lazy run of a program after which no node can act, and in which the nodes print and end as these notes say; nothing where
+/// there is none. Of such runs it is one with the fewest steps: a step is a read of one of several values, an acquire, or the departs of
+/// all nodes, with the acts behind it that depend on nothing. Gives up where there are more states to tell apart than `most`.
+pub fn lazy_run_with(
+    alloc: Global,
+    program: &Program,
+    nodes: u8,
+    most: usize,
+    notes: &[Act],
+) -> Result<Option<Vec<Act>>, ExploreFault>
+    requires { AreNodes nodes }
+    ensures run { IfOk result (λ run. IsLazyRunFor program.now nodes notes.now (option_map (λ acts. acts.items) run)) }
+    ensures nodes { IfErr result (λ fault. fault ≢ ExploreFault.BadNodes) }
+    ensures too_many { IfErr result (λ fault. fault ≡ ExploreFault.TooMany → MeetsMore program.now nodes most) }
+{
+    let code = Code::new(alloc, program)?;
+    run_in(alloc, &code, nodes, most, notes)
+}
+
+// The same of a program's flat code.
+fn run_in(
+    alloc: Global,
+    code: &Code<'_>,
+    nodes: u8,
+    most: usize,
+    notes: &[Act],
+) -> Result<Option<Vec<Act>>, ExploreFault>
+    requires { AreNodes nodes }
+    ensures run { IfOk result (λ run. IsLazyRunFor code.now nodes notes.now (option_map (λ acts. acts.items) run)) }
+    ensures nodes { IfErr result (λ fault. fault ≢ ExploreFault.BadNodes) }
+    ensures too_many { IfErr result (λ fault. fault ≡ ExploreFault.TooMany → MeetsMore code.now nodes most) }
+{
+    let sought = sought_in(code, nodes, most);
+    run_of(alloc, &sought, notes)
+}
+
+// The same of what is searched.
+fn run_of(
+    alloc: Global,
+    sought: &Sought<'_>,
+    notes: &[Act],
+) -> Result<Option<Vec<Act>>, ExploreFault>
+    requires { IsSought sought.now }
+    ensures run { IfOk result (λ run. IsLazyRunFor sought.now.program.now sought.now.flat.nodes notes.now (option_map (λ acts. acts.items) run)) }
+    ensures nodes { IfErr result (λ fault. fault ≢ ExploreFault.BadNodes) }
+    ensures too_many { IfErr result (λ fault. fault ≡ ExploreFault.TooMany → MeetsMore sought.now.program.now sought.now.flat.nodes sought.now.most) }
+{
+    let mut ways = Ways::begin(alloc, sought)?;
+    match ways.find(alloc, sought, notes)? {
+        Some(place) => Ok(Some(ways.acts_to(alloc, sought, place)?)),
+        None => Ok(None),
+    }
+}

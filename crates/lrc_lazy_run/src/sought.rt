@@ -1,0 +1,40 @@
+// What is searched.
+
+ghost use Rattle.std.specs.Prelude.{◌≡◌};
+ghost use Rattle.lrc_exec.specs.Nodes.{AreNodes};
+ghost use Rattle.lrc_lazy_run.specs.Ways.{IsSought};
+
+use lrc_exec::code::Code;
+use lrc_exec::spot::Flat;
+use lrc_lang::program::Program;
+
+/// What is searched: a program, its code and the place where that begins, and how many states there may be.
+#[derive(Clone, Copy)]
+pub struct Sought<'c> {
+    pub program: &'c Program,
+    pub flat: Flat<'c>,
+    pub start: usize,
+    pub most: usize,
+}
+
+/// What is searched of a program's code.
+pub fn sought_in<'c>(code: &'c Code<'c>, nodes: u8, most: usize) -> Sought<'c>
+    requires { AreNodes nodes }
+    ensures sought { IsSought result }
+    ensures program { result.program.now ≡ code.now }
+    ensures nodes { result.flat.nodes ≡ nodes }
+    ensures most { result.most ≡ most }
+{
+    let (instructions, start) = code.parts();
+    Sought {
+        program: code.program(),
+        flat: Flat {
+            code: instructions,
+            words: code.words(),
+            locks: code.locks(),
+            nodes,
+        },
+        start,
+        most,
+    }
+}

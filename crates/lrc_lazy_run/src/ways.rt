@@ -1,0 +1,214 @@
+// States of the machine that makes lazy runs, and how they were found.
+
+use crate::sought::Sought;
+use indexmap::IndexSet;
+use lrc_explore::search::ExploreFault;
+use lrc_lazy_search::state::LazyState;
+use lrc_trace::act::{Act, Deed};
+use std::alloc::{AllocError, Global};
+
+/// How a state was found: from which one, by which act.
+#[derive(Clone, Copy)]
+pub struct Origin {
+    pub parent: usize,
+    pub act: Act,
+}
+
+/// States, each once, in the order in which they were found, how, and the places of those from which steps lead on.
+#[derive(Drop)]
+pub struct Ways {
+    pub states: IndexSet<LazyState>,
+    pub origins: Vec<Origin>,
+    pub settled: Vec<usize>,
+}
+
+impl Ways {
+    ghost use Rattle.std.specs.Prelude.{◌≡◌, ◌≢◌, ◌<◌, ◌↔◌, ℕ, IfOk, IfErr, OnOk, IsTrue, Some, length, slice_get};
+    ghost use Rattle.lrc_trace.specs.declared.act.Deed.{Deed as DeedType};
+    ghost use Rattle.lrc_explore.specs.Kept.{Grows};
+    ghost use Rattle.lrc_lazy_search.specs.Searching.{HasKey, IsReached, MeetsMore};
+    ghost use Rattle.lrc_lazy_run.specs.Ways.{AreKept, AreWays, CanMakeAt, ComesFrom, HasNotesAt, HasStepAt, IsEndWith, IsFound, IsPut, IsSought, IsStillAt, LeadTo};
+
+    /// The start alone.
+    pub fn begin(alloc: Global, sought: &Sought<'_>) -> Result<Ways, AllocError>
+        requires { IsSought sought.now }
+        ensures ways { IfOk result (AreWays sought.now) }
+        ensures none { IfOk result (λ ways. length ways.settled.items < length ways.states.keys) }
+    {
+        let first = LazyState::start(alloc, &sought.flat, sought.start)?;
+        let mut states = IndexSet::new(alloc);
+        states.insert_full(first)?;
+        let mut origins = Vec::new(alloc);
+        origins.push(Origin {
+            parent: 0,
+            act: Act {
+                node: 0,
+                deed: Deed::Quiet,
+            },
+        })?;
+        Ok(Ways {
+            states,
+            origins,
+            settled: Vec::new(alloc),
+        })
+    }
+
+    /// What a node can do at a state.
+    pub fn deeds_at(
+        &self,
+        alloc: Global,
+        sought: &Sought<'_>,
+        place: usize,
+        node: usize,
+    ) -> Result<Vec<Deed>, AllocError>
+        requires sought { IsSought sought.now }
+        requires ways { AreWays sought.now self.now }
+        requires within { place < length self.now.states.keys }
+        ensures sound { IfOk result (λ deeds. (k : ℕ) (deed : DeedType) → slice_get deeds.items k ≡ Some deed
+            → CanMakeAt sought.now.flat self.now.states.keys place node deed) }
+        ensures all { IfOk result (λ deeds. (deed : DeedType) → CanMakeAt sought.now.flat self.now.states.keys place node deed
+            → (k : ℕ) × (slice_get deeds.items k ≡ Some deed)) }
+    {
+        self.states.as_slice()[place].deeds(alloc, &sought.flat, node)
+    }
+
+    /// Adds the state after a deed of a node. The answer is its place, where it is new.
+    pub fn step(
+        &mut self,
+        alloc: Global,
+        sought: &Sought<'_>,
+        place: usize,
+        node: usize,
+        deed: Deed,
+    ) -> Result<Option<usize>, ExploreFault>
+        requires sought { IsSought sought.now }
+        requires ways { AreWays sought.now self.old }
+        requires within { place < length self.old.states.keys }
+        requires can { CanMakeAt sought.now.flat self.old.states.keys place node deed }
+        ensures ways { OnOk result (AreWays sought.now self.new) }
+        ensures grows { OnOk result (Grows self.old.states.keys self.new.states.keys) }
+        ensures same { OnOk result (self.new.settled ≡ self.old.settled) }
+        ensures has { OnOk result (HasStepAt sought.now.flat self.new.states.keys place node deed) }
+        ensures found { IfOk result (IsFound sought.now.most self.old.states.keys self.new.states.keys) }
+        ensures nodes { IfErr result (λ fault. fault ≢ ExploreFault.BadNodes) }
+        ensures too_many { IfErr result (λ fault. fault ≡ ExploreFault.TooMany → MeetsMore sought.now.program.now sought.now.flat.nodes sought.now.most) }
+    {
+        let next = self.states.as_slice()[place].after(alloc, &sought.flat, node, deed)?;
+        let act = Act {
+            node: node as u8,
+            deed,
+        };
+        let added = self.put(sought, next, Origin { parent: place, act })?;
+        if self.states.len() > sought.most {
+            return Err(ExploreFault::TooMany);
+        }
+        Ok(added)
+    }
+
+    // Adds a state that was found so. The answer is its place, where it is new.
+    fn put(
+        &mut self,
+        sought: &Sought<'_>,
+        state: LazyState,
+        origin: Origin,
+    ) -> Result<Option<usize>, AllocError>
+        requires kept { AreKept sought.now self.old }
+        requires reached { IsReached sought.now.program.now sought.now.flat state (length self.old.states.keys) }
+        requires comes { ComesFrom sought.now.flat self.old.states.keys (length self.old.states.keys) origin state }
+        ensures kept { OnOk result (AreKept sought.now self.new) }
+        ensures grows { OnOk result (Grows self.old.states.keys self.new.states.keys) }
+        ensures same { OnOk result (self.new.settled ≡ self.old.settled) }
+        ensures has { OnOk result (HasKey self.new.states.keys state) }
+        ensures found { IfOk result (IsPut self.old.states.keys self.new.states.keys) }
+    {
+        let _sought = sought;
+        let (at, new) = self.states.insert_full(state)?;
+        if !new {
+            return Ok(None);
+        }
+        self.origins.push(origin)?;
+        Ok(Some(at))
+    }
+
+    /// Notes that steps lead on from the state at a place.
+    pub fn note_settled(&mut self, sought: &Sought<'_>, place: usize) -> Result<(), AllocError>
+        requires ways { AreWays sought.now self.old }
+        requires within { place < length self.old.states.keys }
+        requires room { length self.old.settled.items < length self.old.states.keys }
+        ensures ways { OnOk result (AreWays sought.now self.new) }
+        ensures same { self.new.states ≡ self.old.states }
+    {
+        let _sought = sought;
+        self.settled.push(place)?;
+        Ok(())
+    }
+
+    /// Whether no node can act at a state, and it has these notes.
+    pub fn is_end_with(
+        &self,
+        alloc: Global,
+        sought: &Sought<'_>,
+        place: usize,
+        notes: &[Act],
+    ) -> Result<bool, AllocError>
+        requires sought { IsSought sought.now }
+        requires ways { AreWays sought.now self.now }
+        requires within { place < length self.now.states.keys }
+        ensures { IfOk result (λ ends. IsTrue ends ↔ IsEndWith sought.now.flat self.now.states.keys place notes.now) }
+    {
+        let still = self.is_still_at(alloc, sought, place)?;
+        Ok(still && self.has_notes_at(place, notes))
+    }
+
+    // Whether no node can act at a state.
+    fn is_still_at(
+        &self,
+        alloc: Global,
+        sought: &Sought<'_>,
+        place: usize,
+    ) -> Result<bool, AllocError>
+        requires sought { IsSought sought.now }
+        requires ways { AreWays sought.now self.now }
+        requires within { place < length self.now.states.keys }
+        ensures { IfOk result (λ still. IsTrue still ↔ IsStillAt sought.now.flat self.now.states.keys place) }
+    {
+        for node in 0..sought.flat.nodes as usize {
+            let deeds = self.deeds_at(alloc, sought, place, node)?;
+            if !deeds.is_empty() {
+                return Ok(false);
+            }
+        }
+        Ok(true)
+    }
+
+    // Whether a state has these notes.
+    fn has_notes_at(&self, place: usize, notes: &[Act]) -> bool
+        requires { place < length self.now.states.keys }
+        ensures { IsTrue result ↔ HasNotesAt self.now.states.keys place notes.now }
+    {
+        self.states.as_slice()[place].notes.as_slice() == notes
+    }
+
+    /// The acts that lead to a state.
+    pub fn acts_to(
+        &self,
+        alloc: Global,
+        sought: &Sought<'_>,
+        place: usize,
+    ) -> Result<Vec<Act>, AllocError>
+        requires sought { IsSought sought.now }
+        requires ways { AreWays sought.now self.now }
+        requires within { place < length self.now.states.keys }
+        ensures { IfOk result (λ acts. LeadTo sought.now self.now.states.keys acts.items place) }
+    {
+        let mut acts = Vec::new(alloc);
+        let mut at = place;
+        while at > 0 {
+            let origin = self.origins[at];
+            acts.push(origin.act)?;
+            at = origin.parent;
+        }
+        acts.reverse();
+        Ok(acts)
+    }
+}

@@ -1,0 +1,4 @@
+//! Whether no node can act after the acts of a lazy run.
+#![tactic(auto)]
+
+pub mod over;
