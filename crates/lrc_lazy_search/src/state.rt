@@ -7,7 +7,7 @@ ghost use Rattle.lrc_lazy_search.specs.Fit.{effect_of_flat};
 
 use lrc_exec::spot::Flat;
 use lrc_explore::notes::note;
-use lrc_explore::state::State;
+use lrc_exec::state::State;
 use lrc_known::known::Knowledge;
 use lrc_known::word::{Effect, copied};
 use lrc_trace::act::{Act, Deed};
@@ -26,8 +26,7 @@ impl LazyState {
     ghost use Rattle.std.specs.Prelude.{◌≡◌, ◌≤◌, ◌<◌, ◌^◌, ℕ, IfOk, OnOk, Some, Contains, [], length, slice_get, slice_index};
     ghost use Rattle.lrc_trace.specs.declared.act.Deed.{Deed as DeedType};
     ghost use Rattle.lrc_exec.specs.Spots.{IsFlat};
-    ghost use Rattle.lrc_explore.specs.Led.{IsFirst};
-    ghost use Rattle.lrc_explore.specs.States.{plain_at, IsStateOf};
+    ghost use Rattle.lrc_exec.specs.States.{IsFirst, plain_at, IsStateOf};
     ghost use Rattle.lrc_known.specs.Effect.{word_of};
     ghost use Rattle.lrc_lazy_machine.specs.Standing.{CanMake};
     ghost use Rattle.lrc_lazy_search.specs.Fit.{IsFit};
