@@ -12,13 +12,13 @@ use Rattle.lrc_explore.specs.Kept.{Grows}
 use Rattle.lrc_explore.specs.Meeting.{IsCalm}
 use Rattle.lrc_explore.specs.Noted.{IsNotedAt, WidensNoted, noted_count}
 use Rattle.lrc_explore.specs.Outcome.{HasOutcome, IsOutcome}
-use Rattle.lrc_explore.specs.States.{machine_begun, plain_at}
+use Rattle.lrc_exec.specs.States.{machine_begun, plain_at}
 use Rattle.lrc_explore.specs.Stuck.{IsAtRest, IsStuck}
 use Rattle.lrc_explore.proofs.Keeping.{stands_on}
 use Rattle.lrc_explore.proofs.Searching.{copy_same}
 use Rattle.lrc_explore.proofs.Stores.{before, listed, listed_apart}
 use Rattle.lrc_explore.proofs.Ways.{IsNotedCopy, noted_apart, noted_copy, noted_grows, noted_store, noted_within}
-use Rattle.lrc_explore.specs.declared.state.State.{State}
+use Rattle.lrc_exec.specs.declared.state.State.{State}
 use Rattle.lrc_explore.specs.declared.search.ExploreFault.{ExploreFault}
 use Rattle.lrc_explore.specs.declared.search.ExploreFault.TheVariants.{BadNodes, TooMany}
 use Rattle.lrc_exec.specs.Plain.{plain_start, thread_in}
