@@ -11,8 +11,8 @@ use Rattle.lrc_trace.proofs.Positions.{slice_get-front, slice_get-seam}
 use Rattle.lrc_exec.specs.declared.spot.Flat.{Flat}
 use Rattle.lrc_exec.specs.Plain.{Plain}
 use Rattle.lrc_explore.specs.Kept.{Grows}
-use Rattle.lrc_explore.specs.Led.{IsFirst}
-use Rattle.lrc_explore.specs.States.{IsStateOf, plain_at}
+use Rattle.lrc_exec.specs.States.{IsFirst}
+use Rattle.lrc_exec.specs.States.{IsStateOf, plain_at}
 use Rattle.lrc_known.specs.Effect.{word_of}
 use Rattle.lrc_explore.proofs.Gathering.{put_all}
 use Rattle.lrc_explore.proofs.Keeping.{item_at, stands_on as stays}

@@ -8,9 +8,9 @@ use Rattle.lrc_trace.proofs.Positions.{Does-last}
 use Rattle.lrc_exec.specs.declared.spot.Flat.{Flat}
 use Rattle.lrc_exec.specs.Plain.{Plain}
 use Rattle.lrc_consistency_laws.proofs.UpToRace.{in_range}
-use Rattle.lrc_explore.specs.Led.{IsFirst}
+use Rattle.lrc_exec.specs.States.{IsFirst}
 use Rattle.lrc_explore.specs.Notes.{notes_with}
-use Rattle.lrc_explore.specs.States.{plain_at}
+use Rattle.lrc_exec.specs.States.{plain_at}
 use Rattle.lrc_explore.proofs.Noting.{notes_more}
 use Rattle.lrc_known.specs.Effect.{IsKnowledgeAfter, word_of}
 use Rattle.lrc_lazy_machine.specs.Standing.{CanMake, Stands, effect_at}

@@ -10,7 +10,7 @@ use Rattle.lrc_trace.specs.declared.act.Deed.{Deed}
 use Rattle.lrc_trace.specs.Run.{act_of}
 use Rattle.lrc_exec.specs.declared.spot.Flat.{Flat}
 use Rattle.lrc_explore.specs.Kept.{Grows}
-use Rattle.lrc_explore.specs.States.{plain_at}
+use Rattle.lrc_exec.specs.States.{plain_at}
 use Rattle.lrc_explore.proofs.Keeping.{item_at, stands_on as stays}
 use Rattle.lrc_lazy.specs.Lazy.{IsLazyRun, IsLazyOutcome}
 use Rattle.lrc_lazy_machine.specs.Standing.{CanMake}

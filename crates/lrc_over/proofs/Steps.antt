@@ -11,8 +11,8 @@ use Rattle.lrc_trace.specs.Run.{act_of}
 use Rattle.lrc_trace.proofs.Prefixes.{MayGoOn-last}
 use Rattle.lrc_exec.specs.declared.spot.Flat.{Flat}
 use Rattle.lrc_exec.specs.Plain.{Plain, plain_step}
-use Rattle.lrc_explore.specs.declared.state.State.{State}
-use Rattle.lrc_explore.specs.States.{plain_at, IsStateOf}
+use Rattle.lrc_exec.specs.declared.state.State.{State}
+use Rattle.lrc_exec.specs.States.{plain_at, IsStateOf}
 use Rattle.lrc_explore.proofs.Counting.{step_counts}
 use Rattle.lrc_lazy.specs.Lazy.{IsLazyRun}
 use Rattle.lrc_lazy_machine.specs.Standing.{with_memory}

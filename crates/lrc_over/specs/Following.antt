@@ -7,8 +7,8 @@ use Rattle.lrc_trace.specs.declared.act.Deed.TheVariants.{Read}
 use Rattle.lrc_exec.specs.declared.spot.Flat.{Flat}
 use Rattle.lrc_exec.specs.Plain.{Plain, plain_start, plain_step}
 use Rattle.lrc_exec.specs.Spots.{IsFlat}
-use Rattle.lrc_explore.specs.declared.state.State.{State}
-use Rattle.lrc_explore.specs.States.{plain_at, machine_begun, IsStateOf}
+use Rattle.lrc_exec.specs.declared.state.State.{State}
+use Rattle.lrc_exec.specs.States.{plain_at, machine_begun, IsStateOf}
 use Rattle.lrc_lazy_machine.specs.Standing.{with_memory}
 
 -- the flat code is the program's, for so many nodes, and begins at this place

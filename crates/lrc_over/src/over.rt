@@ -4,13 +4,13 @@ ghost use Rattle.std.specs.Prelude.{◌≡◌, ◌↔◌, ◌≤◌, IfOk, IsTru
 ghost use Rattle.lrc_exec.specs.Nodes.{AreNodes};
 ghost use Rattle.lrc_exec.specs.Spots.{IsFlat};
 ghost use Rattle.lrc_exec.specs.Plain.{plain_start};
-ghost use Rattle.lrc_explore.specs.States.{machine_begun};
+ghost use Rattle.lrc_exec.specs.States.{machine_begun};
 ghost use Rattle.lrc_lazy.specs.Lazy.{IsLazyRun, IsOver};
 ghost use Rattle.lrc_over.specs.Following.{IsFlatOf, IsFollowed, MayFollow};
 
 use lrc_exec::code::Code;
 use lrc_exec::spot::Flat;
-use lrc_explore::state::State;
+use lrc_exec::state::State;
 use lrc_lang::program::Program;
 use lrc_trace::act::{Act, Deed};
 use std::alloc::{AllocError, Global};

@@ -4,7 +4,7 @@ use Rattle.std.proofs.lemmas.List.{take_all}
 use Rattle.lrc_trace.specs.declared.act.Act.{Act}
 use Rattle.lrc_trace.specs.declared.act.Deed.TheVariants.{Quiet}
 use Rattle.lrc_exec.specs.Plain.{Plain}
-use Rattle.lrc_explore.specs.States.{plain_at}
+use Rattle.lrc_exec.specs.States.{plain_at}
 use Rattle.lrc_over.proofs.Following.{StandsAt, over_to_rest, rest_to_over, stands_first}
 use Rattle.lrc_over.proofs.Steps.{counts_on, follow_on, front_lazy, may_follow, none_arrived, so_far}
 use Rattle.lrc_over.proofs.over.is_over_in.Goals as goal

@@ -1,7 +1,7 @@
 -- The acts so far have led the machine where it stands.
 use Rattle.std.proofs.Common.{◌≤◌, ℕ, take}
 use Rattle.std.specs.Prelude.{slice_index}
-use Rattle.lrc_explore.specs.States.{plain_at, IsStateOf}
+use Rattle.lrc_exec.specs.States.{plain_at, IsStateOf}
 use Rattle.lrc_over.proofs.Following.{StandsAt}
 use Rattle.lrc_over.proofs.over.is_over_in.Given as goal
 
