@@ -7,18 +7,18 @@ ghost use Rattle.lrc_acts.specs.declared.reading.LinedActs.{LinedActs};
 ghost use Rattle.lrc_acts.specs.ActsText.{ReadsActs};
 ghost use Rattle.lrc_acts.specs.Printed.{PrintedIsRead, SaysOne};
 
-/// What is printed of acts is read as these acts.
+/// Printed acts are read back as the same acts.
 pub fn printed_is_read()
     ensures { PrintedIsRead }
 {}
 
-/// A text says one list of acts.
+/// A text says only one list of acts.
 pub fn says_one()
     ensures { SaysOne }
 {}
 
-/// No text says two lists of acts, or acts on two lists of lines, none has two first bad lines, and none has one and says acts. A text that
-/// is too long says no acts and has no bad line.
+/// No text says two lists of acts, or acts on two lists of lines. No text has two first bad lines, or both acts and a
+/// bad line. A text that is too long says no acts and has no bad line.
 pub fn texts_of_acts_have_one_answer()
     ensures acts { (nodes : Option ℕ) (text : List ℕ) (lined others : LinedActs) → ReadsActs nodes text (Ok lined)
         → ReadsActs nodes text (Ok others)

@@ -15,8 +15,8 @@ use lrc_time::Time;
 use lrc_trace::act::{Act, Deed};
 use std::alloc::{AllocError, Global};
 
-/// An object for each act, in order, each on a line of its own: with the line of the program's text that the act is of, its
-/// interval, and its node's time just after it. The label of a word or of a lock is a member behind its number.
+/// Returns a JSON object for each act, in order, one on each line. An object has the act's line of the program's text,
+/// its interval, and its node's vector time just after it. The label of a word or lock is a member behind its number.
 pub fn json_part(
     alloc: Global,
     labels: &[Label<'_>],
@@ -161,7 +161,7 @@ fn push_time(text: &mut Vec<u8>, time: &Time) -> Result<(), AllocError>
     text.extend_from_slice(b"]")
 }
 
-/// Adds the entries of a time, with commas between them.
+/// Adds the entries of a vector time, separated by commas.
 pub fn push_entries(text: &mut Vec<u8>, time: &Time) -> Result<(), AllocError>
     ensures ok { OnOk result (text.new.items ≡ text.old.items ++ with_commas time.now) }
     ensures err { OnErr result (BeginsWith text.new.items text.old.items) }

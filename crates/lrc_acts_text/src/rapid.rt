@@ -12,7 +12,7 @@ use lrc_text::push_number;
 use lrc_trace::act::{Act, Deed};
 use std::alloc::{AllocError, Global};
 
-/// What a thread does in that form.
+/// What a thread does in the RAPID trace.
 #[derive(Clone, Copy)]
 pub(crate) enum Operation {
     Reads(u32),
@@ -21,7 +21,7 @@ pub(crate) enum Operation {
     Releases(u128),
 }
 
-/// A program's locks and nodes, and the barriers that one node has come to, and gone on from.
+/// The numbers of a program's locks and nodes, and the barriers that one node has reached and left.
 #[derive(Clone, Copy)]
 pub(crate) struct Meeting {
     locks: u8,
@@ -47,8 +47,9 @@ struct Spot {
     line: u32,
 }
 
-/// The accesses and the order of a run of a program with so many locks on so many nodes. The form knows no barrier: an arrive
-/// passes a lock of its own, past those of the program, and a depart passes those of every node's arrival at that barrier.
+/// Returns the accesses and the order of a run as a RAPID trace. The program has `locks` locks and runs on `nodes`
+/// nodes. RAPID has no barriers. Instead each arrival has its own lock, numbered after the program's locks: an arrive
+/// acquires and releases it, and a depart acquires and releases the locks of all nodes' arrivals at that barrier.
 pub fn rapid_part(
     alloc: Global,
     acts: &[Act],

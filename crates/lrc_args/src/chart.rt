@@ -17,7 +17,7 @@ static RUN_OPTIONS: [&str; 8] = [
     "steps", "collect", "order", "page", "events", "seed", "threads", "source",
 ];
 
-/// The choice of `chart`.
+/// Returns the choice of the command `chart`, or why its options do not fit.
 pub(crate) fn chart_choice<'w>(options: &ArgMatches<'w>) -> Result<Choice<'w>, Misfit>
     requires { IsChartTaken (rows_of (found_of options.now)) }
     ensures ok { IfOk result (IsChoice (codes "chart", rows_of (found_of options.now))) }

@@ -34,7 +34,8 @@ use std::convert::AsStr;
 // What the program does where it gets no words.
 static NO_WORDS: [&str; 2] = ["sim", "-"];
 
-/// Reads the words that follow the program's name. No words at all ask for `sim -`.
+/// Reads the words that follow the program's name, and returns the request. No words mean `sim -`. The errors are those
+/// of [`ChooseFault`].
 pub fn choose<'w, S: AsStr>(alloc: Global, words: &'w [S]) -> Result<Request<'w>, ChooseFault>
     ensures { Chooses (words_meant (map S.text words.entry.now)) result }
 {
@@ -52,7 +53,7 @@ fn request_in<'w, S: AsStr>(alloc: Global, words: &'w [S]) -> Result<Request<'w>
     request_from(&matches).map_err(|misfit| fault_of_misfit(alloc, misfit))
 }
 
-/// What clap reads in the words.
+/// Returns what clap reads in the words, or clap's error.
 pub(crate) fn matches_of<'w, S: AsStr>(
     alloc: Global,
     words: &'w [S],

@@ -18,16 +18,16 @@ use crate::reading::{collect_of, is_named, nodes_of, size_of, some_number_of, st
 use clap::ArgMatches;
 use lrc_envelope::Picker;
 
-/// The order of a run's events, where none are given.
+/// The order of a run's events if none are given.
 #[derive(Clone, Copy)]
 pub(crate) enum Order {
-    /// In rounds; which message is delivered next.
+    /// In rounds. The picker determines which message is delivered next.
     Picked(Picker),
     /// At random.
     Random,
 }
 
-/// The run of a command that has a flag for threads.
+/// Returns the run of a command that has a flag for threads, or why its options do not fit.
 pub(crate) fn showing_run<'w>(options: &ArgMatches<'w>) -> Result<RunChoice<'w>, Misfit>
     requires { IsShowingTaken (rows_of (found_of options.now)) }
     ensures ok { IfOk result (IsShowingRun (rows_of (found_of options.now))) }
@@ -36,7 +36,7 @@ pub(crate) fn showing_run<'w>(options: &ArgMatches<'w>) -> Result<RunChoice<'w>,
     run_choice(options, is_named(options, "threads"))
 }
 
-/// A run, on threads or not.
+/// Returns a run, on threads or not, or why its options do not fit.
 pub(crate) fn run_choice<'w>(
     options: &ArgMatches<'w>,
     threads: bool,
@@ -50,7 +50,7 @@ pub(crate) fn run_choice<'w>(
     Ok(RunChoice { options, way })
 }
 
-/// The choice of `trace`.
+/// Returns the choice of the command `trace`, or why its options do not fit.
 pub(crate) fn trace_choice<'w>(options: &ArgMatches<'w>) -> Result<Choice<'w>, Misfit>
     requires { IsTraceTaken (rows_of (found_of options.now)) }
     ensures ok { IfOk result (IsChoice (codes "trace", rows_of (found_of options.now))) }
@@ -60,7 +60,7 @@ pub(crate) fn trace_choice<'w>(options: &ArgMatches<'w>) -> Result<Choice<'w>, M
     Ok(Choice::Show(showing_run(options)?, Shape::Trace(form)))
 }
 
-/// The choice of `step`.
+/// Returns the choice of the command `step`, or why its options do not fit.
 pub(crate) fn step_choice<'w>(options: &ArgMatches<'w>) -> Result<Choice<'w>, Misfit>
     requires { IsStepTaken (rows_of (found_of options.now)) }
     ensures ok { IfOk result (IsChoice (codes "step", rows_of (found_of options.now))) }
@@ -70,7 +70,7 @@ pub(crate) fn step_choice<'w>(options: &ArgMatches<'w>) -> Result<Choice<'w>, Mi
     Ok(Choice::Show(showing_run(options)?, Shape::Step(part)))
 }
 
-/// The choice of a command that has no options but those of its run.
+/// Returns the choice of a command whose only options are those of its run, or why these do not fit.
 pub(crate) fn showing_choice<'w>(
     options: &ArgMatches<'w>,
     shape: Shape,
@@ -82,7 +82,7 @@ pub(crate) fn showing_choice<'w>(
     Ok(Choice::Show(showing_run(options)?, shape))
 }
 
-/// A run of a command whose runs are all on threads.
+/// Returns the run of a command that always uses threads, or why its options do not fit.
 pub(crate) fn threads_run<'w>(options: &ArgMatches<'w>) -> Result<RunChoice<'w>, Misfit>
     requires { IsRunTaken (rows_of (found_of options.now)) }
     ensures ok { IfOk result (IsThreadsRun (rows_of (found_of options.now))) }

@@ -9,7 +9,8 @@ use crate::choice::{ChooseFault, Topic};
 use crate::command_line::matches_of;
 use std::alloc::{AllocError, Global};
 
-/// What the program says of a topic, as clap's answer to the words that ask for it; its text is what is printed.
+/// Returns what the program says about a topic, as clap's answer to the words that ask for it. The answer's text is
+/// what is printed.
 pub fn about(alloc: Global, topic: &Topic<'_>) -> Result<clap::Error, AllocError>
     ensures asked { IfOk result (λ error. IsAmong (kind_of error) (fault_of treadmarks (topic_words topic.now))) }
     ensures kind { IfOk result (λ error. kind_of error ≡ topic_kind topic.now) }

@@ -25,7 +25,7 @@ fn arrival_in<'a>(place: &'a Option<Arrival>, last: &'a Arrival) -> &'a Arrival
     }
 }
 
-/// Whether an arrival asks for a collection.
+/// Returns whether some arrival asks for a collection.
 pub(crate) fn collects(kept: &[Option<Arrival>], last: &Arrival) -> bool
     ensures { result ≡ asks (all_with last.now kept.now) }
 {
@@ -116,7 +116,7 @@ fn news_of_all(
     Ok(Intervals::from_ascending(news))
 }
 
-/// What each node is told.
+/// Returns the departures, one for each node from node 0 on. It fails if memory runs out.
 pub(crate) fn departures(
     alloc: Global,
     kept: &[Option<Arrival>],

@@ -20,8 +20,10 @@ use lrc_live::live_names;
 use lrc_trace::act::Act;
 use std::alloc::{AllocError, Global};
 
-/// Looks at the settled states of a program on so many nodes: whether an order races, and else whether one gets stuck. Gives up where there
-/// are more states to tell apart than `most`.
+/// Searches the settled states of a program on this many nodes. It tells whether an order races, and if none does,
+/// whether one gets stuck. It fails with `BadNodes` exactly if the number of nodes is not 1 to 16. It gives up with
+/// `TooMany` if there are more states to tell apart than `most`, or if a thread makes 1,000,000 + 20 * `most` free acts
+/// one after another. It fails if memory runs out.
 pub fn explore(
     alloc: Global,
     program: &Program,
@@ -54,8 +56,8 @@ fn explore_code(
     found.answer(alloc, &task)
 }
 
-/// Every outcome of the orders in which so many nodes can run a program, after which no node can make an act. Gives up where there are more
-/// states to tell apart than `most`.
+/// Returns every outcome of the orders in which this many nodes can run a program, after which no node can make an act.
+/// It fails as `explore` does.
 pub fn outcomes(
     alloc: Global,
     program: &Program,
@@ -93,7 +95,7 @@ fn outcomes_of(
     }
 }
 
-/// What is searched of a program's code.
+/// Returns the task of searching a program's code. It fails if memory runs out.
 pub fn task_of<'c>(
     alloc: Global,
     code: &'c Code<'c>,

@@ -24,8 +24,9 @@ pub struct Ended {
     pub outcomes: IndexSet<Outcome>,
 }
 
-/// Finds all settled states of a program, with the outcomes of those at which no node can make an act. Gives up where there are more
-/// states to tell apart than may be.
+/// Finds all settled states of a program, and the outcomes of those at which no node can make an act. It fails with
+/// `TooMany` if there are more states to tell apart than the task allows, or if a thread makes as many free acts as are
+/// to be looked at. It fails if memory runs out.
 pub fn all_ended(alloc: Global, task: &Task<'_>) -> Result<Ended, ExploreFault>
     requires task { IsTask task.now }
     requires noting { task.now.noting ≡ true }
@@ -64,8 +65,8 @@ impl Found {
     ghost use Rattle.lrc_breadth.specs.Ended.{AreAllFound, IsFirstEnd, IsRunFor};
     ghost use Rattle.lrc_breadth.specs.Reached.{AreFound, IsTask};
 
-    /// The acts of a run with these notes after which no node can make an act, where there is one: those that lead to the first such
-    /// state that was found.
+    /// Returns the acts of a run with these notes after which no node can make an act, or none if there is no such run.
+    /// They are those that lead to the first such state that was found.
     pub fn run_with(
         &self,
         alloc: Global,

@@ -31,7 +31,8 @@ fn or_too_many(done: bool) -> Result<(), ExploreFault>
     }
 }
 
-/// The state that a step leads to, if it can be taken: puts the acts behind those that are there.
+/// Returns the state that a step leads to, or none if the step cannot be taken. It appends the acts to `acts`. It fails
+/// if memory runs out, or if a node makes so many free acts that the limit is reached.
 pub fn taken(
     alloc: Global,
     task: &Task<'_>,
@@ -98,7 +99,8 @@ fn taken_together(
     Ok(Some(after))
 }
 
-/// The settled start: puts the acts behind those that are there.
+/// Returns the settled start, and appends its acts to `acts`. It fails if memory runs out, or if a node makes so many
+/// free acts that the limit is reached.
 pub fn settled_start(
     alloc: Global,
     task: &Task<'_>,
@@ -116,7 +118,7 @@ pub fn settled_start(
     Ok(state)
 }
 
-/// What is kept of a state to which these acts led, behind notes.
+/// Returns what is kept of a state to which these acts led, after `notes`.
 fn key_of(
     alloc: Global,
     task: &Task<'_>,
@@ -172,7 +174,7 @@ impl Found {
     ghost use Rattle.lrc_breadth.specs.Reached.{AreFound, ComesFrom, HasAfter, HasStart, IsExpanded, IsKept, IsMore, IsReached, IsTask};
     ghost use Rattle.lrc_breadth.specs.Answers.{IsFault};
 
-    /// No states.
+    /// Makes a list without states.
     pub fn none(alloc: Global) -> Found
         ensures none { noted_count result.states ≡ 0 }
         ensures distinct { AreNotedDistinct result.states }
@@ -184,7 +186,7 @@ impl Found {
         }
     }
 
-    /// Adds the settled start, where there are no states yet.
+    /// Adds the settled start. There must be no states yet.
     pub fn begin(&mut self, alloc: Global, task: &Task<'_>) -> Result<(), ExploreFault>
         requires task { IsTask task.now }
         requires none { noted_count self.old.states ≡ 0 }
@@ -227,7 +229,7 @@ impl Found {
         Ok(())
     }
 
-    /// The states that a step leads to from one of them.
+    /// Adds the states that a step leads to from one of them.
     pub fn expand(
         &mut self,
         alloc: Global,

@@ -152,7 +152,7 @@ fn push_arrows_to(
     Ok(())
 }
 
-/// An arrow for each release and acquire in these rows that nothing but the two themselves orders.
+/// Returns an arrow for each release and acquire in these rows that no other acts order.
 pub(crate) fn direct_arrows(
     alloc: Global,
     order: &Order,

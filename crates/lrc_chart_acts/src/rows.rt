@@ -71,7 +71,7 @@ fn push_act_row(
     Ok(())
 }
 
-/// The rows at these places.
+/// Returns the rows at these places.
 pub(crate) fn act_rows(
     alloc: Global,
     known: &Known<'_>,

@@ -112,7 +112,8 @@ fn push_time(
     Ok(())
 }
 
-/// The times of the acts that are shown, and zeros at the others. There is no memory for 2^32 acts or more.
+/// Returns the times of the acts that are shown, and zeros for the other acts. It fails if memory runs out, or if there
+/// are 4,294,967,295 acts or more.
 pub(crate) fn times_known(
     alloc: Global,
     order: &Order,

@@ -117,7 +117,7 @@ fn push_all_arrows(
     Ok(())
 }
 
-/// The arrows of the messages that the turns at these places send.
+/// Returns the arrows of the messages that the turns at these places send.
 pub(crate) fn arrows_of(
     alloc: Global,
     turns: &[TurnOf<'_>],
@@ -180,7 +180,7 @@ fn push_all_lost(
     Ok(())
 }
 
-/// The messages that the turns at these places send, and that no turn takes.
+/// Returns the messages that the turns at these places send and no turn takes.
 pub(crate) fn lost_of(
     alloc: Global,
     turns: &[TurnOf<'_>],

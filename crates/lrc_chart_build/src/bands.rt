@@ -65,7 +65,7 @@ fn barrier_of_act(acts: &[Act], position: usize) -> u64
     }
 }
 
-/// The number of the barrier that the act at a position, if there is one, comes to or leaves; 0 at another deed.
+/// Returns the number of the barrier that the act at a position reaches or leaves, or 0 for another deed or no act.
 pub(crate) fn barrier_at(acts: &[Act], act: Option<usize>) -> u64
     ensures { result ≡ barrier_at acts.now act }
 {
@@ -171,7 +171,7 @@ fn push_bands(alloc: Global, bands: &mut Vec<Band>, numbers: &[u64]) -> Result<(
     Ok(())
 }
 
-/// A band for each barrier that a node comes to or leaves at one of these places.
+/// Returns a band for each barrier that a node reaches or leaves at one of these places.
 pub fn bands_of(alloc: Global, acts: &[Act], places: &[Place]) -> Result<Vec<Band>, AllocError>
     ensures { IfOk result (λ bands. map seen_band bands.items ≡ shown_bands acts.now places.now) }
 {

@@ -29,7 +29,7 @@ fn push_nodes(
     Ok(())
 }
 
-/// The nodes of all circles of this waiting.
+/// Returns the nodes of all circles of waiting nodes.
 pub(crate) fn circled_nodes(
     alloc: Global,
     waits: &[Option<usize>],
@@ -66,7 +66,7 @@ fn push_line(
     Ok(())
 }
 
-/// A line for each circle, by its lowest node.
+/// Returns a line for each circle, in the order of their lowest nodes.
 pub(crate) fn deadlock_lines(
     alloc: Global,
     waits: &[Option<usize>],
@@ -117,8 +117,8 @@ fn is_among(nodes: &[usize], node: u8) -> bool
     nodes.iter().any(|other| *other == usize::from(node))
 }
 
-/// Whether the row at a place has a border: its turn is of a node of a circle, which acts or begins to wait at it, and at none of the
-/// rows below it.
+/// Returns whether the row at a place has a border. It has one if its node is in a circle and acts or begins to wait at
+/// this row, but at none of the rows below.
 pub(crate) fn is_circled(
     turns: &[TurnOf<'_>],
     circled: &[usize],

@@ -88,7 +88,7 @@ fn push_invalid(text: &mut Vec<u8>, pages: &[u16]) -> Result<(), AllocError>
     }
 }
 
-/// Whether one of the turns before a position takes the message.
+/// Returns whether a turn before the position takes the message.
 pub(crate) fn taken_before(turns: &[TurnOf<'_>], position: usize, envelope: &Envelope) -> bool
     ensures { result ≡ taken_before turns.now position envelope.now }
 {
@@ -106,7 +106,7 @@ fn push_told(alloc: Global, text: &mut Vec<u8>, message: &Message) -> Result<(),
     push_invalid(text, pages.as_slice())
 }
 
-/// The pages that become invalid at the turn at a position, which has this input.
+/// Returns the pages that become invalid at the turn at a position, which has this input.
 pub(crate) fn invalid_text(
     alloc: Global,
     turns: &[TurnOf<'_>],

@@ -64,7 +64,7 @@ fn push_row(
     Ok(())
 }
 
-/// The rows at these places, where these are the nodes of the circles of waiting.
+/// Returns the rows at these places, given the nodes of the circles of waiting nodes.
 pub(crate) fn rows_of(
     alloc: Global,
     course: &Course<'_>,

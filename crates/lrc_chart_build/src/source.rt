@@ -89,7 +89,8 @@ fn source_lines(
     Ok(source)
 }
 
-/// The lines of a text, from line 1, those marked that an act of these rows is of; none where no text is given.
+/// Returns the lines of a text, from line 1, or none if no text is given. A line is marked if an act of these rows
+/// belongs to it.
 pub(crate) fn source_of(
     alloc: Global,
     lines: &[u32],

@@ -79,8 +79,8 @@ fn push_entries_if(text: &mut Vec<u8>, time: Option<&Time>) -> Result<(), AllocE
     }
 }
 
-/// The time that a node has just after its act at a position, at its first act shown and where it is another than at its act shown
-/// before; these rows are shown above it.
+/// Returns the node's time just after its act at a position, if this is the node's first act shown, or if the time has
+/// changed since its act shown before. `before` holds the rows above this one.
 pub fn new_time_text(
     alloc: Global,
     known: &Known<'_>,
@@ -115,7 +115,7 @@ fn push_hint(
     push_entries_if(text, time)
 }
 
-/// An act's position, its line, and its node's time just after it.
+/// Returns an act's position, its line, and its node's time just after it, in words; nothing if there is no act.
 pub fn hint_text(
     alloc: Global,
     known: &Known<'_>,

@@ -95,7 +95,7 @@ fn push_idle_words(
     }
 }
 
-/// What a turn does, in words.
+/// Returns a description of what a turn does.
 pub(crate) fn turn_words(
     alloc: Global,
     course: &Course<'_>,
@@ -141,7 +141,7 @@ fn kind_by(turns: &[TurnOf<'_>], position: usize, input: &Input, act: Option<Act
     }
 }
 
-/// What kind of row the turn at a position has.
+/// Returns the kind of row for the turn at a position.
 pub(crate) fn turn_kind(turns: &[TurnOf<'_>], position: usize, turn: &TurnOf<'_>) -> Kind
     ensures { result ≡ turn_kind turns.now position turn.now }
 {

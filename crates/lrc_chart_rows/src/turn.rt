@@ -43,7 +43,8 @@ fn push_next<'a>(
     Ok(())
 }
 
-/// The turns that nodes made, one after another: each is the next one of its node's log.
+/// Returns the turns that the nodes made, in this order. Each is the next entry of its node's log. A node whose log has
+/// no more entries adds no turn.
 pub fn turns_of<'a>(
     alloc: Global,
     logs: &'a [Vec<Entry>],

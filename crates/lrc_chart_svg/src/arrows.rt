@@ -84,7 +84,7 @@ fn push_lost_label(
     push_label(alloc, contents, at, hand, lost.label.as_slice())
 }
 
-/// Adds arrows to turns.
+/// Adds the arrows of messages that turns take.
 pub(crate) fn push_arrows(
     alloc: Global,
     contents: &mut Vec<Content>,
@@ -99,7 +99,7 @@ pub(crate) fn push_arrows(
     Ok(())
 }
 
-/// Adds arrows to nowhere.
+/// Adds the arrows of messages that no turn takes.
 pub(crate) fn push_all_lost(
     alloc: Global,
     contents: &mut Vec<Content>,
@@ -114,7 +114,7 @@ pub(crate) fn push_all_lost(
     Ok(())
 }
 
-/// Adds the kinds of messages that were never taken.
+/// Adds the labels (kinds) of messages that no turn takes.
 pub(crate) fn push_lost_labels(
     alloc: Global,
     contents: &mut Vec<Content>,

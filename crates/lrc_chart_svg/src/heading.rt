@@ -24,7 +24,7 @@ const CROSSED: &[u8] = b"h23 m-5 -5 l10 10 m-10 0 l10 -10";
 
 const KNOTTED: &[u8] = b"m0 -4 v8 m0 -4 h28 m0 -4 v8";
 
-/// Adds the ground and the title.
+/// Adds the background and the title.
 pub(crate) fn push_title(
     alloc: Global,
     contents: &mut Vec<Content>,
@@ -230,7 +230,7 @@ fn push_column(
     push_label(alloc, contents, at, Hand::bold(), name.as_slice())
 }
 
-/// Adds the columns, down to a height.
+/// Adds the columns, down to a given height.
 pub(crate) fn push_columns(
     alloc: Global,
     contents: &mut Vec<Content>,

@@ -12,14 +12,14 @@ use itoa::Buffer;
 use lrc_svg::{Attribute, Content, Key, Tag};
 use std::alloc::{AllocError, Global};
 
-/// A place, from the left and from the top.
+/// A point: its distance from the left and from the top.
 #[derive(Clone, Copy)]
 pub(crate) struct Point {
     pub x: u128,
     pub y: u128,
 }
 
-/// An area, by its corner and its size.
+/// A rectangle: its upper left corner and its size.
 #[derive(Clone, Copy)]
 pub(crate) struct Area {
     pub x: u128,
@@ -36,7 +36,7 @@ pub(crate) fn push_number(text: &mut Vec<u8>, number: u128) -> Result<(), AllocE
     text.extend_from_slice(digits.format(number).as_bytes())
 }
 
-/// Adds how far a place is from the left, and how far from the top.
+/// Adds the coordinates of a point: the distance from the left, a blank, and the distance from the top.
 pub(crate) fn push_point(text: &mut Vec<u8>, point: Point) -> Result<(), AllocError>
     ensures { OnOk result (text.new.items ≡ text.old.items ++ decimal point.x ++ codes " " ++ decimal point.y) }
 {
@@ -54,7 +54,7 @@ fn pixels(alloc: Global, number: u128) -> Result<Vec<u8>, AllocError>
     Ok(text)
 }
 
-/// A copy of these words.
+/// Returns a copy of these words.
 pub(crate) fn bytes(alloc: Global, words: &[u8]) -> Result<Vec<u8>, AllocError>
     ensures { IfOk result (λ text. text.items ≡ words.now) }
 {
@@ -82,7 +82,7 @@ pub(crate) fn push_attribute(
     Ok(())
 }
 
-/// Adds an attribute that is a number of pixels.
+/// Adds an attribute whose value is a number of pixels.
 pub(crate) fn push_pixels(
     alloc: Global,
     attributes: &mut Vec<Attribute>,
@@ -94,7 +94,7 @@ pub(crate) fn push_pixels(
     push_attribute(attributes, key, pixels(alloc, number)?)
 }
 
-/// Adds an attribute that is these words.
+/// Adds an attribute with these words as its value.
 pub(crate) fn push_value(
     alloc: Global,
     attributes: &mut Vec<Attribute>,
@@ -227,7 +227,7 @@ pub(crate) fn push_box(
     push_element(contents, Tag::Box, attributes, Vec::new(alloc))
 }
 
-/// Adds a shape from a place on, by strokes.
+/// Adds a shape that begins at a point and goes on by these strokes.
 pub(crate) fn push_path(
     alloc: Global,
     contents: &mut Vec<Content>,
@@ -262,7 +262,7 @@ pub(crate) fn push_line(
     push_element(contents, Tag::Line, attributes, Vec::new(alloc))
 }
 
-/// Adds words, whose foot is at this height.
+/// Adds words with their foot at this height.
 pub(crate) fn push_label(
     alloc: Global,
     contents: &mut Vec<Content>,
@@ -299,7 +299,7 @@ fn plate(at: Point, anchor: Anchor, letters: usize) -> Area
     }
 }
 
-/// Adds words on an area of the ground's colour, so that no line goes through them.
+/// Adds words on an area in the background's colour, so that no line crosses them.
 pub(crate) fn push_plated(
     alloc: Global,
     contents: &mut Vec<Content>,
@@ -325,7 +325,7 @@ pub(crate) fn push_hint(
     push_element(contents, Tag::Hint, Vec::new(alloc), text_of(alloc, words)?)
 }
 
-/// Adds elements as one group.
+/// Adds some elements as one group.
 pub(crate) fn push_group(
     alloc: Global,
     contents: &mut Vec<Content>,

@@ -174,8 +174,7 @@ fn push_picture(
     push_side(alloc, contents, layout, size, picture)
 }
 
-/// The picture as a document: what it shows, in order, and how large it is, are the definitions'. Its elements are those of scalable vector
-/// graphics.
+/// Returns the picture as an SVG document. The specifications define its content, in order, and its size.
 pub fn document_of(alloc: Global, picture: &Picture) -> Result<Document, AllocError>
     ensures shown { IfOk result (λ document. all_marks document.inside.items ≡ picture_marks picture.now) }
     ensures once { IfOk result (λ document. named_once document.attributes.items ≡ true) }

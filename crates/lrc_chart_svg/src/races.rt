@@ -152,7 +152,7 @@ fn push_race(
     push_group(alloc, contents, inside)
 }
 
-/// Adds groups of races.
+/// Adds the groups of races.
 pub(crate) fn push_races(
     alloc: Global,
     contents: &mut Vec<Content>,
@@ -194,7 +194,7 @@ fn push_band(
     push_label(alloc, contents, at, Hand::plain(INK), band.label.as_slice())
 }
 
-/// Adds barriers.
+/// Adds the bands of barriers.
 pub(crate) fn push_bands(
     alloc: Global,
     contents: &mut Vec<Content>,
@@ -230,7 +230,7 @@ fn push_deadlock(
     push_label(alloc, contents, at, Hand::plain(RACE), words.as_slice())
 }
 
-/// Adds circles of waiting.
+/// Adds the circles of waiting nodes (deadlocks).
 pub(crate) fn push_deadlocks(
     alloc: Global,
     contents: &mut Vec<Content>,

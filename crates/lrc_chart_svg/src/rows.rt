@@ -299,7 +299,7 @@ fn push_row(
     push_group(alloc, contents, inside)
 }
 
-/// Adds rows, from the top.
+/// Adds the rows, from the top.
 pub(crate) fn push_rows(
     alloc: Global,
     contents: &mut Vec<Content>,

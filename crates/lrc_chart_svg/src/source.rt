@@ -41,7 +41,7 @@ fn most_of_source(lines: &[SourceLine]) -> u32
     most
 }
 
-/// How wide the text is.
+/// Returns the width of the text in pixels.
 pub(crate) fn source_wide(lines: &[SourceLine]) -> u128
     ensures most { result < 2 ^ 66 }
     ensures exact { result ≡ source_wide lines.now }
@@ -52,7 +52,7 @@ pub(crate) fn source_wide(lines: &[SourceLine]) -> u128
     width(u64::from(most_of_source(lines))) + 72
 }
 
-/// The foot of a line.
+/// Returns the foot of the line at a place.
 pub(crate) fn source_foot(place: usize) -> u128
     ensures least { 98 ≤ result }
     ensures most { result < 2 ^ 70 }
@@ -149,7 +149,7 @@ fn push_source_line(
     push_line_words(alloc, contents, at, place, line.words.as_slice())
 }
 
-/// Adds the text.
+/// Adds the program's text.
 pub(crate) fn push_source(
     alloc: Global,
     contents: &mut Vec<Content>,

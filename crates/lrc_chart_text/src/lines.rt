@@ -119,7 +119,7 @@ fn push_end(text: &mut Vec<u8>) -> Result<(), AllocError>
     text.extend_from_slice(b"\n")
 }
 
-/// Adds phrases in lines of this room, the first behind one margin and the others behind another.
+/// Adds phrases in lines of this width. The first line has one margin, and the others have another.
 pub(crate) fn push_paragraph(
     text: &mut Vec<u8>,
     first: &[u8],

@@ -20,7 +20,7 @@ fn name_of_column(columns: &[Vec<u8>], column: u8) -> &[u8]
     }
 }
 
-/// The words of a row; none past the last one.
+/// Returns the words of a row, or none past the last row.
 pub(crate) fn words_of_row(rows: &[Row], number: usize) -> &[u8]
     ensures { result.now ≡ words_of_row rows.now number }
 {
@@ -30,7 +30,7 @@ pub(crate) fn words_of_row(rows: &[Row], number: usize) -> &[u8]
     }
 }
 
-/// The number of a row that is to be shown; past the last one its place.
+/// Returns the number that the row at a place shows, or the place itself past the last row.
 pub(crate) fn number_of_row(rows: &[Row], place: usize) -> usize
     ensures { result ≡ number_of_row rows.now place }
 {
@@ -40,7 +40,7 @@ pub(crate) fn number_of_row(rows: &[Row], place: usize) -> usize
     }
 }
 
-/// Adds a phrase.
+/// Adds a copy of a phrase.
 pub(crate) fn push_copy(
     alloc: Global,
     phrases: &mut Vec<Vec<u8>>,
@@ -291,7 +291,7 @@ fn push_circle(alloc: Global, phrases: &mut Vec<Vec<u8>>, circled: bool) -> Resu
     Ok(())
 }
 
-/// What is said of a row.
+/// Returns the phrases about a row.
 pub(crate) fn row_phrases(
     alloc: Global,
     picture: &Picture,

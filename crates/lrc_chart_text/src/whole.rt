@@ -300,7 +300,7 @@ fn push_foot(alloc: Global, text: &mut Vec<u8>, picture: &Picture) -> Result<(),
     push_deadlocks(alloc, text, picture.deadlocks.as_slice())
 }
 
-/// A picture as text.
+/// Returns a picture as text.
 pub fn sketch(alloc: Global, picture: &Picture) -> Result<Vec<u8>, AllocError>
     ensures { IfOk result (λ text. text.items ≡ sketch_text picture.now) }
 {

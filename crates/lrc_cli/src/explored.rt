@@ -18,7 +18,7 @@ use lrc_lang::parse;
 use lrc_lang::program::Program;
 use std::alloc::Global;
 
-/// Answers the command `explore`, with the text of a program.
+/// Answers the command `explore` for the text of a program.
 pub(crate) fn explored(
     alloc: Global,
     exploring: &Exploring<'_>,

@@ -121,14 +121,14 @@ static COMMANDS: [&str; 16] = [
     "explore", "why", "lint", "races", "help", "version",
 ];
 
-/// Whether a command is called so.
+/// Returns whether a command has this name.
 pub fn is_command(word: &str) -> bool
     ensures { result ≡ is_command word.now }
 {
     COMMANDS.contains(&word)
 }
 
-/// The command line of the program.
+/// Returns the command line of the program, as clap takes it.
 pub fn command_line<'w>(alloc: Global) -> Result<Command<'w>, AllocError>
     ensures { IfOk result (λ command. app_of command ≡ treadmarks) }
 {

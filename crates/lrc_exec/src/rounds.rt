@@ -67,10 +67,12 @@ impl Pace {
     }
 }
 
-/// The acts of a program on the plain machine in rounds. In each round every node from 0 up makes its next act, if it
-/// can and has steps left; the run ends after a round with no act. Each node begins with `steps` steps, and each
-/// condition that it evaluates and each other statement that it begins takes one. A depart takes none, and neither does
-/// the end of the text. There are 1 to 16 nodes and 1 to 1,000,000 steps.
+/// Runs a program on the plain machine in rounds, and returns its acts. There are 1 to 16 nodes and 1 to 1,000,000
+/// steps. It fails only if memory runs out.
+///
+/// In each round every node from 0 up makes its next act, if it can and has steps left. The run ends after a round
+/// without an act. Each node begins with `steps` steps. Each condition that it evaluates and each other statement that
+/// it begins takes one step. A depart and the end of the text take none.
 pub fn plain_rounds(
     alloc: Global,
     program: &Program,

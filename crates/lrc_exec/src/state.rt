@@ -18,7 +18,7 @@ pub struct State {
     pub spots: Vec<Spot>,
 }
 
-/// What a node can do now, and the number that its statement goes on with.
+/// What a node can do now, and the number with which its statement continues.
 #[derive(Clone, Copy)]
 pub(crate) struct Step {
     pub(crate) deed: Deed,
@@ -33,7 +33,8 @@ impl State {
     ghost use Rattle.lrc_exec.specs.Places.{place_after};
     ghost use Rattle.lrc_exec.specs.States.{plain_at, IsStateOf, IsCopy, place_then, HasMoved, IsFirst, IsThere, deed_now, CompletesAt};
 
-    /// The beginning of a program, whose text begins at this place of the code.
+    /// Returns the state at the beginning of a program whose text begins at this place of the code. It fails only if
+    /// memory runs out.
     pub fn start(alloc: Global, flat: &Flat, place: usize) -> Result<State, AllocError>
         requires { place ≤ length flat.now.code.now }
         ensures first { IfOk result (IsFirst flat.now place) }
@@ -54,7 +55,7 @@ impl State {
         })
     }
 
-    /// The same state.
+    /// Returns a copy of this state. It fails only if memory runs out.
     pub fn copy(&self, alloc: Global) -> Result<State, AllocError>
         ensures { IfOk result (λ state. IsCopy state self.now) }
     {
@@ -66,7 +67,7 @@ impl State {
         })
     }
 
-    /// What a node can do now.
+    /// Returns what a node can do now, or none if it cannot step.
     pub fn next_deed(&self, flat: &Flat, node: usize) -> Option<Deed>
         requires flat { IsFlat flat.now }
         requires state { IsStateOf flat.now self.now }
@@ -76,7 +77,7 @@ impl State {
         Some(step.deed)
     }
 
-    /// Does what a node can do now.
+    /// Makes the act that a node can make now.
     pub fn make(&mut self, flat: &Flat, node: usize, deed: Deed)
         requires flat { IsFlat flat.now }
         requires state { IsStateOf flat.now self.old }
@@ -90,7 +91,7 @@ impl State {
         self.take(flat, node, Step { deed, number });
     }
 
-    /// What a node can do now, with the number that its statement goes on with.
+    /// Returns what a node can do now, with the number with which its statement continues, or none if it cannot step.
     pub(crate) fn next_step(&self, flat: &Flat, node: usize) -> Option<Step>
         requires flat { IsFlat flat.now }
         requires state { IsStateOf flat.now self.now }
@@ -113,7 +114,7 @@ impl State {
         })
     }
 
-    /// Does what a node can do now, with that number.
+    /// Makes the act that a node can make now, given that number.
     pub(crate) fn take(&mut self, flat: &Flat, node: usize, step: Step)
         requires flat { IsFlat flat.now }
         requires state { IsStateOf flat.now self.old }
@@ -238,7 +239,7 @@ fn all_at_least(counts: &[u64], least: u64) -> bool
     counts.iter().all(|count| least <= *count)
 }
 
-/// A list of the same items.
+/// Returns a list of the same items. It fails only if memory runs out.
 pub fn copied<T: Copy>(alloc: Global, items: &[T]) -> Result<Vec<T>, AllocError>
     ensures { IfOk result (λ copy. copy.items ≡ items.now) }
 {

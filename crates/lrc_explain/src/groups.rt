@@ -151,8 +151,8 @@ fn push_group_if(
     }
 }
 
-/// The groups of these pairs, each with its number of pairs and the first of them, in the order of the first ones; the word of the
-/// first with its label.
+/// Returns the groups of these pairs, in the order of their first pairs. Each group is told with its number of pairs
+/// and its first pair, whose word has its label.
 pub(crate) fn groups_part(
     alloc: Global,
     labels: &[Label<'_>],

@@ -98,9 +98,9 @@ fn parts_of(
     Ok(parts)
 }
 
-/// What is printed of a run with reasons, in parts: of each node what it printed, how it ended and why; the circles of waiting; the
-/// races by groups; and the first race. The program's statements, and the text's end behind them, have these lines; each node has so
-/// many steps. The labels of words and of locks stand behind their numbers.
+/// Returns what is printed of a run with its reasons, in parts: for each node what it printed, how it ended and why;
+/// the circles of waiting; the races by groups; and the first race. `lines` has the lines of the program's statements,
+/// and of the text's end behind them. Each node has `steps` steps. The labels of words and locks follow their numbers.
 pub fn explain(
     alloc: Global,
     labels: &[Label<'_>],

@@ -16,7 +16,8 @@ use lrc_lang::program::Program;
 use lrc_trace::act::Act;
 use std::alloc::{AllocError, Global};
 
-/// What the nodes print, each one's in order, and how each ends: the prints, the traps and the ends, node by node.
+/// An outcome of a program: the prints, the traps and the ends, node by node. It says what each node prints, in order,
+/// and how the node ends.
 #[derive(PartialEq, Eq, Hash, Drop)]
 pub struct Outcome {
     pub notes: Vec<Act>,
@@ -29,8 +30,10 @@ pub(crate) struct Gathered {
     outcomes: IndexSet<Outcome>,
 }
 
-/// Every outcome of the orders in which so many nodes can run a program, after which no node can make an act. Gives up where
-/// there are more states to tell apart than `most`.
+/// Returns every outcome of the orders of this number of nodes after which no node can make an act.
+///
+/// It fails with `BadNodes` exactly if the number of nodes is not 1 to 16, with `TooMany` if there are more than `most`
+/// states to tell apart (states with different notes count apart), and with `NoMemory` if memory runs out.
 pub fn outcomes(
     alloc: Global,
     program: &Program,

@@ -12,7 +12,7 @@ use lrc_trace::act::{Act, Deed};
 use lrc_trace::race::Race;
 use std::alloc::{AllocError, Global};
 
-/// The races of the act at a position with earlier ones, ascending, each once.
+/// Returns the races of the act at a position with earlier acts, in ascending order, each once.
 pub(crate) fn races_at(
     alloc: Global,
     acts: &[Act],

@@ -29,8 +29,8 @@ use lrc_text::{first_race_part, races_part};
 use lrc_trace::act::Act;
 use std::alloc::{AllocError, Global};
 
-/// What is printed of the verdict on a program, and of the order that it names. The labels of words and of locks stand in the lines of
-/// nodes that are stuck.
+/// Returns what is printed of the verdict on a program, and of the order that it names. The lines of stuck nodes have
+/// the labels of words and locks.
 pub(crate) fn orders_told(
     alloc: Global,
     labels: &[Label<'_>],
@@ -212,7 +212,7 @@ fn ends_told(
     stuck_part(alloc, labels, &code, lines, nodes, None, acts)
 }
 
-/// A line for each act of an order.
+/// Returns a line for each act of an order.
 pub(crate) fn acts_told(
     alloc: Global,
     program: &Program,

@@ -20,9 +20,10 @@ use lrc_lang::program::Program;
 use lrc_trace::act::Act;
 use std::alloc::{AllocError, Global};
 
-/// What is printed of the outcome of this number, counted from 1, among those of a program whose statements, and the text's end behind
-/// them, have these lines: the acts of a run that has it. Nothing where there are fewer outcomes. There are 1 to 16 nodes. Gives up
-/// where there are more states to tell apart than `most`.
+/// Returns what is printed of the outcome with this number, counted from 1, among the outcomes of a program: the acts
+/// of a run that has it. Returns none if there are fewer outcomes. `lines` has the lines of the program's statements,
+/// and of the text's end behind them. There must be 1 to 16 nodes. Fails if there are more than `most` states to tell
+/// apart, or if memory runs out.
 pub fn outcome_run_told(
     alloc: Global,
     program: &Program,

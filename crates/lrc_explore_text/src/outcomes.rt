@@ -20,7 +20,7 @@ use lrc_trace::act::Act;
 use lrc_world::ends::ends;
 use std::alloc::{AllocError, Global};
 
-/// What is printed of the outcomes of a program.
+/// Returns what is printed of the outcomes of a program.
 pub(crate) fn outcomes_told(
     alloc: Global,
     program: &Program,
@@ -77,7 +77,7 @@ fn head_of(alloc: Global, count: usize) -> Result<Vec<u8>, AllocError>
     Ok(head)
 }
 
-/// The lines of outcomes, ascending.
+/// Returns the lines of outcomes, in ascending order.
 pub(crate) fn sorted_lines(
     alloc: Global,
     nodes: u8,
@@ -101,7 +101,7 @@ fn lines_of(alloc: Global, nodes: u8, outcomes: &[Outcome]) -> Result<Vec<Vec<u8
     Ok(lines)
 }
 
-/// The line of an outcome.
+/// Returns the line of an outcome.
 pub(crate) fn outcome_line(alloc: Global, nodes: u8, notes: &[Act]) -> Result<Vec<u8>, AllocError>
     ensures { IfOk result (λ line. line.items ≡ outcome_line nodes notes.now) }
 {

@@ -18,7 +18,7 @@ use crate::written::Written;
 use lrc_trace::act::{Act, Deed};
 use std::alloc::{AllocError, Global};
 
-/// A write: where it is, and what it writes.
+/// A write: its position, and its value.
 #[derive(Clone, Copy)]
 struct StoredValue {
     position: usize,
@@ -37,7 +37,7 @@ fn stored_at(acts: &[Act], position: usize, word: u32) -> Option<StoredValue>
     }
 }
 
-/// What the writes to a word so far that happen before a position say of a read there.
+/// What the writes to a word so far that happen before a position determine about a read there.
 #[derive(Clone, Copy)]
 struct Tally {
     /// Whether any two of them are ordered.
@@ -119,8 +119,9 @@ fn add_written(
     Ok(())
 }
 
-/// The values that a read of the word at this position may give, ascending, each once: where the writes that happen before
-/// it are ordered the last one's, or 0 where there are none; else 0 and what they wrote.
+/// Returns the values that a read of the word at this position may give, ascending, each once. If the writes that
+/// happen before it are ordered, this is the last one's value, or 0 if there are none. Otherwise these are 0 and all
+/// values that they wrote. It fails only if memory runs out.
 pub fn values_allowed(
     alloc: Global,
     acts: &[Act],
@@ -178,8 +179,10 @@ fn is_allowed(written: &Written, ordered: &[bool], acts: &[Act], position: usize
     }
 }
 
-/// The least position of a read that breaks lazy reading: it gives a value that no write before it wrote, or not that
-/// of the last of them although they are ordered. It costs little more than the acts, times the nodes.
+/// Returns the least position of a read that breaks lazy reading, or none if the run reads lazily. Such a read gives a
+/// value other than 0 that no write that happens before it wrote; or the writes that happen before it are ordered, and
+/// it does not give the last one's value, or 0 if there are none. The cost is nearly linear in the acts times the
+/// nodes. It fails only if memory runs out.
 pub fn first_fault_of_reading(alloc: Global, acts: &[Act]) -> Result<Option<usize>, AllocError>
     requires { All (λ act. act.node < NODES) acts.now }
     ensures { IfOk result (λ fault. MatchOption fault (ReadsLazily acts.now) (IsFirstMisread acts.now)) }

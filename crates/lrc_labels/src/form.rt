@@ -8,7 +8,8 @@ ghost use Rattle.lrc_labels.specs.Reading.{label_seen, reading_of, single_label,
 use crate::label::{Label, Reason, Target};
 use crate::name::{is_name, is_numeral, number_below};
 
-/// The label of these fields of a label line, in a program of so many words and locks.
+/// Reads a label from the fields of a label line, in a program with this many words and locks. It fails, with the first
+/// reason that applies, if they form no valid label. It does not look at other labels.
 pub fn reading_of<'t>(fields: &[&'t [u8]], words: u32, locks: u8) -> Result<Label<'t>, Reason>
     ensures { MatchResult result (λ label. reading_of words locks (map (λ field. field.now) fields.now) ≡ Ok (label_seen label))
         (λ reason. reading_of words locks (map (λ field. field.now) fields.now) ≡ Err reason) }

@@ -14,7 +14,7 @@ use crate::label::{IdleLabel, Label, Labels, Reason, Target};
 use crate::line::{LabelLine, fields, label_line};
 use std::alloc::{AllocError, Global};
 
-/// Reads the label lines of a text, of a program that has so many words and locks.
+/// Reads the label lines of a text, for a program with this many words and locks. It fails only if memory runs out.
 pub fn read_labels(
     alloc: Global,
     text: &[u8],
@@ -107,7 +107,7 @@ fn has_target(labels: &[Label<'_>], target: Target) -> bool
     labels.iter().any(|label| meets(label.target, target))
 }
 
-/// Whether one of these labels has this name.
+/// Returns whether one of these labels has this name.
 pub fn has_name(labels: &[Label<'_>], name: &[u8]) -> bool
     ensures { result ≡ list_any (λ label. bytes_eq label.name name.now) (map label_seen labels.now) }
 {

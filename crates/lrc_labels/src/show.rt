@@ -10,8 +10,9 @@ use crate::label::{Label, Target};
 use lrc_text::push_number;
 use std::alloc::AllocError;
 
-/// Adds ` (LABEL)` behind the number of a word, where one of the labels names the word. The label is `NAME`, and under `words`
-/// `NAME[I]` with the word's place I among its words.
+/// Appends ` (LABEL)` after the number of a word, if one of the labels names the word. The label is `NAME`, and under
+/// `words` `NAME[I]`, where I is the word's place among its words. It fails if memory runs out; then only part of it
+/// may have been appended.
 pub fn push_word_label(
     text: &mut Vec<u8>,
     labels: &[Label<'_>],
@@ -26,7 +27,8 @@ pub fn push_word_label(
     }
 }
 
-/// Adds ` (LABEL)` behind the number of a lock, where one of the labels names the lock.
+/// Appends ` (LABEL)` after the number of a lock, if one of the labels names the lock. It fails if memory runs out;
+/// then only part of it may have been appended.
 pub fn push_lock_label(text: &mut Vec<u8>, labels: &[Label<'_>], lock: u8) -> Result<(), AllocError>
     ensures ok { OnOk result (text.new.items ≡ text.old.items ++ lock_label_text (map label_seen labels.now) lock) }
     ensures err { OnErr result (BeginsWith text.new.items text.old.items) }
@@ -37,7 +39,8 @@ pub fn push_lock_label(text: &mut Vec<u8>, labels: &[Label<'_>], lock: u8) -> Re
     }
 }
 
-/// Adds the number of a word behind a name, and its label behind the number.
+/// Appends a name, the number of a word, and the word's label. It fails if memory runs out; then only part of it may
+/// have been appended.
 pub fn push_numbered_word(
     text: &mut Vec<u8>,
     labels: &[Label<'_>],
@@ -51,7 +54,8 @@ pub fn push_numbered_word(
     push_word_label(text, labels, word)
 }
 
-/// Adds the number of a lock behind a name, and its label behind the number.
+/// Appends a name, the number of a lock, and the lock's label. It fails if memory runs out; then only part of it may
+/// have been appended.
 pub fn push_numbered_lock(
     text: &mut Vec<u8>,
     labels: &[Label<'_>],
@@ -65,7 +69,8 @@ pub fn push_numbered_lock(
     push_lock_label(text, labels, lock)
 }
 
-/// Adds the label of a word as a member of an object of JSON, where one of the labels names the word.
+/// Appends the label of a word as a member of a JSON object, if one of the labels names the word. It fails only if
+/// memory runs out.
 pub fn push_word_member(
     text: &mut Vec<u8>,
     labels: &[Label<'_>],
@@ -79,7 +84,8 @@ pub fn push_word_member(
     }
 }
 
-/// Adds the label of a lock as a member of an object of JSON, where one of the labels names the lock.
+/// Appends the label of a lock as a member of a JSON object, if one of the labels names the lock. It fails only if
+/// memory runs out.
 pub fn push_lock_member(
     text: &mut Vec<u8>,
     labels: &[Label<'_>],

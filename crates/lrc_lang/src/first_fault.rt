@@ -25,13 +25,14 @@ use crate::symbol::{Symbol, symbol_of_sign};
 use crate::token::{Lexeme, Token};
 use std::alloc::{AllocError, Global};
 
-/// The first fault of a text.
+/// The first fault of a text, with the kinds of tokens that may come there instead.
 #[derive(Drop)]
 pub struct FirstFault {
-    /// The place of what has it among what stands in the text, from 0.
+    /// The index of the faulty item among the items of the text, from 0.
     pub index: usize,
     pub kind: FaultKind,
-    /// The kinds of tokens that may stand there, sizes aside, where a token is unexpected or a byte begins none.
+    /// The kinds of tokens that may come there, sizes aside, if a token is unexpected or a byte begins no token. For
+    /// another fault nothing is promised about them.
     pub may_stand: Vec<Kind>,
 }
 
@@ -42,7 +43,8 @@ struct Stop {
     may_stand: Vec<Kind>,
 }
 
-/// The first fault of what stands in a text.
+/// Returns the first fault of the items of a text, or none if they are the tokens of a program. It fails only if memory
+/// runs out.
 pub fn first_fault(alloc: Global, all: &[Located<'_>]) -> Result<Option<FirstFault>, AllocError>
     ensures { IfOk result (λ found. MatchOption found
         ((tokens : List TokenSeen) × AreFaultless [] (map placed (map located_of all.now)) tokens)
@@ -53,7 +55,7 @@ pub fn first_fault(alloc: Global, all: &[Located<'_>]) -> Result<Option<FirstFau
     first_fault_behind(&mut state, &mut limits, alloc, all)
 }
 
-/// The first fault of what stands in a text is the first fault of the text.
+/// The first fault of the items of a text of at most 65,536 bytes is the first fault of the text.
 pub fn first_faults_are_those_of_texts()
     ensures { (text : List ℕ) (all : List Spot) (index : ℕ) (kind : FaultKindSeen) (may_stand : List KindSeen) → length text ≤ 65536
         → HasLocated text all → (first : IsFirstFaultOf all index kind may_stand) → HasFirstFault text first.has.found.line kind }

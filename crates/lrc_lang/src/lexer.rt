@@ -28,33 +28,33 @@ const KEYWORDS: [Keyword; 11] = [
 /// A text that is read from the left.
 #[derive(Drop)]
 pub struct Lexer<'t> {
-    /// What is left of the text.
+    /// The bytes not read yet.
     pub rest: &'t [u8],
-    /// The line on which that begins, counted from 1.
+    /// The line on which they begin, counted from 1.
     pub line: u32,
-    /// The line stays in range, however many line feeds are left.
+    /// The line stays in range, however many line feeds follow.
     ghost line_fits: { line + length rest.now < 2 ^ 32 },
 }
 
-/// What stands next in a text, and how many bytes are left of the text from its first byte on.
+/// The next lexeme of a text, and how many bytes of the text are left from its first byte on.
 #[derive(Clone, Copy)]
 pub struct Met<'t> {
     pub found: Placed<'t>,
     pub left: usize,
 }
 
-/// Bytes that stand together.
+/// A class of bytes that are read together.
 #[derive(Clone, Copy)]
 enum Class {
     Digit,
     /// Letters, digits and `_`.
     Word,
-    /// Any bytes but line feeds.
+    /// Any bytes except line feeds.
     Comment,
 }
 
 impl<'t> Lexer<'t> {
-    /// A lexer at the beginning of a text.
+    /// Returns a lexer at the beginning of a text.
     pub fn new(text: &'t [u8]) -> Self
         requires { 1 + length text.now < 2 ^ 32 }
         ensures rest { result.rest.now ≡ text.now }
@@ -66,8 +66,8 @@ impl<'t> Lexer<'t> {
         }
     }
 
-    /// Passes over blanks, line feeds and comments, and takes what stands next. Once that was the end of the text or
-    /// a fault, nothing is promised of what a further call finds.
+    /// Skips blanks, line feeds and comments, and takes the next lexeme. After the end of the text or a fault, nothing
+    /// is promised about further calls.
     pub fn next_lexeme(&mut self) -> Placed<'t>
         ensures next { NextIs self.old.line self.old.rest.now (placed_of result) self.new.line self.new.rest.now }
         ensures shorter { IsShorter (lexeme_of result.lexeme) self.old.rest.now self.new.rest.now }
@@ -79,7 +79,7 @@ impl<'t> Lexer<'t> {
         Placed { line, lexeme }
     }
 
-    /// Takes what stands next, as `next_lexeme` does, and says where it is.
+    /// Takes the next lexeme, as `next_lexeme` does, and tells where it is.
     pub fn next_met(&mut self) -> Met<'t>
         ensures next { NextAt self.old.line self.old.rest.now (placed_of result.found) result.left self.new.rest.now }
         ensures line { self.new.line ≡ result.found.line }

@@ -18,8 +18,9 @@ use lrc_known::word::copied;
 use lrc_lang::program::Program;
 use std::alloc::{AllocError, Global};
 
-/// Every outcome of the lazy runs of a program on so many nodes, after which no node can make an act. Gives up where there are more states
-/// to tell apart than `most`.
+/// Returns every outcome of the lazy runs of a program on this many nodes, after which no node can make an act. It
+/// fails with `BadNodes` exactly if the number of nodes is not 1 to 16. It gives up with `TooMany` if there are more
+/// states to tell apart than `most`, and fails if memory runs out.
 pub fn lazy_outcomes(
     alloc: Global,
     program: &Program,
@@ -87,7 +88,8 @@ fn count_of(nodes: u32) -> Result<u8, ExploreFault>
     Ok(nodes as u8)
 }
 
-/// What is searched: a program, its code and the place where that begins, and how many states there may be.
+/// The task of a search: a program, its code and the place where the code begins, and the limit on the number of
+/// states.
 #[derive(Clone, Copy)]
 pub(crate) struct Task<'c> {
     program: &'c Program,

@@ -14,11 +14,11 @@ use lrc_known::word::{Effect, copied, word_after};
 use lrc_trace::act::{Act, Deed};
 use std::alloc::{AllocError, Global};
 
-/// The most acts that are made one after another between two states that are told apart.
+/// The most acts made one after another between two states that are told apart.
 const LONGEST: usize = 64;
 
-/// Where the nodes stand, what they know of the writes, and what was noted on the way. The words of the state are all 0: what a read gives
-/// is said by what its node knows.
+/// A state of the search: where the nodes are, what they know of the writes, and what was noted on the way. The words
+/// of the state are all 0: what a node knows says what a read gives.
 #[derive(PartialEq, Eq, Hash, Drop)]
 pub struct LazyState {
     pub state: State,
@@ -37,7 +37,7 @@ impl LazyState {
     ghost use Rattle.lrc_lazy_search.specs.Fit.{IsFit};
     ghost use Rattle.lrc_lazy_search.specs.Searching.{HasAll, AreNext, AreEnough, IsAhead, IsForced, IsInFront, Makes, Steps, IsPoked};
 
-    /// The beginning of a program, whose text begins at this place of the code.
+    /// Returns the beginning of a program whose text begins at this place of the code.
     pub fn start(alloc: Global, flat: &Flat, place: usize) -> Result<LazyState, AllocError>
         requires { place ≤ length flat.now.code.now }
         ensures first { IfOk result (λ key. IsFirst flat.now place key.state) }
@@ -52,7 +52,7 @@ impl LazyState {
         })
     }
 
-    /// What a node can do now, a read with each value that it may give.
+    /// Returns the deeds that a node can do now, with a read for each value that it may give.
     pub fn deeds(&self, alloc: Global, flat: &Flat, node: usize) -> Result<Vec<Deed>, AllocError>
         requires flat { IsFlat flat.now }
         requires fit { IsFit flat.now self.now }
@@ -113,7 +113,7 @@ impl LazyState {
         })
     }
 
-    /// The state after a deed that a node can do.
+    /// Returns the state after a deed that the node can do.
     pub fn after(
         &self,
         alloc: Global,
@@ -305,8 +305,8 @@ impl LazyState {
         Ok(true)
     }
 
-    /// Goes on as long as the lowest node that can do something other than acquire a lock can do one deed alone, which is no arrive, and not
-    /// for too long.
+    /// Makes deeds as long as the lowest node that can do something other than acquire a lock can do only one deed,
+    /// which is no arrive. It makes no more than `LONGEST` deeds. It fails if memory runs out.
     pub fn go_ahead(&mut self, alloc: Global, flat: &Flat) -> Result<(), AllocError>
         requires flat { IsFlat flat.now }
         requires state { IsStateOf flat.now self.old.state }
@@ -321,8 +321,8 @@ impl LazyState {
         Ok(())
     }
 
-    /// The states to go on with: those to which the lowest node leads that can do something other than acquire a lock, and where there is
-    /// none, those to which any node leads.
+    /// Returns the states to go on with: those to which the lowest node leads that can do something other than acquire
+    /// a lock. If there is no such node, they are those to which any node leads. It fails if memory runs out.
     pub fn nexts(&self, alloc: Global, flat: &Flat) -> Result<Vec<LazyState>, AllocError>
         requires flat { IsFlat flat.now }
         requires fit { IsFit flat.now self.now }

@@ -24,15 +24,16 @@ use lrc_lint_text::{
 };
 use std::alloc::{AllocError, Global};
 
-/// What is printed of a text, and the status with which the program ends after it.
+/// The answer of `lint`: the text to print, and the exit status.
 #[derive(Drop)]
 pub struct Linted {
-    /// The parts of what is printed.
+    /// The parts of the printed text.
     pub parts: Vec<Vec<u8>>,
     pub status: u8,
 }
 
-/// What is told of a text that is no program, if it is none. The file is named as it was given.
+/// Reports the first fault of a text, or returns none if the text is a program. The report names the file as it was
+/// given.
 pub fn lint_fault(alloc: Global, file: &[u8], text: &[u8]) -> Result<Option<Linted>, AllocError>
     ensures { IfOk result (λ told. MatchOption told
         ((line : ℕ) (kind : FaultKindSeen) → HasFirstFault text.now line kind → ⊥)

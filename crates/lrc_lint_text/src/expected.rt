@@ -11,7 +11,7 @@ use lrc_lang::kind::{Kind, all_kinds};
 use lrc_lang::token::{Keyword, Sign};
 use std::alloc::{AllocError, Global};
 
-/// What begins a statement.
+/// The kinds of tokens that may begin a statement.
 const STATEMENT: &[Kind] = &[
     Kind::Name,
     Kind::Sign(Sign::OpenBracket),
@@ -23,7 +23,7 @@ const STATEMENT: &[Kind] = &[
     Kind::Keyword(Keyword::While),
 ];
 
-/// What begins an operand.
+/// The kinds of tokens that may begin an operand.
 const OPERAND: &[Kind] = &[
     Kind::Name,
     Kind::Number,
@@ -49,36 +49,36 @@ const COMPARISON: &[Kind] = &[
     Kind::Sign(Sign::GreaterOrEqual),
 ];
 
-/// What begins a statement.
+/// Returns the kinds of tokens that may begin a statement.
 pub fn statement_kinds() -> &'static [Kind]
     ensures { result.now ≡ statement_kinds }
 {
     STATEMENT
 }
 
-/// What begins an operand.
+/// Returns the kinds of tokens that may begin an operand.
 pub fn operand_kinds() -> &'static [Kind]
     ensures { result.now ≡ operand_kinds }
 {
     OPERAND
 }
 
-/// The signs of sums and products.
+/// Returns the signs of sums and products.
 pub fn operator_kinds() -> &'static [Kind]
     ensures { result.now ≡ operator_kinds }
 {
     OPERATOR
 }
 
-/// The signs that compare.
+/// Returns the signs of comparisons.
 pub fn comparison_kinds() -> &'static [Kind]
     ensures { result.now ≡ comparison_kinds }
 {
     COMPARISON
 }
 
-/// Adds the line that says that these kinds of tokens may stand in a place. Where all members of a group may stand, the line has the
-/// group's name in place of theirs: `a statement`, `an operand`, `an operator`, `a comparison`.
+/// Adds the line that lists the kinds of tokens that may stand at a place. If all members of a group are among them,
+/// the group's name replaces them: `a statement`, `an operand`, `an operator`, `a comparison`.
 pub fn push_expected(out: &mut Vec<u8>, alloc: Global, kinds: &[Kind]) -> Result<(), AllocError>
     ensures { OnOk result (out.new.items ≡ out.old.items ++ expected_text kinds.now) }
 {

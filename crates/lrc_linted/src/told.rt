@@ -11,7 +11,7 @@ use lrc_warnings::push_words;
 use lrc_warnings::warning::Warning;
 use std::alloc::AllocError;
 
-/// Adds a line for each of these warnings, and the line that says how many they are.
+/// Adds a line for each of these warnings, then the line with their number.
 pub fn push_warned(
     out: &mut Vec<u8>,
     file: &[u8],

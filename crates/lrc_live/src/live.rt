@@ -9,8 +9,8 @@ use lrc_exec::code::Instruction;
 use lrc_lang::program::{Expression, Statement};
 use std::alloc::{AllocError, Global};
 
-/// Of each place of the code the names that matter there: their values are used by what is still to do, before it sets them. The
-/// places are counted from 0, the end of the text.
+/// Returns, for each place of the code, the names that matter there: the rest of the code may use their values before
+/// it sets them. Places count from 0, the end of the text. It fails if memory runs out.
 pub fn live_names(alloc: Global, code: &[Instruction<'_>]) -> Result<Vec<[bool; 32]>, AllocError>
     requires { IsSoundFrom 0 code.now }
     ensures { IfOk result (λ table. AreLive code.now table.items) }

@@ -16,7 +16,7 @@ pub struct Span {
     pub last: u32,
 }
 
-/// A set of numbers, kept as spans that ascend, with a gap between each two. So numbers that are added in order cost
+/// A set of numbers, kept as ascending spans with a gap between each two. So numbers that are added in order cost
 /// constant memory.
 #[derive(Drop)]
 pub struct Numbers {
@@ -36,7 +36,7 @@ impl Model for Numbers {
 }
 
 impl Numbers {
-    /// No numbers.
+    /// Returns an empty set.
     pub fn empty(alloc: Global) -> Self
         ensures { result ≡ [] }
     {
@@ -45,7 +45,7 @@ impl Numbers {
         }
     }
 
-    /// How many numbers there are.
+    /// Returns how many numbers the set has.
     pub fn count(&self) -> u64
         ensures { result ≡ length self.now }
     {
@@ -57,7 +57,7 @@ impl Numbers {
         count
     }
 
-    /// Whether this number is among them.
+    /// Returns whether the set contains this number.
     pub fn contains(&self, number: u32) -> bool
         ensures { result ≡ list_any (λ n. n == number) self.now }
     {
@@ -68,7 +68,7 @@ impl Numbers {
         }
     }
 
-    /// Adds a number that is not among them, at its place.
+    /// Adds a number that is not in the set, at its place.
     pub fn add(&mut self, number: u32) -> Result<(), AllocError>
         requires { list_any (λ n. n == number) self.old ≡ false }
         ensures { OnOk result (self.new ≡ placed nat_lt number self.old) }

@@ -22,7 +22,7 @@ use lrc_time::Time;
 use std::alloc::{AllocError, Global};
 
 impl Memory {
-    /// The base copy of a page, if one is kept here.
+    /// Returns the base copy of a page, if one is kept here.
     pub fn base(&self, page: u16) -> Option<&Page>
         requires { page < length self.now.memory.copies }
         ensures { MatchOption result (base_at self.now.memory page ≡ None) (λ base. base_at self.now.memory page ≡ Some base.now) }
@@ -30,7 +30,7 @@ impl Memory {
         self.table.base(page)
     }
 
-    /// Pages that were named since the last collection get new keepers: of each the lowest node that named it.
+    /// Gives a new keeper to each page that was named since the last collection: the lowest node that named it.
     pub fn take_keepers(&mut self)
         ensures taken { self.new ≡ with_known self.old (with_keepers self.old.memory) }
         ensures same { SameMemory self.old self.new }
@@ -40,7 +40,7 @@ impl Memory {
         take_keepers(&self.store, &mut self.notes);
     }
 
-    /// The pages that this node keeps and that were named since the last collection, ascending.
+    /// Returns the pages that this node keeps and that were named since the last collection, ascending.
     pub fn kept_pages(&self) -> Result<Pages, AllocError>
         ensures pages { IfOk result (λ pages. pages ≡ kept_pages self.now.me self.now.memory) }
     {
@@ -49,7 +49,7 @@ impl Memory {
         kept_pages(*self.notes.allocator(), &self.store, self.me, &self.notes)
     }
 
-    /// Keeps the values of a valid copy as the base copy of its page. An error changes nothing.
+    /// Keeps the values of a valid copy as the base copy of its page. On error nothing changes.
     pub fn keep_base(&mut self, page: u16) -> Result<(), AllocError>
         requires in_range { page < length self.old.memory.copies }
         requires readable { is_readable (copy_at self.old.memory page) ≡ true }
@@ -61,8 +61,8 @@ impl Memory {
         self.table.keep_base(page)
     }
 
-    /// Drops all that is covered by a collection's time, which covers the node's own intervals: intervals with their
-    /// changes, made or not, base copies of pages that other nodes keep, and invalid copies.
+    /// Drops everything that the time of a collection covers: intervals with their changes, made or not, base copies of
+    /// pages that other nodes keep, and invalid copies. The time must cover the node's own intervals.
     pub fn collect(&mut self, time: &Time)
         requires time { length time.now ≡ length self.old.memory.store.last }
         requires closed { NoneIsWritten self.old.memory }

@@ -26,7 +26,8 @@ use lrc_time::Time;
 use std::alloc::{AllocError, Global};
 
 impl Memory {
-    /// What the node's own interval of this index changed in a page, for a reply. Nothing where no such changes are known.
+    /// Returns what the node's own interval with this index changed in a page, for a reply. The list is empty if no
+    /// such changes are known.
     pub fn changes_of(&mut self, page: u16, index: u32) -> Result<Changes, AllocError>
         requires { page < length self.old.memory.copies }
         ensures changes { IfOk result (λ changes. changes
@@ -40,7 +41,7 @@ impl Memory {
         changes_or_none(alloc, &self.store, Key { node, index, page })
     }
 
-    /// Stores what intervals of a maker changed in a page.
+    /// Stores what the intervals of a maker changed in a page.
     pub fn attach(&mut self, maker: u8, page: u16, parts: &Parts) -> Result<(), AllocError>
         requires awaited { AreAwaited self.old.size self.old.memory.store maker page parts.now }
         ensures ok { OnOk result (self.new ≡ with_known self.old
@@ -65,8 +66,8 @@ impl Memory {
         self.store.attach(key, changes);
     }
 
-    /// What a page needs before it can be read: a base copy where its copy is absent, and the changes that its copy lacks,
-    /// of which those are asked of their makers that are not known.
+    /// Returns what a page needs before it can be read: a base copy if its copy is absent, and the changes that its
+    /// copy lacks. Those that are not known here are asked of their makers.
     pub fn need(&self, page: u16) -> Result<Need, AllocError>
         requires { page < length self.now.memory.copies }
         ensures need { IfOk result (λ need. need ≡ need_of (length self.now.memory.store.last) self.now.memory page) }
@@ -88,7 +89,7 @@ impl Memory {
         )
     }
 
-    /// The notices of a page that its copy lacks, in the order in which their changes are applied.
+    /// Returns the notices of a page that its copy lacks, in the order in which their changes are applied.
     pub fn lacking(&self, page: u16) -> Result<Vec<Key>, AllocError>
         requires { page < length self.now.memory.copies }
         ensures keys { IfOk result (λ keys. keys.items ≡ missing_at self.now.memory page) }
@@ -104,8 +105,8 @@ impl Memory {
         }
     }
 
-    /// Repairs a page whose copy is not readable: what it lacks is applied to the base copy that came, or else to the
-    /// copy, and it is valid.
+    /// Repairs a page whose copy is not readable. The missing changes are applied to the base copy that arrived, or
+    /// else to the present copy. The copy is then valid.
     pub fn mend(&mut self, need: &Need)
         requires in_range { need.now.page < length self.old.memory.copies }
         requires fit { is_mendable self.old.size (copy_at self.old.memory need.now.page) need.now.base ≡ true }

@@ -17,8 +17,8 @@ use lrc_time::Time;
 use std::alloc::AllocError;
 
 impl Memory {
-    /// Learns intervals of other nodes, at a time before these are known: they are stored, and the valid copies of the
-    /// pages that they name become invalid. A page that is written stays so.
+    /// Learns intervals of other nodes. They are stored, and the valid copies of the pages that they name become
+    /// invalid. A written page stays written. `before` is the node's time before it learns them.
     pub fn learn(&mut self, before: &Time, intervals: &Intervals) -> Result<(), AllocError>
         requires before { length before.now ≡ length self.old.memory.store.last }
         requires intervals { CanBeAdded self.old.memory.store intervals.now }
@@ -72,7 +72,7 @@ impl Memory {
         Ok(())
     }
 
-    /// The intervals that `upto` knows and `since` does not, ascending by node and index.
+    /// Returns the intervals that `upto` knows and `since` does not, ascending by node and index.
     pub fn newer(&self, since: &Time, upto: &Time) -> Result<Intervals, AllocError>
         requires since { length since.now ≡ length self.now.memory.store.last }
         requires upto { length upto.now ≡ length self.now.memory.store.last }
@@ -82,14 +82,14 @@ impl Memory {
         self.store.newer_than(since, upto)
     }
 
-    /// How many intervals there are.
+    /// Returns the number of stored intervals.
     pub fn len(&self) -> usize
         ensures { result ≡ length self.now.memory.store.entries }
     {
         self.store.len()
     }
 
-    /// The greatest index ever added of this node, 0 before any.
+    /// Returns the greatest index ever added for this node, or 0 if there is none.
     pub fn last(&self, node: u8) -> u32
         requires { node < length self.now.memory.store.last }
         ensures index { result ≡ entry self.now.memory.store.last node }
@@ -97,7 +97,7 @@ impl Memory {
         self.store.last(node)
     }
 
-    /// Whether the interval of this node and index is stored and names the page.
+    /// Returns whether this node's interval with the given index is stored and names the page.
     pub fn has_notice(&self, node: u8, index: u32, page: u16) -> bool
         ensures { result
             ≡ is_some (notice_at self.now.memory.store (record { node = node; index = index; page = page })) }
@@ -106,7 +106,7 @@ impl Memory {
     }
 }
 
-/// Whether this time is just what was added last of each node, as a node's time is before it learns.
+/// Returns whether this time equals the last index added for each node. A node's time does so before it learns.
 pub(crate) fn is_last(store: &Store, time: &Time) -> bool
     requires { length time.now ≡ length store.now.last }
     ensures { IsTrue result ↔ (time.now ≡ store.now.last) }

@@ -15,18 +15,18 @@ use lrc_time::Time;
 use std::alloc::{AllocError, Global};
 use std::marker::Model;
 
-/// What a node remembers of a page beside its copy.
+/// What a node remembers of a page besides its copy.
 #[derive(Drop)]
 pub(crate) struct PageNote {
-    /// The time from before the copy became invalid.
+    /// The node's time before the copy became invalid.
     pub(crate) since: Time,
-    /// The index of the own interval that named the page last.
+    /// The index of the node's own interval that named the page last.
     pub(crate) named: u32,
     /// The node that keeps the base copy.
     pub(crate) keeper: u8,
 }
 
-/// What a node knows of the shared memory. The changes of its closed intervals are made when they are needed.
+/// What a node knows of the shared memory. The changes of its closed intervals are made only when they are needed.
 #[derive(Drop)]
 pub struct Memory {
     pub(crate) me: u8,
@@ -72,7 +72,8 @@ impl Model for Memory {
 }
 
 impl Memory {
-    /// The memory of a node at the start, with this many nodes and words: every word is zero, and every copy valid.
+    /// Creates the memory of node `me` at the start, in a run of at most 16 nodes, with 1 to 65,536 words. Every word
+    /// is zero, and every copy is valid.
     pub fn new(alloc: Global, me: u8, nodes: u8, words: u32, size: Size) -> Result<Self, AllocError>
         requires counted { me < nodes }
         requires few_nodes { nodes ≤ 16 }
@@ -94,14 +95,14 @@ impl Memory {
         })
     }
 
-    /// The size of the pages.
+    /// Returns the size of the pages.
     pub fn size(&self) -> Size
         ensures { result ≡ self.now.size }
     {
         self.table.size()
     }
 
-    /// Whether the copy of a page may be read and written.
+    /// Returns whether the copy of a page may be read and written.
     pub fn is_readable(&self, page: u16) -> bool
         requires { page < length self.now.memory.copies }
         ensures { result ≡ is_readable (copy_at self.now.memory page) }
@@ -112,7 +113,7 @@ impl Memory {
         }
     }
 
-    /// The value of a word, or `None` if the copy of its page may not be read.
+    /// Returns the value of a word, or `None` if the copy of its page may not be read.
     pub fn read(&self, word: u32) -> Option<u64>
         requires in_range { word < MOST_WORDS }
         requires on_a_page { page_of word self.now.size < length self.now.memory.copies }
@@ -122,8 +123,8 @@ impl Memory {
         self.table.read(word)
     }
 
-    /// Gives a word a value and answers `true`, or `false` if the copy of its page may not be written, which changes
-    /// nothing. The first write of an interval to a page keeps its values as a twin.
+    /// Sets a word, and returns `true`. If the copy of its page may not be written, it returns `false` and changes
+    /// nothing. The first write to a page in an interval keeps the page's values as a twin.
     pub fn write(&mut self, word: u32, value: u64) -> Result<bool, AllocError>
         requires in_range { word < MOST_WORDS }
         requires on_a_page { page_of word self.old.size < length self.old.memory.copies }
@@ -136,7 +137,7 @@ impl Memory {
         self.table.write(word, value)
     }
 
-    /// Closes the open interval, which names the pages written in it. The stamp is the node's time just after.
+    /// Closes the open interval, which names the pages written in it. `stamp` is the node's time just after the close.
     pub fn close(&mut self, stamp: &Time) -> Result<(), AllocError>
         requires stamp { length stamp.now ≡ length self.old.memory.store.last }
         requires next { entry stamp.now self.old.me ≡ entry self.old.memory.store.last self.old.me + 1 }

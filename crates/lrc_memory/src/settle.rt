@@ -14,8 +14,8 @@ use lrc_store::{Key, Store};
 use lrc_table::PageTable;
 use std::alloc::AllocError;
 
-/// Makes the changes that a page has still to make, if it has any, and stores them with the notice of the node's own
-/// interval that named the page last. An error changes nothing.
+/// Makes the pending changes of a page, if it has any, and stores them with the notice of the node's own interval that
+/// named the page last. On error nothing changes.
 pub(crate) fn settle_page(
     table: &mut PageTable,
     store: &mut Store,

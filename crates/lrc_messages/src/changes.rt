@@ -61,7 +61,7 @@ fn push_part(text: &mut Vec<u8>, place: usize, part: &IndexedChanges) -> Result<
     push_bracketed(text, &part.changes)
 }
 
-/// Adds what intervals changed, each with its index.
+/// Adds the changes of intervals, each with its index.
 pub(crate) fn push_parts(text: &mut Vec<u8>, parts: &Parts) -> Result<(), AllocError>
     ensures ok { OnOk result (text.new.items ≡ text.old.items ++ separated (codes " ") part_text parts.now) }
     ensures err { OnErr result (BeginsWith text.new.items text.old.items) }

@@ -34,7 +34,8 @@ fn push_head(
     push_number(text, way, u64::from(other))
 }
 
-/// Adds the line of a message that a node takes; of one that it took before no more is said.
+/// Adds the line of a message that a node takes. If the node took it before (`again`), the line does not repeat what it
+/// says. On error `text` still begins with its old bytes.
 pub fn push_taken(
     alloc: Global,
     text: &mut Vec<u8>,
@@ -90,7 +91,8 @@ fn size_of(alloc: Global, envelope: &Envelope) -> Result<Option<u64>, AllocError
     }
 }
 
-/// Adds how many bytes an envelope has, or `no` where it has more than may be sent.
+/// Adds the number of bytes of an envelope, or `no` if its message is too long to be sent. On error `text` still begins
+/// with its old bytes.
 pub fn push_size(alloc: Global, text: &mut Vec<u8>, envelope: &Envelope) -> Result<(), AllocError>
     ensures ok { OnOk result (text.new.items ≡ text.old.items ++ size_text envelope.now) }
     ensures err { OnErr result (BeginsWith text.new.items text.old.items) }
@@ -111,7 +113,7 @@ fn push_bytes(alloc: Global, text: &mut Vec<u8>, envelope: &Envelope) -> Result<
     text.extend_from_slice(b" bytes: ")
 }
 
-/// Adds the line of a message that a node sends.
+/// Adds the line of a message that a node sends. On error `text` still begins with its old bytes.
 pub fn push_sent(
     alloc: Global,
     text: &mut Vec<u8>,
@@ -134,7 +136,7 @@ pub fn push_sent(
     text.extend_from_slice(b"\n")
 }
 
-/// Adds a line for each message that a node sends.
+/// Adds a line for each message that a node sends. On error `text` still begins with its old bytes.
 pub fn push_all_sent(
     alloc: Global,
     text: &mut Vec<u8>,

@@ -16,7 +16,7 @@ use lrc_text::push_number;
 use lrc_time::Time;
 use std::alloc::AllocError;
 
-/// Adds the entries of a time.
+/// Adds the entries of a vector time.
 pub(crate) fn push_time(text: &mut Vec<u8>, time: &Time) -> Result<(), AllocError>
     ensures ok { OnOk result (text.new.items ≡ text.old.items ++ time_text time.now) }
     ensures err { OnErr result (BeginsWith text.new.items text.old.items) }
@@ -75,7 +75,7 @@ fn push_intervals_or_dash(text: &mut Vec<u8>, intervals: &Intervals) -> Result<(
     }
 }
 
-/// Adds a time, and intervals.
+/// Adds a vector time and intervals with their write notices.
 pub(crate) fn push_news(text: &mut Vec<u8>, news: &News) -> Result<(), AllocError>
     ensures ok { OnOk result (text.new.items ≡ text.old.items ++ news_text news.now.time news.now.intervals) }
     ensures err { OnErr result (BeginsWith text.new.items text.old.items) }
@@ -85,7 +85,7 @@ pub(crate) fn push_news(text: &mut Vec<u8>, news: &News) -> Result<(), AllocErro
     push_intervals_or_dash(text, &news.intervals)
 }
 
-/// Adds that a collection is asked for, or that there is one.
+/// Adds that the message asks for a collection or announces one, if `collects` is true.
 pub(crate) fn push_collect(text: &mut Vec<u8>, collects: bool) -> Result<(), AllocError>
     ensures ok { OnOk result (text.new.items ≡ text.old.items ++ collect_text collects) }
     ensures err { OnErr result (BeginsWith text.new.items text.old.items) }

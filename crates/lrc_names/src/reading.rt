@@ -7,10 +7,10 @@ ghost use Rattle.lrc_names.specs.Lacking.{Lacks};
 
 use crate::line::{Kind, Line, Named};
 
-/// How long a line is at most.
+/// The greatest length of a line, in bytes.
 const LONGEST_LINE: usize = 4096;
 
-/// How long a name is at most.
+/// The greatest length of a name, in bytes.
 const LONGEST_NAME: usize = 255;
 
 const KINDS: [Kind; 10] = [
@@ -26,7 +26,8 @@ const KINDS: [Kind; 10] = [
     Kind::Depart,
 ];
 
-/// What stands before the first of these bytes, and what behind it.
+/// Splits a text at the first such byte: returns what precedes it and what follows it, or none if the text lacks the
+/// byte.
 pub fn split(text: &[u8], byte: u8) -> Option<(&[u8], &[u8])>
     ensures { MatchOption result (Lacks byte text.now) (λ parts. (text.now ≡ parts.0.now ++ byte ∷ parts.1.now) × Lacks byte parts.0.now) }
 {
@@ -206,7 +207,7 @@ fn is_blank(body: &[u8]) -> bool
     }
 }
 
-/// What a line says, its line feed left out.
+/// Returns what a line says. The line comes without its line feed.
 pub fn read_line(line: &[u8]) -> Line<'_>
     ensures { Reads line.now result }
 {

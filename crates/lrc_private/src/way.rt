@@ -17,7 +17,7 @@ use lrc_lang::program::Statement;
 use lrc_trace::act::{Act, Deed};
 use std::alloc::{AllocError, Global};
 
-/// Where a node is in the flat code of a program, and for each private name by which act it was set last.
+/// Where a node is in the flat code of a program, and for each private name the act that last set it.
 #[derive(Drop)]
 pub struct Way<'c> {
     pub flat: Flat<'c>,
@@ -50,7 +50,7 @@ fn value_given(deed: Deed) -> u64
 }
 
 impl<'c> Way<'c> {
-    /// Node `me` of `nodes` at the beginning of a program.
+    /// Places node `me` of `nodes` at the beginning of a program, with no name set. It fails if memory runs out.
     pub fn start(
         alloc: Global,
         code: &'c Code<'_>,
@@ -82,7 +82,7 @@ impl<'c> Way<'c> {
         })
     }
 
-    /// The statement that comes next, unless the node is at the end of the text.
+    /// Returns the statement that comes next, or none at the end of the text.
     pub fn statement(&self) -> Option<&'c Statement>
         requires { IsOnWay self.now }
         ensures next { MatchOption result ((thread_of self.now).rest ≡ [])
@@ -112,7 +112,8 @@ impl<'c> Way<'c> {
         completes(deed) && goes_on(self.flat.ask(&self.spot))
     }
 
-    /// The node's act at this position is done, of this deed.
+    /// Moves the node on by this deed, its act at this position, and records the private name that the act sets, if it
+    /// sets one.
     pub fn follow(&mut self, at: usize, deed: Deed)
         requires { IsOnWay self.old }
         ensures on { IsOnWay self.new }
@@ -129,7 +130,8 @@ impl<'c> Way<'c> {
         flat.answer(&mut self.spot, value_given(deed));
     }
 
-    /// The way of a node up to this position of a run of `nodes` nodes.
+    /// Follows a node up to this position of a run of `nodes` nodes, the act at the position excluded. It fails if
+    /// memory runs out.
     pub fn to(
         alloc: Global,
         code: &'c Code<'_>,

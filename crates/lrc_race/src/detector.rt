@@ -17,7 +17,7 @@ use lrc_trace::race::Race;
 use lrc_trace::trace::{Segment, Trace};
 use std::alloc::{AllocError, Global};
 
-/// The words that a trace writes, and those that it reads and does not write, in order.
+/// The words that a trace writes, and those that it reads but does not write, in order.
 #[derive(Drop)]
 struct Lane {
     writes: Vec<TouchedPlace>,
@@ -46,7 +46,7 @@ fn lanes_of(alloc: Global, traces: &[Trace]) -> Result<Vec<Lane>, AllocError>
     Ok(lanes)
 }
 
-/// Whether the segment's time knows the interval of another, which is of this node.
+/// Returns whether the segment's time knows the interval of another segment, which is of this node.
 pub fn knows(segment: &Segment, node: u8, other: &Segment) -> bool
     requires { node < length segment.now.time }
     ensures { IsTrue result ↔ Knows segment.now.time node other.now.interval }
@@ -252,10 +252,12 @@ fn add_races_with(
     Ok(())
 }
 
-/// The races of traces, by words, nodes and intervals, each once: the word and the two intervals of different nodes, where
-/// one wrote the word, the other read or wrote it, and neither time knows the other's interval. Where the times of each
-/// trace rise, as they do in every run, it costs little more than to list the accesses and the races: each race is found once,
-/// those of two traces mostly in order, and the sort joins what is in order.
+/// Returns the races of traces, sorted by word, nodes and intervals, each once. A race is a word and two intervals of
+/// different nodes: one wrote the word, the other read or wrote it, and neither time knows the other's interval. It
+/// fails only if memory runs out.
+///
+/// If the times of each trace rise, as in every run, the cost is little more than listing the accesses and the races.
+/// Each race is then found once, those of two traces mostly in order, and the sort merges what is in order.
 pub fn races(alloc: Global, traces: &[Trace]) -> Result<Vec<Race>, AllocError>
     requires { (nodes : ℕ) × AreTracesOf nodes traces.now }
     ensures { IfOk result (λ races. AreRacesOf traces.now races.items) }

@@ -99,8 +99,8 @@ fn agrees_with_all(traces: &[Trace], b: &Trace) -> bool
     true
 }
 
-/// Whether of any two segments of different nodes and different epochs, the time of the later epoch's knows the other's
-/// interval, as it does in every run. It takes no memory.
+/// Returns whether, for any two segments of different nodes and different epochs, the time of the later epoch's segment
+/// knows the other's interval, as in every run. It allocates no memory.
 pub fn epochs_agree(traces: &[Trace]) -> bool
     requires { (nodes : ℕ) × AreTracesOf nodes traces.now }
     ensures { IsTrue result ↔ EpochsAgree traces.now }

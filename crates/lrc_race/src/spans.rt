@@ -32,7 +32,8 @@ fn up_to_word(places: &[TouchedPlace], word: u32) -> &[TouchedPlace]
     &places[..end]
 }
 
-/// The places of the words from the first to the last of another list, among them each of a word of that list.
+/// Returns the places of the words from the first to the last word of another list. They include every place whose word
+/// is in that list.
 pub fn places_near<'a>(places: &'a [TouchedPlace], others: &[TouchedPlace]) -> &'a [TouchedPlace]
     requires sorted { AreInOrder places.now }
     requires others { AreInOrder others.now }

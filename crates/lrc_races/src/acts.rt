@@ -11,17 +11,17 @@ use lrc_acts::words::{before_comment, first_word};
 use lrc_names::line::{Kind, Line, Named};
 use lrc_text::read_number;
 
-/// How long a line is at most.
+/// The longest line, in bytes.
 const LONGEST_LINE: usize = 4096;
 
 const GREATEST_NAME: u64 = 4_294_967_295;
 
 const GREATEST_CAUSE: u64 = 5;
 
-/// How many digits a location has at most.
+/// The most digits of a location.
 const MOST_DIGITS: usize = 10;
 
-/// The barrier of acts: there is one.
+/// The only barrier of acts.
 const BARRIER: &[u8] = b"0";
 
 // The digits without leading zeros; of zeros alone the last.
@@ -201,7 +201,7 @@ fn location_in(comment: &[u8]) -> &[u8]
     }
 }
 
-/// What a line says, its line feed left out.
+/// Reads what a line says. The line has no line feed.
 pub fn read_act(line: &[u8]) -> Line<'_>
     ensures { ReadsAct line.now result }
 {

@@ -12,18 +12,18 @@ use lrc_names::table::Table;
 use lrc_std::event::{Event, Operation};
 use std::alloc::Global;
 
-/// The names of a trace, each kind by itself.
+/// The names of a trace, in one table for each kind.
 #[derive(Drop)]
 pub struct Names {
-    /// Those of threads.
+    /// The names of threads.
     pub threads: Table,
-    /// Those of variables.
+    /// The names of variables.
     pub variables: Table,
-    /// Those of locks.
+    /// The names of locks.
     pub locks: Table,
-    /// Those of barriers.
+    /// The names of barriers.
     pub barriers: Table,
-    /// Locations.
+    /// The names of locations.
     pub locations: Table,
 }
 
@@ -52,7 +52,7 @@ fn place(table: &mut Table, location: &[u8]) -> Result<Option<u32>, Fault>
 }
 
 impl Names {
-    /// Before any name.
+    /// Creates empty tables.
     pub fn new(alloc: Global) -> Names
         ensures { naming_of result ≡ record { threads = []; variables = []; locks = []; barriers = []; locations = [] } }
     {
@@ -86,7 +86,7 @@ impl Names {
         }
     }
 
-    /// The event that this line names. Names that are new have the next numbers.
+    /// Returns the event that a line names. New names get the next numbers.
     pub fn event(&mut self, named: Named<'_>, line: u64) -> Result<Event, Fault>
         ensures mentioned { OnOk result (MentionsAll (saying_of named.entry) (naming_of self.old) (naming_of self.new)) }
         ensures event { IfOk result (IsEvent (naming_of self.new) (record { line = line; saying = saying_of named.entry })) }

@@ -145,7 +145,7 @@ fn push_pair(text: &mut Vec<u8>, form: Form, names: &Names, pair: Pair) -> Resul
     Ok(())
 }
 
-/// Adds the lines of pairs that are told.
+/// Adds the lines of the reported pairs.
 pub fn push_pairs(
     text: &mut Vec<u8>,
     form: Form,
@@ -298,7 +298,8 @@ fn push_counts(text: &mut Vec<u8>, names: &Names, races: u64, events: u64) -> Re
     Ok(())
 }
 
-/// Adds what is told at the end of a trace: groups, the first event that no program would give, and the last line.
+/// Adds what is reported at the end of a trace: the groups, the first event that no program would give, and the last
+/// line.
 pub fn push_end(
     text: &mut Vec<u8>,
     form: Form,

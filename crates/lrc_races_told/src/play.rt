@@ -16,8 +16,8 @@ use lrc_sources::sources::Sources;
 use std::alloc::{AllocError, Global};
 use std::io::Write;
 
-/// Tells the races of the trace in a file, in this form, by groups or not, as it is read; the path `-` is standard input. What is told
-/// goes to `out`, and a fault to `err`. Gives the exit status.
+/// Reports the races of the trace in a file, in this form, while it is read, and returns the exit status. The path `-`
+/// is standard input. The races go to `out`, by groups if asked, and a fault goes to `err`.
 pub fn play_races<F: Sources, W: Write, E: Write>(
     alloc: Global,
     path: &str,

@@ -29,7 +29,7 @@ struct Teller {
     ghost room: { 0 < vec_len block },
 }
 
-/// Tells the races of a trace in this form, by groups or not, as it is read.
+/// Reports the races of a trace in this form, while it is read, by groups if asked.
 pub fn tell_races<B: Blocks, W: Write>(
     alloc: Global,
     form: Form,

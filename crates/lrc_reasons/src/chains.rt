@@ -11,9 +11,9 @@ use crate::starts::{Start, from_here};
 use lrc_trace::act::Act;
 use std::alloc::{AllocError, Global};
 
-/// The chain that is told from one position to another: of the shortest chains the least. None where the first position
-/// does not happen before the second, nor where there are no such acts. It takes two passes over the acts up to the
-/// second position.
+/// Returns the least of the shortest chains from one position to another. Returns none if the first position does not
+/// happen before the second, or if there are no such acts. It takes one pass over all acts, and one from the second
+/// position back to the first. It fails if memory runs out.
 pub fn chain_told(
     alloc: Global,
     acts: &[Act],

@@ -10,7 +10,7 @@ use lrc_judge::order::Order;
 use lrc_trace::act::{Act, Deed};
 use std::alloc::{AllocError, Global};
 
-/// Two writes that race.
+/// The positions of two writes that race.
 #[derive(Clone, Copy)]
 pub struct Crossing {
     pub earlier: usize,
@@ -28,7 +28,8 @@ fn is_write(acts: &[Act], position: usize, word: u32) -> bool
     }
 }
 
-/// The writes to the word that are known at the position, ascending: those that happen before it.
+/// Returns the writes to the word that are known at the position, ascending: those that happen before it. It fails if
+/// memory runs out.
 pub fn known_writes(
     alloc: Global,
     acts: &[Act],
@@ -48,7 +49,7 @@ pub fn known_writes(
     Ok(writes)
 }
 
-/// The last of the known writes. None where there are none.
+/// Returns the last of the known writes, or none if there are none.
 pub fn last_write(writes: &[usize]) -> Option<usize>
     ensures { (run : List Act) (position word : ℕ) → AreExactly (IsKnownWrite run position word) writes.now
         → MatchOption result ((i : ℕ) → ¬ IsKnownWrite run position word i) (IsLastKnownWrite run position word) }
@@ -74,9 +75,9 @@ fn first_beside(order: &Order, writes: &[usize], place: usize) -> Option<Crossin
     None
 }
 
-/// Of the known writes the two that race with the least later one, and of those with it the least earlier one. None exactly
-/// where no two of them race. It takes two passes over the writes: up to the first that does not follow the one before it,
-/// all are in order.
+/// Returns the two known writes that race with the least later one, and among these the least earlier one. Returns none
+/// exactly if no two of them race. It takes two passes over the writes, because up to the first write that does not
+/// follow the one before it, all are in order.
 pub fn first_crossing(order: &Order, writes: &[usize]) -> Option<Crossing>
     ensures { (run : List Act) (position word : ℕ) → IsOrderOf run order.now
         → AreExactly (IsKnownWrite run position word) writes.now
@@ -104,7 +105,8 @@ fn is_followed(order: &Order, write: usize, others: &[usize]) -> bool
     false
 }
 
-/// The known writes that happen before no other known write, ascending. There is one of each node at most.
+/// Returns the known writes that happen before no other known write, ascending. There is at most one of each node. It
+/// fails if memory runs out.
 pub fn unfollowed(alloc: Global, order: &Order, writes: &[usize]) -> Result<Vec<usize>, AllocError>
     ensures { (run : List Act) (position word : ℕ) → IsOrderOf run order.now
         → AreExactly (IsKnownWrite run position word) writes.now
@@ -119,8 +121,8 @@ pub fn unfollowed(alloc: Global, order: &Order, writes: &[usize]) -> Result<Vec<
     Ok(last)
 }
 
-/// The last write to the word before the position in the run, where it is not known there: where it does not happen before
-/// it. None where it is known, and where there is no write before.
+/// Returns the last write to the word before the position in the run, if it is not known there: if it does not happen
+/// before the position. Returns none if it is known, or if there is no write before.
 pub fn last_written(acts: &[Act], order: &Order, position: usize, word: u32) -> Option<usize>
     requires { IsOrderOf acts.now order.now }
     ensures { MatchOption result ((i : ℕ) → ¬ IsLastUnknownWrite acts.now position word i)

@@ -19,8 +19,8 @@ use lrc_private::Way;
 use lrc_trace::act::{Act, Deed};
 use std::alloc::{AllocError, Global};
 
-/// How many acts there were; of each node the interval that comes next; where each node is in the text, and what its private names are; and
-/// the last Write to each word.
+/// How far the acts have led: the number of acts so far, the next interval of each node, where each node is in the
+/// text, the values of its private names, and the last Write to each word.
 #[derive(Drop)]
 pub struct Course<'c> {
     acts: u64,
@@ -55,7 +55,7 @@ fn ways_at_start<'c>(
 }
 
 impl<'c> Course<'c> {
-    /// Before any act.
+    /// Creates a course before any act.
     pub fn start(alloc: Global, plan: Plan<'c>) -> Result<Course<'c>, AllocError>
         ensures on { IfOk result (λ course. All IsOnWay course.ways.items) }
         ensures course { IfOk result (IsCourse (plan_of plan.entry) []) }
@@ -69,14 +69,14 @@ impl<'c> Course<'c> {
         })
     }
 
-    /// How many acts there were.
+    /// Returns how many acts there were so far.
     pub fn acts(&self) -> u64
         ensures { result ≡ self.now.acts }
     {
         self.acts
     }
 
-    /// Where the node's next act stands.
+    /// Returns the spot of the node's next act.
     pub fn spot(&self, node: u8) -> Spot
         ensures { (plan : AnyPlan) (acts : List AnyAct) → IsCourse plan acts self.now → result ≡ spot_behind plan acts node }
     {
@@ -87,7 +87,7 @@ impl<'c> Course<'c> {
         }
     }
 
-    /// The values of the private names of a node, by their numbers; none where there is no such node.
+    /// Returns the values of the private names of a node, by their numbers, or none if there is no such node.
     pub fn privates(&self, node: u8) -> Option<&[u64; 32]>
         ensures { (plan : AnyPlan) (acts : List AnyAct) → IsCourse plan acts self.now
             → IfSome result (λ values. values.now ≡ (walk_behind plan.program plan.nodes plan.lines acts node).thread.privates) }
@@ -100,7 +100,7 @@ impl<'c> Course<'c> {
         }
     }
 
-    /// The last Write to each word that was written, by word.
+    /// Returns the last Write to each word that was written, by word.
     #[tactic(auto, using(crate::proofs::Coursing::notes_are))]
     pub fn notes(&self, alloc: Global) -> Result<Vec<Note>, AllocError>
         ensures { (plan : AnyPlan) (acts : List AnyAct) → IsCourse plan acts self.now
@@ -109,7 +109,7 @@ impl<'c> Course<'c> {
         self.notes.all(alloc)
     }
 
-    /// The turn's act is done, if it makes one.
+    /// Adds the act of a turn, if it makes one.
     pub fn follow(&mut self, act: Option<Act>) -> Result<(), AllocError>
         requires { All IsOnWay self.old.ways.items }
         ensures on { All IsOnWay self.new.ways.items }

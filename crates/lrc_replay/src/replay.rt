@@ -23,7 +23,7 @@ pub struct Replay<'c> {
 }
 
 impl<'c> Replay<'c> {
-    /// All nodes at the beginning of a program.
+    /// Creates all nodes at the start of a program, with no message in flight.
     pub fn start(
         alloc: Global,
         code: &'c Code<'_>,
@@ -43,7 +43,7 @@ impl<'c> Replay<'c> {
         })
     }
 
-    /// The state of a node, where it is there and has not failed.
+    /// Returns the state of a node, or none if it does not exist or has failed.
     pub fn state(&self, node: usize) -> Option<&NodeState<'c>>
         ensures { (world : World) → IsReplay self.now world
             → option_map (λ state. state.now) result ≡ option_map (λ l. l.node) (slice_get world.nodes node) }
@@ -55,7 +55,7 @@ impl<'c> Replay<'c> {
         }
     }
 
-    /// The message that an event names, where it is in flight.
+    /// Returns the message that an event names, or none if it is not in flight.
     pub fn message(&self, event: Event) -> Option<&Envelope>
         ensures { (world : World) → IsReplay self.now world → option_map (λ envelope. envelope.now) result ≡ message_of world event }
     {
@@ -65,7 +65,7 @@ impl<'c> Replay<'c> {
         }
     }
 
-    /// The node that an event names, or the receiver of the message that it names.
+    /// Returns the node that an event names, or the receiver of the message that it names.
     pub fn turner(&self, event: Event) -> Option<usize>
         ensures { (world : World) → IsReplay self.now world → result ≡ turner_of world event }
     {
@@ -75,7 +75,8 @@ impl<'c> Replay<'c> {
         }
     }
 
-    /// The turn that an event makes, if it makes one. What it sends is not in flight yet.
+    /// Makes the turn of an event and returns it, or none if the event makes none. What the turn sends is not in flight
+    /// yet.
     pub fn make(&mut self, event: Event) -> Result<Option<Turn>, AllocError>
         ensures { (world next : World) → IsReplay self.old world → event_on world event ≡ Some next
             → IfOk result (λ turn. IsMade world event next turn self.new) }
@@ -87,7 +88,7 @@ impl<'c> Replay<'c> {
         }
     }
 
-    /// What a turn sends is in flight from now on.
+    /// Puts what a turn sends in flight.
     pub fn post(&mut self, out: Vec<Envelope>) -> Result<(), AllocError>
         ensures nodes { OnOk result (self.new.nodes ≡ self.old.nodes) }
         ensures flight { OnOk result (self.new.flight.items ≡ self.old.flight.items ++ out.items) }

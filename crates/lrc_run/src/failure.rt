@@ -28,7 +28,7 @@ use lrc_world::run::Order;
 use lrc_world::simulate::run_checked;
 use std::alloc::{AllocError, Global};
 
-/// Why a run has no report whose first failure is this one.
+/// Returns why a run with this first failure has no report.
 pub(crate) fn halt_at(alloc: Global, setting: &Setting<'_>, left: Left, failure: Failure) -> Halt
     requires range { AreNodes setting.now.nodes × AreSteps setting.now.options.steps }
     requires few { length left.logs.items ≤ 16 }

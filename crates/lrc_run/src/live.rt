@@ -31,17 +31,18 @@ use std::thread::Threads;
 /// A run on threads.
 #[derive(Drop)]
 pub struct ThreadedRun {
-    /// The run that its nodes made: its events make their turns, put in one order by their stamps.
+    /// The run that the nodes made. Its events make their turns, put into one order by their stamps.
     pub made: Run,
-    /// What the post between the nodes kept.
+    /// The mailboxes of the post between the nodes, with their histories.
     pub wires: Wires,
 }
 
-/// A run in which each node lives on a thread of its own, with a post between them. `picker` says which of its messages a node is given
-/// next. Before each of its turns a node passes the gate.
+/// Runs a program with each node on a separate thread, and a post between them. `picker` chooses which of its messages
+/// a node is given next. Before each of its turns a node passes the gate.
 ///
-/// Where there is no report, what the nodes left is handed back, with why there is none: the lowest node that failed wore out, by these
-/// turns, or had no memory; or none failed, and the turns and what the post kept do not tell of one run to its end.
+/// If there is no report, the error hands back what is left of the nodes, and the reason. Either the lowest node that
+/// failed wore out, by the turns handed back, or had no memory. Or no node failed, and the turns and the mailboxes'
+/// histories are not one run to its end.
 pub fn run_on_threads<G: Gate + Sync, R: Threads + Wait + Sync>(
     rt: &R,
     alloc: Global,

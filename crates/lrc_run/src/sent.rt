@@ -12,7 +12,7 @@ use lrc_node::{Entry, Input};
 use lrc_wire::{EncodeFault, encode};
 use std::alloc::{AllocError, Global};
 
-/// Whether each message that a log takes was sent to its node by some turn of the logs.
+/// Returns whether each message that a log takes was sent to its node by some turn of the logs.
 pub(crate) fn are_takes_sent(alloc: Global, logs: &[Vec<Entry>]) -> Result<bool, AllocError>
     ensures { IfOk result (λ are. IsTrue are ↔ AreTakesSent (map (λ log. log.items) logs.now)) }
 {

@@ -24,7 +24,7 @@ use lrc_world::ends::ends;
 use lrc_world::first::first_of;
 use std::alloc::{AllocError, Global};
 
-/// What is told of a run beside the turns of its nodes.
+/// What is reported of a run, except the turns of its nodes.
 #[derive(Drop)]
 pub(crate) struct ToldRun {
     pub events: Vec<Event>,
@@ -42,9 +42,9 @@ struct Findings {
     first_race: Option<usize>,
 }
 
-/// What is told of the nodes' turns, and the events that make them. `Mismatch` only where what the post kept does not agree with them, or
-/// something was left to do or to be given. No event is played again: the acts are those of the turns, and the races those of the nodes'
-/// traces.
+/// Returns what is reported of the nodes' turns, and the events that make them. No event is played again: the acts are
+/// those of the turns, and the races those of the nodes' traces. It fails with `Mismatch` only if the mailboxes'
+/// histories do not agree with the turns, or something was left to do or to give.
 pub(crate) fn told(
     alloc: Global,
     setting: &Setting<'_>,

@@ -27,23 +27,23 @@ use std::thread::Threads;
 use std::time::Clock;
 use std::{io, thread};
 
-/// One byte more than the longest text of a program has: a longer one is cut there, and is still too long.
+/// The most bytes read of a program's text: the limit plus one. A longer text is cut there, and is still too long.
 const TEXT_READ: u64 = lrc_lang::MOST_BYTES as u64 + 1;
 
 const _: () = prove!(TEXT_READ > lrc_lang::MOST_BYTES as u64);
 
-/// One byte more than the longest text of acts has: a longer one is cut there, and is still too long.
+/// The most bytes read of a text of acts: the limit plus one. A longer text is cut there, and is still too long.
 const ACTS_READ: u64 = lrc_acts::reading::MOST_BYTES as u64 + 1;
 
 const _: () = prove!(ACTS_READ > lrc_acts::reading::MOST_BYTES as u64);
 
-/// One byte more than the longest text of events has: a longer one is cut there, and is still too long.
+/// The most bytes read of a text of events: the limit plus one. A longer text is cut there, and is still too long.
 const EVENTS_READ: u64 = lrc_events::events::MOST_BYTES as u64 + 1;
 
 const _: () = prove!(EVENTS_READ > lrc_events::events::MOST_BYTES as u64);
 
-/// Does what the arguments of the program ask for, the first of which is its name, and gives the exit status. What it prints
-/// goes to `out`, and each fault to `err`. Where a run takes long, `late` says so, once.
+/// Carries out what the program's arguments ask for, and returns the exit status. The first argument is the program's
+/// name. The output goes to `out`, and each fault to `err`. If a run takes long, `late` says so once.
 pub fn play<R, S: AsStr, F: Sources, L, W: Write, E: Write>(
     rt: &R,
     arguments: &[S],

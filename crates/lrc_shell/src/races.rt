@@ -11,7 +11,7 @@ use lrc_sources::sources::Sources;
 use std::alloc::Global;
 use std::io::Write;
 
-/// Tells the races of a trace as it is read, and gives the exit status.
+/// Reports the races of a trace while it is read, and returns the exit status.
 pub(crate) fn tell_races<F: Sources, W: Write, E: Write>(
     alloc: Global,
     racing: &Racing<'_>,

@@ -16,8 +16,8 @@ use std::sync::Wait;
 use std::thread::Threads;
 use std::time::Clock;
 
-/// Does what the arguments of the program ask for, as [`play`] does, and gives the exit status. Where they cannot be read, a line
-/// on `err` says why, and nothing goes to `out`.
+/// Carries out what the program's arguments ask for, as [`play`] does, and returns the exit status. If the arguments
+/// cannot be read, a line on `err` says why, and nothing goes to `out`.
 pub fn start<R, F: Sources, L, W: Write, E: Write>(
     rt: &R,
     arguments: io::Result<Vec<String>>,

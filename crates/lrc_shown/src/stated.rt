@@ -27,7 +27,7 @@ use lrc_world::run::Run;
 use lrc_world::setting::options_of;
 use std::alloc::{AllocError, Global};
 
-/// The turns of a part of a run with the states of its nodes, each line a part of its own.
+/// Returns the turns of a part of a run with the states of its nodes, one part for each line.
 pub(crate) fn stated(
     alloc: Global,
     part: Part,
@@ -200,7 +200,7 @@ fn reasons_text(
     )
 }
 
-/// The document that shows the turns of a part of a run.
+/// Returns the document that shows the turns of a part of a run.
 pub(crate) fn stepped(
     alloc: Global,
     part: Part,

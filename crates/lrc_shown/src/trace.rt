@@ -35,7 +35,7 @@ use lrc_world::run::Run;
 use lrc_world::turned::{Turned, turned_events};
 use std::alloc::{AllocError, Global};
 
-/// A trace of a run of the program that this text is of, in any form.
+/// Returns a trace of a run of the program in this text, in the chosen form.
 pub(crate) fn traced(
     alloc: Global,
     form: Form,
@@ -163,7 +163,7 @@ fn json_of(
     json_part(alloc, &labels.said, acts, lines, &times)
 }
 
-/// Of each act the line of the text on which the statement stands that it is of.
+/// Returns, for each act, the line of the text that holds the act's statement.
 pub(crate) fn lines_in(
     alloc: Global,
     text: &[u8],

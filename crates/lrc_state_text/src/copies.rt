@@ -219,7 +219,7 @@ fn pages_shown(alloc: Global, memory: &Memory, count: u16) -> Result<Vec<u16>, A
 }
 
 #[tactic(auto, unfolding(crate::specs::Copies::pages_member))]
-/// Adds the pages, of all, that are not as at the start.
+/// Adds the pages that differ from their state at the start. `count` is the number of all pages.
 pub(crate) fn push_pages(text: &mut Vec<u8>, memory: &Memory, count: u16) -> Result<(), AllocError>
     requires { count ≡ length memory.now.memory.copies }
     ensures { OnOk result (text.new.items ≡ text.old.items ++ pages_member memory.now.size memory.now.memory) }

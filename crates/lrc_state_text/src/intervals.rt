@@ -135,7 +135,7 @@ fn push_listed(text: &mut Vec<u8>, size: Size, stored: &[StoredInterval]) -> Res
     }
 }
 
-/// Adds these intervals, with pages of this size.
+/// Adds these intervals, for pages of this size.
 pub(crate) fn push_intervals(
     text: &mut Vec<u8>,
     size: Size,

@@ -172,7 +172,7 @@ fn locks_shown(alloc: Global, clock: &Clock, count: u8) -> Result<Vec<u8>, Alloc
     Ok(shown)
 }
 
-/// Adds the locks of so many that are shown.
+/// Adds the locks, of the first `count`, whose token is here or was asked for, or which this node manages.
 pub(crate) fn push_locks(text: &mut Vec<u8>, clock: &Clock, count: u8) -> Result<(), AllocError>
     requires { count ≤ length clock.now.held.locks }
     ensures { OnOk result (text.new.items ≡ text.old.items ++ locks_member clock.now count) }

@@ -82,7 +82,8 @@ fn push_manager_or_null(text: &mut Vec<u8>, barrier: &Barrier, nodes: u8) -> Res
     }
 }
 
-/// Adds how often the node has arrived, and the manager of the barrier of so many nodes, null where it is not here.
+/// Adds how often the node has arrived at a barrier, and the barrier manager's state: `null` if another node is the
+/// manager. There are `nodes` nodes.
 pub(crate) fn push_barrier(
     text: &mut Vec<u8>,
     barrier: &Barrier,

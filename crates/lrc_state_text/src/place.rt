@@ -7,14 +7,14 @@ ghost use Rattle.lrc_state_text.specs.Place.{named_seen, named_text, place_membe
 use lrc_text::push_number;
 use std::alloc::AllocError;
 
-/// A private name, and its value.
+/// A private name with its value.
 #[derive(Clone, Copy)]
 pub struct NamedValue<'t> {
     pub name: &'t [u8],
     pub value: u64,
 }
 
-/// Where a node's text stands: the line of the statement that comes next, and the private names whose value is not 0, in the
+/// Where a node is in the text: the line of its next statement, and its private names whose value is not 0, in the
 /// order in which the text first names them.
 #[derive(Clone, Copy)]
 pub struct Place<'p> {
@@ -62,7 +62,7 @@ fn push_names(text: &mut Vec<u8>, names: &[NamedValue<'_>]) -> Result<(), AllocE
     }
 }
 
-/// Adds the line of the statement that comes next, and names with their values.
+/// Adds the line of the next statement, and the private names with their values.
 pub(crate) fn push_place(
     text: &mut Vec<u8>,
     line: u32,

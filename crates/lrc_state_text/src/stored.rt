@@ -11,14 +11,14 @@ use lrc_time::Time;
 use std::alloc::{AllocError, Global};
 use std::marker::Model;
 
-/// What an interval changed in a page.
+/// The changes that an interval made to a page.
 #[derive(Drop)]
 pub struct PageChanges {
     pub page: u16,
     pub changes: Changes,
 }
 
-/// An interval that a node stores, with its changes that are stored too, by page.
+/// An interval that a node stores, with those of its changes that the node stores too, by page.
 #[derive(Drop)]
 pub(crate) struct StoredInterval {
     pub(crate) interval: Interval,
@@ -51,7 +51,7 @@ impl PartialEq for PageChanges {
 }
 
 impl StoredInterval {
-    /// Whether the other one is the same interval and has the same changes.
+    /// Returns whether the other one is the same interval with the same changes.
     pub(crate) fn is_same(&self, other: &StoredInterval) -> bool
         ensures { result ≡ is_same self.now other.now }
     {
@@ -140,7 +140,7 @@ fn with_changes(
     })
 }
 
-/// All intervals that are stored at a node among so many, with so many pages.
+/// Returns all intervals that a node stores, of `nodes` nodes and `count` pages.
 pub(crate) fn stored_in(
     alloc: Global,
     memory: &Memory,

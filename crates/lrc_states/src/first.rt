@@ -16,7 +16,7 @@ use lrc_turn_objects::{push_comma, push_labels, push_listed, push_notes};
 use std::alloc::AllocError;
 
 impl Player<'_> {
-    /// The line of how all stands.
+    /// Returns the line for the state before the first turn that is shown.
     pub(crate) fn first_line(&self, size: Size, labels: &[Label<'_>]) -> Result<Vec<u8>, AllocError>
         ensures { (plan : AnyPlan) (world : World) (turns : ℕ) → IsPlayer plan world turns self.now
             → IfOk result (λ line. line.items ≡ first_line plan size (map label_seen labels.now) world) }

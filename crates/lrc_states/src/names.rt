@@ -7,7 +7,7 @@ ghost use Rattle.lrc_states.specs.Names.{is_set, names_set};
 use lrc_state_text::NamedValue;
 use std::alloc::{AllocError, Global};
 
-/// The names whose value is not 0.
+/// Returns the private names whose value is not 0.
 pub(crate) fn names_set<'t>(
     alloc: Global,
     names: &[&'t [u8]],

@@ -23,7 +23,7 @@ use lrc_text::push_number;
 use lrc_turn_objects::{push_act, push_envelope, push_envelopes, truth};
 use std::alloc::{AllocError, Global};
 
-/// How all stands, and how many turns were made.
+/// A run that is replayed: its state, and how many turns were made.
 #[derive(Drop)]
 pub(crate) struct Player<'c> {
     pub(crate) alloc: Global,
@@ -34,7 +34,7 @@ pub(crate) struct Player<'c> {
 }
 
 impl<'c> Player<'c> {
-    /// Before any turn.
+    /// Starts a replay, before any turn.
     pub(crate) fn start(
         alloc: Global,
         plan: Plan<'c>,
@@ -53,7 +53,7 @@ impl<'c> Player<'c> {
         })
     }
 
-    /// Plays an event, of which nothing is told.
+    /// Plays an event without telling its turn.
     pub(crate) fn pass(&mut self, event: Event) -> Result<(), AllocError>
         requires { All IsOnWay self.old.course.ways.items }
         ensures on { All IsOnWay self.new.course.ways.items }
@@ -93,7 +93,7 @@ impl<'c> Player<'c> {
         Ok(())
     }
 
-    /// Plays an event, and tells its turn, if it makes one.
+    /// Plays an event, and returns the line of its turn, or none if it makes no turn.
     pub(crate) fn tell(&mut self, event: Event) -> Result<Option<Vec<u8>>, AllocError>
         requires { All IsOnWay self.old.course.ways.items }
         ensures on { All IsOnWay self.new.course.ways.items }
@@ -215,7 +215,7 @@ impl<'c> Player<'c> {
         line.extend_from_slice(b"]")
     }
 
-    /// Adds the state of a node, where these intervals were told.
+    /// Adds the state of a node whose intervals in `known` were told before.
     pub(crate) fn push_state(
         &self,
         line: &mut Vec<u8>,

@@ -46,7 +46,7 @@ fn events_before(
     Ok(told.events.len())
 }
 
-/// How many events of a run come before those whose turns are shown.
+/// Returns how many events of a run come before those whose turns are shown.
 pub(crate) fn events_skipped(
     alloc: Global,
     code: &Code<'_>,

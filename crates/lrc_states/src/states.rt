@@ -27,10 +27,11 @@ use lrc_protocol::Event;
 use lrc_replay::Plan;
 use std::alloc::{AllocError, Global};
 
-/// The most turns that are shown.
+/// The largest number of turns that are shown.
 pub const MOST_TURNS: usize = 2_000;
 
-/// The turns of a run with the states of its nodes, each line a part of its own.
+/// Returns the turns of a run with the states of its nodes, one part for each line. Fails if more than 2,000 turns
+/// would be shown, or if memory runs out.
 pub fn states_parts(
     alloc: Global,
     told: &Told<'_>,

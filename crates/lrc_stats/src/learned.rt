@@ -13,16 +13,16 @@ use lrc_node::{Entry, Input};
 use lrc_store::Interval;
 use std::alloc::{AllocError, Global};
 
-/// What the messages brought that nodes took, without the repeats.
+/// What the messages that nodes took brought, each message counted once.
 #[derive(Clone, Copy)]
 pub(crate) struct Learned {
-    /// How many of the turns were repeats.
+    /// The number of turns that were repeats.
     pub repeats: u64,
-    /// How many intervals were learned of,
+    /// The number of intervals that were learned.
     pub intervals: u64,
-    /// and how many pages these name.
+    /// The number of pages that these intervals name, their write notices.
     pub notices: u64,
-    /// How often the word to discard came.
+    /// The number of discard messages taken.
     pub discards: u64,
 }
 
@@ -144,7 +144,7 @@ fn learned_in(alloc: Global, log: &[Entry]) -> Result<Learned, AllocError>
     Ok(learned)
 }
 
-/// What all nodes' messages brought.
+/// Returns what the messages of all nodes brought. Fails if memory runs out, or if a count does not fit into 64 bits.
 #[tactic(auto, using(crate::proofs::Logs::sum_more))]
 pub(crate) fn learned_by_all(alloc: Global, logs: &[Vec<Entry>]) -> Result<Learned, AllocError>
     ensures repeats { IfOk result (λ learned. learned.repeats ≡ repeats (map (λ log. log.items) logs.now)) }
@@ -158,7 +158,7 @@ pub(crate) fn learned_by_all(alloc: Global, logs: &[Vec<Entry>]) -> Result<Learn
     Ok(all)
 }
 
-/// How many episodes collected: node 0 took the word to discard as often.
+/// Returns how many barrier episodes collected: node 0 took as many discard messages.
 pub(crate) fn collections(alloc: Global, logs: &[Vec<Entry>]) -> Result<u64, AllocError>
     ensures { IfOk result (λ count. count ≡ collections (map (λ log. log.items) logs.now)) }
 {

@@ -14,8 +14,9 @@ use lrc_node::Entry;
 use lrc_text::push_number;
 use std::alloc::{AllocError, Global};
 
-/// The counts of a run of so many events, by the logs of its nodes from node 0 up, a line each: events, those that made no turn, and
-/// turns; acts by their deeds; misses, repeats, what was learned, collections; and messages by their kinds, with their bytes.
+/// Returns the counts of a run, one on each line. `events` is the number of its events, and `logs` are the logs of its
+/// nodes, from node 0 up. The lines tell events, events that made no turn, and turns; acts by their deeds; misses,
+/// repeats, what was learned, and collections; and messages by their kinds, with their bytes.
 pub fn stats_part(alloc: Global, events: u64, logs: &[Vec<Entry>]) -> Result<Vec<u8>, AllocError>
     ensures { IfOk result (λ part. part.items ≡ stats_text events (map (λ log. log.items) logs.now)) }
 {

@@ -9,14 +9,14 @@ use lrc_node::{Entry, Input};
 use lrc_trace::act::Deed;
 use std::alloc::AllocError;
 
-/// The sum of two counts. There is no memory for what a greater number counts.
+/// Adds two counts. Fails if the sum does not fit into 64 bits: there is no memory for that many things.
 pub(crate) fn add(a: u64, b: u64) -> Result<u64, AllocError>
     ensures { IfOk result (λ sum. sum ≡ a + b) }
 {
     a.checked_add(b).ok_or(AllocError)
 }
 
-/// How many turns the nodes made.
+/// Returns how many turns the nodes made.
 #[tactic(auto, using(crate::proofs::Logs::sum_more))]
 pub fn turns_made(logs: &[Vec<Entry>]) -> Result<u64, AllocError>
     ensures { IfOk result (λ count. count ≡ turn_count (map (λ log. log.items) logs.now)) }
@@ -56,7 +56,7 @@ fn makes_of_kind(kind: u8, entry: &Entry) -> bool
     }
 }
 
-/// How many turns make an act of this kind.
+/// Returns how many turns make an act of this kind.
 #[tactic(auto, using(crate::proofs::Logs::sum_more))]
 pub(crate) fn turns_making(kind: u8, logs: &[Vec<Entry>]) -> Result<u64, AllocError>
     ensures { IfOk result (λ count. count ≡ turns_with (makes_of_kind kind) (map (λ log. log.items) logs.now)) }
@@ -104,7 +104,7 @@ fn is_miss(entry: &Entry) -> bool
     }
 }
 
-/// How many turns are misses: a node goes on by itself, and asks for what a page needs.
+/// Returns how many turns are misses: the node runs by itself, and requests what a page needs.
 #[tactic(auto, using(crate::proofs::Logs::sum_more))]
 pub(crate) fn misses(logs: &[Vec<Entry>]) -> Result<u64, AllocError>
     ensures { IfOk result (λ count. count ≡ turns_with is_miss (map (λ log. log.items) logs.now)) }

@@ -73,8 +73,8 @@ fn races_of(
     Ok(text)
 }
 
-/// The lines of the races of a part of a run whose acts have these lines: a line for each group of the run with reasons, and one for the
-/// pairs of no group, if there are some.
+/// Returns the lines about the races of a part of a run, whose acts have these program lines. Each group of the run
+/// with reasons has a line. The pairs in no group have one more line, if there are any.
 pub fn races_part(
     alloc: Global,
     acts: &[Act],

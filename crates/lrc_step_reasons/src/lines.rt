@@ -8,7 +8,7 @@ use lrc_step_page::push_why_line;
 use lrc_why_text::asked::Asked;
 use std::alloc::{AllocError, Global};
 
-/// What is asked of the act at each position.
+/// Returns the question about the act at each position.
 pub(crate) fn asked_of(alloc: Global, positions: &[usize]) -> Result<Vec<Asked>, AllocError>
     ensures { IfOk result (λ asked. asked.items ≡ map asked_alone positions.now) }
 {
@@ -22,7 +22,7 @@ pub(crate) fn asked_of(alloc: Global, positions: &[usize]) -> Result<Vec<Asked>,
     Ok(asked)
 }
 
-/// Adds the lines of what is printed of the act at each position.
+/// Adds the lines with the output for the act at each position.
 pub(crate) fn push_whys(
     alloc: Global,
     text: &mut Vec<u8>,

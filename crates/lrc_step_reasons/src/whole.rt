@@ -17,7 +17,8 @@ use lrc_trace::act::Act;
 use lrc_why_run::why_each;
 use std::alloc::{AllocError, Global};
 
-/// The lines of reasons of a part of a run of the program that this text is of, on so many nodes and on pages of this size.
+/// Returns the lines of reasons for a part of a run of the program in this text, on so many nodes and with this page
+/// size.
 pub fn reasons_part(
     alloc: Global,
     text: &[u8],

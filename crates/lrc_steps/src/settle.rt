@@ -21,8 +21,9 @@ struct Settled {
     deeds: Vec<Deed>,
 }
 
-/// Settles the nodes from one on and below another, where the others are settled: puts the acts that they make behind those that are
-/// there. Says no, where one of them makes as many free acts as are to be looked at.
+/// Settles the nodes from `first` on and below `last`; the other nodes must be settled. It appends the acts of the
+/// nodes to `acts`. It returns false if a node makes so many free acts that the limit `most` is reached. It fails if
+/// memory runs out.
 pub fn settle(
     alloc: Global,
     flat: &Flat,

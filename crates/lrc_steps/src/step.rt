@@ -26,7 +26,7 @@ pub enum Step {
     Together,
 }
 
-/// The read, the write or the acquire that a node can make now.
+/// Returns the read, the write or the acquire that a node can make now, or none.
 pub fn contended_deed(flat: &Flat, state: &State, node: usize) -> Option<Deed>
     requires flat { IsFlat flat.now }
     requires state { IsStateOf flat.now state.now }
@@ -45,7 +45,7 @@ fn is_contended(deed: Deed) -> bool
     matches!(deed, Deed::Read(..) | Deed::Write(..) | Deed::Acquire(_))
 }
 
-/// Whether every node has arrived and none departed.
+/// Returns whether every node has arrived and none has departed.
 pub fn all_wait(flat: &Flat, state: &State) -> bool
     ensures { IsTrue result ↔ AllWait (plain_at flat.now state.now) }
 {
@@ -65,8 +65,8 @@ fn waits(spot: &Spot) -> bool
     !spot.stopped && spot.arrived
 }
 
-/// Takes the step of one node, whose deed is this: puts the acts behind those that are there. Says no, where the node then makes as many
-/// free acts as are to be looked at.
+/// Takes the step of one node with this deed, and appends its acts to `acts`. It returns false if the node then makes
+/// so many free acts that the limit `most` is reached. It fails if memory runs out.
 pub fn take_alone(
     alloc: Global,
     flat: &Flat,
@@ -95,8 +95,8 @@ pub fn take_alone(
     settle(alloc, flat, state, node, node + 1, most, acts)
 }
 
-/// Takes the step of all nodes, where all have arrived: puts the acts behind those that are there. Says no, where one of them then makes
-/// as many free acts as are to be looked at.
+/// Takes the step of all nodes; all must have arrived. It appends the acts to `acts`. It returns false if a node then
+/// makes so many free acts that the limit `most` is reached. It fails if memory runs out.
 pub fn take_together(
     alloc: Global,
     flat: &Flat,
@@ -137,7 +137,8 @@ fn depart(flat: &Flat, state: &mut State, acts: &mut Vec<Act>) -> Result<(), All
     Ok(())
 }
 
-/// Counts anew how often the nodes of a state have arrived: once where they wait, and else never. So states that go on alike are one.
+/// Resets how often the nodes of a state have arrived: 1 for a node that waits at a barrier, 0 for any other. So states
+/// that go on alike become equal. It fails if memory runs out.
 pub fn count(flat: &Flat, state: &mut State) -> Result<(), AllocError>
     requires { IsStateOf flat.now state.old }
     ensures state { OnOk result (IsStateOf flat.now state.new) }

@@ -17,8 +17,8 @@ use crate::nodes::Nodes;
 use lrc_time::Time;
 use std::alloc::{AllocError, Global};
 
-/// What links the intervals of an arena and their notices: each interval to the one before it of its node, each notice to
-/// the one before it of its page. Both are counted in the order of adding.
+/// The links between the intervals of an arena, and between their notices. Each interval is linked to the one before it
+/// of its node, and each notice to the one before it of its page. Both are counted in the order of adding.
 #[derive(Drop)]
 pub(crate) struct Links {
     /// The intervals by node.
@@ -28,7 +28,7 @@ pub(crate) struct Links {
 }
 
 impl Links {
-    /// No links, for this many nodes and pages.
+    /// Returns no links, for the given numbers of nodes and pages. It fails if memory runs out.
     pub(crate) fn new(alloc: Global, nodes: usize, pages: usize) -> Result<Self, AllocError>
         ensures node_lists { IfOk result (λ links. links.by_node.lists ≡ nodes) }
         ensures node_keys { IfOk result (λ links. links.by_node.keys ≡ []) }
@@ -42,7 +42,8 @@ impl Links {
         })
     }
 
-    /// Makes room for the links of an interval of a node with this many notices. An error changes no link.
+    /// Makes room for the links of one interval of the node, with `more` notices. It fails if memory runs out, or if
+    /// there would be more than `MOST_ENTRIES` intervals or notices. Then no link changes.
     pub(crate) fn make_room(&mut self, node: u16, more: usize) -> Result<(), AllocError>
         requires { node < self.old.by_node.lists }
         ensures node_keys { self.new.by_node.keys ≡ self.old.by_node.keys }
@@ -60,7 +61,7 @@ impl Links {
         self.by_page.reserve(more)
     }
 
-    /// Links an interval of a node, and its notices of these pages. There is room for both.
+    /// Links an interval of the node, and its notices of the given pages. There is room for both.
     pub(crate) fn push(&mut self, node: u16, pages: &[u16])
         requires node_in_range { node < self.old.by_node.lists }
         requires node_room { length self.old.by_node.keys < self.old.by_node.room }
@@ -80,7 +81,7 @@ impl Links {
         add_pages(&mut self.by_page, pages);
     }
 
-    /// Links the intervals and the notices again, fewer than there were.
+    /// Links the intervals and notices of the arena anew. There are no more of them than before.
     pub(crate) fn renew(&mut self, arena: &Arena)
         requires nodes_in_range { All (λ stored. stored.node < self.old.by_node.lists) arena.now.entries }
         requires fewer_nodes { length arena.now.entries ≤ length self.old.by_node.keys }
@@ -99,7 +100,8 @@ impl Links {
         link_nodes(&mut self.by_node, arena);
     }
 
-    /// The notices of a page that the time does not know, oldest first, found along the page's list.
+    /// Returns the notices of a page that the time does not know, oldest first. It walks along the whole list of the
+    /// page. It fails if memory runs out.
     pub(crate) fn unknown_on(
         &self,
         arena: &Arena,
@@ -124,7 +126,8 @@ impl Links {
         Ok(found)
     }
 
-    /// The same where the time knows what was added first: the walk ends at the first notice that it knows.
+    /// Returns the same as `unknown_on`, if the time knows the first notices of the page in the order of adding. The
+    /// walk ends at the first notice that it knows. It fails if memory runs out.
     pub(crate) fn unknown_until_known(
         &self,
         arena: &Arena,
@@ -153,8 +156,8 @@ impl Links {
         Ok(found)
     }
 
-    /// Puts the intervals of a node that `upto` knows and `since` does not behind others, oldest first, found along the node's
-    /// list. The walk ends at the first that `since` knows.
+    /// Adds the node's intervals that `upto` knows and `since` does not to `found`, oldest first. The walk along the
+    /// node's list ends at the first interval that `since` knows. It fails if memory runs out.
     pub(crate) fn put_newer_of_node(
         &self,
         arena: &Arena,
@@ -185,7 +188,8 @@ impl Links {
         Ok(())
     }
 
-    /// Where the interval of this key's node and index stands, counted back from the last of its node.
+    /// Returns the place of the interval with the key's node and index, or none if it is not there. It counts back from
+    /// the node's last interval.
     pub(crate) fn place_of(&self, arena: &Arena, last: &Time, key: Key) -> Option<u32>
         requires linked { self.now.by_node.keys ≡ map (λ interval. interval.node) (map interval_of arena.now.entries) }
         requires nodes { self.now.by_node.lists ≡ length last.now }
@@ -263,7 +267,8 @@ fn link_pages(by_page: &mut Chains, arena: &Arena)
     }
 }
 
-/// Whether the time knows the interval of this node and index. Of a node that it does not count it knows none.
+/// Returns whether the time knows the node's interval with the given index. If the time has no entry for the node, it
+/// knows none, but index 0 counts as known.
 pub(crate) fn is_known(time: &Time, node: u8, index: u32) -> bool
     ensures { result ≡ knows time.now node index }
 {

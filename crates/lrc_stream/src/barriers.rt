@@ -6,16 +6,16 @@ use crate::clocks::Clocks;
 use crate::vectors::join;
 use std::alloc::{AllocError, Global};
 
-/// A barrier. What it keeps grows with its threads, and not with its cycles.
+/// One barrier. Its memory grows with its threads, and not with its cycles.
 #[derive(Drop)]
 pub struct Barrier {
     /// The number of the open cycle.
     pub current: usize,
     /// What the arrives of the open cycle know.
     pub arrived: Vec<u64>,
-    /// Of each thread the cycle of its last arrive.
+    /// For each thread, the cycle of its last arrive.
     pub of: Vec<Option<usize>>,
-    /// Of each thread what the arrives of that cycle know, where it is closed.
+    /// For each thread, what the arrives of that cycle know, if the cycle is closed.
     pub closed: Clocks,
 }
 
@@ -57,7 +57,7 @@ fn keep(
 }
 
 impl Barrier {
-    /// Before any event.
+    /// Returns a barrier before any event.
     pub fn new(alloc: Global) -> Barrier
         ensures { SameBarrier (Option.Some result) Option.None }
     {
@@ -69,7 +69,7 @@ impl Barrier {
         }
     }
 
-    /// What a depart of the thread comes to know.
+    /// Returns what a depart of the thread learns.
     pub fn known(&self, thread: usize) -> &[u64]
         ensures { result.now ≡ known_of (Option.Some self.now) thread }
     {
@@ -85,7 +85,7 @@ impl Barrier {
         }
     }
 
-    /// A thread that knows so much arrives.
+    /// Records that a thread with this knowledge arrives. It fails if memory runs out.
     pub fn arrive(&mut self, thread: usize, known: &[u64]) -> Result<(), AllocError>
         ensures { OnOk result (IsArrived (Option.Some self.old) (Option.Some self.new) thread known.now) }
     {
@@ -109,7 +109,8 @@ impl Barrier {
         Ok(())
     }
 
-    /// A thread departs.
+    /// Records that a thread departs. If its cycle is the open one, this closes the cycle and opens the next. It fails
+    /// if memory runs out.
     pub fn depart(&mut self, thread: usize) -> Result<(), AllocError>
         ensures { OnOk result (self.old.current + 1 < 2 ^ 64 → IsDeparted (Option.Some self.old) (Option.Some self.new) thread) }
     {
@@ -131,7 +132,7 @@ pub struct Barriers {
 }
 
 impl Barriers {
-    /// Before any event.
+    /// Returns the barriers before any event.
     pub fn new(alloc: Global) -> Barriers
         ensures { result.barriers.items ≡ [] }
     {
@@ -140,7 +141,7 @@ impl Barriers {
         }
     }
 
-    /// What a depart of the thread at the barrier comes to know.
+    /// Returns what a depart of the thread at the barrier learns.
     pub fn known(&self, barrier: usize, thread: usize) -> &[u64]
         ensures { result.now ≡ known_of (slice_get self.now.barriers.items barrier) thread }
     {
@@ -162,7 +163,7 @@ impl Barriers {
         Ok(())
     }
 
-    /// A thread that knows so much arrives at the barrier.
+    /// Records that a thread with this knowledge arrives at the barrier. It fails if memory runs out.
     pub fn arrive(&mut self, barrier: usize, thread: usize, known: &[u64]) -> Result<(), AllocError>
         ensures here { OnOk result (IsArrived (slice_get self.old.barriers.items barrier) (slice_get self.new.barriers.items barrier) thread known.now) }
         ensures others { OnOk result ((other : ℕ) → other ≢ barrier
@@ -173,7 +174,7 @@ impl Barriers {
         Ok(())
     }
 
-    /// A thread departs from the barrier.
+    /// Records that a thread departs from the barrier. It fails if memory runs out.
     pub fn depart(&mut self, barrier: usize, thread: usize) -> Result<(), AllocError>
         ensures here { OnOk result (current_of (slice_get self.old.barriers.items barrier) + 1 < 2 ^ 64
             → IsDeparted (slice_get self.old.barriers.items barrier) (slice_get self.new.barriers.items barrier) thread) }

@@ -14,16 +14,16 @@ use crate::variables::{Variables, tell};
 use lrc_std::event::{Event, Operation, Pair, Placed};
 use std::alloc::{AllocError, Global};
 
-/// What is kept of the events so far.
+/// The race detector: what it stores of the events so far.
 #[derive(Drop)]
 pub struct Detector {
-    /// How many they are.
+    /// The number of events so far.
     pub position: u64,
     /// What each thread knows.
     pub threads: Clocks,
-    /// What those knew that released or posted a lock.
+    /// For each lock, what the threads knew that released or posted it.
     pub locks: Clocks,
-    /// What those knew that arrived at a barrier.
+    /// What the threads knew that arrived at each barrier.
     pub barriers: Barriers,
     /// The last accesses of each variable.
     pub variables: Variables,
@@ -147,7 +147,7 @@ fn judge(
 }
 
 impl Detector {
-    /// Before any event.
+    /// Returns a detector before any event.
     pub fn new(alloc: Global) -> Detector
         ensures { (events : List Event) → HasTaken events 0 result }
     {
@@ -175,8 +175,9 @@ impl Detector {
         Ok(())
     }
 
-    /// Takes the next event of a trace, and answers in `told` exactly the pairs that are told of it, in their order. An
-    /// error leaves nothing that is of use.
+    /// Takes the next event of a trace, and sets `told` to exactly the pairs that are reported of it, in order. A
+    /// detector takes fewer than 2^64 events. It fails if memory runs out, and then the detector and `told` are of no
+    /// use.
     pub fn take(&mut self, event: Event, told: &mut Vec<Pair>) -> Result<(), AllocError>
         requires { self.old.position + 1 < 2 ^ 64 }
         ensures { OnOk result ((events : List Event) (n : ℕ) → At events n event → HasTaken events n self.old

@@ -10,7 +10,7 @@ use lrc_std::event::{Event, Operation};
 use lrc_std::fault::Reason;
 use std::alloc::{AllocError, Global};
 
-/// A line of each thread that has one.
+/// A line for each thread that has one.
 #[derive(Drop)]
 pub struct Lines {
     lines: Vec<Option<u64>>,
@@ -64,12 +64,12 @@ impl Lines {
     }
 }
 
-/// Which threads are joined, and which are known.
+/// Which threads were joined, and which are known.
 #[derive(Drop)]
 pub struct Threads {
-    /// The line of the first join of each thread.
+    /// For each thread, the line of its first join.
     pub joined: Lines,
-    /// The line of the first event that is of each thread or forks it.
+    /// For each thread, the line of the first event that is of it or forks it.
     pub known: Lines,
 }
 
@@ -103,7 +103,7 @@ fn note_known(known: &mut Lines, event: Event) -> Result<(), AllocError>
 }
 
 impl Threads {
-    /// Before any event.
+    /// Returns the threads before any event.
     pub fn new(alloc: Global) -> Threads
         ensures { (events : List Event) → HasThreads events 0 result }
     {
@@ -113,7 +113,7 @@ impl Threads {
         }
     }
 
-    /// Whether the thread of the next event was joined, and since which line.
+    /// Returns a reason if the next event's thread was joined, with the line of its first join.
     pub fn joined_fault(&self, event: Event) -> Option<Reason>
         ensures { (events : List Event) (n : ℕ) → HasThreads events n self.now
             → MatchOption result ((line : ℕ) → ¬ Holds events n event (Joined line)) (λ reason. IsJoined reason × Holds events n event reason) }
@@ -122,7 +122,7 @@ impl Threads {
         Some(Reason::Joined { line })
     }
 
-    /// Whether the next event forks a thread that is known, and since which line.
+    /// Returns a reason if the next event forks a thread that is known, with the line since which it is known.
     pub fn known_fault(&self, event: Event) -> Option<Reason>
         ensures { (events : List Event) (n : ℕ) → HasThreads events n self.now
             → MatchOption result ((thread line : ℕ) → ¬ Holds events n event (Known thread line))
@@ -145,7 +145,7 @@ impl Threads {
         }
     }
 
-    /// Takes the next event of a trace. An error leaves nothing that is of use.
+    /// Takes the next event of a trace. It fails if memory runs out, and then the threads are of no use.
     pub fn take(&mut self, event: Event) -> Result<(), AllocError>
         ensures { OnOk result ((events : List Event) (n : ℕ) → At events n event → HasThreads events n self.old
             → HasThreads events (n + 1) self.new) }

@@ -5,7 +5,7 @@ ghost use Rattle.lrc_stream.specs.Variables.{lasts_of, noted, told_one, told_bel
 use lrc_std::event::{Pair, Placed};
 use std::alloc::{AllocError, Global};
 
-/// The last access of a variable by a thread that accesses it, and its last write.
+/// The last access of a variable by one thread, and that thread's last write.
 #[derive(Clone, Copy)]
 pub struct Last {
     pub access: Placed,
@@ -36,7 +36,8 @@ fn told_one(last: &Last, known: &[u64], later: Placed, is_write: bool) -> Option
     Some(Pair { earlier, later })
 }
 
-/// Tells the pairs of an access, by a thread that knows so much, with the last accesses of the variable.
+/// Adds to `told` the pairs of an access with the last accesses of the variable, if `known` is what the access's thread
+/// knows. It fails if memory runs out.
 pub fn tell(
     lasts: &[Last],
     known: &[u64],
@@ -104,7 +105,7 @@ pub struct Variables {
 }
 
 impl Variables {
-    /// Before any access.
+    /// Returns the variables before any access.
     pub fn new(alloc: Global) -> Variables
         ensures { result.rows.items ≡ [] }
     {
@@ -113,7 +114,7 @@ impl Variables {
         }
     }
 
-    /// The last accesses of the variable, by thread.
+    /// Returns the last accesses of the variable, ascending by thread.
     pub fn lasts(&self, variable: usize) -> &[Last]
         ensures { result.now ≡ lasts_of self.now variable }
     {
@@ -134,7 +135,7 @@ impl Variables {
         Ok(())
     }
 
-    /// Notes an access.
+    /// Records an access of the variable. It fails if memory runs out.
     pub fn note(
         &mut self,
         variable: usize,

@@ -46,7 +46,7 @@ fn waits_next(
     }
 }
 
-/// For whom each node waits.
+/// Returns the node for which each node waits, or none.
 pub fn waits_of(alloc: Global, stands: &[Stand]) -> Result<Vec<Option<usize>>, AllocError>
     ensures { IfOk result (λ waits. waits.items ≡ waits_of stands.now) }
 {
@@ -69,7 +69,8 @@ fn waits_at(waits: &[Option<usize>], node: usize) -> Option<usize>
     }
 }
 
-/// The nodes behind the first along which waiting leads from it back to it, where it is the lowest of them.
+/// Returns the other nodes of the circle of waiting through `first`, in order, or none if there is no such circle or
+/// `first` is not its lowest node.
 pub fn circle_of(
     alloc: Global,
     waits: &[Option<usize>],
@@ -119,7 +120,7 @@ fn push_first(text: &mut Vec<u8>, first: usize) -> Result<(), AllocError>
     push_number(text, b"deadlock: node ", first as u64)
 }
 
-/// Adds a circle in words: the first node, and those behind it.
+/// Adds a circle in words: the first node, and the nodes behind it. On error `text` still begins with its old bytes.
 pub fn push_circle(text: &mut Vec<u8>, first: usize, way: &[usize]) -> Result<(), AllocError>
     ensures ok { OnOk result (text.new.items ≡ text.old.items ++ circle_words first way.now) }
     ensures err { OnErr result (BeginsWith text.new.items text.old.items) }
@@ -169,7 +170,7 @@ fn push_circles(
     Ok(())
 }
 
-/// Adds a line for each circle of waiting, by the lowest of its nodes.
+/// Adds a line for each circle of waiting, ordered by its lowest node. On error `text` still begins with its old bytes.
 pub fn push_deadlocks(alloc: Global, text: &mut Vec<u8>, stands: &[Stand]) -> Result<(), AllocError>
     ensures ok { OnOk result (text.new.items ≡ text.old.items ++ deadlocks_text stands.now) }
     ensures err { OnErr result (BeginsWith text.new.items text.old.items) }

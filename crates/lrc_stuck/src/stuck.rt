@@ -89,7 +89,8 @@ fn push_reason(
     }
 }
 
-/// Adds how node `me` ended, and why, with the labels of words and of locks.
+/// Adds how node `me` ended and why, with the labels of words and locks. On error `text` still begins with its old
+/// bytes.
 pub fn push_end(
     alloc: Global,
     text: &mut Vec<u8>,
@@ -133,9 +134,9 @@ fn stuck_lines(alloc: Global, labels: &[Label<'_>], stands: &[Stand]) -> Result<
     Ok(text)
 }
 
-/// What is printed of the nodes that are unfinished after acts: of each two lines, and then a line for each circle of waiting. The
-/// program's statements, and the text's end behind them, have these lines; a node has so many steps, where that is given. The labels of
-/// words and of locks stand behind their numbers.
+/// Returns what is printed of the nodes that are unfinished after acts: two lines for each, and then a line for each
+/// circle of waiting. `lines` has the lines of the program's statements, and of the text's end behind them. `steps` is
+/// the number of steps that a node has, if it is limited. The labels of words and locks follow their numbers.
 pub fn stuck_part(
     alloc: Global,
     labels: &[Label<'_>],

@@ -14,7 +14,7 @@ use lrc_text::push_number;
 use lrc_trace::act::Cause;
 use std::alloc::{AllocError, Global};
 
-/// The words of why a statement traps.
+/// Returns the words that tell why a statement traps.
 pub(crate) fn words_of(cause: Cause) -> &'static [u8]
     ensures { result.now ≡ cause_words cause }
 {
@@ -136,7 +136,7 @@ fn push_barrier(text: &mut Vec<u8>, missing: &[Missing]) -> Result<(), AllocErro
     }
 }
 
-/// Adds what comes next of node `me`.
+/// Adds what comes next at node `me`.
 pub(crate) fn push_coming(
     alloc: Global,
     text: &mut Vec<u8>,

@@ -10,7 +10,7 @@ ghost use Rattle.lrc_table.specs.Table.{Table, copy_at, with_copy, with_each, wr
 
 use crate::slot::State;
 
-/// A readable copy gives at each offset what was written there last.
+/// A readable copy gives at each offset the value that was written there last.
 pub fn reading_gives_what_was_written()
     ensures written { (copy : PageCopy) (offset value : ℕ) → is_readable copy.state ≡ true → offset < length copy.values
         → read_at (after_write copy offset value) offset ≡ Some value }
@@ -18,8 +18,8 @@ pub fn reading_gives_what_was_written()
         → read_at (after_write copy offset value) other ≡ read_at copy other }
 {}
 
-/// A twin has the values from before the first write since the last close: that write makes it, and later ones leave
-/// it as it is.
+/// A twin has the values from before the first write since the last close. That write makes the twin, and later writes
+/// leave it unchanged.
 pub fn the_first_write_makes_the_twin()
     ensures first { (copy : PageCopy) (offset value : ℕ) → copy.state ≡ State.Valid
         → (after_write copy offset value).twin ≡ Some copy.values }
@@ -27,8 +27,8 @@ pub fn the_first_write_makes_the_twin()
         → (after_write copy offset value).twin ≡ copy.twin }
 {}
 
-/// A close names each written page, once and in ascending order, and no other page. After it no page is written, and
-/// those that were are pending: they have the changes to make from their twins to their values at this close.
+/// A close names each written page once, in ascending order, and no other page. After the close no page is written.
+/// Each page that was written is pending: its changes are still to be made, from its twin to its values at this close.
 pub fn closing_names_the_written_pages()
     ensures exact { (table : Table) (page : ℕ) → Contains (written_pages table) page
         ↔ ((page < length table.copies) × ((copy_at table page).state ≡ State.Written)) }
@@ -39,9 +39,9 @@ pub fn closing_names_the_written_pages()
     ensures twins { (size : Size) (copy : PageCopy) → IsWhole size copy → copy.state ≡ State.Written → IsSome copy.twin }
 {}
 
-/// What a pending page has to settle stays as it is until it is settled or dropped: by calls on other pages, by a close,
-/// by base copies kept and dropped, and by the drop of invalid copies. A pending page is valid, and the calls that
-/// would change its values or its state are not allowed.
+/// The changes of a pending page stay the same until they are settled or dropped. Calls on other pages do not change
+/// them, nor does a close, a base copy that is kept or dropped, or the drop of invalid copies. A pending page is valid,
+/// and the calls that would change its values or its state are not allowed.
 pub fn pending_changes_stay()
     ensures named { (copy : PageCopy) → (is_pending copy ≡ true) ↔ IsSome (pending_changes copy) }
     ensures valid { (copy : PageCopy) → is_pending copy ≡ true → copy.state ≡ State.Valid }

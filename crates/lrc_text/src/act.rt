@@ -8,7 +8,8 @@ use crate::number::push_number;
 use lrc_trace::act::{Act, Deed};
 use std::alloc::AllocError;
 
-/// Adds the words of a deed, as `quiet` or `write 0 1`.
+/// Adds the words of a deed to a text, such as `quiet` or `write 0 1`. It fails if memory runs out. The text then keeps
+/// what it had, perhaps with some of the new words behind it.
 pub fn push_deed(text: &mut Vec<u8>, deed: Deed) -> Result<(), AllocError>
     ensures ok { OnOk result (text.new.items ≡ text.old.items ++ deed_text deed) }
     ensures err { OnErr result (BeginsWith text.new.items text.old.items) }
@@ -36,7 +37,7 @@ fn push_access(text: &mut Vec<u8>, name: &[u8], word: u32, value: u64) -> Result
     push_number(text, b" ", value)
 }
 
-/// Adds an act: its node, and the words of its deed.
+/// Adds an act to a text: its node, then the words of its deed. It fails as `push_deed` does.
 pub fn push_act(text: &mut Vec<u8>, act: Act) -> Result<(), AllocError>
     ensures ok { OnOk result (text.new.items ≡ text.old.items ++ act_text act) }
     ensures err { OnErr result (BeginsWith text.new.items text.old.items) }
@@ -46,7 +47,8 @@ pub fn push_act(text: &mut Vec<u8>, act: Act) -> Result<(), AllocError>
     push_deed(text, act.deed)
 }
 
-/// Adds the line of an act that is of this line of the program's text.
+/// Adds the line of an act to a text. The act belongs to line `line` of the program's text. It fails as `push_deed`
+/// does.
 pub fn push_act_line(text: &mut Vec<u8>, act: Act, line: u32) -> Result<(), AllocError>
     ensures ok { OnOk result (text.new.items ≡ text.old.items ++ act_line act line) }
     ensures err { OnErr result (BeginsWith text.new.items text.old.items) }

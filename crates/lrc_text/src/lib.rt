@@ -1,4 +1,5 @@
-//! Texts of a run in parts: numbers, acts and races in words, and numbers read from digits.
+//! The parts from which the texts about a run are put together: numbers, acts and races in words. The crate also reads
+//! numbers from decimal digits.
 #![tactic(auto)]
 
 mod act;

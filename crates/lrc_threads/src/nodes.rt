@@ -27,8 +27,10 @@ impl<'p> Promise<Past> for PastOf<'p> {
     ghost kept_by = { λ p r. IsPast (fresh_node p.program.now p.member.nodes p.member.options p.member.me) r };
 }
 
-/// What is left of all nodes of a program, from node 0 up: each lives on a thread of its own, over the one code of the program, until the
-/// post is closed. Where one fails, or there is no memory for a thread, the post is closed at once; a node that has no thread makes no turn.
+/// Runs all nodes of a program and returns what is left of them, from node 0 up. Each node lives on a separate thread
+/// until the post is closed, and all share one code. If a node fails, or there is no memory for a thread, the post is
+/// closed at once. A node without a thread makes no turn. The call fails if there is no memory for the lists, before
+/// any thread starts.
 pub fn pasts_of<C: Coded + Sync, G: Gate + Sync, R: Threads + Wait + Sync>(
     rt: &R,
     alloc: Global,

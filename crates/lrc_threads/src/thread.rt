@@ -22,7 +22,8 @@ use lrc_trace::trace::Trace;
 use std::alloc::{AllocError, Global};
 use std::sync::Wait;
 
-/// What a node of a program does, from its first turn until the post is closed or the node fails. A node that fails closes the post.
+/// Runs a node of a program, from its first turn until the post is closed or the node fails. A node that fails closes
+/// the post.
 pub(crate) fn on_thread<G: Gate, R: Wait>(
     rt: &R,
     alloc: Global,
@@ -84,7 +85,7 @@ fn ended(node: Logged<'_>, stop: Option<Stop>) -> Past
     }
 }
 
-/// What is left of a node for which there was no memory.
+/// Returns what is left of a node for which there was no memory.
 pub(crate) fn unborn(alloc: Global, member: &Member) -> Past
     ensures log { result.log.items ≡ [] }
     ensures stop { result.stop ≡ Some NoMemory }

@@ -21,16 +21,19 @@ use std::alloc::Global;
 use std::sync::Wait;
 use std::thread;
 
-/// How many turns a node makes by itself, at most, before it looks whether there is a message for it.
+/// The most turns that a node makes by itself before it looks for a message.
 const TURNS: u32 = 64;
 
-/// A node's turns, until there will be no message for it any more and it waits: it goes on while it is ready, and takes its messages,
-/// which it waits for where it is not ready. A node that is ready looks for messages after each release of a lock, and after each 64 turns; one
-/// that spins under a lock lets other threads go on meanwhile. What a turn sends is put before the next one. A message that cannot
-/// be read, or that the node does not expect, is taken and makes no turn. It ends well only where the node waits and its mail, asked for
-/// the next message, says that there will be none; it answers `Closed` only where its mail says that the post is closed. What its mail
-/// means by either is up to the mail: a `Line`, whose post other threads use too, means nothing. `Worn` comes only of a turn that is too
-/// large, or that has a message which is too long to be sent.
+/// Makes a node's turns until it waits and no message will come any more. The node goes on while it is ready. When it
+/// is not ready, it waits for messages and takes them. A ready node looks for messages after each release of a lock,
+/// and after every 64 turns. A node that spins under a lock lets other threads go on meanwhile. The messages of a turn
+/// are put before the next turn. A message that cannot be read, or that the node does not expect, is taken and makes no
+/// turn.
+///
+/// It ends well only if the node waits and its mail, asked for the next message, says that there will be none. It fails
+/// with `Closed` only if its mail says that the post is closed. What either means is up to the mail: a `Line`, whose
+/// post other threads use too, means nothing by it. `Worn` comes only of a turn that is too large, or that has a
+/// message which is too long to be sent.
 pub fn work<M: Mail, G: Gate, R: Wait>(
     rt: &R,
     alloc: Global,

@@ -8,8 +8,8 @@ ghost use Rattle.lrc_protocol.specs.declared.event.Event.{Event};
 ghost use Rattle.lrc_protocol.specs.Node.{OptionsRecord};
 ghost use Rattle.lrc_protocol.specs.Run.{World, run_of};
 
-/// Of every run's acts each is of one of the nodes, and what `times_of_acts` answers for them are the times that the nodes have just
-/// after their acts.
+/// In every run each act is of one of the nodes, and what `times_of_acts` returns for the acts are the times of the
+/// nodes just after their acts.
 pub fn times_are_those_of_the_nodes()
     ensures nodes { (program : Program) (nodes : ℕ) (options : OptionsRecord) (events : List Event) (world : World)
         → run_of program nodes options events ≡ Some world → All (λ act. act.node < nodes) world.acts }

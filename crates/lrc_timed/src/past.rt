@@ -12,17 +12,18 @@ use lrc_time::Time;
 use lrc_trace::act::{Act, Deed};
 use std::alloc::{AllocError, Global};
 
-/// How many locks an act can name.
+/// The number of locks that an act can name.
 const LOCKS: usize = 256;
 
-/// Where the times of nodes and locks stand, the times of barriers, and how often each node came to one and went on.
+/// What the acts so far leave: the last positions of nodes and locks, the times of barriers, and how often each node
+/// arrived and departed.
 #[derive(Drop)]
 pub(crate) struct Past {
-    /// For each node its last position.
+    /// For each node, the position of its last act.
     acted: [Option<usize>; NODES],
-    /// For each lock the position of its last release.
+    /// For each lock, the position of its last release.
     released: [Option<usize>; LOCKS],
-    /// For each number, what was known at the arrives with so many of their own node before them.
+    /// For each number, what was known at the arrives that have this many arrives of their own node before them.
     arrived: Vec<Time>,
     /// How often each node has arrived.
     arrives: [usize; NODES],
@@ -83,7 +84,7 @@ impl Past {
     ghost use Rattle.lrc_clock.specs.Times.{arrived_time, released_time, time_before};
     ghost use Rattle.lrc_timed.specs.Past.{IsTimedPast};
 
-    /// Before any act.
+    /// Returns the past before any act.
     pub(crate) fn new(alloc: Global) -> Past
         ensures { (nodes : ℕ) → IsTimedPast nodes [] [] result }
     {
@@ -131,7 +132,7 @@ impl Past {
         }
     }
 
-    /// The time just after an act that follows these.
+    /// Returns the time just after `act`, which follows `acts`.
     pub(crate) fn time_after(&self, acts: &[Act], times: &[Time], act: Act, nodes: u8) -> Time
         requires some { 1 ≤ nodes }
         requires few { nodes ≤ 16 }
@@ -154,7 +155,8 @@ impl Past {
         time
     }
 
-    /// Takes an act in that follows these, and its time.
+    /// Takes in an act that follows these, and its time. It fails if memory runs out; what is then noted is
+    /// unspecified.
     pub(crate) fn note(
         &mut self,
         acts: &[Act],

@@ -19,8 +19,8 @@ const DEFAULT_COLLECT: u64 = 0;
 
 const DEFAULT_SEED: u64 = 0;
 
-/// The title of a chart of a run: a command line for a shell that makes it, where its file's name begins with no `-`. A chart for a
-/// terminal has the same title as the document.
+/// Returns the title for a chart of a run: a shell command line that makes it, if the file's name does not begin with
+/// `-`. A chart for a terminal has the same title as the SVG document.
 pub fn title_of(
     alloc: Global,
     run: &RunChoice<'_>,
@@ -36,7 +36,8 @@ pub fn title_of(
     Ok(title)
 }
 
-/// The title of a chart of acts from anywhere: a command line for a shell that makes it, where its file's name begins with no `-`.
+/// Returns the title for a chart of acts from a file: a shell command line that makes it, if the file's name does not
+/// begin with `-`.
 pub fn title_of_acts(
     alloc: Global,
     acts: &ChartedActs<'_>,

@@ -13,7 +13,7 @@ use lrc_text::{push_deed, push_number};
 use lrc_trace::act::{Act, Deed};
 use std::alloc::{AllocError, Global};
 
-/// Adds a comma before an item of a list, but before the first nothing.
+/// Adds a comma before the list item at this place, or nothing before the first item.
 pub fn push_comma(text: &mut Vec<u8>, place: usize) -> Result<(), AllocError>
     ensures { OnOk result (text.new.items ≡ text.old.items ++ before place (codes ",")) }
 {
@@ -63,7 +63,7 @@ pub fn push_listed(
     push_envelope(alloc, text, envelope)
 }
 
-/// Adds messages, with commas between them.
+/// Adds messages, separated by commas.
 pub fn push_envelopes(
     alloc: Global,
     text: &mut Vec<u8>,
@@ -122,7 +122,7 @@ fn push_label(text: &mut Vec<u8>, place: usize, label: Label<'_>) -> Result<(), 
     text.extend_from_slice(b"\"}")
 }
 
-/// Adds labels, with commas between them.
+/// Adds labels, separated by commas.
 pub fn push_labels(text: &mut Vec<u8>, labels: &[Label<'_>]) -> Result<(), AllocError>
     ensures { OnOk result (text.new.items ≡ text.old.items ++ labels_list (map label_seen labels.now)) }
 {
@@ -152,7 +152,7 @@ fn push_done(text: &mut Vec<u8>, spot: Spot, deed: Deed) -> Result<(), AllocErro
     text.extend_from_slice(b"}")
 }
 
-/// Adds the act that is made at this spot, if one is.
+/// Adds the act that is made at this spot, or `null` if none is.
 pub fn push_act(text: &mut Vec<u8>, spot: Spot, act: Option<Act>) -> Result<(), AllocError>
     ensures { OnOk result (text.new.items ≡ text.old.items ++ act_or_null spot act) }
 {
@@ -191,7 +191,7 @@ fn push_note(text: &mut Vec<u8>, place: usize, note: Note) -> Result<(), AllocEr
     push_write(text, note)
 }
 
-/// Adds the last Writes to words, with commas between them.
+/// Adds the last writes to words, separated by commas.
 pub fn push_notes(text: &mut Vec<u8>, notes: &[Note]) -> Result<(), AllocError>
     ensures { OnOk result (text.new.items ≡ text.old.items ++ notes_list notes.now) }
 {
@@ -201,7 +201,7 @@ pub fn push_notes(text: &mut Vec<u8>, notes: &[Note]) -> Result<(), AllocError>
     Ok(())
 }
 
-/// Adds whether something is so.
+/// Returns the JSON word for a truth value.
 #[tactic(auto, unfolding(crate::specs::Objects::truth_text))]
 pub fn truth(is_so: bool) -> &'static [u8]
     ensures { result.now ≡ truth_text is_so }

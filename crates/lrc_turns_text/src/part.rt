@@ -10,7 +10,7 @@ use crate::turn::push_turn;
 use lrc_node::Entry;
 use std::alloc::{AllocError, Global};
 
-/// The turn at a place of a node's log.
+/// Returns the turn at a place of a node's log, or none if the log has no such turn.
 pub fn entry_of(logs: &[Vec<Entry>], node: u8, place: usize) -> Option<&Entry>
     ensures there { MatchOption result (log_entry (map (λ log. log.items) logs.now) node place ≡ None)
         (λ entry. log_entry (map (λ log. log.items) logs.now) node place ≡ Some entry.now) }
@@ -70,9 +70,9 @@ fn tell_next(
     }
 }
 
-/// The turns that nodes made, one after another: each is the next one of its node's log. A turn that takes a message begins with
-/// that message; then stands its act, with the line of the program's text that it is of, where `lines` are those of the run's acts;
-/// then the messages that it sends.
+/// Returns the text of the turns that nodes made, in the order of `order`: each is the next one of its node's log. A
+/// turn that takes a message begins with that message. Then comes its act, with its line of the program's text, where
+/// `lines` are the lines of the run's acts. The messages that the turn sends come last.
 pub fn messages_part(
     alloc: Global,
     logs: &[Vec<Entry>],

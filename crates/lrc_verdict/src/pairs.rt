@@ -29,19 +29,20 @@ use std::io::Write;
 // How many bytes of lines are gathered before they are written.
 const BLOCK: usize = 65_536;
 
-/// A judgement of acts, ready to be written with all its racing pairs. It takes little more memory than the acts, however many pairs
-/// there are: these are found while they are written.
+/// A judgement of acts, ready to be written with all its racing pairs. It takes little more memory than the acts,
+/// however many pairs there are, because the pairs are found while they are written.
 #[derive(Drop)]
 pub struct PairsJudgement {
     head: Vec<u8>,
     acts: Vec<Act>,
     conflicts: Conflicts,
     first: Option<usize>,
-    /// The status with which the program ends after it.
+    /// The program's exit status after the judgement.
     pub status: u8,
 }
 
-/// Judges the acts of a text, of so many nodes where that is given; or says the first line that is bad.
+/// Judges the acts of a text, with the number of nodes if that is given, for a report with all racing pairs. It fails
+/// as `judge` does.
 pub fn judge_pairs(
     alloc: Global,
     text: &[u8],
@@ -78,8 +79,8 @@ fn judgement_of(alloc: Global, lined: LinedActs, nodes: u8) -> Result<PairsJudge
     })
 }
 
-/// Writes a judgement: its first lines, then those of the racing pairs of each later position as soon as they are found, and last
-/// that of the first race. It ends with the first write that fails.
+/// Writes a judgement: its first lines, then the racing pairs of each later position as soon as they are found, and
+/// last the line of the first race. It stops at the first write that fails.
 pub fn put_pairs<W: Write>(
     alloc: Global,
     output: &mut Output<'_, W>,

@@ -28,7 +28,7 @@ fn place_at(lines: &[u32], position: usize) -> Place
     }
 }
 
-/// Adds the line on well-synchronization, and answers whether the acts are.
+/// Adds the line on well-synchronization, and returns whether the acts are well synchronized.
 pub(crate) fn tell_synchronization(
     text: &mut Vec<u8>,
     acts: &[Act],
@@ -52,7 +52,7 @@ pub(crate) fn tell_synchronization(
     }
 }
 
-/// A read: its word, and the value that it gives.
+/// One read: its word, and its value.
 #[derive(Clone, Copy)]
 struct ReadValue {
     word: u32,
@@ -70,7 +70,7 @@ fn read_at(acts: &[Act], position: usize) -> Option<ReadValue>
     }
 }
 
-/// Adds the line on lazy reading, and answers whether the acts read lazily.
+/// Adds the line on lazy reading, and returns whether the acts read lazily.
 pub(crate) fn tell_lazy_reading(
     alloc: Global,
     text: &mut Vec<u8>,
@@ -154,7 +154,7 @@ fn tell_disorder(
     Ok(())
 }
 
-/// The lines of the races.
+/// Returns the lines of the races.
 pub(crate) fn races_told(alloc: Global, acts: &[Act]) -> Result<Vec<u8>, AllocError>
     requires { All (λ act. act.node < NODES) acts.now }
     ensures { IfOk result (λ part. TellsRaces acts.now false part.items) }

@@ -10,7 +10,7 @@ use crate::found::{Found, Kind, StatementAt, push_found};
 use lrc_lang::program::Statement;
 use std::alloc::AllocError;
 
-/// Adds the shared accesses of constants that are not below the number of words.
+/// Adds the shared accesses whose constant is not below the number of words.
 pub fn no_such_word(
     out: &mut Vec<Found>,
     statements: &[StatementAt<'_>],
@@ -58,7 +58,7 @@ fn word_beyond(word: Option<u64>, words: u32) -> Option<Kind>
     }
 }
 
-/// Adds the acquires and releases of constants that are not below the number of locks.
+/// Adds the acquires and releases whose constant is not below the number of locks.
 pub fn no_such_lock(
     out: &mut Vec<Found>,
     statements: &[StatementAt<'_>],

@@ -19,7 +19,7 @@ use crate::operations::kind_if;
 use lrc_lang::program::{Expression, Statement};
 use std::alloc::{AllocError, Global};
 
-/// Adds the choices on `me` whose blocks have not as many barriers.
+/// Adds the choices on `me` whose blocks do not have equally many barriers.
 pub fn uneven_barriers(
     out: &mut Vec<Found>,
     alloc: Global,
@@ -336,7 +336,7 @@ fn some_learns(statements: &[&Statement]) -> bool
     statements.iter().any(|s| is_acquire(s) || is_barrier(s))
 }
 
-/// Whether a statement is a barrier.
+/// Returns whether a statement is a barrier.
 pub(crate) fn is_barrier(statement: &Statement) -> bool
     ensures { result ≡ is_barrier (statement_of statement.now) }
 {

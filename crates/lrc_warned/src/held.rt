@@ -18,14 +18,14 @@ use crate::locks::{acquires, may_acquire, may_release, releases};
 use lrc_lang::program::Statement;
 use std::alloc::{AllocError, Global};
 
-/// What a statement stands under.
+/// What a statement is under: an acquire or a release.
 #[derive(Clone, Copy)]
 pub enum Side {
     Acquired,
     Released,
 }
 
-/// Adds the acquires of a lock under an acquire of it.
+/// Adds the acquires of a lock under an acquire of the same lock.
 pub fn held_already(
     out: &mut Vec<Found>,
     alloc: Global,
@@ -85,7 +85,7 @@ fn put_acquire(
     push_if(out, holds, at, Kind::HeldAlready(lock))
 }
 
-/// Adds the releases of a lock under a release of it.
+/// Adds the releases of a lock under a release of the same lock.
 pub fn not_held(
     out: &mut Vec<Found>,
     alloc: Global,
@@ -145,7 +145,7 @@ fn put_release(
     push_if(out, holds, at, Kind::NotHeld(lock))
 }
 
-/// Adds the barriers under an acquire of some lock, with the least of these.
+/// Adds the barriers under an acquire of a lock, with the least such lock.
 pub fn held_at_barrier(
     out: &mut Vec<Found>,
     alloc: Global,

@@ -7,7 +7,7 @@ ghost use Rattle.lrc_warned.specs.Inside.{nodes_in, nodes_of, statements_in, wit
 use lrc_lang::program::{Expression, Statement};
 use std::alloc::{AllocError, Global};
 
-/// The parts of an expression, in the order of their tokens.
+/// Returns the parts of an expression, in the order of their tokens. It fails if memory runs out.
 pub fn nodes_in<'p>(
     alloc: Global,
     expression: &'p Expression,
@@ -63,7 +63,8 @@ pub fn put_nodes_of<'p>(
     }
 }
 
-/// The statements of a block, those of their blocks among them, in the order of the text.
+/// Returns the statements of a block, with those of their blocks, in the order of the text. It fails if memory runs
+/// out.
 pub fn statements_in<'p>(
     alloc: Global,
     block: &'p [Statement],
@@ -86,7 +87,7 @@ fn put_block<'p>(out: &mut Vec<&'p Statement>, block: &'p [Statement]) -> Result
     Ok(())
 }
 
-/// Adds a statement, and those of its blocks.
+/// Adds a statement, and the statements of its blocks.
 #[cycle(inside)]
 pub fn put_statement<'p>(
     out: &mut Vec<&'p Statement>,

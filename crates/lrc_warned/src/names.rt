@@ -11,7 +11,7 @@ use crate::found::{Found, Kind, NodeAt, StatementAt};
 use lrc_lang::program::{Expression, Statement};
 use std::alloc::AllocError;
 
-/// How many names a text may have.
+/// The number of names that a text may have.
 const MOST_NAMES: u8 = 32;
 
 /// Adds the names that some expression reads and no statement sets, each at its first reading.
@@ -96,7 +96,7 @@ fn never_read_of(
     push_where(out, first_set(statements, name), Kind::NeverRead(name))
 }
 
-/// Adds a warning where there is a place of it.
+/// Adds a warning if it has a place.
 pub(crate) fn push_where(
     out: &mut Vec<Found>,
     at: Option<u32>,
@@ -149,14 +149,14 @@ fn first_set(statements: &[StatementAt<'_>], name: u8) -> Option<u32>
     None
 }
 
-/// Whether a part of an expression is the reading of this name.
+/// Returns whether a part of an expression reads this name.
 pub(crate) fn is_name(node: &Expression, name: u8) -> bool
     ensures { result ≡ is_name name (expression_of node.now) }
 {
     is_value(name_of(node), name)
 }
 
-/// Whether a statement sets this name.
+/// Returns whether a statement sets this name.
 pub(crate) fn sets(statement: &Statement, name: u8) -> bool
     ensures { result ≡ sets name (statement_of statement.now) }
 {
@@ -172,7 +172,7 @@ fn is_value(value: Option<u8>, name: u8) -> bool
     }
 }
 
-/// The name that a part of an expression reads.
+/// Returns the name that a part of an expression reads, or none.
 pub(crate) fn name_of(node: &Expression) -> Option<u8>
     ensures { result ≡ name_of (expression_of node.now) }
 {
@@ -182,7 +182,7 @@ pub(crate) fn name_of(node: &Expression) -> Option<u8>
     }
 }
 
-/// The name that a statement sets.
+/// Returns the name that a statement sets, or none.
 pub(crate) fn set_by(statement: &Statement) -> Option<u8>
     ensures { result ≡ set_by (statement_of statement.now) }
 {

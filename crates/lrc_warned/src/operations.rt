@@ -61,7 +61,7 @@ fn below_zero_kind(node: &Expression) -> Option<Kind>
     }
 }
 
-/// A kind of warning, where this holds.
+/// Returns the kind of warning if this holds, or none.
 pub(crate) fn kind_if(holds: bool, kind: Kind) -> Option<Kind>
     ensures { result ≡ kind_if holds kind }
 {

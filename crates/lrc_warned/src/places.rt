@@ -15,19 +15,20 @@ use lrc_lang::program::{Expression, Statement};
 use lrc_lang::token::{Keyword, Sign, Token};
 use std::alloc::{AllocError, Global};
 
-/// How many tokens stand in front of a program's statements: `words N; locks N;`.
+/// The number of tokens before a program's statements: `words N; locks N;`.
 const HEADER: usize = 6;
 
-/// What is looked for among tokens.
+/// What a scan looks for among the tokens.
 #[derive(Clone, Copy)]
 pub enum Scan {
-    /// Those that begin statements.
+    /// The tokens that begin statements.
     Statements,
-    /// Operands, and the signs between them.
+    /// The operands, and the signs between them.
     Nodes,
 }
 
-/// The statements of a program with the places of their first tokens, in the order of the text.
+/// Returns the statements of a program with the places of their first tokens, in the order of the text. It fails if
+/// memory runs out.
 pub fn statements_at<'p>(
     alloc: Global,
     block: &'p [Statement],
@@ -59,7 +60,8 @@ fn zip_statements<'p>(
     Ok(found)
 }
 
-/// The parts of the expressions of a program with the places of their tokens, in the order of the text.
+/// Returns the parts of the expressions of a program with the places of their tokens, in the order of the text. It
+/// fails if memory runs out.
 pub fn nodes_at<'p>(
     alloc: Global,
     block: &'p [Statement],

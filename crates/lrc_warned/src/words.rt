@@ -12,8 +12,8 @@ use crate::found::{Found, Kind, StatementAt};
 use lrc_lang::program::Statement;
 use std::alloc::{AllocError, Global};
 
-/// Adds the words that a shared read names as a constant where all shared writes are of other constants, each at the first of these
-/// constants.
+/// Adds the words that a shared read names as a constant while all shared writes are of other constants, each at the
+/// first such constant.
 pub fn never_written(
     out: &mut Vec<Found>,
     alloc: Global,

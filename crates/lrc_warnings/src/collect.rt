@@ -14,7 +14,7 @@ use lrc_warned::found::{Found, NodeAt, StatementAt};
 use lrc_warned::{access, blocks, held, locks, names, operations, places, words};
 use std::alloc::{AllocError, Global};
 
-/// All that is warned of in a program, by the places of tokens.
+/// Returns all warnings of a program, each with the place of its token. It fails if memory runs out.
 pub fn found_in(
     alloc: Global,
     program: &Program,

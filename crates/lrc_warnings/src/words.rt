@@ -13,7 +13,7 @@ use lrc_text::push_number;
 use lrc_warned::found::Kind;
 use std::alloc::AllocError;
 
-/// Adds the words of a warning. `names` has the names of the text by number, `labels` what its label lines say.
+/// Adds the words of a warning. `names` are the names of the text by number, and `labels` what its label lines say.
 pub fn push_words(
     out: &mut Vec<u8>,
     says: Says,

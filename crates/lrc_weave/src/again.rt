@@ -11,7 +11,7 @@ use lrc_node::{Entry, Input};
 use std::alloc::{AllocError, Global};
 use std::collections::HashSet;
 
-/// For each turn of each log, whether a later turn of that log takes the same message.
+/// Returns for each turn of each log whether a later turn of that log takes the same message.
 pub(crate) fn all_again(alloc: Global, logs: &[Vec<Entry>]) -> Result<Vec<Vec<bool>>, AllocError>
     ensures { IfOk result (λ again. AreAllAgain (map (λ log. log.items) logs.now) (map (λ bits. bits.items) again.items)) }
 {

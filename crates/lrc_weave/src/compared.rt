@@ -15,7 +15,7 @@ use lrc_post::{Mailbox, Wire};
 use std::alloc::{AllocError, Global};
 use std::marker::Model;
 
-/// Whether logs and mailboxes, one for each node, tell of the same messages, in each node's order.
+/// Returns whether logs and mailboxes, one of each for each node, record the same messages, in each node's order.
 pub(crate) fn are_alike(
     alloc: Global,
     logs: &[Vec<Entry>],

@@ -9,7 +9,8 @@ use lrc_envelope::Envelope;
 use lrc_node::{Entry, Input};
 use lrc_post::{Mailbox, Wire};
 
-/// Whether in each mailbox, of which there is one for each node, the owner's takes and its puts stand as its turns made them.
+/// Returns whether each mailbox holds the owner's takes and its puts to itself in the order in which its turns made
+/// them. There is one mailbox for each node.
 pub(crate) fn are_all_own(logs: &[Vec<Entry>], wires: &[Mailbox]) -> bool
     requires each { length wires.now ≡ length logs.now }
     ensures { IsTrue result ↔ AreAllOwn (map (λ log. log.items) logs.now) wires.now }

@@ -6,7 +6,7 @@ ghost use Rattle.lrc_weave.specs.Compared.{puts_by_each, with_put};
 use lrc_post::{Mailbox, Wire};
 use std::alloc::{AllocError, Global};
 
-/// The puts of each mailbox, for each of so many nodes those that are its own, in order.
+/// Returns for each mailbox the puts of each of the `nodes` nodes, in order.
 pub(crate) fn all_puts(
     alloc: Global,
     nodes: usize,
@@ -22,7 +22,7 @@ pub(crate) fn all_puts(
     Ok(all)
 }
 
-/// A node's own lines: what it put into each mailbox.
+/// Returns the lines of one node: what it put into each mailbox.
 pub(crate) fn lines_of<'p, 'w>(
     alloc: Global,
     puts: &'p [Vec<Vec<&'w Wire>>],

@@ -13,7 +13,8 @@ use lrc_wire::{EncodeFault, WireFault, decode, encode, spell_over};
 use std::alloc::{AllocError, Global};
 use std::mem;
 
-/// Whether bytes spell a message, in either version of the format. The message is written in place of the spare bytes.
+/// Returns whether bytes encode a message, in either version of the format. It overwrites the spare bytes with the
+/// encoded message.
 pub(crate) fn is_spelled(
     spare: &mut Vec<u8>,
     bytes: &[u8],

@@ -26,7 +26,7 @@ use lrc_protocol::Event;
 use lrc_trace::act::Act;
 use std::alloc::{AllocError, Global};
 
-/// A run that logs make.
+/// The run that logs make.
 #[derive(Drop)]
 pub struct WovenRun {
     /// Its events.
@@ -37,10 +37,12 @@ pub struct WovenRun {
     pub in_flight: usize,
 }
 
-/// The events that make all turns of the logs of a program's nodes, ordered by their stamps, and where those are the same by their
-/// nodes. A message's last take is delivered, and each one before it repeated. `Mismatch` exactly where, for some mailbox, of which there
-/// is one for each node, a sender's puts are not those of its log, or the takes are not those of the owner's log, with their stamps, in
-/// their order; so it is where a log has a message that is too long to be written.
+/// Returns the events that make all turns of the logs of a program's nodes, ordered by stamp, and among equal stamps by
+/// node. The last take of a message is a delivery, and each take before it a repetition.
+///
+/// It fails with `Mismatch` exactly if, for some mailbox, the puts of a sender are not those of its log, or the takes
+/// are not those of the owner's log, with their stamps and in their order. This includes every log with a message that
+/// is too long to be encoded. There is one mailbox for each node.
 pub fn weave(
     alloc: Global,
     logs: &[Vec<Entry>],
@@ -60,8 +62,9 @@ pub fn weave(
     }
 }
 
-/// The run of the events that [`weave`] has for these logs, as the logs tell of it: nothing is played. `Mismatch` exactly where `weave`
-/// answers it, and where a node's takes and its puts to itself do not stand in its mailbox as its turns made them.
+/// Returns the run of the events that [`weave`] gives for these logs, read from the logs without playing an event. It
+/// fails with `Mismatch` exactly if `weave` does, or if a mailbox does not hold its owner's takes and puts to itself in
+/// the order in which its turns made them.
 pub fn weave_run(
     alloc: Global,
     logs: &[Vec<Entry>],
@@ -107,8 +110,8 @@ fn woven_run(alloc: Global, logs: &[Vec<Entry>], wires: &[Mailbox]) -> Result<Wo
     }
 }
 
-/// The events that make all turns of the logs of a program's nodes, in the order of [`weave`], where each message that is taken was
-/// sent. `Mismatch` only where one was not: none of the logs sent it before.
+/// Returns the events that make all turns of the logs of a program's nodes, in the order of [`weave`], if each message
+/// that is taken was sent. It fails with `Mismatch` only if one was not: none of the logs sent it before.
 pub fn events_of(alloc: Global, logs: &[Vec<Entry>]) -> Result<Vec<Event>, WeaveFault>
     requires few { length logs.now ≤ 16 }
     ensures woven { IfOk result (λ events. (program : Program) (nodes : ℕ) (options : OptionsRecord)
@@ -124,9 +127,10 @@ pub fn events_of(alloc: Global, logs: &[Vec<Entry>]) -> Result<Vec<Event>, Weave
     }
 }
 
-/// The events that make all turns of the logs, as [`events_of`] has them, and behind them the one at which this node makes one turn
-/// more by this input. A message is delivered for the last time. `Mismatch` only where a message was taken that none of the logs
-/// sent before, or the input is a message that is not in flight after all turns.
+/// Returns the events that make all turns of the logs, as [`events_of`] does, followed by the event with which this
+/// node makes one more turn, from this input. If the input is a message, this is its last delivery. It fails with
+/// `Mismatch` only if a message was taken that none of the logs sent before, or if the input is a message that is not
+/// in flight after all turns.
 pub fn events_with(
     alloc: Global,
     logs: &[Vec<Entry>],

@@ -131,7 +131,7 @@ fn gift(
     })
 }
 
-/// What the act at the position, this deed of this node, is about.
+/// Returns what the act at the position, which is this deed of this node, is about. It fails if memory runs out.
 pub(crate) fn about(
     alloc: Global,
     acts: &[Act],

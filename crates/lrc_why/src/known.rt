@@ -96,7 +96,7 @@ fn news(
     }))
 }
 
-/// For each node what is known of it at the position, where it is another one and something is known.
+/// Returns for each other node what is known of it at the position, or none if nothing is. It fails if memory runs out.
 pub(crate) fn all_news(
     alloc: Global,
     acts: &[Act],
@@ -129,7 +129,7 @@ fn is_unknown(acts: &[Act], order: &Order, node: u8, position: usize) -> bool
     !is_act_of(acts, node, position) && last_known(acts, order, node, position).is_none()
 }
 
-/// The other nodes of which nothing is known at the position, ascending.
+/// Returns the other nodes of which nothing is known at the position, ascending. It fails if memory runs out.
 pub(crate) fn unknown_nodes(
     alloc: Global,
     acts: &[Act],
@@ -175,7 +175,8 @@ fn count_closed(
     Ok(closed.len())
 }
 
-/// For each node how many of the acts that close its intervals are known at the position, or stand there.
+/// Returns for each node how many of the acts that close its intervals are known at the position or are the act there.
+/// It fails if memory runs out.
 pub(crate) fn time_of(
     alloc: Global,
     acts: &[Act],
@@ -196,7 +197,8 @@ pub(crate) fn time_of(
     Ok(time)
 }
 
-/// The words that the acts in the interval of the act at the position write, where it closes the interval.
+/// Returns the words written in the interval of the act at the position, ascending, if the act closes that interval,
+/// and otherwise none. It fails if memory runs out.
 pub(crate) fn words_closed(
     alloc: Global,
     acts: &[Act],

@@ -57,7 +57,8 @@ fn opponent(
     }))
 }
 
-/// For each node the acts that race with the act at the position, if there are some.
+/// Returns for each node its acts that race with the act at the position, or none if there are none. It fails if memory
+/// runs out.
 pub(crate) fn opponents(
     alloc: Global,
     acts: &[Act],

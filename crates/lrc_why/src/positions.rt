@@ -18,13 +18,13 @@ use std::alloc::{AllocError, Global};
 /// Which acts are asked for.
 #[derive(Clone, Copy)]
 pub(crate) enum Which {
-    /// Those of the node that race with the act at the position.
+    /// The node's acts that race with the act at the position.
     RacingOf(u8, usize),
-    /// Those that close an interval of the node, and are the act at the position or known at it.
+    /// The acts that close an interval of the node, and are the act at the position or known at it.
     ClosingOf(u8, usize),
-    /// Those of the node that acts at the position in the interval of the position.
+    /// The acts in the interval of the act at the position, of the same node.
     BesideIn(usize),
-    /// Those of the node that are known at the position, and not at this earlier one.
+    /// The node's acts that are known at the position, but not at this earlier one.
     NewOf(u8, usize, Option<usize>),
 }
 
@@ -51,7 +51,7 @@ pub(crate) fn closes(deed: Deed) -> bool
     matches!(deed, Deed::Acquire(_) | Deed::Release(_) | Deed::Arrive)
 }
 
-/// Whether the node acts at the position.
+/// Returns whether the node acts at the position.
 pub(crate) fn is_act_of(acts: &[Act], node: u8, k: usize) -> bool
     ensures { MatchBool result (IsActOf acts.now node k) (¬ IsActOf acts.now node k) }
 {
@@ -80,7 +80,7 @@ fn conflict_at(acts: &[Act], first: usize, second: usize) -> bool
     conflict(acts[first], acts[second])
 }
 
-/// Whether the acts at two positions race, the earlier first.
+/// Returns whether the acts at two positions race, the earlier first.
 pub(crate) fn races(acts: &[Act], order: &Order, earlier: usize, later: usize) -> bool
     requires order { IsOrderOf acts.now order.now }
     requires earlier { earlier < length acts.now }
@@ -93,7 +93,7 @@ pub(crate) fn races(acts: &[Act], order: &Order, earlier: usize, later: usize) -
     conflict_at(acts, earlier, later)
 }
 
-/// Whether the act is of the node, and races with the one at the position.
+/// Returns whether an act is of the node and races with the act at the position.
 pub(crate) fn is_racing(acts: &[Act], order: &Order, node: u8, position: usize, k: usize) -> bool
     requires order { IsOrderOf acts.now order.now }
     requires position { position < length acts.now }
@@ -170,7 +170,7 @@ fn is_asked(acts: &[Act], order: &Order, intervals: &[u64], which: Which, k: usi
     }
 }
 
-/// The positions of the acts that are asked for, ascending.
+/// Returns the positions of the acts that are asked for, ascending. It fails if memory runs out.
 pub(crate) fn positions(
     alloc: Global,
     acts: &[Act],
@@ -225,7 +225,7 @@ fn add_words(words: &mut Vec<u32>, acts: &[Act], positions: &[usize]) -> Result<
     Ok(())
 }
 
-/// The words that are written at these positions, ascending, each once.
+/// Returns the words written at these positions, ascending, each once. It fails if memory runs out.
 pub(crate) fn words_written(
     alloc: Global,
     acts: &[Act],

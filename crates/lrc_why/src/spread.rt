@@ -125,7 +125,8 @@ fn never_knowing(
     Ok(never)
 }
 
-/// Who learns of the act at the position, this deed of this node, and from where on.
+/// Returns who learns of the act at the position, which is this deed of this node, and from which act on. It fails if
+/// memory runs out.
 pub(crate) fn forward(
     alloc: Global,
     acts: &[Act],

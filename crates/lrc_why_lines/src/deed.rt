@@ -51,7 +51,7 @@ fn push_access(
 }
 
 #[tactic(auto, unfolding(crate::specs::Deeds::shown_deed))]
-/// Adds what an act does, words and locks with their labels.
+/// Adds what an act does, with the labels of its word or lock.
 pub(crate) fn push_shown_deed(
     text: &mut Vec<u8>,
     labels: &[Label<'_>],

@@ -42,7 +42,7 @@ fn push_place(text: &mut Vec<u8>, shown: Shown<'_>, position: usize) -> Result<(
 }
 
 #[tactic(auto, unfolding(crate::specs::Racing::parting_line))]
-/// Adds the line on what the later of two acts knows of the node of the earlier.
+/// Adds the line that tells what the later of two acts knows of the earlier act's node.
 pub(crate) fn push_parting(
     text: &mut Vec<u8>,
     shown: Shown<'_>,
@@ -113,7 +113,7 @@ fn push_where(
 }
 
 #[tactic(auto, unfolding(crate::specs::Racing::held_line))]
-/// Adds the line on the locks held at two acts, and their barriers.
+/// Adds the line that tells the locks held at two acts, and the last barrier before each.
 pub(crate) fn push_held(
     text: &mut Vec<u8>,
     labels: &[Label<'_>],
@@ -146,7 +146,7 @@ fn push_after(
 }
 
 #[tactic(auto, unfolding(crate::specs::Racing::remedy_line))]
-/// Adds the line on what would order two acts.
+/// Adds the line that tells what would order two acts.
 pub(crate) fn push_remedy(
     text: &mut Vec<u8>,
     shown: Shown<'_>,
@@ -275,7 +275,8 @@ fn push_all_opponents(
 }
 
 #[tactic(auto, unfolding(crate::specs::Racing::opponents_text))]
-/// Adds the lines on the acts that race with an act.
+/// Adds the lines about the acts that race with an act, node by node, and then what would order the first of them and
+/// the act.
 pub fn push_opponents(
     text: &mut Vec<u8>,
     shown: Shown<'_>,

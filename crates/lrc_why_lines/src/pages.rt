@@ -93,7 +93,7 @@ fn end_of_page(words: &[u32], size: u32, start: usize) -> usize
 }
 
 #[tactic(auto, unfolding(crate::specs::Pages::pages_text))]
-/// Adds a line for each page of these words, which ascend.
+/// Adds a line for each page of these words, which must be in ascending order.
 pub fn push_pages(
     text: &mut Vec<u8>,
     labels: &[Label<'_>],

@@ -170,7 +170,7 @@ fn push_apart(text: &mut Vec<u8>, shown: Shown<'_>, parting: &Parting) -> Result
 }
 
 #[tactic(auto, unfolding(crate::specs::Ordered::relation_text))]
-/// Adds the lines on how the acts at two positions are ordered.
+/// Adds the lines that tell how the acts at two positions are ordered.
 pub fn push_relation(
     text: &mut Vec<u8>,
     shown: Shown<'_>,

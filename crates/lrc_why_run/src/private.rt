@@ -209,7 +209,7 @@ fn push_statement(
     push_quiet(way, text, names, deed, statement)
 }
 
-/// Adds what is told from the text of the node's next deed.
+/// Adds what the program's text tells about the node's next deed.
 pub(crate) fn push_private(
     way: &Way<'_>,
     text: &mut Vec<u8>,

@@ -118,8 +118,8 @@ fn told_each(
     Ok(parts)
 }
 
-/// What `why` prints of each of these of a run of the program that this text is of, on so many nodes and on pages of this size. What is
-/// the same for all of them is made once.
+/// Returns what `why` prints for each question about a run of the program with this text, on `nodes` nodes and pages of
+/// this size. The work that all questions share is done once.
 pub fn why_each(
     alloc: Global,
     text: &[u8],
@@ -170,8 +170,8 @@ fn told_alone(
     Ok(parts)
 }
 
-/// What `why` prints of the acts of a run of the program that this text is of, on so many nodes and on pages of this size; or that there is
-/// no act at a position that is asked of.
+/// Returns what `why` prints about the acts of a run of the program with this text, on `nodes` nodes and pages of this
+/// size. Fails if there is no act at an asked position, or if memory runs out.
 pub fn why_run(
     alloc: Global,
     text: &[u8],

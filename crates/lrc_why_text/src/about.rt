@@ -268,7 +268,8 @@ fn push_barrier(text: &mut Vec<u8>, words: &[u8], number: usize) -> Result<(), A
 }
 
 #[tactic(auto, unfolding(crate::specs::Told::about_text))]
-/// Adds what an act with this deed is about.
+/// Adds the lines on what an act with this deed is about: why it trapped, why a read gives its value, the release that
+/// an acquire follows, or the number of its barrier.
 pub(crate) fn push_about(
     text: &mut Vec<u8>,
     shown: Shown<'_>,

@@ -21,7 +21,7 @@ use lrc_verdict::judge::nodes_of;
 use lrc_why_lines::shown::Shown;
 use std::alloc::{AllocError, Global};
 
-/// The first position that is asked of and past the last act.
+/// Returns the first of the asked positions that is past the last of `count` acts, or none if both acts exist.
 pub fn missing(asked: Asked, count: usize) -> Option<usize>
     ensures { MatchOption result (IsThere asked.act asked.and count) (IsMissing asked.act asked.and count) }
 {
@@ -72,7 +72,8 @@ fn told(
     Ok(parts)
 }
 
-/// What `why` prints of the acts of a text, of so many nodes where that is given, on pages of this size; or why not.
+/// Returns what `why` prints for a text of acts, or why it refuses the text. `nodes` is the number of nodes, if it is
+/// given; `page` is the page size.
 pub fn why_acts(
     alloc: Global,
     text: &[u8],

@@ -102,7 +102,7 @@ fn push_spread(
 }
 
 #[tactic(auto, unfolding(crate::specs::Learning::forward_text))]
-/// Adds the lines on who learns of the act at the position.
+/// Adds the lines that tell which nodes learn of the act at a position.
 pub(crate) fn push_forward(
     text: &mut Vec<u8>,
     shown: Shown<'_>,

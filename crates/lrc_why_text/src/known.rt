@@ -49,7 +49,8 @@ fn push_interval_line(
 }
 
 #[tactic(auto, unfolding(crate::specs::Knowing::interval_text))]
-/// Adds the line on the interval of the act at the position, and the pages that it writes where the act closes it.
+/// Adds the line on the interval of the act at a position. If the act closes the interval, the pages that the interval
+/// writes follow.
 pub(crate) fn push_interval(
     text: &mut Vec<u8>,
     shown: Shown<'_>,
@@ -221,7 +222,7 @@ fn push_nothing(text: &mut Vec<u8>, deed: Deed, news: &[Option<News>]) -> Result
 }
 
 #[tactic(auto, unfolding(crate::specs::Knowing::all_news_text))]
-/// Adds the lines on what an act with this deed knows of other nodes.
+/// Adds the lines that tell what an act with this deed knows of the other nodes.
 pub(crate) fn push_all_news(
     text: &mut Vec<u8>,
     shown: Shown<'_>,

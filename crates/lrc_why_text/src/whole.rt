@@ -48,7 +48,7 @@ fn push_reasons(
     push_forward(text, shown, position, &told.forward)
 }
 
-/// The lines of the reasons of the act at the position; behind the first these lines stand.
+/// Returns the lines with the reasons of the act at a position. The lines in `private` follow the first of them.
 pub(crate) fn reasons_part(
     alloc: Global,
     shown: Shown<'_>,
@@ -73,7 +73,7 @@ pub(crate) fn reasons_part(
     Ok(text)
 }
 
-/// The lines on how the acts at two positions are ordered.
+/// Returns the lines that tell how the acts at two positions are ordered.
 pub(crate) fn relation_part(
     alloc: Global,
     shown: Shown<'_>,
@@ -94,7 +94,8 @@ pub(crate) fn relation_part(
     Ok(text)
 }
 
-/// What is printed of the acts that are asked of.
+/// Returns what is printed about the asked acts: the reasons of one act, with the lines in `private`; or how two acts
+/// are ordered, without those lines.
 pub fn why_part(
     alloc: Global,
     shown: Shown<'_>,

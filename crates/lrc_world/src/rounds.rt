@@ -13,16 +13,16 @@ use lrc_envelope::Picker;
 use lrc_protocol::Event;
 use std::alloc::Global;
 
-/// What leads a run whose events are not given.
+/// What chooses the events of a run, if they are not given.
 #[derive(Clone, Copy)]
 pub(crate) enum Lead {
-    /// In rounds, in which the messages are delivered that the picker says.
+    /// The run goes in rounds. The picker chooses the messages to deliver.
     Rounds(Picker),
-    /// At random, from this seed.
+    /// The run goes in a random order, from this seed.
     Random(u64),
 }
 
-/// All nodes with the messages in flight, and the events so far.
+/// The world (all nodes and the messages in flight), and the events so far.
 #[derive(Drop)]
 pub(crate) struct Driver<'c> {
     pub(crate) world: World<'c>,
@@ -30,7 +30,7 @@ pub(crate) struct Driver<'c> {
 }
 
 impl<'c> Driver<'c> {
-    /// A world before any event.
+    /// Creates a driver for this world, before any event.
     pub(crate) fn new(alloc: Global, world: World<'c>) -> Driver<'c>
         ensures world { result.world ≡ world.entry }
         ensures events { result.events.items ≡ [] }
@@ -41,7 +41,7 @@ impl<'c> Driver<'c> {
         }
     }
 
-    /// Goes on in this order, until nothing is left to do or there are as many events as there may be.
+    /// Goes on in this order, until nothing is left to do or the limit of [`MOST_EVENTS`] is reached.
     pub(crate) fn lead(&mut self, nodes: u8, lead: Lead) -> Result<(), TurnFault>
         requires { self.old.events.items ≡ [] }
         ensures goes { IsDrivenBy (schedule_of nodes lead) self.old self.new result }

@@ -25,33 +25,37 @@ use lrc_protocol::Event;
 use lrc_setting::setting::Setting;
 use std::alloc::{AllocError, Global};
 
-/// In which order a run goes on.
+/// The order in which a run goes on.
 #[derive(Clone, Copy)]
 pub enum Order<'e> {
-    /// By these events. One that names no ready node, and no message in flight that its receiver expects, is skipped.
+    /// The order of these events. An event that names no ready node, and no message in flight that its receiver
+    /// expects, is skipped.
     Events(&'e [Event]),
-    /// In rounds: in each, every ready node from 0 up goes on once, and then as many messages are delivered as are in flight, each of
-    /// them the one that the picker says; with `Twice` a message stays in flight the first time that it is delivered.
+    /// The order in rounds. In each round every ready node, from 0 up, goes on once. Then as many messages are
+    /// delivered as are in flight. The picker chooses each of them; with `Twice` a message stays in flight after its
+    /// first delivery.
     Rounds(Picker),
-    /// At random, from this seed: the next event is one of the turns of the ready nodes, ascending, and the deliveries of the messages
-    /// in flight, oldest first. Which of them, the next number of SplitMix64 says, by its remainder.
+    /// A random order, from this seed. The candidates for the next event are the turns of the ready nodes, ascending,
+    /// and then the deliveries of the messages in flight, oldest first. The next SplitMix64 number, modulo the number
+    /// of candidates, chooses one.
     Random(u64),
 }
 
-/// A run.
+/// A run of a program: its events and their result.
 #[derive(Drop)]
 pub struct Run {
-    /// The events that it was made of, also those that were skipped.
+    /// The events of the run, including skipped ones.
     pub events: Vec<Event>,
-    /// Whether nothing is left to do after them: no node is ready, and no message is in flight.
+    /// Whether nothing is left to do after the events: no node is ready, and no message is in flight.
     pub is_over: bool,
-    /// What came of it.
+    /// The result of the run.
     pub report: Report,
 }
 
-/// The run of a program in an order. Of the turns of the nodes it has what is to be kept of them.
+/// Runs a program in the given order. The logs in the result hold the turns that `keep` says.
 ///
-/// In rounds and at random it goes on as long as a node is ready or a message in flight, and there are fewer than 100,000,000 events.
+/// In rounds and at random the run goes on while a node is ready or a message is in flight, and there are fewer than
+/// 100,000,000 events.
 pub fn run_in(
     alloc: Global,
     program: &Program,

@@ -21,16 +21,20 @@ use lrc_node::Options;
 use lrc_protocol::Event;
 use std::alloc::Global;
 
-/// The run that these events make. An event that names no ready node, and no message in flight that its receiver expects, is
-/// skipped.
+/// Runs a program by these events. An event that names no ready node, and no message in flight that its receiver
+/// expects, is skipped.
 ///
-/// At each moment of the run each message in flight is from one of the nodes and for one of them, which does not refuse it, of
-/// whatever kind and in whatever order they come; each lock's token is in one place; and at each access the node's time knows just
-/// what happens before it. None of its turns sends a message that is too long.
+/// At each moment of the run each message in flight is from one of the nodes and for one of them. The receiver does not
+/// refuse it, whatever the kinds and the order of the messages that come. Each lock's token is in one place. At each
+/// access the node's vector time covers exactly what happens before the access. No turn of the run sends a message that
+/// is too long.
 ///
-/// The sequential-consistency theorem is among its promises: where no two conflicting accesses are unordered by program, lock
-/// and barrier order, the plain machine, led by the order of the acts, makes the same acts. Every run is plain up to its first
-/// race; and where no order gives the plain machine a race, no run has one.
+/// The sequential-consistency theorem is among the promises. If program, lock and barrier order leave no two
+/// conflicting accesses unordered, the plain machine, led by the order of the acts, makes the same acts. Every run is
+/// plain up to its first race. If no order gives the plain machine a race, no run has one.
+///
+/// It fails with `BadNodes` first and `BadSteps` next, if a number is out of range. Later it fails with `Worn` or
+/// `NoMemory`.
 pub fn simulate(
     alloc: Global,
     program: &Program,
@@ -53,10 +57,10 @@ pub fn simulate(
     }
 }
 
-/// A run in rounds: in each, every ready node from 0 up goes on once, and then as many messages are delivered as are in
-/// flight, each of them the one that `picker` says; with `Twice` a message stays in flight the first time that it is delivered.
-/// It ends after a round with no event, or at 100,000,000 events. The answer is the events, none of which is skipped, and the
-/// report that [`simulate`] has for them.
+/// Runs a program in rounds. In each round every ready node, from 0 up, goes on once. Then as many messages are
+/// delivered as are in flight. `picker` chooses each of them; with `Twice` a message stays in flight after its first
+/// delivery. The run ends after a round with no event, or at 100,000,000 events. Returns the events, none of which is
+/// skipped, and the report that [`simulate`] gives for them. The errors are those of [`simulate`].
 pub fn drive(
     alloc: Global,
     program: &Program,
@@ -85,10 +89,11 @@ pub fn drive(
     }
 }
 
-/// A run in a random order: as long as a node is ready or a message in flight, and there are fewer than 100,000,000 events, the
-/// next event is one of the turns of the ready nodes, ascending, and the deliveries of the messages in flight, oldest first. Which of
-/// them, the next number of SplitMix64 says, by its remainder; its state is `seed` at first. The answer is the events, none of
-/// which is skipped, and the report that [`simulate`] has for them.
+/// Runs a program in a random order, while a node is ready or a message is in flight, and there are fewer than
+/// 100,000,000 events. The candidates for the next event are the turns of the ready nodes, ascending, and then the
+/// deliveries of the messages in flight, oldest first. The next SplitMix64 number, modulo the number of candidates,
+/// chooses one; the generator starts in the state `seed`. Returns the events, none of which is skipped, and the report
+/// that [`simulate`] gives for them. The errors are those of [`simulate`].
 pub fn wander(
     alloc: Global,
     program: &Program,
@@ -117,7 +122,7 @@ pub fn wander(
     }
 }
 
-/// The run that [`run_in`] makes, by numbers that may be out of range. It is the one call that tests them.
+/// Runs a program as [`run_in`] does, with numbers that may be out of range. Only this call tests them.
 pub fn run_checked(
     alloc: Global,
     program: &Program,

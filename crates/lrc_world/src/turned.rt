@@ -20,15 +20,15 @@ use std::alloc::{AllocError, Global};
 use std::collections::VecDeque;
 use std::marker::Model;
 
-/// An event of a run that was not skipped, and the node whose turn it made.
+/// An event of a run that was not skipped, with the node that made the turn.
 #[derive(Clone, Copy, Debug, PartialEq, Eq)]
 pub struct Turned {
     pub event: Event,
     pub node: u8,
 }
 
-/// The events of a run that were not skipped, in order, each with the node whose turn it made. The logs are those of the run of
-/// these events: the turns of each node, from node 0 up.
+/// Returns the events of a run that were not skipped, in order, each with the node that made the turn. `logs` must be
+/// those of the run of these events: the turns of each node, from node 0 up.
 pub fn turned_events(
     alloc: Global,
     logs: &[Vec<Entry>],
@@ -47,8 +47,8 @@ pub fn turned_events(
     Ok(turned)
 }
 
-/// Events that are skipped may be left out: the events of a run that are not make the same run, with the same report, and none of
-/// them is skipped.
+/// Skipped events may be left out: the other events of a run make the same run, with the same report, and none of them
+/// is skipped.
 pub fn skipped_events_may_be_left_out()
     ensures run { (program : Program) (nodes : ℕ) (options : OptionsRecord) (events : List AnyEvent) (run : Run)
         → run_of program nodes options events ≡ Some run
@@ -60,8 +60,8 @@ pub fn skipped_events_may_be_left_out()
         → AreAllTurned program nodes options (events_in (turned_of program nodes options events)) }
 {}
 
-/// The turns of a run lead through its logs: the first turn of each node that is among them is the first of its log, and so on, up to
-/// the last of each log.
+/// The turns of a run lead through its logs: the first turn of a node in the run is the first entry of its log, and so
+/// on, up to the last entry of each log.
 pub fn turns_lead_through_the_logs()
     ensures { (program : Program) (nodes : ℕ) (options : OptionsRecord) (events : List AnyEvent) (logs : List (List EntryRecord))
         → HaveLogs program nodes options events logs

@@ -34,7 +34,7 @@ use lrc_wire::{EncodeFault, WireFault, decode, spell_over};
 use std::alloc::{AllocError, Global};
 use std::collections::VecDeque;
 
-/// All nodes with what is kept of their logs, the messages in flight, oldest first, and the acts so far.
+/// All nodes with the turns kept of their logs, the messages in flight (oldest first), and the acts so far.
 #[derive(Drop)]
 pub(crate) struct World<'c> {
     alloc: Global,
@@ -47,7 +47,7 @@ pub(crate) struct World<'c> {
 }
 
 impl<'c> World<'c> {
-    /// All nodes at the beginning of a program.
+    /// Creates all nodes at the start of a program, with no message in flight.
     pub(crate) fn new(
         alloc: Global,
         code: &'c Code<'_>,
@@ -73,7 +73,7 @@ impl<'c> World<'c> {
         })
     }
 
-    /// Plays an event, which is skipped where it names no ready node and no message that its receiver takes.
+    /// Plays an event. It is skipped if it names no ready node and no message that its receiver takes.
     pub(crate) fn play(&mut self, event: Event) -> Result<(), TurnFault>
         ensures { (starts : Starts) (run : Run) → Shows starts self.old run → PlaysTo starts self.new (event_on run event) result }
     {
@@ -84,7 +84,7 @@ impl<'c> World<'c> {
         }
     }
 
-    /// Whether the node is there and ready.
+    /// Returns whether the node exists and is ready.
     pub(crate) fn is_ready(&self, node: usize) -> bool
         ensures { (starts : Starts) (run : Run) → Shows starts self.now run → result ≡ ready_at run node }
     {
@@ -94,21 +94,21 @@ impl<'c> World<'c> {
         }
     }
 
-    /// How many messages are in flight.
+    /// Returns how many messages are in flight.
     pub(crate) fn in_flight(&self) -> usize
         ensures { result ≡ length self.now.flight.items }
     {
         self.flight.len()
     }
 
-    /// Whether nothing is left to do: no node is ready, and no message is in flight.
+    /// Returns whether nothing is left to do: no node is ready, and no message is in flight.
     pub(crate) fn is_over(&self) -> bool
         ensures { (starts : Starts) (run : Run) → Shows starts self.now run → (result ≡ true) ↔ IsOver run }
     {
         self.flight.is_empty() && !is_any_ready(&self.nodes)
     }
 
-    /// The delivery that comes next.
+    /// Returns the delivery that the picker chooses next.
     pub(crate) fn next_delivery(&self, picker: Picker) -> Event
         ensures { (starts : Starts) (run : Run) → Shows starts self.now run → result ≡ delivery_of picker run.flight }
     {
@@ -125,7 +125,7 @@ impl<'c> World<'c> {
         }
     }
 
-    /// What a random number says of all that may happen next, if anything may.
+    /// Returns the event that a random number chooses among all that can happen next, or none if nothing can happen.
     pub(crate) fn choice(&self, nodes: u8, number: u64) -> Result<Option<Event>, AllocError>
         ensures { (starts : Starts) (run : Run) → Shows starts self.now run → IfOk result (λ event. event ≡ drawn_event nodes number run) }
     {
@@ -214,8 +214,8 @@ impl<'c> World<'c> {
         }
     }
 
-    /// What is reported of the run, with what is kept of the logs. The races are those of the traces that the nodes keep, and the first
-    /// one is looked for only where there are any.
+    /// Returns the report of the run, with the kept part of the logs. The races come from the traces that the nodes
+    /// keep. The first race is searched only if there are any.
     pub(crate) fn report(self) -> Result<Report, AllocError>
         requires acts { All (λ act. act.node < NODES) self.acts.items }
         requires traces { (nodes : ℕ) × AreTracesOf nodes (map (λ node. node.trace) self.nodes.items) }

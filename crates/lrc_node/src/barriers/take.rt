@@ -48,7 +48,8 @@ fn departs(alloc: Global, nodes: u8, departures: Departures) -> Result<Vec<Lette
 }
 
 impl NodeState<'_> {
-    /// Whether an arrival is expected: the manager is here and accepts it, with its sender's own intervals.
+    /// Returns whether an arrival is expected: the manager is here and accepts it, and it brings its sender's own
+    /// intervals.
     pub(crate) fn expects_arrival(&self, from: u8, m: &Arrive) -> bool
         requires { from < self.now.setting.nodes }
         ensures { result ≡ (unwrap_or (option_map is_accepted (arrive_step self.now.barrier from (arrival_in m.now))) false
@@ -69,7 +70,7 @@ impl NodeState<'_> {
         are_between(news.intervals.as_slice(), from, last, news.time.at(from))
     }
 
-    /// A node has arrived. With the last one each node is told to depart.
+    /// Takes a node's arrival. With the last one, every node is told to depart.
     pub(crate) fn take_arrival(&mut self, from: u8, arrive: &Arrive) -> Result<Effect, AllocError>
         requires from { from < self.old.setting.nodes }
         requires accepted { IsTrue (unwrap_or (option_map is_accepted (arrive_step self.old.barrier from (arrival_in arrive.now))) false) }
@@ -90,8 +91,8 @@ impl NodeState<'_> {
         Ok(Effect::sending(letters))
     }
 
-    /// Whether a departure is expected: it is from node 0, for the episode from which the node awaits to depart; its time
-    /// covers the node's, and the node can learn the news.
+    /// Returns whether a departure is expected. It must be from node 0, for the episode from which the node awaits to
+    /// depart. Its time must cover the node's time, and the node must be able to learn the news.
     pub(crate) fn expects_departure(&self, from: u8, m: &Depart) -> bool
         ensures { result ≡ expects_departure self.now from m.now }
     {
@@ -103,7 +104,7 @@ impl NodeState<'_> {
             && self.can_learn(&m.news)
     }
 
-    /// A departure brings news, and the depart is made, or first a collection.
+    /// Takes a departure with its news. The node then makes the depart, or first begins a collection.
     pub(crate) fn take_departure(
         &mut self,
         collect: bool,

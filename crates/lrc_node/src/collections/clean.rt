@@ -66,8 +66,8 @@ impl NodeState<'_> {
         Ok(Effect::sending(letters))
     }
 
-    /// Sends the requests for the pages that the node keeps in a collection and waits; or where all has come its copies are
-    /// clean.
+    /// Sends the requests for the pages that the node keeps in a collection, and waits. If everything has arrived, its
+    /// copies are clean.
     pub(crate) fn keep_up(
         &mut self,
         collection: Collection,
@@ -86,7 +86,7 @@ impl NodeState<'_> {
         Ok(Effect::sending(letters))
     }
 
-    /// Goes on with a collection, after something came for the pages that the node keeps.
+    /// Continues a collection after something has arrived for the pages that the node keeps.
     pub(crate) fn go_on_keeping(
         &mut self,
         collection: Collection,

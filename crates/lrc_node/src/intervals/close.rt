@@ -11,7 +11,7 @@ use crate::fault::NodeFault;
 use crate::state::NodeState;
 
 impl NodeState<'_> {
-    /// Closes the open interval. `Worn`, with nothing changed, where its index would be too large.
+    /// Closes the open interval. It fails with `Worn`, and changes nothing, if the interval's index would be too large.
     pub(crate) fn close(&mut self) -> Result<(), NodeFault>
         requires { entry (next_time self.old.setting.me self.old.locks.time) self.old.setting.me ≡ entry self.old.memory.store.last self.old.setting.me + 1 }
         ensures closed { IfOk result (λ _. (own_index self.old < MOST_NUMBER) × (self.new ≡ after_close self.old)) }

@@ -27,7 +27,7 @@ fn reached(known: &Time, intervals: &[Interval]) -> Option<Time>
     Some(reached)
 }
 
-/// Whether for each node the intervals are exactly those above the first time's entry and up to the second's.
+/// Returns whether, for each node, the intervals are exactly those above the first time's entry and up to the second's.
 pub(crate) fn lead(known: &Time, time: &Time, intervals: &[Interval]) -> bool
     requires counted { length time.now ≡ length known.now }
     requires nodes { All (λ interval. interval.node < length known.now) intervals.now }
@@ -41,7 +41,7 @@ pub(crate) fn lead(known: &Time, time: &Time, intervals: &[Interval]) -> bool
     reached == all
 }
 
-/// Whether the intervals of a node are exactly those above this index and up to that one.
+/// Returns whether the intervals of a node are exactly those above index `above` and up to index `upto`.
 pub(crate) fn are_between(intervals: &[Interval], node: u8, above: u32, upto: u32) -> bool
     ensures { result ≡ are_between intervals.now node above upto }
 {

@@ -15,7 +15,7 @@ use lrc_need::Wait;
 use std::alloc::AllocError;
 
 impl NodeState<'_> {
-    /// Takes a free lock whose token is here; else asks its manager, and waits.
+    /// Takes a lock that is free and whose token is here. Otherwise it asks the lock's manager, and waits.
     pub(crate) fn acquire(&mut self, lock: u8) -> Result<Effect, AllocError>
         requires lock { lock < length self.old.locks.held.locks }
         requires next { asked_in self.old.course ≡ Some (Acquire lock) }
@@ -34,7 +34,7 @@ impl NodeState<'_> {
         Ok(Effect::sending(letters))
     }
 
-    /// Releases a lock that the node holds, and grants it to the successor.
+    /// Releases a lock that the node holds, and grants it to the successor, if there is one.
     pub(crate) fn release(&mut self, lock: u8) -> Result<Effect, AllocError>
         requires lock { lock < length self.old.locks.held.locks }
         requires next { asked_in self.old.course ≡ Some (Release lock) }

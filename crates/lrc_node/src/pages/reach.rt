@@ -16,8 +16,8 @@ use lrc_need::{Need, Wait};
 use std::alloc::AllocError;
 
 impl NodeState<'_> {
-    /// Makes the access that comes next, of this page, at once where its copy may be read. At a miss the node asks for what
-    /// the page needs and waits, or where nothing has to be asked repairs the page and goes on.
+    /// Makes the next access, which is to this page, at once if its copy may be read. On a miss the node asks for what
+    /// the page needs, and waits. If nothing has to be asked, it repairs the page and goes on.
     pub(crate) fn reach(&mut self, page: u16) -> Result<Effect, AllocError>
         requires page { page < length self.old.memory.copies }
         requires next { AccessesPage self.old page (asked_in self.old.course) }
@@ -46,7 +46,7 @@ impl NodeState<'_> {
         Ok(letters)
     }
 
-    /// Repairs a page for which all has come, and makes the access that comes next.
+    /// Repairs a page for which everything has arrived, and makes the next access.
     pub(crate) fn repair(&mut self, need: &Need, letters: Vec<Letter>) -> Result<Effect, AllocError>
         requires page { need.now.page < length self.old.memory.copies }
         requires fit { is_mendable self.old.options.size (copy_at self.old.memory need.now.page) need.now.base ≡ true }

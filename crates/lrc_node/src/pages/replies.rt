@@ -38,7 +38,7 @@ fn all_on_page(words: u16, parts: &[IndexedChanges]) -> bool
 }
 
 impl NodeState<'_> {
-    /// Makes the access that is awaited, once all has come that its page needs; else goes on waiting.
+    /// Makes the awaited access if everything that its page needs has arrived. Otherwise it goes on waiting.
     pub(crate) fn go_on_with(&mut self, need: Need) -> Result<Effect, AllocError>
         requires { CanGoOn self.old (access need) }
         ensures effect { IfOk result (λ effect. fetches [] self.old need ≡ seen_effect effect self.new) }
@@ -69,7 +69,7 @@ impl NodeState<'_> {
         }
     }
 
-    /// Whether changes are expected: just these of that page are awaited from their sender.
+    /// Returns whether changes are expected: exactly these changes of the page are awaited from their sender.
     pub(crate) fn expects_changes(&self, from: u8, m: &ChangesReply) -> bool
         ensures { result ≡ expects_changes_reply self.now from m.now }
     {
@@ -79,7 +79,7 @@ impl NodeState<'_> {
             && self.mail.wait().awaits_changes(m.page, from, parts)
     }
 
-    /// Changes come that were asked of a maker.
+    /// Takes changes that were asked of a maker.
     pub(crate) fn take_changes(
         &mut self,
         from: u8,
@@ -96,7 +96,7 @@ impl NodeState<'_> {
         self.go_on(wait)
     }
 
-    /// Whether a base copy is expected: it is awaited from its sender, and has a value for each word of a page.
+    /// Returns whether a base copy is expected: it is awaited from its sender, and has a value for each word of a page.
     pub(crate) fn expects_page(&self, from: u8, m: &PageReply) -> bool
         ensures { result ≡ expects_page_reply self.now from m.now }
     {
@@ -105,7 +105,7 @@ impl NodeState<'_> {
             && self.mail.wait().awaits_page(m.page, from)
     }
 
-    /// A base copy comes that was asked of its keeper.
+    /// Takes a base copy that was asked of its keeper.
     pub(crate) fn take_page(&mut self, reply: &PageReply) -> Result<Effect, AllocError>
         requires apart { AllPairs (λ a b. a.page ≢ b.page) (needs_of self.old.mail.wait) }
         requires ready { CanGoOn self.old (with_needs (page_came reply.now.page reply.now.values) self.old.mail.wait) }

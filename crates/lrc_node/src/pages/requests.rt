@@ -58,14 +58,15 @@ fn parts_of(
 }
 
 impl NodeState<'_> {
-    /// Whether a request of changes is expected: each index is of a stored interval of this node that names the page.
+    /// Returns whether a request for changes is expected: each index is that of a stored interval of this node that
+    /// names the page.
     pub(crate) fn expects_changes_request(&self, m: &ChangesRequest) -> bool
         ensures { result ≡ expects_changes_request self.now m.now }
     {
         m.page < self.pages() && has_notices(&self.memory, self.me, m.page, m.indices.as_slice())
     }
 
-    /// A node asks for changes that this one's intervals made.
+    /// Takes a node's request for changes that this node's intervals made, and replies.
     pub(crate) fn take_changes_request(
         &mut self,
         from: u8,
@@ -84,14 +85,14 @@ impl NodeState<'_> {
         Ok(Effect::sending(letters))
     }
 
-    /// Whether a request of a base copy is expected: it is from another node, and one is kept here.
+    /// Returns whether a request for a base copy is expected: it is from another node, and the base copy is kept here.
     pub(crate) fn expects_page_request(&self, from: u8, m: &PageRequest) -> bool
         ensures { result ≡ (expects_page_request self.now from m.now && is_some (base_at self.now.memory m.now)) }
     {
         m.page < self.pages() && from != self.me && self.memory.base(m.page).is_some()
     }
 
-    /// A node asks for the base copy of a page.
+    /// Takes a node's request for the base copy of a page, and replies.
     pub(crate) fn take_page_request(
         &mut self,
         from: u8,

@@ -44,7 +44,7 @@ impl NodeState<'_> {
         Ok(self.text.go_on(asked, value))
     }
 
-    /// Sends these letters, and makes the act that the text is at.
+    /// Sends these letters, and makes the act that comes next in the text.
     #[inline(always)]
     pub(crate) fn act(&mut self, letters: Vec<Letter>) -> Result<Effect, AllocError>
         requires access { CanAccess self.old (asked_in self.old.course) }

@@ -14,7 +14,7 @@ use lrc_mail::{Letter, MailFault};
 use lrc_trace::act::Act;
 
 impl NodeState<'_> {
-    /// The turn of an effect, whose messages have numbers. `Worn` where a number would be too large.
+    /// Makes the turn of an effect, and numbers its messages. It fails with `Worn` if a number would be too large.
     #[inline(always)]
     pub(crate) fn send(&mut self, effect: Effect) -> Result<Turn, NodeFault>
         requires { AreFor self.old.setting.nodes effect.letters.items }
@@ -32,7 +32,7 @@ impl NodeState<'_> {
         Ok(Turn { act, out })
     }
 
-    /// Keeps a list of messages that are of no use any more, whose place those of a later turn take.
+    /// Keeps a list of messages that are no longer needed, so that the messages of a later turn can reuse its memory.
     pub(crate) fn keep_list(&mut self, out: Vec<Envelope>)
         ensures { self.new ≡ self.old }
     {

@@ -16,8 +16,9 @@ use crate::turn::Turn;
 use lrc_envelope::Envelope;
 
 impl NodeState<'_> {
-    /// Takes a message. A repeat of one that was taken is an empty turn. `Unexpected`, with nothing changed, where the
-    /// message is for another node, from none, or not expected; `Worn` where a number would be too large.
+    /// Takes a message. A repeat of a message that was taken is an empty turn. It fails with `Unexpected`, and changes
+    /// nothing, if the message is for another node, from no node of the run, or not expected; and with `Worn` if a
+    /// number would be too large.
     pub(crate) fn take(&mut self, envelope: &Envelope) -> Result<Turn, NodeFault>
         requires { IsReached self.old }
         ensures done { IfOk result (λ turn. take_turn self.old envelope.now ≡ done turn self.new) }
@@ -40,7 +41,8 @@ impl NodeState<'_> {
         self.take_anew(envelope)
     }
 
-    /// Whether a message is taken, as far as numbers go: it is for this node, from one of the nodes, and taken before or expected.
+    /// Returns whether a message is taken, if numbers that are too large are left aside: it is for this node, from one
+    /// of the nodes, and was taken before or is expected.
     pub(crate) fn awaits(&self, envelope: &Envelope) -> bool
         ensures { result ≡ is_turn (take_turn self.now envelope.now) }
     {

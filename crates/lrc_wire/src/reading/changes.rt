@@ -1,4 +1,4 @@
-//! Changes, one by one and in runs.
+//! Reading changes, one by one and in runs.
 
 ghost use Rattle.std.specs.Prelude.{◌≡◌, ◌+◌, ◌≤◌, ◌<◌, IfOk, OnOk, IfSome, IsSomeAnd, Option, Some, None};
 ghost use Rattle.std.specs.Option.{ForSome};
@@ -139,7 +139,7 @@ fn read_runs(alloc: Global, bytes: &mut &[u8]) -> Result<Changes, WireFault>
     read_runs_of(alloc, count, bytes)
 }
 
-/// What an interval changed.
+/// Reads the changes of one interval.
 #[tactic(auto, unfolding(crate::specs::Reading::changes_at))]
 pub(super) fn read_changes(
     alloc: Global,

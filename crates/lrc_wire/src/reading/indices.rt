@@ -1,4 +1,4 @@
-//! Indices.
+//! Reading indices of intervals.
 
 ghost use Rattle.std.specs.Prelude.{◌≡◌, ◌≤◌, ◌<◌, length, IfOk, IfSome, Option, Some, None};
 ghost use Rattle.lrc_wire.specs.Reading.{Gives, elements_at, next_index_at, indices_at};
@@ -11,7 +11,7 @@ use lrc_envelope::{FEW_INDICES, Indices};
 use smallvec::SmallVec;
 use std::alloc::Global;
 
-/// An index after another.
+/// Reads an index, which must be at least 1 and above the one before it, if there is one.
 #[tactic(auto, unfolding(crate::specs::Reading::next_index_at, crate::specs::Reading::tested, crate::specs::Reading::is_after))]
 pub(super) fn read_next_index(before: Option<u32>, bytes: &mut &[u8]) -> Result<u32, WireFault>
     ensures exact { Gives (λ n. (n, bytes.new.now)) result (next_index_at before bytes.old.now) }
@@ -44,7 +44,7 @@ fn read_indices_of(
     Ok(indices)
 }
 
-/// At least one index.
+/// Reads a list of at least one index.
 #[tactic(auto, unfolding(crate::specs::Reading::indices_at))]
 pub(super) fn read_indices(alloc: Global, bytes: &mut &[u8]) -> Result<Indices, WireFault>
     ensures exact { Gives (λ v. (v, bytes.new.now)) result (indices_at bytes.old.now) }

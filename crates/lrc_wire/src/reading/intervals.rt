@@ -1,4 +1,4 @@
-//! Intervals.
+//! Reading intervals.
 
 ghost use Rattle.std.specs.Prelude.{◌≡◌, ◌≤◌, ◌<◌, IfOk, IfSome, Option, Some, None, []};
 ghost use Rattle.lrc_page.specs.declared.TheConstants.{MOST_PAGES};
@@ -134,7 +134,7 @@ fn read_intervals(
     Ok(Intervals::from_ascending(list))
 }
 
-/// A time, and intervals that go with it.
+/// Reads a time, and the intervals that go with it.
 #[tactic(auto, unfolding(crate::specs::Reading::news_at))]
 pub(super) fn read_news(
     alloc: Global,

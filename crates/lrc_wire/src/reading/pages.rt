@@ -1,4 +1,4 @@
-//! The values of a page.
+//! Reading the values of a page.
 
 ghost use Rattle.std.specs.Prelude.{◌≡◌, length};
 ghost use Rattle.lrc_page.specs.Page.{words_of};
@@ -37,7 +37,7 @@ fn read_values(page: &mut Page, bytes: &mut &[u8]) -> Result<(), WireFault>
     Ok(())
 }
 
-/// The values of a page.
+/// Reads the values of a page.
 #[tactic(auto, unfolding(crate::specs::Reading::page_values_at))]
 pub(super) fn read_page_values(
     alloc: Global,

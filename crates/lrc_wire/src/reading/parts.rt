@@ -1,4 +1,4 @@
-//! What intervals changed.
+//! Reading the changes of several intervals.
 
 ghost use Rattle.std.specs.Prelude.{◌≡◌, ◌≤◌, length, IfOk, Option, Some, None};
 ghost use Rattle.lrc_wire.specs.Reading.{Gives, elements_at, next_part_at, parts_at};
@@ -52,7 +52,7 @@ fn read_parts_of(
     Ok(parts)
 }
 
-/// What at least one interval changed.
+/// Reads the changes of at least one interval.
 #[tactic(auto, unfolding(crate::specs::Reading::parts_at))]
 pub(super) fn read_parts(
     alloc: Global,

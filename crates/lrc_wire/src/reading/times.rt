@@ -1,4 +1,4 @@
-//! Times and stamps.
+//! Reading times and stamps.
 
 ghost use Rattle.std.specs.Prelude.{◌≡◌, ◌≤◌, ◌<◌, ◌+◌, ◌*◌, ◌↔◌, drop, length, take, IfOk, IsTrue, None, Ok};
 ghost use Rattle.std.specs.Int.{w32, from_be_bytes};
@@ -51,7 +51,7 @@ fn read_entries(time: &mut Time, bytes: &mut &[u8]) -> Result<(), WireFault>
     Ok(())
 }
 
-/// A time of any number of nodes.
+/// Reads a time of any number of nodes.
 #[tactic(auto, unfolding(crate::specs::Reading::time_at, crate::specs::Reading::tested))]
 pub(super) fn read_time(bytes: &mut &[u8]) -> Result<Time, WireFault>
     ensures { Gives (λ time. (time, bytes.new.now)) result (time_at bytes.old.now) }
@@ -65,7 +65,7 @@ pub(super) fn read_time(bytes: &mut &[u8]) -> Result<Time, WireFault>
     Ok(time)
 }
 
-/// The stamp of an interval of the node `own`, in place of one of as many nodes.
+/// Reads the stamp of an interval of node `own` into `stamp`, which has the same number of nodes.
 #[tactic(auto, unfolding(crate::specs::Reading::stamp_at, crate::specs::Reading::tested))]
 pub(super) fn read_stamp(stamp: &mut Time, own: u8, bytes: &mut &[u8]) -> Result<(), WireFault>
     requires { own < length stamp.old }

@@ -1,4 +1,4 @@
-//! Writing what each kind has after the header.
+//! Writing the body of each kind of message.
 
 ghost use Rattle.std.specs.Prelude.{◌≡◌, ◌++◌, ◌<◌, ◌≤◌, ◌^◌, length, OnOk};
 ghost use Rattle.std.specs.Int.{w16, w32};
@@ -114,7 +114,7 @@ fn put_page(out: &mut Vec<u8>, page: u16) -> Result<(), AllocError>
     out.put_u16(page)
 }
 
-/// The body of a message.
+/// Appends the body of a message.
 pub(super) fn put_body(out: &mut Vec<u8>, message: &Message) -> Result<(), AllocError>
     requires { length (body Two runs_of message.now) ≤ MOST_BODY_BYTES }
     ensures written { OnOk result (out.new.items ≡ out.old.items ++ body Two runs_of message.now) }

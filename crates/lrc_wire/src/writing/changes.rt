@@ -1,4 +1,4 @@
-//! Writing indices, parts and values.
+//! Writing indices, the changes of intervals, and page values.
 
 ghost use Rattle.std.specs.Prelude.{◌≡◌, ◌++◌, ◌<◌, ◌^◌, length, All, OnOk};
 ghost use Rattle.std.specs.Int.{w32, w64};
@@ -78,7 +78,7 @@ fn put_values(out: &mut Vec<u8>, values: &[u64]) -> Result<(), AllocError>
     Ok(())
 }
 
-/// How many values a page has, and the values.
+/// Appends the number of a page's values, and then the values.
 #[tactic(auto, unfolding(crate::specs::Spelling::number))]
 pub(super) fn put_page_values(out: &mut Vec<u8>, page: &Page) -> Result<(), AllocError>
     ensures written { OnOk result (out.new.items ≡ out.old.items ++ page_values Two page.now) }

@@ -118,7 +118,7 @@ fn put_intervals(out: &mut Vec<u8>, list: &Intervals) -> Result<(), AllocError>
     put_each_interval(out, list.as_slice())
 }
 
-/// A time, and intervals that go with it.
+/// Appends a time, and the intervals that go with it.
 #[tactic(auto, unfolding(crate::specs::Spelling::news))]
 pub(super) fn put_news(out: &mut Vec<u8>, told: &News) -> Result<(), AllocError>
     requires { length told.now.intervals < 2 ^ 32 }

@@ -35,7 +35,7 @@ fn run_end(changes: &Changes, start: usize) -> usize
     all
 }
 
-/// How many runs the changes are cut into.
+/// Returns the number of runs into which the changes are cut.
 pub(super) fn count_runs(changes: &Changes) -> usize
     ensures exact { result ≡ length (runs_of changes.now) }
     ensures few { result ≤ length changes.now }
@@ -99,7 +99,7 @@ fn put_each_run(out: &mut Vec<u8>, changes: &Changes) -> Result<(), AllocError>
     Ok(())
 }
 
-/// Changes in runs.
+/// Appends changes in runs.
 #[tactic(auto, unfolding(crate::specs::Spelling::in_runs, crate::specs::Spelling::number))]
 pub(super) fn put_runs(out: &mut Vec<u8>, changes: &Changes) -> Result<(), AllocError>
     ensures written { OnOk result (out.new.items ≡ out.old.items ++ in_runs (runs_of changes.now)) }
