@@ -4,13 +4,13 @@ ghost use Rattle.std.specs.Prelude.{◌≡◌, ◌++◌, IfOk, OnErr, OnOk, leng
 ghost use Rattle.lrc_labels.specs.Reading.{label_seen};
 ghost use Rattle.lrc_text.specs.Front.{BeginsWith};
 ghost use Rattle.lrc_trace.specs.Interval.{closes};
-ghost use Rattle.lrc_acts_text.specs.Json.{access_members, act_json, deed_json, deed_members, deed_name, entry_text, lock_members};
+ghost use Rattle.lrc_acts_text.specs.Json.{access_members, act_json, deed_json, deed_members, entry_text, lock_members};
 ghost use Rattle.lrc_acts_text.specs.Json.{json_line, json_of_acts, place_json, time_json, with_commas};
 
 use crate::tally::Tally;
 use lrc_labels::label::Label;
 use lrc_labels::{push_lock_member, push_word_member};
-use lrc_text::push_number;
+use lrc_text::{deed_name, push_number};
 use lrc_time::Time;
 use lrc_trace::act::{Act, Deed};
 use std::alloc::{AllocError, Global};
@@ -97,26 +97,9 @@ fn push_deed(text: &mut Vec<u8>, labels: &[Label<'_>], deed: Deed) -> Result<(),
     ensures { OnOk result (text.new.items ≡ text.old.items ++ deed_json (map label_seen labels.now) deed) }
 {
     text.extend_from_slice(b",\"deed\":\"")?;
-    text.extend_from_slice(name_of(deed))?;
+    text.extend_from_slice(deed_name(deed))?;
     text.extend_from_slice(b"\"")?;
     push_members(text, labels, deed)
-}
-
-fn name_of(deed: Deed) -> &'static [u8]
-    ensures { result.now ≡ deed_name deed }
-{
-    match deed {
-        Deed::Quiet => b"quiet",
-        Deed::Print(_) => b"print",
-        Deed::Read(_, _) => b"read",
-        Deed::Write(_, _) => b"write",
-        Deed::Acquire(_) => b"acquire",
-        Deed::Release(_) => b"release",
-        Deed::Arrive => b"arrive",
-        Deed::Depart => b"depart",
-        Deed::Trap(_) => b"trap",
-        Deed::End => b"end",
-    }
 }
 
 fn push_members(text: &mut Vec<u8>, labels: &[Label<'_>], deed: Deed) -> Result<(), AllocError>

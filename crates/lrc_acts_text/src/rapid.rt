@@ -7,8 +7,7 @@ ghost use Rattle.lrc_trace.specs.Run.{is_arrive, is_depart};
 ghost use Rattle.lrc_trace.specs.declared.act.Deed.TheVariants.{Depart};
 
 use crate::tally::Tally;
-use itoa::Buffer;
-use lrc_text::push_number;
+use lrc_text::{push_number, push_wide_number};
 use lrc_trace::act::{Act, Deed};
 use std::alloc::{AllocError, Global};
 
@@ -152,15 +151,7 @@ fn push_operation(text: &mut Vec<u8>, operation: Operation) -> Result<(), AllocE
     match operation {
         Operation::Reads(word) => push_number(text, b"|r(V", u64::from(word)),
         Operation::Writes(word) => push_number(text, b"|w(V", u64::from(word)),
-        Operation::Acquires(lock) => push_lock(text, b"|acq(L", lock),
-        Operation::Releases(lock) => push_lock(text, b"|rel(L", lock),
+        Operation::Acquires(lock) => push_wide_number(text, b"|acq(L", lock),
+        Operation::Releases(lock) => push_wide_number(text, b"|rel(L", lock),
     }
-}
-
-fn push_lock(text: &mut Vec<u8>, word: &[u8], lock: u128) -> Result<(), AllocError>
-    ensures { OnOk result (text.new.items ≡ text.old.items ++ word.now ++ decimal lock) }
-{
-    let mut digits = Buffer::new();
-    text.extend_from_slice(word)?;
-    text.extend_from_slice(digits.format(lock).as_bytes())
 }

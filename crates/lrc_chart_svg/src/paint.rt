@@ -8,8 +8,8 @@ ghost use Rattle.lrc_chart_svg.specs.Flow.{wide};
 
 use crate::flow::width;
 use crate::style::{Anchor, GROUND, Hand, Style};
-use itoa::Buffer;
 use lrc_svg::{Attribute, Content, Key, Tag};
+use lrc_text::push_wide_number;
 use std::alloc::{AllocError, Global};
 
 /// A point: its distance from the left and from the top.
@@ -32,8 +32,7 @@ pub(crate) struct Area {
 pub(crate) fn push_number(text: &mut Vec<u8>, number: u128) -> Result<(), AllocError>
     ensures { OnOk result (text.new.items ≡ text.old.items ++ decimal number) }
 {
-    let mut digits = Buffer::new();
-    text.extend_from_slice(digits.format(number).as_bytes())
+    push_wide_number(text, b"", number)
 }
 
 /// Adds the coordinates of a point: the distance from the left, a blank, and the distance from the top.

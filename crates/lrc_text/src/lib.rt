@@ -6,6 +6,6 @@ mod act;
 mod number;
 mod race;
 
-pub use act::{push_act, push_act_line, push_deed};
-pub use number::{push_number, read_number};
+pub use act::{deed_name, push_act, push_act_line, push_deed};
+pub use number::{push_number, push_wide_number, read_number};
 pub use race::{first_race_part, push_race, races_part};

@@ -18,6 +18,16 @@ pub fn push_number(text: &mut Vec<u8>, word: &[u8], number: u64) -> Result<(), A
     text.extend_from_slice(digits.format(number).as_bytes())
 }
 
+/// The same of a number of up to 128 bits.
+pub fn push_wide_number(text: &mut Vec<u8>, word: &[u8], number: u128) -> Result<(), AllocError>
+    ensures ok { OnOk result (text.new.items ≡ text.old.items ++ word.now ++ decimal number) }
+    ensures err { OnErr result (BeginsWith text.new.items text.old.items) }
+{
+    let mut digits = Buffer::new();
+    text.extend_from_slice(word)?;
+    text.extend_from_slice(digits.format(number).as_bytes())
+}
+
 #[tactic(auto, using(crate::proofs::Numbers::no_greater, crate::proofs::Numbers::too_great, crate::proofs::Numbers::no_number))]
 /// Returns the number that decimal digits write; leading zeros are allowed. Returns none if there is no digit, if a
 /// character is not a digit, or if the number is greater than `greatest`.
