@@ -47,7 +47,8 @@ pub fn push_unlazy(
     value: u64,
     allowed: &[u64],
 ) -> Result<(), AllocError>
-    ensures ok { OnOk result (text.new.items ≡ text.old.items ++ unlazy_line place value allowed.now) }
+    ensures ok { OnOk result (text.new.items
+        ≡ text.old.items ++ unlazy_line place value allowed.now) }
     ensures err { OnErr result (BeginsWith text.new.items text.old.items) }
 {
     push_read(text, b"does not read lazily", place, value)?;
@@ -73,7 +74,8 @@ pub fn push_unordered(
 // Adds where two accesses are that race, and their word.
 fn push_positions(text: &mut Vec<u8>, pair: RacingAccesses) -> Result<(), AllocError>
     ensures ok { OnOk result (text.new.items
-        ≡ text.old.items ++ (codes "race acts " ++ decimal pair.earlier ++ codes " " ++ decimal pair.later ++ codes ": word " ++ decimal pair.word)) }
+        ≡ text.old.items ++ (codes "race acts " ++ decimal pair.earlier ++ codes " "
+        ++ decimal pair.later ++ codes ": word " ++ decimal pair.word)) }
     ensures err { OnErr result (BeginsWith text.new.items text.old.items) }
 {
     push_number(text, b"race acts ", pair.earlier as u64)?;
@@ -108,7 +110,8 @@ pub fn push_pair(text: &mut Vec<u8>, pair: RacingAccesses) -> Result<(), AllocEr
 }
 
 fn push_last(text: &mut Vec<u8>, last: u64) -> Result<(), AllocError>
-    ensures ok { OnOk result (text.new.items ≡ text.old.items ++ codes ", last written " ++ decimal last ++ codes "\n") }
+    ensures ok { OnOk result (text.new.items
+        ≡ text.old.items ++ codes ", last written " ++ decimal last ++ codes "\n") }
     ensures err { OnErr result (BeginsWith text.new.items text.old.items) }
 {
     push_number(text, b", last written ", last)?;
@@ -117,7 +120,8 @@ fn push_last(text: &mut Vec<u8>, last: u64) -> Result<(), AllocError>
 
 // Adds what a read does, where it is, and what it gives.
 fn push_read(text: &mut Vec<u8>, does: &[u8], place: Place, value: u64) -> Result<(), AllocError>
-    ensures ok { OnOk result (text.new.items ≡ text.old.items ++ does.now ++ place_text place ++ codes ": read " ++ decimal value) }
+    ensures ok { OnOk result (text.new.items
+        ≡ text.old.items ++ does.now ++ place_text place ++ codes ": read " ++ decimal value) }
     ensures err { OnErr result (BeginsWith text.new.items text.old.items) }
 {
     text.extend_from_slice(does)?;

@@ -60,7 +60,8 @@ impl From<AllocError> for ActsFault {
 pub fn acts_of(alloc: Global, text: &[u8], nodes: Option<u32>) -> Result<LinedActs, ActsFault>
     ensures ok { IfOk result (λ lined. ReadsActs nodes text.now (Ok lined)) }
     ensures err { IfErr result (λ fault. ReadsActs nodes text.now (Err fault)) }
-    ensures memory { IfErr result (λ fault. fault ≡ NoMemory → (length text.now ≤ most_bytes) × SaysSome nodes (lines_of text.now)) }
+    ensures memory { IfErr result (λ fault. fault ≡ NoMemory
+        → (length text.now ≤ most_bytes) × SaysSome nodes (lines_of text.now)) }
 {
     if text.len() > MOST_BYTES {
         return Err(ActsFault::TooLong);
@@ -102,7 +103,8 @@ fn is_wordless(line: &[u8]) -> bool
 
 // The act that a line says.
 fn act_on(line: &[u8], nodes: Option<u32>) -> Option<Act>
-    ensures { MatchOption result ((act : AnyAct) → ¬ SaysAct nodes (words_on line.now) act) (λ act. SaysAct nodes (words_on line.now) act) }
+    ensures { MatchOption result ((act : AnyAct) → ¬ SaysAct nodes (words_on line.now) act)
+        (λ act. SaysAct nodes (words_on line.now) act) }
 {
     let (digits, rest) = first_word(before_comment(line))?;
     let node = read_number(digits, GREATEST_NODE)?;

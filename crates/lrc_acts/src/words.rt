@@ -28,7 +28,8 @@ fn place_of_comment(text: &[u8]) -> usize
 
 /// Returns the first word of a text, and what follows it, or none if there is no word.
 pub fn first_word(text: &[u8]) -> Option<(&[u8], &[u8])>
-    ensures { MatchOption result (words_between text.now ≡ []) (λ parts. words_between text.now ≡ parts.0.now ∷ words_between parts.1.now) }
+    ensures { MatchOption result (words_between text.now ≡ [])
+        (λ parts. words_between text.now ≡ parts.0.now ∷ words_between parts.1.now) }
 {
     let (_blanks, rest) = text.split_at(place_of_word(text));
     if rest.is_empty() {

@@ -26,7 +26,8 @@ pub fn json_part(
 ) -> Result<Vec<u8>, AllocError>
     requires lined { length lines.now ≡ length acts.now }
     requires timed { length times.now ≡ length acts.now }
-    ensures { IfOk result (λ part. part.items ≡ json_of_acts (map label_seen labels.now) acts.now lines.now times.now) }
+    ensures { IfOk result (λ part. part.items
+        ≡ json_of_acts (map label_seen labels.now) acts.now lines.now times.now) }
 {
     let mut text = Vec::new(alloc);
     let mut closes = Tally::new();
@@ -63,7 +64,9 @@ fn push_json_line(
     place: Place,
     time: &Time,
 ) -> Result<(), AllocError>
-    ensures { OnOk result (text.new.items ≡ text.old.items ++ json_line (map label_seen labels.now) place.position act place.line place.interval time.now) }
+    ensures { OnOk result (text.new.items
+        ≡ text.old.items ++ json_line
+        (map label_seen labels.now) place.position act place.line place.interval time.now) }
 {
     text.extend_from_slice(b"{")?;
     push_act(text, labels, act, place.position)?;
@@ -78,7 +81,8 @@ fn push_act(
     act: Act,
     position: u64,
 ) -> Result<(), AllocError>
-    ensures { OnOk result (text.new.items ≡ text.old.items ++ act_json (map label_seen labels.now) position act) }
+    ensures { OnOk result (text.new.items
+        ≡ text.old.items ++ act_json (map label_seen labels.now) position act) }
 {
     push_number(text, b"\"act\":", position)?;
     push_number(text, b",\"node\":", u64::from(act.node))?;
@@ -86,7 +90,8 @@ fn push_act(
 }
 
 fn push_place(text: &mut Vec<u8>, place: Place) -> Result<(), AllocError>
-    ensures { OnOk result (text.new.items ≡ text.old.items ++ place_json place.line place.interval) }
+    ensures { OnOk result (text.new.items
+        ≡ text.old.items ++ place_json place.line place.interval) }
 {
     push_number(text, b",\"line\":", u64::from(place.line))?;
     push_number(text, b",\"interval\":", place.interval)
@@ -94,7 +99,8 @@ fn push_place(text: &mut Vec<u8>, place: Place) -> Result<(), AllocError>
 
 // Adds the name of a deed, and what it has.
 fn push_deed(text: &mut Vec<u8>, labels: &[Label<'_>], deed: Deed) -> Result<(), AllocError>
-    ensures { OnOk result (text.new.items ≡ text.old.items ++ deed_json (map label_seen labels.now) deed) }
+    ensures { OnOk result (text.new.items
+        ≡ text.old.items ++ deed_json (map label_seen labels.now) deed) }
 {
     text.extend_from_slice(b",\"deed\":\"")?;
     text.extend_from_slice(deed_name(deed))?;
@@ -103,7 +109,8 @@ fn push_deed(text: &mut Vec<u8>, labels: &[Label<'_>], deed: Deed) -> Result<(),
 }
 
 fn push_members(text: &mut Vec<u8>, labels: &[Label<'_>], deed: Deed) -> Result<(), AllocError>
-    ensures { OnOk result (text.new.items ≡ text.old.items ++ deed_members (map label_seen labels.now) deed) }
+    ensures { OnOk result (text.new.items
+        ≡ text.old.items ++ deed_members (map label_seen labels.now) deed) }
 {
     match deed {
         Deed::Print(value) => push_number(text, b",\"value\":", value),
@@ -117,7 +124,8 @@ fn push_members(text: &mut Vec<u8>, labels: &[Label<'_>], deed: Deed) -> Result<
 }
 
 fn push_lock(text: &mut Vec<u8>, labels: &[Label<'_>], lock: u8) -> Result<(), AllocError>
-    ensures { OnOk result (text.new.items ≡ text.old.items ++ lock_members (map label_seen labels.now) lock) }
+    ensures { OnOk result (text.new.items
+        ≡ text.old.items ++ lock_members (map label_seen labels.now) lock) }
 {
     push_number(text, b",\"lock\":", u64::from(lock))?;
     push_lock_member(text, labels, lock)
@@ -129,7 +137,8 @@ fn push_access(
     word: u32,
     value: u64,
 ) -> Result<(), AllocError>
-    ensures { OnOk result (text.new.items ≡ text.old.items ++ access_members (map label_seen labels.now) word value) }
+    ensures { OnOk result (text.new.items
+        ≡ text.old.items ++ access_members (map label_seen labels.now) word value) }
 {
     push_number(text, b",\"word\":", u64::from(word))?;
     push_word_member(text, labels, word)?;

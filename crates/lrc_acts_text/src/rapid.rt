@@ -103,7 +103,8 @@ fn push_steps(
     deed: Deed,
 ) -> Result<(), AllocError>
     ensures { OnOk result (text.new.items
-        ≡ text.old.items ++ flat_map (step_line spot.line) (rapid_steps meeting spot.position spot.node deed)) }
+        ≡ text.old.items ++ flat_map (step_line spot.line)
+        (rapid_steps meeting spot.position spot.node deed)) }
 {
     match deed {
         Deed::Read(word, _) => push_step(text, spot, Operation::Reads(word)),
@@ -118,7 +119,8 @@ fn push_steps(
 
 fn push_depart(text: &mut Vec<u8>, spot: Spot, meeting: Meeting) -> Result<(), AllocError>
     ensures { OnOk result (text.new.items
-        ≡ text.old.items ++ flat_map (step_line spot.line) (rapid_steps meeting spot.position spot.node Depart)) }
+        ≡ text.old.items ++ flat_map (step_line spot.line)
+        (rapid_steps meeting spot.position spot.node Depart)) }
 {
     for node in 0..meeting.nodes {
         push_passes(text, spot, meeting.lock(meeting.departed, node))?;
@@ -146,7 +148,8 @@ fn push_step(text: &mut Vec<u8>, spot: Spot, operation: Operation) -> Result<(),
 }
 
 fn push_operation(text: &mut Vec<u8>, operation: Operation) -> Result<(), AllocError>
-    ensures { OnOk result (text.new.items ≡ text.old.items ++ codes "|" ++ operation_text operation) }
+    ensures { OnOk result (text.new.items
+        ≡ text.old.items ++ codes "|" ++ operation_text operation) }
 {
     match operation {
         Operation::Reads(word) => push_number(text, b"|r(V", u64::from(word)),

@@ -54,7 +54,8 @@ fn charting_of(options: &ArgMatches<'_>) -> Result<Charting, Misfit>
 
 // What is to be left out, if it is named.
 fn hidden_of<'w>(options: &ArgMatches<'w>) -> Option<&'w str>
-    ensures { option_map (λ word. word.now) result ≡ first_of (codes "hide") (rows_of (found_of options.now)) }
+    ensures { option_map (λ word. word.now) result
+        ≡ first_of (codes "hide") (rows_of (found_of options.now)) }
 {
     options.get_str("hide")
 }

@@ -69,8 +69,10 @@ pub(crate) fn matches_of<'w, S: AsStr>(
 
 fn request_from<'w>(matches: &ArgMatches<'w>) -> Result<Request<'w>, Misfit>
     requires { IsRequestTaken (subcommand_rows_of matches.now) }
-    ensures ok { IfOk result (λ request. IsSomeAnd (subcommand_rows_of matches.now) (λ found. IsRequest found request)) }
-    ensures err { IfErr result (λ misfit. IsSomeAnd (subcommand_rows_of matches.now) (λ found. HasRequestMisfit found misfit)) }
+    ensures ok { IfOk result (λ request. IsSomeAnd (subcommand_rows_of matches.now)
+        (λ found. IsRequest found request)) }
+    ensures err { IfErr result (λ misfit. IsSomeAnd (subcommand_rows_of matches.now)
+        (λ found. HasRequestMisfit found misfit)) }
 {
     if let Some(options) = matches.subcommand_matches("help") {
         return help_request(options);
@@ -87,8 +89,10 @@ fn request_from<'w>(matches: &ArgMatches<'w>) -> Result<Request<'w>, Misfit>
 // What a command asks for that is answered to the texts in files.
 fn answer_from<'w>(matches: &ArgMatches<'w>) -> Result<Choice<'w>, Misfit>
     requires { IsAnswerTaken (subcommand_rows_of matches.now) }
-    ensures ok { IfOk result (λ choice. IsSomeAnd (subcommand_rows_of matches.now) (λ found. IsChoice found choice)) }
-    ensures err { IfErr result (λ misfit. IsSomeAnd (subcommand_rows_of matches.now) (λ found. HasAnswerMisfit found misfit)) }
+    ensures ok { IfOk result (λ choice. IsSomeAnd (subcommand_rows_of matches.now)
+        (λ found. IsChoice found choice)) }
+    ensures err { IfErr result (λ misfit. IsSomeAnd (subcommand_rows_of matches.now)
+        (λ found. HasAnswerMisfit found misfit)) }
 {
     if let Some(options) = matches.subcommand_matches("lint") {
         return Ok(Choice::Lint(text_of(options, "FILE")));
@@ -126,7 +130,8 @@ fn races_request<'w>(options: &ArgMatches<'w>) -> Result<Request<'w>, Misfit>
 
 fn trace_form_named(word: &str) -> Result<TraceForm, Misfit>
     ensures ok { IfOk result (IsTraceForm (Some word.now)) }
-    ensures err { IfErr result (λ misfit. (misfit ≡ unfit.TraceForm) × ((form : AnyTraceForm) → ¬ IsTraceForm (Some word.now) form)) }
+    ensures err { IfErr result (λ misfit. (misfit ≡ unfit.TraceForm)
+        × ((form : AnyTraceForm) → ¬ IsTraceForm (Some word.now) form)) }
 {
     if word == "std" {
         Ok(TraceForm::Std)
@@ -139,8 +144,10 @@ fn trace_form_named(word: &str) -> Result<TraceForm, Misfit>
 
 fn choice_from<'w>(matches: &ArgMatches<'w>) -> Result<Choice<'w>, Misfit>
     requires { IsCommandTaken (subcommand_rows_of matches.now) }
-    ensures ok { IfOk result (λ choice. IsSomeAnd (subcommand_rows_of matches.now) (λ found. IsChoice found choice)) }
-    ensures err { IfErr result (λ misfit. IsSomeAnd (subcommand_rows_of matches.now) (λ found. HasMisfit found misfit)) }
+    ensures ok { IfOk result (λ choice. IsSomeAnd (subcommand_rows_of matches.now)
+        (λ found. IsChoice found choice)) }
+    ensures err { IfErr result (λ misfit. IsSomeAnd (subcommand_rows_of matches.now)
+        (λ found. HasMisfit found misfit)) }
 {
     if let Some(options) = matches.subcommand_matches("check") {
         return Ok(Choice::Check(text_of(options, "FILE")));
@@ -160,8 +167,10 @@ fn choice_from<'w>(matches: &ArgMatches<'w>) -> Result<Choice<'w>, Misfit>
 // What a command asks for that shows something of a run.
 fn shown_from<'w>(matches: &ArgMatches<'w>) -> Result<Choice<'w>, Misfit>
     requires { IsSomeAnd (subcommand_rows_of matches.now) IsShowTaken }
-    ensures ok { IfOk result (λ choice. IsSomeAnd (subcommand_rows_of matches.now) (λ found. IsChoice found choice)) }
-    ensures err { IfErr result (λ misfit. IsSomeAnd (subcommand_rows_of matches.now) (λ found. HasShowMisfit found misfit)) }
+    ensures ok { IfOk result (λ choice. IsSomeAnd (subcommand_rows_of matches.now)
+        (λ found. IsChoice found choice)) }
+    ensures err { IfErr result (λ misfit. IsSomeAnd (subcommand_rows_of matches.now)
+        (λ found. HasShowMisfit found misfit)) }
 {
     if let Some(options) = matches.subcommand_matches("sim") {
         return Ok(Choice::Show(run_choice(options, false)?, Shape::Report));
@@ -175,8 +184,10 @@ fn shown_from<'w>(matches: &ArgMatches<'w>) -> Result<Choice<'w>, Misfit>
 // What a command asks for that asks more of a run.
 fn asked_from<'w>(matches: &ArgMatches<'w>) -> Result<Choice<'w>, Misfit>
     requires { IsSomeAnd (subcommand_rows_of matches.now) IsAskTaken }
-    ensures ok { IfOk result (λ choice. IsSomeAnd (subcommand_rows_of matches.now) (λ found. IsChoice found choice)) }
-    ensures err { IfErr result (λ misfit. IsSomeAnd (subcommand_rows_of matches.now) (λ found. HasShowMisfit found misfit)) }
+    ensures ok { IfOk result (λ choice. IsSomeAnd (subcommand_rows_of matches.now)
+        (λ found. IsChoice found choice)) }
+    ensures err { IfErr result (λ misfit. IsSomeAnd (subcommand_rows_of matches.now)
+        (λ found. HasShowMisfit found misfit)) }
 {
     if let Some(options) = matches.subcommand_matches("trace") {
         return trace_choice(options);

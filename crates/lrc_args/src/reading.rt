@@ -52,7 +52,8 @@ fn is_explicit(source: Option<ValueSource>) -> bool
 
 /// Returns whether the words give one of these options or arguments a value.
 pub(crate) fn is_any_given(options: &ArgMatches<'_>, names: &[&str]) -> bool
-    ensures { result ≡ list_any (λ name. is_given name.now (rows_of (found_of options.now))) names.now }
+    ensures { result ≡ list_any (λ name. is_given name.now (rows_of (found_of options.now)))
+        names.now }
 {
     names.iter().any(|name| is_given(options, name))
 }
@@ -72,7 +73,8 @@ pub(crate) fn given_number_of(options: &ArgMatches<'_>, name: &str) -> Option<u6
 /// Returns the number of nodes, if one is given. It fails with `Misfit::Number` if the number is not 1 to 16.
 pub(crate) fn some_nodes(count: Option<u64>) -> Result<Option<Nodes>, Misfit>
     ensures ok { IfOk result (λ nodes. count ≡ option_map (λ nodes. nodes.count) nodes) }
-    ensures err { IfErr result (λ misfit. (misfit ≡ unfit.Number) × IsSomeAnd count (IsOutOfRange 1 16)) }
+    ensures err { IfErr result (λ misfit. (misfit ≡ unfit.Number)
+        × IsSomeAnd count (IsOutOfRange 1 16)) }
 {
     match count {
         Some(count) => Ok(Some(so_many_nodes(count)?)),
@@ -136,7 +138,8 @@ pub(crate) fn steps_of(options: &ArgMatches<'_>) -> Result<Steps, Misfit>
 
 pub(crate) fn collect_of(options: &ArgMatches<'_>) -> Result<Collect, Misfit>
     requires { IsNumberOption (codes "collect") (rows_of (found_of options.now)) }
-    ensures ok { IfOk result (λ collect. collect_in (rows_of (found_of options.now)) ≡ collect.count) }
+    ensures ok { IfOk result (λ collect. collect_in (rows_of (found_of options.now))
+        ≡ collect.count) }
     ensures err { IfErr result (λ misfit. (misfit ≡ unfit.Number)
         × IsOutOfRange 0 1000000 (collect_in (rows_of (found_of options.now)))) }
 {
@@ -163,8 +166,10 @@ pub(crate) fn most_of(options: &ArgMatches<'_>) -> Result<Most, Misfit>
 /// Returns the number of the outcome that is asked for, if one is. It fails with `Misfit::Number` if the number is 0.
 pub(crate) fn outcome_of(options: &ArgMatches<'_>) -> Result<Option<OutcomeNumber>, Misfit>
     requires { IsBareNumber (codes "outcome") (rows_of (found_of options.now)) }
-    ensures ok { IfOk result (λ outcome. outcome_in (rows_of (found_of options.now)) ≡ option_map (λ outcome. outcome.number) outcome) }
-    ensures err { IfErr result (λ misfit. (misfit ≡ unfit.Number) × (outcome_in (rows_of (found_of options.now)) ≡ Some 0)) }
+    ensures ok { IfOk result (λ outcome. outcome_in (rows_of (found_of options.now))
+        ≡ option_map (λ outcome. outcome.number) outcome) }
+    ensures err { IfErr result (λ misfit. (misfit ≡ unfit.Number)
+        × (outcome_in (rows_of (found_of options.now)) ≡ Some 0)) }
 {
     match some_number_of(options, "outcome") {
         None => Ok(None),
@@ -175,15 +180,18 @@ pub(crate) fn outcome_of(options: &ArgMatches<'_>) -> Result<Option<OutcomeNumbe
 
 pub(crate) fn size_of(options: &ArgMatches<'_>) -> Result<Size, Misfit>
     requires { HasValue (codes "page") (rows_of (found_of options.now)) }
-    ensures ok { IfOk result (IsPageSize (first_of (codes "page") (rows_of (found_of options.now)))) }
-    ensures err { IfErr result (λ misfit. (misfit ≡ unfit.Page) × HasBadPage (rows_of (found_of options.now))) }
+    ensures ok { IfOk result (IsPageSize (first_of (codes "page")
+        (rows_of (found_of options.now)))) }
+    ensures err { IfErr result (λ misfit. (misfit ≡ unfit.Page)
+        × HasBadPage (rows_of (found_of options.now))) }
 {
     size_named(text_of(options, "page"))
 }
 
 fn size_named(word: &str) -> Result<Size, Misfit>
     ensures ok { IfOk result (IsPageSize (Some word.now)) }
-    ensures err { IfErr result (λ misfit. (misfit ≡ unfit.Page) × ((size : Size) → ¬ IsPageSize (Some word.now) size)) }
+    ensures err { IfErr result (λ misfit. (misfit ≡ unfit.Page)
+        × ((size : Size) → ¬ IsPageSize (Some word.now) size)) }
 {
     if word == "64" {
         Ok(Size::Words64)

@@ -76,7 +76,8 @@ pub(crate) fn showing_choice<'w>(
     shape: Shape,
 ) -> Result<Choice<'w>, Misfit>
     requires { IsShowingTaken (rows_of (found_of options.now)) }
-    ensures ok { IfOk result (λ choice. (run : AnyRun) × (choice ≡ Choice.Show run shape) × IsShowingRun (rows_of (found_of options.now)) run) }
+    ensures ok { IfOk result (λ choice. (run : AnyRun) × (choice ≡ Choice.Show run shape)
+        × IsShowingRun (rows_of (found_of options.now)) run) }
     ensures err { IfErr result (HasShowingMisfit (rows_of (found_of options.now))) }
 {
     Ok(Choice::Show(showing_run(options)?, shape))
@@ -123,7 +124,8 @@ fn way_of<'w>(options: &ArgMatches<'w>, threads: bool) -> Result<Way<'w>, Misfit
 
 // The file of the events, if one is named.
 fn events_of<'w>(options: &ArgMatches<'w>) -> Option<&'w str>
-    ensures { option_map (λ path. path.now) result ≡ first_of (codes "events") (rows_of (found_of options.now)) }
+    ensures { option_map (λ path. path.now) result
+        ≡ first_of (codes "events") (rows_of (found_of options.now)) }
 {
     options.get_str("events")
 }
@@ -135,8 +137,10 @@ fn way_in<'w>(
     events: Option<&'w str>,
     threads: bool,
 ) -> Result<Way<'w>, Misfit>
-    ensures ok { IfOk result (IsWay order seed (option_map (λ path. path.now) events.entry) threads) }
-    ensures err { IfErr result (HasWayMisfit order seed (option_map (λ path. path.now) events.entry) threads) }
+    ensures ok { IfOk result (IsWay order seed
+        (option_map (λ path. path.now) events.entry) threads) }
+    ensures err { IfErr result (HasWayMisfit order seed
+        (option_map (λ path. path.now) events.entry) threads) }
 {
     match order {
         Order::Random => random_way(seed, events, threads),
@@ -150,8 +154,10 @@ fn random_way<'w>(
     events: Option<&'w str>,
     threads: bool,
 ) -> Result<Way<'w>, Misfit>
-    ensures ok { IfOk result (IsWay Order.Random seed (option_map (λ path. path.now) events.entry) threads) }
-    ensures err { IfErr result (HasWayMisfit Order.Random seed (option_map (λ path. path.now) events.entry) threads) }
+    ensures ok { IfOk result (IsWay Order.Random seed
+        (option_map (λ path. path.now) events.entry) threads) }
+    ensures err { IfErr result (HasWayMisfit Order.Random seed
+        (option_map (λ path. path.now) events.entry) threads) }
 {
     match events {
         _ if threads => Err(Misfit::Threads),
@@ -161,8 +167,10 @@ fn random_way<'w>(
 }
 
 fn picked_way<'w>(picker: Picker, events: Option<&'w str>, threads: bool) -> Result<Way<'w>, Misfit>
-    ensures ok { IfOk result (IsWay (Order.Picked picker) None (option_map (λ path. path.now) events.entry) threads) }
-    ensures err { IfErr result (HasWayMisfit (Order.Picked picker) None (option_map (λ path. path.now) events.entry) threads) }
+    ensures ok { IfOk result (IsWay (Order.Picked picker) None
+        (option_map (λ path. path.now) events.entry) threads) }
+    ensures err { IfErr result (HasWayMisfit (Order.Picked picker) None
+        (option_map (λ path. path.now) events.entry) threads) }
 {
     match events {
         Some(_) if threads => Err(Misfit::Threads),
@@ -176,14 +184,16 @@ fn order_of(options: &ArgMatches<'_>) -> Result<Order, Misfit>
     requires { HasValue (codes "order") (rows_of (found_of options.now)) }
     ensures ok { IfOk result (IsOrder (first_of (codes "order") (rows_of (found_of options.now)))) }
     ensures err { IfErr result (λ misfit. (misfit ≡ unfit.Order)
-        × ((order : AnyOrder) → ¬ IsOrder (first_of (codes "order") (rows_of (found_of options.now))) order)) }
+        × ((order : AnyOrder) → ¬ IsOrder
+        (first_of (codes "order") (rows_of (found_of options.now))) order)) }
 {
     order_named(text_of(options, "order"))
 }
 
 fn order_named(word: &str) -> Result<Order, Misfit>
     ensures ok { IfOk result (IsOrder (Some word.now)) }
-    ensures err { IfErr result (λ misfit. (misfit ≡ unfit.Order) × ((order : AnyOrder) → ¬ IsOrder (Some word.now) order)) }
+    ensures err { IfErr result (λ misfit. (misfit ≡ unfit.Order)
+        × ((order : AnyOrder) → ¬ IsOrder (Some word.now) order)) }
 {
     match picker_named(word) {
         Some(picker) => Ok(Order::Picked(picker)),
@@ -194,9 +204,11 @@ fn order_named(word: &str) -> Result<Order, Misfit>
 
 fn picker_of(options: &ArgMatches<'_>) -> Result<Picker, Misfit>
     requires { HasValue (codes "order") (rows_of (found_of options.now)) }
-    ensures ok { IfOk result (IsPicker (first_of (codes "order") (rows_of (found_of options.now)))) }
+    ensures ok { IfOk result (IsPicker (first_of (codes "order")
+        (rows_of (found_of options.now)))) }
     ensures err { IfErr result (λ misfit. (misfit ≡ unfit.RunOrder)
-        × ((picker : AnyPicker) → ¬ IsPicker (first_of (codes "order") (rows_of (found_of options.now))) picker)) }
+        × ((picker : AnyPicker) → ¬ IsPicker
+        (first_of (codes "order") (rows_of (found_of options.now))) picker)) }
 {
     picker_named(text_of(options, "order")).ok_or(Misfit::RunOrder)
 }

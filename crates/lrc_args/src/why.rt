@@ -36,7 +36,8 @@ fn asking_of(options: &ArgMatches<'_>) -> Result<Asking, Misfit>
     requires { IsWhyTaken (rows_of (found_of options.now)) }
     ensures ok { IfOk result (IsAsking (rows_of (found_of options.now))) }
     ensures err { IfErr result (λ misfit. (misfit ≡ unfit.SameAct)
-        × (some_number_in (codes "and") (rows_of (found_of options.now)) ≡ Some (option_number (codes "act") (rows_of (found_of options.now))))) }
+        × (some_number_in (codes "and") (rows_of (found_of options.now))
+        ≡ Some (option_number (codes "act") (rows_of (found_of options.now))))) }
 {
     let act = number_of(options, "act");
     let other = some_number_of(options, "and");

@@ -23,13 +23,15 @@ pub fn the_time_of_all_is_the_least_cover()
     ensures covers { (nodes : ℕ) (arrivals : List Arrival) (arrival : Arrival)
         → Contains arrivals arrival → Covers (joined_time nodes arrivals) arrival.time }
     ensures least { (nodes : ℕ) (arrivals : List Arrival) (time : List ℕ)
-        → All (λ arrival. Covers time arrival.time) arrivals → Covers time (joined_time nodes arrivals) }
+        → All (λ arrival. Covers time arrival.time) arrivals
+        → Covers time (joined_time nodes arrivals) }
 {}
 
 /// There is one departure for each arrival, in the order of the nodes.
 pub fn every_node_departs()
     ensures count { (arrivals : List Arrival) → length (departures_of arrivals) ≡ length arrivals }
-    ensures order { (arrivals : List Arrival) (node : ℕ) (none : Departure) (nobody : Arrival) → node < length arrivals
+    ensures order { (arrivals : List Arrival) (node : ℕ) (none : Departure) (nobody : Arrival)
+        → node < length arrivals
         → slice_index_or (departures_of arrivals) node none
         ≡ departure_to arrivals (node, slice_index_or arrivals node nobody) }
 {}
@@ -37,17 +39,23 @@ pub fn every_node_departs()
 /// A departure announces a collection exactly if some arrival asked for it.
 pub fn a_collection_is_asked_for()
     ensures { (arrivals : List Arrival)
-        → IsTrue (asks arrivals) ↔ ((arrival : Arrival) × Contains arrivals arrival × IsTrue arrival.ask) }
+        → IsTrue (asks arrivals) ↔
+        ((arrival : Arrival) × Contains arrivals arrival × IsTrue arrival.ask) }
 {}
 
 /// Let a node arrive that has not arrived at the next episode yet, while no collection is under way. All nodes depart
 /// exactly if every other node has arrived.
 pub fn all_depart_with_the_last_arrival()
-    ensures last { (manager : ManagerRecord) (from : ℕ) (arrival : Arrival) → from < length manager.arrivals
+    ensures last { (manager : ManagerRecord) (from : ℕ) (arrival : Arrival)
+        → from < length manager.arrivals
         → IsTrue (is_next manager arrival.episode) → IsFalse (has_arrived manager from)
-        → ((node : ℕ) → node < length manager.arrivals → node ≢ from → IsTrue (has_arrived manager node))
-        → (departures : List Departure) × (arrived manager from arrival ≡ departs departures (departed (with_arrival manager from arrival))) }
-    ensures earlier { (manager : ManagerRecord) (from other : ℕ) (arrival : Arrival) → from < length manager.arrivals
+        → ((node : ℕ) → node < length manager.arrivals → node ≢ from
+        → IsTrue (has_arrived manager node))
+        → (departures : List Departure)
+        × (arrived manager from arrival
+        ≡ departs departures (departed (with_arrival manager from arrival))) }
+    ensures earlier { (manager : ManagerRecord) (from other : ℕ) (arrival : Arrival)
+        → from < length manager.arrivals
         → IsTrue (is_next manager arrival.episode) → IsFalse (has_arrived manager from)
         → other < length manager.arrivals → other ≢ from → IsFalse (has_arrived manager other)
         → arrived manager from arrival ≡ waits (with_arrival manager from arrival) }
@@ -67,6 +75,8 @@ pub fn the_last_episode_has_no_next()
 
 /// The Clean that ends a collection is for the last episode that is over, and no collection is under way after it.
 pub fn a_collection_ends_once()
-    ensures { (manager next : ManagerRecord) (from episode over : ℕ) → cleaned manager from episode ≡ discards over next
-        → (over ≡ manager.done) × (over ≡ episode) × (next.done ≡ manager.done) × (next.cleans ≡ None) }
+    ensures { (manager next : ManagerRecord) (from episode over : ℕ)
+        → cleaned manager from episode ≡ discards over next
+        → (over ≡ manager.done) × (over ≡ episode) × (next.done ≡ manager.done)
+        × (next.cleans ≡ None) }
 {}

@@ -84,7 +84,8 @@ impl Manager {
     /// Returns whether the node has sent its Clean, or none if no collection is under way.
     pub fn has_cleaned(&self, node: u8) -> Option<bool>
         requires { node < length self.now.last }
-        ensures { result ≡ option_map (λ cleans. slice_index_or cleans node Bool.false) self.now.cleans }
+        ensures { result ≡ option_map (λ cleans. slice_index_or cleans node Bool.false)
+            self.now.cleans }
     {
         match &self.cleans {
             Some(cleans) => Some(cleans[usize::from(node)]),
@@ -103,7 +104,8 @@ impl Manager {
     /// Returns whether the node's arrival at the given episode would be accepted now.
     pub fn accepts(&self, from: u8, episode: u32) -> bool
         requires { from < length self.now.last }
-        ensures { (arrival : Arrival) → arrival.episode ≡ episode → result ≡ is_accepted (arrived self.now from arrival) }
+        ensures { (arrival : Arrival) → arrival.episode ≡ episode
+            → result ≡ is_accepted (arrived self.now from arrival) }
     {
         self.expect(from, episode).is_ok()
     }
@@ -131,13 +133,18 @@ impl Manager {
     ) -> Result<Option<Departures>, BarrierFault>
         requires from { from < length self.old.last }
         requires own { IsArrival (length self.old.last) from arrival.now }
-        ensures refused { (fault : BarrierFault) → arrived self.old from arrival.now ≡ refuses fault → result ≡ Err fault }
-        ensures answer { IfOk result (λ answer. arrive_answer (arrived self.old from arrival.now) ≡ Ok answer) }
-        ensures manager { OnOk result (self.new ≡ after_arrive self.old (arrived self.old from arrival.now)) }
-        ensures memory { IsTrue (is_accepted (arrived self.old from arrival.now)) → IfErr result (λ fault. fault ≡ NoMemory) }
+        ensures refused { (fault : BarrierFault) → arrived self.old from arrival.now ≡ refuses fault
+            → result ≡ Err fault }
+        ensures answer { IfOk result (λ answer. arrive_answer (arrived self.old from arrival.now)
+            ≡ Ok answer) }
+        ensures manager { OnOk result (self.new ≡ after_arrive self.old
+            (arrived self.old from arrival.now)) }
+        ensures memory { IsTrue (is_accepted (arrived self.old from arrival.now))
+            → IfErr result (λ fault. fault ≡ NoMemory) }
         ensures nodes { length self.new.last ≡ length self.old.last }
         ensures err { OnErr result (self.new ≡ self.old) }
-        ensures departures { IfOk result (λ answer. IfSome answer (All (IsDeparture (length self.old.last)))) }
+        ensures departures { IfOk result (λ answer. IfSome answer
+            (All (IsDeparture (length self.old.last)))) }
     {
         self.expect(from, arrival.episode)?;
         self.take(from, arrival.duplicate()?)
@@ -147,13 +154,18 @@ impl Manager {
     pub fn take(&mut self, from: u8, arrival: Arrival) -> Result<Option<Departures>, BarrierFault>
         requires from { from < length self.old.last }
         requires own { IsArrival (length self.old.last) from arrival }
-        ensures refused { (fault : BarrierFault) → arrived self.old from arrival ≡ refuses fault → result ≡ Err fault }
-        ensures answer { IfOk result (λ answer. arrive_answer (arrived self.old from arrival) ≡ Ok answer) }
-        ensures manager { OnOk result (self.new ≡ after_arrive self.old (arrived self.old from arrival)) }
-        ensures memory { IsTrue (is_accepted (arrived self.old from arrival)) → IfErr result (λ fault. fault ≡ NoMemory) }
+        ensures refused { (fault : BarrierFault) → arrived self.old from arrival ≡ refuses fault
+            → result ≡ Err fault }
+        ensures answer { IfOk result (λ answer. arrive_answer (arrived self.old from arrival)
+            ≡ Ok answer) }
+        ensures manager { OnOk result (self.new ≡ after_arrive self.old
+            (arrived self.old from arrival)) }
+        ensures memory { IsTrue (is_accepted (arrived self.old from arrival))
+            → IfErr result (λ fault. fault ≡ NoMemory) }
         ensures nodes { length self.new.last ≡ length self.old.last }
         ensures err { OnErr result (self.new ≡ self.old) }
-        ensures departures { IfOk result (λ answer. IfSome answer (All (IsDeparture (length self.old.last)))) }
+        ensures departures { IfOk result (λ answer. IfSome answer
+            (All (IsDeparture (length self.old.last)))) }
     {
         self.expect(from, arrival.episode)?;
         if self.is_last(from) {
@@ -216,7 +228,8 @@ impl Manager {
     // Whether all other nodes have arrived.
     fn is_last(&self, from: u8) -> bool
         requires { from < length self.now.last }
-        ensures { (arrival : Arrival) → result ≡ list_all is_some (slice_set self.now.arrivals from (Some arrival)) }
+        ensures { (arrival : Arrival) → result
+            ≡ list_all is_some (slice_set self.now.arrivals from (Some arrival)) }
     {
         for (node, place) in self.arrivals.iter().enumerate() {
             if node != usize::from(from) && place.is_none() {

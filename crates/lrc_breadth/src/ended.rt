@@ -31,7 +31,8 @@ pub fn all_ended(alloc: Global, task: &Task<'_>) -> Result<Ended, ExploreFault>
     requires task { IsTask task.now }
     requires noting { task.now.noting ≡ true }
     ensures ended { IfOk result (AreEnded task.now) }
-    ensures fits { IfOk result (λ _. FitsSettledNoted task.now.program.now task.now.flat.nodes task.now.most) }
+    ensures fits { IfOk result (λ _. FitsSettledNoted task.now.program.now task.now.flat.nodes
+        task.now.most) }
     ensures faults { IfErr result (IsFault task.now) }
 {
     let mut found = Found::none(alloc);
@@ -54,7 +55,8 @@ fn has_notes(key: &Noted, notes: &[Act]) -> bool
 fn is_end_with(task: &Task<'_>, key: &Noted, notes: &[Act]) -> bool
     requires flat { IsFlat task.now.flat }
     requires state { IsStateOf task.now.flat key.now.state }
-    ensures { IsTrue result ↔ (IsAtRest (plain_at task.now.flat key.now.state) × (key.now.notes.items ≡ notes.now)) }
+    ensures { IsTrue result ↔ (IsAtRest (plain_at task.now.flat key.now.state)
+        × (key.now.notes.items ≡ notes.now)) }
 {
     is_still(&task.flat, &key.state) && has_notes(key, notes)
 }
@@ -76,7 +78,8 @@ impl Found {
         requires task { IsTask task.now }
         requires noting { task.now.noting ≡ true }
         requires all { AreAllFound task.now self.now }
-        ensures run { IfOk result (λ run. IsRunFor task.now.program.now task.now.flat.nodes notes.now (option_map (λ acts. acts.items) run)) }
+        ensures run { IfOk result (λ run. IsRunFor task.now.program.now task.now.flat.nodes
+            notes.now (option_map (λ acts. acts.items) run)) }
         ensures faults { IfErr result (IsFault task.now) }
     {
         match self.end_with(alloc, task, notes)? {

@@ -10,10 +10,10 @@ ghost use Rattle.lrc_breadth.specs.Reached.{CannotTake, HasTakenTo, IsKeyOf, IsT
 ghost use Rattle.lrc_breadth.specs.Answers.{IsFault, IsLongFault};
 
 use crate::task::{Found, Origin, Task};
+use lrc_exec::state::State;
 use lrc_explore::noted::Noted;
 use lrc_explore::notes::note;
 use lrc_explore::search::ExploreFault;
-use lrc_exec::state::State;
 use lrc_live::forget_dead;
 use lrc_steps::settle::settle;
 use lrc_steps::step::{Step, all_wait, contended_deed, count, take_alone, take_together};
@@ -22,7 +22,8 @@ use std::alloc::{AllocError, Global};
 
 // Says no where more was to be looked at than may be.
 fn or_too_many(done: bool) -> Result<(), ExploreFault>
-    ensures { MatchResult result (λ _. done ≡ true) (λ fault. (fault ≡ ExploreFault.TooMany) × (done ≡ false)) }
+    ensures { MatchResult result (λ _. done ≡ true)
+        (λ fault. (fault ≡ ExploreFault.TooMany) × (done ≡ false)) }
 {
     if done {
         Ok(())
@@ -44,7 +45,8 @@ pub fn taken(
     requires state { IsStateOf task.now.flat state.now }
     requires counted { IsCounted state.now }
     requires settled { IsSettled (plain_at task.now.flat state.now) }
-    ensures taken { IfOk result (λ after. MatchOption after (CannotTake task.now state.now step) (HasTakenTo task.now state.now step acts.old.items acts.new.items)) }
+    ensures taken { IfOk result (λ after. MatchOption after (CannotTake task.now state.now step)
+        (HasTakenTo task.now state.now step acts.old.items acts.new.items)) }
     ensures faults { IfErr result (IsLongFault task.now state.now) }
 {
     match step {
@@ -65,7 +67,9 @@ fn taken_alone(
     requires state { IsStateOf task.now.flat state.now }
     requires counted { IsCounted state.now }
     requires settled { IsSettled (plain_at task.now.flat state.now) }
-    ensures taken { IfOk result (λ after. MatchOption after (CannotTake task.now state.now (Alone node)) (HasTakenTo task.now state.now (Alone node) acts.old.items acts.new.items)) }
+    ensures taken { IfOk result (λ after. MatchOption after
+        (CannotTake task.now state.now (Alone node))
+        (HasTakenTo task.now state.now (Alone node) acts.old.items acts.new.items)) }
     ensures faults { IfErr result (IsLongFault task.now state.now) }
 {
     let Some(deed) = contended_deed(&task.flat, state, node) else {
@@ -87,7 +91,8 @@ fn taken_together(
     requires task { IsTask task.now }
     requires state { IsStateOf task.now.flat state.now }
     requires counted { IsCounted state.now }
-    ensures taken { IfOk result (λ after. MatchOption after (CannotTake task.now state.now Together) (HasTakenTo task.now state.now Together acts.old.items acts.new.items)) }
+    ensures taken { IfOk result (λ after. MatchOption after (CannotTake task.now state.now Together)
+        (HasTakenTo task.now state.now Together acts.old.items acts.new.items)) }
     ensures faults { IfErr result (IsLongFault task.now state.now) }
 {
     if !all_wait(&task.flat, state) {
@@ -144,7 +149,8 @@ fn notes_on(
     notes: &[Act],
     acts: &[Act],
 ) -> Result<Vec<Act>, AllocError>
-    ensures noted { IfOk result (λ all. task.now.noting ≡ true → all.items ≡ noted_on notes.now acts.now) }
+    ensures noted { IfOk result (λ all. task.now.noting ≡ true
+        → all.items ≡ noted_on notes.now acts.now) }
     ensures bare { IfOk result (λ all. task.now.noting ≡ false → all.items ≡ []) }
 {
     let mut all = Vec::new(alloc);

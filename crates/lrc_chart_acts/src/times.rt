@@ -84,7 +84,8 @@ fn time_if(order: &Order, acts: &[Act], nodes: u8, places: &[Place], position: u
     requires some { 1 ≤ nodes }
     requires few { nodes ≤ 16 }
     requires position { position < 4294967295 }
-    ensures { result ≡ (if is_some (shown_act places.now position) then time_known order.now acts.now nodes position else zeros nodes) }
+    ensures { result ≡ (if is_some (shown_act places.now position) then time_known order.now
+        acts.now nodes position else zeros nodes) }
 {
     if is_in(places, position) {
         time_known(order, acts, nodes, position)
@@ -106,7 +107,8 @@ fn push_time(
     requires few { nodes ≤ 16 }
     requires position { position < 4294967295 }
     ensures { OnOk result (times.new.items ≡ times.old.items
-        ++ (if is_some (shown_act places.now position) then time_known order.now acts.now nodes position else zeros nodes) ∷ []) }
+        ++ (if is_some (shown_act places.now position) then time_known order.now acts.now nodes
+        position else zeros nodes) ∷ []) }
 {
     times.push(time_if(order, acts, nodes, places, position))?;
     Ok(())

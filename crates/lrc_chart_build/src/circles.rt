@@ -20,7 +20,8 @@ fn push_nodes(
     waits: &[Option<usize>],
     first: usize,
 ) -> Result<(), AllocError>
-    ensures { OnOk result (nodes.new.items ≡ nodes.old.items ++ nodes_if first (circle_of waits.now first)) }
+    ensures { OnOk result (nodes.new.items
+        ≡ nodes.old.items ++ nodes_if first (circle_of waits.now first)) }
 {
     if let Some(way) = circle_of(alloc, waits, first)? {
         nodes.push(first)?;
@@ -58,7 +59,8 @@ fn push_line(
     waits: &[Option<usize>],
     first: usize,
 ) -> Result<(), AllocError>
-    ensures { OnOk result (texts_of lines.new.items ≡ texts_of lines.old.items ++ line_if first (circle_of waits.now first)) }
+    ensures { OnOk result (texts_of lines.new.items
+        ≡ texts_of lines.old.items ++ line_if first (circle_of waits.now first)) }
 {
     if let Some(way) = circle_of(alloc, waits, first)? {
         lines.push(circle_line(alloc, first, way.as_slice())?)?;

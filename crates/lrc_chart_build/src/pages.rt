@@ -42,7 +42,8 @@ fn is_among(pages: &[u16], count: usize, page: u16) -> bool
 }
 
 fn push_unless(pages: &mut Vec<u16>, page: u16, is_known: bool) -> Result<(), AllocError>
-    ensures { OnOk result (pages.new.items ≡ pages.old.items ++ (if is_known then [] else page ∷ [])) }
+    ensures { OnOk result (pages.new.items
+        ≡ pages.old.items ++ (if is_known then [] else page ∷ [])) }
 {
     if !is_known {
         pages.push(page)?;
@@ -99,7 +100,8 @@ pub(crate) fn taken_before(turns: &[TurnOf<'_>], position: usize, envelope: &Env
 }
 
 fn push_told(alloc: Global, text: &mut Vec<u8>, message: &Message) -> Result<(), AllocError>
-    ensures { OnOk result (text.new.items ≡ text.old.items ++ invalid_words (each_once (named_in (told_by message.now)))) }
+    ensures { OnOk result (text.new.items
+        ≡ text.old.items ++ invalid_words (each_once (named_in (told_by message.now)))) }
 {
     let named = named_in(alloc, told_by(message))?;
     let pages = each_once(alloc, named.as_slice())?;
@@ -113,7 +115,8 @@ pub(crate) fn invalid_text(
     position: usize,
     input: &Input,
 ) -> Result<Vec<u8>, AllocError>
-    ensures { IfOk result (λ text. text.items ≡ invalid_text turns.now position (seen_input input.now)) }
+    ensures { IfOk result (λ text. text.items
+        ≡ invalid_text turns.now position (seen_input input.now)) }
 {
     let mut text = Vec::new(alloc);
     if let Input::Taken(envelope) = input {

@@ -84,7 +84,8 @@ fn picture_of(
     places: &[Place],
     source: Option<&[u8]>,
 ) -> Result<Picture, AllocError>
-    ensures { IfOk result (IsPictureOf title.now nodes course.now waits.now places.now (option_map (λ text. text.now) source.entry)) }
+    ensures { IfOk result (IsPictureOf title.now nodes course.now waits.now places.now
+        (option_map (λ text. text.now) source.entry)) }
 {
     let known = &course.known;
     let circled = circled_nodes(alloc, waits)?;
@@ -115,9 +116,11 @@ pub fn portrait_of(
     part: Part,
     source: Option<&[u8]>,
 ) -> Result<Picture, PortraitFault>
-    ensures ok { IfOk result (IsPortrait title.now nodes course.now part (option_map (λ text. text.now) source.entry)) }
+    ensures ok { IfOk result (IsPortrait title.now nodes course.now part
+        (option_map (λ text. text.now) source.entry)) }
     ensures short { IfOk result (λ _. length (rows_shown course.now part) ≤ MOST_SHOWN) }
-    ensures err { IfErr result (λ fault. fault ≡ TooLong → MOST_SHOWN < length (rows_shown course.now part)) }
+    ensures err { IfErr result (λ fault. fault ≡ TooLong
+        → MOST_SHOWN < length (rows_shown course.now part)) }
 {
     let rows = lrc_chart_rows::rows_of(alloc, course.turns)?;
     let places = kept_of(

@@ -133,7 +133,8 @@ fn push_race(
 }
 
 fn push_if(leads: &mut Vec<Pair>, pair: Pair, is_first: bool) -> Result<(), AllocError>
-    ensures { OnOk result (leads.new.items ≡ leads.old.items ++ (if is_first then pair ∷ [] else [])) }
+    ensures { OnOk result (leads.new.items
+        ≡ leads.old.items ++ (if is_first then pair ∷ [] else [])) }
 {
     if is_first {
         leads.push(pair)?;

@@ -36,7 +36,8 @@ fn source_line(
     number: usize,
     words: &[u8],
 ) -> Result<SourceLine, AllocError>
-    ensures { IfOk result (λ line. seen_line line ≡ source_line lines.now places.now number words.now) }
+    ensures { IfOk result (λ line. seen_line line
+        ≡ source_line lines.now places.now number words.now) }
 {
     Ok(SourceLine {
         words: Vec::from_slice(alloc, words)?,

@@ -52,7 +52,8 @@ fn last_act(acts: &[Act], node: u8, places: &[Place]) -> Option<usize>
 }
 
 fn is_same(a: Option<&Time>, b: Option<&Time>) -> bool
-    ensures { result ≡ same_time (option_map (λ time. time.now) a.entry) (option_map (λ time. time.now) b.entry) }
+    ensures { result ≡ same_time (option_map (λ time. time.now) a.entry)
+        (option_map (λ time. time.now) b.entry) }
 {
     match (a, b) {
         (Some(a), Some(b)) => a == b,
@@ -71,7 +72,8 @@ fn changes_since(times: &[Time], position: usize, before: Option<usize>) -> bool
 }
 
 fn push_entries_if(text: &mut Vec<u8>, time: Option<&Time>) -> Result<(), AllocError>
-    ensures { OnOk result (text.new.items ≡ text.old.items ++ entries_text (option_map (λ time. time.now) time.entry)) }
+    ensures { OnOk result (text.new.items
+        ≡ text.old.items ++ entries_text (option_map (λ time. time.now) time.entry)) }
 {
     match time {
         Some(time) => push_entries(text, time),

@@ -23,7 +23,8 @@ fn push_access(
     word: u32,
     value: u64,
 ) -> Result<(), AllocError>
-    ensures { OnOk result (text.new.items ≡ text.old.items ++ access_words (map label_seen labels.now) name.now word value) }
+    ensures { OnOk result (text.new.items
+        ≡ text.old.items ++ access_words (map label_seen labels.now) name.now word value) }
 {
     push_number(text, name, u64::from(word))?;
     push_word_label(text, labels, word)?;
@@ -37,7 +38,8 @@ pub(crate) fn push_lock(
     name: &[u8],
     lock: u8,
 ) -> Result<(), AllocError>
-    ensures { OnOk result (text.new.items ≡ text.old.items ++ lock_words (map label_seen labels.now) name.now lock) }
+    ensures { OnOk result (text.new.items
+        ≡ text.old.items ++ lock_words (map label_seen labels.now) name.now lock) }
 {
     push_number(text, name, u64::from(lock))?;
     push_lock_label(text, labels, lock)
@@ -49,7 +51,8 @@ fn push_deed_words(
     barrier: u64,
     deed: Deed,
 ) -> Result<(), AllocError>
-    ensures { OnOk result (text.new.items ≡ text.old.items ++ deed_words (map label_seen labels.now) barrier deed) }
+    ensures { OnOk result (text.new.items
+        ≡ text.old.items ++ deed_words (map label_seen labels.now) barrier deed) }
 {
     match deed {
         Deed::Read(word, value) => push_access(text, labels, b"read ", word, value),

@@ -27,7 +27,8 @@ impl Made {
     /// Adds one turn to the node's count.
     pub(crate) fn note(&mut self, node: u8)
         requires { slice_index self.old.counts node < 18446744073709551615 }
-        ensures { self.new.counts ≡ slice_set self.old.counts node (slice_index self.old.counts node + 1) }
+        ensures { self.new.counts ≡ slice_set self.old.counts node
+            (slice_index self.old.counts node + 1) }
     {
         self.counts[usize::from(node)] += 1;
     }

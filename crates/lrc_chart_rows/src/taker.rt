@@ -26,7 +26,8 @@ pub fn takes(turn: &TurnOf<'_>, envelope: &Envelope) -> bool
 
 // Adds a position, if it is one of those that are wanted.
 fn push_if(positions: &mut Vec<usize>, position: usize, is_wanted: bool) -> Result<(), AllocError>
-    ensures { OnOk result (positions.new.items ≡ positions.old.items ++ (if is_wanted then position ∷ [] else [])) }
+    ensures { OnOk result (positions.new.items
+        ≡ positions.old.items ++ (if is_wanted then position ∷ [] else [])) }
 {
     if is_wanted {
         positions.push(position)?;

@@ -33,7 +33,8 @@ fn push_next<'a>(
     node: u8,
 ) -> Result<(), AllocError>
     requires { Counts turns.old.items made.old.counts }
-    ensures turns { OnOk result (turns.new.items ≡ turns.old.items ++ next (map (λ log. log.items) logs.now) turns.old.items node) }
+    ensures turns { OnOk result (turns.new.items
+        ≡ turns.old.items ++ next (map (λ log. log.items) logs.now) turns.old.items node) }
     ensures counts { OnOk result (Counts turns.new.items made.new.counts) }
 {
     if let Some(entry) = entry_of(logs, node, made.by(node)) {
@@ -50,7 +51,8 @@ pub fn turns_of<'a>(
     logs: &'a [Vec<Entry>],
     order: &[u8],
 ) -> Result<Vec<TurnOf<'a>>, AllocError>
-    ensures { IfOk result (λ turns. turns.items ≡ turns_told (map (λ log. log.items) logs.now) order.now) }
+    ensures { IfOk result (λ turns. turns.items
+        ≡ turns_told (map (λ log. log.items) logs.now) order.now) }
 {
     let mut turns = Vec::new(alloc);
     let mut made = Made::new();

@@ -25,7 +25,8 @@ fn push_arrow(
     layout: &Layout,
     arrow: &Arrow,
 ) -> Result<(), AllocError>
-    ensures { OnOk result (all_marks contents.new.items ≡ all_marks contents.old.items ++ arrow_marks (plan_in layout.now) arrow.now) }
+    ensures { OnOk result (all_marks contents.new.items
+        ≡ all_marks contents.old.items ++ arrow_marks (plan_in layout.now) arrow.now) }
 {
     let way = Span::between(layout, arrow.sender, arrow.receiver);
     let from = way.tail(layout.height(arrow.from));
@@ -52,7 +53,8 @@ fn push_lost(
     place: usize,
     lost: &Lost,
 ) -> Result<(), AllocError>
-    ensures { OnOk result (all_marks contents.new.items ≡ all_marks contents.old.items ++ lost_marks (plan_in layout.now) place lost.now) }
+    ensures { OnOk result (all_marks contents.new.items
+        ≡ all_marks contents.old.items ++ lost_marks (plan_in layout.now) place lost.now) }
 {
     let way = Span::between(layout, lost.sender, lost.receiver);
     let from = way.tail(layout.height(lost.from));
@@ -73,7 +75,8 @@ fn push_lost_label(
     place: usize,
     lost: &Lost,
 ) -> Result<(), AllocError>
-    ensures { OnOk result (all_marks contents.new.items ≡ all_marks contents.old.items ++ lost_label (plan_in layout.now) place lost.now) }
+    ensures { OnOk result (all_marks contents.new.items
+        ≡ all_marks contents.old.items ++ lost_label (plan_in layout.now) place lost.now) }
 {
     let way = Span::between(layout, lost.sender, lost.receiver);
     let at = Point {
@@ -91,7 +94,8 @@ pub(crate) fn push_arrows(
     layout: &Layout,
     arrows: &[Arrow],
 ) -> Result<(), AllocError>
-    ensures { OnOk result (all_marks contents.new.items ≡ all_marks contents.old.items ++ flat_map (arrow_marks (plan_in layout.now)) arrows.now) }
+    ensures { OnOk result (all_marks contents.new.items
+        ≡ all_marks contents.old.items ++ flat_map (arrow_marks (plan_in layout.now)) arrows.now) }
 {
     for arrow in arrows {
         push_arrow(alloc, contents, layout, arrow)?;
@@ -106,7 +110,8 @@ pub(crate) fn push_all_lost(
     layout: &Layout,
     lost: &[Lost],
 ) -> Result<(), AllocError>
-    ensures { OnOk result (all_marks contents.new.items ≡ all_marks contents.old.items ++ each (lost_marks (plan_in layout.now)) lost.now) }
+    ensures { OnOk result (all_marks contents.new.items
+        ≡ all_marks contents.old.items ++ each (lost_marks (plan_in layout.now)) lost.now) }
 {
     for (place, one) in lost.iter().enumerate() {
         push_lost(alloc, contents, layout, place, one)?;
@@ -121,7 +126,8 @@ pub(crate) fn push_lost_labels(
     layout: &Layout,
     lost: &[Lost],
 ) -> Result<(), AllocError>
-    ensures { OnOk result (all_marks contents.new.items ≡ all_marks contents.old.items ++ each (lost_label (plan_in layout.now)) lost.now) }
+    ensures { OnOk result (all_marks contents.new.items
+        ≡ all_marks contents.old.items ++ each (lost_label (plan_in layout.now)) lost.now) }
 {
     for (place, one) in lost.iter().enumerate() {
         push_lost_label(alloc, contents, layout, place, one)?;

@@ -37,7 +37,8 @@ pub(crate) fn push_number(text: &mut Vec<u8>, number: u128) -> Result<(), AllocE
 
 /// Adds the coordinates of a point: the distance from the left, a blank, and the distance from the top.
 pub(crate) fn push_point(text: &mut Vec<u8>, point: Point) -> Result<(), AllocError>
-    ensures { OnOk result (text.new.items ≡ text.old.items ++ decimal point.x ++ codes " " ++ decimal point.y) }
+    ensures { OnOk result (text.new.items
+        ≡ text.old.items ++ decimal point.x ++ codes " " ++ decimal point.y) }
 {
     push_number(text, point.x)?;
     text.extend_from_slice(b" ")?;
@@ -75,7 +76,8 @@ pub(crate) fn push_attribute(
     key: Key,
     value: Vec<u8>,
 ) -> Result<(), AllocError>
-    ensures { OnOk result (said attributes.new.items ≡ said attributes.old.items ++ (key, value.items) ∷ []) }
+    ensures { OnOk result (said attributes.new.items
+        ≡ said attributes.old.items ++ (key, value.items) ∷ []) }
 {
     attributes.push(Attribute { key, value })?;
     Ok(())
@@ -88,7 +90,8 @@ pub(crate) fn push_pixels(
     key: Key,
     number: u128,
 ) -> Result<(), AllocError>
-    ensures { OnOk result (said attributes.new.items ≡ said attributes.old.items ++ (key, decimal number) ∷ []) }
+    ensures { OnOk result (said attributes.new.items
+        ≡ said attributes.old.items ++ (key, decimal number) ∷ []) }
 {
     push_attribute(attributes, key, pixels(alloc, number)?)
 }
@@ -100,7 +103,8 @@ pub(crate) fn push_value(
     key: Key,
     words: &[u8],
 ) -> Result<(), AllocError>
-    ensures { OnOk result (said attributes.new.items ≡ said attributes.old.items ++ (key, words.now) ∷ []) }
+    ensures { OnOk result (said attributes.new.items
+        ≡ said attributes.old.items ++ (key, words.now) ∷ []) }
 {
     push_attribute(attributes, key, bytes(alloc, words)?)
 }
@@ -108,7 +112,8 @@ pub(crate) fn push_value(
 // Adds where an area is, and how large.
 fn push_area(alloc: Global, attributes: &mut Vec<Attribute>, area: Area) -> Result<(), AllocError>
     ensures { OnOk result (said attributes.new.items ≡ said attributes.old.items
-        ++ (Key.X, decimal area.x) ∷ (Key.Y, decimal area.y) ∷ (Key.Width, decimal area.width) ∷ (Key.Height, decimal area.height) ∷ []) }
+        ++ (Key.X, decimal area.x) ∷ (Key.Y, decimal area.y) ∷ (Key.Width, decimal area.width)
+        ∷ (Key.Height, decimal area.height) ∷ []) }
 {
     push_pixels(alloc, attributes, Key::X, area.x)?;
     push_pixels(alloc, attributes, Key::Y, area.y)?;
@@ -124,7 +129,8 @@ fn push_ends(
     to: Point,
 ) -> Result<(), AllocError>
     ensures { OnOk result (said attributes.new.items ≡ said attributes.old.items
-        ++ (Key.FromX, decimal from.x) ∷ (Key.FromY, decimal from.y) ∷ (Key.ToX, decimal to.x) ∷ (Key.ToY, decimal to.y) ∷ []) }
+        ++ (Key.FromX, decimal from.x) ∷ (Key.FromY, decimal from.y) ∷ (Key.ToX, decimal to.x)
+        ∷ (Key.ToY, decimal to.y) ∷ []) }
 {
     push_pixels(alloc, attributes, Key::FromX, from.x)?;
     push_pixels(alloc, attributes, Key::FromY, from.y)?;
@@ -140,7 +146,8 @@ fn push_points(
     strokes: &[u8],
 ) -> Result<(), AllocError>
     ensures { OnOk result (said attributes.new.items ≡ said attributes.old.items
-        ++ (Key.Points, codes "M" ++ decimal start.x ++ codes " " ++ decimal start.y ++ strokes.now) ∷ []) }
+        ++ (Key.Points, codes "M" ++ decimal start.x ++ codes " " ++ decimal start.y ++ strokes.now)
+        ∷ []) }
 {
     let mut points = bytes(alloc, b"M")?;
     push_point(&mut points, start)?;
@@ -155,7 +162,8 @@ fn push_line_style(
     style: Style,
 ) -> Result<(), AllocError>
     ensures { OnOk result (said attributes.new.items ≡ said attributes.old.items
-        ++ (Key.Stroke, style.stroke.now) ∷ (Key.StrokeWidth, style.width.now) ∷ (Key.Dashes, style.dashes.now) ∷ []) }
+        ++ (Key.Stroke, style.stroke.now) ∷ (Key.StrokeWidth, style.width.now)
+        ∷ (Key.Dashes, style.dashes.now) ∷ []) }
 {
     push_value(alloc, attributes, Key::Stroke, style.stroke)?;
     push_value(alloc, attributes, Key::StrokeWidth, style.width)?;
@@ -204,7 +212,8 @@ fn push_element(
 ) -> Result<(), AllocError>
     requires { named_once attributes.items ≡ true }
     ensures { OnOk result (all_marks contents.new.items
-        ≡ all_marks contents.old.items ++ own tag attributes.items (all_words inside.items) ++ held tag (all_marks inside.items) ++ behind tag) }
+        ≡ all_marks contents.old.items ++ own tag attributes.items (all_words inside.items)
+        ++ held tag (all_marks inside.items) ++ behind tag) }
 {
     contents.push(Content::Element(tag, attributes, inside))?;
     Ok(())
@@ -218,7 +227,8 @@ pub(crate) fn push_box(
     style: Style,
 ) -> Result<(), AllocError>
     ensures { OnOk result (all_marks contents.new.items ≡ all_marks contents.old.items
-        ++ box (decimal area.x) (decimal area.y) (decimal area.width) (decimal area.height) style.width.now style.dashes.now ∷ []) }
+        ++ box (decimal area.x) (decimal area.y) (decimal area.width)
+        (decimal area.height) style.width.now style.dashes.now ∷ []) }
 {
     let mut attributes = Vec::new(alloc);
     push_area(alloc, &mut attributes, area)?;
@@ -236,7 +246,8 @@ pub(crate) fn push_path(
 ) -> Result<(), AllocError>
     requires { begins_with_digit strokes.now ≡ false }
     ensures { OnOk result (all_marks contents.new.items
-        ≡ all_marks contents.old.items ++ path (decimal start.x) (decimal start.y) strokes.now style.dashes.now ∷ []) }
+        ≡ all_marks contents.old.items
+        ++ path (decimal start.x) (decimal start.y) strokes.now style.dashes.now ∷ []) }
 {
     let mut attributes = Vec::new(alloc);
     push_points(alloc, &mut attributes, start, strokes)?;
@@ -253,7 +264,9 @@ pub(crate) fn push_line(
     style: Style,
 ) -> Result<(), AllocError>
     ensures { OnOk result (all_marks contents.new.items
-        ≡ all_marks contents.old.items ++ stroke (decimal from.x) (decimal from.y) (decimal to.x) (decimal to.y) style.dashes.now ∷ []) }
+        ≡ all_marks contents.old.items
+        ++ stroke (decimal from.x) (decimal from.y) (decimal to.x)
+        (decimal to.y) style.dashes.now ∷ []) }
 {
     let mut attributes = Vec::new(alloc);
     push_ends(alloc, &mut attributes, from, to)?;
@@ -270,7 +283,8 @@ pub(crate) fn push_label(
     words: &[u8],
 ) -> Result<(), AllocError>
     ensures { OnOk result (all_marks contents.new.items
-        ≡ all_marks contents.old.items ++ word (decimal at.x) (decimal at.y) (anchor_word hand.anchor) words.now ∷ []) }
+        ≡ all_marks contents.old.items
+        ++ word (decimal at.x) (decimal at.y) (anchor_word hand.anchor) words.now ∷ []) }
 {
     let mut attributes = Vec::new(alloc);
     push_hand(alloc, &mut attributes, at, hand)?;
@@ -306,7 +320,8 @@ pub(crate) fn push_plated(
     hand: Hand,
     words: &[u8],
 ) -> Result<(), AllocError>
-    ensures { OnOk result (all_marks contents.new.items ≡ all_marks contents.old.items ++ plated hand.anchor at.x at.y words.now) }
+    ensures { OnOk result (all_marks contents.new.items
+        ≡ all_marks contents.old.items ++ plated hand.anchor at.x at.y words.now) }
 {
     let area = plate(at, hand.anchor, words.len());
     push_box(alloc, contents, area, Style::plain(GROUND))?;
@@ -319,7 +334,8 @@ pub(crate) fn push_hint(
     contents: &mut Vec<Content>,
     words: &[u8],
 ) -> Result<(), AllocError>
-    ensures { OnOk result (all_marks contents.new.items ≡ all_marks contents.old.items ++ hint words.now ∷ []) }
+    ensures { OnOk result (all_marks contents.new.items
+        ≡ all_marks contents.old.items ++ hint words.now ∷ []) }
 {
     push_element(contents, Tag::Hint, Vec::new(alloc), text_of(alloc, words)?)
 }
@@ -330,7 +346,8 @@ pub(crate) fn push_group(
     contents: &mut Vec<Content>,
     inside: Vec<Content>,
 ) -> Result<(), AllocError>
-    ensures { OnOk result (all_marks contents.new.items ≡ all_marks contents.old.items ++ begins ∷ (all_marks inside.items ++ ends ∷ [])) }
+    ensures { OnOk result (all_marks contents.new.items
+        ≡ all_marks contents.old.items ++ begins ∷ (all_marks inside.items ++ ends ∷ [])) }
 {
     push_element(contents, Tag::Group, Vec::new(alloc), inside)
 }

@@ -251,7 +251,9 @@ pub(crate) fn name_margin(
 
 // Adds a rule across all columns.
 fn push_rules(text: &mut Vec<u8>, columns: usize) -> Result<(), AllocError>
-    ensures { OnOk result (text.new.items ≡ text.old.items ++ flat_map (λ column. replicate (width_of columns) 61) (range_with_len 0 columns)) }
+    ensures { OnOk result (text.new.items
+        ≡ text.old.items ++ flat_map (λ column. replicate (width_of columns) 61)
+        (range_with_len 0 columns)) }
 {
     for _column in 0..columns {
         push_times(text, b'=', width_of(columns))?;

@@ -33,7 +33,8 @@ pub(crate) fn judged_with_pairs(
     judging: &Judging<'_>,
     text: &[u8],
 ) -> Result<PairsJudgement, Fault>
-    ensures ok { IfOk result (λ judgement. Judges (judged_nodes judging.now) true text.now (told_text judgement) judgement.status) }
+    ensures ok { IfOk result (λ judgement.
+        Judges (judged_nodes judging.now) true text.now (told_text judgement) judgement.status) }
     ensures races { IfOk result HasItsRaces }
     ensures err { IfErr result (IsActsFault (judged_nodes judging.now) text.now) }
 {

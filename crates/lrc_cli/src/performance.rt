@@ -148,7 +148,8 @@ fn print_pairs<W: Write, E: Write>(
     err: &mut E,
 ) -> u8
     requires { HasItsRaces judgement.now }
-    ensures { IsPrintedOrCut (W.contents out.old) (W.contents out.new) (E.contents err.old) (E.contents err.new)
+    ensures { IsPrintedOrCut (W.contents out.old) (W.contents out.new) (E.contents err.old)
+        (E.contents err.new)
         (told_text judgement.now) judgement.now.status result }
 {
     match write_pairs(alloc, judgement, out) {

@@ -26,7 +26,8 @@ pub fn lazy_run_without_a_race_is_plain()
 /// The same holds up to the first race. Before a position such that no race ends earlier, the plain machine makes the
 /// same acts, and then one of the same kind on the same word or lock. Only the value that is read there may differ.
 pub fn lazy_run_is_plain_up_to_its_first_race()
-    ensures { (program : Program) (nodes : ℕ) (run : List Act) (position : ℕ) → FollowsText program nodes run
+    ensures { (program : Program) (nodes : ℕ) (run : List Act) (position : ℕ)
+        → FollowsText program nodes run
         → IsWellSynchronized nodes run → ReadsLazily run
         → ((i j : ℕ) → Races run i j → position ≤ j)
         → PlainUpTo program nodes run position }
@@ -35,7 +36,8 @@ pub fn lazy_run_is_plain_up_to_its_first_race()
 /// The race at that position is one of the plain machine: its act there, which is of the same kind, races with the same
 /// earlier positions.
 pub fn the_first_race_is_one_of_the_plain_machine()
-    ensures { (program : Program) (nodes : ℕ) (run : List Act) (position : ℕ) → FollowsText program nodes run
+    ensures { (program : Program) (nodes : ℕ) (run : List Act) (position : ℕ)
+        → FollowsText program nodes run
         → IsWellSynchronized nodes run → ReadsLazily run
         → ((i j : ℕ) → Races run i j → position ≤ j)
         → PlainToRace program nodes run position }
@@ -45,18 +47,21 @@ pub fn the_first_race_is_one_of_the_plain_machine()
 /// text, is well synchronized and reads lazily has none.
 pub fn races_of_lazy_runs_belong_to_the_program()
     ensures { (program : Program) (nodes : ℕ) (run : List Act) → FollowsText program nodes run
-        → IsWellSynchronized nodes run → ReadsLazily run → HasNoRace program nodes → IsRaceFree run }
+        → IsWellSynchronized nodes run → ReadsLazily run → HasNoRace program nodes
+        → IsRaceFree run }
 {}
 
 /// A run of the plain machine follows the text, is well synchronized, and each read gives the value written last.
 pub fn plain_run_is_well_synchronized()
-    ensures { (program : Program) (nodes : ℕ) (order : List ℕ) (run : List Act) → plain program nodes order ≡ Some run
+    ensures { (program : Program) (nodes : ℕ) (order : List ℕ) (run : List Act)
+        → plain program nodes order ≡ Some run
         → FollowsText program nodes run × IsWellSynchronized nodes run × ReadsInOrder run }
 {}
 
 /// In a run of one node in which each read gives the value written last, every read is lazy.
 pub fn one_node_that_reads_in_order_reads_lazily()
-    ensures { (run : List Act) → ((k node : ℕ) (deed : Deed) → Does run k node deed → node ≡ 0) → ReadsInOrder run
+    ensures { (run : List Act) → ((k node : ℕ) (deed : Deed) → Does run k node deed → node ≡ 0)
+        → ReadsInOrder run
         → ReadsLazily run }
 {}
 
@@ -68,11 +73,13 @@ pub fn a_run_without_a_race_that_reads_in_order_reads_lazily()
 /// A run of the plain machine on any number of nodes reads lazily if it has no race. It follows the text and is well
 /// synchronized, so it meets every premise of `lazy_run_without_a_race_is_plain`.
 pub fn a_plain_run_without_a_race_reads_lazily()
-    ensures { (program : Program) (nodes : ℕ) (order : List ℕ) (run : List Act) → plain program nodes order ≡ Some run
+    ensures { (program : Program) (nodes : ℕ) (order : List ℕ) (run : List Act)
+        → plain program nodes order ≡ Some run
         → IsRaceFree run → ReadsLazily run }
 {}
 
 /// If each node's acts are those of the text, a node that has arrived at a barrier does nothing until it departs.
 pub fn a_run_that_follows_the_text_waits_at_barriers()
-    ensures { (program : Program) (nodes : ℕ) (run : List Act) → FollowsText program nodes run → WaitsAtBarriers run }
+    ensures { (program : Program) (nodes : ℕ) (run : List Act) → FollowsText program nodes run
+        → WaitsAtBarriers run }
 {}

@@ -53,7 +53,8 @@ impl Barrier {
 
     /// Returns the manager of barriers, if this node has it.
     pub fn manager(&self) -> Option<&Manager>
-        ensures { MatchOption result (self.now.manager ≡ None) (λ manager. self.now.manager ≡ Some manager.now) }
+        ensures { MatchOption result (self.now.manager ≡ None)
+            (λ manager. self.now.manager ≡ Some manager.now) }
     {
         match &self.manager {
             Some(manager) => Some(manager),
@@ -100,7 +101,8 @@ impl Barrier {
     pub fn accepts(&self, from: u8, episode: u32) -> bool
         requires { IfSome self.now.manager (λ manager. from < length manager.last) }
         ensures { (arrival : ArrivalRecord) → arrival.episode ≡ episode
-            → result ≡ unwrap_or (option_map is_accepted (arrive_step self.now from arrival)) false }
+            → result ≡ unwrap_or (option_map is_accepted (arrive_step self.now from arrival))
+            false }
     {
         match &self.manager {
             Some(manager) => manager.accepts(from, episode),
@@ -111,7 +113,8 @@ impl Barrier {
     /// Returns whether the manager is here and would accept a node's Clean for this episode.
     pub fn accepts_clean(&self, from: u8, episode: u32) -> bool
         requires { IfSome self.now.manager (λ manager. from < length manager.last) }
-        ensures { result ≡ unwrap_or (option_map is_clean (clean_step self.now from episode)) false }
+        ensures { result ≡ unwrap_or (option_map is_clean (clean_step self.now from episode))
+            false }
     {
         match &self.manager {
             Some(manager) => manager.accepts_clean(from, episode),
@@ -126,13 +129,17 @@ impl Barrier {
         from: u8,
         arrival: Arrival,
     ) -> Result<Option<Departures>, AllocError>
-        requires accepted { IsTrue (unwrap_or (option_map is_accepted (arrive_step self.old from arrival)) false) }
-        requires own { IfSome self.old.manager (λ manager. (from < length manager.last) × IsArrival (length manager.last) from arrival) }
+        requires accepted { IsTrue (unwrap_or (option_map is_accepted
+            (arrive_step self.old from arrival)) false) }
+        requires own { IfSome self.old.manager (λ manager. (from < length manager.last)
+            × IsArrival (length manager.last) from arrival) }
         requires begun { 1 ≤ arrival.episode }
-        ensures taken { IfOk result (λ answer. arrival_taken self.old (arrive_step self.old from arrival) ≡ Some (answer, self.new)) }
+        ensures taken { IfOk result (λ answer. arrival_taken self.old
+            (arrive_step self.old from arrival) ≡ Some (answer, self.new)) }
         ensures same { SameBarrier self.old self.new }
         ensures unchanged { OnErr result (self.new ≡ self.old) }
-        ensures departures { (nodes : ℕ) → IsOfNodes nodes self.old → IfOk result (λ answer. IfSome answer (AreDepartures nodes)) }
+        ensures departures { (nodes : ℕ) → IsOfNodes nodes self.old
+            → IfOk result (λ answer. IfSome answer (AreDepartures nodes)) }
     {
         let Some(manager) = &mut self.manager else {
             unreachable!()
@@ -147,9 +154,11 @@ impl Barrier {
     /// Takes a node's Clean at the manager, which must be here and accept it. The last Clean returns the episode for
     /// which all nodes may discard.
     pub fn take_clean(&mut self, from: u8, episode: u32) -> Option<u32>
-        requires accepted { IsTrue (unwrap_or (option_map is_clean (clean_step self.old from episode)) false) }
+        requires accepted { IsTrue (unwrap_or (option_map is_clean
+            (clean_step self.old from episode)) false) }
         requires from { IfSome self.old.manager (λ manager. from < length manager.last) }
-        ensures taken { clean_taken self.old (clean_step self.old from episode) ≡ Some (result, self.new) }
+        ensures taken { clean_taken self.old (clean_step self.old from episode)
+            ≡ Some (result, self.new) }
         ensures same { SameBarrier self.old self.new }
     {
         let Some(manager) = &mut self.manager else {

@@ -138,7 +138,8 @@ impl Clock {
         requires lock { lock < length self.old.held.locks }
         requires held { IsTrue (is_held (lock_at self.old.held lock)) }
         ensures answer { result ≡ pass_of (released self.old.held lock self.old.time) }
-        ensures clock { self.new ≡ with_held (held_after self.old.held lock (released self.old.held lock self.old.time)) self.old }
+        ensures clock { self.new ≡ with_held (held_after self.old.held lock
+            (released self.old.held lock self.old.time)) self.old }
         ensures same { SameClock self.old self.new }
         ensures pass { IfSome result (IsPass self.old.held.me (length self.old.time)) }
     {
@@ -162,7 +163,8 @@ impl Clock {
         requires counted { length time ≡ length self.old.time }
         requires taken { IsTrue (is_taken (forwarded self.old.held lock asker time)) }
         ensures answer { result ≡ pass_of (forwarded self.old.held lock asker time) }
-        ensures clock { self.new ≡ with_held (held_after self.old.held lock (forwarded self.old.held lock asker time)) self.old }
+        ensures clock { self.new ≡ with_held (held_after self.old.held lock
+            (forwarded self.old.held lock asker time)) self.old }
         ensures same { SameClock self.old self.new }
         ensures pass { IfSome result (IsPass self.old.held.me (length self.old.time)) }
     {
@@ -176,7 +178,8 @@ impl Clock {
     pub fn granted(&mut self, lock: u8)
         requires lock { lock < length self.old.held.locks }
         requires awaited { IsTrue (is_awaited (lock_at self.old.held lock)) }
-        ensures clock { self.new ≡ with_held (held_after self.old.held lock (granted self.old.held lock)) self.old }
+        ensures clock { self.new ≡ with_held (held_after self.old.held lock
+            (granted self.old.held lock)) self.old }
         ensures same { SameClock self.old self.new }
     {
         let Ok(()) = self.held.granted(lock) else {
@@ -191,7 +194,8 @@ impl Clock {
         requires asker { asker < length self.old.time }
         requires managed { manager_of self.old.managed.nodes lock ≡ self.old.managed.me }
         ensures answer { request_answer (requested self.old.managed lock asker) ≡ Ok result }
-        ensures clock { self.new ≡ with_managed (managed_after self.old.managed (requested self.old.managed lock asker)) self.old }
+        ensures clock { self.new ≡ with_managed (managed_after self.old.managed
+            (requested self.old.managed lock asker)) self.old }
         ensures same { SameClock self.old self.new }
         ensures to { result < length self.old.time }
     {

@@ -39,7 +39,8 @@ impl<T: Drop> From<AllocFailed<T>> for EventsFault {
 pub fn events_of(alloc: Global, text: &[u8]) -> Result<Vec<Event>, EventsFault>
     ensures ok { IfOk result (λ events. ReadsEvents text.now (Ok events.items)) }
     ensures err { IfErr result (λ fault. ReadsEvents text.now (Err fault)) }
-    ensures memory { IfErr result (λ fault. fault ≡ NoMemory → (length text.now ≤ most_events_bytes) × NamesSome (lines_of text.now)) }
+    ensures memory { IfErr result (λ fault. fault ≡ NoMemory
+        → (length text.now ≤ most_events_bytes) × NamesSome (lines_of text.now)) }
 {
     if text.len() > MOST_BYTES {
         return Err(EventsFault::BadEvent(1));
@@ -60,7 +61,8 @@ pub fn events_of(alloc: Global, text: &[u8]) -> Result<Vec<Event>, EventsFault>
 }
 
 fn event_on(line: &[u8]) -> Option<Event>
-    ensures { MatchOption result ((event : Event) → ¬ NamesEvent line.now event) (λ event. NamesEvent line.now event) }
+    ensures { MatchOption result ((event : Event) → ¬ NamesEvent line.now event)
+        (λ event. NamesEvent line.now event) }
 {
     if let Some(digits) = line.strip_prefix(b"run ") {
         return Some(Event::Run(place_in(digits)?));
@@ -73,7 +75,8 @@ fn event_on(line: &[u8]) -> Option<Event>
 }
 
 fn place_in(digits: &[u8]) -> Option<u32>
-    ensures { MatchOption result ((place : ℕ) → ¬ IsNumber digits.now 4294967295 place) (λ place. IsNumber digits.now 4294967295 place) }
+    ensures { MatchOption result ((place : ℕ) → ¬ IsNumber digits.now 4294967295 place)
+        (λ place. IsNumber digits.now 4294967295 place) }
 {
     Some(read_number(digits, GREATEST_PLACE)? as u32)
 }

@@ -9,7 +9,8 @@ ghost use Rattle.lrc_events.specs.Writing.{AreEvents, events_text};
 
 /// A reader gives back the events of the text that was written for them, if that text is not too long to be read.
 pub fn written_events_are_read()
-    ensures { (events : List Event) → AreEvents events → length (events_text events) ≤ most_events_bytes
+    ensures { (events : List Event) → AreEvents events
+        → length (events_text events) ≤ most_events_bytes
         → ReadsEvents (events_text events) (Ok events) }
 {}
 
@@ -23,7 +24,8 @@ pub fn written_events_are_read_as_no_others()
 
 /// Lines name at most one list of events.
 pub fn names_one()
-    ensures { (lines : List (List ℕ)) (events others : List Event) → NameAll lines events → NameAll lines others
+    ensures { (lines : List (List ℕ)) (events others : List Event) → NameAll lines events
+        → NameAll lines others
         → events ≡ others }
 {}
 
@@ -32,7 +34,8 @@ pub fn names_one()
 pub fn texts_of_events_have_one_answer()
     ensures events { (text : List ℕ) (events others : List Event) → ReadsEvents text (Ok events)
         → ReadsEvents text (Ok others) → events ≡ others }
-    ensures never_both { (text : List ℕ) (events : List Event) (line : ℕ) → ReadsEvents text (Ok events)
+    ensures never_both { (text : List ℕ) (events : List Event) (line : ℕ)
+        → ReadsEvents text (Ok events)
         → ReadsEvents text (Err (BadEvent line)) → ⊥ }
     ensures line { (text : List ℕ) (line other : ℕ) → ReadsEvents text (Err (BadEvent line))
         → ReadsEvents text (Err (BadEvent other)) → line ≡ other }

@@ -23,7 +23,8 @@ pub fn plain_run(
 ) -> Result<Option<Vec<Act>>, AllocError>
     requires some_nodes { 1 ≤ nodes }
     requires few_nodes { nodes ≤ 16 }
-    ensures { IfOk result (λ run. option_map (λ acts. acts.items) run ≡ plain program.now nodes order.now) }
+    ensures { IfOk result (λ run. option_map (λ acts. acts.items) run
+        ≡ plain program.now nodes order.now) }
 {
     let code = Code::new(alloc, program)?;
     let (flat, place) = Flat::of(&code, nodes);

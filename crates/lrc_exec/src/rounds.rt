@@ -30,7 +30,8 @@ impl Pace {
         requires state { IsStateOf flat.now self.old.state }
         requires node { node < vec_len self.old.left }
         requires room { slice_index self.old.state.arrivals.items node < 2 ^ 64 - 1 }
-        ensures made { MakesTurn (paced_of flat.now self.old) (paced_of flat.now self.new) node result }
+        ensures made { MakesTurn (paced_of flat.now self.old)
+            (paced_of flat.now self.new) node result }
         ensures state { IsStateOf flat.now self.new.state }
     {
         let step = self.state.next_step(flat, node)?;
@@ -50,7 +51,8 @@ impl Pace {
         requires few_nodes { vec_len self.old.left ≤ 16 }
         requires room { (k : ℕ) → slice_index self.old.state.arrivals.items k ≤ vec_len acts.old }
         ensures made { IfOk result (λ _.
-            MakesRound (vec_len self.old.left) (paced_of flat.now self.old) (paced_of flat.now self.new) acts.old.items acts.new.items) }
+            MakesRound (vec_len self.old.left) (paced_of flat.now self.old)
+            (paced_of flat.now self.new) acts.old.items acts.new.items) }
         ensures more { IfOk result (λ more. IsTrue more ↔ (vec_len acts.old < vec_len acts.new)) }
         ensures state { OnOk result (IsStateOf flat.now self.new.state) }
     {

@@ -71,7 +71,8 @@ impl State {
     pub fn next_deed(&self, flat: &Flat, node: usize) -> Option<Deed>
         requires flat { IsFlat flat.now }
         requires state { IsStateOf flat.now self.now }
-        ensures { result ≡ option_map (λ step. step.0) (plain_step (plain_at flat.now self.now) node) }
+        ensures { result ≡ option_map (λ step. step.0)
+            (plain_step (plain_at flat.now self.now) node) }
     {
         let step = self.next_step(flat, node)?;
         Some(step.deed)
@@ -81,9 +82,11 @@ impl State {
     pub fn make(&mut self, flat: &Flat, node: usize, deed: Deed)
         requires flat { IsFlat flat.now }
         requires state { IsStateOf flat.now self.old }
-        requires can { option_map (λ step. step.0) (plain_step (plain_at flat.now self.old) node) ≡ Some deed }
+        requires can { option_map (λ step. step.0) (plain_step (plain_at flat.now self.old) node)
+            ≡ Some deed }
         requires room { slice_index self.old.arrivals.items node < 2 ^ 64 - 1 }
-        ensures made { plain_step (plain_at flat.now self.old) node ≡ Some (deed, plain_at flat.now self.new) }
+        ensures made { plain_step (plain_at flat.now self.old) node
+            ≡ Some (deed, plain_at flat.now self.new) }
         ensures moved { HasMoved self.old node (place_then flat.now deed) self.new }
         ensures state { IsStateOf flat.now self.new }
     {
@@ -95,8 +98,10 @@ impl State {
     pub(crate) fn next_step(&self, flat: &Flat, node: usize) -> Option<Step>
         requires flat { IsFlat flat.now }
         requires state { IsStateOf flat.now self.now }
-        ensures deed { option_map (λ step. step.deed) result ≡ option_map (λ step. step.0) (plain_step (plain_at flat.now self.now) node) }
-        ensures number { IfSome result (λ step. CompletesAt (plain_at flat.now self.now) node step.number) }
+        ensures deed { option_map (λ step. step.deed) result
+            ≡ option_map (λ step. step.0) (plain_step (plain_at flat.now self.now) node) }
+        ensures number { IfSome result (λ step. CompletesAt
+            (plain_at flat.now self.now) node step.number) }
     {
         let spot = self.spots.get(node)?;
         if spot.stopped {
@@ -118,10 +123,12 @@ impl State {
     pub(crate) fn take(&mut self, flat: &Flat, node: usize, step: Step)
         requires flat { IsFlat flat.now }
         requires state { IsStateOf flat.now self.old }
-        requires can { option_map (λ step. step.0) (plain_step (plain_at flat.now self.old) node) ≡ Some step.deed }
+        requires can { option_map (λ step. step.0) (plain_step (plain_at flat.now self.old) node)
+            ≡ Some step.deed }
         requires number { CompletesAt (plain_at flat.now self.old) node step.number }
         requires room { slice_index self.old.arrivals.items node < 2 ^ 64 - 1 }
-        ensures made { plain_step (plain_at flat.now self.old) node ≡ Some (step.deed, plain_at flat.now self.new) }
+        ensures made { plain_step (plain_at flat.now self.old) node
+            ≡ Some (step.deed, plain_at flat.now self.new) }
         ensures moved { HasMoved self.old node (place_then flat.now step.deed) self.new }
         ensures state { IsStateOf flat.now self.new }
     {
@@ -171,8 +178,10 @@ impl State {
         requires resumable { IsSomeAnd (thread_in (plain_at flat.now self.old) node) IsResumable }
         requires number { CompletesAt (plain_at flat.now self.old) node number }
         ensures gone { plain_at flat.now self.new
-            ≡ with_thread (plain_at flat.now self.old) node (option_map (resumed value arrived) (thread_in (plain_at flat.now self.old) node)) }
-        ensures moved { HasMoved self.old node (λ spot. place_after (thread_at flat.now spot) flat.now.code.now spot.place) self.new }
+            ≡ with_thread (plain_at flat.now self.old) node
+            (option_map (resumed value arrived) (thread_in (plain_at flat.now self.old) node)) }
+        ensures moved { HasMoved self.old node (λ spot.
+            place_after (thread_at flat.now spot) flat.now.code.now spot.place) self.new }
         ensures state { IsStateOf flat.now self.new }
     {
         let spot = &mut self.spots[node];
@@ -185,7 +194,8 @@ impl State {
         requires state { IsStateOf flat.now self.old }
         requires there { IsSome (thread_in (plain_at flat.now self.old) node) }
         ensures left { plain_at flat.now self.new
-            ≡ with_thread (plain_at flat.now self.old) node (option_map thread_departed (thread_in (plain_at flat.now self.old) node)) }
+            ≡ with_thread (plain_at flat.now self.old) node
+            (option_map thread_departed (thread_in (plain_at flat.now self.old) node)) }
         ensures moved { HasMoved self.old node (λ spot. spot.place) self.new }
         ensures state { IsStateOf flat.now self.new }
     {
@@ -196,7 +206,8 @@ impl State {
     fn stop(&mut self, flat: &Flat, node: usize)
         requires state { IsStateOf flat.now self.old }
         requires there { IsSome (thread_in (plain_at flat.now self.old) node) }
-        ensures ended { plain_at flat.now self.new ≡ with_thread (plain_at flat.now self.old) node None }
+        ensures ended { plain_at flat.now self.new
+            ≡ with_thread (plain_at flat.now self.old) node None }
         ensures moved { HasMoved self.old node (λ _. 0) self.new }
         ensures state { IsStateOf flat.now self.new }
     {
@@ -208,7 +219,8 @@ impl State {
     fn depart(&self, flat: &Flat, node: usize) -> Option<Deed>
         requires state { IsStateOf flat.now self.now }
         requires within { node < length self.now.spots.items }
-        ensures { result ≡ (if all_arrived (plain_at flat.now self.now) node then Some Deed.Depart else None) }
+        ensures { result ≡ (if all_arrived
+            (plain_at flat.now self.now) node then Some Deed.Depart else None) }
     {
         if all_at_least(&self.arrivals, self.arrivals[node]) {
             Some(Deed::Depart)

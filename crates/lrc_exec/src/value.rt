@@ -78,7 +78,8 @@ fn combine(
 ) -> Option<u64>
     requires left { names_in_expression (expression_of left.now) ≤ 32 }
     requires right { names_in_expression (expression_of right.now) ≤ 32 }
-    ensures { result ≡ combined operator (value_of me nodes privates.now left.now) (value_of me nodes privates.now right.now) }
+    ensures { result ≡ combined operator (value_of me nodes privates.now left.now)
+        (value_of me nodes privates.now right.now) }
 {
     let Some(x) = leaf_value(left, privates, me, nodes) else {
         return combine_deep(left, operator, right, privates, me, nodes);
@@ -102,7 +103,8 @@ fn combine_deep(
 ) -> Option<u64>
     requires left { names_in_expression (expression_of left.now) ≤ 32 }
     requires right { names_in_expression (expression_of right.now) ≤ 32 }
-    ensures { result ≡ combined operator (value_of me nodes privates.now left.now) (value_of me nodes privates.now right.now) }
+    ensures { result ≡ combined operator (value_of me nodes privates.now left.now)
+        (value_of me nodes privates.now right.now) }
 {
     let x = compute(left, privates, me, nodes)?;
     let y = compute(right, privates, me, nodes)?;

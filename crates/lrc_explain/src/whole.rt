@@ -62,7 +62,8 @@ fn nodes_part(
     acts: &[Act],
     stands: &[Stand],
 ) -> Result<Vec<u8>, AllocError>
-    ensures { IfOk result (λ part. part.items ≡ fates_text (map label_seen labels.now) acts.now stands.now) }
+    ensures { IfOk result (λ part. part.items
+        ≡ fates_text (map label_seen labels.now) acts.now stands.now) }
 {
     let mut text = Vec::new(alloc);
     for node in 0..stands.len() {
@@ -113,7 +114,9 @@ pub fn explain(
 ) -> Result<Vec<Vec<u8>>, AllocError>
     requires { All (λ act. act.node < NODES) acts.now }
     ensures { IfOk result (λ parts. (pairs : List PairRecord) × AreFirstPairs acts.now pairs
-        × (whole_text parts.items ≡ explain_text (map label_seen labels.now) code.now nodes lines.now steps acts.now pairs first_race)) }
+        × (whole_text parts.items
+        ≡ explain_text (map label_seen labels.now) code.now nodes lines.now steps acts.now pairs
+        first_race)) }
 {
     let followed = follow_acts(alloc, code, lines, nodes, acts)?;
     let stands = stands_of(alloc, &followed, nodes, Some(steps), acts)?;

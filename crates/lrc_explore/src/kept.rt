@@ -81,7 +81,8 @@ impl States {
         ensures widens { OnOk result (Widens self.old self.new) }
         ensures distinct { OnOk result (AreDistinct self.new) }
         ensures there { IfOk result (λ added. IsAt self.new added.0 state) }
-        ensures added { IfOk result (λ added. IsAddedAt (size self.old) (size self.new) added.0 added.1) }
+        ensures added { IfOk result (λ added. IsAddedAt (size self.old)
+            (size self.new) added.0 added.1) }
     {
         let spots = places_of(alloc, &mut self.spots, &state.spots)?;
         let (shared, _new) = self.shared.insert_full(Shared {

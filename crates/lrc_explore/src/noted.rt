@@ -61,12 +61,16 @@ impl Noted {
         requires flat { IsFlat flat.now }
         requires state { IsStateOf flat.now self.now.state }
         requires node { node < flat.now.nodes }
-        requires can { option_map (λ step. step.0) (plain_step (plain_at flat.now self.now.state) node) ≡ Some deed }
+        requires can { option_map (λ step. step.0)
+            (plain_step (plain_at flat.now self.now.state) node) ≡ Some deed }
         requires room { slice_index self.now.state.arrivals.items node < 2 ^ 64 - 1 }
-        ensures made { IfOk result (λ after. plain_step (plain_at flat.now self.now.state) node ≡ Some (deed, plain_at flat.now after.state)) }
-        ensures moved { IfOk result (λ after. HasMoved self.now.state node (place_then flat.now deed) after.state) }
+        ensures made { IfOk result (λ after. plain_step (plain_at flat.now self.now.state) node
+            ≡ Some (deed, plain_at flat.now after.state)) }
+        ensures moved { IfOk result (λ after. HasMoved self.now.state node
+            (place_then flat.now deed) after.state) }
         ensures state { IfOk result (λ after. IsStateOf flat.now after.state) }
-        ensures notes { IfOk result (λ after. after.notes.items ≡ notes_with self.now.notes.items (act_of node deed)) }
+        ensures notes { IfOk result (λ after. after.notes.items
+            ≡ notes_with self.now.notes.items (act_of node deed)) }
     {
         let _nodes = flat.nodes;
         let mut after = self.copy(alloc)?;
@@ -123,7 +127,8 @@ impl NotedStates {
         ensures widens { OnOk result (WidensNoted self.old self.new) }
         ensures distinct { OnOk result (AreNotedDistinct self.new) }
         ensures there { IfOk result (λ added. IsNotedAt self.new added.0 noted) }
-        ensures added { IfOk result (λ added. IsAddedAt (noted_count self.old) (noted_count self.new) added.0 added.1) }
+        ensures added { IfOk result (λ added. IsAddedAt (noted_count self.old)
+            (noted_count self.new) added.0 added.1) }
     {
         let (place, _new) = self.states.add(alloc, noted.state)?;
         let (way, added) = self.ways.insert_full(Way {

@@ -53,7 +53,8 @@ fn partner(flat: &Flat, state: &State, p: usize, word: u32, writes: bool) -> Opt
     requires flat { IsFlat flat.now }
     requires state { IsStateOf flat.now state.now }
     requires node { p < length state.now.spots.items }
-    ensures { MatchOption result (HasNoPartner (plain_at flat.now state.now) p (length state.now.spots.items) word writes)
+    ensures { MatchOption result (HasNoPartner (plain_at flat.now state.now) p
+        (length state.now.spots.items) word writes)
         (λ q. (p < q) × IsPartner (plain_at flat.now state.now) q word writes
         × HasNoPartner (plain_at flat.now state.now) p q word writes) }
 {

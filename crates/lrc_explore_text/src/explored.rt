@@ -37,10 +37,14 @@ pub fn explored(
     outcomes: bool,
 ) -> Result<Printout, ExploreFault>
     requires { AreNodes nodes }
-    ensures ok { IfOk result (λ printout. Explores (map label_seen labels.now) program.now nodes lines.now outcomes (whole_text printout.parts.items) printout.status) }
-    ensures fits { IfOk result (λ printout. MeetsFew program.now nodes most outcomes printout.status) }
+    ensures ok { IfOk result (λ printout.
+        Explores (map label_seen labels.now) program.now nodes lines.now outcomes
+        (whole_text printout.parts.items) printout.status) }
+    ensures fits { IfOk result (λ printout.
+        MeetsFew program.now nodes most outcomes printout.status) }
     ensures nodes { IfErr result (λ fault. fault ≢ ExploreFault.BadNodes) }
-    ensures too_many { IfErr result (λ fault. fault ≡ ExploreFault.TooMany → MeetsTooMany program.now nodes most outcomes) }
+    ensures too_many { IfErr result (λ fault. fault ≡ ExploreFault.TooMany
+        → MeetsTooMany program.now nodes most outcomes) }
 {
     if outcomes {
         outcomes_told(alloc, program, nodes, most)

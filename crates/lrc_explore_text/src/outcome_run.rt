@@ -34,10 +34,12 @@ pub fn outcome_run_told(
 ) -> Result<Option<Vec<u8>>, ExploreFault>
     requires nodes { AreNodes nodes }
     requires number { 1 ≤ number }
-    ensures told { IfOk result (λ told. TellsRunOfNumber program.now nodes lines.now number (option_map (λ text. text.items) told)) }
+    ensures told { IfOk result (λ told. TellsRunOfNumber program.now nodes lines.now number
+        (option_map (λ text. text.items) told)) }
     ensures fits { IfOk result (λ _. FitsSettledNoted program.now nodes most) }
     ensures nodes { IfErr result (λ fault. fault ≢ ExploreFault.BadNodes) }
-    ensures too_many { IfErr result (λ fault. fault ≡ ExploreFault.TooMany → MetTooMany program.now nodes most) }
+    ensures too_many { IfErr result (λ fault. fault ≡ ExploreFault.TooMany
+        → MetTooMany program.now nodes most) }
 {
     let count = nodes as u8;
     let run = outcome_run(alloc, program, count, most, number)?;
@@ -59,7 +61,8 @@ fn outcome_run(
     number: u64,
 ) -> Result<Option<Vec<Act>>, ExploreFault>
     requires number { 1 ≤ number }
-    ensures run { IfOk result (λ run. IsRunOfNumber program.now nodes number (option_map (λ acts. acts.items) run)) }
+    ensures run { IfOk result (λ run. IsRunOfNumber program.now nodes number
+        (option_map (λ acts. acts.items) run)) }
     ensures fits { IfOk result (λ _. FitsSettledNoted program.now nodes most) }
     ensures faults { IfErr result (IsFaultOf program.now nodes most) }
 {
@@ -76,7 +79,8 @@ fn run_in(
     number: u64,
 ) -> Result<Option<Vec<Act>>, ExploreFault>
     requires number { 1 ≤ number }
-    ensures run { IfOk result (λ run. IsRunOfNumber code.now nodes number (option_map (λ acts. acts.items) run)) }
+    ensures run { IfOk result (λ run. IsRunOfNumber code.now nodes number
+        (option_map (λ acts. acts.items) run)) }
     ensures fits { IfOk result (λ _. FitsSettledNoted code.now nodes most) }
     ensures faults { IfErr result (IsFaultOf code.now nodes most) }
 {
@@ -89,8 +93,10 @@ fn run_of(alloc: Global, task: &Task<'_>, number: u64) -> Result<Option<Vec<Act>
     requires task { IsTask task.now }
     requires noting { task.now.noting ≡ true }
     requires number { 1 ≤ number }
-    ensures run { IfOk result (λ run. IsRunOfNumber task.now.program.now task.now.flat.nodes number (option_map (λ acts. acts.items) run)) }
-    ensures fits { IfOk result (λ _. FitsSettledNoted task.now.program.now task.now.flat.nodes task.now.most) }
+    ensures run { IfOk result (λ run. IsRunOfNumber task.now.program.now task.now.flat.nodes number
+        (option_map (λ acts. acts.items) run)) }
+    ensures fits { IfOk result (λ _. FitsSettledNoted task.now.program.now task.now.flat.nodes
+        task.now.most) }
     ensures faults { IfErr result (IsFault task.now) }
 {
     let ended = all_ended(alloc, task)?;
@@ -151,7 +157,8 @@ fn place_of_line(
     outcomes: &[Outcome],
     line: &[u8],
 ) -> Result<usize, AllocError>
-    requires { Contains (map (λ outcome. outcome_line nodes outcome.notes.items) outcomes.now) line.now }
+    requires { Contains (map (λ outcome. outcome_line nodes outcome.notes.items) outcomes.now)
+        line.now }
     ensures { IfOk result (IsLineAt nodes outcomes.now line.now) }
 {
     for place in 0..outcomes.len() {
@@ -165,7 +172,8 @@ fn place_of_line(
 
 // Whether an outcome has this line.
 fn has_line(alloc: Global, nodes: u8, outcome: &Outcome, line: &[u8]) -> Result<bool, AllocError>
-    ensures { IfOk result (λ has. IsTrue has ↔ (outcome_line nodes outcome.now.notes.items ≡ line.now)) }
+    ensures { IfOk result (λ has. IsTrue has
+        ↔ (outcome_line nodes outcome.now.notes.items ≡ line.now)) }
 {
     let own = outcome_line(alloc, nodes, &outcome.notes)?;
     Ok(is_same(&own, line))

@@ -14,7 +14,8 @@ use std::collections::BTreeMap;
 /// pass over the acts, and keeps for each word where each node accessed it last. It fails only if memory runs out.
 pub fn first_race(alloc: Global, acts: &[Act]) -> Result<Option<usize>, AllocError>
     requires { All (λ act. act.node < NODES) acts.now }
-    ensures { IfOk result (λ first. MatchOption first (IsRaceFree acts.now) (IsFirstRace acts.now)) }
+    ensures { IfOk result (λ first. MatchOption first (IsRaceFree acts.now)
+        (IsFirstRace acts.now)) }
 {
     let mut past = Past::new(alloc)?;
     let mut words = BTreeMap::new(alloc);

@@ -35,7 +35,8 @@ fn is_alike(entries: &[Entry], intervals: &[u64], at: usize) -> bool
     requires at { at < length entries.now }
     requires within { All (λ e. e.position < length intervals.now) entries.now }
     ensures { MatchBool result ((e : Entry) → ¬ IsFirstAt entries.now intervals.now at e)
-        ((e : Entry) → slice_get entries.now at ≡ Some e → IsFirstAt entries.now intervals.now at e) }
+        ((e : Entry) → slice_get entries.now at ≡ Some e
+        → IsFirstAt entries.now intervals.now at e) }
 {
     if at == 0 {
         return false;

@@ -31,7 +31,8 @@ fn last_written(memory: &BTreeMap<u32, u64>, word: u32) -> u64
 /// Returns the first read of a run that does not give the value of the last write before it, or none if every read
 /// does. It takes one pass over the acts. It fails only if memory runs out.
 pub fn first_out_of_order(alloc: Global, acts: &[Act]) -> Result<Option<OutOfOrder>, AllocError>
-    ensures { IfOk result (λ first. MatchOption first (ReadsLastWritten acts.now) (IsFirstOutOfOrder acts.now)) }
+    ensures { IfOk result (λ first. MatchOption first (ReadsLastWritten acts.now)
+        (IsFirstOutOfOrder acts.now)) }
 {
     let mut memory = BTreeMap::new(alloc);
     for position in 0..acts.len() {

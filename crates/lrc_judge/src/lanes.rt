@@ -63,7 +63,8 @@ fn first_beyond(entries: &[Entry], order: &Order, lane: Lane, position: usize) -
 /// Returns the last position of a lane whose act happens before the one at this position, or none if there is none.
 pub fn last_before(entries: &[Entry], order: &Order, lane: Lane, position: usize) -> Option<usize>
     requires { AreSearchable order.now entries.now }
-    ensures { MatchOption result ((k : ℕ) → Contains entries.now (entry lane k) → ¬ IsTrue (is_before order.now k position))
+    ensures { MatchOption result ((k : ℕ) → Contains entries.now (entry lane k)
+        → ¬ IsTrue (is_before order.now k position))
         (IsLastOfLane entries.now order.now lane position) }
 {
     let beyond = first_beyond(entries, order, lane, position);
@@ -86,7 +87,8 @@ fn add_from(
     beyond: usize,
 ) -> Result<(), AllocError>
     ensures { OnOk result ((order : Order) → AreSearchable order entries.now
-        → IsPartitionPoint (λ e. is_behind order lane position e ≡ true) (λ e. is_behind order lane position e ≡ false) entries.now beyond
+        → IsPartitionPoint (λ e. is_behind order lane position e ≡ true)
+        (λ e. is_behind order lane position e ≡ false) entries.now beyond
         → Adds pairs.old.items pairs.new.items (IsOfLane entries.now order lane position)) }
 {
     for at in beyond..entries.len() {
@@ -112,7 +114,8 @@ pub fn add_unordered(
     position: usize,
 ) -> Result<(), AllocError>
     requires { AreSearchable order.now entries.now }
-    ensures { OnOk result (Adds pairs.old.items pairs.new.items (IsOfLane entries.now order.now lane position)) }
+    ensures { OnOk result (Adds pairs.old.items pairs.new.items
+        (IsOfLane entries.now order.now lane position)) }
 {
     let beyond = first_beyond(entries, order, lane, position);
     add_from(pairs, entries, lane, position, beyond)?;

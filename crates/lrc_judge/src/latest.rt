@@ -22,7 +22,8 @@ pub fn later_of(first: Option<usize>, second: Option<usize>) -> Option<usize>
 /// Returns the value written at the position.
 pub fn value_at(acts: &[Act], position: usize) -> u64
     requires { position < length acts.now }
-    ensures { (node word value : ℕ) → Does acts.now position node (Write word value) → result ≡ value }
+    ensures { (node word value : ℕ) → Does acts.now position node (Write word value)
+        → result ≡ value }
 {
     match acts[position].deed {
         Deed::Write(_, value) => value,

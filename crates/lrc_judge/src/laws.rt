@@ -20,5 +20,6 @@ pub fn no_misread_is_lazy_reading()
 
 /// A run is well synchronized exactly if no position of it breaks well-synchronization.
 pub fn no_break_is_well_synchronized()
-    ensures { (nodes : ℕ) (run : List Act) → ((j : ℕ) → ¬ Breaks nodes run j) ↔ IsWellSynchronized nodes run }
+    ensures { (nodes : ℕ) (run : List Act) → ((j : ℕ) → ¬ Breaks nodes run j)
+        ↔ IsWellSynchronized nodes run }
 {}

@@ -47,7 +47,8 @@ pub fn add_crossing(
     among: &[Entry],
 ) -> Result<(), AllocError>
     requires { AreSearchable order.now among.now }
-    ensures { OnOk result (Adds pairs.old.items pairs.new.items (IsCrossing from.now among.now order.now)) }
+    ensures { OnOk result (Adds pairs.old.items pairs.new.items
+        (IsCrossing from.now among.now order.now)) }
 {
     for entry in from {
         add_of_others(pairs, order, *entry, among)?;
@@ -85,7 +86,8 @@ impl Conflicts {
         position: usize,
     ) -> Result<(), AllocError>
         requires searchable { AreSearchableConflicts self.now }
-        ensures { OnOk result (Adds pairs.old.items pairs.new.items (IsPairOfAct self.now act.node act.deed position)) }
+        ensures { OnOk result (Adds pairs.old.items pairs.new.items
+            (IsPairOfAct self.now act.node act.deed position)) }
     {
         let (word, among) = match act.deed {
             Deed::Read(word, _) => (word, self.writes.as_slice()),

@@ -92,7 +92,8 @@ fn add_names(
     requires earlier { All (λ pair. pair.earlier < length acts.now) pairs.now }
     requires later { All (λ pair. pair.later < length acts.now) pairs.now }
     requires long { length intervals.now ≡ length acts.now }
-    ensures { OnOk result (Adds races.old.items races.new.items (IsOfSome pairs.now (IsNameOf acts.now intervals.now))) }
+    ensures { OnOk result (Adds races.old.items races.new.items
+        (IsOfSome pairs.now (IsNameOf acts.now intervals.now))) }
 {
     for pair in pairs {
         let first = acts[pair.earlier];

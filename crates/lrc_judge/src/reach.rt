@@ -22,7 +22,8 @@ impl Reach {
 
     /// Returns the reach of both sets together.
     pub fn joined(self, other: Reach) -> Reach
-        ensures { (node : ℕ) → slice_index result.latest node ≡ max (slice_index self.latest node) (slice_index other.latest node) }
+        ensures { (node : ℕ) → slice_index result.latest node
+            ≡ max (slice_index self.latest node) (slice_index other.latest node) }
     {
         let mut latest = self.latest;
         for node in 0..NODES {

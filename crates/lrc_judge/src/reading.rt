@@ -78,7 +78,8 @@ impl Tally {
 fn tally_of(order: &Order, acts: &[Act], position: usize, word: u32) -> Tally
     requires order { IsOrderOf acts.now order.now }
     requires within { position < length acts.now }
-    ensures { (w : Bool) × IsTally acts.now position word 0 position w result.are_ordered result.last }
+    ensures { (w : Bool) × IsTally acts.now position word 0 position w result.are_ordered
+        result.last }
 {
     let mut tally = Tally {
         are_ordered: true,
@@ -105,7 +106,8 @@ fn add_written(
 ) -> Result<(), AllocError>
     requires order { IsOrderOf acts.now order.now }
     requires within { position < length acts.now }
-    ensures { OnOk result (Adds values.old.items values.new.items (IsSomeWrite acts.now position word)) }
+    ensures { OnOk result (Adds values.old.items values.new.items
+        (IsSomeWrite acts.now position word)) }
 {
     values.push(0)?;
     for earlier in 0..position {
@@ -152,7 +154,8 @@ fn flag_at(written: &Written, ordered: &[bool], acts: &[Act], position: usize) -
     requires flags { AreFlags acts.now position ordered.now }
     requires long { position ≤ length ordered.now }
     requires within { position < length acts.now }
-    ensures { (word value : ℕ) → IsDone acts.now position (Write word value) → IsTrue result ↔ AreOrdered acts.now position word }
+    ensures { (word value : ℕ) → IsDone acts.now position (Write word value) → IsTrue result
+        ↔ AreOrdered acts.now position word }
 {
     match acts[position].deed {
         Deed::Write(word, _) => written.are_ordered(ordered, word, position),
@@ -167,7 +170,8 @@ fn is_allowed(written: &Written, ordered: &[bool], acts: &[Act], position: usize
     requires flags { AreFlags acts.now position ordered.now }
     requires long { position ≤ length ordered.now }
     requires within { position < length acts.now }
-    ensures { MatchBool result ((word value : ℕ) → IsDone acts.now position (Read word value) → MayRead acts.now position word value)
+    ensures { MatchBool result ((word value : ℕ) → IsDone acts.now position (Read word value)
+        → MayRead acts.now position word value)
         (Misreads acts.now position) }
 {
     match acts[position].deed {
@@ -185,7 +189,8 @@ fn is_allowed(written: &Written, ordered: &[bool], acts: &[Act], position: usize
 /// nodes. It fails only if memory runs out.
 pub fn first_fault_of_reading(alloc: Global, acts: &[Act]) -> Result<Option<usize>, AllocError>
     requires { All (λ act. act.node < NODES) acts.now }
-    ensures { IfOk result (λ fault. MatchOption fault (ReadsLazily acts.now) (IsFirstMisread acts.now)) }
+    ensures { IfOk result (λ fault. MatchOption fault (ReadsLazily acts.now)
+        (IsFirstMisread acts.now)) }
 {
     let written = Written::of(alloc, acts)?;
     let mut ordered = Vec::new(alloc);

@@ -42,7 +42,8 @@ impl Standing {
         requires nodes { nodes ≤ NODES }
         requires acts { All (λ act. act.node < NODES) acts.now }
         requires within { position < length acts.now }
-        ensures { MatchBool result (¬ Breaks nodes acts.now position) (Breaks nodes acts.now position) }
+        ensures { MatchBool result (¬ Breaks nodes acts.now position)
+            (Breaks nodes acts.now position) }
     {
         match acts[position].deed {
             Deed::Acquire(lock) => self.holder[usize::from(lock)].is_none(),

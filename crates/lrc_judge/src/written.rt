@@ -59,7 +59,8 @@ impl Written {
     // Whether each write to the word that happens before the position is this one, or happens before it.
     fn leads(&self, word: u32, position: usize, latest: usize) -> bool
         requires { AreReady self.now }
-        ensures { (run : List Act) → IsWrittenOf run self.now → IsTrue result ↔ AllLead self.now word NODES position latest }
+        ensures { (run : List Act) → IsWrittenOf run self.now → IsTrue result
+            ↔ AllLead self.now word NODES position latest }
     {
         for node in 0..NODES {
             let lane = Lane {
@@ -81,7 +82,8 @@ impl Written {
     pub fn are_ordered(&self, ordered: &[bool], word: u32, position: usize) -> bool
         requires ready { AreReady self.now }
         requires long { position ≤ length ordered.now }
-        ensures { (run : List Act) → IsWrittenOf run self.now → All (λ act. act.node < NODES) run → AreFlags run position ordered.now
+        ensures { (run : List Act) → IsWrittenOf run self.now → All (λ act. act.node < NODES) run
+            → AreFlags run position ordered.now
             → IsTrue result ↔ AreOrdered run position word }
     {
         match self.latest(word, position) {

@@ -65,7 +65,8 @@ impl Knowledge {
 
     /// Returns the values that a node with this knowledge may read from a word. It fails if memory runs out.
     pub fn readable(&self, alloc: Global, word: usize, node: usize) -> Result<Vec<u64>, AllocError>
-        ensures { IfOk result (λ all. (value : ℕ) → (Contains all.items value ↔ Gives (word_of self.now word) node value)) }
+        ensures { IfOk result (λ all. (value : ℕ)
+            → (Contains all.items value ↔ Gives (word_of self.now word) node value)) }
     {
         let known = self.word(word);
         match last_of(known, node) {

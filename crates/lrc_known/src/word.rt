@@ -176,7 +176,8 @@ fn row_learned(
     knower: usize,
 ) -> Result<Vec<bool>, AllocError>
     requires { learner < 2 ^ 64 - 1 }
-    ensures { IfOk result (λ row. (z : ℕ) → slice_index_or row.items z false ≡ above_learned word.now learner teacher knower z) }
+    ensures { IfOk result (λ row. (z : ℕ)
+        → slice_index_or row.items z false ≡ above_learned word.now learner teacher knower z) }
 {
     let own = row_of(word, knower);
     let taught = row_of(word, teacher);
@@ -258,7 +259,9 @@ fn values_written(
     value: u64,
     knower: usize,
 ) -> Result<Vec<u64>, AllocError>
-    ensures { IfOk result (λ all. (v : ℕ) → (Contains all.items v ↔ (Contains (values_of word.now knower) v ⊎ ((knower ≡ writer) × (v ≡ value))))) }
+    ensures { IfOk result (λ all. (v : ℕ)
+        → (Contains all.items v ↔
+        (Contains (values_of word.now knower) v ⊎ ((knower ≡ writer) × (v ≡ value))))) }
 {
     if knower == writer {
         values_with(alloc, values_of(word, knower), value)
@@ -296,7 +299,8 @@ fn row_written(
     knower: usize,
 ) -> Result<Vec<bool>, AllocError>
     requires { writer < 2 ^ 64 - 1 }
-    ensures { IfOk result (λ row. (z : ℕ) → slice_index_or row.items z false ≡ above_written word.now writer knower z) }
+    ensures { IfOk result (λ row. (z : ℕ)
+        → slice_index_or row.items z false ≡ above_written word.now writer knower z) }
 {
     let own = row_of(word, knower);
     let width = past(own.len(), writer);
@@ -397,7 +401,8 @@ pub fn word_after(
 
 // The values of both.
 fn joined(alloc: Global, own: &[u64], more: &[u64]) -> Result<Vec<u64>, AllocError>
-    ensures { IfOk result (λ all. (v : ℕ) → (Contains all.items v ↔ (Contains own.now v ⊎ Contains more.now v))) }
+    ensures { IfOk result (λ all. (v : ℕ)
+        → (Contains all.items v ↔ (Contains own.now v ⊎ Contains more.now v))) }
 {
     let mut all = copied(alloc, own)?;
     for place in 0..more.len() {
@@ -408,7 +413,8 @@ fn joined(alloc: Global, own: &[u64], more: &[u64]) -> Result<Vec<u64>, AllocErr
 
 /// Returns a list of exactly these values and one more. It fails if memory runs out.
 pub fn values_with(alloc: Global, values: &[u64], value: u64) -> Result<Vec<u64>, AllocError>
-    ensures { IfOk result (λ all. (v : ℕ) → (Contains all.items v ↔ (Contains values.now v ⊎ (v ≡ value)))) }
+    ensures { IfOk result (λ all. (v : ℕ)
+        → (Contains all.items v ↔ (Contains values.now v ⊎ (v ≡ value)))) }
 {
     let mut all = copied(alloc, values)?;
     with_value(&mut all, value)?;
@@ -417,7 +423,8 @@ pub fn values_with(alloc: Global, values: &[u64], value: u64) -> Result<Vec<u64>
 
 // Puts a value before the first that is greater, if it is not there.
 fn with_value(values: &mut Vec<u64>, value: u64) -> Result<(), AllocError>
-    ensures { OnOk result ((v : ℕ) → (Contains values.new.items v ↔ (Contains values.old.items v ⊎ (v ≡ value)))) }
+    ensures { OnOk result ((v : ℕ) → (Contains values.new.items v
+        ↔ (Contains values.old.items v ⊎ (v ≡ value)))) }
 {
     for place in 0..values.len() {
         if values[place] == value {

@@ -18,7 +18,8 @@ pub enum Divider {
 
 /// Returns the pieces of a text between its dividers, in order. It fails only if memory runs out.
 pub fn cut(alloc: Global, divider: Divider, text: &[u8]) -> Result<Vec<&[u8]>, AllocError>
-    ensures { IfOk result (λ pieces. map (λ piece. piece.now) pieces.items ≡ cut (divides divider) text.now) }
+    ensures { IfOk result (λ pieces. map (λ piece. piece.now) pieces.items
+        ≡ cut (divides divider) text.now) }
 {
     let mut pieces = Vec::new(alloc);
     let mut rest = text;
@@ -33,7 +34,8 @@ pub fn cut(alloc: Global, divider: Divider, text: &[u8]) -> Result<Vec<&[u8]>, A
 // What stands in front of the first divider of a text, and what stands behind it.
 fn first_piece(divider: Divider, text: &[u8]) -> Option<(&[u8], &[u8])>
     ensures { MatchOption result (cut (divides divider) text.now ≡ text.now ∷ [])
-        (λ found. (cut (divides divider) text.now ≡ found.0.now ∷ cut (divides divider) found.1.now) × (length found.1.now < length text.now)) }
+        (λ found. (cut (divides divider) text.now ≡ found.0.now ∷ cut (divides divider) found.1.now)
+        × (length found.1.now < length text.now)) }
 {
     match first_divider(divider, text) {
         Some(at) => Some((&text[..at], &text[at + 1..])),

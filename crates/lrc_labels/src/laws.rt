@@ -9,7 +9,8 @@ ghost use Rattle.lrc_labels.specs.Reading.{labels_of};
 
 /// Exactly the words of the language that are no keywords are names.
 pub fn names_are_words_that_are_no_keywords()
-    ensures { (bytes : List ℕ) → IsTrue (is_name bytes) ↔ (IsWord bytes bytes [] × (¬ IsKeyword bytes)) }
+    ensures { (bytes : List ℕ) → IsTrue (is_name bytes)
+        ↔ (IsWord bytes bytes [] × (¬ IsKeyword bytes)) }
 {}
 
 /// A numeral is one or more decimal digits, and nothing else.
@@ -19,5 +20,6 @@ pub fn numerals_are_digits()
 
 /// No two labels of a text share a word, a lock or a name. So each word and each lock has at most one label.
 pub fn no_two_labels_name_one_thing()
-    ensures { (words locks : ℕ) (lines : List (List ℕ)) → AllPairs AreApart (labels_of words locks lines) }
+    ensures { (words locks : ℕ) (lines : List (List ℕ))
+        → AllPairs AreApart (labels_of words locks lines) }
 {}

@@ -97,7 +97,8 @@ fn are_digits(bytes: &[u8]) -> bool
 /// Returns the number that decimal digits write, or none if it is not below `limit`.
 pub fn number_below(digits: &[u8], limit: u32) -> Option<u32>
     requires { is_numeral digits.now ≡ true }
-    ensures { result ≡ (if nat_lt (digits_value 10 digits.now) limit then Some (digits_value 10 digits.now) else None) }
+    ensures { result ≡ (if nat_lt (digits_value 10 digits.now) limit then Some
+        (digits_value 10 digits.now) else None) }
 {
     match read_number(digits, u64::from(limit)) {
         Some(number) => below(number, limit),

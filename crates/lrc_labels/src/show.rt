@@ -18,7 +18,8 @@ pub fn push_word_label(
     labels: &[Label<'_>],
     word: u32,
 ) -> Result<(), AllocError>
-    ensures ok { OnOk result (text.new.items ≡ text.old.items ++ word_label_text (map label_seen labels.now) word) }
+    ensures ok { OnOk result (text.new.items
+        ≡ text.old.items ++ word_label_text (map label_seen labels.now) word) }
     ensures err { OnErr result (BeginsWith text.new.items text.old.items) }
 {
     match label_of_word(labels, word) {
@@ -30,7 +31,8 @@ pub fn push_word_label(
 /// Appends ` (LABEL)` after the number of a lock, if one of the labels names the lock. It fails if memory runs out;
 /// then only part of it may have been appended.
 pub fn push_lock_label(text: &mut Vec<u8>, labels: &[Label<'_>], lock: u8) -> Result<(), AllocError>
-    ensures ok { OnOk result (text.new.items ≡ text.old.items ++ lock_label_text (map label_seen labels.now) lock) }
+    ensures ok { OnOk result (text.new.items
+        ≡ text.old.items ++ lock_label_text (map label_seen labels.now) lock) }
     ensures err { OnErr result (BeginsWith text.new.items text.old.items) }
 {
     match label_of_lock(labels, lock) {
@@ -47,7 +49,8 @@ pub fn push_numbered_word(
     name: &[u8],
     word: u32,
 ) -> Result<(), AllocError>
-    ensures ok { OnOk result (text.new.items ≡ text.old.items ++ numbered_word (map label_seen labels.now) name.now word) }
+    ensures ok { OnOk result (text.new.items
+        ≡ text.old.items ++ numbered_word (map label_seen labels.now) name.now word) }
     ensures err { OnErr result (BeginsWith text.new.items text.old.items) }
 {
     push_number(text, name, u64::from(word))?;
@@ -62,7 +65,8 @@ pub fn push_numbered_lock(
     name: &[u8],
     lock: u8,
 ) -> Result<(), AllocError>
-    ensures ok { OnOk result (text.new.items ≡ text.old.items ++ numbered_lock (map label_seen labels.now) name.now lock) }
+    ensures ok { OnOk result (text.new.items
+        ≡ text.old.items ++ numbered_lock (map label_seen labels.now) name.now lock) }
     ensures err { OnErr result (BeginsWith text.new.items text.old.items) }
 {
     push_number(text, name, u64::from(lock))?;
@@ -76,7 +80,8 @@ pub fn push_word_member(
     labels: &[Label<'_>],
     word: u32,
 ) -> Result<(), AllocError>
-    ensures { OnOk result (text.new.items ≡ text.old.items ++ word_label_member (map label_seen labels.now) word) }
+    ensures { OnOk result (text.new.items
+        ≡ text.old.items ++ word_label_member (map label_seen labels.now) word) }
 {
     match label_of_word(labels, word) {
         Some(label) => push_member_of_word(text, label, word),
@@ -91,7 +96,8 @@ pub fn push_lock_member(
     labels: &[Label<'_>],
     lock: u8,
 ) -> Result<(), AllocError>
-    ensures { OnOk result (text.new.items ≡ text.old.items ++ lock_label_member (map label_seen labels.now) lock) }
+    ensures { OnOk result (text.new.items
+        ≡ text.old.items ++ lock_label_member (map label_seen labels.now) lock) }
 {
     match label_of_lock(labels, lock) {
         Some(label) => push_member_of_lock(text, label),
@@ -101,7 +107,8 @@ pub fn push_lock_member(
 
 // The first of the labels that names a word.
 fn label_of_word<'t>(labels: &[Label<'t>], word: u32) -> Option<Label<'t>>
-    ensures { option_map label_seen result ≡ find (λ label. names_word label.target word) (map label_seen labels.now) }
+    ensures { option_map label_seen result
+        ≡ find (λ label. names_word label.target word) (map label_seen labels.now) }
 {
     labels
         .iter()
@@ -111,7 +118,8 @@ fn label_of_word<'t>(labels: &[Label<'t>], word: u32) -> Option<Label<'t>>
 
 // The first of the labels that names a lock.
 fn label_of_lock<'t>(labels: &[Label<'t>], lock: u8) -> Option<Label<'t>>
-    ensures { option_map label_seen result ≡ find (λ label. names_lock label.target lock) (map label_seen labels.now) }
+    ensures { option_map label_seen result
+        ≡ find (λ label. names_lock label.target lock) (map label_seen labels.now) }
 {
     labels
         .iter()
@@ -139,7 +147,8 @@ fn names_lock(target: Target, lock: u8) -> bool
 }
 
 fn push_word_text(text: &mut Vec<u8>, label: Label<'_>, word: u32) -> Result<(), AllocError>
-    ensures ok { OnOk result (text.new.items ≡ text.old.items ++ word_text word (label_seen label.entry)) }
+    ensures ok { OnOk result (text.new.items
+        ≡ text.old.items ++ word_text word (label_seen label.entry)) }
     ensures err { OnErr result (BeginsWith text.new.items text.old.items) }
 {
     text.extend_from_slice(b" (")?;
@@ -148,7 +157,8 @@ fn push_word_text(text: &mut Vec<u8>, label: Label<'_>, word: u32) -> Result<(),
 }
 
 fn push_member_of_word(text: &mut Vec<u8>, label: Label<'_>, word: u32) -> Result<(), AllocError>
-    ensures { OnOk result (text.new.items ≡ text.old.items ++ word_member word (label_seen label.entry)) }
+    ensures { OnOk result (text.new.items
+        ≡ text.old.items ++ word_member word (label_seen label.entry)) }
 {
     text.extend_from_slice(b",\"label\":\"")?;
     push_word_name(text, label, word)?;
@@ -157,7 +167,8 @@ fn push_member_of_word(text: &mut Vec<u8>, label: Label<'_>, word: u32) -> Resul
 
 // Adds the name by which a label calls a word.
 fn push_word_name(text: &mut Vec<u8>, label: Label<'_>, word: u32) -> Result<(), AllocError>
-    ensures ok { OnOk result (text.new.items ≡ text.old.items ++ word_name word (label_seen label.entry)) }
+    ensures ok { OnOk result (text.new.items
+        ≡ text.old.items ++ word_name word (label_seen label.entry)) }
     ensures err { OnErr result (BeginsWith text.new.items text.old.items) }
 {
     text.extend_from_slice(label.name)?;
@@ -179,7 +190,8 @@ fn push_place(text: &mut Vec<u8>, target: Target, word: u32) -> Result<(), Alloc
 }
 
 fn push_lock_text(text: &mut Vec<u8>, label: Label<'_>) -> Result<(), AllocError>
-    ensures ok { OnOk result (text.new.items ≡ text.old.items ++ lock_text (label_seen label.entry)) }
+    ensures ok { OnOk result (text.new.items
+        ≡ text.old.items ++ lock_text (label_seen label.entry)) }
     ensures err { OnErr result (BeginsWith text.new.items text.old.items) }
 {
     text.extend_from_slice(b" (")?;
@@ -188,7 +200,8 @@ fn push_lock_text(text: &mut Vec<u8>, label: Label<'_>) -> Result<(), AllocError
 }
 
 fn push_member_of_lock(text: &mut Vec<u8>, label: Label<'_>) -> Result<(), AllocError>
-    ensures { OnOk result (text.new.items ≡ text.old.items ++ lock_member (label_seen label.entry)) }
+    ensures { OnOk result (text.new.items
+        ≡ text.old.items ++ lock_member (label_seen label.entry)) }
 {
     text.extend_from_slice(b",\"label\":\"")?;
     text.extend_from_slice(label.name)?;

@@ -224,7 +224,8 @@ impl Body {
 
     // Whether a statement may begin with this, or the innermost block end with it.
     fn begins(&self, symbol: Symbol) -> bool
-        ensures { (before : Block) → result ≡ is_some (begin (outer_seen self.now) before (symbol_seen symbol)) }
+        ensures { (before : Block) → result
+            ≡ is_some (begin (outer_seen self.now) before (symbol_seen symbol)) }
     {
         match symbol {
             Symbol::Name(_)
@@ -245,7 +246,8 @@ impl Body {
     // Whether this symbol may stand behind the first block of an `if`.
     fn follows_then(&self, symbol: Symbol) -> bool
         ensures { (before first : Block) (condition : Word) →
-            result ≡ is_some (behind_then (outer_seen self.now) before condition first (symbol_seen symbol)) }
+            result ≡ is_some (behind_then (outer_seen self.now) before condition first
+            (symbol_seen symbol)) }
     {
         is_else(symbol) || self.begins(symbol)
     }

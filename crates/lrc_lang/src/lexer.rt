@@ -69,7 +69,8 @@ impl<'t> Lexer<'t> {
     /// Skips blanks, line feeds and comments, and takes the next lexeme. After the end of the text or a fault, nothing
     /// is promised about further calls.
     pub fn next_lexeme(&mut self) -> Placed<'t>
-        ensures next { NextIs self.old.line self.old.rest.now (placed_of result) self.new.line self.new.rest.now }
+        ensures next { NextIs self.old.line self.old.rest.now
+            (placed_of result) self.new.line self.new.rest.now }
         ensures shorter { IsShorter (lexeme_of result.lexeme) self.old.rest.now self.new.rest.now }
     {
         self.skip();
@@ -81,9 +82,11 @@ impl<'t> Lexer<'t> {
 
     /// Takes the next lexeme, as `next_lexeme` does, and tells where it is.
     pub fn next_met(&mut self) -> Met<'t>
-        ensures next { NextAt self.old.line self.old.rest.now (placed_of result.found) result.left self.new.rest.now }
+        ensures next { NextAt self.old.line self.old.rest.now
+            (placed_of result.found) result.left self.new.rest.now }
         ensures line { self.new.line ≡ result.found.line }
-        ensures shorter { IsShorter (lexeme_of result.found.lexeme) self.old.rest.now self.new.rest.now }
+        ensures shorter { IsShorter (lexeme_of result.found.lexeme) self.old.rest.now
+            self.new.rest.now }
     {
         self.skip();
         let left = self.rest.len();
@@ -184,7 +187,8 @@ fn sign_at(first: u8, behind: &[u8]) -> (Lexeme<'_>, &[u8])
 // The sign of two bytes, this one and a `=` behind it, and the rest behind that.
 fn long_sign_at(first: u8, behind: &[u8]) -> Option<(Sign, &[u8])>
     ensures { MatchOption result
-        (BeginsWith (λ byte. byte ≡ 61) behind.now → (sign : Sign) → sign_text sign ≢ first ∷ 61 ∷ [])
+        (BeginsWith (λ byte. byte ≡ 61) behind.now → (sign : Sign)
+        → sign_text sign ≢ first ∷ 61 ∷ [])
         (λ found. (sign_text found.0 ≡ first ∷ 61 ∷ []) × (behind.now ≡ 61 ∷ found.1.now)) }
 {
     match behind {
@@ -195,7 +199,8 @@ fn long_sign_at(first: u8, behind: &[u8]) -> Option<(Sign, &[u8])>
 
 // The sign of this byte and `=`.
 fn long_sign(first: u8) -> Option<Sign>
-    ensures { MatchOption result ((sign : Sign) → sign_text sign ≢ first ∷ 61 ∷ []) (λ sign. sign_text sign ≡ first ∷ 61 ∷ []) }
+    ensures { MatchOption result ((sign : Sign) → sign_text sign ≢ first ∷ 61 ∷ [])
+        (λ sign. sign_text sign ≡ first ∷ 61 ∷ []) }
 {
     match first {
         b'=' => Some(Sign::Equal),
@@ -208,7 +213,8 @@ fn long_sign(first: u8) -> Option<Sign>
 
 // The sign of this byte alone.
 fn short_sign(first: u8) -> Option<Sign>
-    ensures { MatchOption result ((sign : Sign) → sign_text sign ≢ first ∷ []) (λ sign. sign_text sign ≡ first ∷ []) }
+    ensures { MatchOption result ((sign : Sign) → sign_text sign ≢ first ∷ [])
+        (λ sign. sign_text sign ≡ first ∷ []) }
 {
     match first {
         b';' => Some(Sign::Semicolon),
@@ -232,7 +238,8 @@ fn short_sign(first: u8) -> Option<Sign>
 
 // The keyword that is spelled so.
 fn keyword_of(word: &[u8]) -> Option<Keyword>
-    ensures { MatchOption result (¬ IsKeyword word.now) (λ keyword. word.now ≡ keyword_text keyword) }
+    ensures { MatchOption result (¬ IsKeyword word.now)
+        (λ keyword. word.now ≡ keyword_text keyword) }
 {
     KEYWORDS
         .iter()

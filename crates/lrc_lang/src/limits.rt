@@ -143,9 +143,11 @@ impl<'t> Limits<'t> {
 
     // One more is open.
     fn nest(&mut self) -> Result<(), FaultKind>
-        ensures nested { OnOk result ((self.old.nested < 32) × (self.new.nested ≡ self.old.nested + 1)) }
+        ensures nested { OnOk result ((self.old.nested < 32)
+            × (self.new.nested ≡ self.old.nested + 1)) }
         ensures full { IfErr result (λ kind. (kind ≡ TooDeep) × (32 ≤ self.old.nested)) }
-        ensures others { (self.new.names ≡ self.old.names) × (self.new.operators ≡ self.old.operators) }
+        ensures others { (self.new.names ≡ self.old.names)
+            × (self.new.operators ≡ self.old.operators) }
     {
         if self.nested >= MOST_OPEN {
             return Err(FaultKind::TooDeep);

@@ -95,7 +95,8 @@ pub fn take<'t>(
     limits: &mut Limits<'t>,
     lexeme: Lexeme<'t>,
 ) -> Result<(), FaultKind>
-    ensures { TakesLexeme result state.old limits.old (lexeme_of lexeme.entry) state.new limits.new }
+    ensures { TakesLexeme result state.old limits.old
+        (lexeme_of lexeme.entry) state.new limits.new }
 {
     match lexeme {
         Lexeme::Token(token) => {

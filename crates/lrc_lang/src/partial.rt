@@ -188,7 +188,8 @@ impl Partial {
     // Whether this symbol may stand behind an operand.
     fn goes_on(&self, symbol: Symbol) -> bool
         ensures { (operand : Operand) → result
-            ≡ is_some (go_on (partial_seen self.now).outer (level_seen self.now.level) operand (symbol_seen symbol)) }
+            ≡ is_some (go_on (partial_seen self.now).outer (level_seen self.now.level) operand
+            (symbol_seen symbol)) }
     {
         match symbol {
             Symbol::Operator(operator) => self.level.takes(operator),
@@ -271,7 +272,8 @@ impl Partial {
     fn close(&mut self, alloc: Global, operand: Expression) -> Result<(), FaultKind>
         requires { self.old.operand ≡ None }
         ensures { GivesNew result (partial_seen self.new)
-            (close (partial_seen self.old).outer (level_seen self.old.level) (expression_of operand)) }
+            (close (partial_seen self.old).outer (level_seen self.old.level)
+            (expression_of operand)) }
     {
         let Some(around) = self.outer.pop() else {
             return Err(FaultKind::Unexpected);

@@ -83,7 +83,8 @@ impl ParserState {
     /// Takes one more symbol. It fails if the symbol cannot come here, if its number is over a limit, or if memory runs
     /// out.
     pub fn take(&mut self, symbol: Symbol) -> Result<(), FaultKind>
-        ensures { TakesSymbol result (state_seen self.old) (symbol_seen symbol) (state_seen self.new) }
+        ensures { TakesSymbol result (state_seen self.old) (symbol_seen symbol)
+            (state_seen self.new) }
     {
         match (self.stage, symbol) {
             (Stage::Words, Symbol::Keyword(Keyword::Words)) => self.stage = Stage::WordsNumber,

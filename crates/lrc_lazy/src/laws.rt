@@ -16,13 +16,15 @@ ghost use Rattle.lrc_lazy.specs.Lazy.{IsLazyRun, IsOver, AllHaveStoppedOrWait, I
 /// a value that it may read.
 pub fn a_run_is_over_where_no_lazy_run_goes_on()
     ensures { (program : Program) (nodes : ℕ) (acts : List Act) → IsLazyRun program nodes acts
-        → (IsOver program nodes acts ↔ ((act : Act) → ¬ IsLazyRun program nodes (acts ++ act ∷ []))) }
+        → (IsOver program nodes acts
+        ↔ ((act : Act) → ¬ IsLazyRun program nodes (acts ++ act ∷ []))) }
 {}
 
 /// No node can act if each has ended, has trapped, waits for a lock that some node holds, or waits at a barrier that
 /// some node has not reached. So a run in which every node ends is over.
 pub fn a_run_is_over_where_each_node_has_stopped_or_waits()
-    ensures { (program : Program) (nodes : ℕ) (acts : List Act) → AllHaveStoppedOrWait program nodes acts → IsOver program nodes acts }
+    ensures { (program : Program) (nodes : ℕ) (acts : List Act)
+        → AllHaveStoppedOrWait program nodes acts → IsOver program nodes acts }
 {}
 
 /// After a run of the plain machine no node can act exactly if the machine is at rest. So lazy outcomes are of runs
@@ -36,8 +38,10 @@ pub fn a_run_is_over_where_the_plain_machine_is_at_rest()
 /// A program has a race in some lazy run exactly if it has one in some order. It has none in any lazy run exactly if it
 /// has none in any order.
 pub fn lazy_runs_race_where_orders_do()
-    ensures some { (program : Program) (nodes : ℕ) → (RacesInSomeLazyRun program nodes ↔ RacesInSomeOrder program nodes) }
-    ensures none { (program : Program) (nodes : ℕ) → (HasNoLazyRace program nodes ↔ HasNoRace program nodes) }
+    ensures some { (program : Program) (nodes : ℕ)
+        → (RacesInSomeLazyRun program nodes ↔ RacesInSomeOrder program nodes) }
+    ensures none { (program : Program) (nodes : ℕ)
+        → (HasNoLazyRace program nodes ↔ HasNoRace program nodes) }
 {}
 
 /// If no order has a race, the lazy runs are exactly the runs of the plain machine.
@@ -55,6 +59,8 @@ pub fn without_a_race_lazy_outcomes_are_plain()
 /// Store buffering: two nodes each write one word and then read the other's. Both may read 0 in a lazy run, but in no
 /// order of the plain machine. So with races a lazy outcome need not be one of the plain machine.
 pub fn store_buffering_has_an_outcome_that_is_lazy_alone()
-    ensures lazy { (program : Program) → program_of program ≡ store_buffering → IsLazyOutcome program 2 both_print_zero }
-    ensures plain { (program : Program) → program_of program ≡ store_buffering → ¬ IsOutcome program 2 both_print_zero }
+    ensures lazy { (program : Program) → program_of program ≡ store_buffering
+        → IsLazyOutcome program 2 both_print_zero }
+    ensures plain { (program : Program) → program_of program ≡ store_buffering
+        → ¬ IsOutcome program 2 both_print_zero }
 {}

@@ -31,16 +31,19 @@ pub fn walks_agree_with_their_threads()
 /// lines is the node's line.
 pub fn what_is_still_to_do_stands_in_the_text()
     ensures { (program : Program) (nodes : ℕ) (lines : List ℕ) (acts : List Act) (node : ℕ)
-        → All (StandsAmong (in_order program.statements.items) lines) (walk_behind program nodes lines acts node).todo }
+        → All (StandsAmong (in_order program.statements.items) lines)
+        (walk_behind program nodes lines acts node).todo }
 {}
 
 /// The line of each act is that of what comes next on its node's way. If acts follow the text, this is what makes the
 /// act: the statement on that line, the barrier from which the node departs, or the end of the text.
 pub fn each_line_is_of_what_makes_the_act()
-    ensures line { (program : Program) (nodes : ℕ) (lines : List ℕ) (acts : List Act) (i node : ℕ) (deed : Deed)
+    ensures line { (program : Program) (nodes : ℕ) (lines : List ℕ) (acts : List Act) (i node : ℕ)
+        (deed : Deed)
         → Does acts i node deed → node < nodes → slice_get (act_lines program nodes lines acts) i
         ≡ Some (line_at (end_line lines) (walk_behind program nodes lines (take i acts) node)) }
-    ensures made { (program : Program) (nodes : ℕ) (lines : List ℕ) (acts : List Act) (i node : ℕ) (deed : Deed)
+    ensures made { (program : Program) (nodes : ℕ) (lines : List ℕ) (acts : List Act) (i node : ℕ)
+        (deed : Deed)
         → FollowsText program nodes acts → Does acts i node deed → node < nodes
         → MakesNext (walk_behind program nodes lines (take i acts) node) deed }
 {}

@@ -49,7 +49,8 @@ impl<'c> Walks<'c> {
         lines: &'c [u32],
         nodes: u8,
     ) -> Result<Walks<'c>, AllocError>
-        ensures walks { IfOk result (λ walks. walks_of walks ≡ walks_behind code.now nodes lines.now []) }
+        ensures walks { IfOk result (λ walks. walks_of walks
+            ≡ walks_behind code.now nodes lines.now []) }
         ensures end { IfOk result (λ walks. walks.end ≡ end_line lines.now) }
     {
         let mut walks = Vec::new(alloc);
@@ -65,7 +66,8 @@ impl<'c> Walks<'c> {
     /// Returns what a node's thread asks for next. If the node has arrived at a barrier, this is still the barrier. If
     /// there is no such node, it is the end.
     pub fn ask(&self, node: u8) -> Ask
-        ensures { result ≡ slice_index_or (map (λ walk. ask_of (next_of walk.thread)) (walks_of self.now)) node Ask.End }
+        ensures { result ≡ slice_index_or (map (λ walk. ask_of (next_of walk.thread))
+            (walks_of self.now)) node Ask.End }
     {
         let node = usize::from(node);
         if node < self.nodes.len() {
@@ -77,7 +79,8 @@ impl<'c> Walks<'c> {
 
     /// Returns the line of what a node does next, or the line of the text's end if there is no such node.
     pub fn line(&self, node: u8) -> u32
-        ensures { result ≡ slice_index_or (map (line_at self.now.end) (walks_of self.now)) node self.now.end }
+        ensures { result ≡ slice_index_or (map (line_at self.now.end) (walks_of self.now)) node
+            self.now.end }
     {
         let node = usize::from(node);
         if node < self.nodes.len() {
@@ -92,7 +95,8 @@ impl<'c> Walks<'c> {
     pub fn follow(&mut self, act: &Act) -> Result<(), AllocError>
         ensures walks { (program : Program) (nodes : ℕ) (lines : List ℕ) (before : List Act)
             → walks_of self.old ≡ walks_behind program nodes lines before
-            → OnOk result (walks_of self.new ≡ walks_behind program nodes lines (before ++ act.now ∷ [])) }
+            → OnOk result (walks_of self.new
+            ≡ walks_behind program nodes lines (before ++ act.now ∷ [])) }
         ensures err { OnErr result (walks_of self.new ≡ walks_of self.old) }
         ensures end { self.new.end ≡ self.old.end }
     {
@@ -114,8 +118,10 @@ pub fn follow_acts<'c>(
     nodes: u8,
     acts: &[Act],
 ) -> Result<Followed<'c>, AllocError>
-    ensures lines { IfOk result (λ followed. followed.lines.items ≡ act_lines code.now nodes lines.now acts.now) }
-    ensures walks { IfOk result (λ followed. walks_of followed.walks ≡ walks_behind code.now nodes lines.now acts.now) }
+    ensures lines { IfOk result (λ followed. followed.lines.items
+        ≡ act_lines code.now nodes lines.now acts.now) }
+    ensures walks { IfOk result (λ followed. walks_of followed.walks
+        ≡ walks_behind code.now nodes lines.now acts.now) }
     ensures end { IfOk result (λ followed. followed.walks.end ≡ end_line lines.now) }
 {
     let mut walks = Walks::start(alloc, code, lines, nodes)?;

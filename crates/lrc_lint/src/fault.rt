@@ -168,7 +168,8 @@ impl<'t> Fault<'t> {
 
     /// Returns the spelling of the token at fault.
     pub fn spelling(&self) -> &'t [u8]
-        ensures { result.now ≡ spelled self.now.text.now self.now.found.offset (lexeme_of self.now.found.lexeme) }
+        ensures { result.now ≡ spelled self.now.text.now self.now.found.offset
+            (lexeme_of self.now.found.lexeme) }
     {
         spelling(self.text, self.found)
     }
@@ -181,7 +182,8 @@ pub fn is_sign(located: Located<'_>, wanted: Sign) -> bool {
 
 /// Returns the spelling of a token in a text.
 pub fn spelling<'t>(text: &'t [u8], located: Located<'t>) -> &'t [u8]
-    ensures { result.now ≡ spelled text.entry.now located.entry.offset (lexeme_of located.entry.lexeme) }
+    ensures { result.now ≡ spelled text.entry.now located.entry.offset
+        (lexeme_of located.entry.lexeme) }
 {
     match located.lexeme {
         Lexeme::Token(Token::Name(name)) => name,

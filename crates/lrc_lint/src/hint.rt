@@ -93,7 +93,8 @@ fn push_words(out: &mut Vec<u8>, hint: Hint<'_>) -> Result<(), AllocError>
 }
 
 fn push_compound(out: &mut Vec<u8>, name: &[u8], operator: &[u8]) -> Result<(), AllocError>
-    ensures { OnOk result (out.new.items ≡ out.old.items ++ hint_words (Compound name.entry operator.entry)) }
+    ensures { OnOk result (out.new.items
+        ≡ out.old.items ++ hint_words (Compound name.entry operator.entry)) }
 {
     out.extend_from_slice(b"write `")?;
     out.extend_from_slice(name)?;
@@ -114,7 +115,8 @@ fn push_no_keyword(out: &mut Vec<u8>, name: &[u8]) -> Result<(), AllocError>
 }
 
 fn push_keyword(out: &mut Vec<u8>, keyword: &[u8]) -> Result<(), AllocError>
-    ensures { OnOk result (out.new.items ≡ out.old.items ++ hint_words (KeywordHint keyword.entry)) }
+    ensures { OnOk result (out.new.items
+        ≡ out.old.items ++ hint_words (KeywordHint keyword.entry)) }
 {
     out.extend_from_slice(keyword)?;
     out.extend_from_slice(b" is a keyword and no name")

@@ -21,7 +21,8 @@ pub fn push_excerpt(
     column: usize,
 ) -> Result<(), AllocError>
     ensures { OnOk result (out.new.items ≡ out.old.items
-        ++ excerpt_text (without_return (get_or (cut (divides LineFeed) text.now) (number - 1) [])) column) }
+        ++ excerpt_text (without_return (get_or (cut (divides LineFeed) text.now) (number - 1) []))
+        column) }
 {
     let lines = cut(alloc, Divider::LineFeed, text)?;
     let line = line_at(&lines, number.saturating_sub(1));

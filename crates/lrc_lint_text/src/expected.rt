@@ -89,7 +89,8 @@ pub fn push_expected(out: &mut Vec<u8>, alloc: Global, kinds: &[Kind]) -> Result
 }
 
 fn phrases_of<'t>(alloc: Global, kinds: &[Kind]) -> Result<Vec<&'t [u8]>, AllocError>
-    ensures { IfOk result (λ phrases. map (λ phrase. phrase.now) phrases.items ≡ phrases_of kinds.now) }
+    ensures { IfOk result (λ phrases. map (λ phrase. phrase.now) phrases.items
+        ≡ phrases_of kinds.now) }
 {
     let mut phrases = Vec::new(alloc);
     add_group(&mut phrases, kinds, b"a statement", statement_kinds())?;
@@ -107,7 +108,8 @@ fn add_group<'t>(
     members: &[Kind],
 ) -> Result<(), AllocError>
     ensures { OnOk result (map (λ phrase. phrase.now) phrases.new.items
-        ≡ map (λ phrase. phrase.now) phrases.old.items ++ group_phrase kinds.now name.entry.now members.now) }
+        ≡ map (λ phrase. phrase.now) phrases.old.items
+        ++ group_phrase kinds.now name.entry.now members.now) }
 {
     if has_all(kinds, members) {
         phrases.push(name)?;
@@ -121,7 +123,8 @@ fn add_singles<'t>(
     all: &[Kind],
 ) -> Result<(), AllocError>
     ensures { OnOk result (map (λ phrase. phrase.now) phrases.new.items
-        ≡ map (λ phrase. phrase.now) phrases.old.items ++ flat_map (single_phrase kinds.now) all.now) }
+        ≡ map (λ phrase. phrase.now) phrases.old.items
+        ++ flat_map (single_phrase kinds.now) all.now) }
 {
     for kind in all {
         add_single(phrases, kinds, *kind)?;
@@ -156,7 +159,8 @@ fn says(kinds: &[Kind], members: &[Kind], kind: Kind) -> bool
 }
 
 fn push_joined(out: &mut Vec<u8>, phrases: &[&[u8]]) -> Result<(), AllocError>
-    ensures { OnOk result (out.new.items ≡ out.old.items ++ joined (map (λ phrase. phrase.now) phrases.now)) }
+    ensures { OnOk result (out.new.items
+        ≡ out.old.items ++ joined (map (λ phrase. phrase.now) phrases.now)) }
 {
     match phrases {
         [] => Ok(()),
@@ -168,7 +172,9 @@ fn push_joined(out: &mut Vec<u8>, phrases: &[&[u8]]) -> Result<(), AllocError>
 }
 
 fn push_others(out: &mut Vec<u8>, phrases: &[&[u8]]) -> Result<(), AllocError>
-    ensures { OnOk result (out.new.items ≡ out.old.items ++ flat_map (λ phrase. codes ", " ++ phrase) (map (λ phrase. phrase.now) phrases.now)) }
+    ensures { OnOk result (out.new.items
+        ≡ out.old.items ++ flat_map (λ phrase. codes ", " ++ phrase)
+        (map (λ phrase. phrase.now) phrases.now)) }
 {
     for phrase in phrases {
         push_other(out, phrase)?;

@@ -40,7 +40,8 @@ fn lint_program(
     program: &Program,
 ) -> Result<Linted, AllocError>
     requires { IsText text.now (program_of program.now) }
-    ensures lines { IfOk result (λ linted. LintsProgram file.now text.now (whole_text linted.parts.items)) }
+    ensures lines { IfOk result (λ linted. LintsProgram file.now text.now
+        (whole_text linted.parts.items)) }
     ensures status { IfOk result (λ linted. linted.status ≡ 0) }
 {
     let mut out = Vec::new(alloc);

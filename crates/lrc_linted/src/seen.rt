@@ -15,7 +15,8 @@ use std::alloc::{AllocError, Global};
 
 /// Returns the tokens of a program.
 pub fn tokens_of<'t>(alloc: Global, all: &[Located<'t>]) -> Result<Vec<Token<'t>>, AllocError>
-    ensures { IfOk result (λ tokens. map token_of tokens.items ≡ tokens_of (map located_of all.now)) }
+    ensures { IfOk result (λ tokens. map token_of tokens.items
+        ≡ tokens_of (map located_of all.now)) }
 {
     let mut tokens = Vec::new(alloc);
     for found in all {
@@ -50,7 +51,8 @@ pub fn spots_of(alloc: Global, all: &[Located<'_>]) -> Result<Vec<Spot>, AllocEr
 
 /// Returns the distinct private names, in the order of their first use.
 pub fn names_of<'t>(alloc: Global, tokens: &[Token<'t>]) -> Result<Vec<&'t [u8]>, AllocError>
-    ensures { IfOk result (λ names. map (λ name. name.now) names.items ≡ names_of (map token_of tokens.now)) }
+    ensures { IfOk result (λ names. map (λ name. name.now) names.items
+        ≡ names_of (map token_of tokens.now)) }
 {
     let mut names = Vec::new(alloc);
     for token in tokens {

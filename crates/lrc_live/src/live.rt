@@ -69,7 +69,8 @@ fn add_before_all(statements: &[Statement], names: &mut [bool; 32])
 
 // In front of a statement that sets a name to what an expression gives.
 fn set_before(name: u8, expression: &Expression, names: &mut [bool; 32])
-    ensures { AreNames names.new (λ n. uses expression.now n || (has names.old n && not (nat_eq name n))) }
+    ensures { AreNames names.new (λ n.
+        uses expression.now n || (has names.old n && not (nat_eq name n))) }
 {
     if name < 32 {
         names[name as usize] = false;

@@ -86,7 +86,8 @@ impl Held {
     /// Returns whether the asker's request would be accepted if it arrived now.
     pub fn accepts(&self, lock: u8, asker: u8) -> bool
         requires { lock < length self.now.locks }
-        ensures { (time : List ℕ) → result ≡ is_ok (answer_of (forwarded self.now lock asker time)) }
+        ensures { (time : List ℕ) → result
+            ≡ is_ok (answer_of (forwarded self.now lock asker time)) }
     {
         asker != self.me && self.locks[usize::from(lock)].accepts()
     }

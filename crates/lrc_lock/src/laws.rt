@@ -20,7 +20,8 @@ pub fn the_limits()
 /// At the start, the token of each lock is at exactly one node, the lock's manager.
 pub fn one_node_has_the_token_at_first()
     ensures { (me nodes locks lock : ℕ) → lock < locks
-        → IsTrue (has_token (lock_at (first_held me nodes locks) lock)) ↔ (manager_of nodes lock ≡ me) }
+        → IsTrue (has_token (lock_at (first_held me nodes locks) lock))
+        ↔ (manager_of nodes lock ≡ me) }
 {}
 
 /// A call on one lock changes no other lock.
@@ -58,7 +59,8 @@ pub fn a_release_serves_the_successor()
         → lock_at held lock ≡ Held None → released held lock now ≡ stays (Free now) }
     ensures only { (held : HeldRecord) (lock : ℕ) (now : List ℕ) (pass : Pass)
         → released held lock now ≡ passes pass
-        → (waiter : Waiter) × (lock_at held lock ≡ Held (Some waiter)) × (pass ≡ pass_to lock waiter now) }
+        → (waiter : Waiter) × (lock_at held lock ≡ Held (Some waiter))
+        × (pass ≡ pass_to lock waiter now) }
 {}
 
 /// A token arrives only by a grant, at a node that awaits it, and leaves only by a pass.
@@ -78,7 +80,8 @@ pub fn a_token_comes_by_a_grant_and_goes_by_a_pass()
         → IsFalse (has_token (lock_at (asked held lock) lock)) }
     ensures awaited { (held : HeldRecord) (lock : ℕ) (next : LockState)
         → granted held lock ≡ stays next
-        → (successor : Option Waiter) × (lock_at held lock ≡ Awaited successor) × (next ≡ Held successor) }
+        → (successor : Option Waiter) × (lock_at held lock ≡ Awaited successor)
+        × (next ≡ Held successor) }
 {}
 
 /// A request is forwarded to the last node that asked before.

@@ -46,7 +46,8 @@ impl Managed {
     /// Returns the last node to ask for the lock, or none if another node manages it.
     pub fn last_asker(&self, lock: u8) -> Option<u8>
         requires { lock < length self.now.recent }
-        ensures { result ≡ (if manager_of self.now.nodes lock == self.now.me then Some (slice_index self.now.recent lock) else None) }
+        ensures { result ≡ (if manager_of self.now.nodes lock == self.now.me then Some
+            (slice_index self.now.recent lock) else None) }
     {
         if lock % self.nodes != self.me {
             return None;

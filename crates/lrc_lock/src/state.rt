@@ -80,7 +80,8 @@ impl LockState {
 
     /// Returns whether another node's request would be accepted now.
     pub(crate) fn accepts(&self) -> bool
-        ensures { (lock : ℕ) (waiter : Waiter) → result ≡ is_ok (answer_of (forwarded_at lock waiter self.now)) }
+        ensures { (lock : ℕ) (waiter : Waiter)
+            → result ≡ is_ok (answer_of (forwarded_at lock waiter self.now)) }
     {
         matches!(
             self,

@@ -110,7 +110,8 @@ impl Mail {
         requires from { from < length self.old.taken }
         requires anew { was_taken self.old from number ≡ false }
         ensures ok { OnOk result (self.new ≡ with_taken from number self.old) }
-        ensures lengths { (length self.new.sent ≡ length self.old.sent) × (length self.new.taken ≡ length self.old.taken) }
+        ensures lengths { (length self.new.sent ≡ length self.old.sent)
+            × (length self.new.taken ≡ length self.old.taken) }
     {
         self.taken[usize::from(from)].add(number)
     }
@@ -137,11 +138,13 @@ impl Mail {
     ) -> Result<Vec<Envelope>, MailFault>
         requires me { me < MOST_NODES }
         requires to { All (λ letter. letter.to < length self.old.sent) letters.items }
-        ensures numbers { IfOk result (λ out. numbered me first self.old.sent letters.items ≡ Some (out.items, self.new.sent)) }
+        ensures numbers { IfOk result (λ out. numbered me first self.old.sent letters.items
+            ≡ Some (out.items, self.new.sent)) }
         ensures after { OnOk result (self.new ≡ record self.old { sent = self.new.sent }) }
         ensures worn { result ≡ Err Worn → numbered me first self.old.sent letters.items ≡ None }
         ensures refused { OnErr result (self.new ≡ self.old) }
-        ensures lengths { (length self.new.sent ≡ length self.old.sent) × (length self.new.taken ≡ length self.old.taken) }
+        ensures lengths { (length self.new.sent ≡ length self.old.sent)
+            × (length self.new.taken ≡ length self.old.taken) }
     {
         let mut counts = [0u64; 16];
         let counts = &mut counts[..self.sent.len()];
@@ -227,7 +230,8 @@ fn number_all(
     requires empty { envelopes.items ≡ [] }
     requires me { me < MOST_NODES }
     requires to { All (λ letter. letter.to < length sent.old) letters.old.items }
-    ensures numbers { IfOk result (λ out. numbered me first sent.old letters.old.items ≡ Some (out.items, sent.new)) }
+    ensures numbers { IfOk result (λ out. numbered me first sent.old letters.old.items
+        ≡ Some (out.items, sent.new)) }
     ensures worn { result ≡ Err Worn → numbered me first sent.old letters.old.items ≡ None }
     ensures counts { AreCounts sent.new }
 {
@@ -248,9 +252,13 @@ fn put_numbered(
     requires counts { AreCounts sent.old }
     requires me { me < MOST_NODES }
     requires to { letter.to < length sent.old }
-    ensures number { OnOk result (number_after first (slice_index sent.old letter.to) ≡ Some (first + slice_index sent.old letter.to)) }
-    ensures put { OnOk result (envelopes.new.items ≡ envelopes.old.items ++ envelope_of me (first + slice_index sent.old letter.to) letter ∷ []) }
-    ensures after { OnOk result (sent.new ≡ slice_set sent.old letter.to (slice_index sent.old letter.to + 1)) }
+    ensures number { OnOk result (number_after first (slice_index sent.old letter.to)
+        ≡ Some (first + slice_index sent.old letter.to)) }
+    ensures put { OnOk result (envelopes.new.items
+        ≡ envelopes.old.items ++ envelope_of me (first + slice_index sent.old letter.to) letter
+        ∷ []) }
+    ensures after { OnOk result (sent.new ≡ slice_set sent.old letter.to
+        (slice_index sent.old letter.to + 1)) }
     ensures worn { result ≡ Err Worn → number_after first (slice_index sent.old letter.to) ≡ None }
     ensures counts { AreCounts sent.new }
 {

@@ -44,7 +44,8 @@ pub fn put_requests(need: &Need, letters: &mut Vec<Letter>) -> Result<(), AllocE
 // Puts the request of a page's base copy, where it is due, behind other letters.
 fn put_page_request(page: u16, base: &Base, letters: &mut Vec<Letter>) -> Result<(), AllocError>
     requires { page < MOST_PAGES }
-    ensures { OnOk result (letters.new.items ≡ letters.old.items ++ page_request_of page (seen_base base.now)) }
+    ensures { OnOk result (letters.new.items
+        ≡ letters.old.items ++ page_request_of page (seen_base base.now)) }
 {
     if let Base::Due(keeper) = *base {
         letters.push(page_request(keeper, page))?;
@@ -84,7 +85,8 @@ fn put_changes_requests(
 ) -> Result<(), AllocError>
     requires page { page < MOST_PAGES }
     requires some { All (λ asked. 1 ≤ length asked.indices) all.now }
-    ensures { OnOk result (letters.new.items ≡ letters.old.items ++ map (changes_request_of page) all.now) }
+    ensures { OnOk result (letters.new.items
+        ≡ letters.old.items ++ map (changes_request_of page) all.now) }
 {
     for asked in all {
         let request = changes_request(*letters.allocator(), page, asked)?;

@@ -22,7 +22,8 @@ impl Memory {
     pub fn learn(&mut self, before: &Time, intervals: &Intervals) -> Result<(), AllocError>
         requires before { length before.now ≡ length self.old.memory.store.last }
         requires intervals { CanBeAdded self.old.memory.store intervals.now }
-        ensures ok { OnOk result (self.new ≡ with_known self.old (learned before.now intervals.now self.old.memory)) }
+        ensures ok { OnOk result (self.new ≡ with_known self.old
+            (learned before.now intervals.now self.old.memory)) }
         ensures same { SameMemory self.old self.new }
     {
         let in_step = is_last(&self.store, before);
@@ -43,8 +44,10 @@ impl Memory {
         requires before { length before.now ≡ length self.old.memory.store.last }
         requires in_step { IsTrue in_step → WasLast self.old.memory.store before.now }
         requires in_range { IsInRange self.old.memory.store interval.now }
-        requires next { index_of interval.now ≡ entry self.old.memory.store.last interval.now.node + 1 }
-        ensures ok { OnOk result (self.new ≡ with_known self.old (learned_one before.now self.old.memory interval.now)) }
+        requires next { index_of interval.now ≡ entry self.old.memory.store.last interval.now.node +
+            1 }
+        ensures ok { OnOk result (self.new ≡ with_known self.old
+            (learned_one before.now self.old.memory interval.now)) }
         ensures same { SameMemory self.old self.new }
     {
         self.store.add(interval)?;
@@ -60,7 +63,10 @@ impl Memory {
         requires in_step { IsTrue in_step → WasLast self.old.memory.store before.now }
         requires in_range { page < length self.old.memory.copies }
         ensures ok { OnOk result (self.new ≡ with_known self.old
-            (record self.old.memory { copies = invalidated_on before.now self.old.memory.copies page })) }
+            (record self.old.memory {
+              copies = invalidated_on before.now self.old.memory.copies
+                  page;
+            })) }
         ensures same { SameMemory self.old self.new }
     {
         if let State::Valid = self.table.state(page) {
@@ -76,8 +82,10 @@ impl Memory {
     pub fn newer(&self, since: &Time, upto: &Time) -> Result<Intervals, AllocError>
         requires since { length since.now ≡ length self.now.memory.store.last }
         requires upto { length upto.now ≡ length self.now.memory.store.last }
-        ensures found { IfOk result (λ found. found ≡ newer_of self.now.memory.store since.now upto.now) }
-        ensures stamps { IfOk result (λ found. All (λ i. length i.stamp ≡ length self.now.memory.store.last) found) }
+        ensures found { IfOk result (λ found. found
+            ≡ newer_of self.now.memory.store since.now upto.now) }
+        ensures stamps { IfOk result (λ found. All
+            (λ i. length i.stamp ≡ length self.now.memory.store.last) found) }
     {
         self.store.newer_than(since, upto)
     }

@@ -128,8 +128,10 @@ impl Memory {
     pub fn write(&mut self, word: u32, value: u64) -> Result<bool, AllocError>
         requires in_range { word < MOST_WORDS }
         requires on_a_page { page_of word self.old.size < length self.old.memory.copies }
-        ensures done { IfOk result (λ done. done ≡ is_readable (copy_at self.old.memory (page_of word self.old.size))) }
-        ensures ok { OnOk result (self.new ≡ with_known self.old (with_written_word self.old.size word value self.old.memory)) }
+        ensures done { IfOk result (λ done. done
+            ≡ is_readable (copy_at self.old.memory (page_of word self.old.size))) }
+        ensures ok { OnOk result (self.new ≡ with_known self.old
+            (with_written_word self.old.size word value self.old.memory)) }
         ensures same { SameMemory self.old self.new }
     {
         let page = page_of(word, self.table.size());
@@ -140,8 +142,10 @@ impl Memory {
     /// Closes the open interval, which names the pages written in it. `stamp` is the node's time just after the close.
     pub fn close(&mut self, stamp: &Time) -> Result<(), AllocError>
         requires stamp { length stamp.now ≡ length self.old.memory.store.last }
-        requires next { entry stamp.now self.old.me ≡ entry self.old.memory.store.last self.old.me + 1 }
-        ensures ok { OnOk result (self.new ≡ with_known self.old (with_interval self.old.me stamp.now self.old.memory)) }
+        requires next { entry stamp.now self.old.me
+            ≡ entry self.old.memory.store.last self.old.me + 1 }
+        ensures ok { OnOk result (self.new ≡ with_known self.old
+            (with_interval self.old.me stamp.now self.old.memory)) }
         ensures same { SameMemory self.old self.new }
     {
         // For the proof: every copy is whole.
@@ -160,7 +164,8 @@ impl Memory {
 // Sets the index for each of these pages.
 fn name_pages(notes: &mut Vec<PageNote>, pages: &[u16], index: u32)
     requires { All (λ page. page < length notes.old.items) pages.now }
-    ensures named { named_of notes.new.items ≡ fold (λ named page. slice_set named page index) (named_of notes.old.items) pages.now }
+    ensures named { named_of notes.new.items
+        ≡ fold (λ named page. slice_set named page index) (named_of notes.old.items) pages.now }
     ensures since { since_of notes.new.items ≡ since_of notes.old.items }
     ensures keepers { keepers_of notes.new.items ≡ keepers_of notes.old.items }
 {
@@ -171,7 +176,8 @@ fn name_pages(notes: &mut Vec<PageNote>, pages: &[u16], index: u32)
 
 // This many notes of pages that no interval has named, with node 0 as the keeper.
 fn first_notes(alloc: Global, start: &Time, count: usize) -> Result<Vec<PageNote>, AllocError>
-    ensures { IfOk result (λ notes. notes.items ≡ replicate count (record { since = start.now; named = 0; keeper = 0 })) }
+    ensures { IfOk result (λ notes. notes.items
+        ≡ replicate count (record { since = start.now; named = 0; keeper = 0 })) }
 {
     let mut notes = Vec::with_capacity(alloc, count)?;
     for _ in 0..count {

@@ -28,7 +28,8 @@ pub(crate) fn settle_page(
     requires noticed { ForSome (pending_changes (copy_at table.old page))
         (λ changes. notice_at store.old (record { node = me; index = slice_index (named_of notes.now) page; page = page })
         ≡ Some (record { page = page; changes = None })) }
-    ensures table { OnOk result (table.new ≡ with_copy table.old page (settled (copy_at table.old page))) }
+    ensures table { OnOk result (table.new ≡ with_copy table.old page
+        (settled (copy_at table.old page))) }
     ensures store { OnOk result (store.new
         ≡ settled_store store.old (record { node = me; index = slice_index (named_of notes.now) page; page = page }) (pending_changes (copy_at table.old page))) }
     ensures err_table { OnErr result (table.new ≡ table.old) }

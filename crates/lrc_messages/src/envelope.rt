@@ -26,7 +26,8 @@ fn push_head(
     other: u8,
 ) -> Result<(), AllocError>
     ensures ok { OnOk result (text.new.items
-        ≡ text.old.items ++ (codes "# node " ++ decimal node ++ does.now ++ decimal number ++ way.now ++ decimal other)) }
+        ≡ text.old.items ++ (codes "# node " ++ decimal node ++ does.now ++ decimal number
+        ++ way.now ++ decimal other)) }
     ensures err { OnErr result (BeginsWith text.new.items text.old.items) }
 {
     push_number(text, b"# node ", u64::from(node))?;
@@ -43,7 +44,8 @@ pub fn push_taken(
     envelope: &Envelope,
     again: bool,
 ) -> Result<(), AllocError>
-    ensures ok { OnOk result (text.new.items ≡ text.old.items ++ taken_text node envelope.now again) }
+    ensures ok { OnOk result (text.new.items
+        ≡ text.old.items ++ taken_text node envelope.now again) }
     ensures err { OnErr result (BeginsWith text.new.items text.old.items) }
 {
     push_head(
@@ -66,7 +68,8 @@ fn push_said(
     again: bool,
 ) -> Result<(), AllocError>
     ensures ok { OnOk result (text.new.items
-        ≡ text.old.items ++ (if again then codes " again" else codes ": " ++ message_text message.now)) }
+        ≡ text.old.items ++ (if again then codes " again" else codes ": "
+        ++ message_text message.now)) }
     ensures err { OnErr result (BeginsWith text.new.items text.old.items) }
 {
     if again {
@@ -105,7 +108,8 @@ pub fn push_size(alloc: Global, text: &mut Vec<u8>, envelope: &Envelope) -> Resu
 
 // Adds the size of an envelope, and the words around it.
 fn push_bytes(alloc: Global, text: &mut Vec<u8>, envelope: &Envelope) -> Result<(), AllocError>
-    ensures ok { OnOk result (text.new.items ≡ text.old.items ++ (codes ", " ++ size_text envelope.now ++ codes " bytes: ")) }
+    ensures ok { OnOk result (text.new.items
+        ≡ text.old.items ++ (codes ", " ++ size_text envelope.now ++ codes " bytes: ")) }
     ensures err { OnErr result (BeginsWith text.new.items text.old.items) }
 {
     text.extend_from_slice(b", ")?;

@@ -15,10 +15,14 @@ ghost use Rattle.lrc_protocol.specs.Turn.{expects_departure};
 pub fn all_that_is_missing_is_asked_for()
     ensures access { (node : Node) (page : ℕ) → IsReached node → needs_of node.mail.wait ≡ []
         → unknown_of node.memory.store (missing_at node.memory page) ≡ missing_at node.memory page }
-    ensures upkeep { (node : Node) (from page : ℕ) (m : DepartRecord) → IsReached node → expects_departure node from m ≡ true
-        → unknown_of (keeping node m).memory.store (missing_at (keeping node m).memory page) ≡ missing_at (keeping node m).memory page }
+    ensures upkeep { (node : Node) (from page : ℕ) (m : DepartRecord) → IsReached node
+        → expects_departure node from m ≡ true
+        → unknown_of (keeping node m).memory.store (missing_at (keeping node m).memory page)
+        ≡ missing_at (keeping node m).memory page }
     ensures at_miss { (node : Node) (page : ℕ) → IsReached node → node.mail.wait ≡ nothing
         → (need_at node page).asked ≡ asked_of node.setting.nodes (need_at node page).missing }
-    ensures in_upkeep { (node : Node) (from : ℕ) (m : DepartRecord) → IsReached node → expects_departure node from m ≡ true
-        → All (λ (need : Need). need.asked ≡ asked_of node.setting.nodes need.missing) (upkeep_at node m) }
+    ensures in_upkeep { (node : Node) (from : ℕ) (m : DepartRecord) → IsReached node
+        → expects_departure node from m ≡ true
+        → All (λ (need : Need). need.asked ≡ asked_of node.setting.nodes need.missing)
+        (upkeep_at node m) }
 {}

@@ -29,7 +29,8 @@ const KINDS: [Kind; 10] = [
 /// Splits a text at the first such byte: returns what precedes it and what follows it, or none if the text lacks the
 /// byte.
 pub fn split(text: &[u8], byte: u8) -> Option<(&[u8], &[u8])>
-    ensures { MatchOption result (Lacks byte text.now) (λ parts. (text.now ≡ parts.0.now ++ byte ∷ parts.1.now) × Lacks byte parts.0.now) }
+    ensures { MatchOption result (Lacks byte text.now)
+        (λ parts. (text.now ≡ parts.0.now ++ byte ∷ parts.1.now) × Lacks byte parts.0.now) }
 {
     for (at, other) in text.iter().enumerate() {
         if *other == byte {
@@ -114,7 +115,8 @@ fn is_idle_word(text: &[u8]) -> bool
 
 // What stands before this byte, where it is the last.
 fn without_last(text: &[u8], byte: u8) -> Option<&[u8]>
-    ensures { MatchOption result ((front : List ℕ) → text.now ≡ front ++ byte ∷ [] → ⊥) (λ front. text.now ≡ front.now ++ byte ∷ []) }
+    ensures { MatchOption result ((front : List ℕ) → text.now ≡ front ++ byte ∷ [] → ⊥)
+        (λ front. text.now ≡ front.now ++ byte ∷ []) }
 {
     let (last, front) = text.split_last()?;
     if *last == byte { Some(front) } else { None }
@@ -123,7 +125,8 @@ fn without_last(text: &[u8], byte: u8) -> Option<&[u8]>
 // The operation of this word before an opening parenthesis, with this behind it, and its target.
 fn opened<'a>(word: &'a [u8], rest: &'a [u8]) -> Option<(Kind, &'a [u8])>
     requires { Lacks 40 word.now }
-    ensures { MatchOption result ((kind : Kind) (target : List ℕ) → SpellsOperation kind target (word.now ++ 40 ∷ rest.now) → ⊥)
+    ensures { MatchOption result ((kind : Kind) (target : List ℕ)
+        → SpellsOperation kind target (word.now ++ 40 ∷ rest.now) → ⊥)
         (λ found. SpellsOperation found.0 found.1.now (word.now ++ 40 ∷ rest.now)) }
 {
     let inner = without_last(rest, b')')?;
@@ -143,7 +146,8 @@ fn opened<'a>(word: &'a [u8], rest: &'a [u8]) -> Option<(Kind, &'a [u8])>
 
 // The operation that the bytes spell, and its target.
 fn operation_of(text: &[u8]) -> Option<(Kind, &[u8])>
-    ensures { MatchOption result ((kind : Kind) (target : List ℕ) → SpellsOperation kind target text.now → ⊥)
+    ensures { MatchOption result ((kind : Kind) (target : List ℕ)
+        → SpellsOperation kind target text.now → ⊥)
         (λ found. SpellsOperation found.0 found.1.now text.now) }
 {
     match split(text, b'(') {
@@ -156,8 +160,10 @@ fn operation_of(text: &[u8]) -> Option<(Kind, &[u8])>
 // The event that the bytes spell.
 fn event_of(body: &[u8]) -> Option<Named<'_>>
     ensures { MatchOption result
-        ((thread : List ℕ) (kind : Kind) (target location : List ℕ) → SpellsEvent thread kind target location body.now → ⊥)
-        (λ named. SpellsEvent named.thread.now named.kind named.target.now named.location.now body.now) }
+        ((thread : List ℕ) (kind : Kind) (target location : List ℕ)
+        → SpellsEvent thread kind target location body.now → ⊥)
+        (λ named. SpellsEvent named.thread.now named.kind named.target.now named.location.now
+        body.now) }
 {
     let (thread, rest) = split(body, b'|')?;
     if !is_name(thread) {

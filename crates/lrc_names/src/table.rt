@@ -42,7 +42,8 @@ impl Table {
     /// Returns the number of a name. A known name keeps its number; a new one gets the next. If memory runs out, it
     /// fails and the table is unchanged.
     pub fn number(&mut self, name: &[u8]) -> Result<usize, AllocError>
-        ensures numbered { IfOk result (λ number. IsNumbered (names_of self.old) name.now (names_of self.new) number) }
+        ensures numbered { IfOk result (λ number. IsNumbered (names_of self.old) name.now
+            (names_of self.new) number) }
         ensures distinct { OnOk result (AllPairs (λ x y. x ≢ y) (names_of self.new)) }
         ensures unchanged { OnErr result (names_of self.new ≡ names_of self.old) }
     {

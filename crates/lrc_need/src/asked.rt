@@ -93,7 +93,8 @@ pub(crate) fn ask(alloc: Global, nodes: u8, keys: &[Key]) -> Result<Vec<Asked>, 
 
 // Adds what is asked of a maker, where it is anything.
 fn put_some(all: &mut Vec<Asked>, maker: u8, indices: Indices) -> Result<(), AllocError>
-    ensures { OnOk result (all.new.items ≡ all.old.items ++ option_to_list (some_asked maker indices)) }
+    ensures { OnOk result (all.new.items
+        ≡ all.old.items ++ option_to_list (some_asked maker indices)) }
 {
     if !indices.is_empty() {
         all.push(Asked { maker, indices })?;
@@ -117,7 +118,8 @@ fn indices_by(
     keys: &[Key],
     maker: u8,
 ) -> Result<SmallVec<u32, FEW_INDICES>, AllocError>
-    ensures { IfOk result (λ list. list.items ≡ map (λ key. key.index) (filter (λ key. key.node == maker) keys.now)) }
+    ensures { IfOk result (λ list. list.items
+        ≡ map (λ key. key.index) (filter (λ key. key.node == maker) keys.now)) }
 {
     let mut list = SmallVec::new(alloc);
     for key in keys {

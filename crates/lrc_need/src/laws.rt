@@ -15,5 +15,6 @@ pub fn missing_changes_may_be_asked_for()
 
 /// Changes are asked only of nodes of the run.
 pub fn only_nodes_are_asked()
-    ensures { (nodes : ℕ) (keys : List Key) → All (λ asked. asked.maker < nodes) (asked_of nodes keys) }
+    ensures { (nodes : ℕ) (keys : List Key)
+        → All (λ asked. asked.maker < nodes) (asked_of nodes keys) }
 {}

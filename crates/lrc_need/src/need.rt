@@ -51,7 +51,14 @@ impl Need {
     ) -> Result<Self, AllocError>
         requires page { page < MOST_PAGES }
         requires askable { AreAskable unknown.now }
-        ensures { IfOk result (λ need. need ≡ record { page = page; base = seen_base base; asked = asked_of nodes unknown.now; missing = missing.items }) }
+        ensures { IfOk result (λ need. need
+            ≡ record {
+              page = page;
+              base = seen_base base;
+              asked = asked_of nodes unknown.now;
+              missing =
+                  missing.items;
+            }) }
     {
         let asked = ask(alloc, nodes, unknown)?;
         Ok(Need {
@@ -72,7 +79,14 @@ impl Need {
     ) -> Result<Self, AllocError>
         requires page { page < MOST_PAGES }
         requires askable { AreAskable missing.items }
-        ensures { IfOk result (λ need. need ≡ record { page = page; base = seen_base base; asked = asked_of nodes missing.items; missing = missing.items }) }
+        ensures { IfOk result (λ need. need
+            ≡ record {
+              page = page;
+              base = seen_base base;
+              asked = asked_of nodes missing.items;
+              missing =
+                  missing.items;
+            }) }
     {
         let asked = ask(alloc, nodes, missing.as_slice())?;
         Ok(Need {

@@ -93,7 +93,8 @@ impl Wait {
 
     /// Returns whether exactly these changes of this page are awaited from this maker.
     pub fn awaits_changes(&self, page: u16, maker: u8, parts: &[IndexedChanges]) -> bool
-        ensures { result ≡ list_any (awaits_changes page maker (map (λ part. part.index) parts.now)) (needs_of (seen_wait self.now)) }
+        ensures { result ≡ list_any (awaits_changes page maker (map (λ part. part.index) parts.now))
+            (needs_of (seen_wait self.now)) }
     {
         self.needs()
             .iter()

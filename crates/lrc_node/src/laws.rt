@@ -17,13 +17,19 @@ pub fn logs_lead_on()
           logged = record { node = Some (fresh_node program nodes options me); log = [] };
           trace = record { node = me; size = options.size; segments = [] };
         }) }
-    ensures turn { (start : NodeRecord) (l : LogRecord) (old new : TracedLog) (input : Input) (came : ℕ) → LeadsFrom start l old
+    ensures turn { (start : NodeRecord) (l : LogRecord) (old new : TracedLog) (input : Input)
+        (came : ℕ) → LeadsFrom start l old
         → LogsTo old.logged input came new.logged (Ok tt) → NotesIn old new (Ok tt)
-        → (entry : EntryRecord) × (after : LogRecord) × (logs l input came ≡ logged entry after) × LeadsFrom start after new }
-    ensures unready { (start : NodeRecord) (l : LogRecord) (old new : TracedLog) (input : Input) (came : ℕ) → LeadsFrom start l old
-        → LogsTo old.logged input came new.logged (Err NotReady) → NotesIn old new (Err NotReady) → LeadsFrom start l new }
-    ensures unexpected { (start : NodeRecord) (l : LogRecord) (old new : TracedLog) (input : Input) (came : ℕ) → LeadsFrom start l old
-        → LogsTo old.logged input came new.logged (Err Unexpected) → NotesIn old new (Err Unexpected) → LeadsFrom start l new }
+        → (entry : EntryRecord) × (after : LogRecord) × (logs l input came ≡ logged entry after)
+        × LeadsFrom start after new }
+    ensures unready { (start : NodeRecord) (l : LogRecord) (old new : TracedLog) (input : Input)
+        (came : ℕ) → LeadsFrom start l old
+        → LogsTo old.logged input came new.logged (Err NotReady) → NotesIn old new (Err NotReady)
+        → LeadsFrom start l new }
+    ensures unexpected { (start : NodeRecord) (l : LogRecord) (old new : TracedLog) (input : Input)
+        (came : ℕ) → LeadsFrom start l old
+        → LogsTo old.logged input came new.logged (Err Unexpected)
+        → NotesIn old new (Err Unexpected) → LeadsFrom start l new }
 {}
 
 /// The log of a fresh node without turns is whole: its turns are the node's local turns on the inputs that it stores.

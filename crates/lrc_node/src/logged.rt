@@ -81,7 +81,9 @@ impl<'c> Model for Logged<'c> {
 impl<'c> Logged<'c> {
     /// Creates the log of a node that has made no turn.
     pub fn new(alloc: Global, node: Node<'c>) -> Logged<'c>
-        ensures { result ≡ record { logged = record { node = node.entry.node; log = [] }; trace = node.entry.trace } }
+        ensures { result
+            ≡ record
+            { logged = record { node = node.entry.node; log = [] }; trace = node.entry.trace } }
     {
         Logged {
             node,
@@ -100,12 +102,15 @@ impl<'c> Logged<'c> {
     pub fn run(&mut self) -> Result<(), NodeFault>
         ensures logs { LogsTo self.old.logged log.run 0 self.new.logged result }
         ensures notes { NotesIn self.old self.new result }
-        ensures failed { self.old.logged.node ≡ None → (result ≡ Err Failed) × (self.new ≡ self.old) }
-        ensures fails { IfErr result (λ fault. is_final fault ≡ true → self.new.logged ≡ record { node = None; log = self.old.logged.log }) }
+        ensures failed { self.old.logged.node ≡ None
+            → (result ≡ Err Failed) × (self.new ≡ self.old) }
+        ensures fails { IfErr result (λ fault. is_final fault ≡ true
+            → self.new.logged ≡ record { node = None; log = self.old.logged.log }) }
         ensures fault { IfErr result (MayAnswer log.run) }
         ensures kept { OnErr result (self.new.logged.log ≡ self.old.logged.log) }
         ensures whole { (program : Program) (nodes : ℕ) (options : OptionsRecord) (me : ℕ)
-            → IsWholeLog program nodes options me self.old → IsWholeLog program nodes options me self.new }
+            → IsWholeLog program nodes options me self.old
+            → IsWholeLog program nodes options me self.new }
     {
         make_room(&mut self.node, &mut self.log)?;
         let wish = self.node.wish();
@@ -130,12 +135,15 @@ impl<'c> Logged<'c> {
     pub fn take(&mut self, envelope: Envelope, stamp: u64) -> Result<(), NodeFault>
         ensures logs { LogsTo self.old.logged (log.taken envelope) stamp self.new.logged result }
         ensures notes { NotesIn self.old self.new result }
-        ensures failed { self.old.logged.node ≡ None → (result ≡ Err Failed) × (self.new ≡ self.old) }
-        ensures fails { IfErr result (λ fault. is_final fault ≡ true → self.new.logged ≡ record { node = None; log = self.old.logged.log }) }
+        ensures failed { self.old.logged.node ≡ None
+            → (result ≡ Err Failed) × (self.new ≡ self.old) }
+        ensures fails { IfErr result (λ fault. is_final fault ≡ true
+            → self.new.logged ≡ record { node = None; log = self.old.logged.log }) }
         ensures fault { IfErr result (MayAnswer (log.taken envelope)) }
         ensures kept { OnErr result (self.new.logged.log ≡ self.old.logged.log) }
         ensures whole { (program : Program) (nodes : ℕ) (options : OptionsRecord) (me : ℕ)
-            → IsWholeLog program nodes options me self.old → IsWholeLog program nodes options me self.new }
+            → IsWholeLog program nodes options me self.old
+            → IsWholeLog program nodes options me self.new }
     {
         make_room(&mut self.node, &mut self.log)?;
         let alloc = *self.log.allocator();
@@ -179,7 +187,8 @@ impl<'c> Logged<'c> {
 
     /// Returns how the node ended. If the node has failed, its log tells that.
     pub fn end(&self) -> End
-        ensures sound { (l : log.Logged) → self.now.logged ≡ sound l → result ≡ end_of l.node.course }
+        ensures sound { (l : log.Logged) → self.now.logged ≡ sound l
+            → result ≡ end_of l.node.course }
         ensures failed { self.now.logged.node ≡ None → result ≡ ended_by self.now.logged.log }
     {
         if self.node.has_failed() {
@@ -206,7 +215,8 @@ impl<'c> Logged<'c> {
     /// Forgets all turns but the newest. Nothing that the node does later depends on the forgotten ones, with one
     /// exception: once the node has failed, `end` is told by the turns that are left.
     pub fn forget(&mut self)
-        ensures log { self.new.logged ≡ record { node = self.old.logged.node; log = newest self.old.logged.log } }
+        ensures log { self.new.logged ≡ record
+            { node = self.old.logged.node; log = newest self.old.logged.log } }
         ensures trace { self.new.trace ≡ self.old.trace }
     {
         let count = self.log.len();

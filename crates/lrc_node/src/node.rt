@@ -85,8 +85,10 @@ impl<'c> Node<'c> {
         ensures done { (node : NodeRecord) → self.old.node ≡ Some node
             → IfOk result (λ turn. (after : NodeRecord) × (run_turn node ≡ done turn after)
             × (self.new ≡ sound_node after (with_act after turn.act self.old.trace))) }
-        ensures refused { (node : NodeRecord) → self.old.node ≡ Some node → IfErr result (λ fault. AnswersTurn (run_turn node) node fault self.new.node) }
-        ensures ready { (node : NodeRecord) → self.old.node ≡ Some node → run_turn node ≡ not_ready → result ≡ Err NotReady }
+        ensures refused { (node : NodeRecord) → self.old.node ≡ Some node
+            → IfErr result (λ fault. AnswersTurn (run_turn node) node fault self.new.node) }
+        ensures ready { (node : NodeRecord) → self.old.node ≡ Some node → run_turn node ≡ not_ready
+            → result ≡ Err NotReady }
         ensures kept { OnErr result (self.new.trace ≡ self.old.trace) }
         ensures ended { OnErr result (self.new.end ≡ self.old.end) }
         ensures fault { IfErr result (MayAnswer run) }
@@ -114,8 +116,10 @@ impl<'c> Node<'c> {
         ensures done { (node : NodeRecord) → self.old.node ≡ Some node
             → IfOk result (λ turn. (after : NodeRecord) × (run_turn node ≡ done turn after)
             × (self.new ≡ sound_node after (with_act after turn.act self.old.trace))) }
-        ensures refused { (node : NodeRecord) → self.old.node ≡ Some node → IfErr result (λ fault. AnswersTurn (run_turn node) node fault self.new.node) }
-        ensures ready { (node : NodeRecord) → self.old.node ≡ Some node → run_turn node ≡ not_ready → result ≡ Err NotReady }
+        ensures refused { (node : NodeRecord) → self.old.node ≡ Some node
+            → IfErr result (λ fault. AnswersTurn (run_turn node) node fault self.new.node) }
+        ensures ready { (node : NodeRecord) → self.old.node ≡ Some node → run_turn node ≡ not_ready
+            → result ≡ Err NotReady }
         ensures kept { OnErr result (self.new.trace ≡ self.old.trace) }
         ensures ended { OnErr result (self.new.end ≡ self.old.end) }
         ensures fault { IfErr result (MayAnswer run) }
@@ -152,11 +156,14 @@ impl<'c> Node<'c> {
     pub fn take(&mut self, envelope: &Envelope) -> Result<Turn, NodeFault>
         ensures failed { self.old.node ≡ None → (result ≡ Err Failed) × (self.new ≡ self.old) }
         ensures done { (node : NodeRecord) → self.old.node ≡ Some node
-            → IfOk result (λ turn. (after : NodeRecord) × (take_turn node envelope.now ≡ done turn after)
+            → IfOk result (λ turn. (after : NodeRecord)
+            × (take_turn node envelope.now ≡ done turn after)
             × (self.new ≡ sound_node after (with_act after turn.act self.old.trace))) }
         ensures refused { (node : NodeRecord) → self.old.node ≡ Some node
-            → IfErr result (λ fault. AnswersTurn (take_turn node envelope.now) node fault self.new.node) }
-        ensures unexpected { (node : NodeRecord) → self.old.node ≡ Some node → take_turn node envelope.now ≡ unexpected → result ≡ Err Unexpected }
+            → IfErr result (λ fault. AnswersTurn
+            (take_turn node envelope.now) node fault self.new.node) }
+        ensures unexpected { (node : NodeRecord) → self.old.node ≡ Some node
+            → take_turn node envelope.now ≡ unexpected → result ≡ Err Unexpected }
         ensures kept { OnErr result (self.new.trace ≡ self.old.trace) }
         ensures ended { OnErr result (self.new.end ≡ self.old.end) }
         ensures fault { IfErr result (MayAnswer (taken envelope.now)) }
@@ -177,7 +184,8 @@ impl<'c> Node<'c> {
     /// Returns whether the node would take a message, if numbers that are too large are left aside. For a failed node
     /// the answer means nothing.
     pub(crate) fn awaits(&self, envelope: &Envelope) -> bool
-        ensures { (node : NodeRecord) → self.now.node ≡ Some node → result ≡ is_turn (take_turn node envelope.now) }
+        ensures { (node : NodeRecord) → self.now.node ≡ Some node
+            → result ≡ is_turn (take_turn node envelope.now) }
     {
         self.failed.is_none() && self.state.awaits(envelope)
     }
@@ -205,7 +213,8 @@ impl<'c> Node<'c> {
 
     /// Returns the node's parts, for calls that change nothing, or none if the node has failed.
     pub fn state(&self) -> Option<&NodeState<'c>>
-        ensures { MatchOption result (self.now.node ≡ None) (λ state. self.now.node ≡ Some state.now) }
+        ensures { MatchOption result (self.now.node ≡ None)
+            (λ state. self.now.node ≡ Some state.now) }
     {
         match self.failed {
             Some(_) => None,
@@ -223,7 +232,8 @@ impl<'c> Node<'c> {
     /// Returns how the node ended. A failed node ended as it had before it failed.
     pub fn end(&self) -> End
         ensures kept { result ≡ self.now.end }
-        ensures sound { (node : NodeRecord) → self.now.node ≡ Some node → result ≡ end_of node.course }
+        ensures sound { (node : NodeRecord) → self.now.node ≡ Some node
+            → result ≡ end_of node.course }
     {
         match self.failed {
             Some(end) => end,

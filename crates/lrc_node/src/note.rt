@@ -33,7 +33,8 @@ impl NodeState<'_> {
         ensures done { IfOk result (λ turn. run_turn self.old ≡ done turn self.new) }
         ensures noted { IfOk result (λ turn. trace.new ≡ with_act self.new turn.act trace.old) }
         ensures kept { OnErr result (trace.new ≡ trace.old) }
-        ensures ready { run_turn self.old ≡ not_ready → (result ≡ Err NotReady) × (self.new ≡ self.old) }
+        ensures ready { run_turn self.old ≡ not_ready
+            → (result ≡ Err NotReady) × (self.new ≡ self.old) }
         ensures refused { IfErr result (λ fault. RefusesRun (run_turn self.old) fault) }
     {
         let Some(ask) = wish else {
@@ -70,8 +71,10 @@ impl NodeState<'_> {
         ensures done { IfOk result (λ turn. take_turn self.old envelope.now ≡ done turn self.new) }
         ensures noted { IfOk result (λ turn. trace.new ≡ with_act self.new turn.act trace.old) }
         ensures kept { OnErr result (trace.new ≡ trace.old) }
-        ensures refused { IfErr result (λ fault. RefusesTake (take_turn self.old envelope.now) self.old fault self.new) }
-        ensures unexpected { take_turn self.old envelope.now ≡ unexpected → result ≡ Err Unexpected }
+        ensures refused { IfErr result (λ fault. RefusesTake
+            (take_turn self.old envelope.now) self.old fault self.new) }
+        ensures unexpected { take_turn self.old envelope.now ≡ unexpected
+            → result ≡ Err Unexpected }
     {
         let turn = self.take(envelope)?;
         self.note(trace, turn.act)?;

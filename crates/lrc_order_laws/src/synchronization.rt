@@ -12,7 +12,8 @@ ghost use Rattle.lrc_protocol.specs.Run.{World, run_of};
 /// In every run the acts are well synchronized: no node acquires a lock that some node holds, only a lock's holder
 /// releases it, and no node departs from a barrier before every node has arrived there.
 pub fn acts_are_well_synchronized()
-    ensures { (program : Program) (nodes : ℕ) (options : OptionsRecord) (events : List Event) (world : World)
+    ensures { (program : Program) (nodes : ℕ) (options : OptionsRecord) (events : List Event)
+        (world : World)
         → run_of program nodes options events ≡ Some world → IsWellSynchronized nodes world.acts }
 {}
 
@@ -21,6 +22,8 @@ pub fn acts_are_well_synchronized()
 /// release knew. A depart learns what every node knew at its arrive with the number of this depart. So each time is
 /// exactly what happens before the act.
 pub fn every_run_keeps_time()
-    ensures { (program : Program) (nodes : ℕ) (options : OptionsRecord) (events : List Event) (world : World)
-        → run_of program nodes options events ≡ Some world → KeepsTime nodes world.acts world.times }
+    ensures { (program : Program) (nodes : ℕ) (options : OptionsRecord) (events : List Event)
+        (world : World)
+        → run_of program nodes options events ≡ Some world
+        → KeepsTime nodes world.acts world.times }
 {}

@@ -69,7 +69,8 @@ impl Changes {
     /// Adds a change at an offset above all others. It fails if memory runs out, and then nothing changes.
     pub fn push(&mut self, offset: u8, value: u64) -> Result<(), AllocError>
         requires { ForSome (last_change self.old) (λ c. c.offset < offset) }
-        ensures ok { OnOk result (self.new ≡ self.old ++ record { offset = offset; value = value } ∷ []) }
+        ensures ok { OnOk result (self.new ≡ self.old
+            ++ record { offset = offset; value = value } ∷ []) }
         ensures err { OnErr result (self.new ≡ self.old) }
     {
         self.list.push(Change { offset, value })?;

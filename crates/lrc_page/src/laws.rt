@@ -19,7 +19,8 @@ pub fn the_limits()
 
 /// The changes between a twin and a page turn the twin into the page.
 pub fn changes_turn_the_twin_into_the_page()
-    ensures { (twin page : List ℕ) → length twin ≡ length page → applied twin (changes_between twin page) ≡ page }
+    ensures { (twin page : List ℕ) → length twin ≡ length page
+        → applied twin (changes_between twin page) ≡ page }
 {}
 
 /// The changes between a twin and a page are exactly their differences: each offset at which the values differ, once
@@ -28,5 +29,6 @@ pub fn changes_are_the_differences()
     ensures ascending { (twin page : List ℕ) → IsAscending (changes_between twin page) }
     ensures exact { (twin page : List ℕ) (offset value : ℕ) →
         Contains (changes_between twin page) (record { offset = offset; value = value })
-        ↔ ((offset < length page) × (slice_index page offset ≡ value) × (slice_index twin offset ≢ value)) }
+        ↔ ((offset < length page) × (slice_index page offset ≡ value)
+        × (slice_index twin offset ≢ value)) }
 {}

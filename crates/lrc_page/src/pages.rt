@@ -74,7 +74,8 @@ impl Pages {
     pub fn insert(&mut self, page: u16) -> Result<(), AllocError>
         requires in_range { page < MOST_PAGES }
         requires other { ¬ Contains self.old page }
-        ensures members { OnOk result ((p : ℕ) → Contains self.new p ↔ ((p ≡ page) ⊎ Contains self.old p)) }
+        ensures members { OnOk result ((p : ℕ) → Contains self.new p
+            ↔ ((p ≡ page) ⊎ Contains self.old p)) }
         ensures rising { OnOk result (IsRising self.new) }
         ensures err { OnErr result (self.new ≡ self.old) }
     {

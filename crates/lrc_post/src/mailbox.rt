@@ -38,7 +38,8 @@ impl Mailbox {
     /// Creates an empty, open mailbox for a node, with room for an entry from each of `nodes` nodes. It fails if there
     /// is no memory for that.
     pub fn new(alloc: Global, owner: u8, nodes: u8, picker: Picker) -> Result<Self, AllocError>
-        ensures { IfOk result (λ mailbox. mailbox ≡ record { owner = owner; picker = picker; closed = false; history = [] }) }
+        ensures { IfOk result (λ mailbox. mailbox
+            ≡ record { owner = owner; picker = picker; closed = false; history = [] }) }
     {
         Ok(Mailbox {
             owner,
@@ -82,7 +83,8 @@ impl Mailbox {
     pub fn put_all(&mut self, from: u8, parcels: Vec<Parcel>) -> Result<(), Unput>
         requires { All (λ p. p.to ≡ self.old.owner) parcels.items }
         ensures ok { OnOk result (self.new ≡ with_puts self.old from parcels.items) }
-        ensures closed { self.old.closed ≡ true → IsErrAnd result (λ u. (u.fault ≡ Closed) × (u.parcels.items ≡ parcels.items)) }
+        ensures closed { self.old.closed ≡ true → IsErrAnd result
+            (λ u. (u.fault ≡ Closed) × (u.parcels.items ≡ parcels.items)) }
         ensures unchanged { self.old.closed ≡ true → self.new ≡ self.old }
         ensures open { self.old.closed ≡ false → IfErr result (λ u. (u.fault ≡ NoMemory)
             × IsCutShort self.old from parcels.items u.parcels.items self.new) }
@@ -155,7 +157,8 @@ impl Mailbox {
     /// Gives the next parcel to a node, as `give` does, if that node is the owner. Any other node is given none.
     pub(crate) fn give_to(&mut self, me: u8) -> Result<Option<Parcel>, PostFault>
         ensures mine { IfOk result (λ parcel. IfSome parcel (λ p. p.to ≡ me)) }
-        ensures given { self.old.owner ≡ me → IfOk result (λ parcel. GivesParcel self.old parcel self.new) }
+        ensures given { self.old.owner ≡ me → IfOk result
+            (λ parcel. GivesParcel self.old parcel self.new) }
         ensures err { OnErr result (self.new ≡ self.old) }
     {
         if self.owner() == me {
@@ -172,8 +175,10 @@ impl Mailbox {
         ensures err { OnErr result (self.new ≡ self.old) }
         ensures back { IfErr result (λ refused. refused.1 ≡ parcel) }
         ensures closed { self.old.closed ≡ true → IsErrAnd result (λ refused. refused.0 ≡ Closed) }
-        ensures other { parcel.to ≢ self.old.owner → IsErrAnd result (λ refused. refused.0 ≡ Closed) }
-        ensures open { self.old.closed ≡ false → parcel.to ≡ self.old.owner → IfErr result (λ refused. refused.0 ≡ NoMemory) }
+        ensures other { parcel.to ≢ self.old.owner
+            → IsErrAnd result (λ refused. refused.0 ≡ Closed) }
+        ensures open { self.old.closed ≡ false → parcel.to ≡ self.old.owner
+            → IfErr result (λ refused. refused.0 ≡ NoMemory) }
     {
         if self.closed || parcel.to != self.owner {
             return Err((PostFault::Closed, parcel));
@@ -193,7 +198,8 @@ impl Mailbox {
 
     /// Returns whether the next parcel was given once already, as with `Twice` after the first of its two takes.
     pub(crate) fn is_halfway(&self) -> bool
-        ensures { IsTrue result ↔ ((self.now.picker ≡ Twice) × (length (in_flight self.now.picker self.now.history) % 2 ≡ 1)) }
+        ensures { IsTrue result ↔ ((self.now.picker ≡ Twice)
+            × (length (in_flight self.now.picker self.now.history) % 2 ≡ 1)) }
     {
         self.picker == Picker::Twice && self.flight.len() % 2 == 1
     }
@@ -202,7 +208,8 @@ impl Mailbox {
     fn put_each(&mut self, from: u8, mut parcels: Vec<Parcel>) -> Result<(), Vec<Parcel>>
         requires { All (λ p. p.to ≡ self.old.owner) parcels.items }
         ensures ok { OnOk result (self.new ≡ with_puts self.old from parcels.items) }
-        ensures err { IfErr result (λ back. IsCutShort self.old from parcels.items back.items self.new) }
+        ensures err { IfErr result (λ back. IsCutShort self.old from parcels.items back.items
+            self.new) }
     {
         parcels.reverse();
         while let Some(parcel) = parcels.pop() {

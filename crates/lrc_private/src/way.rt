@@ -59,7 +59,8 @@ impl<'c> Way<'c> {
     ) -> Result<Way<'c>, AllocError>
         ensures on { IfOk result IsOnWay }
         ensures thread { IfOk result (λ way. thread_of way ≡ start_of code.now nodes me) }
-        ensures unset { IfOk result (λ way. (name : ℕ) → slice_index_or way.set.items name None ≡ None) }
+        ensures unset { IfOk result (λ way. (name : ℕ)
+            → slice_index_or way.set.items name None ≡ None) }
     {
         let (instructions, place) = code.parts();
         let set = vec![in alloc; None; 32]?;
@@ -86,8 +87,10 @@ impl<'c> Way<'c> {
     pub fn statement(&self) -> Option<&'c Statement>
         requires { IsOnWay self.now }
         ensures next { MatchOption result ((thread_of self.now).rest ≡ [])
-            (λ statement. (rest : List AnyStatement) × ((thread_of self.now).rest ≡ statement.now ∷ rest)) }
-        ensures names { IfSome result (λ statement. names_in_statement (statement_of statement.now) ≤ 32) }
+            (λ statement. (rest : List AnyStatement)
+            × ((thread_of self.now).rest ≡ statement.now ∷ rest)) }
+        ensures names { IfSome result (λ statement. names_in_statement (statement_of statement.now)
+            ≤ 32) }
     {
         let Some(index) = self.spot.place.checked_sub(1) else {
             return None;
@@ -118,7 +121,8 @@ impl<'c> Way<'c> {
         requires { IsOnWay self.old }
         ensures on { IsOnWay self.new }
         ensures thread { thread_of self.new ≡ thread_led (thread_of self.old) deed }
-        ensures set { self.new.set.items ≡ noted at (set_by (thread_of self.old) deed) self.old.set.items }
+        ensures set { self.new.set.items ≡ noted at
+            (set_by (thread_of self.old) deed) self.old.set.items }
     {
         if !self.passes(deed) {
             return;
@@ -141,7 +145,8 @@ impl<'c> Way<'c> {
         position: usize,
     ) -> Result<Way<'c>, AllocError>
         requires { position ≤ length acts.now }
-        ensures { IfOk result (λ way. (lines : List ℕ) → IsWayTo code.now nodes lines acts.now me position way) }
+        ensures { IfOk result (λ way. (lines : List ℕ)
+            → IsWayTo code.now nodes lines acts.now me position way) }
     {
         let mut way = Way::start(alloc, code, nodes, me)?;
         for at in 0..position {

@@ -103,7 +103,8 @@ fn skip(
     requires entries { HaveEntries a.now b.now }
     requires within { from ≤ length ys.now }
     ensures within { result ≤ length ys.now }
-    ensures behind { (k : ℕ) (y : TouchedPlace) → from ≤ k → k < result → slice_get ys.now k ≡ Some y → IsBehind rise a.now x b.now y }
+    ensures behind { (k : ℕ) (y : TouchedPlace) → from ≤ k → k < result
+        → slice_get ys.now k ≡ Some y → IsBehind rise a.now x b.now y }
 {
     let mut start = from;
     while start < ys.len() && is_behind(rise, a, x, b, ys[start]) {
@@ -117,7 +118,8 @@ fn race_of(a: &Trace, x: TouchedPlace, b: &Trace, y: TouchedPlace) -> Option<Rac
     requires first { x.segment < length a.now.segments }
     requires second { y.segment < length b.now.segments }
     requires entries { HaveEntries a.now b.now }
-    ensures { MatchOption result ((race : Race) → ¬ IsRaceOfPlaces a.now x b.now y race) (IsRaceOfPlaces a.now x b.now y) }
+    ensures { MatchOption result ((race : Race) → ¬ IsRaceOfPlaces a.now x b.now y race)
+        (IsRaceOfPlaces a.now x b.now y) }
 {
     let s = &a.segments()[x.segment];
     let t = &b.segments()[y.segment];
@@ -143,7 +145,8 @@ fn add_stretch(
     requires entries { HaveEntries a.now b.now }
     requires rising { IsTrue rise → RisesAlong b.now }
     requires within { from ≤ length ys.now }
-    ensures { OnOk result (Adds races.old.items races.new.items (IsRaceFrom a.now x b.now ys.now from)) }
+    ensures { OnOk result (Adds races.old.items races.new.items
+        (IsRaceFrom a.now x b.now ys.now from)) }
 {
     for k in from..ys.len() {
         if is_behind(rise, b, ys[k], a, x) {
@@ -172,7 +175,8 @@ fn add_races_along(
     requires second_sorted { AreInOrder ys.now }
     requires entries { HaveEntries a.now b.now }
     requires rising { IsTrue rise → RisesAlong a.now × RisesAlong b.now }
-    ensures { OnOk result (Adds races.old.items races.new.items (IsRaceOfLists a.now xs.now b.now ys.now)) }
+    ensures { OnOk result (Adds races.old.items races.new.items
+        (IsRaceOfLists a.now xs.now b.now ys.now)) }
 {
     let mut start = 0;
     for x in xs {
@@ -198,7 +202,8 @@ fn add_races(
     requires second_sorted { AreInOrder ys.now }
     requires entries { HaveEntries a.now b.now }
     requires rising { IsTrue rise → RisesAlong a.now × RisesAlong b.now }
-    ensures { OnOk result (Adds races.old.items races.new.items (IsRaceOfLists a.now xs.now b.now ys.now)) }
+    ensures { OnOk result (Adds races.old.items races.new.items
+        (IsRaceOfLists a.now xs.now b.now ys.now)) }
 {
     let near = places_near(xs, ys);
     let others = places_near(ys, near);
@@ -219,7 +224,8 @@ fn add_pair(
     requires second { IsLane b.now second.now }
     requires entries { HaveEntries a.now b.now }
     requires rising { IsTrue rise → RisesAlong a.now × RisesAlong b.now }
-    ensures { OnOk result (Adds races.old.items races.new.items (IsRaceOfLanes a.now first.now b.now second.now)) }
+    ensures { OnOk result (Adds races.old.items races.new.items
+        (IsRaceOfLanes a.now first.now b.now second.now)) }
 {
     add_races(races, rise, a, &first.writes, b, &second.writes)?;
     add_races(races, rise, a, &first.reads, b, &second.writes)?;

@@ -9,7 +9,8 @@ use lrc_trace::trace::Trace;
 
 /// Returns whether no time of the trace lacks an interval that the time before it has.
 pub fn times_rise(trace: &Trace) -> bool
-    requires { (nodes : ℕ) × ((s : Segment) → Contains trace.now.segments s → length s.time ≡ nodes) }
+    requires { (nodes : ℕ) × ((s : Segment) → Contains trace.now.segments s
+        → length s.time ≡ nodes) }
     ensures { IsTrue result ↔ RisesAlong trace.now }
 {
     let segments = trace.segments();

@@ -37,7 +37,8 @@ fn up_to_word(places: &[TouchedPlace], word: u32) -> &[TouchedPlace]
 pub fn places_near<'a>(places: &'a [TouchedPlace], others: &[TouchedPlace]) -> &'a [TouchedPlace]
     requires sorted { AreInOrder places.now }
     requires others { AreInOrder others.now }
-    ensures { IsPartOf places.now result.now (λ p. (q : TouchedPlace) × Contains others.now q × (q.word ≡ p.word)) }
+    ensures { IsPartOf places.now result.now
+        (λ p. (q : TouchedPlace) × Contains others.now q × (q.word ≡ p.word)) }
 {
     if others.is_empty() {
         return &places[..0];

@@ -42,7 +42,8 @@ fn tell(
     names: &Names,
     told: &[Pair],
 ) -> Result<(), AllocError>
-    ensures ok { OnOk result (IsTelling form group (naming_of names.now) told.now groups.old groups.new out.old.items out.new.items) }
+    ensures ok { OnOk result (IsTelling form group
+        (naming_of names.now) told.now groups.old groups.new out.old.items out.new.items) }
     ensures err { OnErr result (out.new.items ≡ out.old.items) }
 {
     if group {
@@ -92,7 +93,9 @@ impl Judged {
         line: u64,
         out: &mut Vec<u8>,
     ) -> Result<(), Fault>
-        ensures ok { OnOk result (HasJudgedOne form group (record { line = line; saying = saying_of named.entry }) self.old out.old.items self.new out.new.items) }
+        ensures ok { OnOk result (HasJudgedOne form group
+            (record { line = line; saying = saying_of named.entry }) self.old out.old.items self.new
+            out.new.items) }
         ensures err { OnErr result (out.new.items ≡ out.old.items) }
         ensures memory { IfErr result (λ fault. fault ≡ NoMemory) }
     {

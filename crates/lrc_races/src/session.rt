@@ -46,7 +46,8 @@ fn take_line(
     number: u64,
     out: &mut Vec<u8>,
 ) -> Result<(), Fault>
-    ensures ok { OnOk result (HasTakenLine form group line.now number judged.old out.old.items judged.new out.new.items) }
+    ensures ok { OnOk result (HasTakenLine form group line.now number judged.old out.old.items
+        judged.new out.new.items) }
     ensures kept { OnErr result (out.new.items ≡ out.old.items) }
     ensures bad { IfErr result (FailsLine form line.now number) }
 {
@@ -112,7 +113,8 @@ impl Session {
     // Takes the next line, which is this one.
     fn take_whole(&mut self, line: &[u8], out: &mut Vec<u8>) -> Result<(), Fault>
         requires { self.old.rest.items ≡ [] }
-        ensures ok { OnOk result (HasCompleted self.old line.now out.old.items out.new.items self.new) }
+        ensures ok { OnOk result (HasCompleted self.old line.now out.old.items out.new.items
+            self.new) }
         ensures kept { OnErr result (out.new.items ≡ out.old.items) }
         ensures bad { IfErr result (IsBadLine self.old line.now) }
     {
@@ -124,7 +126,8 @@ impl Session {
 
     // Takes what the next line has up to its line feed.
     fn complete(&mut self, part: &[u8], out: &mut Vec<u8>) -> Result<(), Fault>
-        ensures ok { OnOk result (HasCompleted self.old part.now out.old.items out.new.items self.new) }
+        ensures ok { OnOk result (HasCompleted self.old part.now out.old.items out.new.items
+            self.new) }
         ensures kept { OnErr result (out.new.items ≡ out.old.items) }
         ensures bad { IfErr result (IsBadLine self.old part.now) }
     {
@@ -141,7 +144,8 @@ impl Session {
     /// completes. After a fault the session is of no more use; `out` then holds the report of the lines before the bad
     /// one.
     pub fn take(&mut self, block: &[u8], out: &mut Vec<u8>) -> Result<(), Fault>
-        ensures ok { OnOk result (HasGoneOn self.old block.now out.old.items out.new.items self.new) }
+        ensures ok { OnOk result (HasGoneOn self.old block.now out.old.items out.new.items
+            self.new) }
         ensures bad { IfErr result (IsStoppedAt self.old block.now out.old.items out.new.items) }
     {
         let mut left = block;

@@ -15,16 +15,22 @@ ghost use Rattle.lrc_protocol.specs.Follows.{pending};
 /// next arrival. It tells of exactly the node's own intervals above the last that came with an arrival, and up to the
 /// node's time. (Keleher, Cox and Zwaenepoel 1992.)
 pub fn arrivals_are_accepted()
-    ensures { (program : Program) (nodes : ℕ) (options : OptionsRecord) (events : List Event) (world : World) (e : EnvelopeRecord)
-        (m : ArriveRecord) (l : Logged) → run_of program nodes options events ≡ Some world → Contains (pending world) e
-        → e.message ≡ Arrive m → slice_get world.nodes e.to ≡ Some l → is_expected l.node e.from e.message ≡ true }
+    ensures { (program : Program) (nodes : ℕ) (options : OptionsRecord) (events : List Event)
+        (world : World) (e : EnvelopeRecord)
+        (m : ArriveRecord) (l : Logged) → run_of program nodes options events ≡ Some world
+        → Contains (pending world) e
+        → e.message ≡ Arrive m → slice_get world.nodes e.to ≡ Some l
+        → is_expected l.node e.from e.message ≡ true }
 {}
 
 /// In every run each pending departure would be accepted by its receiver now. It comes from node 0, for the episode
 /// from which the receiver awaits to depart, and its time covers the receiver's. It tells, for each node, of exactly
 /// the intervals above the receiver's time and up to its own. (Keleher, Cox and Zwaenepoel 1992.)
 pub fn departures_are_accepted()
-    ensures { (program : Program) (nodes : ℕ) (options : OptionsRecord) (events : List Event) (world : World) (e : EnvelopeRecord)
-        (m : DepartRecord) (l : Logged) → run_of program nodes options events ≡ Some world → Contains (pending world) e
-        → e.message ≡ Depart m → slice_get world.nodes e.to ≡ Some l → is_expected l.node e.from e.message ≡ true }
+    ensures { (program : Program) (nodes : ℕ) (options : OptionsRecord) (events : List Event)
+        (world : World) (e : EnvelopeRecord)
+        (m : DepartRecord) (l : Logged) → run_of program nodes options events ≡ Some world
+        → Contains (pending world) e
+        → e.message ≡ Depart m → slice_get world.nodes e.to ≡ Some l
+        → is_expected l.node e.from e.message ≡ true }
 {}

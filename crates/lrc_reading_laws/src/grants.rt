@@ -15,7 +15,10 @@ ghost use Rattle.lrc_protocol.specs.Follows.{pending};
 /// The grant tells, for each node, of exactly the intervals above the receiver's time and up to the grant's time.
 /// (Keleher, Cox and Zwaenepoel 1992.)
 pub fn grants_are_accepted()
-    ensures { (program : Program) (nodes : ℕ) (options : OptionsRecord) (events : List Event) (world : World) (e : EnvelopeRecord)
-        (m : LockGrantRecord) (l : Logged) → run_of program nodes options events ≡ Some world → Contains (pending world) e
-        → e.message ≡ LockGrant m → slice_get world.nodes e.to ≡ Some l → is_expected l.node e.from e.message ≡ true }
+    ensures { (program : Program) (nodes : ℕ) (options : OptionsRecord) (events : List Event)
+        (world : World) (e : EnvelopeRecord)
+        (m : LockGrantRecord) (l : Logged) → run_of program nodes options events ≡ Some world
+        → Contains (pending world) e
+        → e.message ≡ LockGrant m → slice_get world.nodes e.to ≡ Some l
+        → is_expected l.node e.from e.message ≡ true }
 {}

@@ -20,7 +20,8 @@ pub fn chain_told(
     from: usize,
     to: usize,
 ) -> Result<Option<Vec<usize>>, AllocError>
-    ensures { IfOk result (λ told. MatchOption told (¬ HappensBefore acts.now from to) (λ chain. IsTold acts.now from to chain.items)) }
+    ensures { IfOk result (λ told. MatchOption told (¬ HappensBefore acts.now from to)
+        (λ chain. IsTold acts.now from to chain.items)) }
 {
     if from >= to || to >= acts.len() {
         return Ok(None);
@@ -73,7 +74,8 @@ fn follow(
 ) -> Result<Option<Vec<usize>>, AllocError>
     requires earlier { from < to }
     requires next { AreNext acts.now to from next.now }
-    ensures { IfOk result (λ told. MatchOption told (¬ HappensBefore acts.now from to) (λ chain. IsTold acts.now from to chain.items)) }
+    ensures { IfOk result (λ told. MatchOption told (¬ HappensBefore acts.now from to)
+        (λ chain. IsTold acts.now from to chain.items)) }
 {
     let mut chain = Vec::new(alloc);
     let mut at = from;

@@ -11,7 +11,8 @@ use lrc_trace::act::Act;
 /// act of the node is known there.
 pub fn last_known(acts: &[Act], order: &Order, node: u8, position: usize) -> Option<usize>
     requires { IsOrderOf acts.now order.now }
-    ensures { MatchOption result ((k : ℕ) → IsActOf acts.now node k → ¬ HappensBefore acts.now k position)
+    ensures { MatchOption result ((k : ℕ) → IsActOf acts.now node k
+        → ¬ HappensBefore acts.now k position)
         (IsLastKnown acts.now node position) }
 {
     for k in (0..acts.len()).rev() {
@@ -25,7 +26,8 @@ pub fn last_known(acts: &[Act], order: &Order, node: u8, position: usize) -> Opt
 /// Returns the node's first act at which the position is known, or none if the node never knows of it.
 pub fn first_knowing(acts: &[Act], order: &Order, node: u8, position: usize) -> Option<usize>
     requires { IsOrderOf acts.now order.now }
-    ensures { MatchOption result ((k : ℕ) → IsActOf acts.now node k → ¬ HappensBefore acts.now position k)
+    ensures { MatchOption result ((k : ℕ) → IsActOf acts.now node k
+        → ¬ HappensBefore acts.now position k)
         (IsFirstKnowing acts.now node position) }
 {
     for k in 0..acts.len() {

@@ -31,7 +31,8 @@ impl Onward {
     /// Creates the table for the place behind the last position, with no starts; `most` is the number of acts. It fails
     /// if memory runs out.
     pub fn new(alloc: Global, most: usize) -> Result<Onward, AllocError>
-        ensures { IfOk result (λ onward. (vec_len onward.departs ≡ most) × ((run : List Act) (to : ℕ) → IsOnward run to (to + 1) onward)) }
+        ensures { IfOk result (λ onward. (vec_len onward.departs ≡ most)
+            × ((run : List Act) (to : ℕ) → IsOnward run to (to + 1) onward)) }
     {
         Ok(Onward {
             nodes: vec![in alloc; None; NAMES]?,

@@ -38,7 +38,8 @@ pub fn known_writes(
     word: u32,
 ) -> Result<Vec<usize>, AllocError>
     requires { IsOrderOf acts.now order.now }
-    ensures { IfOk result (λ writes. AreExactly (IsKnownWrite acts.now position word) writes.items) }
+    ensures { IfOk result (λ writes. AreExactly
+        (IsKnownWrite acts.now position word) writes.items) }
 {
     let mut writes = Vec::new(alloc);
     for k in 0..acts.len() {
@@ -51,8 +52,10 @@ pub fn known_writes(
 
 /// Returns the last of the known writes, or none if there are none.
 pub fn last_write(writes: &[usize]) -> Option<usize>
-    ensures { (run : List Act) (position word : ℕ) → AreExactly (IsKnownWrite run position word) writes.now
-        → MatchOption result ((i : ℕ) → ¬ IsKnownWrite run position word i) (IsLastKnownWrite run position word) }
+    ensures { (run : List Act) (position word : ℕ)
+        → AreExactly (IsKnownWrite run position word) writes.now
+        → MatchOption result ((i : ℕ) → ¬ IsKnownWrite run position word i)
+        (IsLastKnownWrite run position word) }
 {
     writes.last().copied()
 }
@@ -61,7 +64,8 @@ pub fn last_write(writes: &[usize]) -> Option<usize>
 fn first_beside(order: &Order, writes: &[usize], place: usize) -> Option<Crossing>
     requires { place < length writes.now }
     ensures { MatchOption result
-        ((k : ℕ) → k < place → IsTrue (is_before order.now (slice_index writes.now k) (slice_index writes.now place)))
+        ((k : ℕ) → k < place → IsTrue
+        (is_before order.now (slice_index writes.now k) (slice_index writes.now place)))
         (IsFirstBeside order.now writes.now place) }
 {
     for k in 0..place {
@@ -94,7 +98,8 @@ pub fn first_crossing(order: &Order, writes: &[usize]) -> Option<Crossing>
 
 // Whether the write happens before one of these.
 fn is_followed(order: &Order, write: usize, others: &[usize]) -> bool
-    ensures { MatchBool result ((k : ℕ) × Contains others.now k × IsTrue (is_before order.now write k))
+    ensures { MatchBool result ((k : ℕ) × Contains others.now k
+        × IsTrue (is_before order.now write k))
         ((k : ℕ) → Contains others.now k → ¬ IsTrue (is_before order.now write k)) }
 {
     for k in 0..others.len() {

@@ -48,7 +48,8 @@ impl Notes {
     /// Notes the Write of a deed, if it writes a word.
     #[tactic(auto, using(crate::proofs::Coursing::nothing_noted))]
     pub(crate) fn note(&mut self, node: u8, deed: Deed, spot: Spot)
-        ensures { (words : ℕ) (all : List AnyNote) → AreNotes words all self.old → AreNotes words (all ++ note_of spot node deed) self.new }
+        ensures { (words : ℕ) (all : List AnyNote) → AreNotes words all self.old
+            → AreNotes words (all ++ note_of spot node deed) self.new }
     {
         if let Deed::Write(word, value) = deed {
             self.keep(Note {
@@ -62,7 +63,8 @@ impl Notes {
 
     // The word was written last by this.
     fn keep(&mut self, note: Note)
-        ensures { (words : ℕ) (all : List AnyNote) → AreNotes words all self.old → AreNotes words (all ++ note ∷ []) self.new }
+        ensures { (words : ℕ) (all : List AnyNote) → AreNotes words all self.old
+            → AreNotes words (all ++ note ∷ []) self.new }
     {
         let place = note.word as usize;
         if place < self.last.len() {

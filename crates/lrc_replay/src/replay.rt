@@ -46,7 +46,8 @@ impl<'c> Replay<'c> {
     /// Returns the state of a node, or none if it does not exist or has failed.
     pub fn state(&self, node: usize) -> Option<&NodeState<'c>>
         ensures { (world : World) → IsReplay self.now world
-            → option_map (λ state. state.now) result ≡ option_map (λ l. l.node) (slice_get world.nodes node) }
+            → option_map (λ state. state.now) result
+            ≡ option_map (λ l. l.node) (slice_get world.nodes node) }
     {
         if node < self.nodes.len() {
             self.nodes[node].state()
@@ -57,7 +58,8 @@ impl<'c> Replay<'c> {
 
     /// Returns the message that an event names, or none if it is not in flight.
     pub fn message(&self, event: Event) -> Option<&Envelope>
-        ensures { (world : World) → IsReplay self.now world → option_map (λ envelope. envelope.now) result ≡ message_of world event }
+        ensures { (world : World) → IsReplay self.now world
+            → option_map (λ envelope. envelope.now) result ≡ message_of world event }
     {
         match event {
             Event::Run(_) => None,
@@ -101,8 +103,10 @@ impl<'c> Replay<'c> {
 
     // The node goes on, if it is there and ready.
     fn run(&mut self, node: usize) -> Result<Option<Turn>, AllocError>
-        ensures nodes { IfOk result (λ made. AnswersAt (nodes_played self.old.nodes.items) node log.run
-            (slice_get (nodes_played self.old.nodes.items) node) made (nodes_played self.new.nodes.items)) }
+        ensures nodes { IfOk result (λ made. AnswersAt
+            (nodes_played self.old.nodes.items) node log.run
+            (slice_get (nodes_played self.old.nodes.items) node) made
+            (nodes_played self.new.nodes.items)) }
         ensures flight { self.new.flight ≡ self.old.flight }
     {
         run_at(&mut self.nodes, node)
@@ -110,9 +114,11 @@ impl<'c> Replay<'c> {
 
     // The message at the place is taken, if it is there and expected. It is no more in flight then.
     fn deliver(&mut self, place: usize) -> Result<Option<Turn>, AllocError>
-        ensures nodes { IfOk result (λ made. TakesAt (nodes_played self.old.nodes.items) (slice_get self.old.flight.items place)
+        ensures nodes { IfOk result (λ made. TakesAt (nodes_played self.old.nodes.items)
+            (slice_get self.old.flight.items place)
             made (nodes_played self.new.nodes.items)) }
-        ensures flight { IfOk result (λ made. self.new.flight.items ≡ left_behind self.old.flight.items place made) }
+        ensures flight { IfOk result (λ made. self.new.flight.items
+            ≡ left_behind self.old.flight.items place made) }
     {
         let turn = self.take(place)?;
         forget(&mut self.flight, place, turn.is_some());
@@ -121,7 +127,8 @@ impl<'c> Replay<'c> {
 
     // The same, but the message stays in flight.
     fn take(&mut self, place: usize) -> Result<Option<Turn>, AllocError>
-        ensures nodes { IfOk result (λ made. TakesAt (nodes_played self.old.nodes.items) (slice_get self.old.flight.items place)
+        ensures nodes { IfOk result (λ made. TakesAt (nodes_played self.old.nodes.items)
+            (slice_get self.old.flight.items place)
             made (nodes_played self.new.nodes.items)) }
         ensures flight { self.new.flight ≡ self.old.flight }
     {
@@ -153,7 +160,8 @@ fn take_at(
     to: usize,
     envelope: &Envelope,
 ) -> Result<Option<Turn>, AllocError>
-    ensures { IfOk result (λ made. AnswersAt (nodes_played nodes.old.items) to (log.taken envelope.now)
+    ensures { IfOk result (λ made. AnswersAt (nodes_played nodes.old.items) to
+        (log.taken envelope.now)
         (slice_get (nodes_played nodes.old.items) to) made (nodes_played nodes.new.items)) }
 {
     if to < nodes.len() {
@@ -204,7 +212,8 @@ fn refused(fault: NodeFault) -> Result<(), AllocError>
 // Takes the message at the place out of flight, if it was taken.
 fn forget(flight: &mut VecDeque<Envelope>, place: usize, is_taken: bool)
     ensures kept { is_taken ≡ false → flight.new ≡ flight.old }
-    ensures removed { is_taken ≡ true → place < length flight.old.items → flight.new.items ≡ remove flight.old.items place }
+    ensures removed { is_taken ≡ true → place < length flight.old.items
+        → flight.new.items ≡ remove flight.old.items place }
 {
     if is_taken {
         let _taken = flight.remove(place);

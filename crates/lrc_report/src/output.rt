@@ -34,7 +34,8 @@ impl<'w, W: Write> Output<'w, W> {
         requires { self.now.failed ≡ false }
         ensures same_writer { self.new.writer.ghost_name ≡ self.old.writer.ghost_name }
         ensures count { WritesAtMost result text.now }
-        ensures bytes { WriteAppends (W.contents self.old.writer.now) (W.contents self.new.writer.now) result text.now }
+        ensures bytes { WriteAppends (W.contents self.old.writer.now)
+            (W.contents self.new.writer.now) result text.now }
         ensures fine { OnOk result (self.new.failed ≡ false) }
         ensures failed { OnErr result (self.new.failed ≡ true) }
     {
@@ -62,8 +63,10 @@ impl<'w, W: Write> Output<'w, W> {
 pub fn put_parts<W: Write>(output: &mut Output<'_, W>, parts: &[Vec<u8>]) -> io::Result<()>
     requires { output.now.failed ≡ false }
     ensures same_writer { output.new.writer.ghost_name ≡ output.old.writer.ghost_name }
-    ensures ok { OnOk result (Appends (W.contents output.old.writer.now) (W.contents output.new.writer.now) (whole_text parts.now)) }
-    ensures err { OnErr result (AppendsFront (W.contents output.old.writer.now) (W.contents output.new.writer.now) (whole_text parts.now)) }
+    ensures ok { OnOk result (Appends (W.contents output.old.writer.now)
+        (W.contents output.new.writer.now) (whole_text parts.now)) }
+    ensures err { OnErr result (AppendsFront (W.contents output.old.writer.now)
+        (W.contents output.new.writer.now) (whole_text parts.now)) }
     ensures fine { OnOk result (output.new.failed ≡ false) }
     ensures failed { OnErr result (output.new.failed ≡ true) }
 {
@@ -78,8 +81,10 @@ pub fn put_parts<W: Write>(output: &mut Output<'_, W>, parts: &[Vec<u8>]) -> io:
 pub fn put<W: Write>(output: &mut Output<'_, W>, text: &[u8]) -> io::Result<()>
     requires { output.now.failed ≡ false }
     ensures same_writer { output.new.writer.ghost_name ≡ output.old.writer.ghost_name }
-    ensures ok { OnOk result (Appends (W.contents output.old.writer.now) (W.contents output.new.writer.now) text.now) }
-    ensures err { OnErr result (AppendsFront (W.contents output.old.writer.now) (W.contents output.new.writer.now) text.now) }
+    ensures ok { OnOk result (Appends (W.contents output.old.writer.now)
+        (W.contents output.new.writer.now) text.now) }
+    ensures err { OnErr result (AppendsFront (W.contents output.old.writer.now)
+        (W.contents output.new.writer.now) text.now) }
     ensures fine { OnOk result (output.new.failed ≡ false) }
     ensures failed { OnErr result (output.new.failed ≡ true) }
 {

@@ -50,7 +50,8 @@ pub fn run_parts(
     races: &[Race],
     first_race: Option<usize>,
 ) -> Result<Vec<Vec<u8>>, AllocError>
-    ensures { IfOk result (λ parts. whole_text parts.items ≡ run_text acts.now ends.now races.now first_race) }
+    ensures { IfOk result (λ parts. whole_text parts.items
+        ≡ run_text acts.now ends.now races.now first_race) }
 {
     let mut parts = report_parts(alloc, acts, ends)?;
     parts.push(races_part(alloc, races)?)?;

@@ -32,9 +32,11 @@ use std::alloc::{AllocError, Global};
 pub(crate) fn halt_at(alloc: Global, setting: &Setting<'_>, left: Left, failure: Failure) -> Halt
     requires range { AreNodes setting.now.nodes × AreSteps setting.now.options.steps }
     requires few { length left.logs.items ≤ 16 }
-    requires turns { AreLogs setting.now.program.now setting.now.nodes setting.now.options (logs_left left) }
+    requires turns { AreLogs setting.now.program.now setting.now.nodes setting.now.options
+        (logs_left left) }
     requires first { IsFirstFailure left.stops.items failure }
-    ensures { (picker : AnyPicker) → IsLeft setting.now.program.now setting.now.nodes setting.now.options picker left
+    ensures { (picker : AnyPicker) → IsLeft setting.now.program.now setting.now.nodes
+        setting.now.options picker left
         → IsHalt setting.now.program.now setting.now.nodes setting.now.options picker result }
 {
     match failure.stop {
@@ -49,9 +51,11 @@ pub(crate) fn halt_at(alloc: Global, setting: &Setting<'_>, left: Left, failure:
 fn worn_out(alloc: Global, setting: &Setting<'_>, left: Left, node: usize) -> Halt
     requires range { AreNodes setting.now.nodes × AreSteps setting.now.options.steps }
     requires few { length left.logs.items ≤ 16 }
-    requires turns { AreLogs setting.now.program.now setting.now.nodes setting.now.options (logs_left left) }
+    requires turns { AreLogs setting.now.program.now setting.now.nodes setting.now.options
+        (logs_left left) }
     requires first { IsFirstFailure left.stops.items (record { node = node; stop = stops.Worn }) }
-    ensures { (picker : AnyPicker) → IsLeft setting.now.program.now setting.now.nodes setting.now.options picker left
+    ensures { (picker : AnyPicker) → IsLeft setting.now.program.now setting.now.nodes
+        setting.now.options picker left
         → IsHalt setting.now.program.now setting.now.nodes setting.now.options picker result }
 {
     match wearing(
@@ -77,11 +81,14 @@ fn wearing(
     node: usize,
 ) -> Result<Vec<Event>, WeaveFault>
     requires few { length logs.now ≤ 16 }
-    requires turns { AreLogs setting.now.program.now setting.now.nodes setting.now.options (map (λ log. log.items) logs.now) }
+    requires turns { AreLogs setting.now.program.now setting.now.nodes setting.now.options
+        (map (λ log. log.items) logs.now) }
     requires range { AreNodes setting.now.nodes × AreSteps setting.now.options.steps }
-    ensures worn { IfOk result (λ events. IsWearing setting.now.program.now setting.now.nodes setting.now.options
+    ensures worn { IfOk result (λ events. IsWearing setting.now.program.now setting.now.nodes
+        setting.now.options
         (map (λ log. log.items) logs.now) wires.now node events.items) }
-    ensures mismatch { result ≡ Err weaving.Mismatch → IsUntoldWearing setting.now.program.now setting.now.nodes setting.now.options
+    ensures mismatch { result ≡ Err weaving.Mismatch
+        → IsUntoldWearing setting.now.program.now setting.now.nodes setting.now.options
         (map (λ log. log.items) logs.now) wires.now node }
 {
     if !are_takes_sent(alloc, logs)? {
@@ -95,7 +102,8 @@ fn wearing(
 // Whether a run of these events wears out: an error where it does not.
 fn wears_out(alloc: Global, setting: &Setting<'_>, events: &[Event]) -> Result<(), WeaveFault>
     requires range { AreNodes setting.now.nodes × AreSteps setting.now.options.steps }
-    ensures worn { OnOk result (IsWornBy setting.now.program.now setting.now.nodes setting.now.options events.now) }
+    ensures worn { OnOk result (IsWornBy setting.now.program.now setting.now.nodes
+        setting.now.options events.now) }
     ensures few { length events.now < 2 ^ 64 }
     ensures mismatch { result ≡ Err weaving.Mismatch
         → IsPlayedOut setting.now.program.now setting.now.nodes setting.now.options events.now }
@@ -137,7 +145,8 @@ fn events_until(
     requires few { length logs.now ≤ 16 }
     ensures events { IfOk result (λ events. AreEventsOf (map (λ log. log.items) logs.now) node
         (unfinished (map (λ log. log.items) logs.now) wires.now node) events.items) }
-    ensures mismatch { result ≡ Err weaving.Mismatch → AreUnmatched (map (λ log. log.items) logs.now)
+    ensures mismatch { result ≡ Err weaving.Mismatch
+        → AreUnmatched (map (λ log. log.items) logs.now)
         (unfinished (map (λ log. log.items) logs.now) wires.now node) }
 {
     let Some(mailbox) = wires.get(node) else {
@@ -208,7 +217,8 @@ fn is_take(entry: &Entry) -> bool
 
 // The bytes of what was put at a place of a history.
 fn bytes_at(history: &[Wire], place: usize) -> Option<&Bytes>
-    ensures { MatchOption result (put_at history.now place ≡ None) (λ bytes. put_at history.now place ≡ Some bytes.now) }
+    ensures { MatchOption result (put_at history.now place ≡ None)
+        (λ bytes. put_at history.now place ≡ Some bytes.now) }
 {
     match history.get(place) {
         Some(Wire::Put { bytes, .. }) => Some(bytes),

@@ -73,9 +73,11 @@ fn lived<G: Gate + Sync, R: Threads + Wait + Sync>(
     gate: &G,
 ) -> Result<ThreadedRun, Halt>
     requires range { AreNodes setting.now.nodes × AreSteps setting.now.options.steps }
-    ensures run { IfOk result (λ run. IsThreadedRun setting.now.program.now setting.now.nodes setting.now.options picker
+    ensures run { IfOk result (λ run. IsThreadedRun setting.now.program.now setting.now.nodes
+        setting.now.options picker
         run.made run.wires) }
-    ensures halt { IfErr result (IsHalt setting.now.program.now setting.now.nodes setting.now.options picker) }
+    ensures halt { IfErr result (IsHalt setting.now.program.now setting.now.nodes
+        setting.now.options picker) }
 {
     let (parts, wires) = live(rt, alloc, setting, picker, gate)?;
     match first_failure(parts.stops.as_slice()) {
@@ -94,7 +96,8 @@ fn live<G: Gate + Sync, R: Threads + Wait + Sync>(
     gate: &G,
 ) -> Result<(Parts, Wires), AllocError>
     requires range { AreNodes setting.now.nodes × AreSteps setting.now.options.steps }
-    ensures left { IfOk result (λ lived. AreLeft setting.now.program.now setting.now.nodes setting.now.options picker
+    ensures left { IfOk result (λ lived. AreLeft setting.now.program.now setting.now.nodes
+        setting.now.options picker
         (map (λ log. log.items) lived.0.logs.items) lived.0.stops.items lived.1) }
     ensures whole { IfOk result (λ lived. HaveNoFailure lived.0.stops.items
         → AreWhole setting.now.program.now setting.now.nodes setting.now.options
@@ -116,17 +119,21 @@ fn finished(
     wires: Wires,
 ) -> Result<ThreadedRun, Halt>
     requires range { AreNodes setting.now.nodes × AreSteps setting.now.options.steps }
-    requires turns { AreLogs setting.now.program.now setting.now.nodes setting.now.options (map (λ log. log.items) parts.logs.items) }
+    requires turns { AreLogs setting.now.program.now setting.now.nodes setting.now.options
+        (map (λ log. log.items) parts.logs.items) }
     requires mailboxes { length wires ≡ setting.now.nodes }
     requires unfailed { HaveNoFailure parts.stops.items }
     requires whole { AreWhole setting.now.program.now setting.now.nodes setting.now.options
         (map (λ log. log.items) parts.logs.items) parts.traces.items parts.is_any_ready }
     ensures run { (picker : AnyPicker) → AreOf picker wires
-        → IfOk result (λ run. IsThreadedRun setting.now.program.now setting.now.nodes setting.now.options picker
+        → IfOk result (λ run. IsThreadedRun setting.now.program.now setting.now.nodes
+        setting.now.options picker
         run.made run.wires) }
-    ensures halt { (picker : AnyPicker) → AreLeft setting.now.program.now setting.now.nodes setting.now.options picker
+    ensures halt { (picker : AnyPicker) → AreLeft setting.now.program.now setting.now.nodes
+        setting.now.options picker
         (map (λ log. log.items) parts.logs.items) parts.stops.items wires
-        → IfErr result (IsHalt setting.now.program.now setting.now.nodes setting.now.options picker) }
+        → IfErr result (IsHalt setting.now.program.now setting.now.nodes setting.now.options
+        picker) }
 {
     match told(alloc, setting, &parts, wires.mailboxes()) {
         Ok(told) => Ok(reported(parts, wires, told)),

@@ -42,10 +42,12 @@ pub fn run<R: Threads + Wait + Sync>(
     options: &Options,
     picker: Picker,
 ) -> Result<(Report, Wires), RunFault>
-    ensures run { IfOk result (λ done. (made : AnyRun) × (done.0 ≡ made.report) × IsThreadedRun program.now nodes options.now picker made done.1) }
+    ensures run { IfOk result (λ done. (made : AnyRun) × (done.0 ≡ made.report)
+        × IsThreadedRun program.now nodes options.now picker made done.1) }
     ensures fault { IfErr result (IsRunFault program.now nodes options.now picker) }
     ensures bad_nodes { (result ≡ Err RunFault.BadNodes) ↔ (¬ AreNodes nodes) }
-    ensures bad_steps { (result ≡ Err RunFault.BadSteps) ↔ (AreNodes nodes × ¬ AreSteps options.now.steps) }
+    ensures bad_steps { (result ≡ Err RunFault.BadSteps)
+        ↔ (AreNodes nodes × ¬ AreSteps options.now.steps) }
 {
     run_gated(rt, alloc, program, nodes, options, picker, &OpenGate)
 }
@@ -60,10 +62,12 @@ pub fn run_gated<G: Gate + Sync, R: Threads + Wait + Sync>(
     picker: Picker,
     gate: &G,
 ) -> Result<(Report, Wires), RunFault>
-    ensures run { IfOk result (λ done. (made : AnyRun) × (done.0 ≡ made.report) × IsThreadedRun program.now nodes options.now picker made done.1) }
+    ensures run { IfOk result (λ done. (made : AnyRun) × (done.0 ≡ made.report)
+        × IsThreadedRun program.now nodes options.now picker made done.1) }
     ensures fault { IfErr result (IsRunFault program.now nodes options.now picker) }
     ensures bad_nodes { (result ≡ Err RunFault.BadNodes) ↔ (¬ AreNodes nodes) }
-    ensures bad_steps { (result ≡ Err RunFault.BadSteps) ↔ (AreNodes nodes × ¬ AreSteps options.now.steps) }
+    ensures bad_steps { (result ≡ Err RunFault.BadSteps)
+        ↔ (AreNodes nodes × ¬ AreSteps options.now.steps) }
 {
     let setting = check(nodes, options)?;
     match run_on_threads(rt, alloc, program, &setting, picker, gate) {

@@ -31,7 +31,8 @@ fn are_sent_to(
     node: usize,
     log: &[Entry],
 ) -> Result<bool, AllocError>
-    ensures { IfOk result (λ are. IsTrue are ↔ AreSentTo (map (λ log. log.items) logs.now) node log.now) }
+    ensures { IfOk result (λ are. IsTrue are
+        ↔ AreSentTo (map (λ log. log.items) logs.now) node log.now) }
 {
     let mut last = 0;
     for entry in log {
@@ -51,7 +52,8 @@ fn is_take_sent(
     last: u64,
     entry: &Entry,
 ) -> Result<bool, AllocError>
-    ensures { IfOk result (λ is. IsTrue is ↔ IsTakeSent (map (λ log. log.items) logs.now) node last entry.now) }
+    ensures { IfOk result (λ is. IsTrue is
+        ↔ IsTakeSent (map (λ log. log.items) logs.now) node last entry.now) }
 {
     match &entry.input {
         Input::Run => Ok(true),
@@ -68,7 +70,8 @@ fn has_source(
     stamp: u64,
     envelope: &Envelope,
 ) -> Result<bool, AllocError>
-    ensures { IfOk result (λ is. IsTrue is ↔ HasSource (map (λ log. log.items) logs.now) node last stamp envelope.now) }
+    ensures { IfOk result (λ is. IsTrue is
+        ↔ HasSource (map (λ log. log.items) logs.now) node last stamp envelope.now) }
 {
     if usize::from(envelope.to) != node {
         return Ok(false);

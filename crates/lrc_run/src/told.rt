@@ -52,15 +52,19 @@ pub(crate) fn told(
     wires: &[Mailbox],
 ) -> Result<ToldRun, WeaveFault>
     requires few { setting.now.nodes ≤ 16 }
-    requires turns { AreLogs setting.now.program.now setting.now.nodes setting.now.options (map (λ log. log.items) parts.now.logs.items) }
+    requires turns { AreLogs setting.now.program.now setting.now.nodes setting.now.options
+        (map (λ log. log.items) parts.now.logs.items) }
     requires whole { AreWhole setting.now.program.now setting.now.nodes setting.now.options
-        (map (λ log. log.items) parts.now.logs.items) parts.now.traces.items parts.now.is_any_ready }
+        (map (λ log. log.items) parts.now.logs.items) parts.now.traces.items
+        parts.now.is_any_ready }
     requires wires { length wires.now ≡ setting.now.nodes }
     ensures told { IfOk result (IsTold setting.now.program.now setting.now.nodes setting.now.options
         (map (λ log. log.items) parts.now.logs.items)) }
-    ensures matched { OnOk result (AreMatched (map (λ log. log.items) parts.now.logs.items) wires.now) }
+    ensures matched { OnOk result (AreMatched (map (λ log. log.items) parts.now.logs.items)
+        wires.now) }
     ensures taken { OnOk result (All IsAllGiven wires.now) }
-    ensures mismatch { result ≡ Err Mismatch → IsUntold setting.now.program.now setting.now.nodes setting.now.options
+    ensures mismatch { result ≡ Err Mismatch → IsUntold setting.now.program.now setting.now.nodes
+        setting.now.options
         (map (λ log. log.items) parts.now.logs.items) wires.now }
 {
     let run = weave_run(alloc, parts.logs.as_slice(), wires)?;
@@ -92,7 +96,8 @@ fn findings_of(
     requires raceless { AreRacesOf traces.now [] → IsRaceFree acts.now }
     ensures ends { IfOk result (λ found. found.ends.items ≡ ends_of nodes acts.now) }
     ensures races { IfOk result (λ found. AreRacesOf traces.now found.races.items) }
-    ensures first { IfOk result (λ found. MatchOption found.first_race (IsRaceFree acts.now) (IsFirstRace acts.now)) }
+    ensures first { IfOk result (λ found. MatchOption found.first_race (IsRaceFree acts.now)
+        (IsFirstRace acts.now)) }
 {
     let ends = ends(alloc, nodes, acts)?;
     let races = races(alloc, traces)?;

@@ -40,7 +40,8 @@ pub fn settle_thread(
 ) -> Result<Settling, AllocError>
     requires flat { IsFlat flat.now }
     requires within { spot.now.place ≤ length flat.now.code.now }
-    ensures { IfOk result (λ settling. IsSettling flat.now (spot_thread flat.now spot.now) most settling) }
+    ensures { IfOk result (λ settling.
+        IsSettling flat.now (spot_thread flat.now spot.now) most settling) }
 {
     let mut there = *spot;
     let mut deeds = Vec::new(alloc);
@@ -62,7 +63,9 @@ fn make_free_acts(
     requires flat { IsFlat flat.now }
     requires within { spot.old.place ≤ length flat.now.code.now }
     requires empty { deeds.old.items ≡ [] }
-    ensures ends { IfOk result (λ ending. EndsSo (spot_thread flat.now spot.old) most deeds.new.items (spot_thread flat.now spot.new) ending) }
+    ensures ends { IfOk result (λ ending. EndsSo
+        (spot_thread flat.now spot.old) most deeds.new.items
+        (spot_thread flat.now spot.new) ending) }
     ensures within { spot.new.place ≤ length flat.now.code.now }
 {
     let mut stops = false;

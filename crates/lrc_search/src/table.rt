@@ -41,7 +41,8 @@ impl SettledThreads {
     /// Returns the number of a thread: its number if it came before, otherwise the next one, with which the thread is
     /// added. It fails if memory runs out; the table is then unchanged.
     pub fn number(&mut self, thread: &Spot) -> Result<usize, AllocError>
-        ensures numbered { IfOk result (λ number. IsNumbered (threads_in self.old) thread.now (threads_in self.new) number) }
+        ensures numbered { IfOk result (λ number. IsNumbered (threads_in self.old) thread.now
+            (threads_in self.new) number) }
         ensures distinct { OnOk result (AllPairs (λ x y. x ≢ y) (threads_in self.new)) }
         ensures unchanged { OnErr result (threads_in self.new ≡ threads_in self.old) }
     {

@@ -19,7 +19,8 @@ pub(crate) fn tell_races<F: Sources, W: Write, E: Write>(
     out: &mut W,
     err: &mut E,
 ) -> u8
-    ensures { IsRacesPlayed (F.known sources.now) racing.now.file.now (form_of racing.now.form) racing.now.group
+    ensures { IsRacesPlayed (F.known sources.now) racing.now.file.now
+        (form_of racing.now.form) racing.now.group
         (W.contents out.old) (W.contents out.new) (E.contents err.old) (E.contents err.new) result }
 {
     play_races(

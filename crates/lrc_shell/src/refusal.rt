@@ -19,7 +19,8 @@ const BAD_ARGUMENT: &[u8] = b"error: invalid UTF-8 was detected in one or more a
 
 /// Writes why the arguments are refused, and returns the exit status: memory ran out, or an argument is not UTF-8.
 pub(crate) fn refuse_arguments<E: Write>(error: &io::Error, err: &mut E) -> u8
-    ensures told { IsTold (E.contents err.old) (E.contents err.new) (argument_line (error_kind error.now)) }
+    ensures told { IsTold (E.contents err.old) (E.contents err.new)
+        (argument_line (error_kind error.now)) }
     ensures status { result ≡ argument_status (error_kind error.now) }
 {
     let kind = error.kind();

@@ -29,7 +29,8 @@ pub fn start<R, F: Sources, L, W: Write, E: Write>(
 where
     R: Threads + Wait + Sync + Clock + AllocGlobal,
     L: Late + Send + Drop,
-    ensures { Starts (F.known sources.now) (result_map_both (λ given. map string_bytes given.items) error_kind arguments)
+    ensures { Starts (F.known sources.now)
+        (result_map_both (λ given. map string_bytes given.items) error_kind arguments)
         (W.contents out.old) (W.contents out.new) (E.contents err.old) (E.contents err.new) result }
 {
     match arguments {

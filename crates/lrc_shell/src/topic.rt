@@ -18,7 +18,8 @@ pub(crate) fn tell_topic<W: Write, E: Write>(
     out: &mut W,
     err: &mut E,
 ) -> u8
-    ensures { IsTopicTold (W.contents out.old) (W.contents out.new) (E.contents err.old) (E.contents err.new) result }
+    ensures { IsTopicTold (W.contents out.old) (W.contents out.new) (E.contents err.old)
+        (E.contents err.new) result }
 {
     match text_of(alloc, topic) {
         Ok(text) => write_text(text.as_bytes(), out),

@@ -16,8 +16,10 @@ pub trait Blocks {
     /// file. If the bytes left are known and readable, it can fail only because memory runs out.
     fn read(&mut self, block: &mut [u8]) -> io::Result<usize>
         ensures count { IfOk result (λ count. count ≤ length block.new) }
-        ensures ok { IfOk result (λ count. IsReadOff (left self.old) (take count block.new) (left self.new)) }
-        ensures end { IfOk result (λ count. count ≡ 0 → 0 < length block.new → IsAtEnd (left self.old)) }
+        ensures ok { IfOk result (λ count. IsReadOff (left self.old) (take count block.new)
+            (left self.new)) }
+        ensures end { IfOk result (λ count. count ≡ 0 → 0 < length block.new
+            → IsAtEnd (left self.old)) }
         ensures err { IfErr result (λ error. IsCause (left self.old) (error_kind error)) };
 }
 

@@ -27,7 +27,8 @@ pub fn refuse_memory<E: Write>(err: &mut E) -> u8
 
 /// Writes why a file cannot be read, and returns the exit status 1.
 pub fn refuse_file<E: Write>(error: &io::Error, err: &mut E) -> u8
-    ensures told { IsTold (E.contents err.old) (E.contents err.new) (read_line (error_kind error.now)) }
+    ensures told { IsTold (E.contents err.old) (E.contents err.new)
+        (read_line (error_kind error.now)) }
     ensures status { result ≡ 1 }
 {
     refuse_read(error.kind(), err)

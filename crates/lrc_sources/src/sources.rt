@@ -25,7 +25,8 @@ pub trait Sources {
     /// runs out.
     fn open(&self, path: &str) -> io::Result<Self::File>
         ensures ok { IfOk result (λ file. Self.File.left file ≡ (known self.now).files path.now) }
-        ensures err { IfErr result (λ error. IsCause ((known self.now).files path.now) (error_kind error)) };
+        ensures err { IfErr result (λ error. IsCause ((known self.now).files path.now)
+            (error_kind error)) };
 
     /// Opens standard input, to be read block by block.
     fn open_input(&self) -> Self::Input
@@ -34,8 +35,10 @@ pub trait Sources {
     /// Reads the first bytes of a file, at most `most`. If the file is known to be readable, it can fail only because
     /// memory runs out.
     fn file(&self, alloc: Global, path: &str, most: u64) -> io::Result<Vec<u8>>
-        ensures ok { IfOk result (λ bytes. IsFront most ((known self.now).files path.now) bytes.items) }
-        ensures err { IfErr result (λ error. IsCause ((known self.now).files path.now) (error_kind error)) };
+        ensures ok { IfOk result (λ bytes. IsFront most
+            ((known self.now).files path.now) bytes.items) }
+        ensures err { IfErr result (λ error. IsCause ((known self.now).files path.now)
+            (error_kind error)) };
 
     /// Reads the first bytes of standard input, at most `most`. If it is known to be readable, it can fail only because
     /// memory runs out.
@@ -79,7 +82,8 @@ impl<'r, R: Files + Input> Sources for System<'r, R> {
 
 /// Reads the bytes that a reader has left, at most `most`.
 pub fn read_up_to<R: Read + Drop>(alloc: Global, reader: R, most: u64) -> io::Result<Vec<u8>>
-    ensures { IfOk result (λ bytes. IfSome (R.remaining reader) (λ left. bytes.items ≡ take most left)) }
+    ensures { IfOk result (λ bytes. IfSome (R.remaining reader)
+        (λ left. bytes.items ≡ take most left)) }
 {
     let mut bytes = Vec::new(alloc);
     reader.take(most).read_to_end(&mut bytes)?;

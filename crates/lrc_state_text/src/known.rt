@@ -54,7 +54,8 @@ impl Known {
         alloc: Global,
         state: &NodeState<'_>,
     ) -> Result<Vec<StoredInterval>, AllocError>
-        ensures { IfOk result (λ found. found.items ≡ not_known self.now (stored_in state.now.memory)) }
+        ensures { IfOk result (λ found. found.items
+            ≡ not_known self.now (stored_in state.now.memory)) }
     {
         let mut all = all_stored(alloc, state)?;
         all.retain(|stored| !self.has(stored));

@@ -47,7 +47,8 @@ fn cleaned_nodes(alloc: Global, manager: &Manager, nodes: u8) -> Result<Vec<u64>
 fn push_clean(text: &mut Vec<u8>, manager: &Manager, nodes: u8) -> Result<(), AllocError>
     requires nodes { nodes ≡ length manager.now.last }
     requires some { 0 < nodes }
-    ensures { OnOk result (text.new.items ≡ text.old.items ++ clean_text manager.now.cleans (cleaned_nodes manager.now)) }
+    ensures { OnOk result (text.new.items
+        ≡ text.old.items ++ clean_text manager.now.cleans (cleaned_nodes manager.now)) }
 {
     if manager.has_cleaned(0).is_none() {
         return text.extend_from_slice(b"null");

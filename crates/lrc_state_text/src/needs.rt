@@ -110,7 +110,8 @@ fn base_name(base: &Base) -> &'static [u8]
 // Adds the page of a need, and what is known of its base copy.
 fn push_base(text: &mut Vec<u8>, need: &Need) -> Result<(), AllocError>
     ensures { OnOk result (text.new.items ≡ text.old.items
-        ++ (codes "{\"page\":" ++ decimal need.now.page ++ codes ",\"base\":\"" ++ base_name need.now.base)) }
+        ++ (codes "{\"page\":" ++ decimal need.now.page ++ codes ",\"base\":\""
+        ++ base_name need.now.base)) }
 {
     push_number(text, b"{\"page\":", u64::from(need.page()))?;
     text.extend_from_slice(b",\"base\":\"")?;

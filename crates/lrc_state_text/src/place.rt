@@ -34,14 +34,16 @@ fn push_name(text: &mut Vec<u8>, named: NamedValue<'_>) -> Result<(), AllocError
 
 // Adds a name behind others.
 fn push_next(text: &mut Vec<u8>, named: NamedValue<'_>) -> Result<(), AllocError>
-    ensures { OnOk result (text.new.items ≡ text.old.items ++ (codes "," ++ named_text (named_seen named.entry))) }
+    ensures { OnOk result (text.new.items
+        ≡ text.old.items ++ (codes "," ++ named_text (named_seen named.entry))) }
 {
     text.extend_from_slice(b",")?;
     push_name(text, named)
 }
 
 fn push_later(text: &mut Vec<u8>, names: &[NamedValue<'_>]) -> Result<(), AllocError>
-    ensures { OnOk result (text.new.items ≡ text.old.items ++ later named_text (map named_seen names.now)) }
+    ensures { OnOk result (text.new.items
+        ≡ text.old.items ++ later named_text (map named_seen names.now)) }
 {
     for named in names {
         push_next(text, *named)?;
@@ -51,7 +53,8 @@ fn push_later(text: &mut Vec<u8>, names: &[NamedValue<'_>]) -> Result<(), AllocE
 
 #[tactic(auto, unfolding(crate::specs::Json::listed))]
 fn push_names(text: &mut Vec<u8>, names: &[NamedValue<'_>]) -> Result<(), AllocError>
-    ensures { OnOk result (text.new.items ≡ text.old.items ++ listed named_text (map named_seen names.now)) }
+    ensures { OnOk result (text.new.items
+        ≡ text.old.items ++ listed named_text (map named_seen names.now)) }
 {
     match names {
         [] => Ok(()),
@@ -68,7 +71,8 @@ pub(crate) fn push_place(
     line: u32,
     names: &[NamedValue<'_>],
 ) -> Result<(), AllocError>
-    ensures { OnOk result (text.new.items ≡ text.old.items ++ place_members line (map named_seen names.now)) }
+    ensures { OnOk result (text.new.items
+        ≡ text.old.items ++ place_members line (map named_seen names.now)) }
 {
     push_number(text, b",\"at\":", u64::from(line))?;
     text.extend_from_slice(b",\"names\":{")?;

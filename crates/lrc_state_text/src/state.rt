@@ -61,7 +61,8 @@ fn push_course(
     place: &Place<'_>,
 ) -> Result<(), AllocError>
     ensures { OnOk result (text.new.items
-        ≡ text.old.items ++ course_members state.now place.now.at (map named_seen place.now.names.now)) }
+        ≡ text.old.items ++ course_members state.now place.now.at
+        (map named_seen place.now.names.now)) }
 {
     push_clock(text, state)?;
     push_waits(text, state)?;
@@ -145,7 +146,8 @@ pub fn push_state(
     known: &Known,
 ) -> Result<(), AllocError>
     ensures { OnOk result (text.new.items
-        ≡ text.old.items ++ state_text state.now place.now.at (map named_seen place.now.names.now) known.now) }
+        ≡ text.old.items ++ state_text state.now place.now.at
+        (map named_seen place.now.names.now) known.now) }
 {
     text.extend_from_slice(b"{")?;
     push_course(text, state, place)?;

@@ -94,7 +94,8 @@ fn changes_stored(
     page: u16,
 ) -> Result<Option<Changes>, AllocError>
     requires { count ≡ length memory.now.memory.copies }
-    ensures { IfOk result (λ changes. changes ≡ changes_stored memory.now.memory interval.now page) }
+    ensures { IfOk result (λ changes. changes
+        ≡ changes_stored memory.now.memory interval.now page) }
 {
     if page < count {
         memory.changes_known(interval.node, interval.index(), page)
@@ -112,7 +113,8 @@ fn put_changes(
     page: u16,
 ) -> Result<(), AllocError>
     requires { count ≡ length memory.now.memory.copies }
-    ensures { OnOk result (all.new.items ≡ all.old.items ++ option_to_list (page_changes memory.now.memory interval.now page)) }
+    ensures { OnOk result (all.new.items
+        ≡ all.old.items ++ option_to_list (page_changes memory.now.memory interval.now page)) }
 {
     if let Some(changes) = changes_stored(memory, count, interval, page)? {
         all.push(PageChanges { page, changes })?;

@@ -39,7 +39,8 @@ pub(crate) fn push_wait(
     episode: u32,
     wait: &Wait,
 ) -> Result<(), AllocError>
-    ensures { OnOk result (text.new.items ≡ text.old.items ++ wait_text end may_begin episode (seen_wait wait.now)) }
+    ensures { OnOk result (text.new.items
+        ≡ text.old.items ++ wait_text end may_begin episode (seen_wait wait.now)) }
 {
     match wait {
         Wait::Nothing => push_standing(text, end, may_begin),

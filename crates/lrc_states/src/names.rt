@@ -13,7 +13,8 @@ pub(crate) fn names_set<'t>(
     names: &[&'t [u8]],
     values: &[u64; 32],
 ) -> Result<Vec<NamedValue<'t>>, AllocError>
-    ensures { IfOk result (λ found. map named_seen found.items ≡ names_set (map (λ name. name.now) names.now) values.now) }
+    ensures { IfOk result (λ found. map named_seen found.items
+        ≡ names_set (map (λ name. name.now) names.now) values.now) }
 {
     let mut set = Vec::new(alloc);
     for number in 0..names.len() {

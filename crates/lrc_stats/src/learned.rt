@@ -77,7 +77,8 @@ fn told(entry: &Entry) -> &[Interval]
 
 // How many pages intervals name.
 fn pages_in(intervals: &[Interval]) -> Result<u64, AllocError>
-    ensures { IfOk result (λ count. count ≡ sum_by (λ interval. length interval.pages) intervals.now) }
+    ensures { IfOk result (λ count. count
+        ≡ sum_by (λ interval. length interval.pages) intervals.now) }
 {
     let mut count = 0;
     for interval in intervals {
@@ -118,7 +119,8 @@ fn brought(entry: &Entry) -> Result<Learned, AllocError>
 // What a turn brought, where these messages were taken before it.
 fn brought_after(seen: &mut Seen, entry: &Entry) -> Result<Learned, AllocError>
     ensures { (before : List EntryRecord) → HasSeen before seen.old
-        → IfOk result (λ learned. (learned ≡ brought_after before entry.now) × HasSeen (with_entry before entry.now) seen.new) }
+        → IfOk result (λ learned. (learned ≡ brought_after before entry.now)
+        × HasSeen (with_entry before entry.now) seen.new) }
 {
     if seen.has(entry) {
         return Ok(Learned {
@@ -147,9 +149,12 @@ fn learned_in(alloc: Global, log: &[Entry]) -> Result<Learned, AllocError>
 /// Returns what the messages of all nodes brought. Fails if memory runs out, or if a count does not fit into 64 bits.
 #[tactic(auto, using(crate::proofs::Logs::sum_more))]
 pub(crate) fn learned_by_all(alloc: Global, logs: &[Vec<Entry>]) -> Result<Learned, AllocError>
-    ensures repeats { IfOk result (λ learned. learned.repeats ≡ repeats (map (λ log. log.items) logs.now)) }
-    ensures intervals { IfOk result (λ learned. learned.intervals ≡ learned_intervals (map (λ log. log.items) logs.now)) }
-    ensures notices { IfOk result (λ learned. learned.notices ≡ learned_notices (map (λ log. log.items) logs.now)) }
+    ensures repeats { IfOk result (λ learned. learned.repeats
+        ≡ repeats (map (λ log. log.items) logs.now)) }
+    ensures intervals { IfOk result (λ learned. learned.intervals
+        ≡ learned_intervals (map (λ log. log.items) logs.now)) }
+    ensures notices { IfOk result (λ learned. learned.notices
+        ≡ learned_notices (map (λ log. log.items) logs.now)) }
 {
     let mut all = Learned::nothing();
     for log in logs {

@@ -46,7 +46,8 @@ impl Seen {
     /// Adds the message that makes this turn, if a message makes it. The message must not be in the set yet.
     pub(crate) fn add(&mut self, entry: &Entry) -> Result<(), AllocError>
         requires { has_seen self.old entry.now.input ≡ false }
-        ensures { (before : List EntryRecord) → HasSeen before self.old → OnOk result (HasSeen (before ++ entry.now ∷ []) self.new) }
+        ensures { (before : List EntryRecord) → HasSeen before self.old
+            → OnOk result (HasSeen (before ++ entry.now ∷ []) self.new) }
     {
         match &entry.input {
             Input::Run => Ok(()),

@@ -18,7 +18,8 @@ use std::alloc::{AllocError, Global};
 /// nodes, from node 0 up. The lines tell events, events that made no turn, and turns; acts by their deeds; misses,
 /// repeats, what was learned, and collections; and messages by their kinds, with their bytes.
 pub fn stats_part(alloc: Global, events: u64, logs: &[Vec<Entry>]) -> Result<Vec<u8>, AllocError>
-    ensures { IfOk result (λ part. part.items ≡ stats_text events (map (λ log. log.items) logs.now)) }
+    ensures { IfOk result (λ part. part.items
+        ≡ stats_text events (map (λ log. log.items) logs.now)) }
 {
     let mut text = Vec::new(alloc);
     push_turns(&mut text, events, logs)?;
@@ -39,7 +40,8 @@ fn push_count(text: &mut Vec<u8>, words: &[u8], count: u64) -> Result<(), AllocE
 }
 
 fn push_turns(text: &mut Vec<u8>, events: u64, logs: &[Vec<Entry>]) -> Result<(), AllocError>
-    ensures { OnOk result (text.new.items ≡ text.old.items ++ turns_lines events (turn_count (map (λ log. log.items) logs.now))) }
+    ensures { OnOk result (text.new.items
+        ≡ text.old.items ++ turns_lines events (turn_count (map (λ log. log.items) logs.now))) }
 {
     let turns = turns_made(logs)?;
     push_turn_counts(text, events, turns)
@@ -72,7 +74,8 @@ fn deed_kind_words(kind: u8) -> &'static [u8]
 }
 
 fn push_acts(text: &mut Vec<u8>, logs: &[Vec<Entry>]) -> Result<(), AllocError>
-    ensures { OnOk result (text.new.items ≡ text.old.items ++ act_counts_text (map (λ log. log.items) logs.now)) }
+    ensures { OnOk result (text.new.items
+        ≡ text.old.items ++ act_counts_text (map (λ log. log.items) logs.now)) }
 {
     for kind in 0..10 {
         push_acts_of(text, kind, logs)?;
@@ -82,7 +85,8 @@ fn push_acts(text: &mut Vec<u8>, logs: &[Vec<Entry>]) -> Result<(), AllocError>
 
 #[tactic(auto, unfolding(crate::specs::StatsText::acts_line))]
 fn push_acts_of(text: &mut Vec<u8>, kind: u8, logs: &[Vec<Entry>]) -> Result<(), AllocError>
-    ensures { OnOk result (text.new.items ≡ text.old.items ++ acts_line (map (λ log. log.items) logs.now) kind) }
+    ensures { OnOk result (text.new.items
+        ≡ text.old.items ++ acts_line (map (λ log. log.items) logs.now) kind) }
 {
     text.extend_from_slice(b"acts ")?;
     push_count(text, deed_kind_words(kind), turns_making(kind, logs)?)
@@ -90,14 +94,16 @@ fn push_acts_of(text: &mut Vec<u8>, kind: u8, logs: &[Vec<Entry>]) -> Result<(),
 
 #[tactic(auto, unfolding(crate::specs::StatsText::misses_line))]
 fn push_misses(text: &mut Vec<u8>, logs: &[Vec<Entry>]) -> Result<(), AllocError>
-    ensures { OnOk result (text.new.items ≡ text.old.items ++ misses_line (map (λ log. log.items) logs.now)) }
+    ensures { OnOk result (text.new.items
+        ≡ text.old.items ++ misses_line (map (λ log. log.items) logs.now)) }
 {
     push_count(text, b"misses", misses(logs)?)
 }
 
 #[tactic(auto, unfolding(crate::specs::StatsText::learned_text))]
 fn push_learned(alloc: Global, text: &mut Vec<u8>, logs: &[Vec<Entry>]) -> Result<(), AllocError>
-    ensures { OnOk result (text.new.items ≡ text.old.items ++ learned_text (map (λ log. log.items) logs.now)) }
+    ensures { OnOk result (text.new.items
+        ≡ text.old.items ++ learned_text (map (λ log. log.items) logs.now)) }
 {
     push_told(alloc, text, logs)?;
     push_collections(alloc, text, logs)
@@ -105,7 +111,9 @@ fn push_learned(alloc: Global, text: &mut Vec<u8>, logs: &[Vec<Entry>]) -> Resul
 
 fn push_told(alloc: Global, text: &mut Vec<u8>, logs: &[Vec<Entry>]) -> Result<(), AllocError>
     ensures { let all = map (λ log. log.items) logs.now in
-        OnOk result (text.new.items ≡ text.old.items ++ learned_lines (repeats all) (learned_intervals all) (learned_notices all)) }
+        OnOk result (text.new.items
+        ≡ text.old.items ++ learned_lines (repeats all) (learned_intervals all)
+        (learned_notices all)) }
 {
     let learned = learned_by_all(alloc, logs)?;
     push_learned_counts(text, learned)
@@ -113,7 +121,8 @@ fn push_told(alloc: Global, text: &mut Vec<u8>, logs: &[Vec<Entry>]) -> Result<(
 
 #[tactic(auto, unfolding(crate::specs::StatsText::learned_lines))]
 fn push_learned_counts(text: &mut Vec<u8>, learned: Learned) -> Result<(), AllocError>
-    ensures { OnOk result (text.new.items ≡ text.old.items ++ learned_lines learned.repeats learned.intervals learned.notices) }
+    ensures { OnOk result (text.new.items
+        ≡ text.old.items ++ learned_lines learned.repeats learned.intervals learned.notices) }
 {
     push_count(text, b"repeats", learned.repeats)?;
     push_count(text, b"intervals learned", learned.intervals)?;
@@ -126,7 +135,8 @@ fn push_collections(
     text: &mut Vec<u8>,
     logs: &[Vec<Entry>],
 ) -> Result<(), AllocError>
-    ensures { OnOk result (text.new.items ≡ text.old.items ++ collections_line (map (λ log. log.items) logs.now)) }
+    ensures { OnOk result (text.new.items
+        ≡ text.old.items ++ collections_line (map (λ log. log.items) logs.now)) }
 {
     push_count(text, b"collections", collections(alloc, logs)?)
 }
@@ -150,7 +160,8 @@ fn message_kind_words(kind: u8) -> &'static [u8]
 }
 
 fn push_all_sent(alloc: Global, text: &mut Vec<u8>, logs: &[Vec<Entry>]) -> Result<(), AllocError>
-    ensures { OnOk result (text.new.items ≡ text.old.items ++ message_counts_text (sent_messages (map (λ log. log.items) logs.now))) }
+    ensures { OnOk result (text.new.items
+        ≡ text.old.items ++ message_counts_text (sent_messages (map (λ log. log.items) logs.now))) }
 {
     let sent = sent_messages(alloc, logs)?;
     push_messages(text, &sent)

@@ -59,7 +59,8 @@ fn makes_of_kind(kind: u8, entry: &Entry) -> bool
 /// Returns how many turns make an act of this kind.
 #[tactic(auto, using(crate::proofs::Logs::sum_more))]
 pub(crate) fn turns_making(kind: u8, logs: &[Vec<Entry>]) -> Result<u64, AllocError>
-    ensures { IfOk result (λ count. count ≡ turns_with (makes_of_kind kind) (map (λ log. log.items) logs.now)) }
+    ensures { IfOk result (λ count. count
+        ≡ turns_with (makes_of_kind kind) (map (λ log. log.items) logs.now)) }
 {
     let mut count = 0;
     for log in logs {

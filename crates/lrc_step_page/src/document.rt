@@ -62,7 +62,8 @@ pub fn step_document(
     reasons: Vec<u8>,
 ) -> Result<Vec<Vec<u8>>, AllocError>
     ensures { IfOk result (λ parts. whole_text parts.items
-        ≡ document (run_lines name.now text.now (whole_text states.items) explained.now races.items reasons.items)) }
+        ≡ document (run_lines name.now text.now
+        (whole_text states.items) explained.now races.items reasons.items)) }
 {
     let mut lines = Vec::new(alloc);
     lines.push(program_part(alloc, name, text)?)?;

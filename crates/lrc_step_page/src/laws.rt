@@ -16,7 +16,9 @@ pub fn spelled_texts_are_read_back()
 pub fn lines_have_no_markup()
     ensures program { (name text : List ℕ) → HasNoMarkup (program_line name text) }
     ensures explain { (lines : List (List ℕ)) → HasNoMarkup (explain_line lines) }
-    ensures why { (position : ℕ) (lines : List (List ℕ)) → position < 2 ^ 64 → HasNoMarkup (why_line position lines) }
-    ensures race { (group : Option ℕ) (pairs : List Pair) → IfSome group (λ number. number < 2 ^ 64) → All IsPairOfWords pairs
+    ensures why { (position : ℕ) (lines : List (List ℕ)) → position < 2 ^ 64
+        → HasNoMarkup (why_line position lines) }
+    ensures race { (group : Option ℕ) (pairs : List Pair) → IfSome group (λ number. number < 2 ^ 64)
+        → All IsPairOfWords pairs
         → HasNoMarkup (race_line group pairs) }
 {}

@@ -64,7 +64,8 @@ pub fn push_why_line(
     position: usize,
     printed: &[u8],
 ) -> Result<(), AllocError>
-    ensures { OnOk result (text.new.items ≡ text.old.items ++ why_line position (lines_in printed.now)) }
+    ensures { OnOk result (text.new.items
+        ≡ text.old.items ++ why_line position (lines_in printed.now)) }
 {
     push_number(text, b"{\"why\":", position as u64)?;
     text.extend_from_slice(b",\"lines\":[")?;
@@ -115,7 +116,8 @@ fn push_pair(text: &mut Vec<u8>, place: usize, pair: Pair) -> Result<(), AllocEr
 
 // Adds texts between their quotation marks, with commas between them.
 fn push_quoted_each(text: &mut Vec<u8>, lines: &[&[u8]]) -> Result<(), AllocError>
-    ensures { OnOk result (text.new.items ≡ text.old.items ++ quoted_each (map (λ line. line.now) lines.now)) }
+    ensures { OnOk result (text.new.items
+        ≡ text.old.items ++ quoted_each (map (λ line. line.now) lines.now)) }
 {
     for (place, line) in lines.iter().enumerate() {
         push_quoted_at(text, place, line)?;

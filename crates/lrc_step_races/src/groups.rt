@@ -55,7 +55,8 @@ pub(crate) fn of_group(
     leader: Pair,
     pairs: &[Pair],
 ) -> Result<Vec<Pair>, AllocError>
-    ensures { IfOk result (λ found. found.items ≡ filter (is_beside acts.now lines.now leader) pairs.now) }
+    ensures { IfOk result (λ found. found.items
+        ≡ filter (is_beside acts.now lines.now leader) pairs.now) }
 {
     let mut found = Vec::new(alloc);
     for pair in pairs {
@@ -86,7 +87,8 @@ pub(crate) fn alone(
     leaders: &[Pair],
     pairs: &[Pair],
 ) -> Result<Vec<Pair>, AllocError>
-    ensures { IfOk result (λ found. found.items ≡ filter (is_alone acts.now lines.now leaders.now) pairs.now) }
+    ensures { IfOk result (λ found. found.items
+        ≡ filter (is_alone acts.now lines.now leaders.now) pairs.now) }
 {
     let mut found = Vec::new(alloc);
     for pair in pairs {

@@ -37,7 +37,8 @@ fn add_pair_of_node(
 ) -> Result<(), AllocError>
     requires order { IsOrderOf acts.now order.now }
     requires within { position < length acts.now }
-    ensures { OnOk result (Adds pairs.old.items pairs.new.items (StandsForNode acts.now part position node)) }
+    ensures { OnOk result (Adds pairs.old.items pairs.new.items
+        (StandsForNode acts.now part position node)) }
 {
     let Some(least) = least_racing(acts, order, node, position) else {
         return Ok(());
@@ -64,7 +65,8 @@ fn add_pairs_of(
     requires order { IsOrderOf acts.now order.now }
     requires nodes { All (λ act. act.node < nodes) acts.now }
     requires within { position < length acts.now }
-    ensures { OnOk result (Adds pairs.old.items pairs.new.items (λ pair. (node : ℕ) × StandsForNode acts.now part position node pair)) }
+    ensures { OnOk result (Adds pairs.old.items pairs.new.items
+        (λ pair. (node : ℕ) × StandsForNode acts.now part position node pair)) }
 {
     for node in 0..nodes {
         add_pair_of_node(pairs, acts, order, part, node, position)?;

@@ -30,7 +30,8 @@ pub(crate) fn push_whys(
     printed: &[Vec<u8>],
 ) -> Result<(), AllocError>
     requires { length printed.now ≡ length positions.now }
-    ensures { OnOk result (text.new.items ≡ text.old.items ++ whys_text positions.now (texts_of printed.now)) }
+    ensures { OnOk result (text.new.items
+        ≡ text.old.items ++ whys_text positions.now (texts_of printed.now)) }
 {
     for place in 0..positions.len() {
         push_why_line(alloc, text, positions[place], &printed[place])?;

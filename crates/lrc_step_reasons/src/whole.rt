@@ -33,7 +33,8 @@ pub fn reasons_part(
     requires few { nodes ≤ NODES }
     requires nodes { All (λ act. act.node < nodes) acts.now }
     requires order { IsOrderOf acts.now order.now }
-    ensures { IfOk result (λ told. TellsWhys text.now program.now nodes page acts.now part told.items) }
+    ensures { IfOk result (λ told. TellsWhys text.now program.now nodes page acts.now part
+        told.items) }
 {
     let positions = positions_told(alloc, acts, order, nodes, part)?;
     let asked = asked_of(alloc, &positions)?;

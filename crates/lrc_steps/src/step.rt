@@ -31,8 +31,12 @@ pub fn contended_deed(flat: &Flat, state: &State, node: usize) -> Option<Deed>
     requires flat { IsFlat flat.now }
     requires state { IsStateOf flat.now state.now }
     ensures { MatchOption result
-        ((deed : DeedType) (after : Plain) → plain_step (plain_at flat.now state.now) node ≡ Some (deed, after) → is_contended deed ≡ false)
-        (λ deed. (is_contended deed ≡ true) × (option_map (λ step. step.0) (plain_step (plain_at flat.now state.now) node) ≡ Some deed)) }
+        ((deed : DeedType) (after : Plain)
+        → plain_step (plain_at flat.now state.now) node ≡ Some (deed, after)
+        → is_contended deed ≡ false)
+        (λ deed. (is_contended deed ≡ true)
+        × (option_map (λ step. step.0) (plain_step (plain_at flat.now state.now) node)
+        ≡ Some deed)) }
 {
     let deed = state.next_deed(flat, node)?;
     if is_contended(deed) { Some(deed) } else { None }
@@ -81,10 +85,13 @@ pub fn take_alone(
     requires counted { IsCounted state.old }
     requires settled { IsSettled (plain_at flat.now state.old) }
     requires contended { is_contended deed ≡ true }
-    requires can { option_map (λ step. step.0) (plain_step (plain_at flat.now state.old) node) ≡ Some deed }
+    requires can { option_map (λ step. step.0) (plain_step (plain_at flat.now state.old) node)
+        ≡ Some deed }
     ensures state { OnOk result (IsStateOf flat.now state.new) }
-    ensures taken { IfOk result (λ done. done ≡ true → HasTaken flat.now state.old (Step.Alone node) state.new acts.old.items acts.new.items) }
-    ensures open { IfOk result (λ done. done ≡ false → ComputesLong (plain_at flat.now state.old) most) }
+    ensures taken { IfOk result (λ done. done ≡ true
+        → HasTaken flat.now state.old (Step.Alone node) state.new acts.old.items acts.new.items) }
+    ensures open { IfOk result (λ done. done ≡ false
+        → ComputesLong (plain_at flat.now state.old) most) }
 {
     let _nodes = flat.nodes;
     acts.push(Act {
@@ -109,8 +116,10 @@ pub fn take_together(
     requires counted { IsCounted state.old }
     requires wait { AllWait (plain_at flat.now state.old) }
     ensures state { OnOk result (IsStateOf flat.now state.new) }
-    ensures taken { IfOk result (λ done. done ≡ true → HasTaken flat.now state.old Step.Together state.new acts.old.items acts.new.items) }
-    ensures open { IfOk result (λ done. done ≡ false → ComputesLong (plain_at flat.now state.old) most) }
+    ensures taken { IfOk result (λ done. done ≡ true
+        → HasTaken flat.now state.old Step.Together state.new acts.old.items acts.new.items) }
+    ensures open { IfOk result (λ done. done ≡ false
+        → ComputesLong (plain_at flat.now state.old) most) }
 {
     depart(flat, state, acts)?;
     let nodes = state.spots.len();
@@ -124,7 +133,8 @@ fn depart(flat: &Flat, state: &mut State, acts: &mut Vec<Act>) -> Result<(), All
     requires counted { IsCounted state.old }
     requires wait { AllWait (plain_at flat.now state.old) }
     ensures state { OnOk result (IsStateOf flat.now state.new) }
-    ensures departed { OnOk result (HaveDeparted flat.now state.old state.new acts.old.items acts.new.items) }
+    ensures departed { OnOk result (HaveDeparted flat.now state.old state.new acts.old.items
+        acts.new.items) }
 {
     let _nodes = flat.nodes;
     for node in 0..state.spots.len() {
@@ -143,7 +153,8 @@ pub fn count(flat: &Flat, state: &mut State) -> Result<(), AllocError>
     requires { IsStateOf flat.now state.old }
     ensures state { OnOk result (IsStateOf flat.now state.new) }
     ensures counted { OnOk result (IsCounted state.new) }
-    ensures alike { OnOk result (AreAlike (plain_at flat.now state.new) (plain_at flat.now state.old)) }
+    ensures alike { OnOk result (AreAlike (plain_at flat.now state.new)
+        (plain_at flat.now state.old)) }
 {
     let _flat = flat;
     count_spots(&mut state.arrivals, &state.spots)

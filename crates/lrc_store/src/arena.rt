@@ -98,8 +98,10 @@ impl Arena {
 
     /// Adds an interval without changes. It fails if memory runs out, and then nothing changes.
     pub(crate) fn push(&mut self, interval: &Interval) -> Result<(), AllocError>
-        ensures entries { OnOk result (self.new.entries ≡ self.old.entries ++ without_changes interval.now ∷ []) }
-        ensures notices { OnOk result (self.new.notices ≡ self.old.notices ++ ranked_pages interval.now) }
+        ensures entries { OnOk result (self.new.entries
+            ≡ self.old.entries ++ without_changes interval.now ∷ []) }
+        ensures notices { OnOk result (self.new.notices
+            ≡ self.old.notices ++ ranked_pages interval.now) }
         ensures err { OnErr result (self.new ≡ self.old) }
     {
         self.notices.reserve(interval.pages.len())?;
@@ -112,7 +114,8 @@ impl Arena {
     /// Returns the interval at a place, in the order of adding.
     pub(crate) fn interval(&self, at: usize) -> &Interval
         requires { at < length self.now.entries }
-        ensures { (d : StoredRecord) → result.now ≡ interval_of (slice_index_or self.now.entries at d) }
+        ensures { (d : StoredRecord) → result.now
+            ≡ interval_of (slice_index_or self.now.entries at d) }
     {
         &self.intervals[at]
     }
@@ -130,9 +133,11 @@ impl Arena {
     /// `start`.
     pub(crate) fn changes(&self, at: usize, start: usize, page: u16) -> Option<&Changes>
         requires within { at < length self.now.entries }
-        requires start { start ≡ length (flat_map keys_of (take at (map interval_of self.now.entries))) }
+        requires start { start ≡ length (flat_map keys_of
+            (take at (map interval_of self.now.entries))) }
         ensures { (d : StoredRecord) → option_copied result
-            ≡ option_and_then (λ notice. notice.changes) (notice_of page (slice_index_or self.now.entries at d)) }
+            ≡ option_and_then (λ notice. notice.changes)
+            (notice_of page (slice_index_or self.now.entries at d)) }
     {
         let offset = place_of(self.intervals[at].pages.as_slice(), page)?;
         let noted = &self.notices[start + offset];
@@ -142,7 +147,8 @@ impl Arena {
     /// Returns whether the interval at a place names the page.
     pub(crate) fn has_notice(&self, at: usize, page: u16) -> bool
         requires { at < length self.now.entries }
-        ensures { (d : StoredRecord) → result ≡ is_some (notice_of page (slice_index_or self.now.entries at d)) }
+        ensures { (d : StoredRecord) → result
+            ≡ is_some (notice_of page (slice_index_or self.now.entries at d)) }
     {
         place_of(self.intervals[at].pages.as_slice(), page).is_some()
     }
@@ -150,10 +156,12 @@ impl Arena {
     /// Keeps the changes of a page in the interval at a place. The interval's notices begin at `start`.
     pub(crate) fn attach(&mut self, at: usize, start: usize, page: u16, changes: Changes)
         requires within { at < length self.old.entries }
-        requires start { start ≡ length (flat_map keys_of (take at (map interval_of self.old.entries))) }
+        requires start { start ≡ length (flat_map keys_of
+            (take at (map interval_of self.old.entries))) }
         ensures entries { (d : StoredRecord) → self.new.entries ≡ slice_set self.old.entries at
             (record (slice_index_or self.old.entries at d) {
-              notices = map (notice_with page changes) (slice_index_or self.old.entries at d).notices;
+              notices = map (notice_with page changes)
+                  (slice_index_or self.old.entries at d).notices;
             }) }
         ensures notices { self.new.notices ≡ self.old.notices }
     {
@@ -164,8 +172,10 @@ impl Arena {
 
     /// Removes the intervals that the time knows, with their notices. The others move to the front.
     pub(crate) fn discard(&mut self, time: &Time)
-        ensures entries { self.new.entries ≡ filter (λ stored. not (is_covered time.now (interval_of stored))) self.old.entries }
-        ensures notices { self.new.notices ≡ filter (λ notice. not (knows time.now notice.1.node notice.1.index)) self.old.notices }
+        ensures entries { self.new.entries ≡ filter
+            (λ stored. not (is_covered time.now (interval_of stored))) self.old.entries }
+        ensures notices { self.new.notices ≡ filter
+            (λ notice. not (knows time.now notice.1.node notice.1.index)) self.old.notices }
     {
         self.intervals.retain(|interval| !interval.is_known(time));
         self.notices
@@ -176,7 +186,8 @@ impl Arena {
 // Adds the interval's notices, for which there is room, without changes.
 fn add_notices(notices: &mut Vec<Noted>, interval: &Interval)
     requires room { vec_len notices.old + length interval.now.pages ≤ vec_capacity notices.old }
-    ensures { notices.new.items ≡ notices.old.items ++ map (fresh_in interval.now) interval.now.pages }
+    ensures { notices.new.items ≡ notices.old.items
+        ++ map (fresh_in interval.now) interval.now.pages }
 {
     let weight = interval.stamp.weight();
     let node = interval.node;

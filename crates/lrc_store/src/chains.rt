@@ -123,7 +123,8 @@ impl Chains {
     /// Returns the newest entry before the given one that has the same key, or none if there is none.
     pub(crate) fn next(&self, at: u32) -> Option<u32>
         requires { at < length self.now.keys }
-        ensures { result ≡ last_at (λ other. other == slice_index self.now.keys at) (take at self.now.keys) }
+        ensures { result ≡ last_at (λ other. other == slice_index self.now.keys at)
+            (take at self.now.keys) }
     {
         self.entries[at as usize].next
     }

@@ -66,7 +66,8 @@ pub fn one_list_is_missing()
 /// first.
 pub fn weight_order_extends_cover()
     ensures { (earlier later : IntervalRecord) → length earlier.stamp ≡ length later.stamp
-        → Covers later.stamp earlier.stamp → earlier.stamp ≢ later.stamp → IsTrue (by_weight earlier later) }
+        → Covers later.stamp earlier.stamp → earlier.stamp ≢ later.stamp
+        → IsTrue (by_weight earlier later) }
 {}
 
 /// Following the links of a node ends, and gives the places of its intervals, newest first, each once. The same holds
@@ -75,14 +76,16 @@ pub fn links_run_through_the_lists()
     ensures nodes { (store : StoreRecord) (node : ℕ)
         → Follows (before_of store) (newest_of store node) (list_of (nodes_of store) node) }
     ensures pages { (store : StoreRecord) (page : ℕ)
-        → Follows (next_on_page_of store) (first_on_page_of store page) (list_of (pages_noted store) page) }
+        → Follows (next_on_page_of store) (first_on_page_of store page)
+        (list_of (pages_noted store) page) }
 {}
 
 /// Following the links of an interval ends, and gives its notices in the order of the pages, one for each page.
 pub fn links_run_through_each_interval()
     ensures follows { (store : StoreRecord) (at : ℕ) → IsStore store
         → Follows (next_in_interval_of store) (first_notice_of store at) (notices_in store at) }
-    ensures keys { (store : StoreRecord) (at : ℕ) (interval : IntervalRecord) → slice_get (intervals_of store) at ≡ Some interval
+    ensures keys { (store : StoreRecord) (at : ℕ) (interval : IntervalRecord)
+        → slice_get (intervals_of store) at ≡ Some interval
         → map (key_at store) (notices_in store at) ≡ map Some (keys_of interval) }
     ensures once { (store : StoreRecord) (at : ℕ) → AllPairs (λ a b. a < b) (notices_in store at) }
 {}
@@ -90,7 +93,8 @@ pub fn links_run_through_each_interval()
 /// The list of a key has exactly the places with that key, newest first, each once.
 pub fn lists_have_exactly_their_places()
     ensures exactly { (keys : List ℕ) (key place : ℕ)
-        → Contains (list_of keys key) place ↔ ((place < length keys) × (slice_index keys place ≡ key)) }
+        → Contains (list_of keys key) place
+        ↔ ((place < length keys) × (slice_index keys place ≡ key)) }
     ensures newest_first { (keys : List ℕ) (key : ℕ) → AllPairs (λ a b. b < a) (list_of keys key) }
 {}
 
@@ -102,16 +106,20 @@ pub fn lists_have_exactly_their_places()
 /// So let a node remember, with a page, a time that was once the last indices of its store. The time then knows the
 /// first notices of the page ever after.
 pub fn what_was_known_was_added_first()
-    ensures last { (store : StoreRecord) (page : ℕ) → IsStore store → KnowsTheFirst store page store.last }
+    ensures last { (store : StoreRecord) (page : ℕ) → IsStore store
+        → KnowsTheFirst store page store.last }
     ensures none { (store : StoreRecord) (page : ℕ) (since : List ℕ)
-        → All (λ key. IsTrue (not (knows_notice since key))) (notices_of store) → KnowsTheFirst store page since }
+        → All (λ key. IsTrue (not (knows_notice since key))) (notices_of store)
+        → KnowsTheFirst store page since }
     ensures added { (store : StoreRecord) (interval : IntervalRecord) (page : ℕ) (since : List ℕ)
         → KnowsTheFirst store page since → IsTrue (not (is_covered since interval))
         → KnowsTheFirst (added store interval) page since }
     ensures next { (store : StoreRecord) (interval : IntervalRecord) (page : ℕ) (since : List ℕ)
-        → KnowsTheFirst store page since → Covers store.last since → index_of interval ≡ entry store.last interval.node + 1
+        → KnowsTheFirst store page since → Covers store.last since
+        → index_of interval ≡ entry store.last interval.node + 1
         → KnowsTheFirst (added store interval) page since }
-    ensures attached { (store : StoreRecord) (key : Key) (changes : List Change) (page : ℕ) (since : List ℕ)
+    ensures attached { (store : StoreRecord) (key : Key) (changes : List Change) (page : ℕ)
+        (since : List ℕ)
         → KnowsTheFirst store page since → KnowsTheFirst (attached store key changes) page since }
     ensures discarded { (store : StoreRecord) (time : List ℕ) (page : ℕ) (since : List ℕ)
         → KnowsTheFirst store page since → KnowsTheFirst (discarded store time) page since }
@@ -120,6 +128,8 @@ pub fn what_was_known_was_added_first()
 /// Discarding removes exactly the intervals that the time knows, and leaves a sound store.
 pub fn discarding_takes_out_what_is_known()
     ensures intervals { (store : StoreRecord) (time : List ℕ)
-        → intervals_of (discarded store time) ≡ filter (λ interval. not (is_covered time interval)) (intervals_of store) }
-    ensures sound { (store : StoreRecord) (time : List ℕ) → IsStore store → IsStore (discarded store time) }
+        → intervals_of (discarded store time)
+        ≡ filter (λ interval. not (is_covered time interval)) (intervals_of store) }
+    ensures sound { (store : StoreRecord) (time : List ℕ) → IsStore store
+        → IsStore (discarded store time) }
 {}

@@ -54,7 +54,8 @@ impl Links {
         ensures node_room { OnOk result (length self.old.by_node.keys < self.new.by_node.room) }
         ensures node_few { OnOk result (length self.old.by_node.keys < MOST_ENTRIES) }
         ensures node_row { OnOk result (HasRoom self.new.by_node.rows self.old.by_node.keys node) }
-        ensures page_room { OnOk result (length self.old.by_page.keys + more ≤ self.new.by_page.room) }
+        ensures page_room { OnOk result (length self.old.by_page.keys + more
+            ≤ self.new.by_page.room) }
         ensures page_few { OnOk result (length self.old.by_page.keys + more ≤ MOST_ENTRIES) }
     {
         self.by_node.reserve(node)?;
@@ -68,11 +69,13 @@ impl Links {
         requires node_few { length self.old.by_node.keys < MOST_ENTRIES }
         requires node_row { HasRoom self.old.by_node.rows self.old.by_node.keys node }
         requires pages_in_range { All (λ page. page < self.old.by_page.lists) pages.now }
-        requires page_room { length self.old.by_page.keys + length pages.now ≤ self.old.by_page.room }
+        requires page_room { length self.old.by_page.keys + length pages.now
+            ≤ self.old.by_page.room }
         requires page_few { length self.old.by_page.keys + length pages.now ≤ MOST_ENTRIES }
         ensures node_keys { self.new.by_node.keys ≡ self.old.by_node.keys ++ node ∷ [] }
         ensures node_lists { self.new.by_node.lists ≡ self.old.by_node.lists }
-        ensures node_starts { self.new.by_node.starts ≡ self.old.by_node.starts ++ length self.old.by_page.keys ∷ [] }
+        ensures node_starts { self.new.by_node.starts ≡ self.old.by_node.starts
+            ++ length self.old.by_page.keys ∷ [] }
         ensures page_keys { self.new.by_page.keys ≡ self.old.by_page.keys ++ pages.now }
         ensures page_lists { self.new.by_page.lists ≡ self.old.by_page.lists }
     {
@@ -83,15 +86,20 @@ impl Links {
 
     /// Links the intervals and notices of the arena anew. There are no more of them than before.
     pub(crate) fn renew(&mut self, arena: &Arena)
-        requires nodes_in_range { All (λ stored. stored.node < self.old.by_node.lists) arena.now.entries }
+        requires nodes_in_range { All (λ stored. stored.node < self.old.by_node.lists)
+            arena.now.entries }
         requires fewer_nodes { length arena.now.entries ≤ length self.old.by_node.keys }
-        requires fewer_of_each { (node : ℕ) → length (places_from node 0 (map (λ stored. stored.node) arena.now.entries))
+        requires fewer_of_each { (node : ℕ) → length (places_from node 0
+            (map (λ stored. stored.node) arena.now.entries))
             ≤ length (places_from node 0 self.old.by_node.keys) }
-        requires pages_in_range { All (λ notice. notice.1.page < self.old.by_page.lists) arena.now.notices }
+        requires pages_in_range { All (λ notice. notice.1.page < self.old.by_page.lists)
+            arena.now.notices }
         requires fewer_pages { length arena.now.notices ≤ length self.old.by_page.keys }
-        requires noted { length (flat_map keys_of (map interval_of arena.now.entries)) ≡ length arena.now.notices }
+        requires noted { length (flat_map keys_of (map interval_of arena.now.entries))
+            ≡ length arena.now.notices }
         ensures node_keys { self.new.by_node.keys ≡ map (λ stored. stored.node) arena.now.entries }
-        ensures node_starts { AreStarts self.new.by_node.starts (map interval_of arena.now.entries) }
+        ensures node_starts { AreStarts self.new.by_node.starts
+            (map interval_of arena.now.entries) }
         ensures node_lists { self.new.by_node.lists ≡ self.old.by_node.lists }
         ensures page_keys { self.new.by_page.keys ≡ map page_named arena.now.notices }
         ensures page_lists { self.new.by_page.lists ≡ self.old.by_page.lists }
@@ -109,7 +117,8 @@ impl Links {
         since: &Time,
     ) -> Result<Vec<(u64, Key)>, AllocError>
         requires linked { self.now.by_page.keys ≡ map page_named arena.now.notices }
-        ensures { IfOk result (λ found. found.items ≡ filter (is_unknown_on page since.now) arena.now.notices) }
+        ensures { IfOk result (λ found. found.items
+            ≡ filter (is_unknown_on page since.now) arena.now.notices) }
     {
         // Mostly there is one of each node.
         let most = usize::from(since.nodes());
@@ -135,9 +144,12 @@ impl Links {
         since: &Time,
     ) -> Result<Vec<(u64, Key)>, AllocError>
         requires linked { self.now.by_page.keys ≡ map page_named arena.now.notices }
-        requires first { AllPairs (λ earlier later. page_named earlier ≡ page → page_named later ≡ page
-            → IsTrue (knows_notice since.now later.1) → IsTrue (knows_notice since.now earlier.1)) arena.now.notices }
-        ensures { IfOk result (λ found. found.items ≡ filter (is_unknown_on page since.now) arena.now.notices) }
+        requires first { AllPairs (λ earlier later. page_named earlier ≡ page
+            → page_named later ≡ page
+            → IsTrue (knows_notice since.now later.1)
+            → IsTrue (knows_notice since.now earlier.1)) arena.now.notices }
+        ensures { IfOk result (λ found. found.items
+            ≡ filter (is_unknown_on page since.now) arena.now.notices) }
     {
         // Mostly there is one of each node.
         let most = usize::from(since.nodes());
@@ -166,10 +178,13 @@ impl Links {
         upto: &Time,
         found: &mut Vec<Interval>,
     ) -> Result<(), AllocError>
-        requires linked { self.now.by_node.keys ≡ map (λ interval. interval.node) (map interval_of arena.now.entries) }
-        requires ascending { AllPairs (λ a b. a.node ≡ b.node → index_of a < index_of b) (map interval_of arena.now.entries) }
+        requires linked { self.now.by_node.keys ≡ map (λ interval. interval.node)
+            (map interval_of arena.now.entries) }
+        requires ascending { AllPairs (λ a b. a.node ≡ b.node → index_of a < index_of b)
+            (map interval_of arena.now.entries) }
         ensures { OnOk result (found.new.items
-            ≡ found.old.items ++ filter (is_newer_of node since.now upto.now) (map interval_of arena.now.entries)) }
+            ≡ found.old.items ++ filter (is_newer_of node since.now upto.now)
+            (map interval_of arena.now.entries)) }
     {
         let before = found.len();
         let mut next = self.by_node.first(u16::from(node));
@@ -191,10 +206,12 @@ impl Links {
     /// Returns the place of the interval with the key's node and index, or none if it is not there. It counts back from
     /// the node's last interval.
     pub(crate) fn place_of(&self, arena: &Arena, last: &Time, key: Key) -> Option<u32>
-        requires linked { self.now.by_node.keys ≡ map (λ interval. interval.node) (map interval_of arena.now.entries) }
+        requires linked { self.now.by_node.keys ≡ map (λ interval. interval.node)
+            (map interval_of arena.now.entries) }
         requires nodes { self.now.by_node.lists ≡ length last.now }
         requires in_range { All (λ stored. stored.node < length last.now) arena.now.entries }
-        requires ascending { AllPairs (λ a b. a.node ≡ b.node → index_of a < index_of b) (map interval_of arena.now.entries) }
+        requires ascending { AllPairs (λ a b. a.node ≡ b.node → index_of a < index_of b)
+            (map interval_of arena.now.entries) }
         requires gapless { HasNoGaps last.now (map interval_of arena.now.entries) }
         ensures { result ≡ position (is_at key.node key.index) arena.now.entries }
     {
@@ -232,7 +249,8 @@ fn add_pages(by_page: &mut Chains, pages: &[u16])
 fn link_nodes(by_node: &mut Nodes, arena: &Arena)
     requires in_range { All (λ stored. stored.node < by_node.old.lists) arena.now.entries }
     requires fewer { length arena.now.entries ≤ length by_node.old.keys }
-    requires fewer_of_each { (node : ℕ) → length (places_from node 0 (map (λ stored. stored.node) arena.now.entries))
+    requires fewer_of_each { (node : ℕ) → length (places_from node 0
+        (map (λ stored. stored.node) arena.now.entries))
         ≤ length (places_from node 0 by_node.old.keys) }
     requires few { length (flat_map keys_of (map interval_of arena.now.entries)) ≤ MOST_ENTRIES }
     ensures keys { by_node.new.keys ≡ map (λ stored. stored.node) arena.now.entries }

@@ -37,7 +37,8 @@ impl Store {
         requires { at < length (intervals_of self.now) }
         ensures first { result ≡ first_notice_of self.now at }
         ensures in_use { ForSome result (λ notice. notice < length (notices_of self.now)) }
-        ensures ascending { ForSome (slice_get (intervals_of self.now) at) (λ interval. IsRising interval.pages) }
+        ensures ascending { ForSome (slice_get (intervals_of self.now) at)
+            (λ interval. IsRising interval.pages) }
     {
         if self.arena.interval(at.place as usize).pages.is_empty() {
             return None;
@@ -112,7 +113,8 @@ impl Store {
 
     /// Returns the changes of a notice, or none if they are not known or there is nothing at the link's place.
     pub fn changes_at(&self, at: NoticeAt) -> Option<&Changes>
-        ensures { option_copied result ≡ option_and_then (changes_at self.now) (key_at self.now at) }
+        ensures { option_copied result ≡ option_and_then (changes_at self.now)
+            (key_at self.now at) }
     {
         let key = self.key(at)?;
         self.changes(key)

@@ -91,7 +91,8 @@ impl Nodes {
         ensures keys { self.new.keys ≡ self.old.keys ++ node ∷ [] }
         ensures starts { self.new.starts ≡ self.old.starts ++ start ∷ [] }
         ensures room { self.old.room ≤ self.new.room }
-        ensures rows { (keys : List ℕ) → HaveRoom self.old.lists self.old.rows keys → HaveRoom self.old.lists self.new.rows keys }
+        ensures rows { (keys : List ℕ) → HaveRoom self.old.lists self.old.rows keys
+            → HaveRoom self.old.lists self.new.rows keys }
     {
         let at = self.chains.len() as u32;
         self.chains.push(node);
@@ -132,7 +133,8 @@ impl Nodes {
     /// Returns the newest interval of the same node before the given one, or none if there is none.
     pub(crate) fn next(&self, at: u32) -> Option<u32>
         requires { at < length self.now.keys }
-        ensures { result ≡ last_at (λ other. other == slice_index self.now.keys at) (take at self.now.keys) }
+        ensures { result ≡ last_at (λ other. other == slice_index self.now.keys at)
+            (take at self.now.keys) }
     {
         self.chains.next(at)
     }

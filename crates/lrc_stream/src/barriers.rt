@@ -46,7 +46,8 @@ fn keep(
     current: usize,
     known: &[u64],
 ) -> Result<(), AllocError>
-    ensures { OnOk result (IsKeptBelow (length of.now) closed.old closed.new of.now current known.now) }
+    ensures { OnOk result (IsKeptBelow
+        (length of.now) closed.old closed.new of.now current known.now) }
 {
     for (thread, cycle) in of.iter().enumerate() {
         if is_of(*cycle, current) {
@@ -87,7 +88,8 @@ impl Barrier {
 
     /// Records that a thread with this knowledge arrives. It fails if memory runs out.
     pub fn arrive(&mut self, thread: usize, known: &[u64]) -> Result<(), AllocError>
-        ensures { OnOk result (IsArrived (Option.Some self.old) (Option.Some self.new) thread known.now) }
+        ensures { OnOk result (IsArrived (Option.Some self.old)
+            (Option.Some self.new) thread known.now) }
     {
         join(&mut self.arrived, known)?;
         set_cycle(&mut self.of, thread, self.current)?;
@@ -96,7 +98,8 @@ impl Barrier {
 
     // Closes the open cycle, and opens the next.
     fn close(&mut self) -> Result<(), AllocError>
-        ensures { OnOk result (self.old.current + 1 < 2 ^ 64 → IsClosed (Option.Some self.old) (Option.Some self.new)) }
+        ensures { OnOk result (self.old.current + 1 < 2 ^ 64
+            → IsClosed (Option.Some self.old) (Option.Some self.new)) }
     {
         keep(
             &mut self.closed,
@@ -112,7 +115,8 @@ impl Barrier {
     /// Records that a thread departs. If its cycle is the open one, this closes the cycle and opens the next. It fails
     /// if memory runs out.
     pub fn depart(&mut self, thread: usize) -> Result<(), AllocError>
-        ensures { OnOk result (self.old.current + 1 < 2 ^ 64 → IsDeparted (Option.Some self.old) (Option.Some self.new) thread) }
+        ensures { OnOk result (self.old.current + 1 < 2 ^ 64
+            → IsDeparted (Option.Some self.old) (Option.Some self.new) thread) }
     {
         let cycle = match self.of.get(thread) {
             Some(cycle) => *cycle,
@@ -154,7 +158,8 @@ impl Barriers {
     // Makes the barrier, where it is not yet kept.
     fn reach(&mut self, barrier: usize) -> Result<(), AllocError>
         ensures { OnOk result ((barrier < vec_len self.new.barriers)
-            × ((other : ℕ) → SameBarrier (slice_get self.new.barriers.items other) (slice_get self.old.barriers.items other))) }
+            × ((other : ℕ) → SameBarrier (slice_get self.new.barriers.items other)
+            (slice_get self.old.barriers.items other))) }
     {
         let alloc = *self.barriers.allocator();
         while self.barriers.len() <= barrier {
@@ -165,9 +170,11 @@ impl Barriers {
 
     /// Records that a thread with this knowledge arrives at the barrier. It fails if memory runs out.
     pub fn arrive(&mut self, barrier: usize, thread: usize, known: &[u64]) -> Result<(), AllocError>
-        ensures here { OnOk result (IsArrived (slice_get self.old.barriers.items barrier) (slice_get self.new.barriers.items barrier) thread known.now) }
+        ensures here { OnOk result (IsArrived (slice_get self.old.barriers.items barrier)
+            (slice_get self.new.barriers.items barrier) thread known.now) }
         ensures others { OnOk result ((other : ℕ) → other ≢ barrier
-            → SameBarrier (slice_get self.new.barriers.items other) (slice_get self.old.barriers.items other)) }
+            → SameBarrier (slice_get self.new.barriers.items other)
+            (slice_get self.old.barriers.items other)) }
     {
         self.reach(barrier)?;
         self.barriers[barrier].arrive(thread, known)?;
@@ -176,8 +183,10 @@ impl Barriers {
 
     /// Records that a thread departs from the barrier. It fails if memory runs out.
     pub fn depart(&mut self, barrier: usize, thread: usize) -> Result<(), AllocError>
-        ensures here { OnOk result (current_of (slice_get self.old.barriers.items barrier) + 1 < 2 ^ 64
-            → IsDeparted (slice_get self.old.barriers.items barrier) (slice_get self.new.barriers.items barrier) thread) }
+        ensures here { OnOk result (current_of (slice_get self.old.barriers.items barrier) + 1
+            < 2 ^ 64
+            → IsDeparted (slice_get self.old.barriers.items barrier)
+            (slice_get self.new.barriers.items barrier) thread) }
         ensures others { OnOk result ((other : ℕ) → other ≢ barrier
             → slice_get self.new.barriers.items other ≡ slice_get self.old.barriers.items other) }
     {

@@ -34,7 +34,8 @@ impl Clocks {
 
     // Makes a row for this index, where there is none.
     fn reach(&mut self, index: usize) -> Result<(), AllocError>
-        ensures { OnOk result ((index < vec_len self.new.rows) × ((other : ℕ) → row self.new other ≡ row self.old other)) }
+        ensures { OnOk result ((index < vec_len self.new.rows)
+            × ((other : ℕ) → row self.new other ≡ row self.old other)) }
     {
         let alloc = *self.rows.allocator();
         while self.rows.len() <= index {

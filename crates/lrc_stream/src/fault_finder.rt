@@ -43,7 +43,8 @@ impl Kept {
 
     // Takes the next event, with which nothing is wrong.
     fn take(&mut self, event: Event) -> Result<(), AllocError>
-        ensures { OnOk result ((events : List Event) (n : ℕ) → n + 1 < 2 ^ 64 → At events n event → HasNoFault events n event
+        ensures { OnOk result ((events : List Event) (n : ℕ) → n + 1 < 2 ^ 64 → At events n event
+            → HasNoFault events n event
             → IsKept events n self.old → IsKept events (n + 1) self.new) }
     {
         self.threads.take(event)?;
@@ -77,14 +78,16 @@ impl FaultFinder {
 
     /// Returns the first event so far that no program would give, and why.
     pub fn fault(&self) -> Option<Fault>
-        ensures { (events : List Event) (n : ℕ) → HasLooked events n self.now → IsFirstFault events n result }
+        ensures { (events : List Event) (n : ℕ) → HasLooked events n self.now
+            → IsFirstFault events n result }
     {
         self.found
     }
 
     /// Takes the next event of a trace. It fails if memory runs out, and then the finder is of no use.
     pub fn take(&mut self, event: Event) -> Result<(), AllocError>
-        ensures { OnOk result ((events : List Event) (n : ℕ) → n + 1 < 2 ^ 64 → At events n event → HasLooked events n self.old
+        ensures { OnOk result ((events : List Event) (n : ℕ) → n + 1 < 2 ^ 64 → At events n event
+            → HasLooked events n self.old
             → HasLooked events (n + 1) self.new) }
     {
         if self.found.is_some() {

@@ -57,14 +57,16 @@ impl Groups {
 
     /// Returns the groups so far, in the order in which they were first reported. It holds for fewer than 2^64 pairs.
     pub fn list(&self) -> &[Group]
-        ensures { (pairs : List Pair) → length pairs < 2 ^ 64 → AreGrouped pairs self.now → AreGroups pairs result.now }
+        ensures { (pairs : List Pair) → length pairs < 2 ^ 64 → AreGrouped pairs self.now
+            → AreGroups pairs result.now }
     {
         self.groups.as_slice()
     }
 
     // Takes one pair.
     fn count(&mut self, pair: Pair) -> Result<(), AllocError>
-        ensures { OnOk result ((before : List Pair) → AreGrouped before self.old → AreGrouped (before ++ pair ∷ []) self.new) }
+        ensures { OnOk result ((before : List Pair) → AreGrouped before self.old
+            → AreGrouped (before ++ pair ∷ []) self.new) }
     {
         let sides = Sides {
             earlier: side_of(pair.earlier.event),
@@ -86,7 +88,8 @@ impl Groups {
 
     /// Takes the pairs that are reported next. It fails if memory runs out, and then the groups are of no use.
     pub fn take(&mut self, pairs: &[Pair]) -> Result<(), AllocError>
-        ensures { OnOk result ((before : List Pair) → AreGrouped before self.old → AreGrouped (before ++ pairs.now) self.new) }
+        ensures { OnOk result ((before : List Pair) → AreGrouped before self.old
+            → AreGrouped (before ++ pairs.now) self.new) }
     {
         for pair in pairs {
             self.count(*pair)?;

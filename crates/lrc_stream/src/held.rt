@@ -17,7 +17,8 @@ pub struct Holders {
 
 // An acquire of a lock with this holder.
 fn after_acquire(holder: Option<Holder>, event: Event) -> Option<Holder>
-    ensures { IfSome holder (λ holder. holder.depth + 1 < 2 ^ 64) → result ≡ after_acquire event holder }
+    ensures { IfSome holder (λ holder. holder.depth + 1 < 2 ^ 64)
+        → result ≡ after_acquire event holder }
 {
     match holder {
         None => Some(Holder {
@@ -101,7 +102,8 @@ impl Holders {
     /// lock, or its own thread does not. Returns none if nothing is wrong.
     pub fn fault(&self, event: Event) -> Option<Reason>
         ensures { (events : List Event) (n : ℕ) → AreHolders events n self.now
-            → MatchOption result (HasNoLockFault events n event) (λ reason. IsOfLock reason × Holds events n event reason) }
+            → MatchOption result (HasNoLockFault events n event)
+            (λ reason. IsOfLock reason × Holds events n event reason) }
     {
         match event.operation {
             Operation::Acquire(lock) => {
@@ -127,7 +129,8 @@ impl Holders {
 
     /// Takes the next event of a trace. It fails if memory runs out, and then the holders are of no use.
     pub fn take(&mut self, event: Event) -> Result<(), AllocError>
-        ensures { OnOk result ((events : List Event) (n : ℕ) → n + 1 < 2 ^ 64 → At events n event → AreHolders events n self.old
+        ensures { OnOk result ((events : List Event) (n : ℕ) → n + 1 < 2 ^ 64 → At events n event
+            → AreHolders events n self.old
             → AreHolders events (n + 1) self.new) }
     {
         match event.operation {

@@ -56,7 +56,8 @@ impl Lines {
 
     // Keeps the line, where the thread has none.
     fn note(&mut self, thread: usize, line: u64) -> Result<(), AllocError>
-        ensures { OnOk result (IsLineSet self.old self.new thread (first_line (line_of self.old thread) line)) }
+        ensures { OnOk result (IsLineSet self.old self.new thread
+            (first_line (line_of self.old thread) line)) }
     {
         let first = self.line(thread);
         self.set(thread, first_line(first, line))?;
@@ -75,7 +76,8 @@ pub struct Threads {
 
 // A thread that is joined has a line.
 fn note_joined(joined: &mut Lines, event: Event) -> Result<(), AllocError>
-    ensures { OnOk result ((events : List Event) (n : ℕ) → At events n event → AreJoined events n joined.old
+    ensures { OnOk result ((events : List Event) (n : ℕ) → At events n event
+        → AreJoined events n joined.old
         → AreJoined events (n + 1) joined.new) }
 {
     match event.operation {
@@ -89,7 +91,8 @@ fn note_joined(joined: &mut Lines, event: Event) -> Result<(), AllocError>
 
 // So has a thread that is forked, and the thread of the event.
 fn note_known(known: &mut Lines, event: Event) -> Result<(), AllocError>
-    ensures { OnOk result ((events : List Event) (n : ℕ) → At events n event → AreKnown events n known.old
+    ensures { OnOk result ((events : List Event) (n : ℕ) → At events n event
+        → AreKnown events n known.old
         → AreKnown events (n + 1) known.new) }
 {
     known.note(event.thread as usize, event.line)?;
@@ -116,7 +119,8 @@ impl Threads {
     /// Returns a reason if the next event's thread was joined, with the line of its first join.
     pub fn joined_fault(&self, event: Event) -> Option<Reason>
         ensures { (events : List Event) (n : ℕ) → HasThreads events n self.now
-            → MatchOption result ((line : ℕ) → ¬ Holds events n event (Joined line)) (λ reason. IsJoined reason × Holds events n event reason) }
+            → MatchOption result ((line : ℕ) → ¬ Holds events n event (Joined line))
+            (λ reason. IsJoined reason × Holds events n event reason) }
     {
         let line = self.joined.line(event.thread as usize)?;
         Some(Reason::Joined { line })
@@ -147,7 +151,8 @@ impl Threads {
 
     /// Takes the next event of a trace. It fails if memory runs out, and then the threads are of no use.
     pub fn take(&mut self, event: Event) -> Result<(), AllocError>
-        ensures { OnOk result ((events : List Event) (n : ℕ) → At events n event → HasThreads events n self.old
+        ensures { OnOk result ((events : List Event) (n : ℕ) → At events n event
+            → HasThreads events n self.old
             → HasThreads events (n + 1) self.new) }
     {
         note_joined(&mut self.joined, event)?;

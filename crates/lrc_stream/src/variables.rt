@@ -45,7 +45,8 @@ pub fn tell(
     is_write: bool,
     told: &mut Vec<Pair>,
 ) -> Result<(), AllocError>
-    ensures { OnOk result (told.new.items ≡ told.old.items ++ told_below lasts.now known.now later is_write (length lasts.now)) }
+    ensures { OnOk result (told.new.items
+        ≡ told.old.items ++ told_below lasts.now known.now later is_write (length lasts.now)) }
 {
     for last in lasts {
         if let Some(pair) = told_one(last, known, later, is_write) {
@@ -126,7 +127,8 @@ impl Variables {
 
     // Makes a row for the variable, where there is none.
     fn reach(&mut self, variable: usize) -> Result<(), AllocError>
-        ensures { OnOk result ((variable < length self.new.rows.items) × ((other : ℕ) → lasts_of self.new other ≡ lasts_of self.old other)) }
+        ensures { OnOk result ((variable < length self.new.rows.items)
+            × ((other : ℕ) → lasts_of self.new other ≡ lasts_of self.old other)) }
     {
         let alloc = *self.rows.allocator();
         while self.rows.len() <= variable {

@@ -6,7 +6,9 @@ use std::alloc::AllocError;
 
 /// Adds to a vector what another one knows: each entry becomes the greater of the two. It fails if memory runs out.
 pub fn join(known: &mut Vec<u64>, more: &[u64]) -> Result<(), AllocError>
-    ensures { OnOk result ((thread : ℕ) → slice_index known.new.items thread ≡ max (slice_index known.old.items thread) (slice_index more.now thread)) }
+    ensures { OnOk result ((thread : ℕ)
+        → slice_index known.new.items thread
+        ≡ max (slice_index known.old.items thread) (slice_index more.now thread)) }
 {
     for (thread, value) in more.iter().enumerate() {
         if thread < known.len() {

@@ -63,7 +63,8 @@ impl Waits {
     /// from which it departs. Returns none if nothing is wrong.
     pub fn fault(&self, event: Event) -> Option<Reason>
         ensures { (events : List Event) (n : ℕ) → AreWaits events n self.now
-            → MatchOption result (HasNoBarrierFault events n event) (λ reason. IsBarrierFault events n event reason) }
+            → MatchOption result (HasNoBarrierFault events n event)
+            (λ reason. IsBarrierFault events n event reason) }
     {
         if let Some(waiting) = self.waiting(event.thread as usize) {
             if is_depart(event.operation, waiting.barrier) {
@@ -83,7 +84,8 @@ impl Waits {
     /// Takes the next event of a trace, with which barriers find nothing wrong. It fails if memory runs out, and then
     /// the waits are of no use.
     pub fn take(&mut self, event: Event) -> Result<(), AllocError>
-        ensures { OnOk result ((events : List Event) (n : ℕ) → At events n event → HasNoBarrierFault events n event
+        ensures { OnOk result ((events : List Event) (n : ℕ) → At events n event
+            → HasNoBarrierFault events n event
             → AreWaits events n self.old → AreWaits events (n + 1) self.new) }
     {
         match event.operation {

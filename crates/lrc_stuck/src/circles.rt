@@ -76,7 +76,8 @@ pub fn circle_of(
     waits: &[Option<usize>],
     first: usize,
 ) -> Result<Option<Vec<usize>>, AllocError>
-    ensures { IfOk result (λ circle. option_map (λ way. way.items) circle ≡ circle_of waits.now first) }
+    ensures { IfOk result (λ circle. option_map (λ way. way.items) circle
+        ≡ circle_of waits.now first) }
 {
     let mut way = Vec::new(alloc);
     let mut at = first;
@@ -145,7 +146,8 @@ fn push_circle_if(
     first: usize,
     circle: &Option<Vec<usize>>,
 ) -> Result<(), AllocError>
-    ensures ok { OnOk result (text.new.items ≡ text.old.items ++ circle_if first (option_map (λ way. way.items) circle.now)) }
+    ensures ok { OnOk result (text.new.items
+        ≡ text.old.items ++ circle_if first (option_map (λ way. way.items) circle.now)) }
     ensures err { OnErr result (BeginsWith text.new.items text.old.items) }
 {
     match circle {

@@ -138,7 +138,8 @@ fn coming_of(steps: Option<u32>, acts: &[Act], lines: &[u32], node: u8, ask: Ask
 
 // Where a node stands once acts were followed.
 fn stand_of(followed: &Followed<'_>, steps: Option<u32>, acts: &[Act], node: u8) -> Stand
-    ensures { (program : Program) (nodes : ℕ) (lines : List ℕ) → node < nodes → AreFollowed program nodes lines acts.now followed.now
+    ensures { (program : Program) (nodes : ℕ) (lines : List ℕ) → node < nodes
+        → AreFollowed program nodes lines acts.now followed.now
         → result ≡ stand_of program nodes lines steps acts.now node }
 {
     Stand {
@@ -158,7 +159,8 @@ pub fn stands_of(
     steps: Option<u32>,
     acts: &[Act],
 ) -> Result<Vec<Stand>, AllocError>
-    ensures { IfOk result (λ stands. (program : Program) (lines : List ℕ) → AreFollowed program nodes lines acts.now followed.now
+    ensures { IfOk result (λ stands. (program : Program) (lines : List ℕ)
+        → AreFollowed program nodes lines acts.now followed.now
         → stands.items ≡ stands_of program nodes lines steps acts.now) }
 {
     let mut stands = Vec::new(alloc);

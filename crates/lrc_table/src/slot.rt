@@ -93,7 +93,8 @@ impl Slot {
 
     /// Returns the twin, if one is kept.
     pub(crate) fn twin(&self) -> Option<&[u64]>
-        ensures { MatchOption result (self.now.twin ≡ None) (λ twin. self.now.twin ≡ Some twin.now) }
+        ensures { MatchOption result (self.now.twin ≡ None)
+            (λ twin. self.now.twin ≡ Some twin.now) }
     {
         match &self.twin {
             Some(twin) => Some(twin.as_slice()),
@@ -234,7 +235,8 @@ impl Slot {
     }
 
     pub(crate) fn base(&self) -> Option<&Page>
-        ensures { MatchOption result (self.now.base ≡ None) (λ page. self.now.base ≡ Some page.now) }
+        ensures { MatchOption result (self.now.base ≡ None)
+            (λ page. self.now.base ≡ Some page.now) }
     {
         match &self.base {
             Some(page) => Some(page),

@@ -73,7 +73,8 @@ impl PageTable {
     pub fn read(&self, word: u32) -> Option<u64>
         requires in_range { word < MOST_WORDS }
         requires on_a_page { page_of word self.now.size < length self.now.copies }
-        ensures { result ≡ read_at (copy_at self.now (page_of word self.now.size)) (offset_of word self.now.size) }
+        ensures { result ≡ read_at (copy_at self.now (page_of word self.now.size))
+            (offset_of word self.now.size) }
     {
         let page = usize::from(page_of(word, self.size));
         self.slots[page].read(offset_of(word, self.size))
@@ -86,9 +87,11 @@ impl PageTable {
         requires in_range { word < MOST_WORDS }
         requires on_a_page { page_of word self.old.size < length self.old.copies }
         requires settled { is_pending (copy_at self.old (page_of word self.old.size)) ≡ false }
-        ensures done { IfOk result (λ done. done ≡ is_readable (copy_at self.old (page_of word self.old.size)).state) }
+        ensures done { IfOk result (λ done. done
+            ≡ is_readable (copy_at self.old (page_of word self.old.size)).state) }
         ensures ok { OnOk result (self.new ≡ with_copy self.old (page_of word self.old.size)
-            (after_write (copy_at self.old (page_of word self.old.size)) (offset_of word self.old.size) value)) }
+            (after_write (copy_at self.old (page_of word self.old.size))
+            (offset_of word self.old.size) value)) }
         ensures err { OnErr result (self.new ≡ self.old) }
     {
         let page = page_of(word, self.size);
@@ -106,7 +109,8 @@ impl PageTable {
     fn open(&mut self, page: u16) -> Result<(), AllocError>
         requires in_range { page < length self.old.copies }
         requires valid { (copy_at self.old page).state ≡ State.Valid }
-        ensures ok { OnOk result (self.new ≡ with_copy self.old page (opened (copy_at self.old page))) }
+        ensures ok { OnOk result (self.new ≡ with_copy self.old page
+            (opened (copy_at self.old page))) }
         ensures err { OnErr result (self.new ≡ self.old) }
     {
         let place = usize::from(page);
@@ -143,7 +147,8 @@ impl PageTable {
     /// Returns the twin of a page, if one is kept. Written copies and pending copies have one.
     pub fn twin(&self, page: u16) -> Option<&[u64]>
         requires { page < length self.now.copies }
-        ensures { MatchOption result ((copy_at self.now page).twin ≡ None) (λ twin. (copy_at self.now page).twin ≡ Some twin.now) }
+        ensures { MatchOption result ((copy_at self.now page).twin ≡ None)
+            (λ twin. (copy_at self.now page).twin ≡ Some twin.now) }
     {
         self.slots[usize::from(page)].twin()
     }
@@ -169,8 +174,10 @@ impl PageTable {
     /// pending. On error the table does not change.
     pub fn settle(&mut self, page: u16) -> Result<Option<Changes>, AllocError>
         requires { page < length self.old.copies }
-        ensures changes { IfOk result (λ changes. changes ≡ pending_changes (copy_at self.old page)) }
-        ensures ok { OnOk result (self.new ≡ with_copy self.old page (settled (copy_at self.old page))) }
+        ensures changes { IfOk result (λ changes. changes
+            ≡ pending_changes (copy_at self.old page)) }
+        ensures ok { OnOk result (self.new ≡ with_copy self.old page
+            (settled (copy_at self.old page))) }
         ensures err { OnErr result (self.new ≡ self.old) }
     {
         let alloc = *self.slots.allocator();
@@ -213,8 +220,10 @@ impl PageTable {
     pub fn repair(&mut self, page: u16, changes: &[Changes])
         requires in_range { page < length self.old.copies }
         requires invalid { (copy_at self.old page).state ≡ State.Invalid }
-        requires sized { All (λ list. All (λ c. c.offset < words_of self.old.size) list) changes.now }
-        ensures { self.new ≡ with_copy self.old page (repaired (copy_at self.old page) changes.now) }
+        requires sized { All (λ list. All (λ c. c.offset < words_of self.old.size) list)
+            changes.now }
+        ensures { self.new ≡ with_copy self.old page
+            (repaired (copy_at self.old page) changes.now) }
     {
         self.slots[usize::from(page)].repair(changes);
     }
@@ -234,7 +243,8 @@ impl PageTable {
     pub fn keep_base(&mut self, page: u16) -> Result<(), AllocError>
         requires in_range { page < length self.old.copies }
         requires valid { (copy_at self.old page).state ≡ State.Valid }
-        ensures ok { OnOk result (self.new ≡ with_copy self.old page (with_base (copy_at self.old page))) }
+        ensures ok { OnOk result (self.new ≡ with_copy self.old page
+            (with_base (copy_at self.old page))) }
         ensures err { OnErr result (self.new ≡ self.old) }
     {
         let alloc = *self.slots.allocator();
@@ -245,7 +255,8 @@ impl PageTable {
     /// Returns the base copy of a page, if one is kept.
     pub fn base(&self, page: u16) -> Option<&Page>
         requires { page < length self.now.copies }
-        ensures { MatchOption result ((copy_at self.now page).base ≡ None) (λ base. (copy_at self.now page).base ≡ Some base.now) }
+        ensures { MatchOption result ((copy_at self.now page).base ≡ None)
+            (λ base. (copy_at self.now page).base ≡ Some base.now) }
     {
         self.slots[usize::from(page)].base()
     }

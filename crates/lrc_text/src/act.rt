@@ -44,7 +44,8 @@ pub fn push_deed(text: &mut Vec<u8>, deed: Deed) -> Result<(), AllocError>
 
 // Adds the word that is accessed and its value.
 fn push_access(text: &mut Vec<u8>, word: u32, value: u64) -> Result<(), AllocError>
-    ensures ok { OnOk result (text.new.items ≡ text.old.items ++ codes " " ++ decimal word ++ codes " " ++ decimal value) }
+    ensures ok { OnOk result (text.new.items
+        ≡ text.old.items ++ codes " " ++ decimal word ++ codes " " ++ decimal value) }
     ensures err { OnErr result (BeginsWith text.new.items text.old.items) }
 {
     push_number(text, b" ", u64::from(word))?;

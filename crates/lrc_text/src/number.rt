@@ -32,7 +32,8 @@ pub fn push_wide_number(text: &mut Vec<u8>, word: &[u8], number: u128) -> Result
 /// Returns the number that decimal digits write; leading zeros are allowed. Returns none if there is no digit, if a
 /// character is not a digit, or if the number is greater than `greatest`.
 pub fn read_number(digits: &[u8], greatest: u64) -> Option<u64>
-    ensures { MatchOption result ((number : ℕ) → ¬ IsNumber digits.now greatest number) (λ number. IsNumber digits.now greatest number) }
+    ensures { MatchOption result ((number : ℕ) → ¬ IsNumber digits.now greatest number)
+        (λ number. IsNumber digits.now greatest number) }
 {
     let number = value_of(digits)?;
     if number <= greatest {

@@ -46,9 +46,12 @@ pub struct Parts {
 
 /// Takes apart what is left of the nodes. It fails if there is no memory for the lists.
 pub fn parts_of(alloc: Global, pasts: Vec<Past>) -> Result<Parts, AllocError>
-    ensures logs { IfOk result (λ parts. map (λ log. log.items) parts.logs.items ≡ map (λ past. past.log.items) pasts.items) }
-    ensures traces { IfOk result (λ parts. parts.traces.items ≡ map (λ past. past.trace) pasts.items) }
-    ensures ready { IfOk result (λ parts. parts.is_any_ready ≡ list_any (λ past. past.is_ready) pasts.items) }
+    ensures logs { IfOk result (λ parts. map (λ log. log.items) parts.logs.items
+        ≡ map (λ past. past.log.items) pasts.items) }
+    ensures traces { IfOk result (λ parts. parts.traces.items
+        ≡ map (λ past. past.trace) pasts.items) }
+    ensures ready { IfOk result (λ parts. parts.is_any_ready
+        ≡ list_any (λ past. past.is_ready) pasts.items) }
     ensures stops { IfOk result (λ parts. parts.stops.items ≡ map (λ past. past.stop) pasts.items) }
 {
     let is_any_ready = pasts.iter().any(|past| past.is_ready);

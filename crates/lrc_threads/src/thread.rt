@@ -72,7 +72,8 @@ fn past_of<G: Gate, R: Wait>(
 fn ended(node: Logged<'_>, stop: Option<Stop>) -> Past
     ensures log { result.log.items ≡ node.entry.logged.log }
     ensures trace { result.trace ≡ node.entry.trace }
-    ensures ready { (l : LogRecord) → node.entry.logged ≡ sound l → result.is_ready ≡ is_ready l.node }
+    ensures ready { (l : LogRecord) → node.entry.logged ≡ sound l
+        → result.is_ready ≡ is_ready l.node }
     ensures stop { result.stop ≡ stop }
 {
     let is_ready = node.ready();
@@ -102,8 +103,10 @@ pub(crate) fn unborn(alloc: Global, member: &Member) -> Past
 fn fresh<'c>(alloc: Global, code: &'c Code<'_>, member: Member) -> Result<Logged<'c>, AllocError>
     requires here { member.me < member.nodes }
     requires few { member.nodes ≤ 16 }
-    ensures fresh { IfOk result (λ node. node.logged ≡ sound (no_turn_yet (fresh_node code.now member.nodes member.options member.me))) }
-    ensures leads { IfOk result (λ node. LeadsFrom (fresh_node code.now member.nodes member.options member.me)
+    ensures fresh { IfOk result (λ node. node.logged
+        ≡ sound (no_turn_yet (fresh_node code.now member.nodes member.options member.me))) }
+    ensures leads { IfOk result (λ node. LeadsFrom
+        (fresh_node code.now member.nodes member.options member.me)
         (no_turn_yet (fresh_node code.now member.nodes member.options member.me)) node) }
 {
     let node = Node::new(alloc, code, member.me, member.nodes, &member.options)?;

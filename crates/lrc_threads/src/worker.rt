@@ -42,8 +42,10 @@ pub fn work<M: Mail, G: Gate, R: Wait>(
     node: &mut Logged<'_>,
     me: u8,
 ) -> Result<(), Stop>
-    ensures goes { (l : log.Logged) → node.old.logged ≡ sound l → GoesTo M.puts M.takes mail.old l mail.new node.new.logged result }
-    ensures over { (l : log.Logged) → node.old.logged ≡ sound l → OnOk result (IsIdle node.new.logged) }
+    ensures goes { (l : log.Logged) → node.old.logged ≡ sound l
+        → GoesTo M.puts M.takes mail.old l mail.new node.new.logged result }
+    ensures over { (l : log.Logged) → node.old.logged ≡ sound l
+        → OnOk result (IsIdle node.new.logged) }
     ensures ended { OnOk result (M.over mail.new) }
     ensures closed { IfErr result (λ stop. stop ≡ Closed → M.shut mail.new) }
     ensures traced { TracesTo node.old node.new result }
@@ -67,7 +69,8 @@ fn go_on<M: Mail, G: Gate>(
     me: u8,
     spin: &mut Spin,
 ) -> Result<(), Stop>
-    ensures goes { (l : log.Logged) → node.old.logged ≡ sound l → GoesTo M.puts M.takes mail.old l mail.new node.new.logged result }
+    ensures goes { (l : log.Logged) → node.old.logged ≡ sound l
+        → GoesTo M.puts M.takes mail.old l mail.new node.new.logged result }
     ensures closed { IfErr result (λ stop. stop ≡ Closed → M.shut mail.new) }
     ensures traced { TracesTo node.old node.new result }
 {
@@ -87,7 +90,8 @@ fn run_on<M: Mail, G: Gate>(
     me: u8,
     spin: &mut Spin,
 ) -> Result<(), Stop>
-    ensures goes { (l : log.Logged) → node.old.logged ≡ sound l → GoesTo M.puts M.takes mail.old l mail.new node.new.logged result }
+    ensures goes { (l : log.Logged) → node.old.logged ≡ sound l
+        → GoesTo M.puts M.takes mail.old l mail.new node.new.logged result }
     ensures closed { IfErr result (λ stop. stop ≡ Closed → M.shut mail.new) }
     ensures traced { TracesTo node.old node.new result }
 {
@@ -117,7 +121,8 @@ fn run_once<M: Mail, G: Gate>(
     node: &mut Logged<'_>,
     me: u8,
 ) -> Result<(), Stop>
-    ensures goes { (l : log.Logged) → node.old.logged ≡ sound l → GoesTo M.puts M.takes mail.old l mail.new node.new.logged result }
+    ensures goes { (l : log.Logged) → node.old.logged ≡ sound l
+        → GoesTo M.puts M.takes mail.old l mail.new node.new.logged result }
     ensures closed { IfErr result (λ stop. stop ≡ Closed → M.shut mail.new) }
     ensures traced { TracesTo node.old node.new result }
 {
@@ -139,8 +144,10 @@ fn receive<M: Mail, G: Gate>(
     me: u8,
     spin: &mut Spin,
 ) -> Result<bool, Stop>
-    ensures goes { (l : log.Logged) → node.old.logged ≡ sound l → GoesTo M.puts M.takes mail.old l mail.new node.new.logged result }
-    ensures over { (l : log.Logged) → node.old.logged ≡ sound l → IfOk result (λ goes. goes ≡ false → IsIdle node.new.logged) }
+    ensures goes { (l : log.Logged) → node.old.logged ≡ sound l
+        → GoesTo M.puts M.takes mail.old l mail.new node.new.logged result }
+    ensures over { (l : log.Logged) → node.old.logged ≡ sound l
+        → IfOk result (λ goes. goes ≡ false → IsIdle node.new.logged) }
     ensures ended { IfOk result (λ goes. goes ≡ false → M.over mail.new) }
     ensures closed { IfErr result (λ stop. stop ≡ Closed → M.shut mail.new) }
     ensures traced { TracesTo node.old node.new result }
@@ -176,7 +183,8 @@ fn take_in<M: Mail>(
     node: &mut Logged<'_>,
     parcel: &Parcel,
 ) -> Result<(), Stop>
-    ensures goes { (l : log.Logged) → node.old.logged ≡ sound l → TakesIn M.puts M.takes mail.old parcel.now l mail.new node.new.logged result }
+    ensures goes { (l : log.Logged) → node.old.logged ≡ sound l
+        → TakesIn M.puts M.takes mail.old parcel.now l mail.new node.new.logged result }
     ensures closed { IfErr result (λ stop. stop ≡ Closed → M.shut mail.new) }
     ensures traced { TracesTo node.old node.new result }
 {
@@ -192,7 +200,8 @@ fn take_in<M: Mail>(
 
 // Puts the messages of the node's newest turn.
 fn send_last<M: Mail>(alloc: Global, mail: &mut M, node: &Logged<'_>) -> Result<(), Stop>
-    ensures sent { (entry : EntryRecord) → LogsLast node.now.logged entry → SendsTo M.puts mail.old entry mail.new result }
+    ensures sent { (entry : EntryRecord) → LogsLast node.now.logged entry
+        → SendsTo M.puts mail.old entry mail.new result }
     ensures closed { IfErr result (λ stop. stop ≡ Closed → M.shut mail.new) }
 {
     let Some(entry) = node.log().last() else {
@@ -207,7 +216,8 @@ fn send_last<M: Mail>(alloc: Global, mail: &mut M, node: &Logged<'_>) -> Result<
 
 // The parcels of messages that are sent in one turn.
 fn parcels_of(alloc: Global, out: &[Envelope], stamp: u64) -> Result<Vec<Parcel>, Stop>
-    ensures shown { IfOk result (λ parcels. map shown parcels.items ≡ map (shown_sent stamp) out.now) }
+    ensures shown { IfOk result (λ parcels. map shown parcels.items
+        ≡ map (shown_sent stamp) out.now) }
     ensures short { OnOk result (All IsShort out.now) }
     ensures worn { IfErr result (λ stop. stop ≡ Worn → Any IsTooLong out.now) }
     ensures open { IfErr result (λ stop. stop ≢ Closed) }

@@ -12,7 +12,8 @@ pub fn the_limits()
 
 /// Let two different times have equally many entries. If one covers the other, it weighs more.
 pub fn weight_rises_with_cover()
-    ensures { (a b : List ℕ) → length a ≡ length b → Covers a b → a ≢ b → weight_of b < weight_of a }
+    ensures { (a b : List ℕ) → length a ≡ length b → Covers a b → a ≢ b
+        → weight_of b < weight_of a }
 {}
 
 /// Covering is a partial order on the times with equally many entries.

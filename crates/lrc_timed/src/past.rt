@@ -124,7 +124,8 @@ impl Past {
         requires few { nodes ≤ 16 }
         requires past { IsTimedPast nodes acts.now times.now self.now }
         requires node { node < nodes }
-        ensures { result ≡ arrived_time nodes acts.now times.now (departs_before acts.now node (length acts.now)) (length acts.now) }
+        ensures { result ≡ arrived_time nodes acts.now times.now
+            (departs_before acts.now node (length acts.now)) (length acts.now) }
     {
         match self.arrived.get(self.departs[usize::from(node)]) {
             Some(time) => time.copy(),
@@ -172,7 +173,8 @@ impl Past {
         requires keeps { KeepsTime nodes acts.now times.now }
         requires past { IsTimedPast nodes acts.now times.now self.old }
         requires time { time.now ≡ next_act_time nodes acts.now times.now act.node act.deed }
-        ensures { OnOk result (IsTimedPast nodes (acts.now ++ act ∷ []) (times.now ++ time.now ∷ []) self.new) }
+        ensures { OnOk result (IsTimedPast nodes (acts.now ++ act ∷ [])
+            (times.now ++ time.now ∷ []) self.new) }
     {
         let node = usize::from(act.node);
         self.acted[node] = Some(times.len());

@@ -76,7 +76,8 @@ fn push_charting(text: &mut Vec<u8>, charting: &Charting) -> Result<(), AllocErr
 
 // Adds an option, where it is asked for.
 fn push_if(text: &mut Vec<u8>, option: &[u8], is_asked: bool) -> Result<(), AllocError>
-    ensures { OnOk result (text.new.items ≡ text.old.items ++ (if is_asked then option.now else [])) }
+    ensures { OnOk result (text.new.items
+        ≡ text.old.items ++ (if is_asked then option.now else [])) }
 {
     if is_asked {
         text.extend_from_slice(option)?;
@@ -161,7 +162,8 @@ fn push_unless(
     default: u64,
     number: u64,
 ) -> Result<(), AllocError>
-    ensures { OnOk result (text.new.items ≡ text.old.items ++ option_text option.now default number) }
+    ensures { OnOk result (text.new.items
+        ≡ text.old.items ++ option_text option.now default number) }
 {
     if number == default {
         return Ok(());

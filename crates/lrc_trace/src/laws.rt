@@ -22,7 +22,8 @@ pub fn happens_before_goes_forward()
 
 /// Happens before is transitive.
 pub fn happens_before_is_transitive()
-    ensures { (run : List Act) (i j k : ℕ) → HappensBefore run i j → HappensBefore run j k → HappensBefore run i k }
+    ensures { (run : List Act) (i j k : ℕ) → HappensBefore run i j → HappensBefore run j k
+        → HappensBefore run i k }
 {}
 
 /// For positions in a prefix of a run, happens before on the prefix is the same as on the whole run.
@@ -51,13 +52,15 @@ pub fn ordered_writes_give_one_value()
 
 /// The interval of a node never falls along the run.
 pub fn intervals_never_fall()
-    ensures { (run : List Act) (node i j : ℕ) → i ≤ j → interval_at run node i ≤ interval_at run node j }
+    ensures { (run : List Act) (node i j : ℕ) → i ≤ j
+        → interval_at run node i ≤ interval_at run node j }
 {}
 
 /// Two accesses of one node are in the same interval exactly if the node makes no acquire, release or arrive between
 /// them.
 pub fn same_interval_has_no_close_between()
-    ensures { (run : List Act) (node i j v w : ℕ) → i < j → Accesses run i node v → Accesses run j node w
+    ensures { (run : List Act) (node i j v w : ℕ) → i < j → Accesses run i node v
+        → Accesses run j node w
         → ((interval_at run node i ≡ interval_at run node j)
         ↔ ((k : ℕ) (d : Deed) → i ≤ k → k < j → Does run k node d → IsTrue (closes d) → ⊥)) }
 {}
@@ -79,7 +82,8 @@ pub fn definitions_on_a_prefix()
         → interval_at (run ++ more) node i ≡ interval_at run node i }
     ensures holders { (run more : List Act) (n node l : ℕ) → n ≤ length run
         → (Holds run n node l ↔ Holds (run ++ more) n node l) }
-    ensures races { (run more : List Act) (i j : ℕ) → j < length run → (Races run i j ↔ Races (run ++ more) i j) }
+    ensures races { (run more : List Act) (i j : ℕ) → j < length run
+        → (Races run i j ↔ Races (run ++ more) i j) }
     ensures reads { (run more : List Act) (j word value : ℕ) → j < length run
         → (MayRead run j word value ↔ MayRead (run ++ more) j word value) }
 {}
@@ -87,7 +91,8 @@ pub fn definitions_on_a_prefix()
 /// A run with one more act is well synchronized exactly if the run is and may go on with that act.
 pub fn well_synchronized_by_one_act_more()
     ensures { (nodes : ℕ) (run : List Act) (act : Act)
-        → (IsWellSynchronized nodes (run ++ act ∷ []) ↔ (IsWellSynchronized nodes run × MayGoOn nodes run act)) }
+        → (IsWellSynchronized nodes (run ++ act ∷ [])
+        ↔ (IsWellSynchronized nodes run × MayGoOn nodes run act)) }
 {}
 
 /// In a run with one more act, nodes wait at their barriers exactly if they do in the run and the act is a depart or
@@ -102,7 +107,8 @@ pub fn waiting_at_barriers_by_one_act_more()
 /// give.
 pub fn reads_lazily_by_one_act_more()
     ensures { (run : List Act) (act : Act)
-        → (ReadsLazily (run ++ act ∷ []) ↔ (ReadsLazily run × ((word value : ℕ) → act.deed ≡ Read word value
+        → (ReadsLazily (run ++ act ∷ [])
+        ↔ (ReadsLazily run × ((word value : ℕ) → act.deed ≡ Read word value
         → MayRead (run ++ act ∷ []) (length run) word value))) }
 {}
 
@@ -127,14 +133,16 @@ pub fn happens_before_is_decided()
 pub fn races_do_not_depend_on_values()
     ensures order { (run other : List Act) (i j : ℕ) → SameButValues run other
         → (HappensBefore run i j ↔ HappensBefore other i j) }
-    ensures races { (run other : List Act) (i j : ℕ) → SameButValues run other → (Races run i j ↔ Races other i j) }
+    ensures races { (run other : List Act) (i j : ℕ) → SameButValues run other
+        → (Races run i j ↔ Races other i j) }
     ensures names { (run other : List Act) (race : Race) → SameButValues run other
         → (IsNamedRace run race ↔ IsNamedRace other race) }
 {}
 
 /// After an access is noted, a trace has exactly that access and those that it had before.
 pub fn what_is_noted_is_added()
-    ensures { (trace : TraceRecord) (epoch interval : ℕ) (time : List ℕ) (word : ℕ) (is_write : Bool)
+    ensures { (trace : TraceRecord) (epoch interval : ℕ) (time : List ℕ) (word : ℕ)
+        (is_write : Bool)
         → AreSegments trace.segments → MayNote trace.segments epoch interval time
         → (access : NotedAccess)
         → IsNoted (noted trace epoch interval time word is_write) access

@@ -76,7 +76,8 @@ impl Touched {
 fn place_of(pages: &[TouchedPage], page: u16) -> usize
     requires { IsRising (numbers_of pages.now) }
     ensures within { result ≤ length pages.now }
-    ensures before { (k : ℕ) (d : TouchedPage) → k < result → (slice_index_or pages.now k d).page < page }
+    ensures before { (k : ℕ) (d : TouchedPage) → k < result
+        → (slice_index_or pages.now k d).page < page }
     ensures after { (k : ℕ) (d : TouchedPage) → result ≤ k → k < length pages.now
         → page ≤ (slice_index_or pages.now k d).page }
 {

@@ -57,7 +57,8 @@ pub fn push_listed(
     place: usize,
     envelope: &Envelope,
 ) -> Result<(), AllocError>
-    ensures { OnOk result (text.new.items ≡ text.old.items ++ before place (codes ",") ++ message_object envelope.now) }
+    ensures { OnOk result (text.new.items
+        ≡ text.old.items ++ before place (codes ",") ++ message_object envelope.now) }
 {
     push_comma(text, place)?;
     push_envelope(alloc, text, envelope)
@@ -110,7 +111,8 @@ fn last_of(target: Target) -> u32
 
 // Adds a label at this place of a list.
 fn push_label(text: &mut Vec<u8>, place: usize, label: Label<'_>) -> Result<(), AllocError>
-    ensures { OnOk result (text.new.items ≡ text.old.items ++ before place (codes ",") ++ label_object (label_seen label.entry)) }
+    ensures { OnOk result (text.new.items
+        ≡ text.old.items ++ before place (codes ",") ++ label_object (label_seen label.entry)) }
 {
     push_comma(text, place)?;
     text.extend_from_slice(b"{\"of\":\"")?;
@@ -124,7 +126,8 @@ fn push_label(text: &mut Vec<u8>, place: usize, label: Label<'_>) -> Result<(), 
 
 /// Adds labels, separated by commas.
 pub fn push_labels(text: &mut Vec<u8>, labels: &[Label<'_>]) -> Result<(), AllocError>
-    ensures { OnOk result (text.new.items ≡ text.old.items ++ labels_list (map label_seen labels.now)) }
+    ensures { OnOk result (text.new.items
+        ≡ text.old.items ++ labels_list (map label_seen labels.now)) }
 {
     for (place, label) in labels.iter().enumerate() {
         push_label(text, place, *label)?;
@@ -185,7 +188,8 @@ fn push_write(text: &mut Vec<u8>, note: Note) -> Result<(), AllocError>
 
 // Adds the last Write to a word at this place of a list.
 fn push_note(text: &mut Vec<u8>, place: usize, note: Note) -> Result<(), AllocError>
-    ensures { OnOk result (text.new.items ≡ text.old.items ++ before place (codes ",") ++ note_object note) }
+    ensures { OnOk result (text.new.items
+        ≡ text.old.items ++ before place (codes ",") ++ note_object note) }
 {
     push_comma(text, place)?;
     push_write(text, note)

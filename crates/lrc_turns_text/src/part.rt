@@ -12,7 +12,8 @@ use std::alloc::{AllocError, Global};
 
 /// Returns the turn at a place of a node's log, or none if the log has no such turn.
 pub fn entry_of(logs: &[Vec<Entry>], node: u8, place: usize) -> Option<&Entry>
-    ensures there { MatchOption result (log_entry (map (λ log. log.items) logs.now) node place ≡ None)
+    ensures there { MatchOption result (log_entry (map (λ log. log.items) logs.now) node place
+        ≡ None)
         (λ entry. log_entry (map (λ log. log.items) logs.now) node place ≡ Some entry.now) }
     ensures bound { OnSome result (place < 18446744073709551615) }
 {
@@ -59,7 +60,8 @@ fn tell_next(
 ) -> Result<(), AllocError>
     requires { told.old.acts < 18446744073709551615 }
     ensures text { OnOk result ((turns : List Made) → Tells turns told.old
-        → text.new.items ≡ text.old.items ++ texts_behind lines.now turns (next (map (λ log. log.items) logs.now) turns node)) }
+        → text.new.items ≡ text.old.items
+        ++ texts_behind lines.now turns (next (map (λ log. log.items) logs.now) turns node)) }
     ensures tells { OnOk result ((turns : List Made) → Tells turns told.old
         → Tells (turns ++ next (map (λ log. log.items) logs.now) turns node) told.new) }
     ensures acts { told.new.acts ≤ told.old.acts + 1 }
@@ -79,7 +81,8 @@ pub fn messages_part(
     order: &[u8],
     lines: &[u32],
 ) -> Result<Vec<u8>, AllocError>
-    ensures { IfOk result (λ part. part.items ≡ messages_text (map (λ log. log.items) logs.now) order.now lines.now) }
+    ensures { IfOk result (λ part. part.items
+        ≡ messages_text (map (λ log. log.items) logs.now) order.now lines.now) }
 {
     let mut text = Vec::new(alloc);
     let mut told = Told::new(alloc);

@@ -26,9 +26,11 @@ fn note_taken(
     node: u8,
     input: &Input,
 ) -> Result<bool, AllocError>
-    ensures noted { IfOk result (λ again. again ≡ holds_input taken.old.keys node (seen_input input.now)) }
+    ensures noted { IfOk result (λ again. again
+        ≡ holds_input taken.old.keys node (seen_input input.now)) }
     ensures more { OnOk result ((other from number : ℕ) → holds_key taken.new.keys other from number
-        ≡ (takes_numbered other from number node (seen_input input.now) || holds_key taken.old.keys other from number)) }
+        ≡ (takes_numbered other from number node
+        (seen_input input.now) || holds_key taken.old.keys other from number)) }
 {
     match input {
         Input::Run => Ok(false),
@@ -80,7 +82,8 @@ impl Told {
     pub(crate) fn note(&mut self, node: u8, entry: &Entry) -> Result<bool, AllocError>
         requires made { slice_index self.old.made node < 18446744073709551615 }
         requires acts { self.old.acts < 18446744073709551615 }
-        ensures again { IfOk result (λ again. (turns : List Made) → Tells turns self.old → again ≡ took_before turns node entry.now.input) }
+        ensures again { IfOk result (λ again. (turns : List Made) → Tells turns self.old
+            → again ≡ took_before turns node entry.now.input) }
         ensures tells { OnOk result ((turns : List Made) → Tells turns self.old
             → Tells (turns ++ record { node = node; entry = entry.now } ∷ []) self.new) }
         ensures acts { self.new.acts ≤ self.old.acts + 1 }

@@ -18,7 +18,8 @@ fn push_input(
     input: &Input,
     again: bool,
 ) -> Result<(), AllocError>
-    ensures { OnOk result (text.new.items ≡ text.old.items ++ input_text node (seen_input input.now) again) }
+    ensures { OnOk result (text.new.items
+        ≡ text.old.items ++ input_text node (seen_input input.now) again) }
 {
     match input {
         Input::Run => Ok(()),

@@ -28,7 +28,8 @@ pub struct Printout {
 /// too long, if a line is bad (the error names the first one), or if memory runs out.
 pub fn judge(alloc: Global, text: &[u8], nodes: Option<u32>) -> Result<Printout, ActsFault>
     requires nodes { IfSome nodes (λ count. count ≤ NODES) }
-    ensures ok { IfOk result (λ printout. Judges nodes false text.now (whole_text printout.parts.items) printout.status) }
+    ensures ok { IfOk result (λ printout.
+        Judges nodes false text.now (whole_text printout.parts.items) printout.status) }
     ensures err { IfErr result (λ fault. ReadsActs nodes text.now (Err fault)) }
     ensures memory { IfErr result (λ fault. fault ≡ NoMemory → MayRunOut nodes text.now) }
 {
@@ -109,7 +110,8 @@ pub(crate) fn head_of(
     requires nodes { nodes ≤ NODES }
     requires acts { All (λ act. act.node < NODES) acts.now }
     requires lines { length acts.now ≡ length lines.now }
-    ensures { IfOk result (λ head. IsHead nodes acts.now lines.now head.synchronized head.lazy head.text.items) }
+    ensures { IfOk result (λ head. IsHead nodes acts.now lines.now head.synchronized head.lazy
+        head.text.items) }
 {
     let mut text = Vec::new(alloc);
     let synchronized = tell_synchronization(&mut text, acts, lines, nodes)?;
@@ -128,7 +130,8 @@ fn parts_of(
     races: Vec<u8>,
     first: Option<usize>,
 ) -> Result<Vec<Vec<u8>>, AllocError>
-    ensures { IfOk result (λ parts. whole_text parts.items ≡ head.items ++ races.items ++ first_race_text first) }
+    ensures { IfOk result (λ parts. whole_text parts.items
+        ≡ head.items ++ races.items ++ first_race_text first) }
 {
     let mut parts = Vec::new(alloc);
     parts.push(head)?;

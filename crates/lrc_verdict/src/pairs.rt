@@ -50,7 +50,8 @@ pub fn judge_pairs(
 ) -> Result<PairsJudgement, ActsFault>
     requires nodes { IfSome nodes (λ count. count ≤ NODES) }
     ensures ok { IfOk result (IsPairsJudgement nodes text.now) }
-    ensures judges { IfOk result (λ judgement. Judges nodes true text.now (told_text judgement) judgement.status) }
+    ensures judges { IfOk result (λ judgement.
+        Judges nodes true text.now (told_text judgement) judgement.status) }
     ensures err { IfErr result (λ fault. ReadsActs nodes text.now (Err fault)) }
     ensures memory { IfErr result (λ fault. fault ≡ NoMemory → MayRunOut nodes text.now) }
 {
@@ -89,8 +90,10 @@ pub fn put_pairs<W: Write>(
     requires fine { output.now.failed ≡ false }
     requires races { HasItsRaces judgement.now }
     ensures same_writer { output.new.writer.ghost_name ≡ output.old.writer.ghost_name }
-    ensures ok { OnOk result (Appends (W.contents output.old.writer.now) (W.contents output.new.writer.now) (told_text judgement.now)) }
-    ensures err { OnErr result (AppendsFront (W.contents output.old.writer.now) (W.contents output.new.writer.now) (told_text judgement.now)) }
+    ensures ok { OnOk result (Appends (W.contents output.old.writer.now)
+        (W.contents output.new.writer.now) (told_text judgement.now)) }
+    ensures err { OnErr result (AppendsFront (W.contents output.old.writer.now)
+        (W.contents output.new.writer.now) (told_text judgement.now)) }
     ensures fine { OnOk result (output.new.failed ≡ false) }
     ensures failed { IfErr result (λ broken. output.new.failed ≡ is_unwritten broken) }
 {
@@ -111,10 +114,14 @@ fn put_races<W: Write>(
     requires fine { output.now.failed ≡ false }
     requires races { HasItsRaces judgement.now }
     ensures same_writer { output.new.writer.ghost_name ≡ output.old.writer.ghost_name }
-    ensures ok { OnOk result (Appends (W.contents output.old.writer.now) (W.contents output.new.writer.now)
-        (lines_from judgement.now.conflicts.order judgement.now.acts.items 0 (length judgement.now.acts.items) ++ first_race_text (Some first))) }
-    ensures err { OnErr result (AppendsFront (W.contents output.old.writer.now) (W.contents output.new.writer.now)
-        (lines_from judgement.now.conflicts.order judgement.now.acts.items 0 (length judgement.now.acts.items) ++ first_race_text (Some first))) }
+    ensures ok { OnOk result (Appends (W.contents output.old.writer.now)
+        (W.contents output.new.writer.now)
+        (lines_from judgement.now.conflicts.order judgement.now.acts.items 0
+        (length judgement.now.acts.items) ++ first_race_text (Some first))) }
+    ensures err { OnErr result (AppendsFront (W.contents output.old.writer.now)
+        (W.contents output.new.writer.now)
+        (lines_from judgement.now.conflicts.order judgement.now.acts.items 0
+        (length judgement.now.acts.items) ++ first_race_text (Some first))) }
     ensures fine { OnOk result (output.new.failed ≡ false) }
     ensures failed { IfErr result (λ broken. output.new.failed ≡ is_unwritten broken) }
 {
@@ -136,10 +143,13 @@ fn put_lines<W: Write>(
     pairs: &[Pair],
 ) -> Result<(), BrokenOff>
     requires fine { output.now.failed ≡ false }
-    requires pairs { All (λ pair. (pair.earlier < length acts.now) × (pair.later < length acts.now)) pairs.now }
+    requires pairs { All (λ pair. (pair.earlier < length acts.now)
+        × (pair.later < length acts.now)) pairs.now }
     ensures same_writer { output.new.writer.ghost_name ≡ output.old.writer.ghost_name }
-    ensures ok { OnOk result (Appends (W.contents output.old.writer.now) (W.contents output.new.writer.now) (pair_lines acts.now pairs.now)) }
-    ensures err { OnErr result (AppendsFront (W.contents output.old.writer.now) (W.contents output.new.writer.now) (pair_lines acts.now pairs.now)) }
+    ensures ok { OnOk result (Appends (W.contents output.old.writer.now)
+        (W.contents output.new.writer.now) (pair_lines acts.now pairs.now)) }
+    ensures err { OnErr result (AppendsFront (W.contents output.old.writer.now)
+        (W.contents output.new.writer.now) (pair_lines acts.now pairs.now)) }
     ensures fine { OnOk result (output.new.failed ≡ false) }
     ensures failed { IfErr result (λ broken. output.new.failed ≡ is_unwritten broken) }
 {

@@ -38,7 +38,8 @@ pub(crate) fn tell_synchronization(
     requires nodes { nodes ≤ NODES }
     requires acts { All (λ act. act.node < NODES) acts.now }
     requires lines { length acts.now ≡ length lines.now }
-    ensures { IfOk result (λ holds. AddsText text.old.items text.new.items (TellsSynchronization nodes acts.now lines.now holds)) }
+    ensures { IfOk result (λ holds. AddsText text.old.items text.new.items
+        (TellsSynchronization nodes acts.now lines.now holds)) }
 {
     match first_fault_of_synchronization(acts, nodes) {
         Some(position) => {
@@ -79,7 +80,8 @@ pub(crate) fn tell_lazy_reading(
 ) -> Result<bool, AllocError>
     requires acts { All (λ act. act.node < NODES) acts.now }
     requires lines { length acts.now ≡ length lines.now }
-    ensures { IfOk result (λ holds. AddsText text.old.items text.new.items (TellsLazyReading acts.now lines.now holds)) }
+    ensures { IfOk result (λ holds. AddsText text.old.items text.new.items
+        (TellsLazyReading acts.now lines.now holds)) }
 {
     let first = first_fault_of_reading(alloc, acts)?;
     match first {
@@ -104,7 +106,8 @@ fn tell_unlazy(
     requires acts { All (λ act. act.node < NODES) acts.now }
     requires lines { length acts.now ≡ length lines.now }
     requires first { IsFirstMisread acts.now position }
-    ensures { OnOk result (AddsText text.old.items text.new.items (TellsLazyReading acts.now lines.now false)) }
+    ensures { OnOk result (AddsText text.old.items text.new.items
+        (TellsLazyReading acts.now lines.now false)) }
 {
     let Some(read) = read_at(acts, position) else {
         unreachable!()

@@ -16,7 +16,8 @@ pub fn no_such_word(
     statements: &[StatementAt<'_>],
     words: u32,
 ) -> Result<(), AllocError>
-    ensures { OnOk result (out.new.items ≡ out.old.items ++ no_such_word words (map statement_seen statements.now)) }
+    ensures { OnOk result (out.new.items
+        ≡ out.old.items ++ no_such_word words (map statement_seen statements.now)) }
 {
     for s in statements {
         no_such_word_at(out, s.at, s.statement, words)?;
@@ -30,7 +31,8 @@ fn no_such_word_at(
     statement: &Statement,
     words: u32,
 ) -> Result<(), AllocError>
-    ensures { OnOk result (out.new.items ≡ out.old.items ++ no_such_word_at words at (statement_of statement.now)) }
+    ensures { OnOk result (out.new.items
+        ≡ out.old.items ++ no_such_word_at words at (statement_of statement.now)) }
 {
     match statement {
         Statement::Read(_, word) => {
@@ -64,7 +66,8 @@ pub fn no_such_lock(
     statements: &[StatementAt<'_>],
     locks: u8,
 ) -> Result<(), AllocError>
-    ensures { OnOk result (out.new.items ≡ out.old.items ++ no_such_lock locks (map statement_seen statements.now)) }
+    ensures { OnOk result (out.new.items
+        ≡ out.old.items ++ no_such_lock locks (map statement_seen statements.now)) }
 {
     for s in statements {
         no_such_lock_at(out, s.at, s.statement, locks)?;
@@ -78,7 +81,8 @@ fn no_such_lock_at(
     statement: &Statement,
     locks: u8,
 ) -> Result<(), AllocError>
-    ensures { OnOk result (out.new.items ≡ out.old.items ++ no_such_lock_at locks at (statement_of statement.now)) }
+    ensures { OnOk result (out.new.items
+        ≡ out.old.items ++ no_such_lock_at locks at (statement_of statement.now)) }
 {
     match statement {
         Statement::Acquire(lock) | Statement::Release(lock) => {

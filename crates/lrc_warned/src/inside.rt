@@ -12,7 +12,8 @@ pub fn nodes_in<'p>(
     alloc: Global,
     expression: &'p Expression,
 ) -> Result<Vec<&'p Expression>, AllocError>
-    ensures { IfOk result (λ nodes. map (λ n. expression_of n.now) nodes.items ≡ nodes_in (expression_of expression.entry.now)) }
+    ensures { IfOk result (λ nodes. map (λ n. expression_of n.now) nodes.items
+        ≡ nodes_in (expression_of expression.entry.now)) }
 {
     let mut nodes = Vec::new(alloc);
     put_nodes(&mut nodes, expression)?;
@@ -24,7 +25,8 @@ fn put_nodes<'p>(
     expression: &'p Expression,
 ) -> Result<(), AllocError>
     ensures { OnOk result (map (λ n. expression_of n.now) out.new.items
-        ≡ map (λ n. expression_of n.now) out.old.items ++ nodes_in (expression_of expression.entry.now)) }
+        ≡ map (λ n. expression_of n.now) out.old.items
+        ++ nodes_in (expression_of expression.entry.now)) }
 {
     match expression {
         Expression::Binary(left, _, right) => {
@@ -45,7 +47,8 @@ pub fn put_nodes_of<'p>(
     statement: &'p Statement,
 ) -> Result<(), AllocError>
     ensures { OnOk result (map (λ n. expression_of n.now) out.new.items
-        ≡ map (λ n. expression_of n.now) out.old.items ++ nodes_of (statement_of statement.entry.now)) }
+        ≡ map (λ n. expression_of n.now) out.old.items
+        ++ nodes_of (statement_of statement.entry.now)) }
 {
     match statement {
         Statement::Assign(_, one)
@@ -69,7 +72,8 @@ pub fn statements_in<'p>(
     alloc: Global,
     block: &'p [Statement],
 ) -> Result<Vec<&'p Statement>, AllocError>
-    ensures { IfOk result (λ all. map (λ s. statement_of s.now) all.items ≡ statements_in (block_of block.entry.now)) }
+    ensures { IfOk result (λ all. map (λ s. statement_of s.now) all.items
+        ≡ statements_in (block_of block.entry.now)) }
 {
     let mut all = Vec::new(alloc);
     put_block(&mut all, block)?;
@@ -94,7 +98,8 @@ pub fn put_statement<'p>(
     statement: &'p Statement,
 ) -> Result<(), AllocError>
     ensures { OnOk result (map (λ s. statement_of s.now) out.new.items
-        ≡ map (λ s. statement_of s.now) out.old.items ++ (statement_of statement.entry.now ∷ within (statement_of statement.entry.now))) }
+        ≡ map (λ s. statement_of s.now) out.old.items
+        ++ (statement_of statement.entry.now ∷ within (statement_of statement.entry.now))) }
 {
     out.push(statement)?;
     match statement {

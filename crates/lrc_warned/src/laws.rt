@@ -29,5 +29,6 @@ pub fn parts_stand_at_their_tokens()
 /// release) is before the statement in its list of statements, or in a list around it. Nothing that may undo it is in
 /// the text between the two. Nothing that may undo it is in a loop around the statement alone.
 pub fn under_an_acquire_or_a_release()
-    ensures { (side : Side) (lock : ℕ) (path : Path) → (is_under side lock path ≡ true) ↔ IsUnder side lock path }
+    ensures { (side : Side) (lock : ℕ) (path : Path) → (is_under side lock path ≡ true)
+        ↔ IsUnder side lock path }
 {}

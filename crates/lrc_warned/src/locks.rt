@@ -20,7 +20,8 @@ pub fn never_released(
     statements: &[StatementAt<'_>],
     locks: u8,
 ) -> Result<(), AllocError>
-    ensures { OnOk result (out.new.items ≡ out.old.items ++ never_released locks (map statement_seen statements.now)) }
+    ensures { OnOk result (out.new.items
+        ≡ out.old.items ++ never_released locks (map statement_seen statements.now)) }
 {
     for lock in 0..locks {
         never_released_of(out, statements, lock)?;
@@ -33,7 +34,8 @@ fn never_released_of(
     statements: &[StatementAt<'_>],
     lock: u8,
 ) -> Result<(), AllocError>
-    ensures { OnOk result (out.new.items ≡ out.old.items ++ never_released_of (map statement_seen statements.now) lock) }
+    ensures { OnOk result (out.new.items
+        ≡ out.old.items ++ never_released_of (map statement_seen statements.now) lock) }
 {
     if some_release(statements, lock) {
         return Ok(());
@@ -46,13 +48,15 @@ fn never_released_of(
 }
 
 fn some_release(statements: &[StatementAt<'_>], lock: u8) -> bool
-    ensures { result ≡ list_any (λ s. may_release lock s.statement) (map statement_seen statements.now) }
+    ensures { result ≡ list_any (λ s. may_release lock s.statement)
+        (map statement_seen statements.now) }
 {
     statements.iter().any(|s| may_release(s.statement, lock))
 }
 
 fn first_acquire(statements: &[StatementAt<'_>], lock: u8) -> Option<u32>
-    ensures { result ≡ option_map (λ s. s.at) (find (λ s. acquires lock s.statement) (map statement_seen statements.now)) }
+    ensures { result ≡ option_map (λ s. s.at)
+        (find (λ s. acquires lock s.statement) (map statement_seen statements.now)) }
 {
     for s in statements {
         if acquires(s.statement, lock) {

@@ -20,7 +20,9 @@ pub fn never_set(
     nodes: &[NodeAt<'_>],
     statements: &[StatementAt<'_>],
 ) -> Result<(), AllocError>
-    ensures { OnOk result (out.new.items ≡ out.old.items ++ never_set (map node_seen nodes.now) (map statement_seen statements.now)) }
+    ensures { OnOk result (out.new.items
+        ≡ out.old.items ++ never_set (map node_seen nodes.now)
+        (map statement_seen statements.now)) }
 {
     never_set_below(out, nodes, statements, MOST_NAMES)
 }
@@ -33,7 +35,8 @@ fn never_set_below(
     count: u8,
 ) -> Result<(), AllocError>
     ensures { OnOk result (out.new.items ≡ out.old.items
-        ++ flat_map (never_set_of (map node_seen nodes.now) (map statement_seen statements.now)) (range_with_len 0 count)) }
+        ++ flat_map (never_set_of (map node_seen nodes.now) (map statement_seen statements.now))
+        (range_with_len 0 count)) }
 {
     for name in 0..count {
         never_set_of(out, nodes, statements, name)?;
@@ -47,7 +50,9 @@ fn never_set_of(
     statements: &[StatementAt<'_>],
     name: u8,
 ) -> Result<(), AllocError>
-    ensures { OnOk result (out.new.items ≡ out.old.items ++ never_set_of (map node_seen nodes.now) (map statement_seen statements.now) name) }
+    ensures { OnOk result (out.new.items
+        ≡ out.old.items ++ never_set_of (map node_seen nodes.now)
+        (map statement_seen statements.now) name) }
 {
     if some_set(statements, name) {
         return Ok(());
@@ -61,7 +66,9 @@ pub fn never_read(
     nodes: &[NodeAt<'_>],
     statements: &[StatementAt<'_>],
 ) -> Result<(), AllocError>
-    ensures { OnOk result (out.new.items ≡ out.old.items ++ never_read (map node_seen nodes.now) (map statement_seen statements.now)) }
+    ensures { OnOk result (out.new.items
+        ≡ out.old.items ++ never_read (map node_seen nodes.now)
+        (map statement_seen statements.now)) }
 {
     never_read_below(out, nodes, statements, MOST_NAMES)
 }
@@ -74,7 +81,8 @@ fn never_read_below(
     count: u8,
 ) -> Result<(), AllocError>
     ensures { OnOk result (out.new.items ≡ out.old.items
-        ++ flat_map (never_read_of (map node_seen nodes.now) (map statement_seen statements.now)) (range_with_len 0 count)) }
+        ++ flat_map (never_read_of (map node_seen nodes.now) (map statement_seen statements.now))
+        (range_with_len 0 count)) }
 {
     for name in 0..count {
         never_read_of(out, nodes, statements, name)?;
@@ -88,7 +96,9 @@ fn never_read_of(
     statements: &[StatementAt<'_>],
     name: u8,
 ) -> Result<(), AllocError>
-    ensures { OnOk result (out.new.items ≡ out.old.items ++ never_read_of (map node_seen nodes.now) (map statement_seen statements.now) name) }
+    ensures { OnOk result (out.new.items
+        ≡ out.old.items ++ never_read_of (map node_seen nodes.now)
+        (map statement_seen statements.now) name) }
 {
     if some_read(nodes, name) {
         return Ok(());
@@ -127,7 +137,8 @@ fn some_read(nodes: &[NodeAt<'_>], name: u8) -> bool
 
 // The place of the first reading of a name.
 fn first_read(nodes: &[NodeAt<'_>], name: u8) -> Option<u32>
-    ensures { result ≡ option_map (λ n. n.at) (find (λ n. is_name name n.node) (map node_seen nodes.now)) }
+    ensures { result ≡ option_map (λ n. n.at)
+        (find (λ n. is_name name n.node) (map node_seen nodes.now)) }
 {
     for n in nodes {
         if is_name(n.node, name) {
@@ -139,7 +150,8 @@ fn first_read(nodes: &[NodeAt<'_>], name: u8) -> Option<u32>
 
 // The place of the first setting of a name.
 fn first_set(statements: &[StatementAt<'_>], name: u8) -> Option<u32>
-    ensures { result ≡ option_map (λ s. s.at) (find (λ s. sets name s.statement) (map statement_seen statements.now)) }
+    ensures { result ≡ option_map (λ s. s.at)
+        (find (λ s. sets name s.statement) (map statement_seen statements.now)) }
 {
     for s in statements {
         if sets(s.statement, name) {

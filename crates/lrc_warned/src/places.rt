@@ -35,7 +35,8 @@ pub fn statements_at<'p>(
     tokens: &[Token<'_>],
 ) -> Result<Vec<StatementAt<'p>>, AllocError>
     requires { length tokens.now < 2 ^ 31 }
-    ensures { IfOk result (λ all. map statement_seen all.items ≡ statements_at (map token_of tokens.now) (block_of block.entry.now)) }
+    ensures { IfOk result (λ all. map statement_seen all.items
+        ≡ statements_at (map token_of tokens.now) (block_of block.entry.now)) }
 {
     let all = statements_in(alloc, block)?;
     let places = places_in(alloc, tokens, Scan::Statements)?;
@@ -68,7 +69,8 @@ pub fn nodes_at<'p>(
     tokens: &[Token<'_>],
 ) -> Result<Vec<NodeAt<'p>>, AllocError>
     requires { length tokens.now < 2 ^ 31 }
-    ensures { IfOk result (λ all. map node_seen all.items ≡ nodes_at (map token_of tokens.now) (block_of block.entry.now)) }
+    ensures { IfOk result (λ all. map node_seen all.items
+        ≡ nodes_at (map token_of tokens.now) (block_of block.entry.now)) }
 {
     let statements = statements_in(alloc, block)?;
     let nodes = nodes_of_all(alloc, &statements)?;
@@ -121,7 +123,8 @@ fn places_in(alloc: Global, tokens: &[Token<'_>], scan: Scan) -> Result<Vec<u32>
 
 fn places_from(alloc: Global, tokens: &[Token<'_>], scan: Scan) -> Result<Vec<u32>, AllocError>
     requires { length tokens.now < 2 ^ 31 }
-    ensures { IfOk result (λ places. places.items ≡ places_from scan 6 true (map token_of tokens.now)) }
+    ensures { IfOk result (λ places. places.items
+        ≡ places_from scan 6 true (map token_of tokens.now)) }
 {
     let mut places = Vec::new(alloc);
     let mut behind_seam = true;
@@ -137,7 +140,8 @@ fn places_from(alloc: Global, tokens: &[Token<'_>], scan: Scan) -> Result<Vec<u3
 }
 
 fn put_place(places: &mut Vec<u32>, at: u32, wanted: bool) -> Result<(), AllocError>
-    ensures { OnOk result (places.new.items ≡ places.old.items ++ (if wanted then at ∷ [] else [])) }
+    ensures { OnOk result (places.new.items
+        ≡ places.old.items ++ (if wanted then at ∷ [] else [])) }
 {
     if wanted {
         places.push(at)?;

@@ -32,21 +32,27 @@ ghost use Rattle.lrc_warned_run_laws.specs.Trapping.{TrapsInRuns, TrapsInRunsBeh
 
 /// If a warning says that a word is read and never written, no node writes it in any run, and each read of it gives 0.
 pub fn runs_give_zero_for_a_word_that_is_never_written()
-    ensures unwritten { (program : Program) (tokens : List Token) (at word : ℕ) → IsProgram (program_of program) tokens
+    ensures unwritten { (program : Program) (tokens : List Token) (at word : ℕ)
+        → IsProgram (program_of program) tokens
         → Contains (never_written program.words (statements_of_text program tokens)) (record { at = at; kind = NeverWritten word })
-        → (nodes : ℕ) (options : OptionsRecord) (events : List Event) (world : World) → run_of program nodes options events ≡ Some world
+        → (nodes : ℕ) (options : OptionsRecord) (events : List Event) (world : World)
+        → run_of program nodes options events ≡ Some world
         → (i value : ℕ) → ¬ IsDone world.acts i (Write word value) }
-    ensures zero { (program : Program) (tokens : List Token) (at word : ℕ) → IsProgram (program_of program) tokens
+    ensures zero { (program : Program) (tokens : List Token) (at word : ℕ)
+        → IsProgram (program_of program) tokens
         → Contains (never_written program.words (statements_of_text program tokens)) (record { at = at; kind = NeverWritten word })
-        → (nodes : ℕ) (options : OptionsRecord) (events : List Event) (world : World) → run_of program nodes options events ≡ Some world
+        → (nodes : ℕ) (options : OptionsRecord) (events : List Event) (world : World)
+        → run_of program nodes options events ≡ Some world
         → (j value : ℕ) → IsDone world.acts j (Read word value) → value ≡ 0 }
 {}
 
 /// If a warning says that a lock is never released, no node releases it in any run.
 pub fn runs_release_no_lock_that_is_never_released()
-    ensures { (program : Program) (tokens : List Token) (at lock : ℕ) → IsProgram (program_of program) tokens
+    ensures { (program : Program) (tokens : List Token) (at lock : ℕ)
+        → IsProgram (program_of program) tokens
         → Contains (never_released program.locks (statements_of_text program tokens)) (record { at = at; kind = NeverReleased lock })
-        → (nodes : ℕ) (options : OptionsRecord) (events : List Event) (world : World) → run_of program nodes options events ≡ Some world
+        → (nodes : ℕ) (options : OptionsRecord) (events : List Event) (world : World)
+        → run_of program nodes options events ≡ Some world
         → (i : ℕ) → ¬ IsDone world.acts i (Release lock) }
 {}
 
@@ -61,28 +67,35 @@ pub fn runs_release_no_lock_that_is_never_released()
 pub fn runs_know_no_more_by_a_loop_that_learns_nothing()
     ensures quiet { (program : Program) (tokens : List Token) (at : ℕ)
         → Contains (learning_nothing (statements_of_text program tokens)) (record { at = at; kind = LearnsNothing })
-        → (nodes : ℕ) (options : OptionsRecord) (events : List Event) (world : World) → run_of program nodes options events ≡ Some world
+        → (nodes : ℕ) (options : OptionsRecord) (events : List Event) (world : World)
+        → run_of program nodes options events ≡ Some world
         → (node i j : ℕ) → GoesRound program tokens nodes world.acts node at i j
         → (k : ℕ) (deed : Deed) → i ≤ k → k ≤ j → Does world.acts k node deed → ¬ Learns deed }
     ensures known { (program : Program) (tokens : List Token) (at : ℕ)
         → Contains (learning_nothing (statements_of_text program tokens)) (record { at = at; kind = LearnsNothing })
-        → (nodes : ℕ) (options : OptionsRecord) (events : List Event) (world : World) → run_of program nodes options events ≡ Some world
+        → (nodes : ℕ) (options : OptionsRecord) (events : List Event) (world : World)
+        → run_of program nodes options events ≡ Some world
         → (node i j : ℕ) → GoesRound program tokens nodes world.acts node at i j
-        → (k other : ℕ) (before deed : Deed) → Does world.acts k other before → other ≢ node → Does world.acts j node deed
+        → (k other : ℕ) (before deed : Deed) → Does world.acts k other before → other ≢ node
+        → Does world.acts j node deed
         → HappensBefore world.acts k j → HappensBefore world.acts k i }
     ensures read { (program : Program) (tokens : List Token) (at : ℕ)
         → Contains (learning_nothing (statements_of_text program tokens)) (record { at = at; kind = LearnsNothing })
-        → (nodes : ℕ) (options : OptionsRecord) (events : List Event) (world : World) → run_of program nodes options events ≡ Some world
+        → (nodes : ℕ) (options : OptionsRecord) (events : List Event) (world : World)
+        → run_of program nodes options events ≡ Some world
         → (node i j : ℕ) → GoesRound program tokens nodes world.acts node at i j
         → (word value : ℕ) → Does world.acts j node (Read word value)
         → (value ≡ 0) ⊎ ((k : ℕ) × WrittenBefore world.acts j word k value
         × (Does world.acts k node (Write word value) ⊎ HappensBefore world.acts k i)) }
     ensures same_value { (program : Program) (tokens : List Token) (at : ℕ)
         → Contains (learning_nothing (statements_of_text program tokens)) (record { at = at; kind = LearnsNothing })
-        → (nodes : ℕ) (options : OptionsRecord) (events : List Event) (world : World) → run_of program nodes options events ≡ Some world
+        → (nodes : ℕ) (options : OptionsRecord) (events : List Event) (world : World)
+        → run_of program nodes options events ≡ Some world
         → (node i j : ℕ) → GoesRound program tokens nodes world.acts node at i j
-        → (k word earlier value : ℕ) → i ≤ k → k ≤ j → Does world.acts k node (Read word earlier) → Does world.acts j node (Read word value)
-        → ((l own : ℕ) → k ≤ l → l ≤ j → ¬ Does world.acts l node (Write word own)) → AreOrdered world.acts k word → earlier ≡ value }
+        → (k word earlier value : ℕ) → i ≤ k → k ≤ j → Does world.acts k node (Read word earlier)
+        → Does world.acts j node (Read word value)
+        → ((l own : ℕ) → k ≤ l → l ≤ j → ¬ Does world.acts l node (Write word own))
+        → AreOrdered world.acts k word → earlier ≡ value }
 {}
 
 /// If a warning says that a word does not exist, in every run a node that reaches the shared access traps: that is its
@@ -103,7 +116,8 @@ pub fn runs_trap_at_an_acquire_or_a_release_of_no_lock()
 /// A warning of a division by zero is at the sign of a part of a statement, and in every run each node that reaches
 /// that statement traps there.
 pub fn runs_trap_at_a_division_by_the_constant_zero()
-    ensures { (program : Program) (tokens : List Token) (at : ℕ) → IsProgram (program_of program) tokens
+    ensures { (program : Program) (tokens : List Token) (at : ℕ)
+        → IsProgram (program_of program) tokens
         → Contains (division_by_zero (nodes_of_text program tokens)) (record { at = at; kind = DivisionByZero })
         → (part : Expression) × (from : ℕ) × IsPartAt program tokens at part from
         × TrapsInRuns program tokens from (λ walk. causes.DivisionByZero) }

@@ -25,7 +25,8 @@ pub fn warnings(
 ) -> Result<Vec<Warning>, AllocError>
     requires { length tokens.now < 2 ^ 31 }
     ensures these { IfOk result (λ all. IsPermutation
-        (all_warnings spots.now (found_in (program_of program.now) (map token_of tokens.now)) idle.now) all.items) }
+        (all_warnings spots.now (found_in (program_of program.now) (map token_of tokens.now))
+        idle.now) all.items) }
     ensures sorted { IfOk result (λ all. IsSortedByKey key_of key_order all.items) }
 {
     let found = found_in(alloc, program, tokens)?;

@@ -13,7 +13,8 @@ use std::collections::HashSet;
 
 /// Returns for each turn of each log whether a later turn of that log takes the same message.
 pub(crate) fn all_again(alloc: Global, logs: &[Vec<Entry>]) -> Result<Vec<Vec<bool>>, AllocError>
-    ensures { IfOk result (λ again. AreAllAgain (map (λ log. log.items) logs.now) (map (λ bits. bits.items) again.items)) }
+    ensures { IfOk result (λ again. AreAllAgain (map (λ log. log.items) logs.now)
+        (map (λ bits. bits.items) again.items)) }
 {
     let mut all = Vec::new(alloc);
     for log in logs {
@@ -41,7 +42,8 @@ fn again_of(alloc: Global, log: &[Entry]) -> Result<Vec<bool>, AllocError>
 fn note(seen: &mut HashSet<(u8, u32)>, input: &Input) -> Result<bool, AllocError>
     ensures noted { IfOk result (λ again. again ≡ is_noted seen.old.keys (seen_input input.now)) }
     ensures more { OnOk result ((message : EnvelopeRecord)
-        → has_key seen.new.keys message ≡ (takes_same message (seen_input input.now) || has_key seen.old.keys message)) }
+        → has_key seen.new.keys message
+        ≡ (takes_same message (seen_input input.now) || has_key seen.old.keys message)) }
 {
     match input {
         Input::Run => Ok(false),

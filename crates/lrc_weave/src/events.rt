@@ -36,7 +36,8 @@ pub(crate) fn turn(
 ) -> Result<Event, WeaveFault>
     requires there { place < length log.now.items }
     requires bits { AreAgain log.now.items again.now.items }
-    ensures turn { IfOk result (λ event. IsTurnOf node log.now.items place flight.old.items flight.new.items event) }
+    ensures turn { IfOk result (λ event. IsTurnOf node log.now.items place flight.old.items
+        flight.new.items event) }
     ensures unsent { result ≡ Err Mismatch → IsUnsent log.now.items place flight.old.items }
 {
     let entry = &log[place];
@@ -53,7 +54,8 @@ pub(crate) fn event_of(
     input: &Input,
     again: bool,
 ) -> Result<Event, WeaveFault>
-    ensures made { IfOk result (λ event. IsMadeByEvent node again flight.old.items (seen_input input.now) flight.new.items event) }
+    ensures made { IfOk result (λ event. IsMadeByEvent node again flight.old.items
+        (seen_input input.now) flight.new.items event) }
     ensures unsent { result ≡ Err Mismatch → LacksMessage flight.old.items (seen_input input.now) }
 {
     match input {
@@ -68,7 +70,8 @@ fn take(
     envelope: &Envelope,
     again: bool,
 ) -> Result<Event, WeaveFault>
-    ensures takes { IfOk result (λ event. IsTakenFrom flight.old.items envelope.now again flight.new.items event) }
+    ensures takes { IfOk result (λ event. IsTakenFrom flight.old.items envelope.now again
+        flight.new.items event) }
     ensures unsent { result ≡ Err Mismatch → LacksMessage flight.old.items (taken envelope.now) }
 {
     let Some(place) = place_in(flight.as_slice(), envelope) else {

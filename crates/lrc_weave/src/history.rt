@@ -16,7 +16,8 @@ pub(crate) fn take_put(
     envelope: &Envelope,
     line: &mut &[&Wire],
 ) -> Result<bool, AllocError>
-    ensures { IfOk result (λ is. AreNext (sent_as stamp envelope.now ∷ []) (map (λ wire. matched.message_of wire.now) line.old.now)
+    ensures { IfOk result (λ is. AreNext (sent_as stamp envelope.now ∷ [])
+        (map (λ wire. matched.message_of wire.now) line.old.now)
         (map (λ wire. matched.message_of wire.now) line.new.now) is) }
 {
     if line.is_empty() {
@@ -44,7 +45,8 @@ fn is_message(
     stamp: u64,
     envelope: &Envelope,
 ) -> Result<bool, AllocError>
-    ensures { IfOk result (λ is. IsTrue is ↔ (matched.message_of wire.now ≡ Some (sent_as stamp envelope.now))) }
+    ensures { IfOk result (λ is. IsTrue is
+        ↔ (matched.message_of wire.now ≡ Some (sent_as stamp envelope.now))) }
 {
     match wire {
         Wire::Put {
@@ -99,7 +101,8 @@ pub(crate) fn is_taken_from(
     before: u64,
     stamp: u64,
 ) -> Result<bool, AllocError>
-    ensures { IfOk result (λ is. IsTrue is ↔ IsTakenAs (matched.message_of wire.now) envelope.now before stamp) }
+    ensures { IfOk result (λ is. IsTrue is
+        ↔ IsTakenAs (matched.message_of wire.now) envelope.now before stamp) }
 {
     match wire {
         Wire::Put {

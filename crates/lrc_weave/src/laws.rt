@@ -12,15 +12,18 @@ ghost use Rattle.lrc_weave.specs.Woven.{AreWoven};
 
 /// Events that make all turns of the logs of a program's nodes make a run with exactly these logs.
 pub fn woven_events_make_the_run_of_the_logs()
-    ensures { (program : Program) (nodes : ℕ) (options : OptionsRecord) (logs : List (List EntryRecord)) (events : List Event) (flight : List Flying)
+    ensures { (program : Program) (nodes : ℕ) (options : OptionsRecord)
+        (logs : List (List EntryRecord)) (events : List Event) (flight : List Flying)
         → AreLogs program nodes options logs → AreWoven logs events flight
-        → (world : World) × (run_of program nodes options events ≡ Some world) × (map (λ l. l.log) world.nodes ≡ logs) × (world.flight ≡ flight) }
+        → (world : World) × (run_of program nodes options events ≡ Some world)
+        × (map (λ l. l.log) world.nodes ≡ logs) × (world.flight ≡ flight) }
 {}
 
 /// If the logs of a program's nodes and their mailboxes record the same messages, there are events that make all turns
 /// of the logs, each in its place. So these events make a run with exactly these logs.
 pub fn logs_that_match_their_mailboxes_can_be_woven()
-    ensures { (program : Program) (nodes : ℕ) (options : OptionsRecord) (logs : List (List EntryRecord)) (wires : List MailboxRecord)
+    ensures { (program : Program) (nodes : ℕ) (options : OptionsRecord)
+        (logs : List (List EntryRecord)) (wires : List MailboxRecord)
         → AreLogs program nodes options logs → AreAlike logs wires → length wires ≡ length logs
         → (events : List Event) × (flight : List Flying) × AreWoven logs events flight }
 {}

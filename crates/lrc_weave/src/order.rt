@@ -21,7 +21,8 @@ pub(crate) fn first_stamps(
     alloc: Global,
     logs: &[Vec<Entry>],
 ) -> Result<Vec<Option<u64>>, AllocError>
-    ensures { IfOk result (λ stamps. stamps.items ≡ map (λ log. option_map (λ entry. entry.stamp) (slice_get log.items 0)) logs.now) }
+    ensures { IfOk result (λ stamps. stamps.items
+        ≡ map (λ log. option_map (λ entry. entry.stamp) (slice_get log.items 0)) logs.now) }
 {
     let mut stamps = Vec::new(alloc);
     for log in logs {

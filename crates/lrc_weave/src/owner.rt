@@ -39,7 +39,8 @@ fn are_own(owner: usize, log: &[Entry], history: &[Wire]) -> bool
 
 // Whether the owner's next entries are those of a turn with this input, which sends these messages. What stands behind them is left.
 fn is_turn_next(owner: usize, input: &Input, out: &[Envelope], rest: &mut &[Wire]) -> bool
-    ensures { AreOwnNext (own_takes (seen_input input.now) ++ own_puts owner out.now) (own_in owner rest.old.now)
+    ensures { AreOwnNext (own_takes (seen_input input.now) ++ own_puts owner out.now)
+        (own_in owner rest.old.now)
         (own_in owner rest.new.now) result }
 {
     if !is_input_next(owner, input, rest) {
@@ -50,7 +51,8 @@ fn is_turn_next(owner: usize, input: &Input, out: &[Envelope], rest: &mut &[Wire
 
 // Whether the owner's next entry is a take, if the input is a message. What stands behind it is left.
 fn is_input_next(owner: usize, input: &Input, rest: &mut &[Wire]) -> bool
-    ensures { AreOwnNext (own_takes (seen_input input.now)) (own_in owner rest.old.now) (own_in owner rest.new.now) result }
+    ensures { AreOwnNext (own_takes (seen_input input.now)) (own_in owner rest.old.now)
+        (own_in owner rest.new.now) result }
 {
     match input {
         Input::Run => true,
@@ -60,7 +62,8 @@ fn is_input_next(owner: usize, input: &Input, rest: &mut &[Wire]) -> bool
 
 // Whether the owner's next entries are puts, one for each of these messages that is for the owner. What stands behind them is left.
 fn are_puts_next(owner: usize, out: &[Envelope], rest: &mut &[Wire]) -> bool
-    ensures { AreOwnNext (own_puts owner out.now) (own_in owner rest.old.now) (own_in owner rest.new.now) result }
+    ensures { AreOwnNext (own_puts owner out.now) (own_in owner rest.old.now)
+        (own_in owner rest.new.now) result }
 {
     for envelope in out {
         if !is_put_next(owner, envelope, rest) {
@@ -72,7 +75,8 @@ fn are_puts_next(owner: usize, out: &[Envelope], rest: &mut &[Wire]) -> bool
 
 // Whether the owner's next entry is a put, if a message is for the owner. What stands behind it is left.
 fn is_put_next(owner: usize, envelope: &Envelope, rest: &mut &[Wire]) -> bool
-    ensures { AreOwnNext (own_puts owner (envelope.now ∷ [])) (own_in owner rest.old.now) (own_in owner rest.new.now) result }
+    ensures { AreOwnNext (own_puts owner (envelope.now ∷ [])) (own_in owner rest.old.now)
+        (own_in owner rest.new.now) result }
 {
     if usize::from(envelope.to) == owner {
         is_next(owner, true, rest)

@@ -12,7 +12,8 @@ pub(crate) fn all_puts(
     nodes: usize,
     wires: &[Mailbox],
 ) -> Result<Vec<Vec<Vec<&Wire>>>, AllocError>
-    ensures { IfOk result (λ all. map (λ lines. map (λ line. map (λ wire. wire.now) line.items) lines.items) all.items
+    ensures { IfOk result (λ all. map (λ lines.
+        map (λ line. map (λ wire. wire.now) line.items) lines.items) all.items
         ≡ map (λ mailbox. puts_by_each nodes mailbox.history) wires.now) }
 {
     let mut all = Vec::new(alloc);
@@ -30,7 +31,8 @@ pub(crate) fn lines_of<'p, 'w>(
 ) -> Result<Vec<&'p [&'w Wire]>, AllocError>
     requires { All (λ own. node < length own.items) puts.now }
     ensures { IfOk result (λ lines. map (λ line. map (λ wire. wire.now) line.now) lines.items
-        ≡ map (λ own. slice_index_or (map (λ line. map (λ wire. wire.now) line.items) own.items) node []) puts.now) }
+        ≡ map (λ own. slice_index_or
+        (map (λ line. map (λ wire. wire.now) line.items) own.items) node []) puts.now) }
 {
     let mut lines = Vec::new(alloc);
     for own in puts {
@@ -41,7 +43,8 @@ pub(crate) fn lines_of<'p, 'w>(
 
 // The puts of one mailbox.
 fn puts_of(alloc: Global, nodes: usize, history: &[Wire]) -> Result<Vec<Vec<&Wire>>, AllocError>
-    ensures { IfOk result (λ lines. map (λ line. map (λ wire. wire.now) line.items) lines.items ≡ puts_by_each nodes history.now) }
+    ensures { IfOk result (λ lines. map (λ line. map (λ wire. wire.now) line.items) lines.items
+        ≡ puts_by_each nodes history.now) }
 {
     let mut lines = empty_lines(alloc, nodes)?;
     for wire in history {
@@ -52,7 +55,8 @@ fn puts_of(alloc: Global, nodes: usize, history: &[Wire]) -> Result<Vec<Vec<&Wir
 
 // So many lines with nothing in them.
 fn empty_lines<'w>(alloc: Global, nodes: usize) -> Result<Vec<Vec<&'w Wire>>, AllocError>
-    ensures { IfOk result (λ lines. map (λ line. map (λ wire. wire.now) line.items) lines.items ≡ replicate nodes []) }
+    ensures { IfOk result (λ lines. map (λ line. map (λ wire. wire.now) line.items) lines.items
+        ≡ replicate nodes []) }
 {
     let mut lines = Vec::with_capacity(alloc, nodes)?;
     for _node in 0..nodes {

@@ -36,7 +36,8 @@ pub(crate) fn is_spelled(
 // Writes a message in place of spare bytes, whose memory it takes.
 fn write_over(spare: &mut Vec<u8>, envelope: &Envelope) -> Result<(), EncodeFault>
     ensures written { OnOk result (Spells Two envelope.now spare.new.items) }
-    ensures too_long { IsErrOf result EncodeFault.TooLong ↔ (MOST_BODY_BYTES < length (body Two runs_of envelope.now.message)) }
+    ensures too_long { IsErrOf result EncodeFault.TooLong
+        ↔ (MOST_BODY_BYTES < length (body Two runs_of envelope.now.message)) }
 {
     let nothing = Vec::new(*spare.allocator());
     *spare = spell_over(mem::replace(spare, nothing), envelope)?;
@@ -47,7 +48,8 @@ fn write_over(spare: &mut Vec<u8>, envelope: &Envelope) -> Result<(), EncodeFaul
 // puts it, that is answered as want of memory.
 fn is_long(alloc: Global, bytes: &[u8]) -> Result<bool, AllocError>
     ensures { IfOk result (λ is. (is ≡ false) × ((envelope : EnvelopeRecord)
-        → MOST_BODY_BYTES < length (body Two runs_of envelope.message) → envelope_of bytes.now ≡ Ok envelope → ⊥)) }
+        → MOST_BODY_BYTES < length (body Two runs_of envelope.message)
+        → envelope_of bytes.now ≡ Ok envelope → ⊥)) }
 {
     match decode(alloc, bytes) {
         Ok(envelope) => is_too_long(alloc, &envelope),
@@ -58,7 +60,8 @@ fn is_long(alloc: Global, bytes: &[u8]) -> Result<bool, AllocError>
 
 // That a message is not too long to be written.
 fn is_too_long(alloc: Global, envelope: &Envelope) -> Result<bool, AllocError>
-    ensures { IfOk result (λ is. (is ≡ false) × ¬ (MOST_BODY_BYTES < length (body Two runs_of envelope.now.message))) }
+    ensures { IfOk result (λ is. (is ≡ false)
+        × ¬ (MOST_BODY_BYTES < length (body Two runs_of envelope.now.message))) }
 {
     match encode(alloc, envelope) {
         Ok(_) => Ok(false),
@@ -80,7 +83,8 @@ fn is_read_as(alloc: Global, bytes: &[u8], written: &[u8]) -> Result<bool, Alloc
 
 // Whether a message is written so.
 fn is_written_as(alloc: Global, envelope: &Envelope, written: &[u8]) -> Result<bool, AllocError>
-    ensures { IfOk result (λ is. (other : EnvelopeRecord) → Spells Two other written.now → IsTrue is ↔ (envelope.now ≡ other)) }
+    ensures { IfOk result (λ is. (other : EnvelopeRecord) → Spells Two other written.now → IsTrue is
+        ↔ (envelope.now ≡ other)) }
 {
     match encode(alloc, envelope) {
         Ok(bytes) => Ok(*bytes == *written),

@@ -54,7 +54,8 @@ pub fn weave(
     ensures woven { IfOk result (λ events. (program : Program) (nodes : ℕ) (options : OptionsRecord)
         → AreLogs program nodes options (map (λ log. log.items) logs.now)
         → (flight : List Flying) × AreWoven (map (λ log. log.items) logs.now) events.items flight) }
-    ensures mismatch { result ≡ Err Mismatch → AreAlike (map (λ log. log.items) logs.now) wires.now → ⊥ }
+    ensures mismatch { result ≡ Err Mismatch → AreAlike (map (λ log. log.items) logs.now) wires.now
+        → ⊥ }
 {
     match woven_run(alloc, logs, wires) {
         Ok(run) => Ok(run.events),
@@ -75,11 +76,14 @@ pub fn weave_run(
     ensures matched { IfOk result (λ run. AreMatched (map (λ log. log.items) logs.now) wires.now) }
     ensures woven { IfOk result (λ run. (program : Program) (nodes : ℕ) (options : OptionsRecord)
         → AreLogs program nodes options (map (λ log. log.items) logs.now)
-        → (flight : List Flying) × AreWoven (map (λ log. log.items) logs.now) run.events.items flight) }
+        → (flight : List Flying) × AreWoven
+        (map (λ log. log.items) logs.now) run.events.items flight) }
     ensures makes { IfOk result (λ run. (program : Program) (nodes : ℕ) (options : OptionsRecord)
         → AreLogs program nodes options (map (λ log. log.items) logs.now)
-        → MakesRun program nodes options (map (λ log. log.items) logs.now) run.events.items run.acts.items run.in_flight) }
-    ensures mismatch { result ≡ Err Mismatch → AreMatched (map (λ log. log.items) logs.now) wires.now → ⊥ }
+        → MakesRun program nodes options
+        (map (λ log. log.items) logs.now) run.events.items run.acts.items run.in_flight) }
+    ensures mismatch { result ≡ Err Mismatch → AreMatched
+        (map (λ log. log.items) logs.now) wires.now → ⊥ }
 {
     if !are_all_own(logs, wires) {
         return Err(WeaveFault::Mismatch);
@@ -94,11 +98,14 @@ fn woven_run(alloc: Global, logs: &[Vec<Entry>], wires: &[Mailbox]) -> Result<Wo
     ensures alike { IfOk result (λ run. AreAlike (map (λ log. log.items) logs.now) wires.now) }
     ensures woven { IfOk result (λ run. (program : Program) (nodes : ℕ) (options : OptionsRecord)
         → AreLogs program nodes options (map (λ log. log.items) logs.now)
-        → (flight : List Flying) × AreWoven (map (λ log. log.items) logs.now) run.events.items flight) }
+        → (flight : List Flying) × AreWoven
+        (map (λ log. log.items) logs.now) run.events.items flight) }
     ensures makes { IfOk result (λ run. (program : Program) (nodes : ℕ) (options : OptionsRecord)
         → AreLogs program nodes options (map (λ log. log.items) logs.now)
-        → MakesRun program nodes options (map (λ log. log.items) logs.now) run.events.items run.acts.items run.in_flight) }
-    ensures mismatch { result ≡ Err Mismatch → AreAlike (map (λ log. log.items) logs.now) wires.now → ⊥ }
+        → MakesRun program nodes options
+        (map (λ log. log.items) logs.now) run.events.items run.acts.items run.in_flight) }
+    ensures mismatch { result ≡ Err Mismatch → AreAlike (map (λ log. log.items) logs.now) wires.now
+        → ⊥ }
 {
     if !are_alike(alloc, logs, wires)? {
         return Err(WeaveFault::Mismatch);
@@ -115,10 +122,13 @@ fn woven_run(alloc: Global, logs: &[Vec<Entry>], wires: &[Mailbox]) -> Result<Wo
 pub fn events_of(alloc: Global, logs: &[Vec<Entry>]) -> Result<Vec<Event>, WeaveFault>
     requires few { length logs.now ≤ 16 }
     ensures woven { IfOk result (λ events. (program : Program) (nodes : ℕ) (options : OptionsRecord)
-        → AreLogs program nodes options (map (λ log. log.items) logs.now) → AreTakesSent (map (λ log. log.items) logs.now)
+        → AreLogs program nodes options (map (λ log. log.items) logs.now)
+        → AreTakesSent (map (λ log. log.items) logs.now)
         → (flight : List Flying) × AreWoven (map (λ log. log.items) logs.now) events.items flight) }
-    ensures mismatch { result ≡ Err Mismatch → (program : Program) (nodes : ℕ) (options : OptionsRecord)
-        → AreLogs program nodes options (map (λ log. log.items) logs.now) → AreTakesSent (map (λ log. log.items) logs.now)
+    ensures mismatch { result ≡ Err Mismatch → (program : Program) (nodes : ℕ)
+        (options : OptionsRecord)
+        → AreLogs program nodes options (map (λ log. log.items) logs.now)
+        → AreTakesSent (map (λ log. log.items) logs.now)
         → ⊥ }
 {
     match run_of_logs(alloc, logs) {
@@ -139,10 +149,13 @@ pub fn events_with(
 ) -> Result<Vec<Event>, WeaveFault>
     requires few { length logs.now ≤ 16 }
     ensures woven { IfOk result (λ events. (program : Program) (nodes : ℕ) (options : OptionsRecord)
-        → AreLogs program nodes options (map (λ log. log.items) logs.now) → AreTakesSent (map (λ log. log.items) logs.now)
+        → AreLogs program nodes options (map (λ log. log.items) logs.now)
+        → AreTakesSent (map (λ log. log.items) logs.now)
         → AreWovenWith (map (λ log. log.items) logs.now) node (seen_input input.now) events.items) }
-    ensures mismatch { result ≡ Err Mismatch → (program : Program) (nodes : ℕ) (options : OptionsRecord)
-        → AreLogs program nodes options (map (λ log. log.items) logs.now) → AreTakesSent (map (λ log. log.items) logs.now)
+    ensures mismatch { result ≡ Err Mismatch → (program : Program) (nodes : ℕ)
+        (options : OptionsRecord)
+        → AreLogs program nodes options (map (λ log. log.items) logs.now)
+        → AreTakesSent (map (λ log. log.items) logs.now)
         → AreWovenWithout (map (λ log. log.items) logs.now) (seen_input input.now) }
 {
     let mut run = run_of_logs(alloc, logs)?;
@@ -176,14 +189,21 @@ fn whole(run: LogRun) -> WovenRun
 fn run_of_logs(alloc: Global, logs: &[Vec<Entry>]) -> Result<LogRun, WeaveFault>
     requires few { length logs.now ≤ 16 }
     ensures woven { IfOk result (λ run. (program : Program) (nodes : ℕ) (options : OptionsRecord)
-        → AreLogs program nodes options (map (λ log. log.items) logs.now) → AreTakesSent (map (λ log. log.items) logs.now)
-        → (flight : List Flying) × AreWoven (map (λ log. log.items) logs.now) run.events.items flight
+        → AreLogs program nodes options (map (λ log. log.items) logs.now)
+        → AreTakesSent (map (λ log. log.items) logs.now)
+        → (flight : List Flying) × AreWoven
+        (map (λ log. log.items) logs.now) run.events.items flight
         × (map (λ flying. message_name flying.envelope) flight ≡ run.flight.items)) }
     ensures makes { IfOk result (λ run. (program : Program) (nodes : ℕ) (options : OptionsRecord)
-        → AreLogs program nodes options (map (λ log. log.items) logs.now) → AreTakesSent (map (λ log. log.items) logs.now)
-        → MakesRun program nodes options (map (λ log. log.items) logs.now) run.events.items run.acts.items (length run.flight.items)) }
-    ensures mismatch { result ≡ Err Mismatch → (program : Program) (nodes : ℕ) (options : OptionsRecord)
-        → AreLogs program nodes options (map (λ log. log.items) logs.now) → AreTakesSent (map (λ log. log.items) logs.now)
+        → AreLogs program nodes options (map (λ log. log.items) logs.now)
+        → AreTakesSent (map (λ log. log.items) logs.now)
+        → MakesRun program nodes options
+        (map (λ log. log.items) logs.now) run.events.items run.acts.items
+        (length run.flight.items)) }
+    ensures mismatch { result ≡ Err Mismatch → (program : Program) (nodes : ℕ)
+        (options : OptionsRecord)
+        → AreLogs program nodes options (map (λ log. log.items) logs.now)
+        → AreTakesSent (map (λ log. log.items) logs.now)
         → ⊥ }
 {
     let again = all_again(alloc, logs)?;

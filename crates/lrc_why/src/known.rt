@@ -21,7 +21,8 @@ use std::alloc::{AllocError, Global};
 // The last act of the node before the position.
 fn act_before(acts: &[Act], node: u8, position: usize) -> Option<usize>
     requires { position ≤ length acts.now }
-    ensures { MatchOption result ((k : ℕ) → k < position → ¬ IsActOf acts.now node k) (IsActBefore acts.now node position) }
+    ensures { MatchOption result ((k : ℕ) → k < position → ¬ IsActOf acts.now node k)
+        (IsActBefore acts.now node position) }
 {
     for k in (0..position).rev() {
         if is_act_of(acts, node, k) {
@@ -110,7 +111,8 @@ pub(crate) fn all_news(
     requires intervals { AreIntervals acts.now (length acts.now) intervals.now }
     requires within { position < length acts.now }
     requires acting { IsActOf acts.now acting position }
-    ensures { IfOk result (λ all. OfEach nodes (λ other found. IsNewsIfKnown acts.now acting other position found) all.items) }
+    ensures { IfOk result (λ all. OfEach nodes
+        (λ other found. IsNewsIfKnown acts.now acting other position found) all.items) }
 {
     let mut all = Vec::new(alloc);
     for node in 0..nodes {
@@ -123,7 +125,8 @@ pub(crate) fn all_news(
 // Whether the node is another one than that which acts at the position, and nothing of it is known there.
 fn is_unknown(acts: &[Act], order: &Order, node: u8, position: usize) -> bool
     requires { IsOrderOf acts.now order.now }
-    ensures { MatchBool result ((¬ IsActOf acts.now node position) × IsUnknown acts.now node position)
+    ensures { MatchBool result ((¬ IsActOf acts.now node position)
+        × IsUnknown acts.now node position)
         (IsActOf acts.now node position ⊎ (¬ IsUnknown acts.now node position)) }
 {
     !is_act_of(acts, node, position) && last_known(acts, order, node, position).is_none()
@@ -141,7 +144,8 @@ pub(crate) fn unknown_nodes(
     requires order { IsOrderOf acts.now order.now }
     requires within { position < length acts.now }
     requires acting { IsActOf acts.now acting position }
-    ensures { IfOk result (λ unknown. AreExactly (IsUnknownNode acts.now nodes acting position) unknown.items) }
+    ensures { IfOk result (λ unknown. AreExactly
+        (IsUnknownNode acts.now nodes acting position) unknown.items) }
 {
     let mut unknown = Vec::new(alloc);
     for node in 0..nodes {
@@ -187,7 +191,8 @@ pub(crate) fn time_of(
 ) -> Result<Vec<usize>, AllocError>
     requires order { IsOrderOf acts.now order.now }
     requires intervals { AreIntervals acts.now (length acts.now) intervals.now }
-    ensures { IfOk result (λ time. OfEach nodes (λ other count. CountsClosed acts.now other position count) time.items) }
+    ensures { IfOk result (λ time. OfEach nodes
+        (λ other count. CountsClosed acts.now other position count) time.items) }
 {
     let mut time = Vec::new(alloc);
     for node in 0..nodes {

@@ -12,7 +12,8 @@ use lrc_trace::act::Act;
 pub fn least_racing(acts: &[Act], order: &Order, node: u8, position: usize) -> Option<usize>
     requires order { IsOrderOf acts.now order.now }
     requires within { position < length acts.now }
-    ensures { MatchOption result ((k : ℕ) → ¬ IsRacing acts.now node position k) (IsLeastRacing acts.now node position) }
+    ensures { MatchOption result ((k : ℕ) → ¬ IsRacing acts.now node position k)
+        (IsLeastRacing acts.now node position) }
 {
     for k in 0..acts.len() {
         if is_racing(acts, order, node, position, k) {

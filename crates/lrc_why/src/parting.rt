@@ -19,7 +19,8 @@ const LOCKS: usize = 256;
 // The locks that the node holds at the position, ascending.
 fn locks_at(alloc: Global, acts: &[Act], node: u8, position: usize) -> Result<Vec<u8>, AllocError>
     requires { position ≤ length acts.now }
-    ensures { IfOk result (λ locks. AreExactly (λ l. (l < 256) × Holds acts.now position node l) locks.items) }
+    ensures { IfOk result (λ locks. AreExactly
+        (λ l. (l < 256) × Holds acts.now position node l) locks.items) }
 {
     let held = held_at(alloc, acts, node, position)?;
     let mut locks = Vec::new(alloc);

@@ -98,7 +98,8 @@ pub(crate) fn is_racing(acts: &[Act], order: &Order, node: u8, position: usize, 
     requires order { IsOrderOf acts.now order.now }
     requires position { position < length acts.now }
     requires within { k < length acts.now }
-    ensures { MatchBool result (IsRacing acts.now node position k) (¬ IsRacing acts.now node position k) }
+    ensures { MatchBool result (IsRacing acts.now node position k)
+        (¬ IsRacing acts.now node position k) }
 {
     if !is_act_of(acts, node, k) {
         return false;
@@ -113,7 +114,8 @@ pub(crate) fn is_racing(acts: &[Act], order: &Order, node: u8, position: usize, 
 fn is_closed(acts: &[Act], order: &Order, node: u8, position: usize, k: usize) -> bool
     requires order { IsOrderOf acts.now order.now }
     requires within { k < length acts.now }
-    ensures { MatchBool result (IsClosed acts.now node position k) (¬ IsClosed acts.now node position k) }
+    ensures { MatchBool result (IsClosed acts.now node position k)
+        (¬ IsClosed acts.now node position k) }
 {
     if acts[k].node != node || !closes(acts[k].deed) {
         return false;
@@ -144,7 +146,8 @@ fn is_new(
     k: usize,
 ) -> bool
     requires { IsOrderOf acts.now order.now }
-    ensures { MatchBool result (IsNewBehind acts.now node position before k) (¬ IsNewBehind acts.now node position before k) }
+    ensures { MatchBool result (IsNewBehind acts.now node position before k)
+        (¬ IsNewBehind acts.now node position before k) }
 {
     if !is_act_of(acts, node, k) || !order.is_before(k, position) {
         return false;
@@ -194,7 +197,8 @@ pub(crate) fn positions(
 
 // The word that is written at the position.
 fn word_written(acts: &[Act], k: usize) -> Option<u32>
-    ensures { MatchOption result ((word : ℕ) → ¬ IsWrite acts.now word k) (λ word. IsWrite acts.now word k) }
+    ensures { MatchOption result ((word : ℕ) → ¬ IsWrite acts.now word k)
+        (λ word. IsWrite acts.now word k) }
 {
     match acts.get(k)?.deed {
         Deed::Write(word, _) => Some(word),
@@ -217,7 +221,8 @@ fn add_word(words: &mut Vec<u32>, acts: &[Act], k: usize) -> Result<(), AllocErr
 
 // Adds the words that are written at these positions.
 fn add_words(words: &mut Vec<u32>, acts: &[Act], positions: &[usize]) -> Result<(), AllocError>
-    ensures { OnOk result (Adds words.old.items words.new.items (IsOfSome positions.now (λ k word. IsWrite acts.now word k))) }
+    ensures { OnOk result (Adds words.old.items words.new.items
+        (IsOfSome positions.now (λ k word. IsWrite acts.now word k))) }
 {
     for k in positions {
         add_word(words, acts, *k)?;

@@ -77,7 +77,8 @@ fn push_later_nodes(text: &mut Vec<u8>, nodes: &[u8]) -> Result<(), AllocError>
 
 #[tactic(auto, unfolding(crate::specs::Lists::joined_text))]
 fn push_nodes(text: &mut Vec<u8>, first: u8, rest: &[u8]) -> Result<(), AllocError>
-    ensures { OnOk result (text.new.items ≡ text.old.items ++ joined_text (codes ", ") (first ∷ rest.now)) }
+    ensures { OnOk result (text.new.items
+        ≡ text.old.items ++ joined_text (codes ", ") (first ∷ rest.now)) }
 {
     push_number(text, b"", u64::from(first))?;
     push_later_nodes(text, rest)

@@ -23,7 +23,8 @@ use std::alloc::{AllocError, Global};
 
 /// Returns the first of the asked positions that is past the last of `count` acts, or none if both acts exist.
 pub fn missing(asked: Asked, count: usize) -> Option<usize>
-    ensures { MatchOption result (IsThere asked.act asked.and count) (IsMissing asked.act asked.and count) }
+    ensures { MatchOption result (IsThere asked.act asked.and count)
+        (IsMissing asked.act asked.and count) }
 {
     if asked.act >= count {
         return Some(asked.act);
@@ -83,7 +84,8 @@ pub fn why_acts(
 ) -> Result<Vec<Vec<u8>>, WhyFault>
     requires nodes { IfSome nodes (λ count. count ≤ NODES) }
     requires apart { IfSome asked.and (λ other. other ≢ asked.act) }
-    ensures ok { IfOk result (λ parts. AnswersActs nodes page asked text.now (whole_text parts.items)) }
+    ensures ok { IfOk result (λ parts. AnswersActs nodes page asked text.now
+        (whole_text parts.items)) }
     ensures err { IfErr result (RefusesActs nodes asked text.now) }
 {
     let lined = acts_of(alloc, text, nodes)?;

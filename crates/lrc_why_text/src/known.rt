@@ -39,7 +39,8 @@ fn push_interval_line(
     position: usize,
     time: &[usize],
 ) -> Result<(), AllocError>
-    ensures { OnOk result (text.new.items ≡ text.old.items ++ interval_line shown.entry position time.now) }
+    ensures { OnOk result (text.new.items
+        ≡ text.old.items ++ interval_line shown.entry position time.now) }
 {
     push_number(text, b"  interval ", interval_at(shown, position))?;
     push_number(text, b" of node ", node_at(shown, position))?;
@@ -60,7 +61,8 @@ pub(crate) fn push_interval(
     words: &[u32],
 ) -> Result<(), AllocError>
     requires { 0 < size }
-    ensures { OnOk result (text.new.items ≡ text.old.items ++ interval_text shown.entry size position time.now words.now) }
+    ensures { OnOk result (text.new.items
+        ≡ text.old.items ++ interval_text shown.entry size position time.now words.now) }
 {
     push_interval_line(text, shown, position, time)?;
     push_pages(text, shown.labels, size, words)
@@ -73,7 +75,8 @@ fn push_already(
     node: usize,
     news: &News,
 ) -> Result<(), AllocError>
-    ensures { OnOk result (text.new.items ≡ text.old.items ++ already_line shown.entry node news.now) }
+    ensures { OnOk result (text.new.items
+        ≡ text.old.items ++ already_line shown.entry node news.now) }
 {
     push_number(text, b"  knows node ", node as u64)?;
     push_number(text, b" up to interval ", interval_at(shown, news.last))?;
@@ -111,7 +114,8 @@ fn push_learned_line(
     news: &News,
     brought: &Brought,
 ) -> Result<(), AllocError>
-    ensures { OnOk result (text.new.items ≡ text.old.items ++ learned_line shown.entry node news.now brought.now) }
+    ensures { OnOk result (text.new.items
+        ≡ text.old.items ++ learned_line shown.entry node news.now brought.now) }
 {
     push_span(
         text,
@@ -133,7 +137,8 @@ fn push_learned(
     brought: &Brought,
 ) -> Result<(), AllocError>
     requires { 0 < size }
-    ensures { OnOk result (text.new.items ≡ text.old.items ++ learned_text shown.entry size node news.now brought.now) }
+    ensures { OnOk result (text.new.items
+        ≡ text.old.items ++ learned_text shown.entry size node news.now brought.now) }
 {
     push_learned_line(text, shown, node, news, brought)?;
     push_pages(text, shown.labels, size, &brought.words)
@@ -148,7 +153,8 @@ fn push_told(
     news: &News,
 ) -> Result<(), AllocError>
     requires { 0 < size }
-    ensures { OnOk result (text.new.items ≡ text.old.items ++ told_text shown.entry size node news.now news.now.brought) }
+    ensures { OnOk result (text.new.items
+        ≡ text.old.items ++ told_text shown.entry size node news.now news.now.brought) }
 {
     match &news.brought {
         Some(brought) => push_learned(text, shown, size, node, news, brought),
@@ -165,7 +171,8 @@ fn push_news(
     news: &Option<News>,
 ) -> Result<(), AllocError>
     requires { 0 < size }
-    ensures { OnOk result (text.new.items ≡ text.old.items ++ news_text shown.entry size node news.now) }
+    ensures { OnOk result (text.new.items
+        ≡ text.old.items ++ news_text shown.entry size node news.now) }
 {
     match news {
         Some(news) => push_told(text, shown, size, node, news),
@@ -180,7 +187,8 @@ fn push_news_lines(
     news: &[Option<News>],
 ) -> Result<(), AllocError>
     requires { 0 < size }
-    ensures { OnOk result (text.new.items ≡ text.old.items ++ news_lines shown.entry size news.now) }
+    ensures { OnOk result (text.new.items
+        ≡ text.old.items ++ news_lines shown.entry size news.now) }
 {
     for node in 0..news.len() {
         push_news(text, shown, size, node, &news[node])?;
@@ -232,7 +240,8 @@ pub(crate) fn push_all_news(
     unknown: &[u8],
 ) -> Result<(), AllocError>
     requires { 0 < size }
-    ensures { OnOk result (text.new.items ≡ text.old.items ++ all_news_text shown.entry size deed news.now unknown.now) }
+    ensures { OnOk result (text.new.items
+        ≡ text.old.items ++ all_news_text shown.entry size deed news.now unknown.now) }
 {
     push_news_lines(text, shown, size, news)?;
     push_nodes_line(text, b"  knows nothing of ", unknown)?;

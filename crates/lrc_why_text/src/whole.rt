@@ -38,7 +38,8 @@ fn push_reasons(
     told: &Reasons,
 ) -> Result<(), AllocError>
     requires { 0 < size }
-    ensures { OnOk result (text.new.items ≡ text.old.items ++ reasons_text shown.entry size position told.now) }
+    ensures { OnOk result (text.new.items
+        ≡ text.old.items ++ reasons_text shown.entry size position told.now) }
 {
     let deed = act_at(shown, position).deed;
     push_about(text, shown, deed, &told.about)?;
@@ -63,7 +64,8 @@ pub(crate) fn reasons_part(
     requires order { IsOrderOf shown.acts.now order.now }
     requires intervals { AreIntervals shown.acts.now (length shown.acts.now) shown.intervals.now }
     requires within { position < length shown.acts.now }
-    ensures { IfOk result (λ text. TellsReasons shown.entry nodes size position private.now text.items) }
+    ensures { IfOk result (λ text. TellsReasons shown.entry nodes size position private.now
+        text.items) }
 {
     let told = reasons(alloc, shown.acts, order, shown.intervals, nodes, position)?;
     let mut text = Vec::new(alloc);
@@ -111,7 +113,8 @@ pub fn why_part(
     requires intervals { AreIntervals shown.acts.now (length shown.acts.now) shown.intervals.now }
     requires there { IsThere asked.act asked.and (length shown.acts.now) }
     requires apart { IfSome asked.and (λ other. other ≢ asked.act) }
-    ensures { IfOk result (λ text. TellsOf shown.entry nodes size asked.act asked.and private.now text.items) }
+    ensures { IfOk result (λ text. TellsOf shown.entry nodes size asked.act asked.and private.now
+        text.items) }
 {
     match asked.and {
         None => reasons_part(alloc, shown, order, nodes, size, asked.act, private),

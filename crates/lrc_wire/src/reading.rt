@@ -85,9 +85,11 @@ fn read_envelope(alloc: Global, mut bytes: &[u8]) -> Result<Envelope, WireFault>
 /// No memory is taken for elements that a count promises but the bytes do not contain.
 pub fn decode(alloc: Global, bytes: &[u8]) -> Result<Envelope, WireFault>
     // What is read is spelled so, in one of the versions.
-    ensures found { IfOk result (λ envelope. (version : Version) × Spells version envelope bytes.now) }
+    ensures found { IfOk result (λ envelope. (version : Version)
+        × Spells version envelope bytes.now) }
     // What is spelled so is read.
-    ensures only { (version : Version) (envelope : EnvelopeRecord) → Spells version envelope bytes.now → Gives (λ read. read) result (Ok envelope) }
+    ensures only { (version : Version) (envelope : EnvelopeRecord)
+        → Spells version envelope bytes.now → Gives (λ read. read) result (Ok envelope) }
     // Which fault it is.
     ensures exact { Gives (λ read. read) result (envelope_of bytes.now) }
 {

@@ -14,7 +14,8 @@ use std::alloc::{AllocError, Global};
 pub fn first_of(alloc: Global, races: &[Race], acts: &[Act]) -> Result<Option<usize>, AllocError>
     requires acts { All (λ act. act.node < NODES) acts.now }
     requires raceless { races.now ≡ [] → IsRaceFree acts.now }
-    ensures { IfOk result (λ first. MatchOption first (IsRaceFree acts.now) (IsFirstRace acts.now)) }
+    ensures { IfOk result (λ first. MatchOption first (IsRaceFree acts.now)
+        (IsFirstRace acts.now)) }
 {
     if races.is_empty() {
         return Ok(None);

@@ -85,7 +85,8 @@ fn by_events(
     keep: Keep,
 ) -> Result<Run, TurnFault>
     requires { AreNodes nodes }
-    ensures run { IfOk result (IsRunBy (λ played. played ≡ events.now) program.now nodes options.now keep) }
+    ensures run { IfOk result (IsRunBy (λ played. played ≡ events.now) program.now nodes options.now
+        keep) }
     ensures fault { IfErr result (IsWornFault (IsWornBy program.now nodes options.now events.now)) }
 {
     let code = Code::new(alloc, program)?;
@@ -108,7 +109,8 @@ fn led(
     keep: Keep,
 ) -> Result<Run, TurnFault>
     requires { AreNodes nodes }
-    ensures run { IfOk result (IsRunBy (AreLedToEnd (schedule_of nodes lead) program.now nodes options.now)
+    ensures run { IfOk result (IsRunBy (AreLedToEnd
+        (schedule_of nodes lead) program.now nodes options.now)
         program.now nodes options.now keep) }
     ensures fault { IfErr result (IsWornFault (WearsOut (schedule_of nodes lead)
         (fresh_world program.now nodes options.now))) }
@@ -126,11 +128,14 @@ fn led(
 fn run_after(world: World<'_>, events: Vec<Event>) -> Result<Run, AllocError>
     requires acts { All (λ act. act.node < NODES) world.acts.items }
     requires traces { (nodes : ℕ) × AreTracesOf nodes (map (λ node. node.trace) world.nodes.items) }
-    requires raceless { AreRacesOf (map (λ node. node.trace) world.nodes.items) [] → IsRaceFree world.acts.items }
+    requires raceless { AreRacesOf (map (λ node. node.trace) world.nodes.items) []
+        → IsRaceFree world.acts.items }
     ensures events { IfOk result (λ run. run.events ≡ events) }
-    ensures over { IfOk result (λ run. (starts : Starts) (made : AnyRun) → Shows starts world.entry made
+    ensures over { IfOk result (λ run. (starts : Starts) (made : AnyRun)
+        → Shows starts world.entry made
         → (run.is_over ≡ true) ↔ IsOver made) }
-    ensures report { IfOk result (λ run. (starts : Starts) (made : AnyRun) → Shows starts world.entry made
+    ensures report { IfOk result (λ run. (starts : Starts) (made : AnyRun)
+        → Shows starts world.entry made
         → IsKeptReport starts.keep run.report made) }
     ensures races { IfOk result (λ run.
         AreRacesOf (map (λ node. node.trace) world.entry.nodes.items) run.report.races.items) }

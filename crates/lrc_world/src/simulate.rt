@@ -44,11 +44,13 @@ pub fn simulate(
 ) -> Result<Report, SimFault>
     ensures report { IfOk result (IsReportOf program.now nodes options.now events.now) }
     ensures races { IfOk result (λ report. AreNamedRaces report.acts.items report.races.items) }
-    ensures kept { IfOk result (λ report. AreKept program.now nodes options.now events.now report.acts.items report.ends.items) }
+    ensures kept { IfOk result (λ report. AreKept program.now nodes options.now events.now
+        report.acts.items report.ends.items) }
 
     ensures worn { result ≡ Err SimFault.Worn → IsWornBy program.now nodes options.now events.now }
     ensures bad_nodes { (result ≡ Err SimFault.BadNodes) ↔ (¬ AreNodes nodes) }
-    ensures bad_steps { (result ≡ Err SimFault.BadSteps) ↔ (AreNodes nodes × ¬ AreSteps options.now.steps) }
+    ensures bad_steps { (result ≡ Err SimFault.BadSteps)
+        ↔ (AreNodes nodes × ¬ AreSteps options.now.steps) }
 {
     let order = Order::Events(events);
     match run_checked(alloc, program, nodes, options, order, Keep::All) {
@@ -68,19 +70,26 @@ pub fn drive(
     options: &Options,
     picker: Picker,
 ) -> Result<(Vec<Event>, Report), SimFault>
-    ensures report { IfOk result (λ done. IsReportOf program.now nodes options.now done.0.items done.1) }
-    ensures rounds { IfOk result (λ done. AreRounds program.now nodes options.now picker done.0.items) }
-    ensures unskipped { IfOk result (λ done. AreAllTurned program.now nodes options.now done.0.items) }
+    ensures report { IfOk result (λ done. IsReportOf program.now nodes options.now done.0.items
+        done.1) }
+    ensures rounds { IfOk result (λ done. AreRounds program.now nodes options.now picker
+        done.0.items) }
+    ensures unskipped { IfOk result (λ done. AreAllTurned program.now nodes options.now
+        done.0.items) }
     ensures races { IfOk result (λ done. AreNamedRaces done.1.acts.items done.1.races.items) }
-    ensures kept { IfOk result (λ done. AreKept program.now nodes options.now done.0.items done.1.acts.items done.1.ends.items) }
+    ensures kept { IfOk result (λ done. AreKept program.now nodes options.now done.0.items
+        done.1.acts.items done.1.ends.items) }
 
     // Unless there are 100,000,000 events, no node is ready and no message is in flight after them.
     ensures few { IfOk result (λ done. length done.0.items ≤ 100000000) }
-    ensures over { IfOk result (λ done. length done.0.items < 100000000 → AreAll program.now nodes options.now done.0.items) }
+    ensures over { IfOk result (λ done. length done.0.items < 100000000
+        → AreAll program.now nodes options.now done.0.items) }
     ensures worn { result ≡ Err SimFault.Worn → WearsOutEarly program.now nodes options.now }
-    ensures worn_rounds { result ≡ Err SimFault.Worn → RoundsWearOut program.now nodes options.now picker }
+    ensures worn_rounds { result ≡ Err SimFault.Worn
+        → RoundsWearOut program.now nodes options.now picker }
     ensures bad_nodes { (result ≡ Err SimFault.BadNodes) ↔ (¬ AreNodes nodes) }
-    ensures bad_steps { (result ≡ Err SimFault.BadSteps) ↔ (AreNodes nodes × ¬ AreSteps options.now.steps) }
+    ensures bad_steps { (result ≡ Err SimFault.BadSteps)
+        ↔ (AreNodes nodes × ¬ AreSteps options.now.steps) }
 {
     let order = Order::Rounds(picker);
     match run_checked(alloc, program, nodes, options, order, Keep::All) {
@@ -101,19 +110,26 @@ pub fn wander(
     options: &Options,
     seed: u64,
 ) -> Result<(Vec<Event>, Report), SimFault>
-    ensures report { IfOk result (λ done. IsReportOf program.now nodes options.now done.0.items done.1) }
-    ensures wandering { IfOk result (λ done. IsWandering program.now nodes options.now seed done.0.items) }
-    ensures unskipped { IfOk result (λ done. AreAllTurned program.now nodes options.now done.0.items) }
+    ensures report { IfOk result (λ done. IsReportOf program.now nodes options.now done.0.items
+        done.1) }
+    ensures wandering { IfOk result (λ done. IsWandering program.now nodes options.now seed
+        done.0.items) }
+    ensures unskipped { IfOk result (λ done. AreAllTurned program.now nodes options.now
+        done.0.items) }
     ensures races { IfOk result (λ done. AreNamedRaces done.1.acts.items done.1.races.items) }
-    ensures kept { IfOk result (λ done. AreKept program.now nodes options.now done.0.items done.1.acts.items done.1.ends.items) }
+    ensures kept { IfOk result (λ done. AreKept program.now nodes options.now done.0.items
+        done.1.acts.items done.1.ends.items) }
 
     // Unless there are 100,000,000 events, no node is ready and no message is in flight after them.
     ensures few { IfOk result (λ done. length done.0.items ≤ 100000000) }
-    ensures over { IfOk result (λ done. length done.0.items < 100000000 → AreAll program.now nodes options.now done.0.items) }
+    ensures over { IfOk result (λ done. length done.0.items < 100000000
+        → AreAll program.now nodes options.now done.0.items) }
     ensures worn { result ≡ Err SimFault.Worn → WearsOutEarly program.now nodes options.now }
-    ensures worn_wandering { result ≡ Err SimFault.Worn → WanderingWearsOut program.now nodes options.now seed }
+    ensures worn_wandering { result ≡ Err SimFault.Worn
+        → WanderingWearsOut program.now nodes options.now seed }
     ensures bad_nodes { (result ≡ Err SimFault.BadNodes) ↔ (¬ AreNodes nodes) }
-    ensures bad_steps { (result ≡ Err SimFault.BadSteps) ↔ (AreNodes nodes × ¬ AreSteps options.now.steps) }
+    ensures bad_steps { (result ≡ Err SimFault.BadSteps)
+        ↔ (AreNodes nodes × ¬ AreSteps options.now.steps) }
 {
     let order = Order::Random(seed);
     match run_checked(alloc, program, nodes, options, order, Keep::All) {
@@ -132,9 +148,11 @@ pub fn run_checked(
     keep: Keep,
 ) -> Result<Run, SimFault>
     ensures run { IfOk result (IsRunIn order.entry program.now nodes options.now keep) }
-    ensures worn { result ≡ Err SimFault.Worn → WearsOutIn order.entry program.now nodes options.now }
+    ensures worn { result ≡ Err SimFault.Worn
+        → WearsOutIn order.entry program.now nodes options.now }
     ensures bad_nodes { (result ≡ Err SimFault.BadNodes) ↔ (¬ AreNodes nodes) }
-    ensures bad_steps { (result ≡ Err SimFault.BadSteps) ↔ (AreNodes nodes × ¬ AreSteps options.now.steps) }
+    ensures bad_steps { (result ≡ Err SimFault.BadSteps)
+        ↔ (AreNodes nodes × ¬ AreSteps options.now.steps) }
 {
     let setting = setting_of(nodes, options)?;
     let run = run_in(alloc, program, &setting, order, keep)?;

@@ -41,7 +41,8 @@ impl NodeState<'_> {
     /// Returns the node's own intervals that it has not sent with an arrival.
     pub(crate) fn own_news(&self) -> Result<Intervals, AllocError>
         ensures news { IfOk result (λ news. news ≡ own_news self.now) }
-        ensures stamps { IfOk result (λ news. All (λ i. length i.stamp ≡ length self.now.locks.time) news) }
+        ensures stamps { IfOk result (λ news. All
+            (λ i. length i.stamp ≡ length self.now.locks.time) news) }
     {
         let since = with_entry(self.clock.time(), self.me, self.barrier.sent());
         self.memory.newer(&since, self.clock.time())

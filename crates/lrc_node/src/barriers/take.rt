@@ -52,7 +52,8 @@ impl NodeState<'_> {
     /// intervals.
     pub(crate) fn expects_arrival(&self, from: u8, m: &Arrive) -> bool
         requires { from < self.now.setting.nodes }
-        ensures { result ≡ (unwrap_or (option_map is_accepted (arrive_step self.now.barrier from (arrival_in m.now))) false
+        ensures { result ≡ (unwrap_or (option_map is_accepted
+            (arrive_step self.now.barrier from (arrival_in m.now))) false
             && are_arriving self.now from m.now.time m.now.intervals) }
     {
         self.barrier.accepts(from, m.episode) && self.are_arriving(from, &m.news)
@@ -73,9 +74,12 @@ impl NodeState<'_> {
     /// Takes a node's arrival. With the last one, every node is told to depart.
     pub(crate) fn take_arrival(&mut self, from: u8, arrive: &Arrive) -> Result<Effect, AllocError>
         requires from { from < self.old.setting.nodes }
-        requires accepted { IsTrue (unwrap_or (option_map is_accepted (arrive_step self.old.barrier from (arrival_in arrive.now))) false) }
+        requires accepted { IsTrue (unwrap_or (option_map is_accepted
+            (arrive_step self.old.barrier from (arrival_in arrive.now))) false) }
         requires own { IsArrival self.old.setting.nodes from (arrival_in arrive.now) }
-        ensures effect { IfOk result (λ effect. option_and_then (arrive_by self.old) (arrive_step self.old.barrier from (arrival_in arrive.now)) ≡ Some (seen_effect effect self.new)) }
+        ensures effect { IfOk result (λ effect. option_and_then (arrive_by self.old)
+            (arrive_step self.old.barrier from (arrival_in arrive.now))
+            ≡ Some (seen_effect effect self.new)) }
         ensures to { IfOk result (λ effect. AreFor self.new.setting.nodes effect.letters.items) }
     {
         let arrival = Arrival {
@@ -114,7 +118,8 @@ impl NodeState<'_> {
         requires counted { length news.now.time ≡ self.old.setting.nodes }
         requires intervals { CanBeAdded self.old.memory.store news.now.intervals }
         requires can { CanCollect (learns news.now.time news.now.intervals self.old) }
-        ensures effect { IfOk result (λ effect. take_departure self.old collect news.now.time news.now.intervals ≡ seen_effect effect self.new) }
+        ensures effect { IfOk result (λ effect. take_departure self.old collect news.now.time
+            news.now.intervals ≡ seen_effect effect self.new) }
         ensures to { IfOk result (λ effect. AreFor self.new.setting.nodes effect.letters.items) }
     {
         self.learn(news)?;
@@ -126,7 +131,8 @@ impl NodeState<'_> {
         requires next { asked_in self.old.course ≡ Some Barrier }
         requires can { CanCollect self.old }
         ensures effect { IfOk result (λ effect.
-            (if collect then collects time.now self.old else acts [] (waiting nothing self.old)) ≡ seen_effect effect self.new) }
+            (if collect then collects time.now self.old else acts [] (waiting nothing self.old))
+            ≡ seen_effect effect self.new) }
         ensures to { IfOk result (λ effect. AreFor self.new.setting.nodes effect.letters.items) }
     {
         if collect {

@@ -31,7 +31,8 @@ fn reached(known: &Time, intervals: &[Interval]) -> Option<Time>
 pub(crate) fn lead(known: &Time, time: &Time, intervals: &[Interval]) -> bool
     requires counted { length time.now ≡ length known.now }
     requires nodes { All (λ interval. interval.node < length known.now) intervals.now }
-    ensures { result ≡ list_all (λ q. are_between intervals.now q (entry known.now q) (entry time.now q)) (range_with_len 0 (length known.now)) }
+    ensures { result ≡ list_all (λ q. are_between intervals.now q (entry known.now q)
+        (entry time.now q)) (range_with_len 0 (length known.now)) }
 {
     let Some(reached) = reached(known, intervals) else {
         return false;

@@ -19,8 +19,10 @@ impl NodeState<'_> {
     pub(crate) fn acquire(&mut self, lock: u8) -> Result<Effect, AllocError>
         requires lock { lock < length self.old.locks.held.locks }
         requires next { asked_in self.old.course ≡ Some (Acquire lock) }
-        requires away { is_free (lock_at self.old.locks.held lock) ≡ false → lock_at self.old.locks.held lock ≡ Away }
-        ensures effect { IfOk result (λ effect. acquire_at lock self.old ≡ seen_effect effect self.new) }
+        requires away { is_free (lock_at self.old.locks.held lock) ≡ false
+            → lock_at self.old.locks.held lock ≡ Away }
+        ensures effect { IfOk result (λ effect. acquire_at lock self.old
+            ≡ seen_effect effect self.new) }
         ensures to { IfOk result (λ effect. AreFor self.new.setting.nodes effect.letters.items) }
     {
         if self.clock.try_local(lock) {
@@ -39,7 +41,8 @@ impl NodeState<'_> {
         requires lock { lock < length self.old.locks.held.locks }
         requires next { asked_in self.old.course ≡ Some (Release lock) }
         requires held { IsTrue (is_held (lock_at self.old.locks.held lock)) }
-        ensures effect { IfOk result (λ effect. release_at lock self.old ≡ seen_effect effect self.new) }
+        ensures effect { IfOk result (λ effect. release_at lock self.old
+            ≡ seen_effect effect self.new) }
         ensures to { IfOk result (λ effect. AreFor self.new.setting.nodes effect.letters.items) }
     {
         let pass = self.clock.release(lock);

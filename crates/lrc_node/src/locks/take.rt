@@ -32,8 +32,10 @@ impl NodeState<'_> {
     ) -> Result<Effect, AllocError>
         requires from { from < self.old.setting.nodes }
         requires lock { request.now.lock < self.old.setting.locks }
-        requires managed { manager_of self.old.locks.managed.nodes request.now.lock ≡ self.old.locks.managed.me }
-        ensures effect { IfOk result (λ effect. passes_on self.old from request.now ≡ seen_effect effect self.new) }
+        requires managed { manager_of self.old.locks.managed.nodes request.now.lock
+            ≡ self.old.locks.managed.me }
+        ensures effect { IfOk result (λ effect. passes_on self.old from request.now
+            ≡ seen_effect effect self.new) }
         ensures to { IfOk result (λ effect. AreFor self.new.setting.nodes effect.letters.items) }
     {
         let lock = request.lock;
@@ -65,9 +67,11 @@ impl NodeState<'_> {
         requires lock { forward.now.lock < self.old.setting.locks }
         requires asker { forward.now.asker < self.old.setting.nodes }
         requires counted { length forward.now.time ≡ self.old.setting.nodes }
-        requires taken { IsTrue (is_taken (forwarded self.old.locks.held forward.now.lock forward.now.asker forward.now.time)) }
+        requires taken { IsTrue (is_taken (forwarded self.old.locks.held forward.now.lock
+            forward.now.asker forward.now.time)) }
         ensures effect { IfOk result (λ effect. forward_by self.old forward.now.lock
-            (forwarded self.old.locks.held forward.now.lock forward.now.asker forward.now.time) ≡ Some (seen_effect effect self.new)) }
+            (forwarded self.old.locks.held forward.now.lock forward.now.asker forward.now.time)
+            ≡ Some (seen_effect effect self.new)) }
         ensures to { IfOk result (λ effect. AreFor self.new.setting.nodes effect.letters.items) }
     {
         let time = forward.time.copy();
@@ -90,7 +94,8 @@ impl NodeState<'_> {
         requires next { asked_in self.old.course ≡ Some (Acquire grant.now.lock) }
         requires counted { length grant.now.time ≡ self.old.setting.nodes }
         requires intervals { CanBeAdded self.old.memory.store grant.now.intervals }
-        ensures effect { IfOk result (λ effect. take_grant self.old grant.now ≡ seen_effect effect self.new) }
+        ensures effect { IfOk result (λ effect. take_grant self.old grant.now
+            ≡ seen_effect effect self.new) }
         ensures to { IfOk result (λ effect. AreFor self.new.setting.nodes effect.letters.items) }
     {
         self.clock.granted(grant.lock);

@@ -32,7 +32,8 @@ fn are_on_page(words: u16, changes: &Changes) -> bool
 
 // Whether the offsets of the changes of all parts are below so many words.
 fn all_on_page(words: u16, parts: &[IndexedChanges]) -> bool
-    ensures { result ≡ list_all (λ part. list_all (λ change. nat_lt change.offset words) part.changes) parts.now }
+    ensures { result ≡ list_all (λ part.
+        list_all (λ change. nat_lt change.offset words) part.changes) parts.now }
 {
     parts.iter().all(|part| are_on_page(words, &part.changes))
 }
@@ -41,7 +42,8 @@ impl NodeState<'_> {
     /// Makes the awaited access if everything that its page needs has arrived. Otherwise it goes on waiting.
     pub(crate) fn go_on_with(&mut self, need: Need) -> Result<Effect, AllocError>
         requires { CanGoOn self.old (access need) }
-        ensures effect { IfOk result (λ effect. fetches [] self.old need ≡ seen_effect effect self.new) }
+        ensures effect { IfOk result (λ effect. fetches [] self.old need
+            ≡ seen_effect effect self.new) }
         ensures to { IfOk result (λ effect. AreFor self.new.setting.nodes effect.letters.items) }
     {
         let letters = Vec::new(self.alloc);
@@ -55,7 +57,8 @@ impl NodeState<'_> {
     // Goes on with what is awaited of pages, after something came for it.
     fn go_on(&mut self, wait: Wait) -> Result<Effect, AllocError>
         requires { CanGoOn self.old (seen_wait wait) }
-        ensures effect { IfOk result (λ effect. takes_reply self.old (seen_wait wait) ≡ seen_effect effect self.new) }
+        ensures effect { IfOk result (λ effect. takes_reply self.old (seen_wait wait)
+            ≡ seen_effect effect self.new) }
         ensures to { IfOk result (λ effect. AreFor self.new.setting.nodes effect.letters.items) }
     {
         match wait {
@@ -85,9 +88,12 @@ impl NodeState<'_> {
         from: u8,
         reply: &ChangesReply,
     ) -> Result<Effect, AllocError>
-        requires awaited { AreAwaited self.old.options.size self.old.memory.store from reply.now.page reply.now.parts }
-        requires ready { CanGoOn (with_parts from reply.now self.old) (with_needs (changes_came reply.now.page from) self.old.mail.wait) }
-        ensures effect { IfOk result (λ effect. take_changes self.old from reply.now ≡ seen_effect effect self.new) }
+        requires awaited { AreAwaited self.old.options.size self.old.memory.store from
+            reply.now.page reply.now.parts }
+        requires ready { CanGoOn (with_parts from reply.now self.old)
+            (with_needs (changes_came reply.now.page from) self.old.mail.wait) }
+        ensures effect { IfOk result (λ effect. take_changes self.old from reply.now
+            ≡ seen_effect effect self.new) }
         ensures to { IfOk result (λ effect. AreFor self.new.setting.nodes effect.letters.items) }
     {
         self.memory.attach(from, reply.page, &reply.parts)?;
@@ -108,8 +114,10 @@ impl NodeState<'_> {
     /// Takes a base copy that was asked of its keeper.
     pub(crate) fn take_page(&mut self, reply: &PageReply) -> Result<Effect, AllocError>
         requires apart { AllPairs (λ a b. a.page ≢ b.page) (needs_of self.old.mail.wait) }
-        requires ready { CanGoOn self.old (with_needs (page_came reply.now.page reply.now.values) self.old.mail.wait) }
-        ensures effect { IfOk result (λ effect. take_page self.old reply.now ≡ seen_effect effect self.new) }
+        requires ready { CanGoOn self.old (with_needs
+            (page_came reply.now.page reply.now.values) self.old.mail.wait) }
+        ensures effect { IfOk result (λ effect. take_page self.old reply.now
+            ≡ seen_effect effect self.new) }
         ensures to { IfOk result (λ effect. AreFor self.new.setting.nodes effect.letters.items) }
     {
         let copy = Box::new(self.alloc, reply.copy.copy())?;

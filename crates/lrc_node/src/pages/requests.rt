@@ -21,7 +21,9 @@ use std::alloc::{AllocError, Global};
 
 // Whether each of these intervals of a node is stored and names the page.
 fn has_notices(memory: &Memory, node: u8, page: u16, indices: &[u32]) -> bool
-    ensures { result ≡ list_all (λ index. is_some (notice_at memory.now.memory.store (record { node = node; index = index; page = page }))) indices.now }
+    ensures { result ≡ list_all (λ index.
+        is_some (notice_at memory.now.memory.store
+        (record { node = node; index = index; page = page }))) indices.now }
 {
     for index in indices {
         if !memory.has_notice(node, *index, page) {
@@ -74,7 +76,8 @@ impl NodeState<'_> {
     ) -> Result<Effect, AllocError>
         requires from { from < self.old.setting.nodes }
         requires page { request.now.page < length self.old.memory.copies }
-        ensures effect { IfOk result (λ effect. sends (changes_reply_to self.old from request.now.page request.now.indices ∷ [])
+        ensures effect { IfOk result (λ effect. sends
+            (changes_reply_to self.old from request.now.page request.now.indices ∷ [])
             self.old ≡ seen_effect effect self.new) }
         ensures to { IfOk result (λ effect. AreFor self.new.setting.nodes effect.letters.items) }
     {
@@ -87,7 +90,8 @@ impl NodeState<'_> {
 
     /// Returns whether a request for a base copy is expected: it is from another node, and the base copy is kept here.
     pub(crate) fn expects_page_request(&self, from: u8, m: &PageRequest) -> bool
-        ensures { result ≡ (expects_page_request self.now from m.now && is_some (base_at self.now.memory m.now)) }
+        ensures { result ≡ (expects_page_request self.now from m.now
+            && is_some (base_at self.now.memory m.now)) }
     {
         m.page < self.pages() && from != self.me && self.memory.base(m.page).is_some()
     }
@@ -101,7 +105,8 @@ impl NodeState<'_> {
         requires from { from < self.old.setting.nodes }
         requires page { request.now < length self.old.memory.copies }
         requires kept { IsTrue (is_some (base_at self.old.memory request.now)) }
-        ensures effect { IfOk result (λ effect. page_reply_by self.old from request.now (base_at self.old.memory request.now) ≡ Some (seen_effect effect self.new)) }
+        ensures effect { IfOk result (λ effect. page_reply_by self.old from request.now
+            (base_at self.old.memory request.now) ≡ Some (seen_effect effect self.new)) }
         ensures to { IfOk result (λ effect. AreFor self.new.setting.nodes effect.letters.items) }
     {
         let page = request.page;

@@ -35,7 +35,8 @@ impl NodeState<'_> {
     pub(crate) fn take_message(&mut self, from: u8, message: &Message) -> Result<Effect, AllocError>
         requires from { from < self.old.setting.nodes }
         requires can { CanTake self.old from message.now }
-        ensures effect { IfOk result (λ effect. effect_of self.old from message.now ≡ Some (seen_effect effect self.new)) }
+        ensures effect { IfOk result (λ effect. effect_of self.old from message.now
+            ≡ Some (seen_effect effect self.new)) }
         ensures to { IfOk result (λ effect. AreFor self.new.setting.nodes effect.letters.items) }
     {
         match message {

@@ -97,8 +97,10 @@ impl NodeState<'_> {
     fn begin(&mut self, ask: Ask) -> Result<Effect, NodeFault>
         requires next { asked_in self.old.course ≡ Some ask }
         requires can { CanBegin self.old ask }
-        ensures effect { IfOk result (λ effect. effect_asked self.old ask ≡ Some (seen_effect effect self.new)) }
-        ensures refused { IfErr result (λ fault. ((fault ≡ Worn) × (effect_asked self.old ask ≡ None)) ⊎ (fault ≡ NoMemory)) }
+        ensures effect { IfOk result (λ effect. effect_asked self.old ask
+            ≡ Some (seen_effect effect self.new)) }
+        ensures refused { IfErr result (λ fault. ((fault ≡ Worn)
+            × (effect_asked self.old ask ≡ None)) ⊎ (fault ≡ NoMemory)) }
         ensures to { IfOk result (λ effect. AreFor self.new.setting.nodes effect.letters.items) }
     {
         match ask {

@@ -18,8 +18,10 @@ impl NodeState<'_> {
     #[inline(always)]
     pub(crate) fn send(&mut self, effect: Effect) -> Result<Turn, NodeFault>
         requires { AreFor self.old.setting.nodes effect.letters.items }
-        ensures sent { IfOk result (λ turn. turn_of (seen_effect effect self.old) ≡ done turn self.new) }
-        ensures refused { IfErr result (λ fault. ((fault ≡ Worn) × (turn_of (seen_effect effect self.old) ≡ worn)) ⊎ (fault ≡ NoMemory)) }
+        ensures sent { IfOk result (λ turn. turn_of (seen_effect effect self.old)
+            ≡ done turn self.new) }
+        ensures refused { IfErr result (λ fault. ((fault ≡ Worn)
+            × (turn_of (seen_effect effect self.old) ≡ worn)) ⊎ (fault ≡ NoMemory)) }
     {
         let node = self.me;
         let act = effect.deed.map(|deed| Act { node, deed });
@@ -44,10 +46,12 @@ impl NodeState<'_> {
     fn number(&mut self, letters: Vec<Letter>) -> Result<Vec<Envelope>, NodeFault>
         requires { AreFor self.old.setting.nodes letters.items }
         ensures numbers { IfOk result (λ out.
-            numbered self.old.setting.me self.old.options.first self.old.mail.sent letters.items ≡ Some (out.items, self.new.mail.sent)) }
+            numbered self.old.setting.me self.old.options.first self.old.mail.sent letters.items
+            ≡ Some (out.items, self.new.mail.sent)) }
         ensures node { OnOk result (self.new ≡ with_sent self.old self.new.mail.sent) }
         ensures refused { IfErr result (λ fault.
-            ((fault ≡ Worn) × (numbered self.old.setting.me self.old.options.first self.old.mail.sent letters.items ≡ None)) ⊎ (fault ≡ NoMemory)) }
+            ((fault ≡ Worn) × (numbered self.old.setting.me self.old.options.first
+            self.old.mail.sent letters.items ≡ None)) ⊎ (fault ≡ NoMemory)) }
     {
         match self.mail.number(self.me, self.options.first, letters) {
             Ok(out) => Ok(out),

@@ -22,8 +22,10 @@ impl NodeState<'_> {
     pub(crate) fn take(&mut self, envelope: &Envelope) -> Result<Turn, NodeFault>
         requires { IsReached self.old }
         ensures done { IfOk result (λ turn. take_turn self.old envelope.now ≡ done turn self.new) }
-        ensures refused { IfErr result (λ fault. RefusesTake (take_turn self.old envelope.now) self.old fault self.new) }
-        ensures unexpected { take_turn self.old envelope.now ≡ unexpected → result ≡ Err Unexpected }
+        ensures refused { IfErr result (λ fault. RefusesTake
+            (take_turn self.old envelope.now) self.old fault self.new) }
+        ensures unexpected { take_turn self.old envelope.now ≡ unexpected
+            → result ≡ Err Unexpected }
     {
         let from = envelope.from;
         if !self.is_addressed(envelope) {
@@ -80,9 +82,13 @@ impl NodeState<'_> {
         requires from { envelope.now.from < self.old.setting.nodes }
         requires anew { is_repeat self.old envelope.now ≡ false }
         requires expected { is_expected self.old envelope.now.from envelope.now.message ≡ true }
-        ensures done { IfOk result (λ turn. turn_or unexpected (effect_of (taking self.old envelope.now) envelope.now.from envelope.now.message) ≡ done turn self.new) }
+        ensures done { IfOk result (λ turn. turn_or unexpected
+            (effect_of (taking self.old envelope.now) envelope.now.from envelope.now.message)
+            ≡ done turn self.new) }
         ensures refused { IfErr result (λ fault.
-            ((fault ≡ Worn) × (turn_or unexpected (effect_of (taking self.old envelope.now) envelope.now.from envelope.now.message) ≡ worn)) ⊎ (fault ≡ NoMemory)) }
+            ((fault ≡ Worn) × (turn_or unexpected
+            (effect_of (taking self.old envelope.now) envelope.now.from envelope.now.message)
+            ≡ worn)) ⊎ (fault ≡ NoMemory)) }
     {
         self.mail.note_taken(envelope.from, envelope.number)?;
         let effect = self.take_message(envelope.from, &envelope.message)?;

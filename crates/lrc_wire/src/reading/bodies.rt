@@ -143,7 +143,8 @@ pub(super) fn read_body(
     kind: Kind,
     bytes: &mut &[u8],
 ) -> Result<Message, WireFault>
-    ensures { Gives (λ message. (message, bytes.new.now)) result (body_at version kind bytes.old.now) }
+    ensures { Gives (λ message. (message, bytes.new.now)) result
+        (body_at version kind bytes.old.now) }
 {
     match kind {
         Kind::LockRequest => read_lock_request(bytes).map(Message::LockRequest),

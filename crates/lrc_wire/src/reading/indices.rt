@@ -32,7 +32,8 @@ fn read_indices_of(
     count: u32,
     bytes: &mut &[u8],
 ) -> Result<SmallVec<u32, FEW_INDICES>, WireFault>
-    ensures { Gives (λ v. (v.items, bytes.new.now)) result (elements_at next_index_at (λ _ index. Some index) count None bytes.old.now) }
+    ensures { Gives (λ v. (v.items, bytes.new.now)) result
+        (elements_at next_index_at (λ _ index. Some index) count None bytes.old.now) }
 {
     let mut indices = SmallVec::with_capacity(alloc, room(count, bytes, 4))?;
     let mut before = None;

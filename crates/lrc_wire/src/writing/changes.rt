@@ -47,7 +47,8 @@ fn put_part(out: &mut Vec<u8>, item: &IndexedChanges) -> Result<(), AllocError>
 }
 
 fn put_each_part(out: &mut Vec<u8>, list: &[IndexedChanges]) -> Result<(), AllocError>
-    ensures written { OnOk result (out.new.items ≡ out.old.items ++ flat_map (part Two runs_of) list.now) }
+    ensures written { OnOk result (out.new.items
+        ≡ out.old.items ++ flat_map (part Two runs_of) list.now) }
     ensures each { OnOk result (All (FitPart Two) list.now) }
 {
     for item in list {

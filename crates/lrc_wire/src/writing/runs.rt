@@ -61,7 +61,9 @@ fn put_run_values(
     requires order { start ≤ end }
     requires within { end ≤ length changes.now }
     requires bits { All (λ c. HasBits 64 c.value) (take start changes.now) }
-    ensures written { OnOk result (out.new.items ≡ out.old.items ++ numbers w64 (map (λ c. c.value) (take (end - start) (drop start changes.now)))) }
+    ensures written { OnOk result (out.new.items
+        ≡ out.old.items ++ numbers w64
+        (map (λ c. c.value) (take (end - start) (drop start changes.now)))) }
     ensures bits { OnOk result (All (λ c. HasBits 64 c.value) (take end changes.now)) }
 {
     for place in start..end {
@@ -78,7 +80,8 @@ fn put_run(out: &mut Vec<u8>, changes: &Changes, start: usize, end: usize) -> Re
     requires within { end ≤ length changes.now }
     requires few { length changes.now ≤ 256 }
     requires bits { All (λ c. HasBits 64 c.value) (take start changes.now) }
-    ensures written { OnOk result (out.new.items ≡ out.old.items ++ run (first_run (drop start changes.now))) }
+    ensures written { OnOk result (out.new.items
+        ≡ out.old.items ++ run (first_run (drop start changes.now))) }
     ensures bits { OnOk result (All (λ c. HasBits 64 c.value) (take end changes.now)) }
 {
     out.put_u8(changes.at(start).offset)?;
@@ -87,7 +90,8 @@ fn put_run(out: &mut Vec<u8>, changes: &Changes, start: usize, end: usize) -> Re
 }
 
 fn put_each_run(out: &mut Vec<u8>, changes: &Changes) -> Result<(), AllocError>
-    ensures written { OnOk result (out.new.items ≡ out.old.items ++ flat_map run (runs_of changes.now)) }
+    ensures written { OnOk result (out.new.items
+        ≡ out.old.items ++ flat_map run (runs_of changes.now)) }
     ensures bits { OnOk result (All (λ c. HasBits 64 c.value) changes.now) }
 {
     let mut start = 0;

@@ -31,9 +31,11 @@ fn interval_len(item: &Interval) -> usize
 // have.
 fn news_len(before: usize, told: &News) -> Option<usize>
     requires { before ≤ 5 }
-    ensures within { IfSome result (λ n. n ≡ before + length (news told.now.time told.now.intervals)) }
+    ensures within { IfSome result (λ n. n ≡ before + length
+        (news told.now.time told.now.intervals)) }
     ensures small { IfSome result (λ n. n ≤ MOST_BODY_BYTES) }
-    ensures over { IfNone result (MOST_BODY_BYTES < before + length (news told.now.time told.now.intervals)) }
+    ensures over { IfNone result (MOST_BODY_BYTES
+        < before + length (news told.now.time told.now.intervals)) }
 {
     let mut len = before + time_len(&told.time) + 4;
     for record in told.intervals.as_slice() {
