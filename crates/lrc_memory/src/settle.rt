@@ -26,7 +26,8 @@ pub(crate) fn settle_page(
     requires page { page < length table.old.copies }
     requires noted { page < length notes.now }
     requires noticed { ForSome (pending_changes (copy_at table.old page))
-        (λ changes. notice_at store.old (record { node = me; index = slice_index (named_of notes.now) page; page = page })
+        (λ changes. notice_at store.old
+        (record { node = me; index = slice_index (named_of notes.now) page; page = page })
         ≡ Some (record { page = page; changes = None })) }
     ensures table { OnOk result (table.new ≡ with_copy table.old page
         (settled (copy_at table.old page))) }

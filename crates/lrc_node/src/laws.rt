@@ -12,7 +12,8 @@ ghost use Rattle.lrc_node.specs.declared.fault.NodeFault.TheVariants.{NotReady, 
 /// further logged turn keeps this true. A refused input changes nothing.
 pub fn logs_lead_on()
     ensures fresh { (program : Program) (nodes : ℕ) (options : OptionsRecord) (me : ℕ)
-        → LeadsFrom (fresh_node program nodes options me) (record { node = fresh_node program nodes options me; log = [] })
+        → LeadsFrom (fresh_node program nodes options me)
+        (record { node = fresh_node program nodes options me; log = [] })
         (record {
           logged = record { node = Some (fresh_node program nodes options me); log = [] };
           trace = record { node = me; size = options.size; segments = [] };

@@ -193,8 +193,10 @@ pub fn own_changes_are_attached()
     ensures attached { (node : Node) → IsReached node → OwnAttached node.setting.me node.memory }
     ensures copied { (node : Node) → IsReached node → OwnCopied node.setting.me node.memory }
     ensures known { (node : Node) (index page : ℕ) → IsReached node
-        → is_some (notice_at node.memory.store (record { node = node.setting.me; index = index; page = page })) ≡ true
-        → is_some (changes_at node.memory.store (record { node = node.setting.me; index = index; page = page })) ≡ true }
+        → is_some (notice_at node.memory.store
+        (record { node = node.setting.me; index = index; page = page })) ≡ true
+        → is_some (changes_at node.memory.store
+        (record { node = node.setting.me; index = index; page = page })) ≡ true }
     ensures lacking { (node : Node) (page : ℕ) → IsReached node
         → All (λ (key : Key). key.node ≡ node.setting.me → ⊥) (missing_at node.memory page) }
     ensures asked { (node : Node) → IsReached node

@@ -87,7 +87,8 @@ pub fn nodes_depend_on_their_own_inputs_alone()
         (world : World)
         (n : ℕ) (l : Logged) → run_of program nodes options events ≡ Some world
         → slice_get world.nodes n ≡ Some l
-        → local program nodes options n (inputs_of l.log) ≡ Some (record { node = l.node; turns = turns_of l.log }) }
+        → local program nodes options n (inputs_of l.log)
+        ≡ Some (record { node = l.node; turns = turns_of l.log }) }
     ensures acts { (program : Program) (nodes : ℕ) (options : OptionsRecord) (events : List Event)
         (world : World)
         (n : ℕ) (l : Logged) → run_of program nodes options events ≡ Some world

@@ -39,7 +39,8 @@ pub fn adding_makes_one_entry()
 pub fn attaching_changes_one_notice()
     ensures here { (store : StoreRecord) (key : Key) (changes : List Change)
         → notice_at store key ≡ Some (record { page = key.page; changes = None })
-        → notice_at (attached store key changes) key ≡ Some (record { page = key.page; changes = Some changes }) }
+        → notice_at (attached store key changes) key
+        ≡ Some (record { page = key.page; changes = Some changes }) }
     ensures others { (store : StoreRecord) (key other : Key) (changes : List Change) → other ≢ key
         → notice_at (attached store key changes) other ≡ notice_at store other }
     ensures intervals { (store : StoreRecord) (key : Key) (changes : List Change)

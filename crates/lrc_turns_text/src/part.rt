@@ -39,7 +39,8 @@ fn tell(
     requires made { slice_index told.old.made node < 18446744073709551615 }
     requires acts { told.old.acts < 18446744073709551615 }
     ensures text { OnOk result ((turns : List Made) → Tells turns told.old
-        → text.new.items ≡ text.old.items ++ text_behind lines.now turns (record { node = node; entry = entry.now })) }
+        → text.new.items ≡ text.old.items ++ text_behind lines.now turns
+        (record { node = node; entry = entry.now })) }
     ensures tells { OnOk result ((turns : List Made) → Tells turns told.old
         → Tells (turns ++ record { node = node; entry = entry.now } ∷ []) told.new) }
     ensures acts { told.new.acts ≤ told.old.acts + 1 }

@@ -40,7 +40,8 @@ ghost use Rattle.lrc_warned_laws.specs.Traps.{IsPartAt, TrapsBehind, trap_of_acc
 pub fn a_name_that_is_never_set_is_zero()
     ensures { (program : Program) (tokens : List Token) (at name : ℕ)
         → IsProgram (program_of program) tokens
-        → Contains (never_set (nodes_of_text program tokens) (statements_of_text program tokens)) (record { at = at; kind = NeverSet name })
+        → Contains (never_set (nodes_of_text program tokens) (statements_of_text program tokens))
+        (record { at = at; kind = NeverSet name })
         → (nodes : ℕ) (acts : List Act) (node : ℕ)
         → slice_index (thread_to program tokens nodes acts node).privates name ≡ 0 }
 {}
@@ -49,14 +50,16 @@ pub fn a_name_that_is_never_set_is_zero()
 /// evaluated before: if it divides by zero, that is the trap.
 pub fn an_access_of_no_word_traps()
     ensures { (program : Program) (tokens : List Token) (at word : ℕ)
-        → Contains (no_such_word program.words (statements_of_text program tokens)) (record { at = at; kind = NoSuchWord word })
+        → Contains (no_such_word program.words (statements_of_text program tokens))
+        (record { at = at; kind = NoSuchWord word })
         → TrapsBehind program tokens at trap_of_access }
 {}
 
 /// If a warning says that a lock does not exist, a node that reaches the acquire or release traps.
 pub fn an_acquire_or_a_release_of_no_lock_traps()
     ensures { (program : Program) (tokens : List Token) (at lock : ℕ)
-        → Contains (no_such_lock program.locks (statements_of_text program tokens)) (record { at = at; kind = NoSuchLock lock })
+        → Contains (no_such_lock program.locks (statements_of_text program tokens))
+        (record { at = at; kind = NoSuchLock lock })
         → TrapsBehind program tokens at (λ walk. causes.LockOutOfRange) }
 {}
 
@@ -65,7 +68,8 @@ pub fn an_acquire_or_a_release_of_no_lock_traps()
 pub fn a_division_by_the_constant_zero_traps()
     ensures { (program : Program) (tokens : List Token) (at : ℕ)
         → IsProgram (program_of program) tokens
-        → Contains (division_by_zero (nodes_of_text program tokens)) (record { at = at; kind = DivisionByZero })
+        → Contains (division_by_zero (nodes_of_text program tokens))
+        (record { at = at; kind = DivisionByZero })
         → (part : Expression) × (from : ℕ) × IsPartAt program tokens at part from
         × ((nodes : ℕ) → TrapsAt program tokens nodes from (λ walk. causes.DivisionByZero)) }
 {}
@@ -74,7 +78,8 @@ pub fn a_division_by_the_constant_zero_traps()
 pub fn a_comparison_with_zero_says_nothing()
     ensures { (program : Program) (tokens : List Token) (at : ℕ) (always : Bool)
         → IsProgram (program_of program) tokens
-        → Contains (below_zero (nodes_of_text program tokens)) (record { at = at; kind = BelowZero always })
+        → Contains (below_zero (nodes_of_text program tokens))
+        (record { at = at; kind = BelowZero always })
         → (part : Expression) × (from : ℕ) × IsPartAt program tokens at part from
         × ((thread : Thread) (e : code.Expression) (value : ℕ) → expression_of e ≡ part
         → value_in thread e ≡ Some value → value ≡ one_if always) }
@@ -83,7 +88,8 @@ pub fn a_comparison_with_zero_says_nothing()
 /// If a warning says that a lock is held already, each node that reaches the place holds it, and traps.
 pub fn a_lock_that_is_held_already_is_held()
     ensures { (program : Program) (tokens : List Token) (at lock : ℕ)
-        → Contains (held_already program.locks (statements_of_text program tokens) (paths_of_text program)) (record { at = at; kind = HeldAlready lock })
+        → Contains (held_already program.locks (statements_of_text program tokens) (paths_of_text program))
+        (record { at = at; kind = HeldAlready lock })
         → (nodes : ℕ)
         → ((acts : List Act) (node : ℕ) → IsAt (walk_to program tokens nodes acts node) at
         → holds (thread_to program tokens nodes acts node) lock ≡ true)
@@ -93,7 +99,8 @@ pub fn a_lock_that_is_held_already_is_held()
 /// If a warning says that a lock is not held, no node that reaches the place holds it, and each traps.
 pub fn a_lock_that_is_not_held_is_not_held()
     ensures { (program : Program) (tokens : List Token) (at lock : ℕ)
-        → Contains (not_held program.locks (statements_of_text program tokens) (paths_of_text program)) (record { at = at; kind = NotHeld lock })
+        → Contains (not_held program.locks (statements_of_text program tokens) (paths_of_text program))
+        (record { at = at; kind = NotHeld lock })
         → (nodes : ℕ)
         → ((acts : List Act) (node : ℕ) → IsAt (walk_to program tokens nodes acts node) at
         → holds (thread_to program tokens nodes acts node) lock ≡ false)
@@ -103,7 +110,8 @@ pub fn a_lock_that_is_not_held_is_not_held()
 /// If a warning says that a lock is held at a barrier, each node that reaches the barrier holds it.
 pub fn a_lock_that_is_held_at_a_barrier_is_held()
     ensures { (program : Program) (tokens : List Token) (at lock : ℕ)
-        → Contains (held_at_barrier program.locks (statements_of_text program tokens) (paths_of_text program)) (record { at = at; kind = HeldAtBarrier lock })
+        → Contains (held_at_barrier program.locks (statements_of_text program tokens) (paths_of_text program))
+        (record { at = at; kind = HeldAtBarrier lock })
         → (nodes : ℕ) (acts : List Act) (node : ℕ)
         → IsAt (walk_to program tokens nodes acts node) at
         → holds (thread_to program tokens nodes acts node) lock ≡ true }
@@ -114,18 +122,21 @@ pub fn a_lock_that_is_held_at_a_barrier_is_held()
 pub fn a_word_that_is_never_written_is_zero()
     ensures unwritten { (program : Program) (tokens : List Token) (at word : ℕ)
         → IsProgram (program_of program) tokens
-        → Contains (never_written program.words (statements_of_text program tokens)) (record { at = at; kind = NeverWritten word })
+        → Contains (never_written program.words (statements_of_text program tokens))
+        (record { at = at; kind = NeverWritten word })
         → (nodes : ℕ) (acts : List Act) (i node value : ℕ) → FollowsText program nodes acts
         → ¬ Does acts i node (Write word value) }
     ensures plainly { (program : Program) (tokens : List Token) (at word : ℕ)
         → IsProgram (program_of program) tokens
-        → Contains (never_written program.words (statements_of_text program tokens)) (record { at = at; kind = NeverWritten word })
+        → Contains (never_written program.words (statements_of_text program tokens))
+        (record { at = at; kind = NeverWritten word })
         → (nodes : ℕ) (order : List ℕ) (run : List Act) (j value : ℕ)
         → plain program nodes order ≡ Some run
         → IsDone run j (Read word value) → value ≡ 0 }
     ensures lazily { (program : Program) (tokens : List Token) (at word : ℕ)
         → IsProgram (program_of program) tokens
-        → Contains (never_written program.words (statements_of_text program tokens)) (record { at = at; kind = NeverWritten word })
+        → Contains (never_written program.words (statements_of_text program tokens))
+        (record { at = at; kind = NeverWritten word })
         → (nodes : ℕ) (run : List Act) (j value : ℕ) → FollowsText program nodes run
         → ReadsLazily run
         → IsDone run j (Read word value) → value ≡ 0 }
@@ -135,7 +146,8 @@ pub fn a_word_that_is_never_written_is_zero()
 pub fn a_lock_that_is_never_released_stays_held()
     ensures { (program : Program) (tokens : List Token) (at lock : ℕ)
         → IsProgram (program_of program) tokens
-        → Contains (never_released program.locks (statements_of_text program tokens)) (record { at = at; kind = NeverReleased lock })
+        → Contains (never_released program.locks (statements_of_text program tokens))
+        (record { at = at; kind = NeverReleased lock })
         → (nodes : ℕ) (acts : List Act) (i node : ℕ) → FollowsText program nodes acts
         → ¬ Does acts i node (Release lock) }
 {}
@@ -144,7 +156,8 @@ pub fn a_lock_that_is_never_released_stays_held()
 /// loop, the node never leaves the loop, whatever it does from then on, and the condition keeps its value.
 pub fn a_condition_that_nothing_changes_holds_for_ever()
     ensures { (program : Program) (tokens : List Token) (at : ℕ)
-        → Contains (unchanged_conditions (statements_of_text program tokens)) (record { at = at; kind = UnchangedCondition })
+        → Contains (unchanged_conditions (statements_of_text program tokens))
+        (record { at = at; kind = UnchangedCondition })
         → (nodes : ℕ) (acts : List Act) (node : ℕ)
         (here : IsAt (walk_to program tokens nodes acts node) at)
         → condition_holds (thread_to program tokens nodes acts node) ≡ true → (later : List Act)
@@ -163,26 +176,30 @@ pub fn a_condition_that_nothing_changes_holds_for_ever()
 /// loop are ordered, and the node itself wrote none in between, the read at j gives what that earlier read gave.
 pub fn a_loop_that_learns_nothing_knows_no_more()
     ensures quiet { (program : Program) (tokens : List Token) (at : ℕ)
-        → Contains (learning_nothing (statements_of_text program tokens)) (record { at = at; kind = LearnsNothing })
+        → Contains (learning_nothing (statements_of_text program tokens))
+        (record { at = at; kind = LearnsNothing })
         → (nodes node : ℕ) (acts : List Act) → FollowsText program nodes acts → node < nodes
         → (i j : ℕ) → GoesRound program tokens nodes acts node at i j
         → (k : ℕ) (deed : Deed) → i ≤ k → k ≤ j → Does acts k node deed → ¬ Learns deed }
     ensures known { (program : Program) (tokens : List Token) (at : ℕ)
-        → Contains (learning_nothing (statements_of_text program tokens)) (record { at = at; kind = LearnsNothing })
+        → Contains (learning_nothing (statements_of_text program tokens))
+        (record { at = at; kind = LearnsNothing })
         → (nodes node : ℕ) (acts : List Act) → FollowsText program nodes acts → node < nodes
         → (i j : ℕ) → GoesRound program tokens nodes acts node at i j
         → (k other : ℕ) (before deed : Deed) → Does acts k other before → other ≢ node
         → Does acts j node deed → HappensBefore acts k j
         → HappensBefore acts k i }
     ensures read { (program : Program) (tokens : List Token) (at : ℕ)
-        → Contains (learning_nothing (statements_of_text program tokens)) (record { at = at; kind = LearnsNothing })
+        → Contains (learning_nothing (statements_of_text program tokens))
+        (record { at = at; kind = LearnsNothing })
         → (nodes node : ℕ) (acts : List Act) → FollowsText program nodes acts → node < nodes
         → (i j : ℕ) → GoesRound program tokens nodes acts node at i j
         → ReadsLazily acts → (word value : ℕ) → Does acts j node (Read word value)
         → (value ≡ 0) ⊎ ((k : ℕ) × WrittenBefore acts j word k value
         × (Does acts k node (Write word value) ⊎ HappensBefore acts k i)) }
     ensures same_value { (program : Program) (tokens : List Token) (at : ℕ)
-        → Contains (learning_nothing (statements_of_text program tokens)) (record { at = at; kind = LearnsNothing })
+        → Contains (learning_nothing (statements_of_text program tokens))
+        (record { at = at; kind = LearnsNothing })
         → (nodes node : ℕ) (acts : List Act) → FollowsText program nodes acts → node < nodes
         → (i j : ℕ) → GoesRound program tokens nodes acts node at i j
         → ReadsLazily acts → (k word earlier value : ℕ) → i ≤ k → k ≤ j
@@ -196,7 +213,8 @@ pub fn a_loop_that_learns_nothing_knows_no_more()
 pub fn a_name_that_is_never_read_changes_nothing()
     ensures { (program : Program) (tokens : List Token) (at name : ℕ)
         → IsProgram (program_of program) tokens
-        → Contains (never_read (nodes_of_text program tokens) (statements_of_text program tokens)) (record { at = at; kind = NeverRead name })
+        → Contains (never_read (nodes_of_text program tokens) (statements_of_text program tokens))
+        (record { at = at; kind = NeverRead name })
         → (nodes : ℕ) (acts : List Act) (node value : ℕ) (deeds : List Deed)
         → let thread = thread_to program tokens nodes acts node in
         Makes (Some thread) deeds ↔ Makes (Some (record thread {

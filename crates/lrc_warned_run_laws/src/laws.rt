@@ -34,13 +34,15 @@ ghost use Rattle.lrc_warned_run_laws.specs.Trapping.{TrapsInRuns, TrapsInRunsBeh
 pub fn runs_give_zero_for_a_word_that_is_never_written()
     ensures unwritten { (program : Program) (tokens : List Token) (at word : ℕ)
         → IsProgram (program_of program) tokens
-        → Contains (never_written program.words (statements_of_text program tokens)) (record { at = at; kind = NeverWritten word })
+        → Contains (never_written program.words (statements_of_text program tokens))
+        (record { at = at; kind = NeverWritten word })
         → (nodes : ℕ) (options : OptionsRecord) (events : List Event) (world : World)
         → run_of program nodes options events ≡ Some world
         → (i value : ℕ) → ¬ IsDone world.acts i (Write word value) }
     ensures zero { (program : Program) (tokens : List Token) (at word : ℕ)
         → IsProgram (program_of program) tokens
-        → Contains (never_written program.words (statements_of_text program tokens)) (record { at = at; kind = NeverWritten word })
+        → Contains (never_written program.words (statements_of_text program tokens))
+        (record { at = at; kind = NeverWritten word })
         → (nodes : ℕ) (options : OptionsRecord) (events : List Event) (world : World)
         → run_of program nodes options events ≡ Some world
         → (j value : ℕ) → IsDone world.acts j (Read word value) → value ≡ 0 }
@@ -50,7 +52,8 @@ pub fn runs_give_zero_for_a_word_that_is_never_written()
 pub fn runs_release_no_lock_that_is_never_released()
     ensures { (program : Program) (tokens : List Token) (at lock : ℕ)
         → IsProgram (program_of program) tokens
-        → Contains (never_released program.locks (statements_of_text program tokens)) (record { at = at; kind = NeverReleased lock })
+        → Contains (never_released program.locks (statements_of_text program tokens))
+        (record { at = at; kind = NeverReleased lock })
         → (nodes : ℕ) (options : OptionsRecord) (events : List Event) (world : World)
         → run_of program nodes options events ≡ Some world
         → (i : ℕ) → ¬ IsDone world.acts i (Release lock) }
@@ -66,13 +69,15 @@ pub fn runs_release_no_lock_that_is_never_released()
 /// the read at j gives what that earlier read gave.
 pub fn runs_know_no_more_by_a_loop_that_learns_nothing()
     ensures quiet { (program : Program) (tokens : List Token) (at : ℕ)
-        → Contains (learning_nothing (statements_of_text program tokens)) (record { at = at; kind = LearnsNothing })
+        → Contains (learning_nothing (statements_of_text program tokens))
+        (record { at = at; kind = LearnsNothing })
         → (nodes : ℕ) (options : OptionsRecord) (events : List Event) (world : World)
         → run_of program nodes options events ≡ Some world
         → (node i j : ℕ) → GoesRound program tokens nodes world.acts node at i j
         → (k : ℕ) (deed : Deed) → i ≤ k → k ≤ j → Does world.acts k node deed → ¬ Learns deed }
     ensures known { (program : Program) (tokens : List Token) (at : ℕ)
-        → Contains (learning_nothing (statements_of_text program tokens)) (record { at = at; kind = LearnsNothing })
+        → Contains (learning_nothing (statements_of_text program tokens))
+        (record { at = at; kind = LearnsNothing })
         → (nodes : ℕ) (options : OptionsRecord) (events : List Event) (world : World)
         → run_of program nodes options events ≡ Some world
         → (node i j : ℕ) → GoesRound program tokens nodes world.acts node at i j
@@ -80,7 +85,8 @@ pub fn runs_know_no_more_by_a_loop_that_learns_nothing()
         → Does world.acts j node deed
         → HappensBefore world.acts k j → HappensBefore world.acts k i }
     ensures read { (program : Program) (tokens : List Token) (at : ℕ)
-        → Contains (learning_nothing (statements_of_text program tokens)) (record { at = at; kind = LearnsNothing })
+        → Contains (learning_nothing (statements_of_text program tokens))
+        (record { at = at; kind = LearnsNothing })
         → (nodes : ℕ) (options : OptionsRecord) (events : List Event) (world : World)
         → run_of program nodes options events ≡ Some world
         → (node i j : ℕ) → GoesRound program tokens nodes world.acts node at i j
@@ -88,7 +94,8 @@ pub fn runs_know_no_more_by_a_loop_that_learns_nothing()
         → (value ≡ 0) ⊎ ((k : ℕ) × WrittenBefore world.acts j word k value
         × (Does world.acts k node (Write word value) ⊎ HappensBefore world.acts k i)) }
     ensures same_value { (program : Program) (tokens : List Token) (at : ℕ)
-        → Contains (learning_nothing (statements_of_text program tokens)) (record { at = at; kind = LearnsNothing })
+        → Contains (learning_nothing (statements_of_text program tokens))
+        (record { at = at; kind = LearnsNothing })
         → (nodes : ℕ) (options : OptionsRecord) (events : List Event) (world : World)
         → run_of program nodes options events ≡ Some world
         → (node i j : ℕ) → GoesRound program tokens nodes world.acts node at i j
@@ -102,14 +109,16 @@ pub fn runs_know_no_more_by_a_loop_that_learns_nothing()
 /// next deed. For a write the value is evaluated before: if it divides by zero, that is the trap.
 pub fn runs_trap_at_an_access_of_no_word()
     ensures { (program : Program) (tokens : List Token) (at word : ℕ)
-        → Contains (no_such_word program.words (statements_of_text program tokens)) (record { at = at; kind = NoSuchWord word })
+        → Contains (no_such_word program.words (statements_of_text program tokens))
+        (record { at = at; kind = NoSuchWord word })
         → TrapsInRunsBehind program tokens at trap_of_access }
 {}
 
 /// If a warning says that a lock does not exist, in every run a node that reaches the acquire or release traps.
 pub fn runs_trap_at_an_acquire_or_a_release_of_no_lock()
     ensures { (program : Program) (tokens : List Token) (at lock : ℕ)
-        → Contains (no_such_lock program.locks (statements_of_text program tokens)) (record { at = at; kind = NoSuchLock lock })
+        → Contains (no_such_lock program.locks (statements_of_text program tokens))
+        (record { at = at; kind = NoSuchLock lock })
         → TrapsInRunsBehind program tokens at (λ walk. causes.LockOutOfRange) }
 {}
 
@@ -118,7 +127,8 @@ pub fn runs_trap_at_an_acquire_or_a_release_of_no_lock()
 pub fn runs_trap_at_a_division_by_the_constant_zero()
     ensures { (program : Program) (tokens : List Token) (at : ℕ)
         → IsProgram (program_of program) tokens
-        → Contains (division_by_zero (nodes_of_text program tokens)) (record { at = at; kind = DivisionByZero })
+        → Contains (division_by_zero (nodes_of_text program tokens))
+        (record { at = at; kind = DivisionByZero })
         → (part : Expression) × (from : ℕ) × IsPartAt program tokens at part from
         × TrapsInRuns program tokens from (λ walk. causes.DivisionByZero) }
 {}
@@ -126,13 +136,15 @@ pub fn runs_trap_at_a_division_by_the_constant_zero()
 /// If a warning says that a lock is held already, in every run a node that reaches this acquire traps.
 pub fn runs_trap_at_an_acquire_of_a_lock_that_is_held_already()
     ensures { (program : Program) (tokens : List Token) (at lock : ℕ)
-        → Contains (held_already program.locks (statements_of_text program tokens) (paths_of_text program)) (record { at = at; kind = HeldAlready lock })
+        → Contains (held_already program.locks (statements_of_text program tokens) (paths_of_text program))
+        (record { at = at; kind = HeldAlready lock })
         → TrapsInRuns program tokens at (λ walk. causes.LockHeld) }
 {}
 
 /// If a warning says that a lock is not held, in every run a node that reaches this release traps.
 pub fn runs_trap_at_a_release_of_a_lock_that_is_not_held()
     ensures { (program : Program) (tokens : List Token) (at lock : ℕ)
-        → Contains (not_held program.locks (statements_of_text program tokens) (paths_of_text program)) (record { at = at; kind = NotHeld lock })
+        → Contains (not_held program.locks (statements_of_text program tokens) (paths_of_text program))
+        (record { at = at; kind = NotHeld lock })
         → TrapsInRuns program tokens at (λ walk. causes.LockNotHeld) }
 {}
