@@ -1,6 +1,7 @@
 // What is answered of a run in which a node wore out.
 
-ghost use Rattle.std.specs.Prelude.{◌≡◌, ◌≤◌, ◌<◌, ◌^◌, Err, IfOk, MatchOption, None, OnOk, Some, count_by, length, map};
+ghost use Rattle.std.specs.Prelude.{◌≡◌, ◌≤◌, ◌<◌, ◌^◌, Err, IfOk, MatchOption, None, OnOk, Some, count_by, length};
+ghost use Rattle.lrc_protocol.specs.Run.{turns_of_logs};
 ghost use Rattle.lrc_envelope.specs.declared.picker.Picker.{Picker as AnyPicker};
 ghost use Rattle.lrc_exec.specs.Nodes.{AreNodes};
 ghost use Rattle.lrc_node.specs.Logged.{seen_input};
@@ -82,14 +83,14 @@ fn wearing(
 ) -> Result<Vec<Event>, WeaveFault>
     requires few { length logs.now ≤ 16 }
     requires turns { AreLogs setting.now.program.now setting.now.nodes setting.now.options
-        (map (λ log. log.items) logs.now) }
+        (turns_of_logs logs.now) }
     requires range { AreNodes setting.now.nodes × AreSteps setting.now.options.steps }
     ensures worn { IfOk result (λ events. IsWearing setting.now.program.now setting.now.nodes
         setting.now.options
-        (map (λ log. log.items) logs.now) wires.now node events.items) }
+        (turns_of_logs logs.now) wires.now node events.items) }
     ensures mismatch { result ≡ Err weaving.Mismatch
         → IsUntoldWearing setting.now.program.now setting.now.nodes setting.now.options
-        (map (λ log. log.items) logs.now) wires.now node }
+        (turns_of_logs logs.now) wires.now node }
 {
     if !are_takes_sent(alloc, logs)? {
         return Err(WeaveFault::Mismatch);
@@ -143,11 +144,11 @@ fn events_until(
     node: usize,
 ) -> Result<Vec<Event>, WeaveFault>
     requires few { length logs.now ≤ 16 }
-    ensures events { IfOk result (λ events. AreEventsOf (map (λ log. log.items) logs.now) node
-        (unfinished (map (λ log. log.items) logs.now) wires.now node) events.items) }
+    ensures events { IfOk result (λ events. AreEventsOf (turns_of_logs logs.now) node
+        (unfinished (turns_of_logs logs.now) wires.now node) events.items) }
     ensures mismatch { result ≡ Err weaving.Mismatch
-        → AreUnmatched (map (λ log. log.items) logs.now)
-        (unfinished (map (λ log. log.items) logs.now) wires.now node) }
+        → AreUnmatched (turns_of_logs logs.now)
+        (unfinished (turns_of_logs logs.now) wires.now node) }
 {
     let Some(mailbox) = wires.get(node) else {
         return events_of(alloc, logs);

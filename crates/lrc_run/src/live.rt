@@ -1,6 +1,7 @@
 // The run of a program whose nodes are on threads.
 
-ghost use Rattle.std.specs.Prelude.{◌≡◌, IfErr, IfOk, length, map, true};
+ghost use Rattle.std.specs.Prelude.{◌≡◌, IfErr, IfOk, length, true};
+ghost use Rattle.lrc_protocol.specs.Run.{turns_of_logs};
 ghost use Rattle.lrc_envelope.specs.declared.picker.Picker.{Picker as AnyPicker};
 ghost use Rattle.lrc_exec.specs.Nodes.{AreNodes};
 ghost use Rattle.lrc_post.specs.Post.{AreOf};
@@ -98,10 +99,10 @@ fn live<G: Gate + Sync, R: Threads + Wait + Sync>(
     requires range { AreNodes setting.now.nodes × AreSteps setting.now.options.steps }
     ensures left { IfOk result (λ lived. AreLeft setting.now.program.now setting.now.nodes
         setting.now.options picker
-        (map (λ log. log.items) lived.0.logs.items) lived.0.stops.items lived.1) }
+        (turns_of_logs lived.0.logs.items) lived.0.stops.items lived.1) }
     ensures whole { IfOk result (λ lived. HaveNoFailure lived.0.stops.items
         → AreWhole setting.now.program.now setting.now.nodes setting.now.options
-        (map (λ log. log.items) lived.0.logs.items) lived.0.traces.items lived.0.is_any_ready) }
+        (turns_of_logs lived.0.logs.items) lived.0.traces.items lived.0.is_any_ready) }
 {
     let post = Post::new(alloc, setting.nodes, picker)?;
     let code = Code::new(alloc, setting.program)?;
@@ -120,18 +121,18 @@ fn finished(
 ) -> Result<ThreadedRun, Halt>
     requires range { AreNodes setting.now.nodes × AreSteps setting.now.options.steps }
     requires turns { AreLogs setting.now.program.now setting.now.nodes setting.now.options
-        (map (λ log. log.items) parts.logs.items) }
+        (turns_of_logs parts.logs.items) }
     requires mailboxes { length wires ≡ setting.now.nodes }
     requires unfailed { HaveNoFailure parts.stops.items }
     requires whole { AreWhole setting.now.program.now setting.now.nodes setting.now.options
-        (map (λ log. log.items) parts.logs.items) parts.traces.items parts.is_any_ready }
+        (turns_of_logs parts.logs.items) parts.traces.items parts.is_any_ready }
     ensures run { (picker : AnyPicker) → AreOf picker wires
         → IfOk result (λ run. IsThreadedRun setting.now.program.now setting.now.nodes
         setting.now.options picker
         run.made run.wires) }
     ensures halt { (picker : AnyPicker) → AreLeft setting.now.program.now setting.now.nodes
         setting.now.options picker
-        (map (λ log. log.items) parts.logs.items) parts.stops.items wires
+        (turns_of_logs parts.logs.items) parts.stops.items wires
         → IfErr result (IsHalt setting.now.program.now setting.now.nodes setting.now.options
         picker) }
 {
@@ -144,7 +145,7 @@ fn finished(
 
 // The run whose nodes left these turns, with what is told beside them.
 fn reported(parts: Parts, wires: Wires, told: ToldRun) -> ThreadedRun
-    ensures report { Reports (map (λ log. log.items) parts.logs.items) told result.made.report }
+    ensures report { Reports (turns_of_logs parts.logs.items) told result.made.report }
     ensures events { result.made.events ≡ told.events }
     ensures over { result.made.is_over ≡ true }
     ensures wires { result.wires ≡ wires }

@@ -1,6 +1,7 @@
 // What is told of a run by what its nodes left.
 
-ghost use Rattle.std.specs.Prelude.{◌≡◌, ◌≤◌, ◌<◌, ◌↔◌, [], All, Any, Err, IfOk, IsTrue, MatchOption, OnOk, false, length, map};
+ghost use Rattle.std.specs.Prelude.{◌≡◌, ◌≤◌, ◌<◌, ◌↔◌, [], All, Any, Err, IfOk, IsTrue, MatchOption, OnOk, false, length};
+ghost use Rattle.lrc_protocol.specs.Run.{turns_of_logs};
 ghost use Rattle.lrc_trace.specs.Conflict.{IsFirstRace, IsRaceFree};
 ghost use Rattle.lrc_judge.specs.declared.TheConstants.{NODES};
 ghost use Rattle.lrc_race.specs.Races.{AreRacesOf, AreTracesOf};
@@ -53,19 +54,19 @@ pub(crate) fn told(
 ) -> Result<ToldRun, WeaveFault>
     requires few { setting.now.nodes ≤ 16 }
     requires turns { AreLogs setting.now.program.now setting.now.nodes setting.now.options
-        (map (λ log. log.items) parts.now.logs.items) }
+        (turns_of_logs parts.now.logs.items) }
     requires whole { AreWhole setting.now.program.now setting.now.nodes setting.now.options
-        (map (λ log. log.items) parts.now.logs.items) parts.now.traces.items
+        (turns_of_logs parts.now.logs.items) parts.now.traces.items
         parts.now.is_any_ready }
     requires wires { length wires.now ≡ setting.now.nodes }
     ensures told { IfOk result (IsTold setting.now.program.now setting.now.nodes setting.now.options
-        (map (λ log. log.items) parts.now.logs.items)) }
-    ensures matched { OnOk result (AreMatched (map (λ log. log.items) parts.now.logs.items)
+        (turns_of_logs parts.now.logs.items)) }
+    ensures matched { OnOk result (AreMatched (turns_of_logs parts.now.logs.items)
         wires.now) }
     ensures taken { OnOk result (All IsAllGiven wires.now) }
     ensures mismatch { result ≡ Err Mismatch → IsUntold setting.now.program.now setting.now.nodes
         setting.now.options
-        (map (λ log. log.items) parts.now.logs.items) wires.now }
+        (turns_of_logs parts.now.logs.items) wires.now }
 {
     let run = weave_run(alloc, parts.logs.as_slice(), wires)?;
     if parts.is_any_ready || run.in_flight > 0 || !are_all_given(wires) {

@@ -1,6 +1,7 @@
 // Traces of a run.
 
 ghost use Rattle.std.specs.Prelude.{◌≡◌, ◌≢◌, ◌≤◌, ◌<◌, ℕ, All, IfErr, IfOk, List, length, map};
+ghost use Rattle.lrc_protocol.specs.Run.{turns_of_logs};
 ghost use Rattle.lrc_answer.specs.Texts.{IsTextOf};
 ghost use Rattle.lrc_answer.specs.Labels.{labels_in};
 ghost use Rattle.lrc_shown.specs.Lines.{AreLinesIn};
@@ -124,7 +125,7 @@ fn messages_of(
     turns: &[Turned],
     lines: &[u32],
 ) -> Result<Vec<u8>, AllocError>
-    ensures { IfOk result (λ part. part.items ≡ messages_text (map (λ log. log.items) logs.now)
+    ensures { IfOk result (λ part. part.items ≡ messages_text (turns_of_logs logs.now)
         (map (λ turn. turn.node) turns.now) lines.now) }
 {
     let order: Vec<u8> = turns.iter().map(|turn| turn.node).collect(alloc)?;

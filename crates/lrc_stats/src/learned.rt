@@ -1,7 +1,7 @@
 // What messages brought, each counted once.
 
-ghost use Rattle.std.specs.Prelude.{◌≡◌, IfOk, List, length, map, sum_by};
-ghost use Rattle.lrc_protocol.specs.Run.{EntryRecord};
+ghost use Rattle.std.specs.Prelude.{◌≡◌, IfOk, List, length, sum_by};
+ghost use Rattle.lrc_protocol.specs.Run.{EntryRecord, turns_of_logs};
 ghost use Rattle.lrc_stats.specs.Learned.{IsLearned, brought, brought_after, collections, discards, intervals_told, is_discard};
 ghost use Rattle.lrc_stats.specs.Learned.{learned_intervals, learned_notices, repeats, told, with_entry};
 ghost use Rattle.lrc_stats.specs.Seen.{HasSeen};
@@ -150,11 +150,11 @@ fn learned_in(alloc: Global, log: &[Entry]) -> Result<Learned, AllocError>
 #[tactic(auto, using(crate::proofs::Logs::sum_more))]
 pub(crate) fn learned_by_all(alloc: Global, logs: &[Vec<Entry>]) -> Result<Learned, AllocError>
     ensures repeats { IfOk result (λ learned. learned.repeats
-        ≡ repeats (map (λ log. log.items) logs.now)) }
+        ≡ repeats (turns_of_logs logs.now)) }
     ensures intervals { IfOk result (λ learned. learned.intervals
-        ≡ learned_intervals (map (λ log. log.items) logs.now)) }
+        ≡ learned_intervals (turns_of_logs logs.now)) }
     ensures notices { IfOk result (λ learned. learned.notices
-        ≡ learned_notices (map (λ log. log.items) logs.now)) }
+        ≡ learned_notices (turns_of_logs logs.now)) }
 {
     let mut all = Learned::nothing();
     for log in logs {
@@ -165,7 +165,7 @@ pub(crate) fn learned_by_all(alloc: Global, logs: &[Vec<Entry>]) -> Result<Learn
 
 /// Returns how many barrier episodes collected: node 0 took as many discard messages.
 pub(crate) fn collections(alloc: Global, logs: &[Vec<Entry>]) -> Result<u64, AllocError>
-    ensures { IfOk result (λ count. count ≡ collections (map (λ log. log.items) logs.now)) }
+    ensures { IfOk result (λ count. count ≡ collections (turns_of_logs logs.now)) }
 {
     match logs.first() {
         Some(log) => Ok(learned_in(alloc, log)?.discards),

@@ -2,6 +2,7 @@
 
 ghost use Rattle.std.specs.Prelude.{◌≡◌, ◌++◌, IfOk, OnOk, map};
 ghost use Rattle.std.specs.List.{flat_map};
+ghost use Rattle.lrc_protocol.specs.Run.{turns_of_logs};
 ghost use Rattle.lrc_wire.specs.Spelling as spelling;
 ghost use Rattle.lrc_stats.specs.Sent.{bytes_in, is_wanted, sent_by_turn, sent_messages, sent_of, size_of, wanted_count};
 
@@ -84,7 +85,7 @@ fn sent_of(alloc: Global, envelope: &Envelope) -> Result<Sent, AllocError>
 /// Returns all messages that the nodes sent.
 #[tactic(auto, using(crate::proofs::Logs::flat_more))]
 pub(crate) fn sent_messages(alloc: Global, logs: &[Vec<Entry>]) -> Result<Vec<Sent>, AllocError>
-    ensures { IfOk result (λ sent. sent.items ≡ sent_messages (map (λ log. log.items) logs.now)) }
+    ensures { IfOk result (λ sent. sent.items ≡ sent_messages (turns_of_logs logs.now)) }
 {
     let mut sent = Vec::new(alloc);
     for log in logs {

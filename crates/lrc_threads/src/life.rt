@@ -2,6 +2,7 @@
 
 ghost use Rattle.std.specs.Prelude.{◌≡◌, IfOk, MatchOption, map};
 ghost use Rattle.std.specs.List.{list_any};
+ghost use Rattle.lrc_protocol.specs.Run.{turns_of_logs};
 ghost use Rattle.lrc_threads.specs.Threads.{HaveNoFailure, IsFirstFailure};
 
 use crate::stop::Stop;
@@ -46,7 +47,7 @@ pub struct Parts {
 
 /// Takes apart what is left of the nodes. It fails if there is no memory for the lists.
 pub fn parts_of(alloc: Global, pasts: Vec<Past>) -> Result<Parts, AllocError>
-    ensures logs { IfOk result (λ parts. map (λ log. log.items) parts.logs.items
+    ensures logs { IfOk result (λ parts. turns_of_logs parts.logs.items
         ≡ map (λ past. past.log.items) pasts.items) }
     ensures traces { IfOk result (λ parts. parts.traces.items
         ≡ map (λ past. past.trace) pasts.items) }

@@ -1,6 +1,7 @@
 // The turns of a run in words.
 
-ghost use Rattle.std.specs.Prelude.{◌≡◌, ◌+◌, ◌<◌, ◌≤◌, [], ◌∷◌, ◌++◌, IfOk, List, MatchOption, None, OnOk, OnSome, Some, map, slice_index};
+ghost use Rattle.std.specs.Prelude.{◌≡◌, ◌+◌, ◌<◌, ◌≤◌, [], ◌∷◌, ◌++◌, IfOk, List, MatchOption, None, OnOk, OnSome, Some, slice_index};
+ghost use Rattle.lrc_protocol.specs.Run.{turns_of_logs};
 ghost use Rattle.lrc_turns_text.specs.Told.{Tells};
 ghost use Rattle.lrc_turns_text.specs.Turns.{Made, log_entry, next};
 ghost use Rattle.lrc_turns_text.specs.TurnsText.{messages_text, text_behind, texts_behind};
@@ -12,9 +13,9 @@ use std::alloc::{AllocError, Global};
 
 /// Returns the turn at a place of a node's log, or none if the log has no such turn.
 pub fn entry_of(logs: &[Vec<Entry>], node: u8, place: usize) -> Option<&Entry>
-    ensures there { MatchOption result (log_entry (map (λ log. log.items) logs.now) node place
+    ensures there { MatchOption result (log_entry (turns_of_logs logs.now) node place
         ≡ None)
-        (λ entry. log_entry (map (λ log. log.items) logs.now) node place ≡ Some entry.now) }
+        (λ entry. log_entry (turns_of_logs logs.now) node place ≡ Some entry.now) }
     ensures bound { OnSome result (place < 18446744073709551615) }
 {
     logs.get(usize::from(node))?.get(place)
@@ -62,9 +63,9 @@ fn tell_next(
     requires { told.old.acts < 18446744073709551615 }
     ensures text { OnOk result ((turns : List Made) → Tells turns told.old
         → text.new.items ≡ text.old.items
-        ++ texts_behind lines.now turns (next (map (λ log. log.items) logs.now) turns node)) }
+        ++ texts_behind lines.now turns (next (turns_of_logs logs.now) turns node)) }
     ensures tells { OnOk result ((turns : List Made) → Tells turns told.old
-        → Tells (turns ++ next (map (λ log. log.items) logs.now) turns node) told.new) }
+        → Tells (turns ++ next (turns_of_logs logs.now) turns node) told.new) }
     ensures acts { told.new.acts ≤ told.old.acts + 1 }
 {
     match entry_of(logs, node, told.made_by(node)) {
@@ -83,7 +84,7 @@ pub fn messages_part(
     lines: &[u32],
 ) -> Result<Vec<u8>, AllocError>
     ensures { IfOk result (λ part. part.items
-        ≡ messages_text (map (λ log. log.items) logs.now) order.now lines.now) }
+        ≡ messages_text (turns_of_logs logs.now) order.now lines.now) }
 {
     let mut text = Vec::new(alloc);
     let mut told = Told::new(alloc);

@@ -1,6 +1,7 @@
 // Which turns take a message that a later turn takes again.
 
 ghost use Rattle.std.specs.Prelude.{◌≡◌, ◌||◌, IfOk, OnOk, map};
+ghost use Rattle.lrc_protocol.specs.Run.{turns_of_logs};
 ghost use Rattle.lrc_node.specs.Logged.{seen_input};
 ghost use Rattle.lrc_envelope.specs.Envelope.{EnvelopeRecord};
 ghost use Rattle.lrc_weave.specs.Again.{AreAgain, AreAllAgain, has_key, is_noted};
@@ -13,7 +14,7 @@ use std::collections::HashSet;
 
 /// Returns for each turn of each log whether a later turn of that log takes the same message.
 pub(crate) fn all_again(alloc: Global, logs: &[Vec<Entry>]) -> Result<Vec<Vec<bool>>, AllocError>
-    ensures { IfOk result (λ again. AreAllAgain (map (λ log. log.items) logs.now)
+    ensures { IfOk result (λ again. AreAllAgain (turns_of_logs logs.now)
         (map (λ bits. bits.items) again.items)) }
 {
     let mut all = Vec::new(alloc);

@@ -3,7 +3,7 @@
 ghost use Rattle.std.specs.Prelude.{◌≡◌, ◌==◌, ◌∷◌, ◌↔◌, [], IfOk, IsTrue, length, map};
 ghost use Rattle.std.specs.List.{list_all};
 ghost use Rattle.lrc_node.specs.Logged.{seen_input};
-ghost use Rattle.lrc_protocol.specs.Run.{taken};
+ghost use Rattle.lrc_protocol.specs.Run.{taken, turns_of_logs};
 ghost use Rattle.lrc_weave.specs.Compared.{AreAllNext, AreSent, IsLeft, is_by_node, sent_as, taken_in};
 ghost use Rattle.lrc_weave.specs.Matched.{AreAlike, Takes, message_of, takes_in};
 
@@ -23,7 +23,7 @@ pub(crate) fn are_alike(
 ) -> Result<bool, AllocError>
     requires each { length wires.now ≡ length logs.now }
     ensures { IfOk result (λ are. IsTrue are
-        ↔ AreAlike (map (λ log. log.items) logs.now) wires.now) }
+        ↔ AreAlike (turns_of_logs logs.now) wires.now) }
 {
     if !are_all_by_nodes(wires, logs.len()) {
         return Ok(false);

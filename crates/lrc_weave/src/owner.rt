@@ -1,6 +1,7 @@
 // What a node does to its own mailbox, turn by turn.
 
-ghost use Rattle.std.specs.Prelude.{◌≡◌, ◌++◌, ◌∷◌, ◌↔◌, [], IsTrue, length, map, position};
+ghost use Rattle.std.specs.Prelude.{◌≡◌, ◌++◌, ◌∷◌, ◌↔◌, [], IsTrue, length, position};
+ghost use Rattle.lrc_protocol.specs.Run.{turns_of_logs};
 ghost use Rattle.lrc_node.specs.Logged.{seen_input};
 ghost use Rattle.lrc_weave.specs.Compared.{AreAllOwn, AreOwn, AreOwnNext, IsNextOwn};
 ghost use Rattle.lrc_weave.specs.Matched.{is_own, is_put, own_in, own_puts, own_takes};
@@ -13,7 +14,7 @@ use lrc_post::{Mailbox, Wire};
 /// them. There is one mailbox for each node.
 pub(crate) fn are_all_own(logs: &[Vec<Entry>], wires: &[Mailbox]) -> bool
     requires each { length wires.now ≡ length logs.now }
-    ensures { IsTrue result ↔ AreAllOwn (map (λ log. log.items) logs.now) wires.now }
+    ensures { IsTrue result ↔ AreAllOwn (turns_of_logs logs.now) wires.now }
 {
     for node in 0..logs.len() {
         if !are_own(node, logs[node].as_slice(), wires[node].history()) {

@@ -4,7 +4,7 @@ ghost use Rattle.std.specs.Prelude.{◌≡◌, ◌≤◌, ◌<◌, ◌+◌, ℕ,
 ghost use Rattle.lrc_lang.specs.declared.program.Program.{Program};
 ghost use Rattle.lrc_node.specs.Logged.{seen_input};
 ghost use Rattle.lrc_protocol.specs.Node.{OptionsRecord};
-ghost use Rattle.lrc_protocol.specs.Run.{Flying};
+ghost use Rattle.lrc_protocol.specs.Run.{Flying, turns_of_logs};
 ghost use Rattle.lrc_weave.specs.declared.fault.WeaveFault.TheVariants.{Mismatch};
 ghost use Rattle.lrc_weave.specs.Events.{message_name, NotesTurn};
 ghost use Rattle.lrc_weave.specs.Further.{AreWovenWith, AreWovenWithout};
@@ -50,11 +50,11 @@ pub fn weave(
 ) -> Result<Vec<Event>, WeaveFault>
     requires few { length logs.now ≤ 16 }
     requires each { length wires.now ≡ length logs.now }
-    ensures alike { IfOk result (λ events. AreAlike (map (λ log. log.items) logs.now) wires.now) }
+    ensures alike { IfOk result (λ events. AreAlike (turns_of_logs logs.now) wires.now) }
     ensures woven { IfOk result (λ events. (program : Program) (nodes : ℕ) (options : OptionsRecord)
-        → AreLogs program nodes options (map (λ log. log.items) logs.now)
-        → (flight : List Flying) × AreWoven (map (λ log. log.items) logs.now) events.items flight) }
-    ensures mismatch { result ≡ Err Mismatch → AreAlike (map (λ log. log.items) logs.now) wires.now
+        → AreLogs program nodes options (turns_of_logs logs.now)
+        → (flight : List Flying) × AreWoven (turns_of_logs logs.now) events.items flight) }
+    ensures mismatch { result ≡ Err Mismatch → AreAlike (turns_of_logs logs.now) wires.now
         → ⊥ }
 {
     match woven_run(alloc, logs, wires) {
@@ -73,17 +73,17 @@ pub fn weave_run(
 ) -> Result<WovenRun, WeaveFault>
     requires few { length logs.now ≤ 16 }
     requires each { length wires.now ≡ length logs.now }
-    ensures matched { IfOk result (λ run. AreMatched (map (λ log. log.items) logs.now) wires.now) }
+    ensures matched { IfOk result (λ run. AreMatched (turns_of_logs logs.now) wires.now) }
     ensures woven { IfOk result (λ run. (program : Program) (nodes : ℕ) (options : OptionsRecord)
-        → AreLogs program nodes options (map (λ log. log.items) logs.now)
+        → AreLogs program nodes options (turns_of_logs logs.now)
         → (flight : List Flying) × AreWoven
-        (map (λ log. log.items) logs.now) run.events.items flight) }
+        (turns_of_logs logs.now) run.events.items flight) }
     ensures makes { IfOk result (λ run. (program : Program) (nodes : ℕ) (options : OptionsRecord)
-        → AreLogs program nodes options (map (λ log. log.items) logs.now)
+        → AreLogs program nodes options (turns_of_logs logs.now)
         → MakesRun program nodes options
-        (map (λ log. log.items) logs.now) run.events.items run.acts.items run.in_flight) }
+        (turns_of_logs logs.now) run.events.items run.acts.items run.in_flight) }
     ensures mismatch { result ≡ Err Mismatch → AreMatched
-        (map (λ log. log.items) logs.now) wires.now → ⊥ }
+        (turns_of_logs logs.now) wires.now → ⊥ }
 {
     if !are_all_own(logs, wires) {
         return Err(WeaveFault::Mismatch);
@@ -95,16 +95,16 @@ pub fn weave_run(
 fn woven_run(alloc: Global, logs: &[Vec<Entry>], wires: &[Mailbox]) -> Result<WovenRun, WeaveFault>
     requires few { length logs.now ≤ 16 }
     requires each { length wires.now ≡ length logs.now }
-    ensures alike { IfOk result (λ run. AreAlike (map (λ log. log.items) logs.now) wires.now) }
+    ensures alike { IfOk result (λ run. AreAlike (turns_of_logs logs.now) wires.now) }
     ensures woven { IfOk result (λ run. (program : Program) (nodes : ℕ) (options : OptionsRecord)
-        → AreLogs program nodes options (map (λ log. log.items) logs.now)
+        → AreLogs program nodes options (turns_of_logs logs.now)
         → (flight : List Flying) × AreWoven
-        (map (λ log. log.items) logs.now) run.events.items flight) }
+        (turns_of_logs logs.now) run.events.items flight) }
     ensures makes { IfOk result (λ run. (program : Program) (nodes : ℕ) (options : OptionsRecord)
-        → AreLogs program nodes options (map (λ log. log.items) logs.now)
+        → AreLogs program nodes options (turns_of_logs logs.now)
         → MakesRun program nodes options
-        (map (λ log. log.items) logs.now) run.events.items run.acts.items run.in_flight) }
-    ensures mismatch { result ≡ Err Mismatch → AreAlike (map (λ log. log.items) logs.now) wires.now
+        (turns_of_logs logs.now) run.events.items run.acts.items run.in_flight) }
+    ensures mismatch { result ≡ Err Mismatch → AreAlike (turns_of_logs logs.now) wires.now
         → ⊥ }
 {
     if !are_alike(alloc, logs, wires)? {
@@ -122,13 +122,13 @@ fn woven_run(alloc: Global, logs: &[Vec<Entry>], wires: &[Mailbox]) -> Result<Wo
 pub fn events_of(alloc: Global, logs: &[Vec<Entry>]) -> Result<Vec<Event>, WeaveFault>
     requires few { length logs.now ≤ 16 }
     ensures woven { IfOk result (λ events. (program : Program) (nodes : ℕ) (options : OptionsRecord)
-        → AreLogs program nodes options (map (λ log. log.items) logs.now)
-        → AreTakesSent (map (λ log. log.items) logs.now)
-        → (flight : List Flying) × AreWoven (map (λ log. log.items) logs.now) events.items flight) }
+        → AreLogs program nodes options (turns_of_logs logs.now)
+        → AreTakesSent (turns_of_logs logs.now)
+        → (flight : List Flying) × AreWoven (turns_of_logs logs.now) events.items flight) }
     ensures mismatch { result ≡ Err Mismatch → (program : Program) (nodes : ℕ)
         (options : OptionsRecord)
-        → AreLogs program nodes options (map (λ log. log.items) logs.now)
-        → AreTakesSent (map (λ log. log.items) logs.now)
+        → AreLogs program nodes options (turns_of_logs logs.now)
+        → AreTakesSent (turns_of_logs logs.now)
         → ⊥ }
 {
     match run_of_logs(alloc, logs) {
@@ -149,14 +149,14 @@ pub fn events_with(
 ) -> Result<Vec<Event>, WeaveFault>
     requires few { length logs.now ≤ 16 }
     ensures woven { IfOk result (λ events. (program : Program) (nodes : ℕ) (options : OptionsRecord)
-        → AreLogs program nodes options (map (λ log. log.items) logs.now)
-        → AreTakesSent (map (λ log. log.items) logs.now)
-        → AreWovenWith (map (λ log. log.items) logs.now) node (seen_input input.now) events.items) }
+        → AreLogs program nodes options (turns_of_logs logs.now)
+        → AreTakesSent (turns_of_logs logs.now)
+        → AreWovenWith (turns_of_logs logs.now) node (seen_input input.now) events.items) }
     ensures mismatch { result ≡ Err Mismatch → (program : Program) (nodes : ℕ)
         (options : OptionsRecord)
-        → AreLogs program nodes options (map (λ log. log.items) logs.now)
-        → AreTakesSent (map (λ log. log.items) logs.now)
-        → AreWovenWithout (map (λ log. log.items) logs.now) (seen_input input.now) }
+        → AreLogs program nodes options (turns_of_logs logs.now)
+        → AreTakesSent (turns_of_logs logs.now)
+        → AreWovenWithout (turns_of_logs logs.now) (seen_input input.now) }
 {
     let mut run = run_of_logs(alloc, logs)?;
     let event = event_of(&mut run.flight, node, input, false)?;
@@ -189,21 +189,21 @@ fn whole(run: LogRun) -> WovenRun
 fn run_of_logs(alloc: Global, logs: &[Vec<Entry>]) -> Result<LogRun, WeaveFault>
     requires few { length logs.now ≤ 16 }
     ensures woven { IfOk result (λ run. (program : Program) (nodes : ℕ) (options : OptionsRecord)
-        → AreLogs program nodes options (map (λ log. log.items) logs.now)
-        → AreTakesSent (map (λ log. log.items) logs.now)
+        → AreLogs program nodes options (turns_of_logs logs.now)
+        → AreTakesSent (turns_of_logs logs.now)
         → (flight : List Flying) × AreWoven
-        (map (λ log. log.items) logs.now) run.events.items flight
+        (turns_of_logs logs.now) run.events.items flight
         × (map (λ flying. message_name flying.envelope) flight ≡ run.flight.items)) }
     ensures makes { IfOk result (λ run. (program : Program) (nodes : ℕ) (options : OptionsRecord)
-        → AreLogs program nodes options (map (λ log. log.items) logs.now)
-        → AreTakesSent (map (λ log. log.items) logs.now)
+        → AreLogs program nodes options (turns_of_logs logs.now)
+        → AreTakesSent (turns_of_logs logs.now)
         → MakesRun program nodes options
-        (map (λ log. log.items) logs.now) run.events.items run.acts.items
+        (turns_of_logs logs.now) run.events.items run.acts.items
         (length run.flight.items)) }
     ensures mismatch { result ≡ Err Mismatch → (program : Program) (nodes : ℕ)
         (options : OptionsRecord)
-        → AreLogs program nodes options (map (λ log. log.items) logs.now)
-        → AreTakesSent (map (λ log. log.items) logs.now)
+        → AreLogs program nodes options (turns_of_logs logs.now)
+        → AreTakesSent (turns_of_logs logs.now)
         → ⊥ }
 {
     let again = all_again(alloc, logs)?;

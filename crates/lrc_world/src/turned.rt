@@ -6,7 +6,7 @@ ghost use Rattle.lrc_node.specs.Logged.{seen_input};
 ghost use Rattle.lrc_protocol.specs.declared.event.Event.{Event as AnyEvent};
 ghost use Rattle.lrc_protocol.specs.declared.event.Event.TheVariants as events;
 ghost use Rattle.lrc_protocol.specs.Node.{OptionsRecord};
-ghost use Rattle.lrc_protocol.specs.Run.{EntryRecord, World as Run, run_of};
+ghost use Rattle.lrc_protocol.specs.Run.{EntryRecord, World as Run, run_of, turns_of_logs};
 ghost use Rattle.lrc_world.specs.declared.report.Report.{Report as AnyReport};
 ghost use Rattle.lrc_world.specs.Report.{IsReportOf};
 ghost use Rattle.lrc_world.specs.Turned.{AreAllTurned, HaveLogs, events_in, turned_by, turned_of};
@@ -36,7 +36,7 @@ pub fn turned_events(
 ) -> Result<Vec<Turned>, AllocError>
     ensures { IfOk result (λ turned. (program : Program) (nodes : ℕ) (options : OptionsRecord)
         → nodes ≤ 256
-        → HaveLogs program nodes options events.now (map (λ log. log.items) logs.now)
+        → HaveLogs program nodes options events.now (turns_of_logs logs.now)
         → turned.items ≡ turned_of program nodes options events.now) }
 {
     let mut walk = Walk::new(alloc, logs.len())?;
@@ -100,12 +100,12 @@ impl Walk {
     fn step(&mut self, logs: &[Vec<Entry>], event: Event) -> Result<Option<u8>, AllocError>
         requires { length self.old.come.items ≡ length logs.now }
         ensures node { IfOk result (λ node. node
-            ≡ next_turner (map (λ log. log.items) logs.now) self.old.come.items
+            ≡ next_turner (turns_of_logs logs.now) self.old.come.items
             self.old.flight.items event) }
         ensures come { IfOk result (λ node. self.new.come.items
-            ≡ come_with (map (λ log. log.items) logs.now) self.old.come.items node) }
+            ≡ come_with (turns_of_logs logs.now) self.old.come.items node) }
         ensures flight { IfOk result (λ node. self.new.flight.items
-            ≡ flight_with (map (λ log. log.items) logs.now) self.old.come.items
+            ≡ flight_with (turns_of_logs logs.now) self.old.come.items
             (flight_after self.old.flight.items event node) node) }
     {
         let turner = self.turner(logs, event);
@@ -118,7 +118,7 @@ impl Walk {
     // The node whose turn an event makes. What it takes is no more in flight, if it is not repeated.
     fn turner(&mut self, logs: &[Vec<Entry>], event: Event) -> Option<u8>
         requires { length self.old.come.items ≡ length logs.now }
-        ensures node { result ≡ next_turner (map (λ log. log.items) logs.now) self.old.come.items
+        ensures node { result ≡ next_turner (turns_of_logs logs.now) self.old.come.items
             self.old.flight.items event }
         ensures come { self.new.come ≡ self.old.come }
         ensures flight { self.new.flight.items ≡ flight_after self.old.flight.items event result }
@@ -135,10 +135,10 @@ impl Walk {
         requires { length self.old.come.items ≡ length logs.now }
         ensures come { OnOk result (self.new.come.items
             ≡ come_after self.old.come.items node
-            (next_entry (map (λ log. log.items) logs.now) self.old.come.items node)) }
+            (next_entry (turns_of_logs logs.now) self.old.come.items node)) }
         ensures flight { OnOk result (self.new.flight.items
             ≡ self.old.flight.items ++ receivers_of
-            (next_entry (map (λ log. log.items) logs.now) self.old.come.items node)) }
+            (next_entry (turns_of_logs logs.now) self.old.come.items node)) }
     {
         let Some(entry) = next_entry(logs, self.come.as_slice(), node) else {
             return Ok(());
@@ -167,7 +167,7 @@ fn note(turned: &mut Vec<Turned>, event: Event, node: Option<u8>) -> Result<(), 
 fn next_entry<'l>(logs: &'l [Vec<Entry>], come: &[usize], node: usize) -> Option<&'l Entry>
     requires { length come.now ≡ length logs.now }
     ensures { option_map (λ entry. entry.now) result
-        ≡ next_entry (map (λ log. log.items) logs.now) come.now node }
+        ≡ next_entry (turns_of_logs logs.now) come.now node }
 {
     if node < logs.len() {
         logs[node].get(come[node])
@@ -179,7 +179,7 @@ fn next_entry<'l>(logs: &'l [Vec<Entry>], come: &[usize], node: usize) -> Option
 // The node of this number, where its next turn is one that it makes by itself.
 fn runner(logs: &[Vec<Entry>], come: &[usize], node: u32) -> Option<u8>
     requires { length come.now ≡ length logs.now }
-    ensures { result ≡ next_turner (map (λ log. log.items) logs.now) come.now [] (events.Run node) }
+    ensures { result ≡ next_turner (turns_of_logs logs.now) come.now [] (events.Run node) }
 {
     let Ok(number) = u8::try_from(node) else {
         return None;

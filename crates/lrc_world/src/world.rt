@@ -5,6 +5,7 @@ ghost use Rattle.std.specs.Prelude.{◌≡◌, ℕ, ◌≤◌, ◌<◌, ◌^◌,
 ghost use Rattle.std.specs.Prelude.{List, Some, filter, length, map, remove, slice_get, slice_set};
 ghost use Rattle.std.specs.List.{list_any, range_with_len};
 ghost use Rattle.std.specs.Option.{option_to_list};
+ghost use Rattle.lrc_protocol.specs.Run.{turns_of_logs};
 ghost use Rattle.lrc_judge.specs.declared.TheConstants.{NODES};
 ghost use Rattle.lrc_wire.specs.Reading.{envelope_of};
 ghost use Rattle.lrc_protocol.specs.Run.{World as Run, Flying as Sent, fresh_world, event_on, with_mark, EntryRecord};
@@ -495,7 +496,7 @@ fn parts_of(
     alloc: Global,
     nodes: Vec<Logged<'_>>,
 ) -> Result<(Vec<Vec<Entry>>, Vec<Trace>), AllocError>
-    ensures logs { IfOk result (λ parts. map (λ log. log.items) parts.0.items
+    ensures logs { IfOk result (λ parts. turns_of_logs parts.0.items
         ≡ map (λ node. node.logged.log) nodes.entry.items) }
     ensures traces { IfOk result (λ parts. parts.1.items
         ≡ map (λ node. node.trace) nodes.entry.items) }
