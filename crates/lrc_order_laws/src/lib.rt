@@ -7,3 +7,4 @@ pub mod cover;
 pub mod laws;
 pub mod locks;
 pub mod synchronization;
+pub mod times;

@@ -120,7 +120,7 @@ pub fn acts_follow_the_text()
         (thread_of l.node.course) }
 {}
 
-/// In every run each act has exactly one time. (The law `times_are_those_of_the_nodes` of lrc_timed says which: the
+/// In every run each act has exactly one time. (The law `times_are_those_of_the_nodes` of lrc_order_laws says which: the
 /// time of the acting node just after the act.)
 pub fn each_act_has_its_time()
     ensures { (program : Program) (nodes : ℕ) (options : OptionsRecord) (events : List Event)

@@ -1,5 +1,4 @@
-// What the times of acts are in a run of the protocol machine. Each function is a theorem: its body is empty, and its clauses are the
-// law.
+// The times of acts in a run of the protocol machine. Each function is a theorem: its body is empty, and its clauses are the law.
 
 ghost use Rattle.std.specs.Prelude.{◌≡◌, ◌<◌, ℕ, All, List, Some};
 ghost use Rattle.lrc_lang.specs.declared.program.Program.{Program};

@@ -2,10 +2,10 @@
 
 ghost use Rattle.std.specs.Prelude.{◌≡◌, ◌<◌, ◌≤◌, IfSome, OnOk, length, slice_index_or};
 ghost use Rattle.lrc_judge.specs.declared.TheConstants.{NODES};
-ghost use Rattle.lrc_timed.specs.declared.past.TheConstants.{LOCKS};
+ghost use Rattle.lrc_clock.specs.declared.past.TheConstants.{LOCKS};
 ghost use Rattle.lrc_time.specs.Time.{entry, zeros};
 ghost use Rattle.lrc_clock.specs.Times.{raised, time_or_zeros};
-ghost use Rattle.lrc_timed.specs.Joined.{IsJoined};
+ghost use Rattle.lrc_clock.specs.Joined.{IsJoined};
 
 use lrc_judge::NODES;
 use lrc_time::Time;
@@ -82,7 +82,7 @@ impl Past {
     ghost use Rattle.lrc_trace.specs.Run.{departs_before};
     ghost use Rattle.lrc_clock.specs.Keeping.{KeepsTime, next_act_time};
     ghost use Rattle.lrc_clock.specs.Times.{arrived_time, released_time, time_before};
-    ghost use Rattle.lrc_timed.specs.Past.{IsTimedPast};
+    ghost use Rattle.lrc_clock.specs.Past.{IsTimedPast};
 
     /// Returns the past before any act.
     pub(crate) fn new(alloc: Global) -> Past
