@@ -10,10 +10,10 @@ ghost use Rattle.lrc_breadth.specs.Reached.{CannotTake, HasTakenTo, IsKeyOf, IsT
 ghost use Rattle.lrc_breadth.specs.Answers.{IsFault, IsLongFault};
 
 use crate::task::{Found, Origin, Task};
+use lrc_exec::state::State;
 use lrc_explore::noted::Noted;
 use lrc_explore::notes::note;
 use lrc_explore::search::ExploreFault;
-use lrc_exec::state::State;
 use lrc_live::forget_dead;
 use lrc_steps::settle::settle;
 use lrc_steps::step::{Step, all_wait, contended_deed, count, take_alone, take_together};
@@ -22,7 +22,8 @@ use std::alloc::{AllocError, Global};
 
 // Says no where more was to be looked at than may be.
 fn or_too_many(done: bool) -> Result<(), ExploreFault>
-    ensures { MatchResult result (λ _. done ≡ true) (λ fault. (fault ≡ ExploreFault.TooMany) × (done ≡ false)) }
+    ensures { MatchResult result (λ _. done ≡ true)
+        (λ fault. (fault ≡ ExploreFault.TooMany) × (done ≡ false)) }
 {
     if done {
         Ok(())
@@ -31,7 +32,8 @@ fn or_too_many(done: bool) -> Result<(), ExploreFault>
     }
 }
 
-/// The state that a step leads to, if it can be taken: puts the acts behind those that are there.
+/// Returns the state that a step leads to, or none if the step cannot be taken. It appends the acts to `acts`. It fails
+/// if memory runs out, or if a node makes so many free acts that the limit is reached.
 pub fn taken(
     alloc: Global,
     task: &Task<'_>,
@@ -43,7 +45,8 @@ pub fn taken(
     requires state { IsStateOf task.now.flat state.now }
     requires counted { IsCounted state.now }
     requires settled { IsSettled (plain_at task.now.flat state.now) }
-    ensures taken { IfOk result (λ after. MatchOption after (CannotTake task.now state.now step) (HasTakenTo task.now state.now step acts.old.items acts.new.items)) }
+    ensures taken { IfOk result (λ after. MatchOption after (CannotTake task.now state.now step)
+        (HasTakenTo task.now state.now step acts.old.items acts.new.items)) }
     ensures faults { IfErr result (IsLongFault task.now state.now) }
 {
     match step {
@@ -64,7 +67,9 @@ fn taken_alone(
     requires state { IsStateOf task.now.flat state.now }
     requires counted { IsCounted state.now }
     requires settled { IsSettled (plain_at task.now.flat state.now) }
-    ensures taken { IfOk result (λ after. MatchOption after (CannotTake task.now state.now (Alone node)) (HasTakenTo task.now state.now (Alone node) acts.old.items acts.new.items)) }
+    ensures taken { IfOk result (λ after. MatchOption after
+        (CannotTake task.now state.now (Alone node))
+        (HasTakenTo task.now state.now (Alone node) acts.old.items acts.new.items)) }
     ensures faults { IfErr result (IsLongFault task.now state.now) }
 {
     let Some(deed) = contended_deed(&task.flat, state, node) else {
@@ -86,7 +91,8 @@ fn taken_together(
     requires task { IsTask task.now }
     requires state { IsStateOf task.now.flat state.now }
     requires counted { IsCounted state.now }
-    ensures taken { IfOk result (λ after. MatchOption after (CannotTake task.now state.now Together) (HasTakenTo task.now state.now Together acts.old.items acts.new.items)) }
+    ensures taken { IfOk result (λ after. MatchOption after (CannotTake task.now state.now Together)
+        (HasTakenTo task.now state.now Together acts.old.items acts.new.items)) }
     ensures faults { IfErr result (IsLongFault task.now state.now) }
 {
     if !all_wait(&task.flat, state) {
@@ -98,7 +104,8 @@ fn taken_together(
     Ok(Some(after))
 }
 
-/// The settled start: puts the acts behind those that are there.
+/// Returns the settled start, and appends its acts to `acts`. It fails if memory runs out, or if a node makes so many
+/// free acts that the limit is reached.
 pub fn settled_start(
     alloc: Global,
     task: &Task<'_>,
@@ -116,7 +123,7 @@ pub fn settled_start(
     Ok(state)
 }
 
-/// What is kept of a state to which these acts led, behind notes.
+/// Returns what is kept of a state to which these acts led, after `notes`.
 fn key_of(
     alloc: Global,
     task: &Task<'_>,
@@ -142,7 +149,8 @@ fn notes_on(
     notes: &[Act],
     acts: &[Act],
 ) -> Result<Vec<Act>, AllocError>
-    ensures noted { IfOk result (λ all. task.now.noting ≡ true → all.items ≡ noted_on notes.now acts.now) }
+    ensures noted { IfOk result (λ all. task.now.noting ≡ true
+        → all.items ≡ noted_on notes.now acts.now) }
     ensures bare { IfOk result (λ all. task.now.noting ≡ false → all.items ≡ []) }
 {
     let mut all = Vec::new(alloc);
@@ -172,7 +180,7 @@ impl Found {
     ghost use Rattle.lrc_breadth.specs.Reached.{AreFound, ComesFrom, HasAfter, HasStart, IsExpanded, IsKept, IsMore, IsReached, IsTask};
     ghost use Rattle.lrc_breadth.specs.Answers.{IsFault};
 
-    /// No states.
+    /// Makes a list without states.
     pub fn none(alloc: Global) -> Found
         ensures none { noted_count result.states ≡ 0 }
         ensures distinct { AreNotedDistinct result.states }
@@ -184,7 +192,7 @@ impl Found {
         }
     }
 
-    /// Adds the settled start, where there are no states yet.
+    /// Adds the settled start. There must be no states yet.
     pub fn begin(&mut self, alloc: Global, task: &Task<'_>) -> Result<(), ExploreFault>
         requires task { IsTask task.now }
         requires none { noted_count self.old.states ≡ 0 }
@@ -227,7 +235,7 @@ impl Found {
         Ok(())
     }
 
-    /// The states that a step leads to from one of them.
+    /// Adds the states that a step leads to from one of them.
     pub fn expand(
         &mut self,
         alloc: Global,
