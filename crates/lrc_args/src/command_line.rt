@@ -16,8 +16,7 @@ ghost use Rattle.lrc_args.specs.declared.misfit.Misfit.TheVariants as unfit;
 
 use crate::chart::chart_choice;
 use crate::choice::{
-    Choice, ChooseFault, CommandName, Judging, PlainRun, Racing, Request, Shape, Topic,
-    TraceForm,
+    Choice, ChooseFault, CommandName, Judging, PlainRun, Racing, Request, Shape, Topic, TraceForm,
 };
 use crate::explore::explore_choice;
 use crate::misfit::{Misfit, fault_of_misfit};

@@ -9,9 +9,7 @@ ghost use Rattle.lrc_args.specs.declared.misfit.Misfit.TheVariants as unfit;
 
 use crate::choice::{Choice, Exploring, Memory};
 use crate::misfit::Misfit;
-use crate::reading::{
-    is_named, most_of, nodes_of, outcome_of, some_number_of, text_of, tries_of,
-};
+use crate::reading::{is_named, most_of, nodes_of, outcome_of, some_number_of, text_of, tries_of};
 use clap::ArgMatches;
 
 /// The choice of `explore`.
@@ -40,7 +38,8 @@ pub(crate) fn explore_choice<'w>(options: &ArgMatches<'w>) -> Result<Choice<'w>,
 
 fn memory_named(word: &str) -> Result<Memory, Misfit>
     ensures ok { IfOk result (IsMemory (Some word.now)) }
-    ensures err { IfErr result (λ misfit. (misfit ≡ unfit.Memory) × ((memory : AnyMemory) → ¬ IsMemory (Some word.now) memory)) }
+    ensures err { IfErr result (λ misfit. (misfit ≡ unfit.Memory)
+        × ((memory : AnyMemory) → ¬ IsMemory (Some word.now) memory)) }
 {
     if word == "flat" {
         Ok(Memory::Flat)

@@ -167,8 +167,10 @@ pub(crate) fn most_of(options: &ArgMatches<'_>) -> Result<Most, Misfit>
 /// is not 1 to 1,000,000.
 pub(crate) fn tries_of(options: &ArgMatches<'_>) -> Result<Option<Tries>, Misfit>
     requires { IsBareNumber (codes "tries") (rows_of (found_of options.now)) }
-    ensures ok { IfOk result (λ tries. tries_in (rows_of (found_of options.now)) ≡ option_map (λ tries. tries.count) tries) }
-    ensures err { IfErr result (λ misfit. (misfit ≡ unfit.Number) × IsSomeAnd (tries_in (rows_of (found_of options.now))) (IsOutOfRange 1 1000000)) }
+    ensures ok { IfOk result (λ tries. tries_in (rows_of (found_of options.now))
+        ≡ option_map (λ tries. tries.count) tries) }
+    ensures err { IfErr result (λ misfit. (misfit ≡ unfit.Number)
+        × IsSomeAnd (tries_in (rows_of (found_of options.now))) (IsOutOfRange 1 1000000)) }
 {
     match some_number_of(options, "tries") {
         None => Ok(None),

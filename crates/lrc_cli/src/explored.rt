@@ -63,7 +63,10 @@ fn of_flat(
     lines: &[u32],
 ) -> Result<Printout, Fault>
     requires { IsTextOf text.now program.now }
-    ensures ok { IfOk result (λ printout. IsFlatAnswer exploring.now.outcome exploring.now (labels_in text.now program.now) program.now lines.now (whole_text printout.parts.items) printout.status) }
+    ensures ok { IfOk result (λ printout.
+        IsFlatAnswer exploring.now.outcome exploring.now
+        (labels_in text.now program.now) program.now lines.now
+        (whole_text printout.parts.items) printout.status) }
     ensures err { IfErr result (IsFlatFault exploring.now.outcome exploring.now program.now) }
 {
     match exploring.outcome {
@@ -81,8 +84,12 @@ fn of_lazy(
     lines: &[u32],
 ) -> Result<Printout, Fault>
     requires { IsTextOf text.now program.now }
-    ensures ok { IfOk result (λ printout. IsLazyAnswer exploring.now.outcome exploring.now.outcomes exploring.now (labels_in text.now program.now) program.now lines.now (whole_text printout.parts.items) printout.status) }
-    ensures err { IfErr result (IsLazyFault exploring.now.outcome exploring.now.outcomes exploring.now program.now) }
+    ensures ok { IfOk result (λ printout.
+        IsLazyAnswer exploring.now.outcome exploring.now.outcomes exploring.now
+        (labels_in text.now program.now) program.now lines.now
+        (whole_text printout.parts.items) printout.status) }
+    ensures err { IfErr result (IsLazyFault exploring.now.outcome exploring.now.outcomes
+        exploring.now program.now) }
 {
     match exploring.outcome {
         Some(outcome) => one_lazy_run(alloc, exploring, program, lines, outcome.number),
@@ -168,7 +175,9 @@ fn all_lazy_runs(
     exploring: &Exploring<'_>,
     program: &Program,
 ) -> Result<Printout, Fault>
-    ensures ok { IfOk result (λ printout. ShowsLazyOutcomes exploring.now program.now (whole_text printout.parts.items) printout.status) }
+    ensures ok { IfOk result (λ printout.
+        ShowsLazyOutcomes exploring.now program.now
+        (whole_text printout.parts.items) printout.status) }
     ensures err { IfErr result (HasLazyFault exploring.now program.now) }
 {
     let most = exploring.most.count;
@@ -205,7 +214,9 @@ fn one_lazy_run(
     number: u64,
 ) -> Result<Printout, Fault>
     requires { 1 ≤ number }
-    ensures ok { IfOk result (λ printout. ShowsLazyRun exploring.now program.now lines.now number (whole_text printout.parts.items) printout.status) }
+    ensures ok { IfOk result (λ printout.
+        ShowsLazyRun exploring.now program.now lines.now number
+        (whole_text printout.parts.items) printout.status) }
     ensures err { IfErr result (HasLazyRunFault exploring.now program.now number) }
 {
     let most = exploring.most.count;

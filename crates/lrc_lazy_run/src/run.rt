@@ -25,9 +25,11 @@ pub fn lazy_run_with(
     notes: &[Act],
 ) -> Result<Option<Vec<Act>>, ExploreFault>
     requires { AreNodes nodes }
-    ensures run { IfOk result (λ run. IsLazyRunFor program.now nodes notes.now (option_map (λ acts. acts.items) run)) }
+    ensures run { IfOk result (λ run. IsLazyRunFor program.now nodes notes.now
+        (option_map (λ acts. acts.items) run)) }
     ensures nodes { IfErr result (λ fault. fault ≢ ExploreFault.BadNodes) }
-    ensures too_many { IfErr result (λ fault. fault ≡ ExploreFault.TooMany → MeetsMore program.now nodes most) }
+    ensures too_many { IfErr result (λ fault. fault ≡ ExploreFault.TooMany
+        → MeetsMore program.now nodes most) }
 {
     let code = Code::new(alloc, program)?;
     run_in(alloc, &code, nodes, most, notes)
@@ -42,9 +44,11 @@ fn run_in(
     notes: &[Act],
 ) -> Result<Option<Vec<Act>>, ExploreFault>
     requires { AreNodes nodes }
-    ensures run { IfOk result (λ run. IsLazyRunFor code.now nodes notes.now (option_map (λ acts. acts.items) run)) }
+    ensures run { IfOk result (λ run. IsLazyRunFor code.now nodes notes.now
+        (option_map (λ acts. acts.items) run)) }
     ensures nodes { IfErr result (λ fault. fault ≢ ExploreFault.BadNodes) }
-    ensures too_many { IfErr result (λ fault. fault ≡ ExploreFault.TooMany → MeetsMore code.now nodes most) }
+    ensures too_many { IfErr result (λ fault. fault ≡ ExploreFault.TooMany
+        → MeetsMore code.now nodes most) }
 {
     let sought = sought_in(code, nodes, most);
     run_of(alloc, &sought, notes)
@@ -57,9 +61,11 @@ fn run_of(
     notes: &[Act],
 ) -> Result<Option<Vec<Act>>, ExploreFault>
     requires { IsSought sought.now }
-    ensures run { IfOk result (λ run. IsLazyRunFor sought.now.program.now sought.now.flat.nodes notes.now (option_map (λ acts. acts.items) run)) }
+    ensures run { IfOk result (λ run. IsLazyRunFor sought.now.program.now sought.now.flat.nodes
+        notes.now (option_map (λ acts. acts.items) run)) }
     ensures nodes { IfErr result (λ fault. fault ≢ ExploreFault.BadNodes) }
-    ensures too_many { IfErr result (λ fault. fault ≡ ExploreFault.TooMany → MeetsMore sought.now.program.now sought.now.flat.nodes sought.now.most) }
+    ensures too_many { IfErr result (λ fault. fault ≡ ExploreFault.TooMany
+        → MeetsMore sought.now.program.now sought.now.flat.nodes sought.now.most) }
 {
     let mut ways = Ways::begin(alloc, sought)?;
     match ways.find(alloc, sought, notes)? {

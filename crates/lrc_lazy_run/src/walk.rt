@@ -28,7 +28,8 @@ impl Ways {
         ensures ways { OnOk result (AreWays sought.now self.new) }
         ensures found { IfOk result (IsEndFor sought.now self.new.states.keys notes.now) }
         ensures nodes { IfErr result (λ fault. fault ≢ ExploreFault.BadNodes) }
-        ensures too_many { IfErr result (λ fault. fault ≡ ExploreFault.TooMany → MeetsMore sought.now.program.now sought.now.flat.nodes sought.now.most) }
+        ensures too_many { IfErr result (λ fault. fault ≡ ExploreFault.TooMany
+            → MeetsMore sought.now.program.now sought.now.flat.nodes sought.now.most) }
     {
         match self.find_by_steps(alloc, sought, notes)? {
             Some(place) => Ok(Some(place)),
@@ -49,7 +50,8 @@ impl Ways {
         ensures ways { OnOk result (AreWays sought.now self.new) }
         ensures found { IfOk result (IsEndIfFound sought.now self.new.states.keys notes.now) }
         ensures nodes { IfErr result (λ fault. fault ≢ ExploreFault.BadNodes) }
-        ensures too_many { IfErr result (λ fault. fault ≡ ExploreFault.TooMany → MeetsMore sought.now.program.now sought.now.flat.nodes sought.now.most) }
+        ensures too_many { IfErr result (λ fault. fault ≡ ExploreFault.TooMany
+            → MeetsMore sought.now.program.now sought.now.flat.nodes sought.now.most) }
     {
         self.settle(alloc, sought, 0)?;
         let mut next = 0;
@@ -76,7 +78,8 @@ impl Ways {
         ensures ways { OnOk result (AreWays sought.now self.new) }
         ensures found { IfOk result (IsEndFor sought.now self.new.states.keys notes.now) }
         ensures nodes { IfErr result (λ fault. fault ≢ ExploreFault.BadNodes) }
-        ensures too_many { IfErr result (λ fault. fault ≡ ExploreFault.TooMany → MeetsMore sought.now.program.now sought.now.flat.nodes sought.now.most) }
+        ensures too_many { IfErr result (λ fault. fault ≡ ExploreFault.TooMany
+            → MeetsMore sought.now.program.now sought.now.flat.nodes sought.now.most) }
     {
         let mut place = 0;
         while place < self.states.len() {
@@ -101,9 +104,11 @@ impl Ways {
         requires within { place < length self.old.states.keys }
         ensures ways { OnOk result (AreWays sought.now self.new) }
         ensures grows { OnOk result (Grows self.old.states.keys self.new.states.keys) }
-        ensures all { OnOk result ((node : ℕ) → HasAllStepsAt sought.now.flat self.new.states.keys place node) }
+        ensures all { OnOk result ((node : ℕ) → HasAllStepsAt sought.now.flat self.new.states.keys
+            place node) }
         ensures nodes { IfErr result (λ fault. fault ≢ ExploreFault.BadNodes) }
-        ensures too_many { IfErr result (λ fault. fault ≡ ExploreFault.TooMany → MeetsMore sought.now.program.now sought.now.flat.nodes sought.now.most) }
+        ensures too_many { IfErr result (λ fault. fault ≡ ExploreFault.TooMany
+            → MeetsMore sought.now.program.now sought.now.flat.nodes sought.now.most) }
     {
         for node in 0..sought.flat.nodes as usize {
             self.add_of(alloc, sought, place, node)?;
@@ -126,7 +131,8 @@ impl Ways {
         ensures grows { OnOk result (Grows self.old.states.keys self.new.states.keys) }
         ensures all { OnOk result (HasAllStepsAt sought.now.flat self.new.states.keys place node) }
         ensures nodes { IfErr result (λ fault. fault ≢ ExploreFault.BadNodes) }
-        ensures too_many { IfErr result (λ fault. fault ≡ ExploreFault.TooMany → MeetsMore sought.now.program.now sought.now.flat.nodes sought.now.most) }
+        ensures too_many { IfErr result (λ fault. fault ≡ ExploreFault.TooMany
+            → MeetsMore sought.now.program.now sought.now.flat.nodes sought.now.most) }
     {
         let deeds = self.deeds_at(alloc, sought, place, node)?;
         for index in 0..deeds.len() {
@@ -150,7 +156,8 @@ impl Ways {
         ensures ways { OnOk result (AreWays sought.now self.new) }
         ensures grows { OnOk result (Grows self.old.states.keys self.new.states.keys) }
         ensures nodes { IfErr result (λ fault. fault ≢ ExploreFault.BadNodes) }
-        ensures too_many { IfErr result (λ fault. fault ≡ ExploreFault.TooMany → MeetsMore sought.now.program.now sought.now.flat.nodes sought.now.most) }
+        ensures too_many { IfErr result (λ fault. fault ≡ ExploreFault.TooMany
+            → MeetsMore sought.now.program.now sought.now.flat.nodes sought.now.most) }
     {
         let mut at = place;
         while let Some((node, deed)) = self.free_act(alloc, sought, at)? {
@@ -195,7 +202,8 @@ impl Ways {
         requires within { place < length self.old.states.keys }
         ensures ways { OnOk result (AreWays sought.now self.new) }
         ensures nodes { IfErr result (λ fault. fault ≢ ExploreFault.BadNodes) }
-        ensures too_many { IfErr result (λ fault. fault ≡ ExploreFault.TooMany → MeetsMore sought.now.program.now sought.now.flat.nodes sought.now.most) }
+        ensures too_many { IfErr result (λ fault. fault ≡ ExploreFault.TooMany
+            → MeetsMore sought.now.program.now sought.now.flat.nodes sought.now.most) }
     {
         match self.reader(alloc, sought, place)? {
             Some(node) => self.read_each(alloc, sought, place, node),
@@ -235,7 +243,8 @@ impl Ways {
         requires within { place < length self.old.states.keys }
         ensures ways { OnOk result (AreWays sought.now self.new) }
         ensures nodes { IfErr result (λ fault. fault ≢ ExploreFault.BadNodes) }
-        ensures too_many { IfErr result (λ fault. fault ≡ ExploreFault.TooMany → MeetsMore sought.now.program.now sought.now.flat.nodes sought.now.most) }
+        ensures too_many { IfErr result (λ fault. fault ≡ ExploreFault.TooMany
+            → MeetsMore sought.now.program.now sought.now.flat.nodes sought.now.most) }
     {
         let deeds = self.deeds_at(alloc, sought, place, node)?;
         let mut last = None;
@@ -261,7 +270,8 @@ impl Ways {
         requires within { place < length self.old.states.keys }
         ensures ways { OnOk result (AreWays sought.now self.new) }
         ensures nodes { IfErr result (λ fault. fault ≢ ExploreFault.BadNodes) }
-        ensures too_many { IfErr result (λ fault. fault ≡ ExploreFault.TooMany → MeetsMore sought.now.program.now sought.now.flat.nodes sought.now.most) }
+        ensures too_many { IfErr result (λ fault. fault ≡ ExploreFault.TooMany
+            → MeetsMore sought.now.program.now sought.now.flat.nodes sought.now.most) }
     {
         for node in 0..sought.flat.nodes as usize {
             let deeds = self.deeds_at(alloc, sought, place, node)?;
@@ -292,7 +302,8 @@ impl Ways {
         ensures ways { OnOk result (AreWays sought.now self.new) }
         ensures grows { OnOk result (Grows self.old.states.keys self.new.states.keys) }
         ensures nodes { IfErr result (λ fault. fault ≢ ExploreFault.BadNodes) }
-        ensures too_many { IfErr result (λ fault. fault ≡ ExploreFault.TooMany → MeetsMore sought.now.program.now sought.now.flat.nodes sought.now.most) }
+        ensures too_many { IfErr result (λ fault. fault ≡ ExploreFault.TooMany
+            → MeetsMore sought.now.program.now sought.now.flat.nodes sought.now.most) }
     {
         match self.step(alloc, sought, place, node, deed)? {
             Some(next) => self.settle(alloc, sought, next),
@@ -312,7 +323,8 @@ impl Ways {
         requires within { place < length self.old.states.keys }
         ensures ways { OnOk result (AreWays sought.now self.new) }
         ensures nodes { IfErr result (λ fault. fault ≢ ExploreFault.BadNodes) }
-        ensures too_many { IfErr result (λ fault. fault ≡ ExploreFault.TooMany → MeetsMore sought.now.program.now sought.now.flat.nodes sought.now.most) }
+        ensures too_many { IfErr result (λ fault. fault ≡ ExploreFault.TooMany
+            → MeetsMore sought.now.program.now sought.now.flat.nodes sought.now.most) }
     {
         match self.departed(alloc, sought, place)? {
             Some(at) => self.settle(alloc, sought, at),
@@ -334,7 +346,8 @@ impl Ways {
         ensures found { IfOk result (λ at. IfSome at (λ at. (at < length self.new.states.keys)
             × (length self.new.settled.items < length self.new.states.keys))) }
         ensures nodes { IfErr result (λ fault. fault ≢ ExploreFault.BadNodes) }
-        ensures too_many { IfErr result (λ fault. fault ≡ ExploreFault.TooMany → MeetsMore sought.now.program.now sought.now.flat.nodes sought.now.most) }
+        ensures too_many { IfErr result (λ fault. fault ≡ ExploreFault.TooMany
+            → MeetsMore sought.now.program.now sought.now.flat.nodes sought.now.most) }
     {
         let mut at = None;
         for node in 0..sought.flat.nodes as usize {

@@ -64,9 +64,11 @@ impl Ways {
         requires sought { IsSought sought.now }
         requires ways { AreWays sought.now self.now }
         requires within { place < length self.now.states.keys }
-        ensures sound { IfOk result (λ deeds. (k : ℕ) (deed : DeedType) → slice_get deeds.items k ≡ Some deed
+        ensures sound { IfOk result (λ deeds. (k : ℕ) (deed : DeedType)
+            → slice_get deeds.items k ≡ Some deed
             → CanMakeAt sought.now.flat self.now.states.keys place node deed) }
-        ensures all { IfOk result (λ deeds. (deed : DeedType) → CanMakeAt sought.now.flat self.now.states.keys place node deed
+        ensures all { IfOk result (λ deeds. (deed : DeedType)
+            → CanMakeAt sought.now.flat self.now.states.keys place node deed
             → (k : ℕ) × (slice_get deeds.items k ≡ Some deed)) }
     {
         self.states.as_slice()[place].deeds(alloc, &sought.flat, node)
@@ -89,9 +91,11 @@ impl Ways {
         ensures grows { OnOk result (Grows self.old.states.keys self.new.states.keys) }
         ensures same { OnOk result (self.new.settled ≡ self.old.settled) }
         ensures has { OnOk result (HasStepAt sought.now.flat self.new.states.keys place node deed) }
-        ensures found { IfOk result (IsFound sought.now.most self.old.states.keys self.new.states.keys) }
+        ensures found { IfOk result (IsFound sought.now.most self.old.states.keys
+            self.new.states.keys) }
         ensures nodes { IfErr result (λ fault. fault ≢ ExploreFault.BadNodes) }
-        ensures too_many { IfErr result (λ fault. fault ≡ ExploreFault.TooMany → MeetsMore sought.now.program.now sought.now.flat.nodes sought.now.most) }
+        ensures too_many { IfErr result (λ fault. fault ≡ ExploreFault.TooMany
+            → MeetsMore sought.now.program.now sought.now.flat.nodes sought.now.most) }
     {
         let next = self.states.as_slice()[place].after(alloc, &sought.flat, node, deed)?;
         let act = Act {
@@ -113,8 +117,10 @@ impl Ways {
         origin: Origin,
     ) -> Result<Option<usize>, AllocError>
         requires kept { AreKept sought.now self.old }
-        requires reached { IsReached sought.now.program.now sought.now.flat state (length self.old.states.keys) }
-        requires comes { ComesFrom sought.now.flat self.old.states.keys (length self.old.states.keys) origin state }
+        requires reached { IsReached sought.now.program.now sought.now.flat state
+            (length self.old.states.keys) }
+        requires comes { ComesFrom sought.now.flat self.old.states.keys
+            (length self.old.states.keys) origin state }
         ensures kept { OnOk result (AreKept sought.now self.new) }
         ensures grows { OnOk result (Grows self.old.states.keys self.new.states.keys) }
         ensures same { OnOk result (self.new.settled ≡ self.old.settled) }
@@ -154,7 +160,8 @@ impl Ways {
         requires sought { IsSought sought.now }
         requires ways { AreWays sought.now self.now }
         requires within { place < length self.now.states.keys }
-        ensures { IfOk result (λ ends. IsTrue ends ↔ IsEndWith sought.now.flat self.now.states.keys place notes.now) }
+        ensures { IfOk result (λ ends. IsTrue ends
+            ↔ IsEndWith sought.now.flat self.now.states.keys place notes.now) }
     {
         let still = self.is_still_at(alloc, sought, place)?;
         Ok(still && self.has_notes_at(place, notes))
@@ -170,7 +177,8 @@ impl Ways {
         requires sought { IsSought sought.now }
         requires ways { AreWays sought.now self.now }
         requires within { place < length self.now.states.keys }
-        ensures { IfOk result (λ still. IsTrue still ↔ IsStillAt sought.now.flat self.now.states.keys place) }
+        ensures { IfOk result (λ still. IsTrue still
+            ↔ IsStillAt sought.now.flat self.now.states.keys place) }
     {
         for node in 0..sought.flat.nodes as usize {
             let deeds = self.deeds_at(alloc, sought, place, node)?;

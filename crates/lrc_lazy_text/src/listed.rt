@@ -30,9 +30,11 @@ pub fn lazy_outcomes_told(
     most: usize,
     tries: Option<u32>,
 ) -> Result<Vec<Vec<u8>>, ExploreFault>
-    ensures told { IfOk result (λ parts. TellsLazyOutcomes program.now nodes.count tries (whole_text parts.items)) }
+    ensures told { IfOk result (λ parts. TellsLazyOutcomes program.now nodes.count tries
+        (whole_text parts.items)) }
     ensures nodes { IfErr result (λ fault. fault ≢ ExploreFault.BadNodes) }
-    ensures too_many { IfErr result (λ fault. fault ≡ ExploreFault.TooMany → MetTooManyLazily program.now nodes.count most) }
+    ensures too_many { IfErr result (λ fault. fault ≡ ExploreFault.TooMany
+        → MetTooManyLazily program.now nodes.count most) }
 {
     let found = lazy_outcomes(alloc, program, nodes.count, most)?;
     let outcomes = found.as_slice();
@@ -49,7 +51,8 @@ fn seeds_for(
     tries: Option<u32>,
     outcomes: &[Outcome],
 ) -> Result<Vec<Option<u64>>, AllocError>
-    ensures { IfOk result (λ seeds. AreSeedsFor program.now nodes.count tries outcomes.now seeds.items) }
+    ensures { IfOk result (λ seeds. AreSeedsFor program.now nodes.count tries outcomes.now
+        seeds.items) }
 {
     match tries {
         Some(tries) => least_seeds(alloc, program, nodes, tries, outcomes),
@@ -65,7 +68,8 @@ fn outcomes_listed(
     seeds: &[Option<u64>],
 ) -> Result<Vec<Vec<u8>>, AllocError>
     requires { length seeds.now ≡ length outcomes.now }
-    ensures { IfOk result (λ parts. ListsLazyOutcomes nodes outcomes.now seeds.now (whole_text parts.items)) }
+    ensures { IfOk result (λ parts. ListsLazyOutcomes nodes outcomes.now seeds.now
+        (whole_text parts.items)) }
 {
     let told = sorted_lines(alloc, nodes, outcomes, seeds)?;
     let head = head_of(alloc, outcomes.len())?;

@@ -27,9 +27,11 @@ pub fn lazy_run_told(
     number: u64,
 ) -> Result<Option<Vec<u8>>, ExploreFault>
     requires { 1 ≤ number }
-    ensures told { IfOk result (λ told. TellsLazyRunOfNumber program.now nodes.count lines.now number (option_map (λ text. text.items) told)) }
+    ensures told { IfOk result (λ told. TellsLazyRunOfNumber program.now nodes.count lines.now
+        number (option_map (λ text. text.items) told)) }
     ensures nodes { IfErr result (λ fault. fault ≢ ExploreFault.BadNodes) }
-    ensures too_many { IfErr result (λ fault. fault ≡ ExploreFault.TooMany → MetTooManyLazily program.now nodes.count most) }
+    ensures too_many { IfErr result (λ fault. fault ≡ ExploreFault.TooMany
+        → MetTooManyLazily program.now nodes.count most) }
 {
     let count = nodes.number();
     let found = lazy_outcomes(alloc, program, nodes.count, most)?;
@@ -56,9 +58,11 @@ fn run_at(
 ) -> Result<Vec<Act>, ExploreFault>
     requires are { AreLazyOutcomes program.now nodes.count outcomes.now }
     requires within { place < length outcomes.now }
-    ensures run { IfOk result (λ acts. IsLazyRunAt program.now nodes.count outcomes.now place acts.items) }
+    ensures run { IfOk result (λ acts. IsLazyRunAt program.now nodes.count outcomes.now place
+        acts.items) }
     ensures nodes { IfErr result (λ fault. fault ≢ ExploreFault.BadNodes) }
-    ensures too_many { IfErr result (λ fault. fault ≡ ExploreFault.TooMany → MetTooManyLazily program.now nodes.count most) }
+    ensures too_many { IfErr result (λ fault. fault ≡ ExploreFault.TooMany
+        → MetTooManyLazily program.now nodes.count most) }
 {
     match lazy_run_with(alloc, program, nodes.number(), most, &outcomes[place].notes)? {
         Some(acts) => Ok(acts),

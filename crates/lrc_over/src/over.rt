@@ -31,12 +31,7 @@ pub fn is_over(
 }
 
 // The same by a program's flat code.
-fn is_over_of(
-    alloc: Global,
-    code: &Code<'_>,
-    nodes: u8,
-    acts: &[Act],
-) -> Result<bool, AllocError>
+fn is_over_of(alloc: Global, code: &Code<'_>, nodes: u8, acts: &[Act]) -> Result<bool, AllocError>
     requires nodes { AreNodes nodes }
     requires run { IsLazyRun code.now nodes acts.now }
     ensures { IfOk result (λ over. IsTrue over ↔ IsOver code.now nodes acts.now) }

@@ -31,7 +31,8 @@ pub fn notes_of_seed(
     nodes: Nodes,
     seed: u64,
 ) -> Result<Option<Vec<Act>>, AllocError>
-    ensures { IfOk result (λ notes. IsAllOfSeed program.now nodes.count seed (option_map (λ notes. notes.items) notes)) }
+    ensures { IfOk result (λ notes. IsAllOfSeed program.now nodes.count seed
+        (option_map (λ notes. notes.items) notes)) }
 {
     match run_of_seed(alloc, program, nodes, seed) {
         Ok(run) => notes_if_over(alloc, program, nodes.number(), &run.report.acts),
@@ -43,7 +44,8 @@ pub fn notes_of_seed(
 // The run of a seed.
 fn run_of_seed(alloc: Global, program: &Program, nodes: Nodes, seed: u64) -> Result<Run, TurnFault>
     ensures run { IfOk result (IsRunIn (Random seed) program.now nodes.count seed_options Newest) }
-    ensures fault { IfErr result (IsWornFault (WanderingWearsOut program.now nodes.count seed_options seed)) }
+    ensures fault { IfErr result (IsWornFault
+        (WanderingWearsOut program.now nodes.count seed_options seed)) }
 {
     let setting = setting_of(nodes);
     run_in(alloc, program, &setting, Order::Random(seed), Keep::Newest)
@@ -73,7 +75,8 @@ fn notes_if_over(
 ) -> Result<Option<Vec<Act>>, AllocError>
     requires nodes { AreNodes nodes }
     requires run { IsLazyRun program.now nodes acts.now }
-    ensures { IfOk result (λ notes. AreNotesIfOver program.now nodes acts.now (option_map (λ notes. notes.items) notes)) }
+    ensures { IfOk result (λ notes. AreNotesIfOver program.now nodes acts.now
+        (option_map (λ notes. notes.items) notes)) }
 {
     let over = is_over(alloc, program, nodes, acts)?;
     if over {

@@ -20,7 +20,8 @@ pub fn least_seeds(
     tries: u32,
     outcomes: &[Outcome],
 ) -> Result<Vec<Option<u64>>, AllocError>
-    ensures { IfOk result (λ seeds. AreLeastSeeds program.now nodes.count tries outcomes.now seeds.items) }
+    ensures { IfOk result (λ seeds. AreLeastSeeds program.now nodes.count tries outcomes.now
+        seeds.items) }
 {
     let mut seeds = vec![in alloc; None; outcomes.len()]?;
     for seed in 0..tries {
@@ -42,7 +43,8 @@ fn try_seed(
     seeds: &mut Vec<Option<u64>>,
 ) -> Result<(), AllocError>
     requires { AreLeastSeeds program.now nodes.count seed outcomes.now seeds.old.items }
-    ensures { OnOk result (AreLeastSeeds program.now nodes.count (seed + 1) outcomes.now seeds.new.items) }
+    ensures { OnOk result (AreLeastSeeds program.now nodes.count
+        (seed + 1) outcomes.now seeds.new.items) }
 {
     let seed = u64::from(seed);
     let notes = notes_of_seed(alloc, program, nodes, seed)?;

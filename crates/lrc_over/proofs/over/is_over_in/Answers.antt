@@ -63,8 +63,7 @@ returns c =
     let machine = plain_at flat state in
     let all = take_all c.loop-act.act-index acts c.loop-act-test.false in
     let stands = subst (λ front. StandsAt program flat.nodes front machine) all i.stands in
-    let still = c.is_still.ensures in
-    (
+    let still = c.is_still.ensures in (
       λ yes. rest_to_over program flat.nodes acts machine stands state.memory.items (still.0 yes),
       λ over. still.1 (over_to_rest program flat.nodes acts machine stands state.memory.items over),
     )
