@@ -14,7 +14,7 @@ use Rattle.lrc_consistency_laws.specs.Follows.{Goes, quietly, printing, reading,
 use Rattle.lrc_consistency_laws.proofs.Runs.{CanDo}
 use Rattle.lrc_explore.proofs.Effects.{after_of}
 use Rattle.lrc_exec.specs.States.{plain_at, IsStateOf}
-use Rattle.lrc_explore.proofs.Spots.{words_known}
+use Rattle.lrc_exec.proofs.Spots.{words_known}
 use Rattle.lrc_settled.proofs.Parts.{stepped, can_step}
 use Rattle.lrc_known.specs.declared.known.Last.{Last}
 use Rattle.lrc_known.specs.declared.known.Last.TheVariants.{Nothing, Value, Unordered}
