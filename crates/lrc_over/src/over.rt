@@ -11,6 +11,7 @@ ghost use Rattle.lrc_over.specs.Following.{IsFlatOf, IsFollowed, MayFollow};
 use lrc_exec::code::Code;
 use lrc_exec::spot::Flat;
 use lrc_exec::state::State;
+use lrc_explore::seen::is_still;
 use lrc_lang::program::Program;
 use lrc_trace::act::{Act, Deed};
 use std::alloc::{AllocError, Global};
@@ -72,7 +73,7 @@ fn is_over_in(
     for act in acts {
         follow(&mut state, flat, *act);
     }
-    Ok(state.is_still(flat))
+    Ok(is_still(flat, &state))
 }
 
 // An act is made, a read with the value that it gave.
