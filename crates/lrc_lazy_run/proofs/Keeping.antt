@@ -19,7 +19,7 @@ use Rattle.lrc_explore.proofs.Keeping.{item_at, stands_on as stays}
 use Rattle.lrc_lazy_machine.specs.Standing.{CanMake}
 use Rattle.lrc_lazy_search.specs.declared.state.LazyState.{LazyState}
 use Rattle.lrc_lazy_search.specs.contracts.state.LazyStatePartialEq.TheImpl.{eq-value}
-use Rattle.lrc_lazy_search.specs.Searching.{HasKey, HasNext, IsReached, MeetsMore}
+use Rattle.lrc_lazy_search.specs.Searching.{IsReached, MeetsMore}
 use Rattle.lrc_lazy_search.proofs.Adding.{key_on}
 use Rattle.lrc_lazy_search.proofs.Making.{can_below}
 use Rattle.lrc_lazy_search.proofs.Searched.{reached_fit}

@@ -13,7 +13,7 @@ use Rattle.lrc_lazy.specs.Lazy.{IsLazyOutcome}
 use Rattle.lrc_lazy_machine.specs.Standing.{CanMake, Stands}
 use Rattle.lrc_lazy_search.specs.declared.state.LazyState.{LazyState}
 use Rattle.lrc_lazy_search.specs.contracts.state.LazyStatePartialEq.TheImpl.{eq-value}
-use Rattle.lrc_lazy_search.specs.Searching.{AreReached, HasNext, Steps}
+use Rattle.lrc_lazy_search.specs.Searching.{AreReached, HasKey, Steps}
 use Rattle.lrc_lazy_run.specs.declared.sought.Sought.{Sought}
 use Rattle.lrc_lazy_run.specs.declared.ways.Origin.{Origin}
 use Rattle.lrc_lazy_run.specs.declared.ways.Ways.{Ways}
@@ -71,9 +71,15 @@ abbrev pub CanMakeAt : Flat → List LazyState → (place node : ℕ) → Deed �
 CanMakeAt flat keys place node deed =
     (key : LazyState) → slice_get keys place ≡ Some key → CanMake flat.words (plain_at flat key.state) key.knowledge node deed
 
--- the state after it is among them
+-- a node's deed leads to a state that is among them
+pub record HasAfter (flat : Flat) (keys : List LazyState) (key : LazyState) (node : ℕ) (deed : Deed) : Type 0 where
+  pub after : LazyState
+  pub steps : Steps flat key node deed after
+  pub has : HasKey keys after
+
+-- so does a deed at the state at a place
 abbrev pub HasStepAt : Flat → List LazyState → (place node : ℕ) → Deed → Type 0
-HasStepAt flat keys place node deed = (key : LazyState) → slice_get keys place ≡ Some key → HasNext flat keys key node deed
+HasStepAt flat keys place node deed = (key : LazyState) → slice_get keys place ≡ Some key → HasAfter flat keys key node deed
 
 -- a place that was found is that of a state that is new, and there are no more than the most
 pub record IsNewAt (most : ℕ) (old new : List LazyState) (place : ℕ) : Type 0 where
@@ -117,7 +123,7 @@ IsEndIfFound sought keys notes None = Unit {0}
 
 -- a state at which some node can act or whose notes are others, and after which all are there
 pub record IsPassed (flat : Flat) (keys : List LazyState) (notes : List Act) (key : LazyState) : Type 0 where
-  pub next : (node : ℕ) (deed : Deed) → CanMake flat.words (plain_at flat key.state) key.knowledge node deed → HasNext flat keys key node deed
+  pub next : (node : ℕ) (deed : Deed) → CanMake flat.words (plain_at flat key.state) key.knowledge node deed → HasAfter flat keys key node deed
   pub other : ((node : ℕ) (deed : Deed) → ¬ CanMake flat.words (plain_at flat key.state) key.knowledge node deed) → key.notes.items ≢ notes
 
 -- so are those before a place

@@ -2,10 +2,11 @@ use Rattle.std.proofs.Common.{◌∙◌, ◌<◌, ◌≤◌, ◌^◌, arith, len
 use Rattle.std.proofs.lemmas.Option.{same_Some}
 use Rattle.lrc_explore.proofs.Keeping.{item_in, stands_on as stays}
 use Rattle.lrc_lazy_search.specs.declared.state.LazyState.{LazyState}
-use Rattle.lrc_lazy_search.specs.Searching.{HasNext}
+use Rattle.lrc_lazy_search.specs.Searching.{still}
 use Rattle.lrc_lazy_search.proofs.Adding.{reached_more, reached_next}
 use Rattle.lrc_lazy_search.proofs.Making.{can_below}
 use Rattle.lrc_lazy_search.proofs.Searched.{reached_fit}
+use Rattle.lrc_lazy_run.specs.Ways.{HasAfter}
 use Rattle.lrc_lazy_run.proofs.Keeping.{found_few, meets_more}
 use Rattle.lrc_lazy_run.proofs.ways.Ways.step.Goals as goal
 
@@ -60,7 +61,14 @@ put-requires-clause-reached c =
     reached_more (omega (arith, c.requires.within))
     (reached_next sought.program.now sought.flat c.requires.sought.words c.requires.sought.locks key c.in_ok-next.next c.args.place
     (c.requires.ways.kept.reached c.args.place key there)
-    (record { node = c.args.node; deed = c.args.deed; steps = c.in_ok-next.ensures.steps; valid = c.in_ok-next.ensures.state }))
+    (record {
+      node = c.args.node;
+      deed = c.args.deed;
+      after = c.in_ok-next.next;
+      steps = c.in_ok-next.ensures.steps;
+      valid = c.in_ok-next.ensures.state;
+      goes = still;
+    }))
 
 pub put-requires-clause-comes : goal.put-requires-clause-comes
 put-requires-clause-comes c =
@@ -84,7 +92,7 @@ returns-clause-has c = λ wanted at.
     let there = item_in keys c.as_slice.result.now c.args.place key c.as_slice.ensures.keys c.requires.within c.index-as_slice-place.is in
     let new = c.put.new.self.states.keys in
     let same = same_Some key wanted (sym (stays c.args.place key c.in_ok-added.ensures.grows there) ∙ at) in
-    subst (λ (x : LazyState). HasNext sought.flat new x c.args.node c.args.deed) same
+    subst (λ (x : LazyState). HasAfter sought.flat new x c.args.node c.args.deed) same
     (record { after = c.in_ok-next.next; steps = c.in_ok-next.ensures.steps; has = c.in_ok-added.ensures.has })
 
 pub returns-clause-found : goal.returns-clause-found
