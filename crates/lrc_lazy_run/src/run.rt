@@ -14,9 +14,11 @@ use lrc_lang::program::Program;
 use lrc_trace::act::Act;
 use std::alloc::Global;
 
-/// The acts of a lazy run of a program after which no node can act, and in which the nodes print and end as these notes say; nothing where
-/// there is none. Of such runs it is one with the fewest steps: a step is a read of one of several values, an acquire, or the departs of
-/// all nodes, with the acts behind it that depend on nothing. Gives up where there are more states to tell apart than `most`.
+/// Returns the acts of a lazy run of a program after which no node can act, and in which the nodes print and end as
+/// these notes say, or nothing if there is no such run. Of such runs it takes one with the fewest steps. A step is a
+/// read of one of several values, an acquire, or the departs of all nodes, together with the acts behind it that depend
+/// on no other node. It gives up with `TooMany` if there are more states to tell apart than `most`, and fails if memory
+/// runs out.
 pub fn lazy_run_with(
     alloc: Global,
     program: &Program,

@@ -8,7 +8,8 @@ use lrc_exec::code::Code;
 use lrc_exec::spot::Flat;
 use lrc_lang::program::Program;
 
-/// What is searched: a program, its code and the place where that begins, and how many states there may be.
+/// The task of a search: a program, its code and the place where the code begins, and the limit on the number of
+/// states.
 #[derive(Clone, Copy)]
 pub struct Sought<'c> {
     pub program: &'c Program,
@@ -17,7 +18,7 @@ pub struct Sought<'c> {
     pub most: usize,
 }
 
-/// What is searched of a program's code.
+/// Returns the task for a program's code.
 pub fn sought_in<'c>(code: &'c Code<'c>, nodes: u8, most: usize) -> Sought<'c>
     requires { AreNodes nodes }
     ensures sought { IsSought result }

@@ -14,8 +14,9 @@ impl Ways {
     ghost use Rattle.lrc_lazy_search.specs.Searching.{MeetsMore};
     ghost use Rattle.lrc_lazy_run.specs.Ways.{AreWays, CanMakeAt, CanMakeIfAny, HasAllStepsAt, IsEndFor, IsEndIfFound, IsSought};
 
-    /// The place of a state at which no node can act and that has these notes: the first one to which steps lead. Nothing where no lazy
-    /// run has them.
+    /// Returns the place of a state at which no node can act and that has these notes, or nothing if no lazy run has
+    /// them. It is the first such state to which steps lead. It gives up with `TooMany` if there are more states than
+    /// the task allows, and fails if memory runs out.
     pub fn find(
         &mut self,
         alloc: Global,
@@ -141,8 +142,8 @@ impl Ways {
         Ok(())
     }
 
-    // From a state on, the lowest node that can make a free act makes it, as long as there is one and the state to which it leads is new.
-    // Steps lead on from where that ends.
+    // From a state on, the lowest node that can make a free act makes it, as long as there is one and the state to
+    // which it leads is new. Steps lead on from where that ends.
     fn settle(
         &mut self,
         alloc: Global,
@@ -391,7 +392,8 @@ fn least_above(deeds: &[Deed], last: Option<u64>) -> Option<usize>
     found
 }
 
-// Whether the value of the read at a place is above one, if there is one, and below that of the read that was found, if one was.
+// Whether the value of the read at a place is above one, if there is one, and below that of the read that was found, if
+// one was.
 fn is_nearer(deeds: &[Deed], last: Option<u64>, found: Option<usize>, place: usize) -> bool
     requires found { IfSome found (λ found. found < length deeds.now) }
     requires within { place < length deeds.now }

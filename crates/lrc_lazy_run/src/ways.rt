@@ -7,14 +7,15 @@ use lrc_lazy_search::state::LazyState;
 use lrc_trace::act::{Act, Deed};
 use std::alloc::{AllocError, Global};
 
-/// How a state was found: from which one, by which act.
+/// How a state was found: from the state at which place, and by which act.
 #[derive(Clone, Copy)]
 pub struct Origin {
     pub parent: usize,
     pub act: Act,
 }
 
-/// States, each once, in the order in which they were found, how, and the places of those from which steps lead on.
+/// States, each once, in the order in which they were found; how each was found; and the places of those from which
+/// steps lead on.
 #[derive(Drop)]
 pub struct Ways {
     pub states: IndexSet<LazyState>,
@@ -29,7 +30,7 @@ impl Ways {
     ghost use Rattle.lrc_lazy_search.specs.Searching.{HasKey, IsReached, MeetsMore};
     ghost use Rattle.lrc_lazy_run.specs.Ways.{AreKept, AreWays, CanMakeAt, ComesFrom, HasNotesAt, HasStepAt, IsEndWith, IsFound, IsPut, IsSought, IsStillAt, LeadTo};
 
-    /// The start alone.
+    /// Returns the beginning of the program as the only state. It fails if memory runs out.
     pub fn begin(alloc: Global, sought: &Sought<'_>) -> Result<Ways, AllocError>
         requires { IsSought sought.now }
         ensures ways { IfOk result (AreWays sought.now) }
@@ -53,7 +54,7 @@ impl Ways {
         })
     }
 
-    /// What a node can do at a state.
+    /// Returns what a node can do at a state, with a read for each value that it may give. It fails if memory runs out.
     pub fn deeds_at(
         &self,
         alloc: Global,
@@ -74,7 +75,8 @@ impl Ways {
         self.states.as_slice()[place].deeds(alloc, &sought.flat, node)
     }
 
-    /// Adds the state after a deed of a node. The answer is its place, where it is new.
+    /// Adds the state after a deed of a node, and returns its place if it is new. It gives up with `TooMany` if there
+    /// are then more states than the task allows, and fails if memory runs out.
     pub fn step(
         &mut self,
         alloc: Global,
@@ -109,7 +111,7 @@ impl Ways {
         Ok(added)
     }
 
-    // Adds a state that was found so. The answer is its place, where it is new.
+    // Adds a state that was found so, and returns its place if it is new.
     fn put(
         &mut self,
         sought: &Sought<'_>,
@@ -136,7 +138,7 @@ impl Ways {
         Ok(Some(at))
     }
 
-    /// Notes that steps lead on from the state at a place.
+    /// Notes that steps lead on from the state at a place. It fails if memory runs out.
     pub fn note_settled(&mut self, sought: &Sought<'_>, place: usize) -> Result<(), AllocError>
         requires ways { AreWays sought.now self.old }
         requires within { place < length self.old.states.keys }
@@ -149,7 +151,7 @@ impl Ways {
         Ok(())
     }
 
-    /// Whether no node can act at a state, and it has these notes.
+    /// Returns whether no node can act at a state, and it has these notes. It fails if memory runs out.
     pub fn is_end_with(
         &self,
         alloc: Global,
@@ -197,7 +199,7 @@ impl Ways {
         self.states.as_slice()[place].notes.as_slice() == notes
     }
 
-    /// The acts that lead to a state.
+    /// Returns the acts that lead to a state. It fails if memory runs out.
     pub fn acts_to(
         &self,
         alloc: Global,

@@ -8,7 +8,7 @@ use Rattle.lrc_lang.specs.declared.program.Program.{Program}
 use Rattle.lrc_trace.specs.declared.act.Act.{Act}
 use Rattle.lrc_trace.specs.declared.act.Deed.{Deed}
 use Rattle.lrc_trace.specs.declared.act.Deed.TheVariants.{Read}
-use Rattle.lrc_trace.specs.Run.{Does, act_of}
+use Rattle.lrc_trace.specs.Run.{act_of}
 use Rattle.lrc_trace.specs.Synchronization.{MayGoOn}
 use Rattle.lrc_trace.proofs.Positions.{Does-longer, Does-last}
 use Rattle.lrc_trace.proofs.Prefixes.{IsWellSynchronized-shorter, ReadsLazily-shorter}

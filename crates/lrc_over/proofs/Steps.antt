@@ -1,5 +1,5 @@
 -- An act of a lazy run is followed from where the acts before it have led.
-use Rattle.std.proofs.Common.{◌≡◌, ℕ, ◌+◌, ◌<◌, ◌≤◌, ◌^◌, ◌-◌, List, [], ◌∷◌, ◌++◌, drop, length, take, inl, inr, refl, replicate, sym, subst, ◌∙◌, ap, arith, get_or}
+use Rattle.std.proofs.Common.{◌≡◌, ℕ, ◌+◌, ◌<◌, ◌≤◌, ◌^◌, ◌-◌, List, [], ◌∷◌, ◌++◌, drop, length, take, inl, inr, replicate, sym, subst, arith, get_or}
 use Rattle.std.specs.Prelude.{Some, slice_index, slice_set}
 use Rattle.std.proofs.lemmas.Bool.{cases_lt}
 use Rattle.std.proofs.lemmas.List.{get_or-replicate, get_or-set_same, get_or_past, length-replicate, take-append-drop, take_more}
@@ -15,7 +15,6 @@ use Rattle.lrc_exec.specs.declared.state.State.{State}
 use Rattle.lrc_exec.specs.States.{plain_at, IsStateOf}
 use Rattle.lrc_explore.proofs.Counting.{step_counts}
 use Rattle.lrc_lazy.specs.Lazy.{IsLazyRun}
-use Rattle.lrc_lazy_machine.specs.Standing.{with_memory}
 use Rattle.lrc_over.specs.Following.{IsFlatOf, IsFollowed, MayFollow, machine_for, poked}
 use Rattle.lrc_over.proofs.Following.{StandsAt, coming, lazy_front, makes_other, makes_read, read_within, stands_next}
 

@@ -1,4 +1,5 @@
-//! Whether no node can act after the acts of a lazy run.
+//! Decides whether a lazy run has ended: whether no node can act after its acts. They are followed on the plain
+//! machine, where each read finds the value that it gave in the run.
 #![tactic(auto)]
 
 pub mod over;

@@ -1,4 +1,4 @@
-// Whether no node can act after a run's acts, which are followed on the plain machine.
+// Whether a lazy run has ended.
 
 ghost use Rattle.std.specs.Prelude.{◌≡◌, ◌↔◌, ◌≤◌, IfOk, IsTrue, length};
 ghost use Rattle.lrc_exec.specs.Nodes.{AreNodes};
@@ -16,7 +16,8 @@ use lrc_lang::program::Program;
 use lrc_trace::act::{Act, Deed};
 use std::alloc::{AllocError, Global};
 
-/// Whether no node can act after the acts of a lazy run, by the text, locks and barriers.
+/// Returns whether no node can act after the acts of a lazy run, by the text, the locks and the barriers. It fails if
+/// memory runs out.
 pub fn is_over(
     alloc: Global,
     program: &Program,
@@ -41,7 +42,7 @@ fn is_over_of(alloc: Global, code: &Code<'_>, nodes: u8, acts: &[Act]) -> Result
     is_over_in(alloc, code.program(), &flat, start, acts)
 }
 
-// The flat code, and the place where the text begins.
+// A program's flat code, and the place where its text begins.
 fn flat_of<'c>(code: &'c Code<'c>, nodes: u8) -> (Flat<'c>, usize)
     requires { AreNodes nodes }
     ensures { IsFlatOf code.now nodes result.0 result.1 }
@@ -76,7 +77,7 @@ fn is_over_in(
     Ok(is_still(flat, &state))
 }
 
-// An act is made, a read with the value that it gave.
+// Makes an act of the run: a read finds the value that it gave.
 fn follow(state: &mut State, flat: &Flat<'_>, act: Act)
     requires flat { IsFlat flat.now }
     requires may { MayFollow flat.now state.old act }

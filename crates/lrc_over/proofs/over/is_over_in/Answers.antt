@@ -1,4 +1,4 @@
-use Rattle.std.proofs.Common.{◌∙◌, ℕ, [], ap, arith, get_or, subst, sym, take}
+use Rattle.std.proofs.Common.{◌∙◌, [], ap, arith, get_or, subst, sym, take}
 use Rattle.std.specs.Prelude.{slice_index}
 use Rattle.std.proofs.lemmas.List.{take_all}
 use Rattle.lrc_trace.specs.declared.act.Act.{Act}

@@ -1,4 +1,4 @@
-use Rattle.std.proofs.Common.{◌≡◌, [], List, ap, arith, length, rules}
+use Rattle.std.proofs.Common.{List, ap, arith, length, rules}
 use Rattle.lrc_trace.specs.declared.act.Deed.TheVariants.{Quiet}
 use Rattle.lrc_lazy_search.specs.declared.state.LazyState.{LazyState}
 use Rattle.lrc_lazy_run.proofs.Keeping.{begun_alone, put_first}

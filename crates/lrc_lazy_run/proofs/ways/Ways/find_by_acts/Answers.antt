@@ -1,7 +1,5 @@
 use Rattle.std.proofs.Common.{◌≡◌, ◌<◌, length, arith, false, true, subst, sym, ◌∙◌, ap}
-use Rattle.std.specs.Prelude.{Some, slice_get}
 use Rattle.std.proofs.lemmas.Option.{same_Some}
-use Rattle.lrc_trace.specs.declared.act.Deed.{Deed}
 use Rattle.lrc_explore.proofs.Keeping.{stands_on as stays}
 use Rattle.lrc_exec.specs.States.{plain_at}
 use Rattle.lrc_lazy_machine.specs.Standing.{CanMake}

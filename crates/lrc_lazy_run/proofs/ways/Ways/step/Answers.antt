@@ -1,4 +1,4 @@
-use Rattle.std.proofs.Common.{◌∙◌, ◌<◌, ◌≤◌, ◌^◌, arith, length, subst, sym}
+use Rattle.std.proofs.Common.{◌∙◌, arith, subst, sym}
 use Rattle.std.proofs.lemmas.Option.{same_Some}
 use Rattle.lrc_explore.proofs.Keeping.{item_in, stands_on as stays}
 use Rattle.lrc_lazy_search.specs.declared.state.LazyState.{LazyState}
