@@ -1,8 +1,9 @@
 // Every outcome of the lazy runs of a program, as it is printed.
 
-ghost use Rattle.std.specs.Prelude.{◌≡◌, ◌≢◌, ◌++◌, IfErr, IfOk, OnOk, length};
+ghost use Rattle.std.specs.Prelude.{◌≡◌, ◌≢◌, ◌++◌, IfErr, IfOk, OnOk, codes, decimal, length};
 ghost use Rattle.lrc_text.specs.Parts.{whole_text};
-ghost use Rattle.lrc_lazy_text.specs.Listed.{AreSeedsFor, AreToldOf, ListsLazyOutcomes, MetTooManyLazily, TellsLazyOutcomes, lazy_head, marked_line, marked_lines, seed_mark, told_pair};
+ghost use Rattle.lrc_explore_text.specs.Outcomes.{none_ends};
+ghost use Rattle.lrc_lazy_text.specs.Listed.{AreSeedsFor, AreToldOf, ListsLazyOutcomes, MetTooManyLazily, TellsLazyOutcomes, marked_line, marked_lines, seed_mark, told_pair};
 
 use lrc_explore::outcomes::Outcome;
 use lrc_explore::search::ExploreFault;
@@ -78,15 +79,25 @@ fn outcomes_listed(
 
 // How many outcomes there are, and where there are none that no run ends.
 fn head_of(alloc: Global, count: usize) -> Result<Vec<u8>, AllocError>
-    ensures { IfOk result (λ head. head.items ≡ lazy_head count) }
+    ensures { IfOk result (λ head. head.items
+        ≡ codes "outcomes " ++ decimal count ++ codes " in all lazy runs\n" ++ none_ends count) }
 {
     let mut head = Vec::new(alloc);
     push_number(&mut head, b"outcomes ", count as u64)?;
     head.extend_from_slice(b" in all lazy runs\n")?;
-    if count == 0 {
-        head.extend_from_slice(b"no run ends\n")?;
-    }
+    push_none_ends(&mut head, count)?;
     Ok(head)
+}
+
+// Says that no run ends, where there are no outcomes.
+fn push_none_ends(text: &mut Vec<u8>, count: usize) -> Result<(), AllocError>
+    ensures { OnOk result (text.new.items ≡ text.old.items ++ none_ends count) }
+{
+    if count == 0 {
+        text.extend_from_slice(b"no run ends\n")
+    } else {
+        Ok(())
+    }
 }
 
 // The lines of outcomes with their seeds, ascending by the lines.
