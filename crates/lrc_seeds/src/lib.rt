@@ -1,4 +1,5 @@
-//! The runs of this memory in random orders: which seeds have a run with an outcome.
+//! Plays the runs of this memory in the random orders of seeds, and finds for each outcome the least seed whose run has
+//! it.
 #![tactic(auto)]
 
 pub mod seed;

@@ -23,8 +23,8 @@ use lrc_world::report::TurnFault;
 use lrc_world::run::{Order, Run, run_in};
 use std::alloc::{AllocError, Global};
 
-/// What the nodes print in the run of a seed, and how they end, as notes of its acts. None where the run answers a fault, or where a node
-/// could act after it.
+/// Returns what the nodes print in the run of a seed, and how they end, as notes of its acts. There are none if the run
+/// answers a fault, or if a node can still act after it. It fails if memory runs out.
 pub fn notes_of_seed(
     alloc: Global,
     program: &Program,
