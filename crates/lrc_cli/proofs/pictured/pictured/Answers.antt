@@ -3,7 +3,7 @@ use Rattle.lrc_chart_acts.specs.Picture.{IsActsPortrait, IsActsPortraitFault}
 use Rattle.lrc_chart_build.specs.declared.part.Part.{Part}
 use Rattle.lrc_title.specs.Title.{title_text_of_acts}
 use Rattle.lrc_cli.specs.Answer.{charted_nodes}
-use Rattle.lrc_shown.specs.Charted.{IsDrawn, part_of}
+use Rattle.lrc_shown.specs.Charted.{IsDrawn}
 use Rattle.lrc_answer.proofs.FaultLemmas.{fault_up}
 use Rattle.lrc_cli.proofs.AnswerLemmas.{acts_chart_fault}
 use Rattle.lrc_cli.proofs.pictured.pictured.Goals as goal
