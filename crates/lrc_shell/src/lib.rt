@@ -5,9 +5,11 @@
 mod played;
 mod progress;
 mod races;
+mod reading;
 mod refusal;
 mod starting;
 mod topic;
+mod watched;
 
 pub use lrc_sources::sources::{Sources, System, read_up_to};
 pub use played::play;
