@@ -1,8 +1,8 @@
 // What is searched, and what was found.
 
 use lrc_exec::spot::Flat;
-use lrc_explore::noted::NotedStates;
 use lrc_lang::program::Program;
+use lrc_rows::rows::Rows;
 use lrc_steps::step::Step;
 
 /// What is searched: a program, its code and the place where that begins, the names that matter at each place, how many states there may
@@ -28,7 +28,7 @@ pub struct Origin {
 /// States, each once, in the order in which they were found, and how.
 #[derive(Drop)]
 pub struct Found {
-    pub states: NotedStates,
+    pub states: Rows,
     pub origins: Vec<Origin>,
 }
 
