@@ -12,7 +12,7 @@ use Rattle.lrc_trace.specs.contracts.act.ActPartialEq.TheImpl.{eq-value as act_e
 use Rattle.lrc_explore.specs.declared.noted.Noted.{Noted}
 use Rattle.lrc_rows.specs.Rows.{IsRowAt, row_count}
 use Rattle.lrc_explore.specs.Outcome.{IsOutcome}
-use Rattle.lrc_explore.specs.States.{plain_at}
+use Rattle.lrc_exec.specs.States.{plain_at}
 use Rattle.lrc_explore.specs.Stuck.{IsAtRest}
 use Rattle.lrc_explore.proofs.KeptAlike.{both_true, nat_itself}
 use Rattle.lrc_explore.proofs.Searching.{copy_same}

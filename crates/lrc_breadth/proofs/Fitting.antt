@@ -10,7 +10,7 @@ use Rattle.lrc_explore.specs.declared.noted.Noted.{Noted}
 use Rattle.lrc_rows.specs.declared.rows.Rows.{Rows}
 use Rattle.lrc_rows.specs.Rows.{IsRowAt, WidensRows, row_count}
 use Rattle.lrc_explore.specs.Notes.{notes_of}
-use Rattle.lrc_explore.specs.States.{plain_at}
+use Rattle.lrc_exec.specs.States.{plain_at}
 use Rattle.lrc_explore.proofs.Keeping.{item_at}
 use Rattle.lrc_explore.proofs.Searching.{copy_same}
 use Rattle.lrc_explore.proofs.Stores.{listed}

@@ -9,11 +9,11 @@ use Rattle.lrc_exec.specs.Plain.{Plain}
 use Rattle.lrc_exec.specs.Spots.{spot_thread}
 use Rattle.lrc_explore.specs.declared.noted.Noted.{Noted}
 use Rattle.lrc_rows.specs.declared.rows.Rows.{Rows}
-use Rattle.lrc_explore.specs.declared.state.State.{State}
+use Rattle.lrc_exec.specs.declared.state.State.{State}
 use Rattle.lrc_explore.specs.Kept.{Grows, IsAddedAt}
 use Rattle.lrc_rows.specs.Rows.{AreRowsDistinct, IsRowAt, WidensRows, row_count}
 use Rattle.lrc_explore.specs.Notes.{notes_of, notes_with}
-use Rattle.lrc_explore.specs.States.{plain_at, IsCopy}
+use Rattle.lrc_exec.specs.States.{plain_at, IsCopy}
 use Rattle.lrc_explore.proofs.Keeping.{grows_again, grows_not, stands_on}
 use Rattle.lrc_explore.proofs.Searching.{copy_same, copy_state}
 use Rattle.lrc_explore.proofs.Standing.{step_within}

@@ -12,7 +12,7 @@ use Rattle.lrc_explore.specs.declared.noted.Noted.{Noted}
 use Rattle.lrc_rows.specs.declared.rows.Rows.{Rows}
 use Rattle.lrc_rows.specs.Rows.{row_count}
 use Rattle.lrc_explore.specs.Notes.{notes_from, notes_of}
-use Rattle.lrc_explore.specs.States.{plain_at}
+use Rattle.lrc_exec.specs.States.{plain_at}
 use Rattle.lrc_explore.specs.Stuck.{GetsStuck, IsStuck}
 use Rattle.lrc_explore.specs.Verdict.{NeverStuck}
 use Rattle.lrc_explore.proofs.Counting.{step_threads}

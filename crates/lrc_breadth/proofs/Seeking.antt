@@ -12,7 +12,7 @@ use Rattle.lrc_explore.specs.Kept.{Grows}
 use Rattle.lrc_explore.specs.Meeting.{IsCalm}
 use Rattle.lrc_rows.specs.Rows.{IsRowAt, WidensRows, row_count}
 use Rattle.lrc_explore.specs.Outcome.{HasOutcome, IsOutcome}
-use Rattle.lrc_explore.specs.States.{machine_begun, plain_at}
+use Rattle.lrc_exec.specs.States.{machine_begun, plain_at}
 use Rattle.lrc_explore.specs.Stuck.{IsAtRest, IsStuck}
 use Rattle.lrc_explore.proofs.Keeping.{stands_on}
 use Rattle.lrc_explore.proofs.Searching.{copy_same}
@@ -20,7 +20,7 @@ use Rattle.lrc_explore.proofs.Stores.{before, listed, listed_apart}
 use Rattle.lrc_explore.proofs.Ways.{IsNotedCopy}
 use Rattle.lrc_rows.proofs.RowLaws.{row_copy, row_grown, row_store, row_within}
 use Rattle.lrc_rows.proofs.RowsApart.{row_apart}
-use Rattle.lrc_explore.specs.declared.state.State.{State}
+use Rattle.lrc_exec.specs.declared.state.State.{State}
 use Rattle.lrc_explore.specs.declared.search.ExploreFault.{ExploreFault}
 use Rattle.lrc_explore.specs.declared.search.ExploreFault.TheVariants.{BadNodes, TooMany}
 use Rattle.lrc_exec.specs.Plain.{plain_start, thread_in}

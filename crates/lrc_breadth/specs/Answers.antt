@@ -16,7 +16,7 @@ use Rattle.lrc_exec.specs.Plain.{plain_start}
 use Rattle.lrc_explore.specs.Meeting.{IsCalm, Meet}
 use Rattle.lrc_rows.specs.Rows.{IsRowAt, row_count}
 use Rattle.lrc_explore.specs.Notes.{notes_of}
-use Rattle.lrc_explore.specs.States.{plain_at}
+use Rattle.lrc_exec.specs.States.{plain_at}
 use Rattle.lrc_explore.specs.Stuck.{GetsStuck, IsAtRest, IsStuck}
 use Rattle.lrc_explore.specs.Verdict.{EndsInRace, NeverStuck}
 use Rattle.lrc_settled.specs.Steps.{IsSettledOutcome, IsSettledState}
@@ -27,7 +27,7 @@ use Rattle.lrc_breadth.specs.declared.task.End.TheVariants as end
 use Rattle.lrc_breadth.specs.declared.task.Found.{Found}
 use Rattle.lrc_breadth.specs.declared.task.Visit.{Visit}
 use Rattle.lrc_breadth.specs.declared.task.Visit.TheVariants as visit
-use Rattle.lrc_explore.specs.declared.state.State.{State}
+use Rattle.lrc_exec.specs.declared.state.State.{State}
 use Rattle.lrc_explore.specs.declared.outcomes.Outcome.{Outcome}
 use Rattle.lrc_explore.specs.Outcome.{HasOutcome}
 use Rattle.lrc_live.specs.Like.{AreLike}

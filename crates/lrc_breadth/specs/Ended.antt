@@ -8,7 +8,7 @@ use Rattle.lrc_explore.specs.declared.noted.Noted.{Noted}
 use Rattle.lrc_rows.specs.Rows.{IsRowAt, row_count}
 use Rattle.lrc_explore.specs.Notes.{notes_of}
 use Rattle.lrc_explore.specs.Outcome.{HasOutcome, IsOutcome}
-use Rattle.lrc_explore.specs.States.{plain_at}
+use Rattle.lrc_exec.specs.States.{plain_at}
 use Rattle.lrc_explore.specs.Stuck.{IsAtRest}
 use Rattle.lrc_breadth.specs.declared.task.Task.{Task}
 use Rattle.lrc_breadth.specs.declared.task.Found.{Found}

@@ -6,11 +6,11 @@ use Rattle.lrc_exec.specs.Spots.{IsFlat}
 use Rattle.lrc_explore.specs.declared.noted.Noted.{Noted}
 use Rattle.lrc_rows.specs.declared.rows.Rows.{Rows}
 use Rattle.lrc_rows.specs.Rows.{AreRowsDistinct, AreRowsFull, IsRowAt, WidensRows, row_count}
-use Rattle.lrc_explore.specs.declared.state.State.{State}
+use Rattle.lrc_exec.specs.declared.state.State.{State}
 use Rattle.lrc_explore.specs.Notes.{notes_of, notes_with}
 use Rattle.lrc_explore.specs.Kept.{Grows}
 use Rattle.lrc_explore.specs.Meeting.{IsCalm}
-use Rattle.lrc_explore.specs.States.{machine_begun, plain_at, IsStateOf}
+use Rattle.lrc_exec.specs.States.{machine_begun, plain_at, IsStateOf}
 use Rattle.lrc_explore.specs.Stuck.{IsStuck}
 use Rattle.lrc_settled.specs.Settling.{Settles}
 use Rattle.lrc_settled.specs.Steps.{IsSettledState}

@@ -5,7 +5,7 @@ use Rattle.lrc_exec.specs.Plain.{Plain}
 use Rattle.lrc_explore.specs.declared.noted.Noted.{Noted}
 use Rattle.lrc_rows.specs.Rows.{IsRowAt}
 use Rattle.lrc_explore.specs.Notes.{notes_of}
-use Rattle.lrc_explore.specs.States.{plain_at}
+use Rattle.lrc_exec.specs.States.{plain_at}
 use Rattle.lrc_settled.specs.Steps.{IsSettledState}
 use Rattle.lrc_breadth.specs.declared.task.Task.{Task}
 use Rattle.lrc_breadth.specs.declared.task.Origin.{Origin}

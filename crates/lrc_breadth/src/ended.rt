@@ -2,7 +2,7 @@
 
 ghost use Rattle.std.specs.Prelude.{◌≡◌, ◌↔◌, IfOk, IfErr, IsTrue, true};
 ghost use Rattle.lrc_exec.specs.Spots.{IsFlat};
-ghost use Rattle.lrc_explore.specs.States.{IsStateOf, plain_at};
+ghost use Rattle.lrc_exec.specs.States.{IsStateOf, plain_at};
 ghost use Rattle.lrc_explore.specs.Stuck.{IsAtRest};
 ghost use Rattle.lrc_breadth.specs.Answers.{FitsSettledNoted, IsFault};
 ghost use Rattle.lrc_breadth.specs.Ended.{AreEnded};
@@ -13,6 +13,7 @@ use indexmap::IndexSet;
 use lrc_explore::noted::Noted;
 use lrc_explore::outcomes::Outcome;
 use lrc_explore::search::ExploreFault;
+use lrc_explore::seen::is_still;
 use lrc_trace::act::Act;
 use std::alloc::{AllocError, Global};
 
@@ -54,7 +55,7 @@ fn is_end_with(task: &Task<'_>, key: &Noted, notes: &[Act]) -> bool
     requires state { IsStateOf task.now.flat key.now.state }
     ensures { IsTrue result ↔ (IsAtRest (plain_at task.now.flat key.now.state) × (key.now.notes.items ≡ notes.now)) }
 {
-    key.state.is_still(&task.flat) && has_notes(key, notes)
+    is_still(&task.flat, &key.state) && has_notes(key, notes)
 }
 
 impl Found {

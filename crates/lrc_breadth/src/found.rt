@@ -2,7 +2,7 @@
 
 ghost use Rattle.std.specs.Prelude.{◌≡◌, ◌++◌, [], IfOk, IfErr, OnOk, MatchOption, MatchResult, true, false};
 ghost use Rattle.lrc_explore.specs.declared.search.ExploreFault.TheVariants.{TooMany};
-ghost use Rattle.lrc_explore.specs.States.{plain_at, IsStateOf};
+ghost use Rattle.lrc_exec.specs.States.{plain_at, IsStateOf};
 ghost use Rattle.lrc_settled.specs.Settling.{IsSettled};
 ghost use Rattle.lrc_steps.specs.declared.step.Step.TheVariants.{Alone, Together};
 ghost use Rattle.lrc_steps.specs.Taking.{IsCounted};
@@ -13,7 +13,7 @@ use crate::task::{Found, Origin, Task};
 use lrc_explore::noted::Noted;
 use lrc_explore::notes::note;
 use lrc_explore::search::ExploreFault;
-use lrc_explore::state::State;
+use lrc_exec::state::State;
 use lrc_live::forget_dead;
 use lrc_rows::rows::Rows;
 use lrc_steps::settle::settle;
@@ -168,7 +168,7 @@ fn note_all(notes: &mut Vec<Act>, acts: &[Act]) -> Result<(), AllocError>
 
 impl Found {
     ghost use Rattle.std.specs.Prelude.{◌≡◌, ◌<◌, ◌≤◌, ◌++◌, IfOk, IfErr, OnOk, [], length, true};
-    ghost use Rattle.lrc_explore.specs.States.{plain_at, IsStateOf};
+    ghost use Rattle.lrc_exec.specs.States.{plain_at, IsStateOf};
     ghost use Rattle.lrc_rows.specs.Rows.{AreRowsDistinct, IsRowAt, row_count};
     ghost use Rattle.lrc_breadth.specs.Reached.{AreFound, ComesFrom, HasAfter, HasStart, IsExpanded, IsKept, IsMore, IsReached, IsTask};
     ghost use Rattle.lrc_breadth.specs.Answers.{IsFault};

@@ -9,6 +9,7 @@ use crate::task::{End, Found, Task, Visit};
 use indexmap::IndexSet;
 use lrc_explore::outcomes::Outcome;
 use lrc_explore::search::ExploreFault;
+use lrc_explore::seen::{is_still, is_stuck, meeting};
 use lrc_trace::act::Act;
 use std::alloc::{AllocError, Global};
 
@@ -66,11 +67,11 @@ impl Found {
         ensures faults { IfErr result (IsFault task.now) }
     {
         let key = self.states.noted(alloc, place)?;
-        if let Some((p, q)) = key.state.meeting(&task.flat) {
+        if let Some((p, q)) = meeting(&task.flat, &key.state) {
             return Ok(Visit::Meeting(p, q));
         }
         self.expand(alloc, task, place, &key)?;
-        if key.state.is_stuck(&task.flat) {
+        if is_stuck(&task.flat, &key.state) {
             Ok(Visit::Stuck)
         } else {
             Ok(Visit::Past)
@@ -126,7 +127,7 @@ impl Found {
     {
         let key = self.states.noted(alloc, place)?;
         self.expand(alloc, task, place, &key)?;
-        if key.state.is_still(&task.flat) {
+        if is_still(&task.flat, &key.state) {
             keep(outcomes, key.notes)?;
         }
         Ok(())

@@ -1,11 +1,12 @@
 // The turns of a run in the order in which its nodes made them.
 
-ghost use Rattle.std.specs.Prelude.{◌≡◌, ◌<◌, ◌++◌, IfOk, MatchOption, None, OnOk, OnSome, Some, map};
-ghost use Rattle.lrc_turns_text.specs.Turns.{log_entry, next, turns_told};
+ghost use Rattle.std.specs.Prelude.{◌≡◌, ◌++◌, IfOk, OnOk, map};
+ghost use Rattle.lrc_turns_text.specs.Turns.{next, turns_told};
 ghost use Rattle.lrc_chart_rows.specs.Counts.{Counts};
 
 use crate::counts::Made;
 use lrc_node::Entry;
+use lrc_turns_text::entry_of;
 use std::alloc::{AllocError, Global};
 use std::marker::Model;
 
@@ -22,15 +23,6 @@ impl<'a> Model for TurnOf<'a> {
     ghost Value = { Made };
 
     ghost view = { λ t. record { node = t.node; entry = t.entry.now } };
-}
-
-// The turn at a place of a node's log.
-fn entry_of(logs: &[Vec<Entry>], node: u8, place: usize) -> Option<&Entry>
-    ensures there { MatchOption result (log_entry (map (λ log. log.items) logs.now) node place ≡ None)
-        (λ entry. log_entry (map (λ log. log.items) logs.now) node place ≡ Some entry.now) }
-    ensures bound { OnSome result (place < 18446744073709551615) }
-{
-    logs.get(usize::from(node))?.get(place)
 }
 
 // Adds the next turn of a node, if its log has one.

@@ -1,19 +1,15 @@
--- What the call that computes times reads and joins.
-use Rattle.std.proofs.Common.{◌≡◌, ℕ, ◌+◌, ◌<◌, ◌≤◌, true, false, List, [], ◌∷◌, ◌++◌, length, get_or, take, inl, inr, refl, ap, ◌∙◌, arith, add-one}
-use Rattle.std.proofs.lemmas.Bool.{cases_Bool, cond-true, cond-false, true≢false, false≢true}
-use Rattle.std.proofs.lemmas.List.{get_or_default, length-take-le, take_more}
+-- What a call that computes times reads and joins.
+use Rattle.std.proofs.Common.{◌≡◌, ℕ, ◌+◌, ◌<◌, ◌≤◌, List, [], ◌∷◌, ◌++◌, length, get_or, take, inl, inr, refl, ap, ◌∙◌, arith, add-one}
+use Rattle.std.proofs.lemmas.Bool.{cases_Bool, cond-true, cond-false}
+use Rattle.std.proofs.lemmas.List.{length-take-le, take_more}
 use Rattle.std.proofs.lemmas.List.Sums.{count_by-le-length}
-use Rattle.std.specs.Prelude.{◌==◌, ◌&&◌, Option, Some, None, is_some, MatchOption}
+use Rattle.std.specs.Prelude.{◌==◌, ◌&&◌}
 use Rattle.lrc_trace.specs.declared.act.Act.{Act}
 use Rattle.lrc_trace.specs.declared.act.Deed.{Deed}
 use Rattle.lrc_trace.specs.declared.act.Deed.TheVariants.{Release, Arrive}
 use Rattle.lrc_trace.specs.Run.{Does, arrives_before}
 use Rattle.lrc_trace.specs.Interval.{closes}
-use Rattle.lrc_trace.specs.Synchronization.{IsWellSynchronized}
-use Rattle.lrc_judge.specs.Synchronization.{IsFirstBreak}
-use Rattle.lrc_judge.proofs.Breaking.{no_break}
-use Rattle.lrc_trace.proofs.Positions.{Does-within, Does-read, Does-one_node, Does-one_deed}
-use Rattle.lrc_trace.proofs.Intervals.{act_at}
+use Rattle.lrc_trace.proofs.Positions.{Does-within, Does-one_node, Does-one_deed}
 use Rattle.lrc_time.specs.Time.{entry, joined}
 use Rattle.lrc_clock.specs.Times.{time_at, releases_at, arrives_at, time_before, released_time, arrived_time}
 use Rattle.lrc_clock.specs.Keeping.{KeepsTime, next_act_time}
@@ -24,17 +20,6 @@ use Rattle.lrc_clock.proofs.Counting.{own_entry_before}
 use Rattle.lrc_clock.proofs.Prefixes.{keeps-more}
 
 module _ {nodes : ℕ} {run : List Act} {times : List (List ℕ)} (keeps : KeepsTime nodes run times) where
-  pub acting : (position node : ℕ) (d : Act) → position < length run → node ≡ (get_or run position d).node → node < nodes
-  acting position node d lt is =
-      let within = keeps.in_range position (get_or run position d).node (get_or run position d).deed (Does-read run position d lt) in
-      omega arith
-
-  pub read-length : (position : ℕ) (time : List ℕ) → position < length run → time ≡ get_or times position time → length time ≡ nodes
-  read-length position time lt is =
-      let (a, does) = act_at run position lt in
-      let timed = keeps.timed in
-      ap length (is ∙ get_or_default times position time [] (omega arith)) ∙ long keeps position a.node a.deed does
-
   pub arrived-length : (number j : ℕ) → length (arrived_time nodes run times number j) ≡ nodes
   arrived-length number j = join-length nodes (arrives_at run number) times j
       (λ i lt holds. let (p, does, same) = arrives_at-act run i number holds in long keeps i p Arrive does)
@@ -71,17 +56,6 @@ module _ (nodes : ℕ) (run : List Act) (times : List (List ℕ)) (number positi
             let (p, does, same) = arrives_at-act run position number holds in
             absurd (other (Does-one_deed h does) (ap (λ q. arrives_before run q position) (Does-one_node h does) ∙ same))
       ]
-
--- a first break is a break
-pub fault-breaks : {nodes : ℕ} {run : List Act} (first : Option ℕ) → MatchOption first (IsWellSynchronized nodes run) (IsFirstBreak nodes run)
-    → true ≡ is_some first → IsWellSynchronized nodes run → ⊥
-fault-breaks {nodes} {run} (Some p) first is ws = (no_break nodes run).1 ws p first.broken
-fault-breaks None first is ws = absurd (true≢false is)
-
-pub no_fault : {nodes : ℕ} {run : List Act} (first : Option ℕ) → MatchOption first (IsWellSynchronized nodes run) (IsFirstBreak nodes run)
-    → false ≡ is_some first → IsWellSynchronized nodes run
-no_fault None first is = first
-no_fault (Some p) first is = absurd (false≢true is)
 
 -- no act is timed by no times
 pub keeps-none : (nodes : ℕ) → KeepsTime nodes [] []

@@ -6,4 +6,3 @@
 #![tactic(auto)]
 
 pub mod laws;
-pub mod times;

@@ -9,3 +9,5 @@ pub mod PlainParts
 pub mod Privates
 pub mod RoundsLaws
 pub mod Running
+pub mod Spots
+pub mod States

@@ -1,25 +1,19 @@
 -- What a node can do is the deed of what its thread asks for, and what it leads to.
-use Rattle.std.proofs.Common.{◌≡◌, ◌∙◌, ℕ, ◌+◌, ◌<◌, Bool, true, false, Option, Some, None, refl, sym, ap, subst}
+use Rattle.std.proofs.Common.{◌≡◌, ◌∙◌, ℕ, ◌+◌, Bool, true, false, Option, Some, None, refl, sym, ap, subst}
 use Rattle.std.specs.Prelude.{option_map, option_and_then, slice_index, slice_set, if◌then◌else◌, IsSome, IsSomeAnd}
 use Rattle.lrc_trace.specs.declared.act.Deed.{Deed}
 use Rattle.lrc_trace.specs.declared.act.Deed.TheVariants as deeds
 use Rattle.lrc_exec.specs.declared.machine.Ask.{Ask}
 use Rattle.lrc_exec.specs.declared.machine.Ask.TheVariants as asks
-use Rattle.lrc_exec.specs.Ask.{ask_of, deed_asked, done, TakesAnswer}
+use Rattle.lrc_exec.specs.Ask.{ask_of, deed_asked, done, resumed, thread_departed, IsResumable, TakesAnswer}
 use Rattle.lrc_exec.specs.Meaning.{Thread, Next, quiet, prints, reads, writes, acquires, releases, arrives, departs, traps, ends, first_act, next_of}
 use Rattle.lrc_exec.specs.Plain.{Plain, thread_in, with_thread, nobody_holds, all_arrived, deed_done, plain_step}
-use Rattle.lrc_exec.specs.PlainCode.{resumed, thread_departed, IsResumable}
+use Rattle.lrc_exec.specs.States.{deed_now, IsThere}
 use Rattle.lrc_exec.proofs.NextLaws.{IsFine, next_of-fine}
 
 -- what a node with this thread can do
 abbrev pub deed_of : Plain → ℕ → Option Thread → Option Deed
 deed_of machine node o = option_map (λ step. step.0) (option_and_then (λ thread. deed_done machine node (next_of thread)) o)
-
--- what is done where a thread asks for this
-abbrev pub deed_now : Plain → Ask → Option Deed
-deed_now machine (asks.Read word) = Some (deeds.Read word (slice_index machine.memory word))
-deed_now machine (asks.Acquire lock) = if nobody_holds machine lock then Some (deeds.Acquire lock) else None
-deed_now machine ask = Some (deed_asked 0 ask)
 
 pub if_first : (test : Bool) (deed : Deed) (after : Plain)
     → option_map (λ (step : Deed × Plain). step.0) (if test then Some (deed, after) else None) ≡ (if test then Some deed else None)
@@ -59,12 +53,7 @@ pub same_lock : (lock other : ℕ) → asks.Acquire lock ≡ asks.Acquire other 
 same_lock lock other e = cc
 
 -- what is asked for is there
-abbrev pub Fits : Thread → Ask → Type 0
-Fits thread (asks.Read word) = word < thread.setting.words
-Fits thread (asks.Acquire lock) = lock < thread.setting.locks
-Fits thread ask = Unit {0}
-
-ask_fits : (thread : Thread) (next : Next) → IsFine thread next → Fits thread (ask_of next)
+ask_fits : (thread : Thread) (next : Next) → IsFine thread next → IsThere thread.setting.words thread.setting.locks (ask_of next)
 ask_fits thread (reads word after) fine = fine.0
 ask_fits thread (acquires lock after) fine = fine.0
 ask_fits thread (quiet after) fine = tt
@@ -76,8 +65,9 @@ ask_fits thread (departs after) fine = tt
 ask_fits thread (traps cause) fine = tt
 ask_fits thread ends fine = tt
 
-pub asked_fits : (thread : Thread) (ask : Ask) → ask ≡ ask_of (next_of thread) → Fits thread ask
-asked_fits thread ask asked = subst (Fits thread) (sym asked) (ask_fits thread (next_of thread) (next_of-fine thread))
+pub asked_fits : (thread : Thread) (ask : Ask) → ask ≡ ask_of (next_of thread) → IsThere thread.setting.words thread.setting.locks ask
+asked_fits thread ask asked =
+    subst (IsThere thread.setting.words thread.setting.locks) (sym asked) (ask_fits thread (next_of thread) (next_of-fine thread))
 
 -- what a deed leads to
 abbrev pub after_deed : Plain → ℕ → Deed → Plain

@@ -1,5 +1,5 @@
 -- What the code of a thread asks for, and where an answer leads.
-use Rattle.std.specs.Prelude.{ℕ, false}
+use Rattle.std.specs.Prelude.{◌≡◌, ℕ, Bool, false}
 use Rattle.lrc_trace.specs.declared.act.Deed.{Deed}
 use Rattle.lrc_trace.specs.declared.act.Deed.TheVariants as deeds
 use Rattle.lrc_exec.specs.declared.machine.Ask.{Ask}
@@ -71,3 +71,15 @@ done value thread ends = thread
 -- the thread once what it asks for was answered with this value
 abbrev pub answered : ℕ → Thread → Thread
 answered value thread = done value thread (next_of thread)
+
+-- the same, and then it waits at a barrier or not
+abbrev pub resumed : (value : ℕ) → (arrived : Bool) → Thread → Thread
+resumed value arrived thread = record (answered value thread) { arrived = arrived }
+
+-- a thread that is at no barrier, and takes an answer
+abbrev pub IsResumable : Thread → Type 0
+IsResumable thread = (thread.arrived ≡ false) × TakesAnswer (ask_of (next_of thread))
+
+-- a thread that goes on from a barrier
+abbrev pub thread_departed : Thread → Thread
+thread_departed thread = record thread { arrived = false }

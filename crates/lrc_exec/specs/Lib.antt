@@ -6,9 +6,9 @@ pub mod Meaning
 pub mod Nodes
 pub mod Places
 pub mod Plain
-pub mod PlainCode
 pub mod Rounds
 pub mod RoundsCode
 pub mod Running
 pub mod Spots
+pub mod States
 pub mod Wish

@@ -2,13 +2,15 @@
 use Rattle.std.specs.Prelude.{◌≡◌, ℕ, Option, Some, None, List, ◌++◌}
 use Rattle.lrc_trace.specs.declared.act.Act.{Act}
 use Rattle.lrc_trace.specs.declared.act.Deed.{Deed}
-use Rattle.lrc_exec.specs.declared.rounds.Pace as code
+use Rattle.lrc_exec.specs.declared.rounds.Pace.{Pace}
+use Rattle.lrc_exec.specs.declared.spot.Flat.{Flat}
 use Rattle.lrc_exec.specs.Plain.{plain_step, plain_from}
 use Rattle.lrc_exec.specs.Rounds.{Paced, turn, round}
+use Rattle.lrc_exec.specs.States.{plain_at}
 
--- the code's machine with the steps left
-abbrev pub paced_of : code.Pace → Paced
-paced_of pace = record { machine = pace.machine; left = pace.left.items }
+-- the code's state with the steps left
+abbrev pub paced_of : Flat → Pace → Paced
+paced_of flat pace = record { machine = plain_at flat pace.state; left = pace.left.items }
 
 -- what a turn did, if anything
 abbrev pub MakesTurn : Paced → Paced → ℕ → Option Deed → Type 0

@@ -5,7 +5,7 @@ use Rattle.lrc_lang.specs.declared.program.Statement.TheVariants.{Assign, Acquir
 use Rattle.lrc_trace.specs.declared.act.Cause.{Cause}
 use Rattle.lrc_exec.specs.declared.machine.Ask.{Ask}
 use Rattle.lrc_exec.specs.declared.machine.Ask.TheVariants.{Trap}
-use Rattle.lrc_exec.specs.declared.cursor.Wish.{Wish}
+use Rattle.lrc_exec.specs.declared.spot.Wish.{Wish}
 use Rattle.lrc_exec.specs.Meaning.{Thread, next_of, value_in}
 use Rattle.lrc_exec.specs.Ask.{ask_of, TakesAnswer}
 

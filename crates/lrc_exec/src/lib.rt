@@ -2,11 +2,11 @@
 #![tactic(auto)]
 
 pub mod code;
-mod cursor;
 mod emit;
 pub mod laws;
 pub mod machine;
 pub mod plain;
 pub mod rounds;
 pub mod spot;
+pub mod state;
 pub mod value;

@@ -8,8 +8,7 @@ ghost use Rattle.lrc_exec.specs.Ask.{ask_of, answered, TakesAnswer, steps_of as 
 ghost use Rattle.lrc_exec.specs.Condition.{condition_holds};
 
 use crate::code::Code;
-use crate::cursor::{Cursor, Wish};
-use crate::spot::{Flat, Spot};
+use crate::spot::{Flat, Spot, Wish};
 use lrc_trace::act::{Cause, Deed};
 use std::marker::Model;
 
@@ -79,7 +78,8 @@ pub(crate) fn steps_of(deed: Deed) -> u32
 /// evaluated once, when the thread comes to its statement.
 #[derive(Drop)]
 pub struct Machine<'c> {
-    cursor: Cursor<'c>,
+    flat: Flat<'c>,
+    spot: Spot,
     wish: Wish,
 }
 
@@ -87,15 +87,16 @@ impl<'c> Model for Machine<'c> {
     ghost use Rattle.std.specs.Coded.{codes};
     ghost use Rattle.lrc_lang.specs.contracts.program.Statement as statement;
     ghost use Rattle.lrc_exec.specs.Meaning.{Thread};
-    ghost use Rattle.lrc_exec.specs.Wish.{IsWishOf};
+    ghost use Rattle.lrc_exec.specs.Running.{IsRunning};
+    ghost use Rattle.lrc_exec.specs.Spots.{thread_at};
 
     ghost Value = { Thread };
 
     ghost coded = { Prim.hlevel (codes, statement.the_row.coded) };
 
-    ghost view = { λ m. m.cursor };
+    ghost view = { λ m. thread_at m.flat m.spot };
 
-    ghost invariant = { λ m. IsWishOf m.cursor m.wish };
+    ghost invariant = { IsRunning };
 }
 
 impl<'c> Machine<'c> {
@@ -103,9 +104,8 @@ impl<'c> Machine<'c> {
     pub fn new(code: &'c Code<'_>, me: u8, nodes: u8) -> Machine<'c>
         ensures { result ≡ start_of code.now nodes me }
     {
-        let cursor = Cursor::new(code, me, nodes);
-        let wish = cursor.wish();
-        Machine { cursor, wish }
+        let (flat, place) = Flat::of(code, nodes);
+        Machine::at(&flat, &Spot::begun(me, place))
     }
 
     /// A node that stands at a place of flat code, and is at no barrier.
@@ -114,9 +114,12 @@ impl<'c> Machine<'c> {
         requires within { spot.now.place ≤ length flat.now.code.now }
         ensures { result ≡ thread_at flat.now spot.now }
     {
-        let cursor = Cursor::at(flat, spot);
-        let wish = cursor.wish();
-        Machine { cursor, wish }
+        let wish = flat.wish(spot);
+        Machine {
+            flat: *flat,
+            spot: *spot,
+            wish,
+        }
     }
 
     /// What the thread asks for next.
@@ -131,7 +134,7 @@ impl<'c> Machine<'c> {
     pub fn condition_holds(&self) -> bool
         ensures { result ≡ condition_holds self.now }
     {
-        self.cursor.condition_holds()
+        self.flat.condition_holds(&self.spot)
     }
 
     /// Completes what the thread asked for. For [`Ask::Read`] the value is the one that was read; otherwise it is not
@@ -142,7 +145,7 @@ impl<'c> Machine<'c> {
         ensures answered { self.new ≡ answered value self.old }
         ensures not_arrived { self.new.arrived ≡ false }
     {
-        self.cursor.answer(self.wish.number, value);
-        self.wish = self.cursor.wish();
+        self.flat.complete(&mut self.spot, self.wish.number, value);
+        self.wish = self.flat.wish(&self.spot);
     }
 }

@@ -17,15 +17,15 @@ use Rattle.lrc_exec.specs.Meaning.{Thread, Next, quiet, prints, reads, writes, a
 use Rattle.lrc_exec.specs.Plain.{Plain, deed_done, nobody_holds, all_arrived, with_thread, thread_in, plain_step, plain_start}
 use Rattle.lrc_consistency_laws.proofs.Plainly.{one_more, plain_from-joined}
 use Rattle.lrc_explore.specs.declared.kept.States.{States}
-use Rattle.lrc_explore.specs.declared.state.State.{State}
+use Rattle.lrc_exec.specs.declared.state.State.{State}
 use Rattle.lrc_explore.specs.declared.search.Found.{Found}
 use Rattle.lrc_explore.specs.declared.search.Origin.{Origin}
 use Rattle.lrc_explore.specs.Kept.{AreFull, IsAddedAt, IsAt, Widens, size}
 use Rattle.lrc_explore.specs.Meeting.{IsReachable}
-use Rattle.lrc_explore.specs.contracts.state.StatePartialEq.TheImpl.{eq-value as state_eq}
-use Rattle.lrc_explore.specs.States.{plain_at, machine_begun, IsCopy}
+use Rattle.lrc_exec.specs.contracts.state.StatePartialEq.TheImpl.{eq-value as state_eq}
+use Rattle.lrc_exec.specs.States.{plain_at, machine_begun, IsCopy, IsFirst}
 use Rattle.lrc_explore.specs.Search.{Stands, Steps, IsFound}
-use Rattle.lrc_explore.specs.Led.{beginning, onward, IsFirst, IsLedTo}
+use Rattle.lrc_explore.specs.Led.{beginning, onward, IsLedTo}
 use Rattle.lrc_explore.specs.Breadth.{AreBelow, IsPath, top, under}
 use Rattle.lrc_explore.specs.Limit.{AreCounted, HasMoreStates, IsNext, MeetsMore, Starts}
 use Rattle.lrc_explore.proofs.Breadth.{from_lower, one_longer}

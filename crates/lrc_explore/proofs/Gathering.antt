@@ -16,7 +16,7 @@ use Rattle.lrc_exec.specs.Plain.{Plain, plain_step, plain_from, plain_start}
 use Rattle.lrc_exec.specs.Spots.{spot_thread}
 use Rattle.lrc_exec.proofs.PlainLaws.{plain_from-begins}
 use Rattle.lrc_consistency_laws.proofs.Plainly.{one_more, plain_from-joined}
-use Rattle.lrc_explore.specs.declared.state.State.{State}
+use Rattle.lrc_exec.specs.declared.state.State.{State}
 use Rattle.lrc_explore.specs.declared.noted.Noted.{Noted}
 use Rattle.lrc_explore.specs.declared.noted.NotedStates.{NotedStates}
 use Rattle.lrc_explore.specs.declared.outcomes.Gathered.{Gathered}
@@ -27,8 +27,8 @@ use Rattle.lrc_explore.specs.Noted.{AreNotedDistinct, AreNotedFull, IsNotedAt, W
 use Rattle.lrc_explore.specs.Notes.{notes_with, notes_of, notes_from}
 use Rattle.lrc_explore.specs.Outcome.{AreGathered, AreSearched, AreSound, EndsWith, FitsNoted, HasNextBelow, HasNoted, HasOutcome}
 use Rattle.lrc_explore.specs.Outcome.{IsGathered, IsLed, IsOutcome, IsSearched, IsSearchedAt, MeetsMoreNoted}
-use Rattle.lrc_explore.specs.States.{machine_begun, thread_begun, plain_at, IsCopy, IsStateOf}
-use Rattle.lrc_explore.specs.Led.{beginning, onward, IsFirst, IsLedTo, LeadsTo}
+use Rattle.lrc_exec.specs.States.{machine_begun, thread_begun, plain_at, IsCopy, IsStateOf, IsFirst}
+use Rattle.lrc_explore.specs.Led.{beginning, onward, IsLedTo, LeadsTo}
 use Rattle.lrc_explore.specs.Stuck.{IsAtRest}
 use Rattle.lrc_explore.proofs.Counting.{counted_first, first_copy, step_threads}
 use Rattle.lrc_explore.proofs.Keeping.{item_at, stands_on}

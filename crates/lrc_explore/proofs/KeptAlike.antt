@@ -11,14 +11,14 @@ use lib.Pointwise.{pointwise}
 use mathlib.Core.Bool.{beq}
 use Rattle.lrc_exec.specs.declared.spot.Spot.{Spot}
 use Rattle.lrc_exec.specs.contracts.spot.SpotPartialEq.TheImpl.{eq-value as spot_eq}
-use Rattle.lrc_explore.specs.declared.state.State.{State}
+use Rattle.lrc_exec.specs.declared.state.State.{State}
 use Rattle.lrc_explore.specs.declared.kept.Shared.{Shared}
 use Rattle.lrc_explore.specs.declared.kept.Kept.{Kept}
 use Rattle.lrc_explore.specs.declared.kept.States.{States}
 use Rattle.lrc_explore.specs.contracts.kept.SharedPartialEq.TheImpl.{eq-value as shared_eq}
 use Rattle.lrc_explore.specs.contracts.kept.KeptPartialEq.TheImpl.{eq-value as kept_eq}
-use Rattle.lrc_explore.specs.contracts.state.StatePartialEq.TheImpl.{eq-value as state_eq}
-use Rattle.lrc_explore.specs.States.{IsCopy}
+use Rattle.lrc_exec.specs.contracts.state.StatePartialEq.TheImpl.{eq-value as state_eq}
+use Rattle.lrc_exec.specs.States.{IsCopy}
 use Rattle.lrc_explore.specs.Kept.{AreDistinct, IsKeptAs}
 use Rattle.lrc_explore.proofs.Same.{pointwise_same, option_same, spot_same, kept_same}
 use Rattle.lrc_explore.proofs.Keeping.{item_at}

@@ -9,8 +9,7 @@ pub mod Reduced
 pub mod Reducing
 pub mod Meetings
 pub mod Endings
-pub mod Spots
-pub mod Deeds
+pub mod Accesses
 pub mod Same
 pub mod Pairs
 pub mod Standing

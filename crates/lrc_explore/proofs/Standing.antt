@@ -11,10 +11,10 @@ use Rattle.lrc_exec.specs.Meaning.{Thread, next_of}
 use Rattle.lrc_exec.specs.Plain.{Plain, deed_done, thread_in, plain_step}
 use Rattle.lrc_exec.specs.Spots.{thread_at, spot_thread}
 use Rattle.lrc_exec.proofs.PlainParts.{thread_within}
-use Rattle.lrc_explore.specs.declared.state.State.{State}
-use Rattle.lrc_explore.specs.States.{plain_at}
+use Rattle.lrc_exec.specs.declared.state.State.{State}
+use Rattle.lrc_exec.specs.States.{plain_at}
 use Rattle.lrc_explore.specs.Stuck.{IsAtRest, IsUnfinished}
-use Rattle.lrc_explore.proofs.Spots.{thread_there}
+use Rattle.lrc_exec.proofs.Spots.{thread_there}
 
 -- no node below the bound can make an act
 abbrev pub StillBelow : Plain → ℕ → Type 0

@@ -13,9 +13,9 @@ use Rattle.lrc_explore.specs.declared.noted.Way.{Way}
 use Rattle.lrc_explore.specs.contracts.kept.KeptPartialEq.TheImpl.{eq-value as kept_eq}
 use Rattle.lrc_explore.specs.contracts.noted.NotedPartialEq.TheImpl.{eq-value as noted_eq}
 use Rattle.lrc_explore.specs.contracts.noted.WayPartialEq.TheImpl.{eq-value as way_eq}
-use Rattle.lrc_explore.specs.contracts.state.StatePartialEq.TheImpl.{eq-value as state_eq}
+use Rattle.lrc_exec.specs.contracts.state.StatePartialEq.TheImpl.{eq-value as state_eq}
 use Rattle.lrc_explore.specs.Kept.{IsAt}
-use Rattle.lrc_explore.specs.States.{IsCopy}
+use Rattle.lrc_exec.specs.States.{IsCopy}
 use Rattle.lrc_explore.specs.Noted.{AreNotedDistinct, IsNotedAt, WidensNoted, noted_count}
 use Rattle.lrc_explore.proofs.Alike.{acts_same}
 use Rattle.lrc_explore.proofs.Keeping.{grows_again, stands_on}

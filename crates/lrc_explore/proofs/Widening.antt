@@ -7,10 +7,10 @@ use Rattle.std.proofs.lemmas.Option.{get_or_from_slice_get, same_Some, slice_get
 use Rattle.lrc_exec.specs.declared.spot.Spot.{Spot}
 use Rattle.lrc_explore.specs.declared.kept.Kept.{Kept}
 use Rattle.lrc_explore.specs.declared.kept.States.{States}
-use Rattle.lrc_explore.specs.declared.state.State.{State}
+use Rattle.lrc_exec.specs.declared.state.State.{State}
 use Rattle.lrc_explore.specs.contracts.kept.KeptPartialEq.TheImpl.{eq-value as kept_eq}
-use Rattle.lrc_explore.specs.contracts.state.StatePartialEq.TheImpl.{eq-value as state_eq}
-use Rattle.lrc_explore.specs.States.{IsCopy}
+use Rattle.lrc_exec.specs.contracts.state.StatePartialEq.TheImpl.{eq-value as state_eq}
+use Rattle.lrc_exec.specs.States.{IsCopy}
 use Rattle.lrc_explore.specs.Kept.{AreDistinct, AreThere, Grows, IsAt, IsKeptAs, Widens, size}
 use Rattle.lrc_explore.proofs.Keeping.{grows_again, item_at, stands_on}
 use Rattle.lrc_explore.proofs.KeptAlike.{alike, copies}

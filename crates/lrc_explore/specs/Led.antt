@@ -9,8 +9,8 @@ use Rattle.lrc_exec.specs.Plain.{plain_step}
 use Rattle.lrc_exec.specs.Spots.{thread_at}
 use Rattle.lrc_exec.specs.declared.spot.Flat.{Flat}
 use Rattle.lrc_exec.specs.declared.spot.Spot.{Spot}
-use Rattle.lrc_explore.specs.declared.state.State.{State}
-use Rattle.lrc_explore.specs.States.{machine_begun, plain_at}
+use Rattle.lrc_exec.specs.declared.state.State.{State}
+use Rattle.lrc_exec.specs.States.{machine_begun, plain_at}
 
 -- the place of each node
 abbrev pub places_of : State → List ℕ

@@ -7,18 +7,18 @@ use Rattle.lrc_trace.specs.declared.act.Deed.{Deed}
 use Rattle.lrc_exec.specs.Plain.{Plain}
 use Rattle.lrc_exec.specs.declared.spot.Flat.{Flat}
 use Rattle.lrc_exec.specs.Flat.{IsCodeOf}
-use Rattle.lrc_explore.specs.declared.state.State.{State}
+use Rattle.lrc_exec.specs.declared.state.State.{State}
 use Rattle.lrc_explore.specs.declared.kept.States.{States}
 use Rattle.lrc_explore.specs.declared.search.Found.{Found}
 use Rattle.lrc_explore.specs.declared.search.End.{End}
 use Rattle.lrc_explore.specs.declared.search.End.TheVariants as end
 use Rattle.lrc_explore.specs.declared.search.ExploreFault.{ExploreFault}
 use Rattle.lrc_explore.specs.declared.search.ExploreFault.TheVariants.{BadNodes, TooMany, NoMemory}
-use Rattle.lrc_explore.specs.contracts.state.StatePartialEq.TheImpl.{eq-value}
+use Rattle.lrc_exec.specs.contracts.state.StatePartialEq.TheImpl.{eq-value}
 use Rattle.lrc_explore.specs.Kept.{IsAt, Widens, size}
 use Rattle.lrc_explore.specs.Meeting.{IsCalm, IsReachable, NeverMeetsBefore}
-use Rattle.lrc_explore.specs.States.{plain_at, IsStateOf}
-use Rattle.lrc_explore.specs.Led.{IsFirst, IsLedTo, LeadsTo}
+use Rattle.lrc_exec.specs.States.{plain_at, IsStateOf, IsFirst}
+use Rattle.lrc_explore.specs.Led.{IsLedTo, LeadsTo}
 use Rattle.lrc_explore.specs.Breadth.{AreBelow}
 use Rattle.lrc_explore.specs.Search.{AreExpanded, IsFound}
 

@@ -14,7 +14,7 @@ use Rattle.lrc_explore.specs.declared.noted.NotedStates.{NotedStates}
 use Rattle.lrc_explore.specs.declared.outcomes.Outcome.{Outcome}
 use Rattle.lrc_explore.specs.Notes.{notes_of, notes_with}
 use Rattle.lrc_explore.specs.Noted.{AreNotedDistinct, AreNotedFull, IsNotedAt}
-use Rattle.lrc_explore.specs.States.{plain_at, IsStateOf}
+use Rattle.lrc_exec.specs.States.{plain_at, IsStateOf}
 use Rattle.lrc_explore.specs.Led.{IsLedTo}
 use Rattle.lrc_explore.specs.Stuck.{IsAtRest}
 

@@ -7,9 +7,9 @@
 ghost use Rattle.std.specs.Prelude.{IfOk, OnOk};
 ghost use Rattle.lrc_explore.specs.Kept.{AreSpots, AreSpotsDistinct, AreThere, Grows};
 
-use crate::state::{State, copied};
 use indexmap::IndexSet;
 use lrc_exec::spot::Spot;
+use lrc_exec::state::{State, copied};
 use std::alloc::{AllocError, Global};
 
 /// What the nodes of a state share: the words, who holds each lock, and how often each node has arrived.

@@ -15,7 +15,7 @@ ghost use Rattle.lrc_explore.specs.Notes.{notes_of, notes_with};
 ghost use Rattle.lrc_explore.specs.Verdict.{IsVerdict, FindsNoRace};
 ghost use Rattle.lrc_explore.specs.declared.kept.Kept.{Kept};
 ghost use Rattle.lrc_explore.specs.declared.kept.States.{States};
-ghost use Rattle.lrc_explore.specs.declared.state.State.{State};
+ghost use Rattle.lrc_exec.specs.declared.state.State.{State};
 ghost use Rattle.lrc_explore.specs.Kept.{AreAlikeTogether, AreDistinct, IsKeptAs};
 
 /// A program has no race exactly where no order leads two nodes of the plain machine to where both are about to access one

@@ -7,4 +7,4 @@ pub mod noted;
 pub mod notes;
 pub mod outcomes;
 pub mod search;
-pub mod state;
+pub mod seen;

@@ -4,9 +4,9 @@ ghost use Rattle.std.specs.Prelude.{◌≡◌};
 
 use crate::kept::States;
 use crate::notes::note;
-use crate::state::{State, copied};
 use indexmap::IndexSet;
 use lrc_exec::spot::Flat;
+use lrc_exec::state::{State, copied};
 use lrc_trace::act::{Act, Deed};
 use std::alloc::{AllocError, Global};
 
@@ -37,8 +37,7 @@ impl Noted {
     ghost use Rattle.lrc_exec.specs.Plain.{plain_step};
     ghost use Rattle.lrc_exec.specs.Spots.{IsFlat};
     ghost use Rattle.lrc_explore.specs.Notes.{notes_with};
-    ghost use Rattle.lrc_explore.specs.States.{plain_at, IsStateOf, IsCopy};
-    ghost use Rattle.lrc_explore.specs.Led.{place_then, HasMoved};
+    ghost use Rattle.lrc_exec.specs.States.{plain_at, IsStateOf, IsCopy, place_then, HasMoved};
 
     // The same state and notes.
     fn copy(&self, alloc: Global) -> Result<Noted, AllocError>

@@ -7,10 +7,11 @@ ghost use Rattle.lrc_explore.specs.Outcome.{FitsNoted, HasMoreNoted, HasOutcome,
 
 use crate::noted::{Noted, NotedStates};
 use crate::search::{ExploreFault, count_of};
-use crate::state::State;
+use crate::seen::is_still;
 use indexmap::IndexSet;
 use lrc_exec::code::Code;
 use lrc_exec::spot::Flat;
+use lrc_exec::state::State;
 use lrc_lang::program::Program;
 use lrc_trace::act::Act;
 use std::alloc::{AllocError, Global};
@@ -77,7 +78,7 @@ fn outcomes_of(
 impl Gathered {
     ghost use Rattle.std.specs.Prelude.{◌≡◌, ◌≢◌, ◌<◌, ◌≤◌, ◌^◌, IfOk, IfErr, OnOk, length, []};
     ghost use Rattle.lrc_exec.specs.Spots.{IsFlat};
-    ghost use Rattle.lrc_explore.specs.States.{IsStateOf, machine_begun, plain_at};
+    ghost use Rattle.lrc_exec.specs.States.{IsStateOf, machine_begun, plain_at};
     ghost use Rattle.lrc_explore.specs.Kept.{Grows};
     ghost use Rattle.lrc_explore.specs.Noted.{AreNotedDistinct, IsNotedAt, WidensNoted, noted_count};
     ghost use Rattle.lrc_explore.specs.Outcome.{AreGathered, AreSound, AreSearched, HasNoted, HasNextBelow, IsLed, IsSearchedAt, CountsUpTo, MeetsMoreNoted};
@@ -192,7 +193,7 @@ impl Gathered {
     {
         let key = self.states.noted(alloc, place)?;
         self.expand(alloc, flat, start, place, &key)?;
-        if key.state.is_still(flat) {
+        if is_still(flat, &key.state) {
             self.outcomes.insert_full(Outcome { notes: key.notes })?;
         }
         Ok(())

@@ -24,3 +24,4 @@ mod Searching
 pub mod Comparing
 pub mod Distinct
 pub mod Segments
+pub mod Strictly

@@ -14,10 +14,9 @@ use Rattle.lrc_exec.specs.Plain.{Plain}
 use Rattle.lrc_consistency_laws.proofs.UpToRace.{in_range}
 use Rattle.lrc_explore.specs.declared.outcomes.Outcome.{Outcome}
 use Rattle.lrc_explore.specs.Kept.{Grows}
-use Rattle.lrc_explore.specs.Led.{IsFirst}
+use Rattle.lrc_exec.specs.States.{IsFirst, plain_at, IsStateOf}
 use Rattle.lrc_explore.specs.Notes.{notes_with}
 use Rattle.lrc_explore.specs.Outcome.{HasOutcome}
-use Rattle.lrc_explore.specs.States.{plain_at, IsStateOf}
 use Rattle.lrc_explore.proofs.Counting.{step_counts}
 use Rattle.lrc_explore.proofs.Gathering.{put_all}
 use Rattle.lrc_explore.proofs.Keeping.{stands_on as stays, put_grows, item_at}

@@ -5,8 +5,8 @@ use Rattle.lrc_trace.specs.declared.act.Deed.{Deed}
 use Rattle.lrc_trace.specs.declared.act.Deed.TheVariants.{Arrive}
 use Rattle.lrc_exec.specs.declared.spot.Flat.{Flat}
 use Rattle.lrc_exec.specs.Plain.{Plain}
-use Rattle.lrc_explore.specs.declared.state.State.{State}
-use Rattle.lrc_explore.specs.States.{plain_at, IsStateOf}
+use Rattle.lrc_exec.specs.declared.state.State.{State}
+use Rattle.lrc_exec.specs.States.{plain_at, IsStateOf}
 use Rattle.lrc_explore.proofs.Effects.{arrivals_after}
 use Rattle.lrc_settled.proofs.Parts.{stepped}
 use Rattle.lrc_lazy_machine.specs.Standing.{with_memory}

@@ -13,7 +13,7 @@ use Rattle.lrc_exec.proofs.NextLaws.{next_of-fine}
 use Rattle.lrc_consistency_laws.specs.Follows.{Goes, quietly, printing, reading, writing, acquiring, releasing, arriving, departing, trapping, ending}
 use Rattle.lrc_consistency_laws.proofs.Runs.{CanDo}
 use Rattle.lrc_explore.proofs.Effects.{after_of}
-use Rattle.lrc_explore.specs.States.{plain_at, IsStateOf}
+use Rattle.lrc_exec.specs.States.{plain_at, IsStateOf}
 use Rattle.lrc_explore.proofs.Spots.{words_known}
 use Rattle.lrc_settled.proofs.Parts.{stepped, can_step}
 use Rattle.lrc_known.specs.declared.known.Last.{Last}

@@ -10,8 +10,8 @@ use Rattle.lrc_trace.specs.contracts.act.ActPartialEq.TheImpl.{eq-value as act_e
 use Rattle.lrc_trace.specs.Order.{HappensBefore}
 use Rattle.lrc_exec.specs.declared.spot.Flat.{Flat}
 use Rattle.lrc_exec.specs.Plain.{Plain}
-use Rattle.lrc_explore.specs.contracts.state.StatePartialEq.TheImpl.{eq-value as state_eq}
-use Rattle.lrc_explore.specs.States.{plain_at}
+use Rattle.lrc_exec.specs.contracts.state.StatePartialEq.TheImpl.{eq-value as state_eq}
+use Rattle.lrc_exec.specs.States.{plain_at}
 use Rattle.lrc_explore.proofs.Alike.{acts_same}
 use Rattle.lrc_explore.proofs.Same.{pointwise_same, state_same}
 use Rattle.lrc_known.specs.declared.known.Last.{Last}

@@ -14,7 +14,7 @@ use Rattle.lrc_consistency_laws.proofs.UpToRace.{in_range}
 use Rattle.lrc_explore.specs.declared.outcomes.Outcome.{Outcome}
 use Rattle.lrc_explore.specs.Notes.{notes_of, notes_with}
 use Rattle.lrc_explore.specs.Outcome.{HasOutcome}
-use Rattle.lrc_explore.specs.States.{plain_at}
+use Rattle.lrc_exec.specs.States.{plain_at}
 use Rattle.lrc_explore.proofs.Noting.{notes_more}
 use Rattle.lrc_lazy.specs.Lazy.{IsLazyRun, IsLazyOutcome, IsOver, MayComeNext}
 use Rattle.lrc_known.specs.Effect.{IsKnowledgeAfter}

@@ -4,7 +4,7 @@ use Rattle.lrc_trace.specs.declared.act.Deed.{Deed}
 use Rattle.lrc_exec.specs.Meaning.{Thread}
 use Rattle.lrc_exec.specs.Plain.{thread_in}
 use Rattle.lrc_exec.specs.declared.spot.Flat.{Flat}
-use Rattle.lrc_explore.specs.States.{plain_at, IsStateOf}
+use Rattle.lrc_exec.specs.States.{plain_at, IsStateOf}
 use Rattle.lrc_known.specs.declared.word.Effect.{Effect}
 use Rattle.lrc_known.specs.Effect.{effect_of}
 use Rattle.lrc_lazy_search.specs.declared.state.LazyState.{LazyState}

@@ -9,10 +9,10 @@ use Rattle.lrc_trace.specs.Run.{act_of}
 use Rattle.lrc_exec.specs.Plain.{plain_step}
 use Rattle.lrc_exec.specs.declared.spot.Flat.{Flat}
 use Rattle.lrc_explore.specs.declared.outcomes.Outcome.{Outcome}
-use Rattle.lrc_explore.specs.declared.state.State.{State}
+use Rattle.lrc_exec.specs.declared.state.State.{State}
 use Rattle.lrc_explore.specs.Notes.{notes_of, notes_with}
 use Rattle.lrc_explore.specs.Outcome.{HasOutcome}
-use Rattle.lrc_explore.specs.States.{plain_at, IsStateOf}
+use Rattle.lrc_exec.specs.States.{plain_at, IsStateOf}
 use Rattle.lrc_lazy.specs.Lazy.{IsLazyOutcome}
 use Rattle.lrc_known.specs.Effect.{IsKnowledgeAfter}
 use Rattle.lrc_swapped.specs.Swapped.{IsNoAcquire}

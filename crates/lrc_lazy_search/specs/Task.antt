@@ -3,7 +3,7 @@ use Rattle.std.specs.Prelude.{◌≡◌, ◌≤◌, List, length}
 use Rattle.std.specs.List.{IsDistinct}
 use Rattle.lrc_exec.specs.Plain.{plain_start}
 use Rattle.lrc_exec.specs.Spots.{IsFlat}
-use Rattle.lrc_explore.specs.States.{machine_begun}
+use Rattle.lrc_exec.specs.States.{machine_begun}
 use Rattle.lrc_lazy_search.specs.declared.state.LazyState.{LazyState}
 use Rattle.lrc_lazy_search.specs.declared.search.Task.{Task}
 use Rattle.lrc_lazy_search.specs.contracts.state.LazyStatePartialEq.TheImpl.{eq-value}

@@ -7,8 +7,8 @@ ghost use Rattle.lrc_known.specs.Effect.{IsKnowledgeAfter, IsSmall, word_of};
 ghost use Rattle.lrc_lazy_search.specs.Fit.{effect_of_flat};
 
 use lrc_exec::spot::Flat;
+use lrc_exec::state::State;
 use lrc_explore::notes::note;
-use lrc_explore::state::State;
 use lrc_known::known::{Knowledge, KnownWord};
 use lrc_known::word::{Effect, copied, word_after};
 use lrc_trace::act::{Act, Deed};
@@ -31,8 +31,7 @@ impl LazyState {
     ghost use Rattle.std.specs.Prelude.{length, slice_get, slice_index};
     ghost use Rattle.lrc_trace.specs.declared.act.Deed.{Deed as DeedType};
     ghost use Rattle.lrc_exec.specs.Spots.{IsFlat};
-    ghost use Rattle.lrc_explore.specs.Led.{IsFirst};
-    ghost use Rattle.lrc_explore.specs.States.{plain_at, IsStateOf};
+    ghost use Rattle.lrc_exec.specs.States.{IsFirst, plain_at, IsStateOf};
     ghost use Rattle.lrc_known.specs.Effect.{word_of, IsKnowledgeAfter};
     ghost use Rattle.lrc_lazy_machine.specs.Standing.{with_memory, CanMake};
     ghost use Rattle.lrc_lazy_search.specs.Fit.{IsFit};

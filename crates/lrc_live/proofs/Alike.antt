@@ -11,13 +11,13 @@ use Rattle.lrc_exec.specs.declared.spot.Flat.{Flat}
 use Rattle.lrc_exec.specs.declared.spot.Spot.{Spot}
 use Rattle.lrc_exec.specs.Meaning.{Thread}
 use Rattle.lrc_exec.specs.Plain.{Plain, thread_in, plain_step, plain_from}
-use Rattle.lrc_exec.specs.Spots.{thread_at, spot_thread}
+use Rattle.lrc_exec.specs.Spots.{thread_at, spot_thread, spot_stopped}
 use Rattle.lrc_exec.proofs.PlainParts.{thread_within}
-use Rattle.lrc_explore.specs.declared.state.State.{State}
-use Rattle.lrc_explore.specs.States.{plain_at, spot_stopped, IsStateOf}
+use Rattle.lrc_exec.specs.declared.state.State.{State}
+use Rattle.lrc_exec.specs.States.{plain_at, IsStateOf}
 use Rattle.lrc_explore.specs.Meeting.{next_access_in, Meet}
 use Rattle.lrc_explore.specs.Stuck.{IsAtRest, IsStuck}
-use Rattle.lrc_explore.proofs.Spots.{stands_at}
+use Rattle.lrc_exec.proofs.Spots.{stands_at}
 use Rattle.lrc_settled.specs.Rows.{AreAlike}
 use Rattle.lrc_settled.specs.Settling.{IsSettled, Settles}
 use Rattle.lrc_settled.specs.Steps as steps

@@ -2,13 +2,13 @@
 
 ghost use Rattle.std.specs.Prelude.{◌≡◌, ◌<◌, All, length, map};
 ghost use Rattle.lrc_exec.specs.Spots.{IsFlat};
-ghost use Rattle.lrc_explore.specs.States.{IsStateOf, plain_at};
+ghost use Rattle.lrc_exec.specs.States.{IsStateOf, plain_at};
 ghost use Rattle.lrc_steps.specs.Taking.{IsCounted};
 ghost use Rattle.lrc_live.specs.Like.{AreLike};
 ghost use Rattle.lrc_live.specs.Live.{AreLive, forgot, without_dead};
 
 use lrc_exec::spot::{Flat, Spot};
-use lrc_explore::state::State;
+use lrc_exec::state::State;
 
 /// Sets each private value to 0 that nothing depends on any more. So states that go on alike are one.
 pub fn forget_dead(flat: &Flat, table: &[[bool; 32]], state: &mut State)

@@ -16,8 +16,8 @@ use Rattle.lrc_exec.specs.Spots.{spot_thread, thread_at}
 use Rattle.lrc_exec.proofs.NextLaws.{IsFine, next_of-fine}
 use Rattle.lrc_consistency_laws.specs.Follows.{Goes, reading, writing, acquiring}
 use Rattle.lrc_consistency_laws.proofs.Runs.{CanDo}
-use Rattle.lrc_explore.specs.declared.state.State.{State}
-use Rattle.lrc_explore.specs.States.{plain_at}
+use Rattle.lrc_exec.specs.declared.state.State.{State}
+use Rattle.lrc_exec.specs.States.{plain_at}
 use Rattle.lrc_explore.proofs.Effects.{after_of, holders_after, memory_after}
 use Rattle.lrc_explore.proofs.Spots.{thread_there}
 use Rattle.lrc_settled.specs.Free.{is_contended}

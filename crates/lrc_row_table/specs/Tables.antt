@@ -6,8 +6,8 @@ use Rattle.lrc_exec.specs.declared.spot.Spot.{Spot}
 use Rattle.lrc_exec.specs.Plain.{Plain}
 use Rattle.lrc_exec.specs.Spots.{IsFlat}
 use Rattle.lrc_explore.specs.declared.noted.Noted.{Noted}
-use Rattle.lrc_explore.specs.declared.state.State.{State}
-use Rattle.lrc_explore.specs.States.{IsStateOf, plain_at}
+use Rattle.lrc_exec.specs.declared.state.State.{State}
+use Rattle.lrc_exec.specs.States.{IsStateOf, plain_at}
 use Rattle.lrc_settled.specs.Settling.{IsSettled}
 use Rattle.lrc_steps.specs.declared.step.Step.{Step}
 use Rattle.lrc_steps.specs.Taking.{IsCounted, Takes, TakesTo}

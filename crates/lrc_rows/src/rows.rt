@@ -7,7 +7,7 @@ use crate::parts::{Notes, Shared, counted, notes_number, shared_number, threads_
 use indexmap::IndexSet;
 use lrc_exec::spot::Spot;
 use lrc_explore::noted::Noted;
-use lrc_explore::state::State;
+use lrc_exec::state::State;
 use std::alloc::{AllocError, Global};
 
 /// A state with its notes, by the number of each node's thread, of what the nodes share, and of what was noted. Past the nodes that there

@@ -18,8 +18,8 @@ use Rattle.lrc_exec.proofs.PlainLaws.{plain_from-last}
 use Rattle.lrc_exec.proofs.RoundsLaws.{range-last}
 use Rattle.lrc_consistency_laws.specs.Follows.{departing}
 use Rattle.lrc_consistency_laws.proofs.Runs.{CanDo}
-use Rattle.lrc_explore.specs.declared.state.State.{State}
-use Rattle.lrc_explore.specs.States.{plain_at, IsStateOf}
+use Rattle.lrc_exec.specs.declared.state.State.{State}
+use Rattle.lrc_exec.specs.States.{plain_at, IsStateOf}
 use Rattle.lrc_explore.proofs.Effects.{after_of}
 use Rattle.lrc_settled.specs.Steps.{waits_in, AllWait}
 use Rattle.lrc_settled.proofs.Parts.{can_step}

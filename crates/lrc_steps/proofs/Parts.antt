@@ -8,10 +8,10 @@ use Rattle.lrc_trace.specs.declared.act.Deed.TheVariants.{Release}
 use Rattle.lrc_exec.specs.declared.spot.Flat.{Flat}
 use Rattle.lrc_exec.specs.declared.spot.Spot.{Spot}
 use Rattle.lrc_exec.specs.Plain.{thread_in, with_thread}
-use Rattle.lrc_exec.specs.Spots.{thread_at, spot_thread}
-use Rattle.lrc_explore.specs.declared.state.State.{State}
-use Rattle.lrc_explore.specs.States.{plain_at, spot_stopped, IsStateOf}
-use Rattle.lrc_explore.proofs.Spots.{state_set, with_spot}
+use Rattle.lrc_exec.specs.Spots.{thread_at, spot_thread, spot_stopped}
+use Rattle.lrc_exec.specs.declared.state.State.{State}
+use Rattle.lrc_exec.specs.States.{plain_at, IsStateOf}
+use Rattle.lrc_exec.proofs.Spots.{state_set, with_spot}
 use Rattle.lrc_settled.specs.Steps.{waits_in}
 use Rattle.lrc_steps.specs.Gone.{freed, freed_by, kept_spot}
 

@@ -8,8 +8,8 @@ use Rattle.lrc_exec.specs.declared.spot.Flat.{Flat}
 use Rattle.lrc_exec.specs.Meaning.{Thread}
 use Rattle.lrc_exec.specs.Plain.{Plain, thread_in}
 use Rattle.lrc_exec.specs.Spots.{spot_thread}
-use Rattle.lrc_explore.specs.declared.state.State.{State}
-use Rattle.lrc_explore.specs.States.{plain_at, IsStateOf}
+use Rattle.lrc_exec.specs.declared.state.State.{State}
+use Rattle.lrc_exec.specs.States.{plain_at, IsStateOf}
 use Rattle.lrc_settled.specs.Free.{is_free_in, TurnsIn}
 use Rattle.lrc_settled.specs.Rows.{AreAlike}
 use Rattle.lrc_settled.specs.Settling.{IsSettledAt, Settles, settled}

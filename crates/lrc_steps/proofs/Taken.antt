@@ -13,8 +13,8 @@ use Rattle.lrc_exec.specs.Meaning.{Thread}
 use Rattle.lrc_exec.specs.Plain.{Plain, thread_in, plain_step}
 use Rattle.lrc_exec.specs.Spots.{spot_thread}
 use Rattle.lrc_consistency_laws.proofs.Plainly.{one_more}
-use Rattle.lrc_explore.specs.declared.state.State.{State}
-use Rattle.lrc_explore.specs.States.{plain_at}
+use Rattle.lrc_exec.specs.declared.state.State.{State}
+use Rattle.lrc_exec.specs.States.{plain_at}
 use Rattle.lrc_settled.specs.Free.{is_contended, is_free_in, TurnsIn}
 use Rattle.lrc_settled.specs.Settling.{IsSettled, IsSettledAt}
 use Rattle.lrc_settled.specs.Steps.{AllWait}

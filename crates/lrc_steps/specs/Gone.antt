@@ -8,12 +8,12 @@ use Rattle.lrc_exec.specs.declared.spot.Flat.{Flat}
 use Rattle.lrc_exec.specs.declared.spot.Spot.{Spot}
 use Rattle.lrc_exec.specs.Meaning.{Thread}
 use Rattle.lrc_exec.specs.Plain.{Plain, thread_in}
-use Rattle.lrc_exec.specs.Spots.{spot_thread}
+use Rattle.lrc_exec.specs.Spots.{spot_thread, spot_stopped}
 use Rattle.lrc_settled.specs.Rows.{AreAlike}
 use Rattle.lrc_settled.specs.Settling.{Settles}
 use Rattle.lrc_settled.specs.Threads.{ThreadSettles}
-use Rattle.lrc_explore.specs.declared.state.State.{State}
-use Rattle.lrc_explore.specs.States.{plain_at, spot_stopped}
+use Rattle.lrc_exec.specs.declared.state.State.{State}
+use Rattle.lrc_exec.specs.States.{plain_at}
 use Rattle.lrc_steps.specs.declared.settle.Settled.{Settled}
 
 -- the acts of a node that are these deeds

@@ -3,13 +3,13 @@
 ghost use Rattle.std.specs.Prelude.{◌≡◌, ◌<◌, ◌≤◌, ◌⊎◌, ◌++◌, ℕ, MatchOption, IfOk, OnOk, length, true, false, slice_index_or, slice_set, None};
 ghost use Rattle.lrc_exec.specs.Plain.{thread_in, with_thread};
 ghost use Rattle.lrc_exec.specs.Spots.{spot_thread, IsFlat};
-ghost use Rattle.lrc_explore.specs.States.{plain_at, IsStateOf};
+ghost use Rattle.lrc_exec.specs.States.{plain_at, IsStateOf};
 ghost use Rattle.lrc_settled.specs.Settling.{IsSettledAt};
 ghost use Rattle.lrc_search.specs.Settling.{MakesFree};
 ghost use Rattle.lrc_steps.specs.Gone.{HasSettled, IsSettledSpot, NodeSettles, acts_by, freed, freed_by, kept_spot};
 
 use lrc_exec::spot::{Flat, Spot};
-use lrc_explore::state::State;
+use lrc_exec::state::State;
 use lrc_search::settling::{Settling, settle_thread};
 use lrc_trace::act::{Act, Deed};
 use std::alloc::{AllocError, Global};

@@ -4,7 +4,7 @@ ghost use Rattle.std.specs.Prelude.{◌≡◌, ◌<◌, ◌-◌, ◌^◌, ◌↔
 ghost use Rattle.lrc_trace.specs.declared.act.Deed.{Deed as DeedType};
 ghost use Rattle.lrc_exec.specs.Plain.{Plain, plain_step};
 ghost use Rattle.lrc_exec.specs.Spots.{IsFlat};
-ghost use Rattle.lrc_explore.specs.States.{plain_at, IsStateOf};
+ghost use Rattle.lrc_exec.specs.States.{plain_at, IsStateOf};
 ghost use Rattle.lrc_settled.specs.Free.{is_contended};
 ghost use Rattle.lrc_settled.specs.Rows.{AreAlike};
 ghost use Rattle.lrc_settled.specs.Settling.{IsSettled};
@@ -13,7 +13,7 @@ ghost use Rattle.lrc_steps.specs.Taking.{ComputesLong, HasTaken, HaveDeparted, I
 
 use crate::settle::settle;
 use lrc_exec::spot::{Flat, Spot};
-use lrc_explore::state::State;
+use lrc_exec::state::State;
 use lrc_trace::act::{Act, Deed};
 use std::alloc::{AllocError, Global};
 

@@ -5,4 +5,4 @@ mod part;
 mod told;
 mod turn;
 
-pub use part::messages_part;
+pub use part::{entry_of, messages_part};

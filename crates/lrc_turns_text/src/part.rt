@@ -10,8 +10,8 @@ use crate::turn::push_turn;
 use lrc_node::Entry;
 use std::alloc::{AllocError, Global};
 
-// The turn at a place of a node's log.
-fn entry_of(logs: &[Vec<Entry>], node: u8, place: usize) -> Option<&Entry>
+/// The turn at a place of a node's log.
+pub fn entry_of(logs: &[Vec<Entry>], node: u8, place: usize) -> Option<&Entry>
     ensures there { MatchOption result (log_entry (map (λ log. log.items) logs.now) node place ≡ None)
         (λ entry. log_entry (map (λ log. log.items) logs.now) node place ≡ Some entry.now) }
     ensures bound { OnSome result (place < 18446744073709551615) }

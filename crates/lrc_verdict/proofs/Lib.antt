@@ -1,4 +1,3 @@
-mod Ascending
 pub mod Judged
 mod PairLists
 mod Racing

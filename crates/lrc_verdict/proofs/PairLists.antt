@@ -14,7 +14,6 @@ use Rattle.std.proofs.lemmas.List.Kept.{IsStrictlySortedBy-filter}
 use Rattle.std.proofs.lemmas.Map.Keys.{sorted_from_all_adjacent}
 use Rattle.lrc_trace.specs.declared.act.Act.{Act}
 use Rattle.lrc_trace.specs.Conflict.{IsRaceFree, Races}
-use Rattle.lrc_store.proofs.Orders.{Contains-first, filter-Contains, none_Contains}
 use Rattle.lrc_judge.specs.Order.{IsOrderOf}
 use Rattle.lrc_judge.specs.Pairs.{ArePairsWithLater, AreRacingPairs, pair_cmp}
 use Rattle.lrc_judge.specs.declared.lanes.Pair.{Pair}
@@ -22,7 +21,7 @@ use Rattle.lrc_judge.specs.declared.order.Order.{Order}
 use Rattle.lrc_acts.specs.JudgeLines.{pair_line}
 use Rattle.lrc_verdict.specs.Judgement.{accesses_at, pair_lines}
 use Rattle.lrc_verdict.specs.RacingPairs.{is_racing, lines_from, pair_of, pairs_at}
-use Rattle.lrc_verdict.proofs.Ascending.{joined-ascending, same-lists}
+use Rattle.lrc_judge.proofs.Strictly.{joined-ascending, same-lists, Contains-first, filter-Contains, none_Contains}
 use Rattle.lrc_verdict.proofs.Racing.{races-racing, racing-races}
 use Rattle.lrc_verdict.proofs.Within.{race_within}
 

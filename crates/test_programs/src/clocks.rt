@@ -1,11 +1,14 @@
 // The times of runs, beside happens before as the judge computes it.
 
+ghost use Rattle.std.specs.Prelude.{◌<◌, ◌↔◌, All, IsTrue};
+
 use crate::acts::{push_each, run_of};
 use crate::checks::holds;
-use lrc_clock::times::{are_of, times_of};
 use lrc_judge::are_in_range;
 use lrc_judge::order::{Order, happens_before};
+use lrc_judge::synchronization::first_fault_of_synchronization;
 use lrc_time::Time;
+use lrc_timed::times::times_of_acts;
 use lrc_trace::act::{Act, Deed};
 use std::alloc::{AllocError, Global};
 
@@ -18,12 +21,22 @@ enum Asked<'a> {
     Agree,
 }
 
+/// Whether every act is of one of so many nodes.
+fn are_of(acts: &[Act], nodes: u8) -> bool
+    ensures { IsTrue result ↔ All (λ act. act.node < nodes) acts.now }
+{
+    acts.iter().all(|act| act.node < nodes)
+}
+
 /// The times of a run of so many nodes, where it is one.
 pub fn times(alloc: Global, acts: &[Act], nodes: u8) -> Result<Option<Vec<Time>>, AllocError> {
-    if nodes == 0 || nodes > 16 || !are_of(acts, nodes) || acts.len() > 1000 {
+    if nodes == 0 || nodes > 16 || !are_of(acts, nodes) {
         return Ok(None);
     }
-    times_of(alloc, acts, nodes)
+    if first_fault_of_synchronization(acts, nodes).is_some() {
+        return Ok(None);
+    }
+    Ok(Some(times_of_acts(alloc, acts, nodes)?))
 }
 
 fn at(time: &Time, node: u8) -> u32 {

@@ -8,7 +8,10 @@ use Rattle.std.proofs.Math.Seq.{drop-cons}
 use Rattle.lrc_lang.specs.declared.program.Program.{Program}
 use Rattle.lrc_trace.specs.declared.act.Act.{Act}
 use Rattle.lrc_trace.specs.declared.act.Deed.{Deed}
+use Rattle.lrc_exec.specs.declared.state.Step.{Step}
 use Rattle.lrc_exec.specs.Plain.{Plain, start_of, plain_start, plain_step, plain_from, plain}
+use Rattle.lrc_exec.specs.States.{plain_at}
+use Rattle.lrc_exec.proofs.Beginning.{begun_of}
 use Rattle.lrc_exec.proofs.PlainLaws.{no_arrivals, plain_from-last, plain_from-stuck, plain_step-grows}
 use Rattle.lrc_exec.proofs.PlainParts.{step-fits, thread_within}
 use Rattle.lrc_exec.proofs.plain.plain_run.Invariants.{HasCome}
@@ -58,41 +61,54 @@ is_stuck program order nodes index acts machine inside come none =
 
 pub loop-node-init : goal.loop-node-init
 loop-node-init c =
-    has_begun c.args.program.now c.args.nodes c.args.order.now c.new-acts.result.items c.in_ok-machine.machine c.new-acts.ensures.items
-    (c.in_ok-machine.ensures ∙ ap (λ p. plain_start p c.args.nodes) c.in_ok-code.ensures)
+    let flat = c.of-place.result.0 in
+    record {
+      come =
+          has_begun c.args.program.now c.args.nodes c.args.order.now c.new-acts.result.items (plain_at flat c.in_ok-state.state) c.new-acts.ensures.items
+          (c.in_ok-state.ensures.first.begun ∙ begun_of c.in_ok-code.code c.args.nodes c.of-place.result.1 flat c.of-place.ensures.program
+          ∙ ap (λ p. plain_start p c.args.nodes) c.in_ok-code.ensures);
+      state = c.in_ok-state.ensures.state;
+    }
 
 pub returns-in_default : goal.returns-in_default
 returns-in_default c =
-    is_stuck c.args.program.now c.args.order.now c.args.nodes c.loop-node.node-index c.loop-node.acts.items c.loop-node.machine c.loop-node-test.true
-    c.loop-node.invariant
-    (sym c.in_default.is ∙ c.next_deed.ensures)
+    is_stuck c.args.program.now c.args.order.now c.args.nodes c.loop-node.node-index c.loop-node.acts.items
+    (plain_at c.of-place.result.0 c.loop-node.state) c.loop-node-test.true c.loop-node.invariant.come
+    (ap (option_map (λ (step : Step). step.deed)) (sym c.in_default.is) ∙ c.next_step.ensures.deed)
 
 pub loop-node-preserved : goal.loop-node-preserved
 loop-node-preserved c =
-    goes_on (plain_start c.args.program.now c.args.nodes) c.args.order.now c.args.nodes c.loop-node.node-index c.loop-node.acts.items c.push.new.self.items
-    c.loop-node.machine c.make.new.self c.in-Some.deed c.loop-node-test.true c.loop-node.invariant c.make.ensures c.in_ok-push.ensures.items
+    let flat = c.of-place.result.0 in
+    record {
+      come =
+          goes_on (plain_start c.args.program.now c.args.nodes) c.args.order.now c.args.nodes c.loop-node.node-index c.loop-node.acts.items c.push.new.self.items
+          (plain_at flat c.loop-node.state) (plain_at flat c.take.new.self) c.in-Some.step.deed c.loop-node-test.true c.loop-node.invariant.come c.take.ensures.made
+          c.in_ok-push.ensures.items;
+      state = c.take.ensures.state;
+    }
 
 pub returns-in_err-code : goal.returns-in_err-code
 returns-in_err-code c = IfOk-from_err c.from_residual.result _ c.from_residual.ensures.0
 
-pub returns-in_err-machine : goal.returns-in_err-machine
-returns-in_err-machine c = IfOk-from_err c.from_residual-in_err-machine.result _ c.from_residual-in_err-machine.ensures.0
+pub returns-in_err-state : goal.returns-in_err-state
+returns-in_err-state c = IfOk-from_err c.from_residual-in_err-state.result _ c.from_residual-in_err-state.ensures.0
 
 pub returns-in_err-push : goal.returns-in_err-push
 returns-in_err-push c = IfOk-from_err c.from_residual-in_err-push.result _ c.from_residual-in_err-push.ensures.0
 
-pub make-requires-clause-can : goal.make-requires-clause-can
-make-requires-clause-can c = sym c.in-Some.ensures
+pub take-requires-clause-can : goal.take-requires-clause-can
+take-requires-clause-can c = sym c.in-Some.ensures.deed
 
 pub overflow_cast-node : goal.overflow_cast-node
 overflow_cast-node c =
     let node = get_or c.args.order.now c.loop-node.node-index 0 in
-    let steps = step-fits c.loop-node.machine node c.in-Some.deed (sym c.in-Some.ensures) in
-    omega (arith, thread_within c.loop-node.machine node steps.0 steps.1, c.loop-node.invariant.all_nodes, c.requires.few_nodes)
+    let machine = plain_at c.of-place.result.0 c.loop-node.state in
+    let steps = step-fits machine node c.in-Some.step.deed (sym c.in-Some.ensures.deed) in
+    omega (arith, thread_within machine node steps.0 steps.1, c.loop-node.invariant.come.all_nodes, c.requires.few_nodes)
 
 pub returns : goal.returns
 returns c =
     let start = plain_start c.args.program.now c.args.nodes in
     let whole : take c.loop-node.node-index c.args.order.now ≡ c.args.order.now =
     take_all c.loop-node.node-index c.args.order.now c.loop-node-test.false in
-    ap (option_map (λ (run : List Act × Plain). run.0)) (sym (ap (plain_from start) (sym whole) ∙ c.loop-node.invariant.acts_are))
+    ap (option_map (λ (run : List Act × Plain). run.0)) (sym (ap (plain_from start) (sym whole) ∙ c.loop-node.invariant.come.acts_are))

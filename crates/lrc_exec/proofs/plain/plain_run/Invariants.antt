@@ -3,6 +3,7 @@ use Rattle.std.proofs.Common.{◌≡◌, ℕ, ◌≤◌, Some, List, length, tak
 use Rattle.std.specs.Prelude.{slice_index}
 use Rattle.lrc_trace.specs.declared.act.Act.{Act}
 use Rattle.lrc_exec.specs.Plain.{Plain, plain_start, plain_from}
+use Rattle.lrc_exec.specs.States.{plain_at, IsStateOf}
 use Rattle.lrc_exec.proofs.plain.plain_run.Given as goal
 
 -- the machine has come so far in an order
@@ -12,4 +13,7 @@ pub record HasCome (start : Plain) (order : List ℕ) (nodes index : ℕ) (acts 
   pub few_arrivals : (k : ℕ) → slice_index machine.arrivals k ≤ index
 
 abbrev pub invariant-loop-node : goal.invariant-loop-node
-invariant-loop-node l = HasCome (plain_start l.program l.nodes) l.order l.nodes l.node-index l.acts.items l.machine
+invariant-loop-node l = record {
+  come : HasCome (plain_start l.program l.nodes) l.order l.nodes l.node-index l.acts.items (plain_at l.flat l.state);
+  state : IsStateOf l.flat l.state;
+}

@@ -1,7 +1,7 @@
 use Rattle.std.proofs.Common.{◌↔◌, refl, sym, subst}
 use Rattle.lrc_exec.specs.declared.spot.Flat.{Flat}
 use Rattle.lrc_explore.specs.Outcome.{HasOutcome, IsOutcome, MeetsMoreNoted}
-use Rattle.lrc_explore.proofs.Exploring.{begun_is}
+use Rattle.lrc_exec.proofs.Beginning.{begun_is}
 use Rattle.lrc_explore.proofs.Gathering.{exact, fits_noted}
 use Rattle.lrc_explore.proofs.outcomes.outcomes_of.Goals as goal
 

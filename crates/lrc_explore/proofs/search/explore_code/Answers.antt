@@ -1,6 +1,6 @@
 use Rattle.lrc_exec.specs.declared.spot.Flat.{Flat}
 use Rattle.lrc_explore.proofs.Counting.{has_more}
-use Rattle.lrc_explore.proofs.Exploring.{begun_is}
+use Rattle.lrc_exec.proofs.Beginning.{begun_is}
 use Rattle.lrc_explore.proofs.Faults.{fault_says}
 use Rattle.lrc_explore.proofs.search.explore_code.Goals as goal
 

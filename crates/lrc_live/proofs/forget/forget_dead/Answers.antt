@@ -1,6 +1,6 @@
 use Rattle.std.proofs.Common.{◌≡◌, map, refl}
 use Rattle.std.specs.Vec.{with_items}
-use Rattle.lrc_explore.specs.declared.state.State.{State}
+use Rattle.lrc_exec.specs.declared.state.State.{State}
 use Rattle.lrc_live.specs.Live.{forgot}
 use Rattle.lrc_live.proofs.Dead.{all_forgotten, counted_forgot, like_forgot, state_forgot}
 use Rattle.lrc_live.proofs.forget.forget_dead.Goals as goal

@@ -4,7 +4,7 @@ use Rattle.std.proofs.lemmas.List.{length-map}
 use Rattle.lrc_exec.specs.declared.spot.Spot.{Spot}
 use Rattle.lrc_exec.specs.Plain.{thread_in}
 use Rattle.lrc_exec.specs.Spots.{spot_thread}
-use Rattle.lrc_explore.specs.States.{plain_at}
+use Rattle.lrc_exec.specs.States.{plain_at}
 use Rattle.lrc_settled.specs.Steps.{waits_in}
 use Rattle.lrc_steps.proofs.Parts.{waits_at}
 use Rattle.lrc_steps.proofs.step.all_wait.Goals as goal

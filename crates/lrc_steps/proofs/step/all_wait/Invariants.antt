@@ -1,7 +1,7 @@
 -- The nodes so far wait.
 use Rattle.std.proofs.Common.{◌≡◌, ℕ, ◌<◌, true}
 use Rattle.lrc_exec.specs.Plain.{thread_in}
-use Rattle.lrc_explore.specs.States.{plain_at}
+use Rattle.lrc_exec.specs.States.{plain_at}
 use Rattle.lrc_settled.specs.Steps.{waits_in}
 use Rattle.lrc_steps.proofs.step.all_wait.Given as goal
 

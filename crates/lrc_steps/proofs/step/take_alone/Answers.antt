@@ -1,6 +1,6 @@
 use Rattle.std.proofs.Common.{◌≡◌, ℕ, true, false}
 use Rattle.lrc_exec.specs.Plain.{thread_in}
-use Rattle.lrc_explore.specs.States.{plain_at}
+use Rattle.lrc_exec.specs.States.{plain_at}
 use Rattle.lrc_search.specs.Settling.{MakesFree}
 use Rattle.lrc_steps.specs.declared.step.Step.TheVariants.{Alone}
 use Rattle.lrc_steps.specs.Gone.{HasSettled}

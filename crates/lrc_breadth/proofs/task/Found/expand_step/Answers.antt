@@ -1,6 +1,6 @@
 use Rattle.std.proofs.Common.{refl, subst}
 use Rattle.std.specs.Prelude.{Option, MatchOption}
-use Rattle.lrc_explore.specs.declared.state.State.{State}
+use Rattle.lrc_exec.specs.declared.state.State.{State}
 use Rattle.lrc_explore.proofs.Faults.{fault_up}
 use Rattle.lrc_breadth.specs.Answers.{IsFault}
 use Rattle.lrc_breadth.specs.Reached.{CannotTake, HasTakenTo, IsKeyOf}

@@ -57,19 +57,23 @@ turned_none node old now next acts after h m =
 
 pub loop-node-preserved : goal.loop-node-preserved
 loop-node-preserved c =
-    let old = paced_of c.args.self.now in
-    let now = paced_of c.loop-node.self in
-    let next = paced_of c.turn.new.self in
+    let flat = c.args.flat.now in
+    let old = paced_of flat c.args.self.now in
+    let now = paced_of flat c.loop-node.self in
+    let next = paced_of flat c.turn.new.self in
     let node = c.loop-node.node in
     let acts = c.args.acts.now.items in
     let after = c.loop-node.acts.items in
-    elim c.match-turn.branch [
-      | in-Some+in_ok-push w ↦
-          (let m = subst (MakesTurn now next node) w.in-Some.is c.turn.ensures in
-          subst (λ (v : Vec Act Global). HasTurned (node + 1) old next acts v.items) (sym w.acts-is)
-          (turned_on node old now next acts after w.push.new.self.items w.in-Some.deed c.loop-node.invariant m w.in_ok-push.ensures.items))
-      | in_default w ↦
-          (let m = subst (MakesTurn now next node) w.in_default.is c.turn.ensures in
-          subst (λ (v : Vec Act Global). HasTurned (node + 1) old next acts v.items) (sym w.acts-is)
-          (turned_none node old now next acts after c.loop-node.invariant m))
-    ]
+    record {
+      turned = elim c.match-turn.branch [
+        | in-Some+in_ok-push w ↦
+            (let m = subst (MakesTurn now next node) w.in-Some.is c.turn.ensures.made in
+            subst (λ (v : Vec Act Global). HasTurned (node + 1) old next acts v.items) (sym w.acts-is)
+            (turned_on node old now next acts after w.push.new.self.items w.in-Some.deed c.loop-node.invariant.turned m w.in_ok-push.ensures.items))
+        | in_default w ↦
+            (let m = subst (MakesTurn now next node) w.in_default.is c.turn.ensures.made in
+            subst (λ (v : Vec Act Global). HasTurned (node + 1) old next acts v.items) (sym w.acts-is)
+            (turned_none node old now next acts after c.loop-node.invariant.turned m))
+      ];
+      state = c.turn.ensures.state;
+    }

@@ -6,6 +6,7 @@ use Rattle.lrc_trace.specs.declared.act.Act.{Act}
 use Rattle.lrc_exec.specs.Plain.{plain_from}
 use Rattle.lrc_exec.specs.Rounds.{Paced, turns}
 use Rattle.lrc_exec.specs.RoundsCode.{paced_of}
+use Rattle.lrc_exec.specs.States.{IsStateOf}
 use Rattle.lrc_exec.proofs.rounds.Pace.round.Given as goal
 
 -- the turns of the nodes below this one are made
@@ -18,4 +19,7 @@ pub record HasTurned (node : ℕ) (old now : Paced) (acts after : List Act) : Ty
   pub few_arrivals : (k : ℕ) → slice_index now.machine.arrivals k ≤ length after
 
 abbrev pub invariant-loop-node : goal.invariant-loop-node
-invariant-loop-node l = HasTurned l.node (paced_of l.initial.self) (paced_of l.self) l.initial.acts.items l.acts.items
+invariant-loop-node l = record {
+  turned : HasTurned l.node (paced_of l.flat l.initial.self) (paced_of l.flat l.self) l.initial.acts.items l.acts.items;
+  state : IsStateOf l.flat l.self.state;
+}

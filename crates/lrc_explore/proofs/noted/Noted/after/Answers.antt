@@ -1,4 +1,4 @@
-use Rattle.lrc_explore.specs.Led.{place_then}
+use Rattle.lrc_exec.specs.States.{place_then}
 use Rattle.lrc_explore.proofs.Searching.{moved_from}
 use Rattle.lrc_explore.proofs.noted.Noted.after.Goals as goal
 

@@ -1,5 +1,5 @@
 use Rattle.std.proofs.Common.{refl}
-use Rattle.lrc_explore.specs.States.{machine_begun}
+use Rattle.lrc_exec.specs.States.{machine_begun}
 use Rattle.lrc_explore.proofs.Gathering.{gathered_put}
 use Rattle.lrc_explore.proofs.outcomes.Gathered.add.Goals as goal
 

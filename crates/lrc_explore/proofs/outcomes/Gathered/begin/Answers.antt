@@ -1,7 +1,7 @@
 use Rattle.std.proofs.Common.{sym, subst}
 use Rattle.lrc_explore.specs.declared.noted.Noted.{Noted}
 use Rattle.lrc_explore.specs.Outcome.{IsGathered}
-use Rattle.lrc_explore.specs.States.{machine_begun}
+use Rattle.lrc_exec.specs.States.{machine_begun}
 use Rattle.lrc_explore.proofs.Gathering.{first_gathered, gathered_none, gathered_put}
 use Rattle.lrc_explore.proofs.outcomes.Gathered.begin.Goals as goal
 

@@ -1,6 +1,6 @@
 use Rattle.std.proofs.Common.{◌∙◌, arith}
 use Rattle.std.proofs.lemmas.Result.{IfOk-from_err}
-use Rattle.lrc_explore.specs.States.{machine_begun, plain_at}
+use Rattle.lrc_exec.specs.States.{machine_begun, plain_at}
 use Rattle.lrc_explore.proofs.Counting.{step_counts}
 use Rattle.lrc_explore.proofs.Gathering.{count_grows, led_next, next_more}
 use Rattle.lrc_explore.proofs.Ways.{noted_within, widens_further}

@@ -1,6 +1,6 @@
 -- What a step of the nodes so far leads to is there.
 use Rattle.std.proofs.Common.{◌≡◌}
-use Rattle.lrc_explore.specs.States.{machine_begun}
+use Rattle.lrc_exec.specs.States.{machine_begun}
 use Rattle.lrc_explore.specs.Noted.{WidensNoted}
 use Rattle.lrc_explore.specs.Outcome.{AreGathered, HasNextBelow}
 use Rattle.lrc_explore.proofs.outcomes.Gathered.expand.Given as goal

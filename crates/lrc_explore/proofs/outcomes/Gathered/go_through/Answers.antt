@@ -2,7 +2,7 @@ use Rattle.std.proofs.Common.{◌≡◌, ◌<◌, arith}
 use Rattle.std.proofs.lemmas.Result.{IfOk-from_err}
 use Rattle.lrc_explore.specs.declared.search.ExploreFault.TheVariants.{BadNodes, NoMemory, TooMany}
 use Rattle.lrc_explore.specs.Noted.{noted_count}
-use Rattle.lrc_explore.specs.States.{machine_begun}
+use Rattle.lrc_exec.specs.States.{machine_begun}
 use Rattle.lrc_explore.specs.Outcome.{MeetsMoreNoted}
 use Rattle.lrc_explore.proofs.Faults.{fault_up}
 use Rattle.lrc_explore.proofs.Gathering.{done_more, meets_more}

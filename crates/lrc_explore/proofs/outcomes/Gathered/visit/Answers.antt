@@ -1,6 +1,6 @@
 use Rattle.std.proofs.Common.{◌≡◌, ◌∙◌, sym, subst, true, false}
 use Rattle.std.proofs.lemmas.Result.{IfOk-from_err}
-use Rattle.lrc_explore.specs.States.{machine_begun}
+use Rattle.lrc_exec.specs.States.{machine_begun}
 use Rattle.lrc_explore.specs.Kept.{Grows}
 use Rattle.lrc_explore.specs.Outcome.{AreSound, EndsWith}
 use Rattle.lrc_explore.proofs.Alike.{acts_same}

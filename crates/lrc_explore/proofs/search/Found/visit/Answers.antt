@@ -1,7 +1,7 @@
 -- What was seen at the state at a place.
 use Rattle.std.proofs.Common.{◌≡◌, ◌∙◌, refl, sym, true, false}
 use Rattle.std.proofs.lemmas.Result.{IfOk-from_err}
-use Rattle.lrc_explore.specs.States.{plain_at}
+use Rattle.lrc_exec.specs.States.{plain_at}
 use Rattle.lrc_explore.specs.Search.{Stands}
 use Rattle.lrc_explore.proofs.Breadth.{below_place}
 use Rattle.lrc_explore.proofs.Searching.{more_same, stands_grown}

@@ -2,7 +2,7 @@ use Rattle.std.proofs.Common.{◌≡◌, ◌<◌, ◌∙◌, ap, sym, subst, ari
 use Rattle.std.specs.Prelude.{slice_index}
 use Rattle.std.proofs.lemmas.List.{get_or_read}
 use Rattle.lrc_trace.specs.Run.{act_of}
-use Rattle.lrc_explore.specs.declared.state.State.{State}
+use Rattle.lrc_exec.specs.declared.state.State.{State}
 use Rattle.lrc_explore.specs.Notes.{notes_with}
 use Rattle.lrc_explore.proofs.Faults.{ok_says}
 use Rattle.lrc_known.specs.declared.known.Knowledge.{Knowledge}

@@ -1,6 +1,6 @@
 use Rattle.std.proofs.Common.{inl, inr, sym, subst, arith}
 use Rattle.std.proofs.lemmas.Bool.{cases_eq}
-use Rattle.lrc_explore.specs.States.{plain_at}
+use Rattle.lrc_exec.specs.States.{plain_at}
 use Rattle.lrc_lazy_machine.specs.Standing.{CanMake}
 use Rattle.lrc_lazy_search.specs.Searching.{HasStep}
 use Rattle.lrc_lazy_search.proofs.Making.{can_below}

@@ -1,9 +1,0 @@
-use Rattle.std.proofs.Common.{◌≡◌, ◌<◌, IfSome}
-use Rattle.lrc_clock.specs.Times.{last_time, releases_at, time_or_zeros}
-use Rattle.lrc_clock.proofs.times.time_of_release.Given as goal
-
-abbrev pub invariant-loop-position : goal.invariant-loop-position
-invariant-loop-position l = record {
-  within : IfSome l.last (λ i. i < l.position);
-  time : time_or_zeros l.nodes l.times l.last ≡ last_time l.nodes (releases_at l.acts l.lock) l.times l.position;
-}
