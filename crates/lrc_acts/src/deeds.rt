@@ -18,7 +18,8 @@ const GREATEST_CAUSE: u64 = 5;
 
 // The deed that the words of a text say.
 pub(crate) fn deed_in(text: &[u8]) -> Option<Deed>
-    ensures { MatchOption result ((deed : AnyDeed) → ¬ SaysDeed (words_between text.now) deed) (λ deed. SaysDeed (words_between text.now) deed) }
+    ensures { MatchOption result ((deed : AnyDeed) → ¬ SaysDeed (words_between text.now) deed)
+        (λ deed. SaysDeed (words_between text.now) deed) }
 {
     let (name, rest) = first_word(text)?;
     let Some((first, rest)) = first_word(rest) else {
@@ -35,7 +36,8 @@ pub(crate) fn deed_in(text: &[u8]) -> Option<Deed>
 
 // The deed with this name alone.
 fn bare(name: &[u8]) -> Option<Deed>
-    ensures { MatchOption result ((deed : AnyDeed) → ¬ SaysDeed (name.now ∷ []) deed) (λ deed. SaysDeed (name.now ∷ []) deed) }
+    ensures { MatchOption result ((deed : AnyDeed) → ¬ SaysDeed (name.now ∷ []) deed)
+        (λ deed. SaysDeed (name.now ∷ []) deed) }
 {
     if is_named(name, b"quiet") {
         return Some(Deed::Quiet);
@@ -80,7 +82,8 @@ fn with_one(name: &[u8], digits: &[u8]) -> Option<Deed>
 
 // The deed with this name, a word of shared memory and a value.
 fn with_two(name: &[u8], word: &[u8], value: &[u8]) -> Option<Deed>
-    ensures { MatchOption result ((deed : AnyDeed) → ¬ SaysDeed (name.now ∷ word.now ∷ value.now ∷ []) deed)
+    ensures { MatchOption result ((deed : AnyDeed)
+        → ¬ SaysDeed (name.now ∷ word.now ∷ value.now ∷ []) deed)
         (λ deed. SaysDeed (name.now ∷ word.now ∷ value.now ∷ []) deed) }
 {
     match name {
@@ -98,7 +101,8 @@ fn with_two(name: &[u8], word: &[u8], value: &[u8]) -> Option<Deed>
 
 // The cause with this number.
 fn cause_of(number: u64) -> Option<Cause>
-    ensures { MatchOption result ((cause : AnyCause) → ¬ (number ≡ cause_number cause)) (λ cause. number ≡ cause_number cause) }
+    ensures { MatchOption result ((cause : AnyCause) → ¬ (number ≡ cause_number cause))
+        (λ cause. number ≡ cause_number cause) }
 {
     match number {
         1 => Some(Cause::DivisionByZero),

@@ -7,29 +7,29 @@ ghost use Rattle.lrc_acts.specs.JudgeLines.{kind_text, later_values_text, pair_l
 use lrc_text::push_number;
 use std::alloc::AllocError;
 
-/// Where an act stands.
+/// Where an act is: its position and its line.
 #[derive(Clone, Copy)]
 pub struct Place {
-    /// Its position, counted from 0.
+    /// The position, counted from 0.
     pub position: usize,
-    /// Its line, counted from 1.
+    /// The line, counted from 1.
     pub line: u32,
 }
 
 /// Two accesses to one word that race.
 #[derive(Clone, Copy)]
 pub struct RacingAccesses {
-    /// The position of the earlier, and whether it writes.
+    /// The position of the earlier access, and whether it writes.
     pub earlier: usize,
     pub earlier_writes: bool,
-    /// The position of the later, and whether it writes.
+    /// The position of the later access, and whether it writes.
     pub later: usize,
     pub later_writes: bool,
-    /// The word.
+    /// The word that both access.
     pub word: u32,
 }
 
-/// Adds the line on the first act that is not well synchronized.
+/// Adds the line for the first act that is not well synchronized.
 pub fn push_unsynchronized(text: &mut Vec<u8>, place: Place) -> Result<(), AllocError>
     ensures ok { OnOk result (text.new.items ≡ text.old.items ++ unsynchronized_line place) }
     ensures err { OnErr result (BeginsWith text.new.items text.old.items) }
@@ -39,14 +39,16 @@ pub fn push_unsynchronized(text: &mut Vec<u8>, place: Place) -> Result<(), Alloc
     text.extend_from_slice(b"\n")
 }
 
-/// Adds the line on the first read that does not give what it may: what it gives, and what it may give.
+/// Adds the line for the first read that gives a value that it may not give: the value, and the values that it may
+/// give.
 pub fn push_unlazy(
     text: &mut Vec<u8>,
     place: Place,
     value: u64,
     allowed: &[u64],
 ) -> Result<(), AllocError>
-    ensures ok { OnOk result (text.new.items ≡ text.old.items ++ unlazy_line place value allowed.now) }
+    ensures ok { OnOk result (text.new.items
+        ≡ text.old.items ++ unlazy_line place value allowed.now) }
     ensures err { OnErr result (BeginsWith text.new.items text.old.items) }
 {
     push_read(text, b"does not read lazily", place, value)?;
@@ -55,7 +57,7 @@ pub fn push_unlazy(
     text.extend_from_slice(b"\n")
 }
 
-/// Adds the line on the first read that does not give what was written last: what it gives, and what was written.
+/// Adds the line for the first read that does not give the value written last: its value, and the value written.
 pub fn push_unordered(
     text: &mut Vec<u8>,
     place: Place,
@@ -72,7 +74,8 @@ pub fn push_unordered(
 // Adds where two accesses are that race, and their word.
 fn push_positions(text: &mut Vec<u8>, pair: RacingAccesses) -> Result<(), AllocError>
     ensures ok { OnOk result (text.new.items
-        ≡ text.old.items ++ (codes "race acts " ++ decimal pair.earlier ++ codes " " ++ decimal pair.later ++ codes ": word " ++ decimal pair.word)) }
+        ≡ text.old.items ++ (codes "race acts " ++ decimal pair.earlier ++ codes " "
+        ++ decimal pair.later ++ codes ": word " ++ decimal pair.word)) }
     ensures err { OnErr result (BeginsWith text.new.items text.old.items) }
 {
     push_number(text, b"race acts ", pair.earlier as u64)?;
@@ -95,7 +98,7 @@ fn push_kinds(
     text.extend_from_slice(kind_of(later_writes))
 }
 
-/// Adds the line of two accesses that race.
+/// Adds the line for two accesses that race.
 pub fn push_pair(text: &mut Vec<u8>, pair: RacingAccesses) -> Result<(), AllocError>
     ensures ok { OnOk result (text.new.items ≡ text.old.items ++ pair_line pair) }
     ensures err { OnErr result (BeginsWith text.new.items text.old.items) }
@@ -107,7 +110,8 @@ pub fn push_pair(text: &mut Vec<u8>, pair: RacingAccesses) -> Result<(), AllocEr
 }
 
 fn push_last(text: &mut Vec<u8>, last: u64) -> Result<(), AllocError>
-    ensures ok { OnOk result (text.new.items ≡ text.old.items ++ codes ", last written " ++ decimal last ++ codes "\n") }
+    ensures ok { OnOk result (text.new.items
+        ≡ text.old.items ++ codes ", last written " ++ decimal last ++ codes "\n") }
     ensures err { OnErr result (BeginsWith text.new.items text.old.items) }
 {
     push_number(text, b", last written ", last)?;
@@ -116,7 +120,8 @@ fn push_last(text: &mut Vec<u8>, last: u64) -> Result<(), AllocError>
 
 // Adds what a read does, where it is, and what it gives.
 fn push_read(text: &mut Vec<u8>, does: &[u8], place: Place, value: u64) -> Result<(), AllocError>
-    ensures ok { OnOk result (text.new.items ≡ text.old.items ++ does.now ++ place_text place ++ codes ": read " ++ decimal value) }
+    ensures ok { OnOk result (text.new.items
+        ≡ text.old.items ++ does.now ++ place_text place ++ codes ": read " ++ decimal value) }
     ensures err { OnErr result (BeginsWith text.new.items text.old.items) }
 {
     text.extend_from_slice(does)?;

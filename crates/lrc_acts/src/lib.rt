@@ -1,4 +1,4 @@
-//! The text of a list of acts, one on a line, and the lines in which a judge tells what it found in them.
+//! The text format of acts, one act on each line, and the lines in which a judge reports what it finds in them.
 #![tactic(auto)]
 
 mod deeds;

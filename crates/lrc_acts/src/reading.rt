@@ -17,21 +17,21 @@ pub const MOST_BYTES: usize = 67_108_864;
 
 const GREATEST_NODE: u64 = 15;
 
-/// Acts, and the line on which each stands.
+/// Acts, and the line of each.
 #[derive(Drop)]
 pub struct LinedActs {
     /// The acts.
     pub acts: Vec<Act>,
-    /// For each of them the number of its line, counted from 1.
+    /// For each act the number of its line, counted from 1.
     pub lines: Vec<u32>,
 }
 
 /// Why a text gives no acts.
 #[derive(Clone, Copy, Debug, PartialEq, Eq)]
 pub enum ActsFault {
-    /// The text is longer than any text of acts.
+    /// The text is longer than [`MOST_BYTES`].
     TooLong,
-    /// The line of this number, counted from 1, says no act.
+    /// The line with this number, counted from 1, says no act.
     BadAct(u32),
     /// Memory ran out.
     NoMemory,
@@ -53,13 +53,15 @@ impl From<AllocError> for ActsFault {
     }
 }
 
-/// The acts that a text says, one on each line: a node from 0 to 15, and below the number of nodes where that is given, and what it
-/// does. Words are parted by blanks (spaces, tabs, carriage returns), the sign # begins a comment, and a line without a word
-/// says no act. A text of more than 67,108,864 bytes is too long. Memory runs out only where there is an act to be kept.
+/// Reads the acts that a text says, one on each line: a node from 0 to 15, and below `nodes` if that is given, and then
+/// what the node does. Words are separated by blanks (spaces, tabs, carriage returns), the sign # begins a comment, and
+/// a line without a word says no act. The call fails with `TooLong` for a text of more than 67,108,864 bytes, and with
+/// `BadAct` at the first bad line. It runs out of memory only if there is an act to keep.
 pub fn acts_of(alloc: Global, text: &[u8], nodes: Option<u32>) -> Result<LinedActs, ActsFault>
     ensures ok { IfOk result (λ lined. ReadsActs nodes text.now (Ok lined)) }
     ensures err { IfErr result (λ fault. ReadsActs nodes text.now (Err fault)) }
-    ensures memory { IfErr result (λ fault. fault ≡ NoMemory → (length text.now ≤ most_bytes) × SaysSome nodes (lines_of text.now)) }
+    ensures memory { IfErr result (λ fault. fault ≡ NoMemory
+        → (length text.now ≤ most_bytes) × SaysSome nodes (lines_of text.now)) }
 {
     if text.len() > MOST_BYTES {
         return Err(ActsFault::TooLong);
@@ -101,7 +103,8 @@ fn is_wordless(line: &[u8]) -> bool
 
 // The act that a line says.
 fn act_on(line: &[u8], nodes: Option<u32>) -> Option<Act>
-    ensures { MatchOption result ((act : AnyAct) → ¬ SaysAct nodes (words_on line.now) act) (λ act. SaysAct nodes (words_on line.now) act) }
+    ensures { MatchOption result ((act : AnyAct) → ¬ SaysAct nodes (words_on line.now) act)
+        (λ act. SaysAct nodes (words_on line.now) act) }
 {
     let (digits, rest) = first_word(before_comment(line))?;
     let node = read_number(digits, GREATEST_NODE)?;

@@ -10,7 +10,7 @@ fn is_blank(byte: u8) -> bool
     byte == b' ' || (byte == b'\t' || byte == b'\r')
 }
 
-/// What stands before the sign # that begins a comment.
+/// Returns what comes before the sign # that begins a comment.
 pub fn before_comment(line: &[u8]) -> &[u8]
     ensures { result.now ≡ before_first (λ byte. byte == 35) line.now }
 {
@@ -26,9 +26,10 @@ fn place_of_comment(text: &[u8]) -> usize
         .unwrap_or(text.len())
 }
 
-/// The first word of a text, and what stands behind it.
+/// Returns the first word of a text, and what follows it, or none if there is no word.
 pub fn first_word(text: &[u8]) -> Option<(&[u8], &[u8])>
-    ensures { MatchOption result (words_between text.now ≡ []) (λ parts. words_between text.now ≡ parts.0.now ∷ words_between parts.1.now) }
+    ensures { MatchOption result (words_between text.now ≡ [])
+        (λ parts. words_between text.now ≡ parts.0.now ∷ words_between parts.1.now) }
 {
     let (_blanks, rest) = text.split_at(place_of_word(text));
     if rest.is_empty() {

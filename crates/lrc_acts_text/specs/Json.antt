@@ -6,7 +6,7 @@ use Rattle.lrc_trace.specs.declared.act.Deed.TheVariants.{Quiet, Print, Read, Wr
 use Rattle.lrc_trace.specs.Interval.{interval_at}
 use Rattle.lrc_labels.specs.Reading.{Label}
 use Rattle.lrc_labels.specs.Show.{lock_label_member, word_label_member}
-use Rattle.lrc_text.specs.ActText.{cause_number}
+use Rattle.lrc_text.specs.ActText.{cause_number, deed_name}
 use Rattle.lrc_text.specs.Each.{each}
 
 -- a number in a list: a comma stands before each but the first
@@ -15,19 +15,6 @@ entry_text place n = if place == 0 then decimal n else codes "," ++ decimal n
 
 abbrev pub with_commas : List ℕ → List ℕ
 with_commas ns = each entry_text ns
-
--- the name of a deed
-abbrev pub deed_name : Deed → List ℕ
-deed_name Quiet = codes "quiet"
-deed_name (Print value) = codes "print"
-deed_name (Read w value) = codes "read"
-deed_name (Write w value) = codes "write"
-deed_name (Acquire l) = codes "acquire"
-deed_name (Release l) = codes "release"
-deed_name Arrive = codes "arrive"
-deed_name Depart = codes "depart"
-deed_name (Trap cause) = codes "trap"
-deed_name End = codes "end"
 
 -- the members that say what a deed has
 abbrev pub access_members : List Label → ℕ → ℕ → List ℕ

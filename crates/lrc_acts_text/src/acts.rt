@@ -7,7 +7,7 @@ use lrc_text::push_act_line;
 use lrc_trace::act::Act;
 use std::alloc::{AllocError, Global};
 
-/// A line for each act, in order: its node and deed, and the line of the program's text that it is of.
+/// Returns a line for each act, in order: its node, its deed, and the line of the program's text that it belongs to.
 pub fn acts_part(alloc: Global, acts: &[Act], lines: &[u32]) -> Result<Vec<u8>, AllocError>
     requires { length lines.now ≡ length acts.now }
     ensures { IfOk result (λ part. part.items ≡ acts_text acts.now lines.now) }

@@ -4,19 +4,19 @@ ghost use Rattle.std.specs.Prelude.{◌≡◌, ◌++◌, IfOk, OnErr, OnOk, leng
 ghost use Rattle.lrc_labels.specs.Reading.{label_seen};
 ghost use Rattle.lrc_text.specs.Front.{BeginsWith};
 ghost use Rattle.lrc_trace.specs.Interval.{closes};
-ghost use Rattle.lrc_acts_text.specs.Json.{access_members, act_json, deed_json, deed_members, deed_name, entry_text, lock_members};
+ghost use Rattle.lrc_acts_text.specs.Json.{access_members, act_json, deed_json, deed_members, entry_text, lock_members};
 ghost use Rattle.lrc_acts_text.specs.Json.{json_line, json_of_acts, place_json, time_json, with_commas};
 
 use crate::tally::Tally;
 use lrc_labels::label::Label;
 use lrc_labels::{push_lock_member, push_word_member};
-use lrc_text::push_number;
+use lrc_text::{deed_name, push_number};
 use lrc_time::Time;
 use lrc_trace::act::{Act, Deed};
 use std::alloc::{AllocError, Global};
 
-/// An object for each act, in order, each on a line of its own: with the line of the program's text that the act is of, its
-/// interval, and its node's time just after it. The label of a word or of a lock is a member behind its number.
+/// Returns a JSON object for each act, in order, one on each line. An object has the act's line of the program's text,
+/// its interval, and its node's vector time just after it. The label of a word or lock is a member behind its number.
 pub fn json_part(
     alloc: Global,
     labels: &[Label<'_>],
@@ -26,7 +26,8 @@ pub fn json_part(
 ) -> Result<Vec<u8>, AllocError>
     requires lined { length lines.now ≡ length acts.now }
     requires timed { length times.now ≡ length acts.now }
-    ensures { IfOk result (λ part. part.items ≡ json_of_acts (map label_seen labels.now) acts.now lines.now times.now) }
+    ensures { IfOk result (λ part. part.items
+        ≡ json_of_acts (map label_seen labels.now) acts.now lines.now times.now) }
 {
     let mut text = Vec::new(alloc);
     let mut closes = Tally::new();
@@ -63,7 +64,9 @@ fn push_json_line(
     place: Place,
     time: &Time,
 ) -> Result<(), AllocError>
-    ensures { OnOk result (text.new.items ≡ text.old.items ++ json_line (map label_seen labels.now) place.position act place.line place.interval time.now) }
+    ensures { OnOk result (text.new.items
+        ≡ text.old.items ++ json_line
+        (map label_seen labels.now) place.position act place.line place.interval time.now) }
 {
     text.extend_from_slice(b"{")?;
     push_act(text, labels, act, place.position)?;
@@ -78,7 +81,8 @@ fn push_act(
     act: Act,
     position: u64,
 ) -> Result<(), AllocError>
-    ensures { OnOk result (text.new.items ≡ text.old.items ++ act_json (map label_seen labels.now) position act) }
+    ensures { OnOk result (text.new.items
+        ≡ text.old.items ++ act_json (map label_seen labels.now) position act) }
 {
     push_number(text, b"\"act\":", position)?;
     push_number(text, b",\"node\":", u64::from(act.node))?;
@@ -86,7 +90,8 @@ fn push_act(
 }
 
 fn push_place(text: &mut Vec<u8>, place: Place) -> Result<(), AllocError>
-    ensures { OnOk result (text.new.items ≡ text.old.items ++ place_json place.line place.interval) }
+    ensures { OnOk result (text.new.items
+        ≡ text.old.items ++ place_json place.line place.interval) }
 {
     push_number(text, b",\"line\":", u64::from(place.line))?;
     push_number(text, b",\"interval\":", place.interval)
@@ -94,33 +99,18 @@ fn push_place(text: &mut Vec<u8>, place: Place) -> Result<(), AllocError>
 
 // Adds the name of a deed, and what it has.
 fn push_deed(text: &mut Vec<u8>, labels: &[Label<'_>], deed: Deed) -> Result<(), AllocError>
-    ensures { OnOk result (text.new.items ≡ text.old.items ++ deed_json (map label_seen labels.now) deed) }
+    ensures { OnOk result (text.new.items
+        ≡ text.old.items ++ deed_json (map label_seen labels.now) deed) }
 {
     text.extend_from_slice(b",\"deed\":\"")?;
-    text.extend_from_slice(name_of(deed))?;
+    text.extend_from_slice(deed_name(deed))?;
     text.extend_from_slice(b"\"")?;
     push_members(text, labels, deed)
 }
 
-fn name_of(deed: Deed) -> &'static [u8]
-    ensures { result.now ≡ deed_name deed }
-{
-    match deed {
-        Deed::Quiet => b"quiet",
-        Deed::Print(_) => b"print",
-        Deed::Read(_, _) => b"read",
-        Deed::Write(_, _) => b"write",
-        Deed::Acquire(_) => b"acquire",
-        Deed::Release(_) => b"release",
-        Deed::Arrive => b"arrive",
-        Deed::Depart => b"depart",
-        Deed::Trap(_) => b"trap",
-        Deed::End => b"end",
-    }
-}
-
 fn push_members(text: &mut Vec<u8>, labels: &[Label<'_>], deed: Deed) -> Result<(), AllocError>
-    ensures { OnOk result (text.new.items ≡ text.old.items ++ deed_members (map label_seen labels.now) deed) }
+    ensures { OnOk result (text.new.items
+        ≡ text.old.items ++ deed_members (map label_seen labels.now) deed) }
 {
     match deed {
         Deed::Print(value) => push_number(text, b",\"value\":", value),
@@ -134,7 +124,8 @@ fn push_members(text: &mut Vec<u8>, labels: &[Label<'_>], deed: Deed) -> Result<
 }
 
 fn push_lock(text: &mut Vec<u8>, labels: &[Label<'_>], lock: u8) -> Result<(), AllocError>
-    ensures { OnOk result (text.new.items ≡ text.old.items ++ lock_members (map label_seen labels.now) lock) }
+    ensures { OnOk result (text.new.items
+        ≡ text.old.items ++ lock_members (map label_seen labels.now) lock) }
 {
     push_number(text, b",\"lock\":", u64::from(lock))?;
     push_lock_member(text, labels, lock)
@@ -146,7 +137,8 @@ fn push_access(
     word: u32,
     value: u64,
 ) -> Result<(), AllocError>
-    ensures { OnOk result (text.new.items ≡ text.old.items ++ access_members (map label_seen labels.now) word value) }
+    ensures { OnOk result (text.new.items
+        ≡ text.old.items ++ access_members (map label_seen labels.now) word value) }
 {
     push_number(text, b",\"word\":", u64::from(word))?;
     push_word_member(text, labels, word)?;
@@ -161,7 +153,7 @@ fn push_time(text: &mut Vec<u8>, time: &Time) -> Result<(), AllocError>
     text.extend_from_slice(b"]")
 }
 
-/// Adds the entries of a time, with commas between them.
+/// Adds the entries of a vector time, separated by commas.
 pub fn push_entries(text: &mut Vec<u8>, time: &Time) -> Result<(), AllocError>
     ensures ok { OnOk result (text.new.items ≡ text.old.items ++ with_commas time.now) }
     ensures err { OnErr result (BeginsWith text.new.items text.old.items) }

@@ -2,8 +2,8 @@
 
 ghost use Rattle.lrc_acts_text.specs.RapidOrder.{OrderIsHappensBefore};
 
-/// Between two accesses of a well-synchronized run in which nodes wait at barriers, the order that program order and releases with
-/// later acquires of the same lock give in the trace in the form of RAPID is the happens before of the acts.
+/// Between two accesses of a well-synchronized run whose nodes wait at barriers, the acts' happens before is the order
+/// of the RAPID trace: program order, and each release before later acquires of the same lock.
 pub fn order_in_rapid_is_happens_before()
     ensures { OrderIsHappensBefore }
 {}

@@ -1,4 +1,5 @@
-//! What a run did, as texts: a line for each act, in plain words, as JSON, and as a trace for race detectors of the RAPID framework.
+//! Writes what a run did as text, in three forms. Plain words and JSON have one line for each act. The third form is a
+//! trace for the race detectors of the RAPID framework, in which locks stand for barriers.
 #![tactic(auto)]
 
 mod acts;

@@ -7,12 +7,11 @@ ghost use Rattle.lrc_trace.specs.Run.{is_arrive, is_depart};
 ghost use Rattle.lrc_trace.specs.declared.act.Deed.TheVariants.{Depart};
 
 use crate::tally::Tally;
-use itoa::Buffer;
-use lrc_text::push_number;
+use lrc_text::{push_number, push_wide_number};
 use lrc_trace::act::{Act, Deed};
 use std::alloc::{AllocError, Global};
 
-/// What a thread does in that form.
+/// What a thread does in the RAPID trace.
 #[derive(Clone, Copy)]
 pub(crate) enum Operation {
     Reads(u32),
@@ -21,7 +20,7 @@ pub(crate) enum Operation {
     Releases(u128),
 }
 
-/// A program's locks and nodes, and the barriers that one node has come to, and gone on from.
+/// The numbers of a program's locks and nodes, and the barriers that one node has reached and left.
 #[derive(Clone, Copy)]
 pub(crate) struct Meeting {
     locks: u8,
@@ -47,8 +46,9 @@ struct Spot {
     line: u32,
 }
 
-/// The accesses and the order of a run of a program with so many locks on so many nodes. The form knows no barrier: an arrive
-/// passes a lock of its own, past those of the program, and a depart passes those of every node's arrival at that barrier.
+/// Returns the accesses and the order of a run as a RAPID trace. The program has `locks` locks and runs on `nodes`
+/// nodes. RAPID has no barriers. Instead each arrival has its own lock, numbered after the program's locks: an arrive
+/// acquires and releases it, and a depart acquires and releases the locks of all nodes' arrivals at that barrier.
 pub fn rapid_part(
     alloc: Global,
     acts: &[Act],
@@ -103,7 +103,8 @@ fn push_steps(
     deed: Deed,
 ) -> Result<(), AllocError>
     ensures { OnOk result (text.new.items
-        ≡ text.old.items ++ flat_map (step_line spot.line) (rapid_steps meeting spot.position spot.node deed)) }
+        ≡ text.old.items ++ flat_map (step_line spot.line)
+        (rapid_steps meeting spot.position spot.node deed)) }
 {
     match deed {
         Deed::Read(word, _) => push_step(text, spot, Operation::Reads(word)),
@@ -118,7 +119,8 @@ fn push_steps(
 
 fn push_depart(text: &mut Vec<u8>, spot: Spot, meeting: Meeting) -> Result<(), AllocError>
     ensures { OnOk result (text.new.items
-        ≡ text.old.items ++ flat_map (step_line spot.line) (rapid_steps meeting spot.position spot.node Depart)) }
+        ≡ text.old.items ++ flat_map (step_line spot.line)
+        (rapid_steps meeting spot.position spot.node Depart)) }
 {
     for node in 0..meeting.nodes {
         push_passes(text, spot, meeting.lock(meeting.departed, node))?;
@@ -146,20 +148,13 @@ fn push_step(text: &mut Vec<u8>, spot: Spot, operation: Operation) -> Result<(),
 }
 
 fn push_operation(text: &mut Vec<u8>, operation: Operation) -> Result<(), AllocError>
-    ensures { OnOk result (text.new.items ≡ text.old.items ++ codes "|" ++ operation_text operation) }
+    ensures { OnOk result (text.new.items
+        ≡ text.old.items ++ codes "|" ++ operation_text operation) }
 {
     match operation {
         Operation::Reads(word) => push_number(text, b"|r(V", u64::from(word)),
         Operation::Writes(word) => push_number(text, b"|w(V", u64::from(word)),
-        Operation::Acquires(lock) => push_lock(text, b"|acq(L", lock),
-        Operation::Releases(lock) => push_lock(text, b"|rel(L", lock),
+        Operation::Acquires(lock) => push_wide_number(text, b"|acq(L", lock),
+        Operation::Releases(lock) => push_wide_number(text, b"|rel(L", lock),
     }
-}
-
-fn push_lock(text: &mut Vec<u8>, word: &[u8], lock: u128) -> Result<(), AllocError>
-    ensures { OnOk result (text.new.items ≡ text.old.items ++ word.now ++ decimal lock) }
-{
-    let mut digits = Buffer::new();
-    text.extend_from_slice(word)?;
-    text.extend_from_slice(digits.format(lock).as_bytes())
 }

@@ -3,21 +3,21 @@
 ghost use Rattle.std.specs.Prelude.{◌≡◌, ◌<◌, replicate, slice_index};
 ghost use Rattle.lrc_acts_text.specs.Tally.{tallied};
 
-/// For each node a count of its acts of one kind.
+/// A count of the acts of one kind, for each node.
 #[derive(Drop)]
 pub(crate) struct Tally {
     counts: [u64; 256],
 }
 
 impl Tally {
-    /// No act of any node.
+    /// Returns a tally that counts no act.
     pub(crate) fn new() -> Tally
         ensures { result.counts ≡ replicate 256 0 }
     {
         Tally { counts: [0; 256] }
     }
 
-    /// How many acts of the node were counted.
+    /// Returns how many acts of the node were counted.
     pub(crate) fn of(&self, node: u8) -> u64
         ensures value { result ≡ slice_index self.now.counts node }
         ensures in_range { node < 256 }
@@ -25,7 +25,7 @@ impl Tally {
         self.counts[usize::from(node)]
     }
 
-    /// Counts an act of the node, if it is to be counted.
+    /// Counts an act of the node if `is_counted` is true.
     pub(crate) fn note(&mut self, node: u8, is_counted: bool)
         requires { slice_index self.old.counts node < 18446744073709551615 }
         ensures { self.new.counts ≡ tallied self.old.counts node is_counted }

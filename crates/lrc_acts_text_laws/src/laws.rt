@@ -27,56 +27,74 @@ ghost use Rattle.lrc_acts_text.specs.RapidOrder.{IsOf, Orders};
 ghost use Rattle.lrc_acts_text_laws.specs.JudgedRun.{IsJudgedRun};
 ghost use Rattle.lrc_acts_text_laws.specs.PrintedRun.{IsPrintedRun};
 
-/// Where each node's acts are those of the text, each act is of one of the nodes, and each lock that is acquired or released is
-/// one of the program's.
+/// If each node's acts are those of the text, then each act belongs to one of the nodes, and each lock that is acquired
+/// or released is a lock of the program.
 pub fn acts_of_a_text_are_of_its_locks()
-    ensures { (program : Program) (nodes : ℕ) (acts : List Act) → FollowsText program nodes acts → IsOf program.locks nodes acts }
+    ensures { (program : Program) (nodes : ℕ) (acts : List Act) → FollowsText program nodes acts
+        → IsOf program.locks nodes acts }
 {}
 
-/// In every run, of any program on any number of nodes and whatever its events, the acts are of the nodes and of the program's
-/// locks, and a node that has come to a barrier does nothing until it departs. So between two accesses of a run the order that
-/// program order and releases with later acquires of the same lock give in its trace in the form of RAPID is the happens before
-/// of the acts.
+/// In every run, of any program, on any number of nodes and with any events, the acts belong to the nodes and use the
+/// program's locks, and a node that has reached a barrier does nothing until it departs. Between two accesses of the
+/// run, happens before is therefore the order of the RAPID trace: program order, and each release before later acquires
+/// of the same lock.
 pub fn order_in_rapid_of_every_run_is_happens_before()
-    ensures in_range { (program : Program) (nodes : ℕ) (options : OptionsRecord) (events : List Event) (world : World)
+    ensures in_range { (program : Program) (nodes : ℕ) (options : OptionsRecord)
+        (events : List Event) (world : World)
         → run_of program nodes options events ≡ Some world → IsOf program.locks nodes world.acts }
-    ensures waits { (program : Program) (nodes : ℕ) (options : OptionsRecord) (events : List Event) (world : World)
+    ensures waits { (program : Program) (nodes : ℕ) (options : OptionsRecord) (events : List Event)
+        (world : World)
         → run_of program nodes options events ≡ Some world → WaitsAtBarriers world.acts }
-    ensures order { (program : Program) (nodes : ℕ) (options : OptionsRecord) (events : List Event) (world : World)
-        (i j p q v w : ℕ) → run_of program nodes options events ≡ Some world → Accesses world.acts i p v
+    ensures order { (program : Program) (nodes : ℕ) (options : OptionsRecord) (events : List Event)
+        (world : World)
+        (i j p q v w : ℕ) → run_of program nodes options events ≡ Some world
+        → Accesses world.acts i p v
         → Accesses world.acts j q w → i ≢ j
         → HappensBefore world.acts i j ↔ Orders (rapid_of program.locks nodes world.acts) i j }
 {}
 
-/// Where acts follow the text of a program on at most 16 nodes and read lazily, the numbers of each act are of their kinds: nodes
-/// 0 to 15, words of 32 bits, values of 64, locks of 8.
+/// If acts follow the text of a program on at most 16 nodes and read lazily, every number in them is in range: nodes 0
+/// to 15, words of 32 bits, values of 64 bits, locks of 8 bits.
 pub fn acts_of_a_text_are_in_range()
-    ensures { (text : List ℕ) (program : Program) (nodes : ℕ) (acts : List Act) → IsText text (program_of program) → nodes ≤ 16
+    ensures { (text : List ℕ) (program : Program) (nodes : ℕ) (acts : List Act)
+        → IsText text (program_of program) → nodes ≤ 16
         → FollowsText program nodes acts → ReadsLazily acts → All IsRanged acts }
 {}
 
-/// What is printed of every run of a program is read as its acts, the first of them on line 1 and each on a line of its own, also
-/// where a number of nodes is given that is no less than theirs. So where it is not too long the reader answers just these acts,
-/// unless memory runs out; where it is too long it answers so.
+/// The text printed of every run of a program is read as the run's acts: one on each line, from line 1. This also holds
+/// if a number of nodes is given that is at least the run's number. So if the text is not too long, the reader answers
+/// exactly these acts, unless memory runs out. If it is too long, the reader says so, unless memory runs out.
 pub fn printed_acts_of_every_run_are_read()
-    ensures ranged { (nodes : ℕ) (acts : List Act) (printed : List ℕ) → IsPrintedRun nodes acts printed → All IsRanged acts }
-    ensures read { (nodes : ℕ) (acts : List Act) (printed : List ℕ) (given : Option ℕ) → IsPrintedRun nodes acts printed
-        → IfSome given (λ most. nodes ≤ most) → SayActs given 1 (lines_of printed) acts (numbers_from 1 acts) }
-    ensures whole { (nodes : ℕ) (acts : List Act) (printed : List ℕ) (given : Option ℕ) (result : Result LinedActs ActsFault)
-        → IsPrintedRun nodes acts printed → IfSome given (λ most. nodes ≤ most) → length printed ≤ most_bytes
+    ensures ranged { (nodes : ℕ) (acts : List Act) (printed : List ℕ)
+        → IsPrintedRun nodes acts printed → All IsRanged acts }
+    ensures read { (nodes : ℕ) (acts : List Act) (printed : List ℕ) (given : Option ℕ)
+        → IsPrintedRun nodes acts printed
+        → IfSome given (λ most. nodes ≤ most)
+        → SayActs given 1 (lines_of printed) acts (numbers_from 1 acts) }
+    ensures whole { (nodes : ℕ) (acts : List Act) (printed : List ℕ) (given : Option ℕ)
+        (result : Result LinedActs ActsFault)
+        → IsPrintedRun nodes acts printed → IfSome given (λ most. nodes ≤ most)
+        → length printed ≤ most_bytes
         → ReadsActs given printed result
-        → MatchResult result (λ lined. (lined.acts.items ≡ acts) × (lined.lines.items ≡ numbers_from 1 acts)) (λ fault. fault ≡ NoMemory) }
-    ensures too_long { (printed : List ℕ) (given : Option ℕ) (result : Result LinedActs ActsFault) → most_bytes < length printed
-        → ReadsActs given printed result → MatchResult result (λ _. ⊥) (λ fault. (fault ≡ TooLong) ⊎ (fault ≡ NoMemory)) }
+        → MatchResult result (λ lined. (lined.acts.items ≡ acts)
+        × (lined.lines.items ≡ numbers_from 1 acts)) (λ fault. fault ≡ NoMemory) }
+    ensures too_long { (printed : List ℕ) (given : Option ℕ) (result : Result LinedActs ActsFault)
+        → most_bytes < length printed
+        → ReadsActs given printed result
+        → MatchResult result (λ _. ⊥) (λ fault. (fault ≡ TooLong) ⊎ (fault ≡ NoMemory)) }
 {}
 
-/// What a judge says of what is printed of a run is what the definitions say of the run's acts. It begins with the lines
-/// `well synchronized` and `reads lazily`, and the status behind it tells whether the run has a race.
+/// The judge says of a run's printed text what the definitions say of the run's acts. The output begins with the lines
+/// `well synchronized` and `reads lazily`, and the status tells whether the run has a race: 3 if it does, else 0.
 pub fn printed_runs_are_judged_as_their_acts()
-    ensures judgement { (acts : List Act) (pairs : Bool) (out : List ℕ) (status : ℕ) (is : IsJudgedRun acts pairs out status)
-        → (count : ℕ) × CountsNodes is.given acts count × IsJudgement count acts (numbers_from 1 acts) pairs out status }
-    ensures begins { (acts : List Act) (pairs : Bool) (out : List ℕ) (status : ℕ) → IsJudgedRun acts pairs out status
+    ensures judgement { (acts : List Act) (pairs : Bool) (out : List ℕ) (status : ℕ)
+        (is : IsJudgedRun acts pairs out status)
+        → (count : ℕ) × CountsNodes is.given acts count
+        × IsJudgement count acts (numbers_from 1 acts) pairs out status }
+    ensures begins { (acts : List Act) (pairs : Bool) (out : List ℕ) (status : ℕ)
+        → IsJudgedRun acts pairs out status
         → (rest : List ℕ) × (out ≡ synchronized_line ++ lazy_line ++ rest) }
-    ensures status { (acts : List Act) (pairs : Bool) (out : List ℕ) (status : ℕ) → IsJudgedRun acts pairs out status
+    ensures status { (acts : List Act) (pairs : Bool) (out : List ℕ) (status : ℕ)
+        → IsJudgedRun acts pairs out status
         → ((status ≡ 0) × IsRaceFree acts) ⊎ ((status ≡ 3) × ¬ IsRaceFree acts) }
 {}

@@ -1,6 +1,6 @@
-//! What holds of the texts of every run of the protocol machine, whatever its events: that the order in the trace form of race
-//! detectors is happens before, and that such a trace is well formed; and that what is printed of its acts is read, and judged, as
-//! these acts. Laws alone.
+//! Laws about the texts of every run of the protocol machine, whatever its events. The order in the trace for race
+//! detectors is happens before, and this trace is well formed. The text printed of a run's acts is read, and judged, as
+//! these acts.
 #![tactic(auto)]
 
 pub mod laws;

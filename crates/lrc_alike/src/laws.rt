@@ -10,25 +10,34 @@ ghost use Rattle.lrc_explore.specs.Stuck.{IsAtRest, IsStuck};
 ghost use Rattle.lrc_alike.specs.Alike.{By, GoOnAlike, StandAlike, StepsAlike, RunsAlike};
 ghost use Rattle.lrc_alike.specs.Names.{AgreeWhereItMatters};
 
-/// Where the threads of two states go on alike, each step of the one is a step of the other, with the same deed.
+/// If the threads of two states go on alike, each step of the one is a step of the other, with the same deed.
 pub fn steps_are_alike()
-    ensures { (related : Thread → Thread → Bool) (machine other after : Plain) (node : ℕ) (deed : Deed) → GoOnAlike (By related)
-        → StandAlike (By related) machine other → plain_step machine node ≡ Some (deed, after) → StepsAlike (By related) other node deed after }
+    ensures { (related : Thread → Thread → Bool) (machine other after : Plain) (node : ℕ)
+        (deed : Deed) → GoOnAlike (By related)
+        → StandAlike (By related) machine other → plain_step machine node ≡ Some (deed, after)
+        → StepsAlike (By related) other node deed after }
 {}
 
-/// So is each order, with the same acts: they have the same runs, and so the same races and outcomes.
+/// If the threads of two states go on alike, each order gives both the same acts. So they have the same runs, races and
+/// outcomes.
 pub fn orders_are_alike()
-    ensures { (related : Thread → Thread → Bool) (machine other final : Plain) (order : List ℕ) (acts : List Act) → GoOnAlike (By related)
-        → StandAlike (By related) machine other → plain_from machine order ≡ Some (acts, final) → RunsAlike (By related) other order acts final }
+    ensures { (related : Thread → Thread → Bool) (machine other final : Plain) (order : List ℕ)
+        (acts : List Act) → GoOnAlike (By related)
+        → StandAlike (By related) machine other → plain_from machine order ≡ Some (acts, final)
+        → RunsAlike (By related) other order acts final }
 {}
 
-/// The same nodes meet there, the one is at rest exactly where the other is, and stuck exactly where the other is.
+/// If the threads of two states go on alike, the same nodes meet at both. One is at rest exactly if the other is, and
+/// stuck exactly if the other is.
 pub fn what_is_seen_is_alike()
-    ensures meet { (related : Thread → Thread → Bool) (machine other : Plain) (p q : ℕ) → GoOnAlike (By related) → StandAlike (By related) machine other
+    ensures meet { (related : Thread → Thread → Bool) (machine other : Plain) (p q : ℕ)
+        → GoOnAlike (By related) → StandAlike (By related) machine other
         → (Meet machine p q ↔ Meet other p q) }
-    ensures rest { (related : Thread → Thread → Bool) (machine other : Plain) → GoOnAlike (By related) → StandAlike (By related) machine other
+    ensures rest { (related : Thread → Thread → Bool) (machine other : Plain)
+        → GoOnAlike (By related) → StandAlike (By related) machine other
         → (IsAtRest machine ↔ IsAtRest other) }
-    ensures stuck { (related : Thread → Thread → Bool) (machine other : Plain) → GoOnAlike (By related) → StandAlike (By related) machine other
+    ensures stuck { (related : Thread → Thread → Bool) (machine other : Plain)
+        → GoOnAlike (By related) → StandAlike (By related) machine other
         → (IsStuck machine ↔ IsStuck other) }
 {}
 

@@ -16,30 +16,31 @@ use std::error::Error;
 use std::fmt;
 use std::fmt::{Display, Formatter};
 
-/// Why nothing is printed. It is shown as the line on it says.
+/// Why nothing is printed. The program shows the line of the fault.
 #[derive(Clone, Copy, Debug, PartialEq, Eq)]
 pub enum Fault {
-    /// The text is no program: the line of its first fault, and the fault.
+    /// The text is not a program: the line of its first fault, and the fault.
     Text(u32, FaultKind),
-    /// The line of this number in the text of events names no event.
+    /// The line with this number in the text of events is not an event.
     Events(u32),
-    /// The line of this number in the text of acts says no act.
+    /// The line with this number in the text of acts is not an act.
     Acts(u32),
-    /// The text of acts is longer than any may be.
+    /// The text of acts is longer than it may be.
     LongActs,
     /// There is no act at this position.
     NoAct(usize),
-    /// The numbers of messages were used up.
+    /// The message numbers ran out.
     Worn,
-    /// A search through every order met more states than this, which it might.
+    /// A search through every order met more states than this limit.
     TooManyStates(u32),
-    /// The program has no outcome of this number.
+    /// The program has no outcome with this number.
     NoOutcome(u64),
-    /// More turns are to be shown with the states of the nodes than may be.
+    /// The part of the run to show with the nodes' states has too many turns.
     TooManyTurns,
-    /// A chart would have more rows than a chart may have.
+    /// A chart would have more rows than it may have.
     TooLong,
-    /// What the nodes of a run on threads say that they sent and took is not what went through the post.
+    /// In a run on threads, the messages that the nodes report as sent and taken differ from those that went through
+    /// the post.
     Mismatch,
     /// Memory ran out.
     NoMemory,
@@ -158,10 +159,10 @@ impl<T: Drop> From<AllocFailed<T>> for Fault {
     }
 }
 
-/// The line that is written where memory ran out.
+/// The line that is written if memory runs out.
 pub const NO_MEMORY_LINE: &[u8] = b"treadmarks: out of memory\n";
 
-/// The line that is written for a fault.
+/// Returns the line that is written for a fault.
 pub fn line_of(alloc: Global, fault: Fault) -> Result<String, AllocError>
     ensures { IfOk result (λ line. string_bytes line ≡ fault_line fault) }
 {

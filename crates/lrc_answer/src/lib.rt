@@ -1,4 +1,4 @@
-//! What the program answers to a choice: what it prints with its status, or a fault with the line that says so.
+//! The answer of `treadmarks` to a choice: the text to print with the exit status, or a fault with its line.
 #![tactic(auto)]
 
 pub mod fault;

@@ -5,7 +5,7 @@ ghost use Rattle.lrc_text.specs.Parts.{whole_text};
 
 use std::alloc::{AllocError, Global};
 
-/// What is printed, and the status with which the program ends after it.
+/// The text to print, and the exit status.
 #[derive(Drop)]
 pub struct Printout {
     /// The parts of the text.
@@ -13,7 +13,7 @@ pub struct Printout {
     pub status: u8,
 }
 
-/// A text in one part.
+/// Returns a text as its one part.
 pub fn in_one(alloc: Global, part: Vec<u8>) -> Result<Vec<Vec<u8>>, AllocError>
     ensures { IfOk result (λ parts. whole_text parts.items ≡ part.items) }
 {

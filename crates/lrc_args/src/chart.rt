@@ -17,7 +17,7 @@ static RUN_OPTIONS: [&str; 8] = [
     "steps", "collect", "order", "page", "events", "seed", "threads", "source",
 ];
 
-/// The choice of `chart`.
+/// Returns the choice of the command `chart`, or why its options do not fit.
 pub(crate) fn chart_choice<'w>(options: &ArgMatches<'w>) -> Result<Choice<'w>, Misfit>
     requires { IsChartTaken (rows_of (found_of options.now)) }
     ensures ok { IfOk result (IsChoice (codes "chart", rows_of (found_of options.now))) }
@@ -54,7 +54,8 @@ fn charting_of(options: &ArgMatches<'_>) -> Result<Charting, Misfit>
 
 // What is to be left out, if it is named.
 fn hidden_of<'w>(options: &ArgMatches<'w>) -> Option<&'w str>
-    ensures { option_map (λ word. word.now) result ≡ first_of (codes "hide") (rows_of (found_of options.now)) }
+    ensures { option_map (λ word. word.now) result
+        ≡ first_of (codes "hide") (rows_of (found_of options.now)) }
 {
     options.get_str("hide")
 }

@@ -8,14 +8,14 @@ use lrc_page::Size;
 pub use lrc_setting::setting::{Nodes, Steps};
 use thiserror::Error;
 
-/// From how many stored intervals on a node asks for a collection, 0 to 1,000,000; 0: never.
+/// The least number of stored intervals at which a node asks for a collection, 0 to 1,000,000. With 0 it never asks.
 #[derive(Clone, Copy)]
 pub struct Collect {
     pub count: u32,
     pub ghost few: { count ≤ 1000000 },
 }
 
-/// The options of `plain`.
+/// The options of the command `plain`.
 #[derive(Clone, Copy)]
 pub struct PlainRun<'w> {
     /// The file of the program's text; `-` is standard input.
@@ -24,7 +24,7 @@ pub struct PlainRun<'w> {
     pub steps: Steps,
 }
 
-/// How many states a search through every order may meet, 1 to 100,000,000.
+/// The most states that a search through every order may meet, 1 to 100,000,000.
 #[derive(Clone, Copy)]
 pub struct Most {
     pub count: u32,
@@ -32,14 +32,14 @@ pub struct Most {
     pub ghost few: { count ≤ 100000000 },
 }
 
-/// The number of an outcome in the list of all, counted from 1.
+/// The number of an outcome in the list of all outcomes, counted from 1.
 #[derive(Clone, Copy)]
 pub struct OutcomeNumber {
     pub number: u64,
     pub ghost some: { 1 ≤ number },
 }
 
-/// What the runs have in common, whichever way they go on.
+/// The options that all runs have, however they go on.
 #[derive(Clone, Copy)]
 pub struct RunOptions<'w> {
     /// The file of the program's text; `-` is standard input.
@@ -54,13 +54,13 @@ pub struct RunOptions<'w> {
 /// How a run goes on.
 #[derive(Clone, Copy)]
 pub enum Way<'w> {
-    /// By the events that this file names.
+    /// By the events in this file.
     Events(&'w str),
-    /// In rounds; which message is delivered next.
+    /// In rounds. The picker determines which message is delivered next.
     Rounds(Picker),
     /// At random, from this seed.
     Random(u64),
-    /// Each node on a thread of its own; which message a mailbox gives next.
+    /// With each node on its own thread. The picker determines which message a mailbox gives next.
     Threads(Picker),
 }
 
@@ -71,12 +71,12 @@ pub struct RunChoice<'w> {
     pub way: Way<'w>,
 }
 
-/// Which part of a run is shown, turn by turn.
+/// The part of a run that is shown turn by turn.
 #[derive(Clone, Copy)]
 pub struct Part {
-    /// The position of the act of the first turn that is shown, where it is given.
+    /// The position of the act of the first turn that is shown, if it is given.
     pub from: Option<u64>,
-    /// That of the act of the last turn that is shown.
+    /// The position of the act of the last turn that is shown, if it is given.
     pub to: Option<u64>,
 }
 
@@ -85,38 +85,38 @@ pub struct Part {
 pub enum Form {
     /// A line for each act.
     Acts,
-    /// A line for each act, with the messages that are taken and sent between them.
+    /// A line for each act, and between them the messages that are taken and sent.
     Messages,
     /// The events that `--events` reads.
     Events,
     /// A JSON object for each act.
     Json,
-    /// The trace form of the race detectors' framework RAPID.
+    /// The trace form of RAPID, the framework for race detectors.
     Rapid,
-    /// A JSON object for each turn of a part of the run, with the state of its node.
+    /// A JSON object for each turn of a part of the run, with its node's state.
     States(Part),
 }
 
-/// Which part of a run a chart shows, and how.
+/// The part of a run that a chart shows, and how the chart shows it.
 #[derive(Clone, Copy)]
 pub struct Charting {
-    /// Whether it is written for a terminal, in place of an SVG document.
+    /// Whether the chart is for a terminal. If not, it is an SVG document.
     pub text: bool,
-    /// The positions of the first and of the last act that it shows, where they are given.
+    /// The positions of the first and the last act that it shows, if they are given.
     pub from: Option<u64>,
     pub to: Option<u64>,
-    /// Whether it leaves out the rows that have nothing but a quiet act.
+    /// Whether it hides the rows that have nothing but a quiet act.
     pub hides_quiet: bool,
-    /// Whether the program's text stands beside it.
+    /// Whether it shows the program's text beside the picture.
     pub source: bool,
 }
 
-/// Of which acts it is asked why they are as they are: of one, or how it and another are ordered.
+/// A question about acts: why one act is as it is, or how it and another are ordered.
 #[derive(Clone, Copy)]
 pub struct Asking {
     /// The position of an act, counted from 0.
     pub act: u64,
-    /// That of another act.
+    /// The position of another act, counted from 0, if the question is about two.
     pub other: Option<u64>,
     pub ghost apart: { other ≢ Some act },
 }
@@ -124,87 +124,87 @@ pub struct Asking {
 /// What is shown of a run.
 #[derive(Clone, Copy)]
 pub enum Shape {
-    /// What the nodes print, how they end, and the races.
+    /// The output of the nodes, how they end, and the races.
     Report,
     /// Its acts, or its turns.
     Trace(Form),
-    /// A page for a browser that shows a part of it turn by turn, with the state of each node.
+    /// A page for a browser that shows a part of the run turn by turn, with the state of each node.
     Step(Part),
-    /// The report, with reasons.
+    /// The report with reasons.
     Explain,
-    /// How much of each thing happened.
+    /// How often each kind of thing happened.
     Stats,
-    /// A picture of it.
+    /// A picture of the run.
     Chart(Charting),
-    /// Why an act of it is as it is, or how two are ordered.
+    /// Why an act of the run is as it is, or how two acts are ordered.
     Why(Asking),
 }
 
-/// The options of `judge`.
+/// The options of the command `judge`.
 #[derive(Clone, Copy)]
 pub struct Judging<'w> {
     /// The file of the text of acts; `-` is standard input.
     pub file: &'w str,
-    /// How many nodes there are; where it is left out, one more than the greatest node that acts.
+    /// The number of nodes. By default it is the greatest node that acts plus one.
     pub nodes: Option<Nodes>,
-    /// Whether every racing pair is named, in place of the named races.
+    /// Whether every racing pair is listed, instead of the named races.
     pub pairs: bool,
 }
 
-/// The options of `explore`.
+/// The options of the command `explore`.
 #[derive(Clone, Copy)]
 pub struct Exploring<'w> {
     /// The file of the program's text; `-` is standard input.
     pub file: &'w str,
     pub nodes: Nodes,
-    /// How many states the search may meet.
+    /// The most states that the search may meet.
     pub most: Most,
-    /// Whether the outcomes are looked for, in place of a race.
+    /// Whether the search is for the outcomes, instead of a race.
     pub outcomes: bool,
-    /// The outcome of which a run is shown, in place of the list of all.
+    /// The outcome for which a run is shown, instead of the list of all outcomes.
     pub outcome: Option<OutcomeNumber>,
 }
 
-/// The form of a trace whose races are looked for.
+/// The form of a trace that is searched for races.
 #[derive(Clone, Copy)]
 pub enum TraceForm {
-    /// That of the race detectors' framework RAPID, with words for more that orders.
+    /// The form of RAPID, the framework for race detectors, with further words for what orders events.
     Std,
-    /// That of `judge`.
+    /// The form of `judge`.
     Acts,
 }
 
-/// The options of `races`.
+/// The options of the command `races`.
 #[derive(Clone, Copy)]
 pub struct Racing<'w> {
     /// The file of the trace; `-` is standard input.
     pub file: &'w str,
     pub form: TraceForm,
-    /// Whether the races are told by groups, when the trace has ended.
+    /// Whether the races are reported by groups, after the trace has ended.
     pub group: bool,
 }
 
-/// Acts from anywhere of which it is asked why they are as they are.
+/// A text of acts for the command `why`. The acts may come from any system.
 #[derive(Clone, Copy)]
 pub struct ForeignActs<'w> {
     /// The file of the text of acts; `-` is standard input.
     pub file: &'w str,
-    /// How many nodes there are; where it is left out, one more than the greatest node that acts.
+    /// The number of nodes. By default it is the greatest node that acts plus one.
     pub nodes: Option<Nodes>,
     /// The size of a page.
     pub size: Size,
 }
 
-/// Acts from anywhere that are charted.
+/// A text of acts for the command `chart`. The acts may come from any system.
 #[derive(Clone, Copy)]
 pub struct ChartedActs<'w> {
     /// The file of the text of acts; `-` is standard input.
     pub file: &'w str,
-    /// How many nodes there are; where it is left out, one more than the greatest node that acts.
+    /// The number of nodes. By default it is the greatest node that acts plus one.
     pub nodes: Option<Nodes>,
 }
 
-/// What is asked of the texts in files, each of which is read to its end.
+/// A request about the texts in files, each of which is read to its end.
 #[derive(Clone, Copy)]
 pub enum Choice<'w> {
     /// Whether the text in this file is a program; `-` is standard input.
@@ -213,15 +213,15 @@ pub enum Choice<'w> {
     Plain(PlainRun<'w>),
     /// A run of the nodes, and what is shown of it.
     Show(RunChoice<'w>, Shape),
-    /// What is to be said of acts from anywhere.
+    /// A judgement of the acts in a text.
     Judge(Judging<'w>),
-    /// What every order of the plain machine comes to.
+    /// What every order of the plain machine reaches.
     Explore(Exploring<'w>),
-    /// What is wrong with the text in this file, and what is likely to be; `-` is standard input.
+    /// What is wrong with the text in this file, and what is probably wrong; `-` is standard input.
     Lint(&'w str),
-    /// Why an act from anywhere is as it is, or how two are ordered.
+    /// Why an act in a text of acts is as it is, or how two are ordered.
     WhyActs(ForeignActs<'w>, Asking),
-    /// A picture of acts from anywhere.
+    /// A picture of the acts in a text.
     ChartActs(ChartedActs<'w>, Charting),
 }
 
@@ -232,35 +232,35 @@ pub struct CommandName<'w> {
     pub ghost known: { is_command name.now ≡ true },
 }
 
-/// What the program can say of itself.
+/// What the program can say about itself.
 #[derive(Clone, Copy)]
 pub enum Topic<'w> {
-    /// Its commands: what `--help` writes.
+    /// Its commands: the output of `--help`.
     Commands,
-    /// A command and its options: what `--help` behind its name writes.
+    /// A command and its options: the output of `--help` after its name.
     Command(CommandName<'w>),
-    /// Its version: what `--version` writes.
+    /// Its version: the output of `--version`.
     Version,
 }
 
-/// What the words ask for.
+/// What the command line asks for.
 #[derive(Clone, Copy)]
 pub enum Request<'w> {
-    /// What the program says of itself.
+    /// What the program says about itself.
     About(Topic<'w>),
-    /// The races of a trace, which are told as it is read.
+    /// The races of a trace, which are reported while it is read.
     Races(Racing<'w>),
-    /// What is answered to the texts in files.
+    /// An answer to the texts in files.
     Answer(Choice<'w>),
 }
 
-/// Why there is no request.
+/// Why the words are not a request.
 #[derive(Debug, Drop, Error)]
 pub enum ChooseFault {
-    /// The words are no command, or ask for help. The error is the text to show.
+    /// The words are not a command, or they ask for help. The error holds the text to show.
     #[error("{0}")]
     Usage(clap::Error),
-    /// A number of 64 bits is not in its option's range.
+    /// A number of 64 bits is outside its option's range.
     #[error("number out of range")]
     BadNumber,
     /// Memory ran out.

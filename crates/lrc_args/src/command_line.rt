@@ -34,7 +34,8 @@ use std::convert::AsStr;
 // What the program does where it gets no words.
 static NO_WORDS: [&str; 2] = ["sim", "-"];
 
-/// Reads the words that follow the program's name. No words at all ask for `sim -`.
+/// Reads the words that follow the program's name, and returns the request. No words mean `sim -`. The errors are those
+/// of [`ChooseFault`].
 pub fn choose<'w, S: AsStr>(alloc: Global, words: &'w [S]) -> Result<Request<'w>, ChooseFault>
     ensures { Chooses (words_meant (map S.text words.entry.now)) result }
 {
@@ -52,7 +53,7 @@ fn request_in<'w, S: AsStr>(alloc: Global, words: &'w [S]) -> Result<Request<'w>
     request_from(&matches).map_err(|misfit| fault_of_misfit(alloc, misfit))
 }
 
-/// What clap reads in the words.
+/// Returns what clap reads in the words, or clap's error.
 pub(crate) fn matches_of<'w, S: AsStr>(
     alloc: Global,
     words: &'w [S],
@@ -68,8 +69,10 @@ pub(crate) fn matches_of<'w, S: AsStr>(
 
 fn request_from<'w>(matches: &ArgMatches<'w>) -> Result<Request<'w>, Misfit>
     requires { IsRequestTaken (subcommand_rows_of matches.now) }
-    ensures ok { IfOk result (λ request. IsSomeAnd (subcommand_rows_of matches.now) (λ found. IsRequest found request)) }
-    ensures err { IfErr result (λ misfit. IsSomeAnd (subcommand_rows_of matches.now) (λ found. HasRequestMisfit found misfit)) }
+    ensures ok { IfOk result (λ request. IsSomeAnd (subcommand_rows_of matches.now)
+        (λ found. IsRequest found request)) }
+    ensures err { IfErr result (λ misfit. IsSomeAnd (subcommand_rows_of matches.now)
+        (λ found. HasRequestMisfit found misfit)) }
 {
     if let Some(options) = matches.subcommand_matches("help") {
         return help_request(options);
@@ -86,8 +89,10 @@ fn request_from<'w>(matches: &ArgMatches<'w>) -> Result<Request<'w>, Misfit>
 // What a command asks for that is answered to the texts in files.
 fn answer_from<'w>(matches: &ArgMatches<'w>) -> Result<Choice<'w>, Misfit>
     requires { IsAnswerTaken (subcommand_rows_of matches.now) }
-    ensures ok { IfOk result (λ choice. IsSomeAnd (subcommand_rows_of matches.now) (λ found. IsChoice found choice)) }
-    ensures err { IfErr result (λ misfit. IsSomeAnd (subcommand_rows_of matches.now) (λ found. HasAnswerMisfit found misfit)) }
+    ensures ok { IfOk result (λ choice. IsSomeAnd (subcommand_rows_of matches.now)
+        (λ found. IsChoice found choice)) }
+    ensures err { IfErr result (λ misfit. IsSomeAnd (subcommand_rows_of matches.now)
+        (λ found. HasAnswerMisfit found misfit)) }
 {
     if let Some(options) = matches.subcommand_matches("lint") {
         return Ok(Choice::Lint(text_of(options, "FILE")));
@@ -125,7 +130,8 @@ fn races_request<'w>(options: &ArgMatches<'w>) -> Result<Request<'w>, Misfit>
 
 fn trace_form_named(word: &str) -> Result<TraceForm, Misfit>
     ensures ok { IfOk result (IsTraceForm (Some word.now)) }
-    ensures err { IfErr result (λ misfit. (misfit ≡ unfit.TraceForm) × ((form : AnyTraceForm) → ¬ IsTraceForm (Some word.now) form)) }
+    ensures err { IfErr result (λ misfit. (misfit ≡ unfit.TraceForm)
+        × ((form : AnyTraceForm) → ¬ IsTraceForm (Some word.now) form)) }
 {
     if word == "std" {
         Ok(TraceForm::Std)
@@ -138,8 +144,10 @@ fn trace_form_named(word: &str) -> Result<TraceForm, Misfit>
 
 fn choice_from<'w>(matches: &ArgMatches<'w>) -> Result<Choice<'w>, Misfit>
     requires { IsCommandTaken (subcommand_rows_of matches.now) }
-    ensures ok { IfOk result (λ choice. IsSomeAnd (subcommand_rows_of matches.now) (λ found. IsChoice found choice)) }
-    ensures err { IfErr result (λ misfit. IsSomeAnd (subcommand_rows_of matches.now) (λ found. HasMisfit found misfit)) }
+    ensures ok { IfOk result (λ choice. IsSomeAnd (subcommand_rows_of matches.now)
+        (λ found. IsChoice found choice)) }
+    ensures err { IfErr result (λ misfit. IsSomeAnd (subcommand_rows_of matches.now)
+        (λ found. HasMisfit found misfit)) }
 {
     if let Some(options) = matches.subcommand_matches("check") {
         return Ok(Choice::Check(text_of(options, "FILE")));
@@ -159,8 +167,10 @@ fn choice_from<'w>(matches: &ArgMatches<'w>) -> Result<Choice<'w>, Misfit>
 // What a command asks for that shows something of a run.
 fn shown_from<'w>(matches: &ArgMatches<'w>) -> Result<Choice<'w>, Misfit>
     requires { IsSomeAnd (subcommand_rows_of matches.now) IsShowTaken }
-    ensures ok { IfOk result (λ choice. IsSomeAnd (subcommand_rows_of matches.now) (λ found. IsChoice found choice)) }
-    ensures err { IfErr result (λ misfit. IsSomeAnd (subcommand_rows_of matches.now) (λ found. HasShowMisfit found misfit)) }
+    ensures ok { IfOk result (λ choice. IsSomeAnd (subcommand_rows_of matches.now)
+        (λ found. IsChoice found choice)) }
+    ensures err { IfErr result (λ misfit. IsSomeAnd (subcommand_rows_of matches.now)
+        (λ found. HasShowMisfit found misfit)) }
 {
     if let Some(options) = matches.subcommand_matches("sim") {
         return Ok(Choice::Show(run_choice(options, false)?, Shape::Report));
@@ -174,8 +184,10 @@ fn shown_from<'w>(matches: &ArgMatches<'w>) -> Result<Choice<'w>, Misfit>
 // What a command asks for that asks more of a run.
 fn asked_from<'w>(matches: &ArgMatches<'w>) -> Result<Choice<'w>, Misfit>
     requires { IsSomeAnd (subcommand_rows_of matches.now) IsAskTaken }
-    ensures ok { IfOk result (λ choice. IsSomeAnd (subcommand_rows_of matches.now) (λ found. IsChoice found choice)) }
-    ensures err { IfErr result (λ misfit. IsSomeAnd (subcommand_rows_of matches.now) (λ found. HasShowMisfit found misfit)) }
+    ensures ok { IfOk result (λ choice. IsSomeAnd (subcommand_rows_of matches.now)
+        (λ found. IsChoice found choice)) }
+    ensures err { IfErr result (λ misfit. IsSomeAnd (subcommand_rows_of matches.now)
+        (λ found. HasShowMisfit found misfit)) }
 {
     if let Some(options) = matches.subcommand_matches("trace") {
         return trace_choice(options);

@@ -6,7 +6,7 @@ ghost use Rattle.lrc_args.specs.Files.{events_along, events_of, file_of, reads_a
 use crate::choice::{Choice, Way};
 
 impl<'w> Choice<'w> {
-    /// The file of the text; `-` is standard input.
+    /// Returns the file of the text; `-` is standard input.
     pub fn file(&self) -> &'w str
         ensures { result.now ≡ file_of self.now }
     {
@@ -22,7 +22,7 @@ impl<'w> Choice<'w> {
         }
     }
 
-    /// Whether the text is one of acts, and not of a program.
+    /// Returns whether the text is a text of acts, instead of a program.
     pub fn reads_acts(&self) -> bool
         ensures { result ≡ reads_acts self.now }
     {
@@ -32,7 +32,7 @@ impl<'w> Choice<'w> {
         )
     }
 
-    /// The file of the events, if one is named.
+    /// Returns the file of the events, if the choice names one.
     pub fn events(&self) -> Option<&'w str>
         ensures { option_map (λ path. path.now) result ≡ events_of self.now }
     {

@@ -1,4 +1,6 @@
-//! The words of the command line of `treadmarks`, and the choice that they make.
+//! Reads the command line of `treadmarks`. Clap parses the words, and this crate turns them into a request: a command
+//! with its options, the races of a trace, help, or the version. It refuses words that clap refuses, options that do
+//! not fit together, and numbers outside their ranges.
 #![tactic(auto)]
 
 mod chart;

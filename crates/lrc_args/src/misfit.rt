@@ -50,48 +50,48 @@ const BAD_RUN_OPTION: &str =
 const BAD_CHART_OPTION: &str =
     "with '--acts <PATH>' there are no options but '--nodes <N>', '--text', '--from <P>', '--to <Q>' and '--hide <WHAT>'";
 
-/// Why the options that clap read are no choice.
+/// Why the options that clap read are not a choice.
 #[derive(Clone, Copy)]
 pub(crate) enum Misfit {
-    /// `--order` has no word that it takes.
+    /// The value of `--order` is not one of its words.
     Order,
-    /// The `--order` of `run` has no word that it takes.
+    /// The value of `--order` in the command `run` is not one of its words.
     RunOrder,
-    /// `--page` has no word that it takes.
+    /// The value of `--page` is not one of its words.
     Page,
-    /// `--as` has no word that it takes.
+    /// The value of `--as` is not one of its words.
     Form,
-    /// There is a seed, and the order is not random.
+    /// A seed is given, but the order is not random.
     Seed,
-    /// Threads are asked for, and so are given events or a random order.
+    /// Threads are asked for together with given events or a random order.
     Threads,
-    /// Messages are asked for, and so is another form than that of acts.
+    /// Messages are asked for together with a form other than that of acts.
     Messages,
-    /// A part of the run is asked for, and so is another form than that of states.
+    /// A part of the run is asked for together with a form other than that of states.
     Part,
-    /// Help is wanted on a word that is no command.
+    /// Help is asked for on a word that is not a command.
     Topic,
-    /// The `--as` of `races` has no word that it takes.
+    /// The value of `--as` in the command `races` is not one of its words.
     TraceForm,
-    /// `--hide` has no word that it takes.
+    /// The value of `--hide` is not one of its words.
     Hide,
-    /// The program's text is asked for, and so is a chart for a terminal.
+    /// The program's text is asked for together with a chart for a terminal.
     TextSource,
-    /// It is asked how an act and the same act are ordered.
+    /// The question is how an act is ordered with itself.
     SameAct,
-    /// There is a FILE, and so is a file of acts.
+    /// Both a FILE and a file of acts are given.
     Sources,
-    /// There is neither a FILE nor a file of acts.
+    /// Neither a FILE nor a file of acts is given.
     NoSource,
-    /// Acts are from a file of acts, and an option is given that a run has.
+    /// The acts come from a file of acts, but an option of runs is given.
     RunOption,
-    /// Acts are charted from a file of acts, and an option is given that a chart of a run has.
+    /// A chart shows acts from a file of acts, but an option for charts of runs is given.
     ChartRunOption,
-    /// A number is not in its option's range.
+    /// A number is outside its option's range.
     Number,
 }
 
-/// The fault of what does not fit.
+/// Returns the fault for a misfit.
 pub(crate) fn fault_of_misfit(alloc: Global, misfit: Misfit) -> ChooseFault
     ensures { IsMisfitFault misfit result }
 {

@@ -17,7 +17,7 @@ use clap::ArgMatches;
 use clap::parser::ValueSource;
 use lrc_page::Size;
 
-/// The value of an option or argument.
+/// Returns the value of an option or argument.
 pub(crate) fn text_of<'w>(options: &ArgMatches<'w>, name: &str) -> &'w str
     requires { HasValue name.now (rows_of (found_of options.now)) }
     ensures { first_of name.now (rows_of (found_of options.now)) ≡ Some result.now }
@@ -25,7 +25,7 @@ pub(crate) fn text_of<'w>(options: &ArgMatches<'w>, name: &str) -> &'w str
     options.get_str(name).unwrap()
 }
 
-/// Whether the words name a flag.
+/// Returns whether the words name a flag.
 pub(crate) fn is_named(options: &ArgMatches<'_>, name: &str) -> bool
     requires { IsFlagOption name.now (rows_of (found_of options.now)) }
     ensures { IsFlag name.now result (rows_of (found_of options.now)) }
@@ -33,7 +33,7 @@ pub(crate) fn is_named(options: &ArgMatches<'_>, name: &str) -> bool
     options.get_flag(name)
 }
 
-/// Whether the words give an option or argument a value: a default is none.
+/// Returns whether the words give an option or argument a value. A default does not count.
 pub(crate) fn is_given(options: &ArgMatches<'_>, name: &str) -> bool
     ensures { result ≡ is_given name.now (rows_of (found_of options.now)) }
 {
@@ -50,14 +50,15 @@ fn is_explicit(source: Option<ValueSource>) -> bool
     }
 }
 
-/// Whether the words give one of these a value.
+/// Returns whether the words give one of these options or arguments a value.
 pub(crate) fn is_any_given(options: &ArgMatches<'_>, names: &[&str]) -> bool
-    ensures { result ≡ list_any (λ name. is_given name.now (rows_of (found_of options.now))) names.now }
+    ensures { result ≡ list_any (λ name. is_given name.now (rows_of (found_of options.now)))
+        names.now }
 {
     names.iter().any(|name| is_given(options, name))
 }
 
-/// The number that the words give an option.
+/// Returns the number that the words give an option, if they give one.
 pub(crate) fn given_number_of(options: &ArgMatches<'_>, name: &str) -> Option<u64>
     requires { IsBareNumber name.now (rows_of (found_of options.now)) }
     ensures { result ≡ given_number name.now (rows_of (found_of options.now)) }
@@ -69,10 +70,11 @@ pub(crate) fn given_number_of(options: &ArgMatches<'_>, name: &str) -> Option<u6
     }
 }
 
-/// So many nodes, where it is said how many.
+/// Returns the number of nodes, if one is given. It fails with `Misfit::Number` if the number is not 1 to 16.
 pub(crate) fn some_nodes(count: Option<u64>) -> Result<Option<Nodes>, Misfit>
     ensures ok { IfOk result (λ nodes. count ≡ option_map (λ nodes. nodes.count) nodes) }
-    ensures err { IfErr result (λ misfit. (misfit ≡ unfit.Number) × IsSomeAnd count (IsOutOfRange 1 16)) }
+    ensures err { IfErr result (λ misfit. (misfit ≡ unfit.Number)
+        × IsSomeAnd count (IsOutOfRange 1 16)) }
 {
     match count {
         Some(count) => Ok(Some(so_many_nodes(count)?)),
@@ -80,7 +82,7 @@ pub(crate) fn some_nodes(count: Option<u64>) -> Result<Option<Nodes>, Misfit>
     }
 }
 
-/// The number of an option that has one.
+/// Returns the number of an option that always has one.
 pub(crate) fn number_of(options: &ArgMatches<'_>, name: &str) -> u64
     requires { IsNumberOption name.now (rows_of (found_of options.now)) }
     ensures { result ≡ option_number name.now (rows_of (found_of options.now)) }
@@ -88,7 +90,7 @@ pub(crate) fn number_of(options: &ArgMatches<'_>, name: &str) -> u64
     options.get_one::<u64>(name).unwrap()
 }
 
-/// The number of an option that need not be there.
+/// Returns the number of an option that may be absent.
 pub(crate) fn some_number_of(options: &ArgMatches<'_>, name: &str) -> Option<u64>
     requires { IsBareNumber name.now (rows_of (found_of options.now)) }
     ensures { result ≡ some_number_in name.now (rows_of (found_of options.now)) }
@@ -105,7 +107,7 @@ pub(crate) fn nodes_of(options: &ArgMatches<'_>) -> Result<Nodes, Misfit>
     so_many_nodes(number_of(options, "nodes"))
 }
 
-/// So many nodes.
+/// Returns the number of nodes. It fails with `Misfit::Number` if the number is not 1 to 16.
 pub(crate) fn so_many_nodes(count: u64) -> Result<Nodes, Misfit>
     ensures ok { IfOk result (λ nodes. count ≡ nodes.count) }
     ensures err { IfErr result (λ misfit. (misfit ≡ unfit.Number) × IsOutOfRange 1 16 count) }
@@ -136,7 +138,8 @@ pub(crate) fn steps_of(options: &ArgMatches<'_>) -> Result<Steps, Misfit>
 
 pub(crate) fn collect_of(options: &ArgMatches<'_>) -> Result<Collect, Misfit>
     requires { IsNumberOption (codes "collect") (rows_of (found_of options.now)) }
-    ensures ok { IfOk result (λ collect. collect_in (rows_of (found_of options.now)) ≡ collect.count) }
+    ensures ok { IfOk result (λ collect. collect_in (rows_of (found_of options.now))
+        ≡ collect.count) }
     ensures err { IfErr result (λ misfit. (misfit ≡ unfit.Number)
         × IsOutOfRange 0 1000000 (collect_in (rows_of (found_of options.now)))) }
 {
@@ -160,11 +163,13 @@ pub(crate) fn most_of(options: &ArgMatches<'_>) -> Result<Most, Misfit>
     }
 }
 
-/// Which outcome is asked for, if one is.
+/// Returns the number of the outcome that is asked for, if one is. It fails with `Misfit::Number` if the number is 0.
 pub(crate) fn outcome_of(options: &ArgMatches<'_>) -> Result<Option<OutcomeNumber>, Misfit>
     requires { IsBareNumber (codes "outcome") (rows_of (found_of options.now)) }
-    ensures ok { IfOk result (λ outcome. outcome_in (rows_of (found_of options.now)) ≡ option_map (λ outcome. outcome.number) outcome) }
-    ensures err { IfErr result (λ misfit. (misfit ≡ unfit.Number) × (outcome_in (rows_of (found_of options.now)) ≡ Some 0)) }
+    ensures ok { IfOk result (λ outcome. outcome_in (rows_of (found_of options.now))
+        ≡ option_map (λ outcome. outcome.number) outcome) }
+    ensures err { IfErr result (λ misfit. (misfit ≡ unfit.Number)
+        × (outcome_in (rows_of (found_of options.now)) ≡ Some 0)) }
 {
     match some_number_of(options, "outcome") {
         None => Ok(None),
@@ -175,15 +180,18 @@ pub(crate) fn outcome_of(options: &ArgMatches<'_>) -> Result<Option<OutcomeNumbe
 
 pub(crate) fn size_of(options: &ArgMatches<'_>) -> Result<Size, Misfit>
     requires { HasValue (codes "page") (rows_of (found_of options.now)) }
-    ensures ok { IfOk result (IsPageSize (first_of (codes "page") (rows_of (found_of options.now)))) }
-    ensures err { IfErr result (λ misfit. (misfit ≡ unfit.Page) × HasBadPage (rows_of (found_of options.now))) }
+    ensures ok { IfOk result (IsPageSize (first_of (codes "page")
+        (rows_of (found_of options.now)))) }
+    ensures err { IfErr result (λ misfit. (misfit ≡ unfit.Page)
+        × HasBadPage (rows_of (found_of options.now))) }
 {
     size_named(text_of(options, "page"))
 }
 
 fn size_named(word: &str) -> Result<Size, Misfit>
     ensures ok { IfOk result (IsPageSize (Some word.now)) }
-    ensures err { IfErr result (λ misfit. (misfit ≡ unfit.Page) × ((size : Size) → ¬ IsPageSize (Some word.now) size)) }
+    ensures err { IfErr result (λ misfit. (misfit ≡ unfit.Page)
+        × ((size : Size) → ¬ IsPageSize (Some word.now) size)) }
 {
     if word == "64" {
         Ok(Size::Words64)

@@ -18,16 +18,16 @@ use crate::reading::{collect_of, is_named, nodes_of, size_of, some_number_of, st
 use clap::ArgMatches;
 use lrc_envelope::Picker;
 
-/// The order of a run's events, where none are given.
+/// The order of a run's events if none are given.
 #[derive(Clone, Copy)]
 pub(crate) enum Order {
-    /// In rounds; which message is delivered next.
+    /// In rounds. The picker determines which message is delivered next.
     Picked(Picker),
     /// At random.
     Random,
 }
 
-/// The run of a command that has a flag for threads.
+/// Returns the run of a command that has a flag for threads, or why its options do not fit.
 pub(crate) fn showing_run<'w>(options: &ArgMatches<'w>) -> Result<RunChoice<'w>, Misfit>
     requires { IsShowingTaken (rows_of (found_of options.now)) }
     ensures ok { IfOk result (IsShowingRun (rows_of (found_of options.now))) }
@@ -36,7 +36,7 @@ pub(crate) fn showing_run<'w>(options: &ArgMatches<'w>) -> Result<RunChoice<'w>,
     run_choice(options, is_named(options, "threads"))
 }
 
-/// A run, on threads or not.
+/// Returns a run, on threads or not, or why its options do not fit.
 pub(crate) fn run_choice<'w>(
     options: &ArgMatches<'w>,
     threads: bool,
@@ -50,7 +50,7 @@ pub(crate) fn run_choice<'w>(
     Ok(RunChoice { options, way })
 }
 
-/// The choice of `trace`.
+/// Returns the choice of the command `trace`, or why its options do not fit.
 pub(crate) fn trace_choice<'w>(options: &ArgMatches<'w>) -> Result<Choice<'w>, Misfit>
     requires { IsTraceTaken (rows_of (found_of options.now)) }
     ensures ok { IfOk result (IsChoice (codes "trace", rows_of (found_of options.now))) }
@@ -60,7 +60,7 @@ pub(crate) fn trace_choice<'w>(options: &ArgMatches<'w>) -> Result<Choice<'w>, M
     Ok(Choice::Show(showing_run(options)?, Shape::Trace(form)))
 }
 
-/// The choice of `step`.
+/// Returns the choice of the command `step`, or why its options do not fit.
 pub(crate) fn step_choice<'w>(options: &ArgMatches<'w>) -> Result<Choice<'w>, Misfit>
     requires { IsStepTaken (rows_of (found_of options.now)) }
     ensures ok { IfOk result (IsChoice (codes "step", rows_of (found_of options.now))) }
@@ -70,19 +70,20 @@ pub(crate) fn step_choice<'w>(options: &ArgMatches<'w>) -> Result<Choice<'w>, Mi
     Ok(Choice::Show(showing_run(options)?, Shape::Step(part)))
 }
 
-/// The choice of a command that has no options but those of its run.
+/// Returns the choice of a command whose only options are those of its run, or why these do not fit.
 pub(crate) fn showing_choice<'w>(
     options: &ArgMatches<'w>,
     shape: Shape,
 ) -> Result<Choice<'w>, Misfit>
     requires { IsShowingTaken (rows_of (found_of options.now)) }
-    ensures ok { IfOk result (λ choice. (run : AnyRun) × (choice ≡ Choice.Show run shape) × IsShowingRun (rows_of (found_of options.now)) run) }
+    ensures ok { IfOk result (λ choice. (run : AnyRun) × (choice ≡ Choice.Show run shape)
+        × IsShowingRun (rows_of (found_of options.now)) run) }
     ensures err { IfErr result (HasShowingMisfit (rows_of (found_of options.now))) }
 {
     Ok(Choice::Show(showing_run(options)?, shape))
 }
 
-/// A run of a command whose runs are all on threads.
+/// Returns the run of a command that always uses threads, or why its options do not fit.
 pub(crate) fn threads_run<'w>(options: &ArgMatches<'w>) -> Result<RunChoice<'w>, Misfit>
     requires { IsRunTaken (rows_of (found_of options.now)) }
     ensures ok { IfOk result (IsThreadsRun (rows_of (found_of options.now))) }
@@ -123,7 +124,8 @@ fn way_of<'w>(options: &ArgMatches<'w>, threads: bool) -> Result<Way<'w>, Misfit
 
 // The file of the events, if one is named.
 fn events_of<'w>(options: &ArgMatches<'w>) -> Option<&'w str>
-    ensures { option_map (λ path. path.now) result ≡ first_of (codes "events") (rows_of (found_of options.now)) }
+    ensures { option_map (λ path. path.now) result
+        ≡ first_of (codes "events") (rows_of (found_of options.now)) }
 {
     options.get_str("events")
 }
@@ -135,8 +137,10 @@ fn way_in<'w>(
     events: Option<&'w str>,
     threads: bool,
 ) -> Result<Way<'w>, Misfit>
-    ensures ok { IfOk result (IsWay order seed (option_map (λ path. path.now) events.entry) threads) }
-    ensures err { IfErr result (HasWayMisfit order seed (option_map (λ path. path.now) events.entry) threads) }
+    ensures ok { IfOk result (IsWay order seed
+        (option_map (λ path. path.now) events.entry) threads) }
+    ensures err { IfErr result (HasWayMisfit order seed
+        (option_map (λ path. path.now) events.entry) threads) }
 {
     match order {
         Order::Random => random_way(seed, events, threads),
@@ -150,8 +154,10 @@ fn random_way<'w>(
     events: Option<&'w str>,
     threads: bool,
 ) -> Result<Way<'w>, Misfit>
-    ensures ok { IfOk result (IsWay Order.Random seed (option_map (λ path. path.now) events.entry) threads) }
-    ensures err { IfErr result (HasWayMisfit Order.Random seed (option_map (λ path. path.now) events.entry) threads) }
+    ensures ok { IfOk result (IsWay Order.Random seed
+        (option_map (λ path. path.now) events.entry) threads) }
+    ensures err { IfErr result (HasWayMisfit Order.Random seed
+        (option_map (λ path. path.now) events.entry) threads) }
 {
     match events {
         _ if threads => Err(Misfit::Threads),
@@ -161,8 +167,10 @@ fn random_way<'w>(
 }
 
 fn picked_way<'w>(picker: Picker, events: Option<&'w str>, threads: bool) -> Result<Way<'w>, Misfit>
-    ensures ok { IfOk result (IsWay (Order.Picked picker) None (option_map (λ path. path.now) events.entry) threads) }
-    ensures err { IfErr result (HasWayMisfit (Order.Picked picker) None (option_map (λ path. path.now) events.entry) threads) }
+    ensures ok { IfOk result (IsWay (Order.Picked picker) None
+        (option_map (λ path. path.now) events.entry) threads) }
+    ensures err { IfErr result (HasWayMisfit (Order.Picked picker) None
+        (option_map (λ path. path.now) events.entry) threads) }
 {
     match events {
         Some(_) if threads => Err(Misfit::Threads),
@@ -176,14 +184,16 @@ fn order_of(options: &ArgMatches<'_>) -> Result<Order, Misfit>
     requires { HasValue (codes "order") (rows_of (found_of options.now)) }
     ensures ok { IfOk result (IsOrder (first_of (codes "order") (rows_of (found_of options.now)))) }
     ensures err { IfErr result (λ misfit. (misfit ≡ unfit.Order)
-        × ((order : AnyOrder) → ¬ IsOrder (first_of (codes "order") (rows_of (found_of options.now))) order)) }
+        × ((order : AnyOrder) → ¬ IsOrder
+        (first_of (codes "order") (rows_of (found_of options.now))) order)) }
 {
     order_named(text_of(options, "order"))
 }
 
 fn order_named(word: &str) -> Result<Order, Misfit>
     ensures ok { IfOk result (IsOrder (Some word.now)) }
-    ensures err { IfErr result (λ misfit. (misfit ≡ unfit.Order) × ((order : AnyOrder) → ¬ IsOrder (Some word.now) order)) }
+    ensures err { IfErr result (λ misfit. (misfit ≡ unfit.Order)
+        × ((order : AnyOrder) → ¬ IsOrder (Some word.now) order)) }
 {
     match picker_named(word) {
         Some(picker) => Ok(Order::Picked(picker)),
@@ -194,9 +204,11 @@ fn order_named(word: &str) -> Result<Order, Misfit>
 
 fn picker_of(options: &ArgMatches<'_>) -> Result<Picker, Misfit>
     requires { HasValue (codes "order") (rows_of (found_of options.now)) }
-    ensures ok { IfOk result (IsPicker (first_of (codes "order") (rows_of (found_of options.now)))) }
+    ensures ok { IfOk result (IsPicker (first_of (codes "order")
+        (rows_of (found_of options.now)))) }
     ensures err { IfErr result (λ misfit. (misfit ≡ unfit.RunOrder)
-        × ((picker : AnyPicker) → ¬ IsPicker (first_of (codes "order") (rows_of (found_of options.now))) picker)) }
+        × ((picker : AnyPicker) → ¬ IsPicker
+        (first_of (codes "order") (rows_of (found_of options.now))) picker)) }
 {
     picker_named(text_of(options, "order")).ok_or(Misfit::RunOrder)
 }

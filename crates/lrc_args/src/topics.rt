@@ -9,9 +9,11 @@ use crate::choice::{ChooseFault, Topic};
 use crate::command_line::matches_of;
 use std::alloc::{AllocError, Global};
 
-/// What the program says of a topic, as clap's answer to the words that ask for it; its text is what is printed.
+/// Returns what the program says about a topic, as clap's answer to the words that ask for it. The answer's text is
+/// what is printed.
 pub fn about(alloc: Global, topic: &Topic<'_>) -> Result<clap::Error, AllocError>
-    ensures asked { IfOk result (λ error. IsAmong (kind_of error) (fault_of treadmarks (topic_words topic.now))) }
+    ensures asked { IfOk result (λ error. IsAmong (kind_of error)
+        (fault_of treadmarks (topic_words topic.now))) }
     ensures kind { IfOk result (λ error. kind_of error ≡ topic_kind topic.now) }
 {
     match topic {
@@ -24,7 +26,8 @@ pub fn about(alloc: Global, topic: &Topic<'_>) -> Result<clap::Error, AllocError
 // What clap says of words that are no request.
 fn answer_to(alloc: Global, words: &[&str]) -> Result<clap::Error, AllocError>
     requires { fault_of treadmarks (map (λ word. word.now) words.now) ≢ [] }
-    ensures { IfOk result (λ error. IsAmong (kind_of error) (fault_of treadmarks (map (λ word. word.now) words.now))) }
+    ensures { IfOk result (λ error. IsAmong (kind_of error)
+        (fault_of treadmarks (map (λ word. word.now) words.now))) }
 {
     match matches_of(alloc, words) {
         Err(ChooseFault::Usage(error)) => Ok(error),

@@ -17,7 +17,7 @@ use clap::ArgMatches;
 // The options that only a run of the nodes has.
 static RUN_OPTIONS: [&str; 5] = ["steps", "collect", "order", "events", "seed"];
 
-/// The choice of `why`.
+/// Returns the choice of the command `why`, or why its options do not fit.
 pub(crate) fn why_choice<'w>(options: &ArgMatches<'w>) -> Result<Choice<'w>, Misfit>
     requires { IsWhyTaken (rows_of (found_of options.now)) }
     ensures ok { IfOk result (IsChoice (codes "why", rows_of (found_of options.now))) }
@@ -36,7 +36,8 @@ fn asking_of(options: &ArgMatches<'_>) -> Result<Asking, Misfit>
     requires { IsWhyTaken (rows_of (found_of options.now)) }
     ensures ok { IfOk result (IsAsking (rows_of (found_of options.now))) }
     ensures err { IfErr result (λ misfit. (misfit ≡ unfit.SameAct)
-        × (some_number_in (codes "and") (rows_of (found_of options.now)) ≡ Some (option_number (codes "act") (rows_of (found_of options.now))))) }
+        × (some_number_in (codes "and") (rows_of (found_of options.now))
+        ≡ Some (option_number (codes "act") (rows_of (found_of options.now))))) }
 {
     let act = number_of(options, "act");
     let other = some_number_of(options, "and");

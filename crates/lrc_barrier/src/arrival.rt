@@ -6,8 +6,8 @@ use lrc_store::Intervals;
 use lrc_time::Time;
 use std::alloc::AllocError;
 
-/// A node's arrival at an episode of the barrier, episodes counted from 1: whether it asks for a collection, its time,
-/// and its own intervals since it last departed.
+/// A node's arrival at an episode of the barrier: whether the node asks for a collection, its time, and its own
+/// intervals since it last departed. Episodes are counted from 1.
 #[derive(Drop)]
 pub struct Arrival {
     pub episode: u32,
@@ -17,7 +17,7 @@ pub struct Arrival {
 }
 
 impl Arrival {
-    /// An equal arrival of its own.
+    /// Returns a copy of the arrival. It fails if memory runs out.
     pub(crate) fn duplicate(&self) -> Result<Self, AllocError>
         ensures { IfOk result (λ arrival. arrival ≡ self.now) }
     {

@@ -25,7 +25,7 @@ fn arrival_in<'a>(place: &'a Option<Arrival>, last: &'a Arrival) -> &'a Arrival
     }
 }
 
-/// Whether an arrival asks for a collection.
+/// Returns whether some arrival asks for a collection.
 pub(crate) fn collects(kept: &[Option<Arrival>], last: &Arrival) -> bool
     ensures { result ≡ asks (all_with last.now kept.now) }
 {
@@ -85,7 +85,8 @@ fn add_news(
 ) -> Result<(), AllocError>
     requires node { node < length since.now }
     requires own { IsArrival (length since.now) node arrival.now }
-    ensures news { IfOk result (λ _. news.new.items ≡ news.old.items ++ filter (is_news since.now) arrival.now.intervals) }
+    ensures news { IfOk result (λ _. news.new.items
+        ≡ news.old.items ++ filter (is_news since.now) arrival.now.intervals) }
     ensures ascending { AllPairs (λ a b. IsTrue (by_node a b)) arrival.now.intervals }
 {
     let intervals = arrival.intervals.as_slice();
@@ -106,7 +107,8 @@ fn news_of_all(
     requires counted { length since.now ≡ length kept.now }
     requires few { length kept.now ≤ 16 }
     requires arrivals { AreArrivals (length kept.now) (all_with last.now kept.now) }
-    ensures { IfOk result (λ news. news ≡ filter (is_news since.now) (intervals_of (all_with last.now kept.now))) }
+    ensures { IfOk result (λ news. news
+        ≡ filter (is_news since.now) (intervals_of (all_with last.now kept.now))) }
 {
     // Mostly there is one of each node.
     let mut news = Vec::with_capacity(alloc, kept.len())?;
@@ -116,7 +118,7 @@ fn news_of_all(
     Ok(Intervals::from_ascending(news))
 }
 
-/// What each node is told.
+/// Returns the departures, one for each node from node 0 on. It fails if memory runs out.
 pub(crate) fn departures(
     alloc: Global,
     kept: &[Option<Arrival>],

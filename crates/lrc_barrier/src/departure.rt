@@ -6,8 +6,8 @@ use lrc_store::Intervals;
 use lrc_time::Time;
 use std::marker::Model;
 
-/// What the barrier's manager tells one node once all have arrived: whether a collection follows, the time of all, and
-/// the intervals that the node's own arrival didn't know, ascending by node, then index.
+/// What the barrier's manager tells one node after all have arrived: whether a collection follows, the join of all
+/// arrivals' times, and the intervals that the node's own arrival did not know, ascending by node, then index.
 #[derive(Drop)]
 pub struct Departure {
     pub to: u8,
@@ -17,7 +17,7 @@ pub struct Departure {
     pub intervals: Intervals,
 }
 
-/// A departure for each node, from node 0 on.
+/// The departures of all nodes, one for each node from node 0 on.
 #[derive(Drop)]
 pub struct Departures {
     list: Vec<Departure>,
@@ -33,28 +33,28 @@ impl Model for Departures {
 }
 
 impl Departures {
-    /// These departures.
+    /// Returns the given departures.
     pub(crate) fn from_vec(list: Vec<Departure>) -> Self
         ensures { result ≡ list.items }
     {
         Departures { list }
     }
 
-    /// How many there are.
+    /// Returns the number of departures.
     pub fn len(&self) -> usize
         ensures { result ≡ length self.now }
     {
         self.list.len()
     }
 
-    /// The departures in order.
+    /// Returns the departures in order.
     pub fn as_slice(&self) -> &[Departure]
         ensures { result.now ≡ self.now }
     {
         self.list.as_slice()
     }
 
-    /// The departures in order, as a vector.
+    /// Turns the departures into a vector, in order.
     pub fn into_vec(self) -> Vec<Departure>
         ensures { result.items ≡ self }
     {

@@ -6,17 +6,17 @@ ghost use Rattle.lrc_barrier.specs.declared.fault.BarrierFault.TheVariants.{NoMe
 use std::alloc::{AllocError, AllocFailed};
 use thiserror::Error;
 
-/// Why an arrival or a Clean was not taken.
+/// Why an arrival or a Clean was refused.
 #[derive(Clone, Copy, Debug, PartialEq, Eq, Error)]
 pub enum BarrierFault {
-    /// Arrivals are for the episode after the last one that is over, and never during a collection; a Clean is for the
-    /// collection under way.
+    /// The arrival is not for the next episode, or a collection is under way. Or the Clean is not for the collection
+    /// under way.
     #[error("the wrong episode")]
     WrongEpisode,
-    /// The node has arrived at this episode, or has sent its Clean for this collection.
+    /// The node has already arrived at this episode, or has already sent its Clean for this collection.
     #[error("once more in the same episode")]
     Twice,
-    /// No memory was left.
+    /// Memory ran out.
     #[error("out of memory")]
     NoMemory,
 }

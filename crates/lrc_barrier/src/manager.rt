@@ -18,8 +18,8 @@ use lrc_time::MOST_NODES;
 use std::alloc::Global;
 use std::marker::Model;
 
-/// What the barrier's manager knows: how many episodes are over, the arrivals at the one under way, and the Cleans of
-/// the collection under way.
+/// What the barrier's manager knows: how many episodes are over, which nodes have arrived at the episode under way, and
+/// which have sent their Clean in a collection under way.
 #[derive(Drop)]
 pub struct Manager {
     alloc: Global,
@@ -51,7 +51,7 @@ impl Model for Manager {
 }
 
 impl Manager {
-    /// The manager of a barrier of 1 to 16 nodes, where no node has arrived yet.
+    /// Returns the manager of a barrier for 1 to 16 nodes, before any arrival.
     pub fn new(alloc: Global, nodes: u8) -> Self
         requires some { 1 ≤ nodes }
         requires few { nodes ≤ 16 }
@@ -66,14 +66,14 @@ impl Manager {
         }
     }
 
-    /// How many episodes are over.
+    /// Returns how many episodes are over.
     pub fn done(&self) -> u32
         ensures { result ≡ self.now.done }
     {
         self.done
     }
 
-    /// Whether the node has arrived at the episode under way.
+    /// Returns whether the node has arrived at the episode under way.
     pub fn has_arrived(&self, node: u8) -> bool
         requires { node < length self.now.last }
         ensures { result ≡ has_arrived self.now node }
@@ -81,10 +81,11 @@ impl Manager {
         self.arrivals[usize::from(node)].is_some()
     }
 
-    /// While a collection is under way, whether the node has sent its Clean; else none.
+    /// Returns whether the node has sent its Clean, or none if no collection is under way.
     pub fn has_cleaned(&self, node: u8) -> Option<bool>
         requires { node < length self.now.last }
-        ensures { result ≡ option_map (λ cleans. slice_index_or cleans node Bool.false) self.now.cleans }
+        ensures { result ≡ option_map (λ cleans. slice_index_or cleans node Bool.false)
+            self.now.cleans }
     {
         match &self.cleans {
             Some(cleans) => Some(cleans[usize::from(node)]),
@@ -92,7 +93,7 @@ impl Manager {
         }
     }
 
-    /// How many of its intervals the node had closed when it last arrived, 0 before its first arrival.
+    /// Returns how many intervals the node had closed when it last arrived, or 0 before its first arrival.
     pub fn last(&self, node: u8) -> u32
         requires { node < length self.now.last }
         ensures { result ≡ slice_index self.now.last node }
@@ -100,15 +101,16 @@ impl Manager {
         self.last[usize::from(node)]
     }
 
-    /// Whether an arrival of this node at this episode would be accepted now.
+    /// Returns whether the node's arrival at the given episode would be accepted now.
     pub fn accepts(&self, from: u8, episode: u32) -> bool
         requires { from < length self.now.last }
-        ensures { (arrival : Arrival) → arrival.episode ≡ episode → result ≡ is_accepted (arrived self.now from arrival) }
+        ensures { (arrival : Arrival) → arrival.episode ≡ episode
+            → result ≡ is_accepted (arrived self.now from arrival) }
     {
         self.expect(from, episode).is_ok()
     }
 
-    /// Whether this node's Clean for this episode would be accepted now.
+    /// Returns whether the node's Clean for the given episode would be accepted now.
     pub fn accepts_clean(&self, from: u8, episode: u32) -> bool
         requires { from < length self.now.last }
         ensures { result ≡ is_ok (clean_answer (cleaned self.now from episode)) }
@@ -119,9 +121,11 @@ impl Manager {
         }
     }
 
-    /// A node arrives. The last of an episode's arrivals gives the departures, one for each node from node 0 on; if
-    /// somebody asked for it a collection begins. Refused, in this order, with nothing changed: `WrongEpisode` if the
-    /// episode isn't the next one, or a collection is under way; `Twice` if the node has arrived at it; `NoMemory`.
+    /// Takes a node's arrival. The last arrival of an episode returns the departures, one for each node from node 0 on;
+    /// a collection begins if some arrival asked for it.
+    ///
+    /// A refusal changes nothing. The reasons, in this order: `WrongEpisode` if the episode is not the next one, or a
+    /// collection is under way; `Twice` if the node has already arrived at it; `NoMemory` if memory runs out.
     pub fn arrive(
         &mut self,
         from: u8,
@@ -129,29 +133,39 @@ impl Manager {
     ) -> Result<Option<Departures>, BarrierFault>
         requires from { from < length self.old.last }
         requires own { IsArrival (length self.old.last) from arrival.now }
-        ensures refused { (fault : BarrierFault) → arrived self.old from arrival.now ≡ refuses fault → result ≡ Err fault }
-        ensures answer { IfOk result (λ answer. arrive_answer (arrived self.old from arrival.now) ≡ Ok answer) }
-        ensures manager { OnOk result (self.new ≡ after_arrive self.old (arrived self.old from arrival.now)) }
-        ensures memory { IsTrue (is_accepted (arrived self.old from arrival.now)) → IfErr result (λ fault. fault ≡ NoMemory) }
+        ensures refused { (fault : BarrierFault) → arrived self.old from arrival.now ≡ refuses fault
+            → result ≡ Err fault }
+        ensures answer { IfOk result (λ answer. arrive_answer (arrived self.old from arrival.now)
+            ≡ Ok answer) }
+        ensures manager { OnOk result (self.new ≡ after_arrive self.old
+            (arrived self.old from arrival.now)) }
+        ensures memory { IsTrue (is_accepted (arrived self.old from arrival.now))
+            → IfErr result (λ fault. fault ≡ NoMemory) }
         ensures nodes { length self.new.last ≡ length self.old.last }
         ensures err { OnErr result (self.new ≡ self.old) }
-        ensures departures { IfOk result (λ answer. IfSome answer (All (IsDeparture (length self.old.last)))) }
+        ensures departures { IfOk result (λ answer. IfSome answer
+            (All (IsDeparture (length self.old.last)))) }
     {
         self.expect(from, arrival.episode)?;
         self.take(from, arrival.duplicate()?)
     }
 
-    /// The same with an arrival that the manager keeps itself.
+    /// Does the same as `arrive`, but keeps the given arrival itself, not a copy.
     pub fn take(&mut self, from: u8, arrival: Arrival) -> Result<Option<Departures>, BarrierFault>
         requires from { from < length self.old.last }
         requires own { IsArrival (length self.old.last) from arrival }
-        ensures refused { (fault : BarrierFault) → arrived self.old from arrival ≡ refuses fault → result ≡ Err fault }
-        ensures answer { IfOk result (λ answer. arrive_answer (arrived self.old from arrival) ≡ Ok answer) }
-        ensures manager { OnOk result (self.new ≡ after_arrive self.old (arrived self.old from arrival)) }
-        ensures memory { IsTrue (is_accepted (arrived self.old from arrival)) → IfErr result (λ fault. fault ≡ NoMemory) }
+        ensures refused { (fault : BarrierFault) → arrived self.old from arrival ≡ refuses fault
+            → result ≡ Err fault }
+        ensures answer { IfOk result (λ answer. arrive_answer (arrived self.old from arrival)
+            ≡ Ok answer) }
+        ensures manager { OnOk result (self.new ≡ after_arrive self.old
+            (arrived self.old from arrival)) }
+        ensures memory { IsTrue (is_accepted (arrived self.old from arrival))
+            → IfErr result (λ fault. fault ≡ NoMemory) }
         ensures nodes { length self.new.last ≡ length self.old.last }
         ensures err { OnErr result (self.new ≡ self.old) }
-        ensures departures { IfOk result (λ answer. IfSome answer (All (IsDeparture (length self.old.last)))) }
+        ensures departures { IfOk result (λ answer. IfSome answer
+            (All (IsDeparture (length self.old.last)))) }
     {
         self.expect(from, arrival.episode)?;
         if self.is_last(from) {
@@ -165,9 +179,11 @@ impl Manager {
         }
     }
 
-    /// A node has brought its pages up to date. With the last node's Clean the collection is over: the answer is its
-    /// episode. Refused, in this order, with nothing changed: `WrongEpisode` if no collection of this episode is under
-    /// way; `Twice` if the node has sent its Clean.
+    /// Takes a node's Clean: the node has brought its pages up to date. The last node's Clean ends the collection, and
+    /// returns its episode.
+    ///
+    /// A refusal changes nothing. The reasons, in this order: `WrongEpisode` if no collection of this episode is under
+    /// way; `Twice` if the node has already sent its Clean.
     pub fn clean(&mut self, from: u8, episode: u32) -> Result<Option<u32>, BarrierFault>
         requires { from < length self.old.last }
         ensures answer { result ≡ clean_answer (cleaned self.old from episode) }
@@ -212,7 +228,8 @@ impl Manager {
     // Whether all other nodes have arrived.
     fn is_last(&self, from: u8) -> bool
         requires { from < length self.now.last }
-        ensures { (arrival : Arrival) → result ≡ list_all is_some (slice_set self.now.arrivals from (Some arrival)) }
+        ensures { (arrival : Arrival) → result
+            ≡ list_all is_some (slice_set self.now.arrivals from (Some arrival)) }
     {
         for (node, place) in self.arrivals.iter().enumerate() {
             if node != usize::from(from) && place.is_none() {

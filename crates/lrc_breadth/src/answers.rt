@@ -20,8 +20,10 @@ use lrc_live::live_names;
 use lrc_trace::act::Act;
 use std::alloc::{AllocError, Global};
 
-/// Looks at the settled states of a program on so many nodes: whether an order races, and else whether one gets stuck. Gives up where there
-/// are more states to tell apart than `most`.
+/// Searches the settled states of a program on this many nodes. It tells whether an order races, and if none does,
+/// whether one gets stuck. It fails with `BadNodes` exactly if the number of nodes is not 1 to 16. It gives up with
+/// `TooMany` if there are more states to tell apart than `most`, or if a thread makes 1,000,000 + 20 * `most` free acts
+/// one after another. It fails if memory runs out.
 pub fn explore(
     alloc: Global,
     program: &Program,
@@ -29,9 +31,11 @@ pub fn explore(
     most: usize,
 ) -> Result<Verdict, ExploreFault>
     ensures answer { IfOk result (IsAnswer program.now nodes) }
-    ensures fits { IfOk result (λ verdict. FindsNoRace verdict → FitsSettled program.now nodes most) }
+    ensures fits { IfOk result (λ verdict. FindsNoRace verdict
+        → FitsSettled program.now nodes most) }
     ensures bad_nodes { (result ≡ Err ExploreFault.BadNodes) ↔ (¬ AreNodes nodes) }
-    ensures too_many { IfErr result (λ fault. fault ≡ ExploreFault.TooMany → MetTooMany program.now nodes most) }
+    ensures too_many { IfErr result (λ fault. fault ≡ ExploreFault.TooMany
+        → MetTooMany program.now nodes most) }
 {
     let count = count_of(nodes)?;
     let code = Code::new(alloc, program)?;
@@ -54,18 +58,20 @@ fn explore_code(
     found.answer(alloc, &task)
 }
 
-/// Every outcome of the orders in which so many nodes can run a program, after which no node can make an act. Gives up where there are more
-/// states to tell apart than `most`.
+/// Returns every outcome of the orders in which this many nodes can run a program, after which no node can make an act.
+/// It fails as `explore` does.
 pub fn outcomes(
     alloc: Global,
     program: &Program,
     nodes: u32,
     most: usize,
 ) -> Result<IndexSet<Outcome>, ExploreFault>
-    ensures exact { IfOk result (λ found. (notes : List ActType) → (HasOutcome found.keys notes ↔ IsOutcome program.now nodes notes)) }
+    ensures exact { IfOk result (λ found. (notes : List ActType)
+        → (HasOutcome found.keys notes ↔ IsOutcome program.now nodes notes)) }
     ensures fits { IfOk result (λ _. FitsSettledNoted program.now nodes most) }
     ensures bad_nodes { (result ≡ Err ExploreFault.BadNodes) ↔ (¬ AreNodes nodes) }
-    ensures too_many { IfErr result (λ fault. fault ≡ ExploreFault.TooMany → MetTooMany program.now nodes most) }
+    ensures too_many { IfErr result (λ fault. fault ≡ ExploreFault.TooMany
+        → MetTooMany program.now nodes most) }
 {
     let count = count_of(nodes)?;
     let code = Code::new(alloc, program)?;
@@ -79,7 +85,8 @@ fn outcomes_of(
     nodes: u8,
     most: usize,
 ) -> Result<IndexSet<Outcome>, ExploreFault>
-    ensures exact { IfOk result (λ found. (notes : List ActType) → (HasOutcome found.keys notes ↔ IsOutcome code.now nodes notes)) }
+    ensures exact { IfOk result (λ found. (notes : List ActType)
+        → (HasOutcome found.keys notes ↔ IsOutcome code.now nodes notes)) }
     ensures fits { IfOk result (λ _. FitsSettledNoted code.now nodes most) }
     ensures faults { IfErr result (IsFaultOf code.now nodes most) }
 {
@@ -93,7 +100,7 @@ fn outcomes_of(
     }
 }
 
-/// What is searched of a program's code.
+/// Returns the task of searching a program's code. It fails if memory runs out.
 pub fn task_of<'c>(
     alloc: Global,
     code: &'c Code<'c>,
@@ -134,7 +141,8 @@ fn looked_at(most: usize) -> u64
 
 // How many nodes there are, where they are 1 to 16.
 fn count_of(nodes: u32) -> Result<u8, ExploreFault>
-    ensures { MatchResult result (λ count. (count ≡ nodes) × AreNodes nodes) (λ fault. (fault ≡ ExploreFault.BadNodes) × ¬ AreNodes nodes) }
+    ensures { MatchResult result (λ count. (count ≡ nodes) × AreNodes nodes)
+        (λ fault. (fault ≡ ExploreFault.BadNodes) × ¬ AreNodes nodes) }
 {
     if nodes < 1 || nodes > 16 {
         return Err(ExploreFault::BadNodes);
@@ -171,7 +179,8 @@ impl Found {
         requires nodes { self.old.states.nodes ≡ task.now.flat.nodes }
         requires origins { self.old.origins.items ≡ [] }
         ensures answer { IfOk result (IsAnswer task.now.program.now task.now.flat.nodes) }
-        ensures fits { IfOk result (λ verdict. FindsNoRace verdict → FitsSettled task.now.program.now task.now.flat.nodes task.now.most) }
+        ensures fits { IfOk result (λ verdict. FindsNoRace verdict
+            → FitsSettled task.now.program.now task.now.flat.nodes task.now.most) }
         ensures faults { IfErr result (IsFault task.now) }
     {
         self.begin(alloc, task)?;
@@ -187,7 +196,8 @@ impl Found {
         requires end { IsEnd task.now self.now end }
         requires few { FitsEnd task.now self.now end }
         ensures answer { IfOk result (IsAnswer task.now.program.now task.now.flat.nodes) }
-        ensures fits { IfOk result (λ verdict. FindsNoRace verdict → FitsSettled task.now.program.now task.now.flat.nodes task.now.most) }
+        ensures fits { IfOk result (λ verdict. FindsNoRace verdict
+            → FitsSettled task.now.program.now task.now.flat.nodes task.now.most) }
         ensures faults { IfErr result (IsFault task.now) }
     {
         match end {
@@ -252,8 +262,11 @@ impl Found {
         requires origins { self.old.origins.items ≡ [] }
         requires empty { outcomes.old.keys ≡ [] }
         ensures all { OnOk result (AreAllFound task.now self.new) }
-        ensures exact { OnOk result ((notes : List ActType) → (HasOutcome outcomes.new.keys notes ↔ IsOutcome task.now.program.now task.now.flat.nodes notes)) }
-        ensures fits { OnOk result (FitsSettledNoted task.now.program.now task.now.flat.nodes task.now.most) }
+        ensures exact { OnOk result ((notes : List ActType)
+            → (HasOutcome outcomes.new.keys notes
+            ↔ IsOutcome task.now.program.now task.now.flat.nodes notes)) }
+        ensures fits { OnOk result (FitsSettledNoted task.now.program.now task.now.flat.nodes
+            task.now.most) }
         ensures faults { IfErr result (IsFault task.now) }
     {
         self.begin(alloc, task)?;

@@ -24,13 +24,15 @@ pub struct Ended {
     pub outcomes: IndexSet<Outcome>,
 }
 
-/// Finds all settled states of a program, with the outcomes of those at which no node can make an act. Gives up where there are more
-/// states to tell apart than may be.
+/// Finds all settled states of a program, and the outcomes of those at which no node can make an act. It fails with
+/// `TooMany` if there are more states to tell apart than the task allows, or if a thread makes as many free acts as are
+/// to be looked at. It fails if memory runs out.
 pub fn all_ended(alloc: Global, task: &Task<'_>) -> Result<Ended, ExploreFault>
     requires task { IsTask task.now }
     requires noting { task.now.noting ≡ true }
     ensures ended { IfOk result (AreEnded task.now) }
-    ensures fits { IfOk result (λ _. FitsSettledNoted task.now.program.now task.now.flat.nodes task.now.most) }
+    ensures fits { IfOk result (λ _. FitsSettledNoted task.now.program.now task.now.flat.nodes
+        task.now.most) }
     ensures faults { IfErr result (IsFault task.now) }
 {
     let mut found = Found::none(alloc, task.flat.nodes as usize);
@@ -53,7 +55,8 @@ fn has_notes(key: &Noted, notes: &[Act]) -> bool
 fn is_end_with(task: &Task<'_>, key: &Noted, notes: &[Act]) -> bool
     requires flat { IsFlat task.now.flat }
     requires state { IsStateOf task.now.flat key.now.state }
-    ensures { IsTrue result ↔ (IsAtRest (plain_at task.now.flat key.now.state) × (key.now.notes.items ≡ notes.now)) }
+    ensures { IsTrue result ↔ (IsAtRest (plain_at task.now.flat key.now.state)
+        × (key.now.notes.items ≡ notes.now)) }
 {
     is_still(&task.flat, &key.state) && has_notes(key, notes)
 }
@@ -64,8 +67,8 @@ impl Found {
     ghost use Rattle.lrc_breadth.specs.Ended.{AreAllFound, IsFirstEnd, IsRunFor};
     ghost use Rattle.lrc_breadth.specs.Reached.{AreFound, IsTask};
 
-    /// The acts of a run with these notes after which no node can make an act, where there is one: those that lead to the first such
-    /// state that was found.
+    /// Returns the acts of a run with these notes after which no node can make an act, or none if there is no such run.
+    /// They are those that lead to the first such state that was found.
     pub fn run_with(
         &self,
         alloc: Global,
@@ -75,7 +78,8 @@ impl Found {
         requires task { IsTask task.now }
         requires noting { task.now.noting ≡ true }
         requires all { AreAllFound task.now self.now }
-        ensures run { IfOk result (λ run. IsRunFor task.now.program.now task.now.flat.nodes notes.now (option_map (λ acts. acts.items) run)) }
+        ensures run { IfOk result (λ run. IsRunFor task.now.program.now task.now.flat.nodes
+            notes.now (option_map (λ acts. acts.items) run)) }
         ensures faults { IfErr result (IsFault task.now) }
     {
         match self.end_with(alloc, task, notes)? {

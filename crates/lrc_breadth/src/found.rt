@@ -10,10 +10,10 @@ ghost use Rattle.lrc_breadth.specs.Reached.{CannotTake, HasTakenTo, IsKeyOf, IsT
 ghost use Rattle.lrc_breadth.specs.Answers.{IsFault, IsLongFault};
 
 use crate::task::{Found, Origin, Task};
+use lrc_exec::state::State;
 use lrc_explore::noted::Noted;
 use lrc_explore::notes::note;
 use lrc_explore::search::ExploreFault;
-use lrc_exec::state::State;
 use lrc_live::forget_dead;
 use lrc_rows::rows::Rows;
 use lrc_steps::settle::settle;
@@ -23,7 +23,8 @@ use std::alloc::{AllocError, Global};
 
 // Says no where more was to be looked at than may be.
 fn or_too_many(done: bool) -> Result<(), ExploreFault>
-    ensures { MatchResult result (λ _. done ≡ true) (λ fault. (fault ≡ ExploreFault.TooMany) × (done ≡ false)) }
+    ensures { MatchResult result (λ _. done ≡ true)
+        (λ fault. (fault ≡ ExploreFault.TooMany) × (done ≡ false)) }
 {
     if done {
         Ok(())
@@ -32,7 +33,8 @@ fn or_too_many(done: bool) -> Result<(), ExploreFault>
     }
 }
 
-/// The state that a step leads to, if it can be taken: puts the acts behind those that are there.
+/// Returns the state that a step leads to, or none if the step cannot be taken. It appends the acts to `acts`. It fails
+/// if memory runs out, or if a node makes so many free acts that the limit is reached.
 pub fn taken(
     alloc: Global,
     task: &Task<'_>,
@@ -44,7 +46,8 @@ pub fn taken(
     requires state { IsStateOf task.now.flat state.now }
     requires counted { IsCounted state.now }
     requires settled { IsSettled (plain_at task.now.flat state.now) }
-    ensures taken { IfOk result (λ after. MatchOption after (CannotTake task.now state.now step) (HasTakenTo task.now state.now step acts.old.items acts.new.items)) }
+    ensures taken { IfOk result (λ after. MatchOption after (CannotTake task.now state.now step)
+        (HasTakenTo task.now state.now step acts.old.items acts.new.items)) }
     ensures faults { IfErr result (IsLongFault task.now state.now) }
 {
     match step {
@@ -65,7 +68,9 @@ fn taken_alone(
     requires state { IsStateOf task.now.flat state.now }
     requires counted { IsCounted state.now }
     requires settled { IsSettled (plain_at task.now.flat state.now) }
-    ensures taken { IfOk result (λ after. MatchOption after (CannotTake task.now state.now (Alone node)) (HasTakenTo task.now state.now (Alone node) acts.old.items acts.new.items)) }
+    ensures taken { IfOk result (λ after. MatchOption after
+        (CannotTake task.now state.now (Alone node))
+        (HasTakenTo task.now state.now (Alone node) acts.old.items acts.new.items)) }
     ensures faults { IfErr result (IsLongFault task.now state.now) }
 {
     let Some(deed) = contended_deed(&task.flat, state, node) else {
@@ -87,7 +92,8 @@ fn taken_together(
     requires task { IsTask task.now }
     requires state { IsStateOf task.now.flat state.now }
     requires counted { IsCounted state.now }
-    ensures taken { IfOk result (λ after. MatchOption after (CannotTake task.now state.now Together) (HasTakenTo task.now state.now Together acts.old.items acts.new.items)) }
+    ensures taken { IfOk result (λ after. MatchOption after (CannotTake task.now state.now Together)
+        (HasTakenTo task.now state.now Together acts.old.items acts.new.items)) }
     ensures faults { IfErr result (IsLongFault task.now state.now) }
 {
     if !all_wait(&task.flat, state) {
@@ -99,7 +105,8 @@ fn taken_together(
     Ok(Some(after))
 }
 
-/// The settled start: puts the acts behind those that are there.
+/// Returns the settled start, and appends its acts to `acts`. It fails if memory runs out, or if a node makes so many
+/// free acts that the limit is reached.
 pub fn settled_start(
     alloc: Global,
     task: &Task<'_>,
@@ -117,7 +124,7 @@ pub fn settled_start(
     Ok(state)
 }
 
-/// What is kept of a state to which these acts led, behind notes.
+/// Returns what is kept of a state to which these acts led, after `notes`.
 fn key_of(
     alloc: Global,
     task: &Task<'_>,
@@ -143,7 +150,8 @@ fn notes_on(
     notes: &[Act],
     acts: &[Act],
 ) -> Result<Vec<Act>, AllocError>
-    ensures noted { IfOk result (λ all. task.now.noting ≡ true → all.items ≡ noted_on notes.now acts.now) }
+    ensures noted { IfOk result (λ all. task.now.noting ≡ true
+        → all.items ≡ noted_on notes.now acts.now) }
     ensures bare { IfOk result (λ all. task.now.noting ≡ false → all.items ≡ []) }
 {
     let mut all = Vec::new(alloc);
@@ -173,7 +181,7 @@ impl Found {
     ghost use Rattle.lrc_breadth.specs.Reached.{AreFound, ComesFrom, HasAfter, HasStart, IsExpanded, IsKept, IsMore, IsReached, IsTask};
     ghost use Rattle.lrc_breadth.specs.Answers.{IsFault};
 
-    /// No states, of so many nodes.
+    /// Makes a list without states, for this many nodes.
     pub fn none(alloc: Global, nodes: usize) -> Found
         ensures none { row_count result.states ≡ 0 }
         ensures distinct { AreRowsDistinct result.states }
@@ -186,7 +194,7 @@ impl Found {
         }
     }
 
-    /// Adds the settled start, where there are no states yet.
+    /// Adds the settled start. There must be no states yet.
     pub fn begin(&mut self, alloc: Global, task: &Task<'_>) -> Result<(), ExploreFault>
         requires task { IsTask task.now }
         requires none { row_count self.old.states ≡ 0 }
@@ -230,7 +238,7 @@ impl Found {
         Ok(())
     }
 
-    /// The states that a step leads to from one of them.
+    /// Adds the states that a step leads to from one of them.
     pub fn expand(
         &mut self,
         alloc: Global,

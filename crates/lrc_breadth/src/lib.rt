@@ -1,4 +1,5 @@
-//! The search through the settled states of a program, breadth first.
+//! Searches the settled states of a program, breadth first. It finds a race, a state at which the program is stuck, or
+//! every outcome of its orders, and the runs that lead there.
 #![tactic(auto)]
 
 pub mod answers;

@@ -30,7 +30,7 @@ impl Found {
     ghost use Rattle.lrc_breadth.specs.Reached.{AreExpanded, AreFound, IsExpandedAt, IsMore, IsTask};
     ghost use Rattle.lrc_breadth.specs.Answers.{AreGathered, AreSound, FitsEnd, IsEnd, IsFault, IsGatheredAt, IsVisit};
 
-    /// Goes through the states, in the order in which they are found, up to one where two nodes meet.
+    /// Visits the states in the order of finding, up to one where two nodes meet.
     pub fn seek(&mut self, alloc: Global, task: &Task<'_>) -> Result<End, ExploreFault>
         requires task { IsTask task.now }
         requires found { AreFound task.now self.old }
@@ -78,7 +78,7 @@ impl Found {
         }
     }
 
-    /// Goes through all states, and takes the outcomes of those at which no node can make an act.
+    /// Visits all states, and collects the outcomes of those at which no node can make an act.
     pub fn gather(
         &mut self,
         alloc: Global,

@@ -5,8 +5,8 @@ use lrc_lang::program::Program;
 use lrc_rows::rows::Rows;
 use lrc_steps::step::Step;
 
-/// What is searched: a program, its code and the place where that begins, the names that matter at each place, how many states there may
-/// be, how many free acts of a thread are looked at, and whether notes are kept.
+/// The task of a search: a program, its code and the place where the code begins, the names that matter at each place,
+/// the limit on the number of states, the limit on a thread's free acts to look at, and whether notes are kept.
 #[derive(Drop)]
 pub struct Task<'c> {
     pub program: &'c Program,
@@ -18,28 +18,29 @@ pub struct Task<'c> {
     pub noting: bool,
 }
 
-/// How a state was found: from which one, by which step.
+/// How a state was found: from which state, and by which step.
 #[derive(Clone, Copy)]
 pub struct Origin {
     pub parent: usize,
     pub step: Step,
 }
 
-/// States, each once, in the order in which they were found, and how.
+/// The states found, each once, in the order of finding, and how each was found.
 #[derive(Drop)]
 pub struct Found {
     pub states: Rows,
     pub origins: Vec<Origin>,
 }
 
-/// Where a search ended: at a state where two nodes meet, or past all states, with the first at which the program is stuck.
+/// Where a search ended: at a state where two nodes meet, or past all states, with the first state at which the program
+/// is stuck, if any.
 #[derive(Clone, Copy)]
 pub enum End {
     Meeting { place: usize, p: usize, q: usize },
     Through { stuck: Option<usize> },
 }
 
-/// What was seen at a state: two nodes that meet, or a program that is stuck, or neither.
+/// What a visit to a state saw: two nodes that meet, a stuck program, or neither.
 #[derive(Clone, Copy)]
 pub enum Visit {
     Meeting(usize, usize),

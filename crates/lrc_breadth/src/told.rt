@@ -13,7 +13,8 @@ impl Found {
     ghost use Rattle.lrc_breadth.specs.Answers.{IsFault};
     ghost use Rattle.lrc_breadth.specs.Told.{Comes, IsParentLed, LeadTo};
 
-    /// The acts that lead from the beginning to a state: those by which it settles, and those of each step on the way.
+    /// Returns the acts that lead from the beginning to a state: those by which the start settles, and those of each
+    /// step on the way. It fails if memory runs out.
     pub fn acts_to(
         &self,
         alloc: Global,

@@ -9,7 +9,7 @@ use lrc_judge::order::{Order, happens_before};
 use lrc_trace::act::Act;
 use std::alloc::{AllocError, Global};
 
-/// Of acts those that happen before one of two positions, in their order.
+/// Returns, in their order, those acts that happen before one of two positions. It fails if memory runs out.
 pub fn causes_of(
     alloc: Global,
     acts: &[Act],

@@ -1,4 +1,5 @@
-//! The acts that a race comes of.
+//! Explains a race: finds the acts that happen before its two accesses, and tells the earliest race of a run of the
+//! plain machine by these acts and then the two accesses.
 #![tactic(auto)]
 
 pub mod causes;

@@ -17,7 +17,8 @@ use lrc_lang::program::Program;
 use lrc_trace::act::Act;
 use std::alloc::{AllocError, Global};
 
-/// What the earliest race of a run of the plain machine comes of: the acts that happen before one of its two accesses, and then these two.
+/// Returns the acts that explain the earliest race of a run of the plain machine: those that happen before one of its
+/// two accesses, and then these two. The run must have a race. It fails if memory runs out.
 pub fn race_told(
     alloc: Global,
     program: &Program,

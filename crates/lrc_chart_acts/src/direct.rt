@@ -100,7 +100,8 @@ fn arrow_of(
     later: usize,
     lock: u8,
 ) -> Result<Arrow, AllocError>
-    ensures { IfOk result (λ arrow. seen_arrow arrow ≡ arrow_of acts.now from earlier to later lock) }
+    ensures { IfOk result (λ arrow. seen_arrow arrow
+        ≡ arrow_of acts.now from earlier to later lock) }
 {
     Ok(Arrow {
         from,
@@ -125,7 +126,8 @@ fn push_between(
     earlier: Place,
 ) -> Result<(), AllocError>
     ensures { OnOk result (map seen_arrow arrows.new.items
-        ≡ map seen_arrow arrows.old.items ++ arrow_between order.now acts.now to later from earlier) }
+        ≡ map seen_arrow arrows.old.items
+        ++ arrow_between order.now acts.now to later from earlier) }
 {
     if let Some(lock) = direct_lock(order, acts, earlier.turn, later.turn) {
         arrows.push(arrow_of(alloc, acts, from, earlier.turn, to, later.turn, lock)?)?;
@@ -144,7 +146,8 @@ fn push_arrows_to(
     later: Place,
 ) -> Result<(), AllocError>
     ensures { OnOk result (map seen_arrow arrows.new.items
-        ≡ map seen_arrow arrows.old.items ++ each (arrow_between order.now acts.now to later) above.now) }
+        ≡ map seen_arrow arrows.old.items
+        ++ each (arrow_between order.now acts.now to later) above.now) }
 {
     for (from, earlier) in above.iter().enumerate() {
         push_between(alloc, arrows, order, acts, to, later, from, *earlier)?;
@@ -152,14 +155,15 @@ fn push_arrows_to(
     Ok(())
 }
 
-/// An arrow for each release and acquire in these rows that nothing but the two themselves orders.
+/// Returns an arrow for each release and acquire in these rows that no other acts order.
 pub(crate) fn direct_arrows(
     alloc: Global,
     order: &Order,
     acts: &[Act],
     places: &[Place],
 ) -> Result<Vec<Arrow>, AllocError>
-    ensures { IfOk result (λ arrows. map seen_arrow arrows.items ≡ direct_arrows order.now acts.now places.now) }
+    ensures { IfOk result (λ arrows. map seen_arrow arrows.items
+        ≡ direct_arrows order.now acts.now places.now) }
 {
     let mut arrows = Vec::new(alloc);
     for (to, later) in places.iter().enumerate() {

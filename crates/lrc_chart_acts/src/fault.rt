@@ -7,14 +7,14 @@ ghost use Rattle.lrc_chart_acts.specs.declared.fault.ActsChartFault.TheVariants.
 use lrc_acts::reading::ActsFault;
 use std::alloc::AllocError;
 
-/// Why there is no picture of a text of acts.
+/// Why a text of acts has no picture.
 #[derive(Clone, Copy, Debug, PartialEq, Eq)]
 pub enum ActsChartFault {
-    /// The text is longer than any text of acts.
+    /// The text is longer than a text of acts may be.
     LongActs,
-    /// The line of this number, counted from 1, says no act.
+    /// The line with this number, counted from 1, is not an act.
     BadAct(u32),
-    /// There are more rows than a picture shows.
+    /// There are more rows than a picture may show.
     TooLong,
     /// Memory ran out.
     NoMemory,

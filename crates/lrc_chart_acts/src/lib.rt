@@ -1,5 +1,5 @@
-//! Acts from anywhere as a picture of what happens before what: a row for each act, and an arrow for each lock that goes from one node
-//! to another where nothing else orders the two acts.
+//! Builds a picture of happens before from a text of acts, which need not come from a run of this program. Each act has
+//! a row. An arrow shows that a lock passes from one node to another, if nothing else orders the two acts.
 #![tactic(auto)]
 
 mod direct;

@@ -73,8 +73,10 @@ fn portrait_in(
     picture_of(alloc, title, nodes, &order, &known, places)
 }
 
-/// The picture of the acts that a text says, in the form that `judge` reads, under this title: of so many nodes where that is given, else
-/// of one more than the greatest that acts.
+/// Builds the picture of the acts in a text of the form that `judge` reads, with this title.
+///
+/// The picture has the given number of nodes (1 to 16), or by default the greatest node that acts plus one. The errors
+/// are those of [`ActsChartFault`].
 pub fn portrait_of_acts(
     alloc: Global,
     title: &[u8],

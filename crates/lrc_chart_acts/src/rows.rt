@@ -64,14 +64,15 @@ fn push_act_row(
 ) -> Result<(), AllocError>
     requires { at < length places.now }
     ensures { OnOk result (map seen_row rows.new.items
-        ≡ map seen_row rows.old.items ++ act_row known.now places.now at place (act_at known.now.acts place.turn) ∷ []) }
+        ≡ map seen_row rows.old.items
+        ++ act_row known.now places.now at place (act_at known.now.acts place.turn) ∷ []) }
 {
     let act = act_at(known.acts, place.turn);
     rows.push(act_row(alloc, known, places, at, place, act)?)?;
     Ok(())
 }
 
-/// The rows at these places.
+/// Returns the rows at these places.
 pub(crate) fn act_rows(
     alloc: Global,
     known: &Known<'_>,

@@ -67,7 +67,7 @@ fn push_row_if(
     Ok(())
 }
 
-/// A row for each act that is shown, numbered from the first of the part.
+/// Returns a row for each act that is shown, numbered from the first act of the part.
 pub(crate) fn acts_shown(alloc: Global, part: Part, acts: &[Act]) -> Result<Vec<Place>, AllocError>
     ensures { IfOk result (λ places. places.items ≡ acts_shown part acts.now) }
 {

@@ -84,7 +84,8 @@ fn time_if(order: &Order, acts: &[Act], nodes: u8, places: &[Place], position: u
     requires some { 1 ≤ nodes }
     requires few { nodes ≤ 16 }
     requires position { position < 4294967295 }
-    ensures { result ≡ (if is_some (shown_act places.now position) then time_known order.now acts.now nodes position else zeros nodes) }
+    ensures { result ≡ (if is_some (shown_act places.now position) then time_known order.now
+        acts.now nodes position else zeros nodes) }
 {
     if is_in(places, position) {
         time_known(order, acts, nodes, position)
@@ -106,13 +107,15 @@ fn push_time(
     requires few { nodes ≤ 16 }
     requires position { position < 4294967295 }
     ensures { OnOk result (times.new.items ≡ times.old.items
-        ++ (if is_some (shown_act places.now position) then time_known order.now acts.now nodes position else zeros nodes) ∷ []) }
+        ++ (if is_some (shown_act places.now position) then time_known order.now acts.now nodes
+        position else zeros nodes) ∷ []) }
 {
     times.push(time_if(order, acts, nodes, places, position))?;
     Ok(())
 }
 
-/// The times of the acts that are shown, and zeros at the others. There is no memory for 2^32 acts or more.
+/// Returns the times of the acts that are shown, and zeros for the other acts. It fails if memory runs out, or if there
+/// are 4,294,967,295 acts or more.
 pub(crate) fn times_known(
     alloc: Global,
     order: &Order,

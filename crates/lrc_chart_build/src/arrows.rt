@@ -89,7 +89,8 @@ fn push_arrows(
     turns: &[usize],
 ) -> Result<(), AllocError>
     ensures { OnOk result (map seen_arrow arrows.new.items
-        ≡ map seen_arrow arrows.old.items ++ shown_message_arrows places.now from envelope.now turns.now) }
+        ≡ map seen_arrow arrows.old.items
+        ++ shown_message_arrows places.now from envelope.now turns.now) }
 {
     for (count, turn) in turns.iter().enumerate() {
         let to = place_of_turn(places, *turn);
@@ -108,7 +109,8 @@ fn push_all_arrows(
     out: &[Envelope],
 ) -> Result<(), AllocError>
     ensures { OnOk result (map seen_arrow arrows.new.items ≡ map seen_arrow arrows.old.items
-        ++ flat_map (λ envelope. shown_message_arrows places.now from envelope (takers turns.now envelope)) out.now) }
+        ++ flat_map (λ envelope. shown_message_arrows places.now from envelope
+        (takers turns.now envelope)) out.now) }
 {
     for envelope in out {
         let takers = takers(alloc, turns, envelope)?;
@@ -117,13 +119,14 @@ fn push_all_arrows(
     Ok(())
 }
 
-/// The arrows of the messages that the turns at these places send.
+/// Returns the arrows of the messages that the turns at these places send.
 pub(crate) fn arrows_of(
     alloc: Global,
     turns: &[TurnOf<'_>],
     places: &[Place],
 ) -> Result<Vec<Arrow>, AllocError>
-    ensures { IfOk result (λ arrows. map seen_arrow arrows.items ≡ shown_arrows turns.now places.now) }
+    ensures { IfOk result (λ arrows. map seen_arrow arrows.items
+        ≡ shown_arrows turns.now places.now) }
 {
     let mut arrows = Vec::new(alloc);
     for (from, place) in places.iter().enumerate() {
@@ -180,7 +183,7 @@ fn push_all_lost(
     Ok(())
 }
 
-/// The messages that the turns at these places send, and that no turn takes.
+/// Returns the messages that the turns at these places send and no turn takes.
 pub(crate) fn lost_of(
     alloc: Global,
     turns: &[TurnOf<'_>],

@@ -65,7 +65,7 @@ fn barrier_of_act(acts: &[Act], position: usize) -> u64
     }
 }
 
-/// The number of the barrier that the act at a position, if there is one, comes to or leaves; 0 at another deed.
+/// Returns the number of the barrier that the act at a position reaches or leaves, or 0 for another deed or no act.
 pub(crate) fn barrier_at(acts: &[Act], act: Option<usize>) -> u64
     ensures { result ≡ barrier_at acts.now act }
 {
@@ -87,7 +87,8 @@ fn barriers(alloc: Global, acts: &[Act], places: &[Place]) -> Result<Vec<u64>, A
 }
 
 fn push_place(places: &mut Vec<usize>, place: usize, is_there: bool) -> Result<(), AllocError>
-    ensures { OnOk result (places.new.items ≡ places.old.items ++ (if is_there then place ∷ [] else [])) }
+    ensures { OnOk result (places.new.items
+        ≡ places.old.items ++ (if is_there then place ∷ [] else [])) }
 {
     if is_there {
         places.push(place)?;
@@ -132,7 +133,8 @@ fn push_band_at(
     place: usize,
     places: &[usize],
 ) -> Result<(), AllocError>
-    ensures { OnOk result (map seen_band bands.new.items ≡ map seen_band bands.old.items ++ band_at number place places.now) }
+    ensures { OnOk result (map seen_band bands.new.items
+        ≡ map seen_band bands.old.items ++ band_at number place places.now) }
 {
     match places {
         [first, more @ ..] => {
@@ -153,7 +155,8 @@ fn push_band(
     place: usize,
     number: u64,
 ) -> Result<(), AllocError>
-    ensures { OnOk result (map seen_band bands.new.items ≡ map seen_band bands.old.items ++ band_if numbers.now place number) }
+    ensures { OnOk result (map seen_band bands.new.items
+        ≡ map seen_band bands.old.items ++ band_if numbers.now place number) }
 {
     if number == 0 {
         return Ok(());
@@ -163,7 +166,8 @@ fn push_band(
 }
 
 fn push_bands(alloc: Global, bands: &mut Vec<Band>, numbers: &[u64]) -> Result<(), AllocError>
-    ensures { OnOk result (map seen_band bands.new.items ≡ map seen_band bands.old.items ++ each (band_if numbers.now) numbers.now) }
+    ensures { OnOk result (map seen_band bands.new.items
+        ≡ map seen_band bands.old.items ++ each (band_if numbers.now) numbers.now) }
 {
     for (place, number) in numbers.iter().enumerate() {
         push_band(alloc, bands, numbers, place, *number)?;
@@ -171,7 +175,7 @@ fn push_bands(alloc: Global, bands: &mut Vec<Band>, numbers: &[u64]) -> Result<(
     Ok(())
 }
 
-/// A band for each barrier that a node comes to or leaves at one of these places.
+/// Returns a band for each barrier that a node reaches or leaves at one of these places.
 pub fn bands_of(alloc: Global, acts: &[Act], places: &[Place]) -> Result<Vec<Band>, AllocError>
     ensures { IfOk result (λ bands. map seen_band bands.items ≡ shown_bands acts.now places.now) }
 {

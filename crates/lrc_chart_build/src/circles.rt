@@ -20,7 +20,8 @@ fn push_nodes(
     waits: &[Option<usize>],
     first: usize,
 ) -> Result<(), AllocError>
-    ensures { OnOk result (nodes.new.items ≡ nodes.old.items ++ nodes_if first (circle_of waits.now first)) }
+    ensures { OnOk result (nodes.new.items
+        ≡ nodes.old.items ++ nodes_if first (circle_of waits.now first)) }
 {
     if let Some(way) = circle_of(alloc, waits, first)? {
         nodes.push(first)?;
@@ -29,7 +30,7 @@ fn push_nodes(
     Ok(())
 }
 
-/// The nodes of all circles of this waiting.
+/// Returns the nodes of all circles of waiting nodes.
 pub(crate) fn circled_nodes(
     alloc: Global,
     waits: &[Option<usize>],
@@ -58,7 +59,8 @@ fn push_line(
     waits: &[Option<usize>],
     first: usize,
 ) -> Result<(), AllocError>
-    ensures { OnOk result (texts_of lines.new.items ≡ texts_of lines.old.items ++ line_if first (circle_of waits.now first)) }
+    ensures { OnOk result (texts_of lines.new.items
+        ≡ texts_of lines.old.items ++ line_if first (circle_of waits.now first)) }
 {
     if let Some(way) = circle_of(alloc, waits, first)? {
         lines.push(circle_line(alloc, first, way.as_slice())?)?;
@@ -66,7 +68,7 @@ fn push_line(
     Ok(())
 }
 
-/// A line for each circle, by its lowest node.
+/// Returns a line for each circle, in the order of their lowest nodes.
 pub(crate) fn deadlock_lines(
     alloc: Global,
     waits: &[Option<usize>],
@@ -117,8 +119,8 @@ fn is_among(nodes: &[usize], node: u8) -> bool
     nodes.iter().any(|other| *other == usize::from(node))
 }
 
-/// Whether the row at a place has a border: its turn is of a node of a circle, which acts or begins to wait at it, and at none of the
-/// rows below it.
+/// Returns whether the row at a place has a border. It has one if its node is in a circle and acts or begins to wait at
+/// this row, but at none of the rows below.
 pub(crate) fn is_circled(
     turns: &[TurnOf<'_>],
     circled: &[usize],

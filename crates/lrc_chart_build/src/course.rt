@@ -7,8 +7,9 @@ use lrc_time::Time;
 use lrc_trace::act::Act;
 use std::marker::Model;
 
-/// Acts, in order; by their positions the line of the program's text that each is of, and the time that its node has just after it; of
-/// each race named the first pair of acts that it names; and the labels of words and locks.
+/// The acts in order, with what is known about them. By act position: the line of the program's text, and the node's
+/// time just after the act. For each named race: the first pair of acts that it names. Also the labels of words and
+/// locks.
 #[derive(Drop)]
 pub struct Known<'a> {
     pub acts: &'a [Act],
@@ -28,7 +29,8 @@ impl<'a> Model for Known<'a> {
     ghost view = { λ k. record { acts = k.acts.now; lines = k.lines.now; times = k.times.now; pairs = k.pairs.now; labels = map label_seen k.labels.now } };
 }
 
-/// A run: its turns, in order; its acts, and what is known of them; and for whom each node waits when the run has ended.
+/// A run: its turns in order, its acts with what is known about them, and the node that each node waits for at the end
+/// of the run.
 #[derive(Drop)]
 pub struct Course<'a> {
     pub turns: &'a [TurnOf<'a>],

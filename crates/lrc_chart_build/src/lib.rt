@@ -1,4 +1,6 @@
-//! A run as a picture: a row for each turn that acts, sends or takes, an arrow for each message, and barriers as bands.
+//! Builds the picture of a run, as data that the drawing crates then show. The picture has a row for each turn that
+//! acts, sends or takes, an arrow for each message, and a band for each barrier. It also shows races, circles of
+//! waiting nodes, and the program's text.
 #![tactic(auto)]
 
 mod arrows;

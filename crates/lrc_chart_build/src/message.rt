@@ -27,14 +27,14 @@ fn message_kind(message: &Message) -> Kind
     }
 }
 
-/// The name of a message's kind.
+/// Returns the name of a message's kind.
 pub(crate) fn label_text(alloc: Global, message: &Message) -> Result<Vec<u8>, AllocError>
     ensures { IfOk result (λ text. text.items ≡ label_text message.now) }
 {
     Vec::from_slice(alloc, kind_name(message_kind(message)))
 }
 
-/// What a message says.
+/// Returns the content of a message, in words.
 pub(crate) fn message_text(alloc: Global, message: &Message) -> Result<Vec<u8>, AllocError>
     ensures { IfOk result (λ text. text.items ≡ message_text message.now) }
 {

@@ -42,7 +42,8 @@ fn is_among(pages: &[u16], count: usize, page: u16) -> bool
 }
 
 fn push_unless(pages: &mut Vec<u16>, page: u16, is_known: bool) -> Result<(), AllocError>
-    ensures { OnOk result (pages.new.items ≡ pages.old.items ++ (if is_known then [] else page ∷ [])) }
+    ensures { OnOk result (pages.new.items
+        ≡ pages.old.items ++ (if is_known then [] else page ∷ [])) }
 {
     if !is_known {
         pages.push(page)?;
@@ -88,7 +89,7 @@ fn push_invalid(text: &mut Vec<u8>, pages: &[u16]) -> Result<(), AllocError>
     }
 }
 
-/// Whether one of the turns before a position takes the message.
+/// Returns whether a turn before the position takes the message.
 pub(crate) fn taken_before(turns: &[TurnOf<'_>], position: usize, envelope: &Envelope) -> bool
     ensures { result ≡ taken_before turns.now position envelope.now }
 {
@@ -99,21 +100,23 @@ pub(crate) fn taken_before(turns: &[TurnOf<'_>], position: usize, envelope: &Env
 }
 
 fn push_told(alloc: Global, text: &mut Vec<u8>, message: &Message) -> Result<(), AllocError>
-    ensures { OnOk result (text.new.items ≡ text.old.items ++ invalid_words (each_once (named_in (told_by message.now)))) }
+    ensures { OnOk result (text.new.items
+        ≡ text.old.items ++ invalid_words (each_once (named_in (told_by message.now)))) }
 {
     let named = named_in(alloc, told_by(message))?;
     let pages = each_once(alloc, named.as_slice())?;
     push_invalid(text, pages.as_slice())
 }
 
-/// The pages that become invalid at the turn at a position, which has this input.
+/// Returns the pages that become invalid at the turn at a position, which has this input.
 pub(crate) fn invalid_text(
     alloc: Global,
     turns: &[TurnOf<'_>],
     position: usize,
     input: &Input,
 ) -> Result<Vec<u8>, AllocError>
-    ensures { IfOk result (λ text. text.items ≡ invalid_text turns.now position (seen_input input.now)) }
+    ensures { IfOk result (λ text. text.items
+        ≡ invalid_text turns.now position (seen_input input.now)) }
 {
     let mut text = Vec::new(alloc);
     if let Input::Taken(envelope) = input {

@@ -10,8 +10,8 @@ use lrc_node::Input;
 use lrc_trace::act::{Act, Deed};
 use std::alloc::{AllocError, Global};
 
-/// Which rows of a run are shown: from that of one act to that of another, where their positions are given, both among them; and whether
-/// those that have nothing but a quiet act are hidden.
+/// The rows of a run that are shown. `from` and `to` are positions of acts, if given: the rows go from the first act's
+/// row to the second's, both included. Rows that have nothing but a quiet act may be hidden.
 #[derive(Clone, Copy, Debug, PartialEq, Eq)]
 pub struct Part {
     pub from: Option<usize>,
@@ -22,15 +22,15 @@ pub struct Part {
 /// A row that is shown.
 #[derive(Clone, Copy, PartialEq, Eq)]
 pub struct Place {
-    /// Its number: its place, from 0, among the rows of its part, those too that are hidden.
+    /// Its number: its place among the rows of its part, counted from 0, hidden rows included.
     pub number: usize,
-    /// The position of its turn.
+    /// The position of its turn in the run.
     pub turn: usize,
-    /// The position of its turn's act among the acts of the run, if it makes one.
+    /// The position of the turn's act among the acts of the run, if the turn makes one.
     pub act: Option<usize>,
 }
 
-/// The turn at a position.
+/// Returns the turn at a position, if there is one.
 pub(crate) fn turn_at<'a, 'e>(turns: &'a [TurnOf<'e>], position: usize) -> Option<&'a TurnOf<'e>>
     ensures { option_map (λ turn. turn.now) result ≡ slice_get turns.now position }
 {
@@ -92,7 +92,7 @@ fn rows_up_to(rows: &[Row], to: Option<usize>) -> &[Row]
     }
 }
 
-/// The rows of a part: from that of its first act to that of its last act.
+/// Returns the rows of a part, from the row of its first act to the row of its last act.
 pub(crate) fn rows_in(part: Part, rows: &[Row]) -> &[Row]
     ensures { result.now ≡ rows_in part rows.now }
 {
@@ -101,7 +101,7 @@ pub(crate) fn rows_in(part: Part, rows: &[Row]) -> &[Row]
     &front[first.min(front.len())..]
 }
 
-/// Whether no row stands behind those of a part.
+/// Returns whether no row follows the rows of a part.
 pub(crate) fn ends_in(part: Part, rows: &[Row]) -> bool
     ensures { result ≡ ends_in part rows.now }
 {
@@ -180,7 +180,7 @@ fn push_kept(
     Ok(())
 }
 
-/// Of the rows of a part, numbered from 0, those that are not hidden.
+/// Returns the rows of a part that are not hidden. The rows are numbered from 0 before any is hidden.
 pub(crate) fn kept_of(
     alloc: Global,
     turns: &[TurnOf<'_>],
@@ -198,7 +198,7 @@ pub(crate) fn kept_of(
 
 // ---- acts in rows that are shown
 
-/// The place of the row of the act at a position, if it is shown.
+/// Returns the place of the row that shows the act at a position, if one does.
 pub(crate) fn shown_act(places: &[Place], act: usize) -> Option<usize>
     ensures { result ≡ shown_act places.now act }
 {

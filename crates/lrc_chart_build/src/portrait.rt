@@ -18,13 +18,13 @@ use lrc_text::push_number;
 use std::alloc::{AllocError, Global};
 use thiserror::Error;
 
-/// How many rows a picture shows at most.
+/// The most rows that a picture may show.
 pub const MOST_ROWS: usize = 2000;
 
-/// Why there is no picture.
+/// Why a picture was refused.
 #[derive(Clone, Copy, Debug, PartialEq, Eq, Error)]
 pub enum PortraitFault {
-    /// There are more rows than a picture shows.
+    /// There are more rows than a picture may show.
     #[error("too long for a chart")]
     TooLong,
     /// Memory ran out.
@@ -56,7 +56,7 @@ fn push_column(alloc: Global, columns: &mut Vec<Vec<u8>>, node: u8) -> Result<()
     Ok(())
 }
 
-/// The names of the columns of so many nodes.
+/// Returns the names of the columns for so many nodes.
 pub fn columns_of(alloc: Global, nodes: u8) -> Result<Vec<Vec<u8>>, AllocError>
     ensures { IfOk result (λ columns. map (λ name. name.items) columns.items ≡ column_names nodes) }
 {
@@ -84,7 +84,8 @@ fn picture_of(
     places: &[Place],
     source: Option<&[u8]>,
 ) -> Result<Picture, AllocError>
-    ensures { IfOk result (IsPictureOf title.now nodes course.now waits.now places.now (option_map (λ text. text.now) source.entry)) }
+    ensures { IfOk result (IsPictureOf title.now nodes course.now waits.now places.now
+        (option_map (λ text. text.now) source.entry)) }
 {
     let known = &course.known;
     let circled = circled_nodes(alloc, waits)?;
@@ -101,9 +102,12 @@ fn picture_of(
     })
 }
 
-/// The picture of a part of a run of so many nodes, under this title, and beside this text of the program, if one is given. A message is
-/// shown where both its ends are among the rows, or where it is sent at one of them and no turn of the run takes it. Circles of waiting
-/// are shown where no row stands behind the part.
+/// Builds the picture of a part of a run on so many nodes, with this title and beside the program's text, if that is
+/// given.
+///
+/// It shows a message if both its ends are among the rows, or if one of the rows sends it and no turn of the run takes
+/// it. It shows circles of waiting nodes if no row follows the part. The errors are `TooLong` if there are more than
+/// `MOST_ROWS` rows, and `NoMemory`.
 pub fn portrait_of(
     alloc: Global,
     title: &[u8],
@@ -112,9 +116,11 @@ pub fn portrait_of(
     part: Part,
     source: Option<&[u8]>,
 ) -> Result<Picture, PortraitFault>
-    ensures ok { IfOk result (IsPortrait title.now nodes course.now part (option_map (λ text. text.now) source.entry)) }
+    ensures ok { IfOk result (IsPortrait title.now nodes course.now part
+        (option_map (λ text. text.now) source.entry)) }
     ensures short { IfOk result (λ _. length (rows_shown course.now part) ≤ MOST_SHOWN) }
-    ensures err { IfErr result (λ fault. fault ≡ TooLong → MOST_SHOWN < length (rows_shown course.now part)) }
+    ensures err { IfErr result (λ fault. fault ≡ TooLong
+        → MOST_SHOWN < length (rows_shown course.now part)) }
 {
     let rows = lrc_chart_rows::rows_of(alloc, course.turns)?;
     let places = kept_of(

@@ -133,7 +133,8 @@ fn push_race(
 }
 
 fn push_if(leads: &mut Vec<Pair>, pair: Pair, is_first: bool) -> Result<(), AllocError>
-    ensures { OnOk result (leads.new.items ≡ leads.old.items ++ (if is_first then pair ∷ [] else [])) }
+    ensures { OnOk result (leads.new.items
+        ≡ leads.old.items ++ (if is_first then pair ∷ [] else [])) }
 {
     if is_first {
         leads.push(pair)?;
@@ -175,7 +176,7 @@ fn races_between(
     Ok(races)
 }
 
-/// Of each group of races the two acts of its least pair, where both are at these places.
+/// Returns the two acts of the least pair of each group of races, if both are at these places.
 pub fn races_of(alloc: Global, known: &Known<'_>, places: &[Place]) -> Result<Vec<Race>, AllocError>
     ensures { IfOk result (λ races. map seen_race races.items ≡ shown_races known.now places.now) }
 {

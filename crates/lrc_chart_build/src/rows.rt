@@ -26,7 +26,8 @@ fn row_of(
     turn: &TurnOf<'_>,
 ) -> Result<Row, AllocError>
     requires { at < length places.now }
-    ensures { IfOk result (λ row. seen_row row ≡ shown_row course.now circled.now places.now at place turn.now) }
+    ensures { IfOk result (λ row. seen_row row
+        ≡ shown_row course.now circled.now places.now at place turn.now) }
 {
     let entry = turn.entry;
     let known = &course.known;
@@ -56,7 +57,8 @@ fn push_row(
 ) -> Result<(), AllocError>
     requires { at < length places.now }
     ensures { OnOk result (map seen_row rows.new.items ≡ map seen_row rows.old.items
-        ++ shown_if course.now circled.now places.now at place (slice_get course.now.turns place.turn)) }
+        ++ shown_if course.now circled.now places.now at place
+        (slice_get course.now.turns place.turn)) }
 {
     if let Some(turn) = turn_at(course.turns, place.turn) {
         rows.push(row_of(alloc, course, circled, places, at, place, turn)?)?;
@@ -64,14 +66,15 @@ fn push_row(
     Ok(())
 }
 
-/// The rows at these places, where these are the nodes of the circles of waiting.
+/// Returns the rows at these places, given the nodes of the circles of waiting nodes.
 pub(crate) fn rows_of(
     alloc: Global,
     course: &Course<'_>,
     circled: &[usize],
     places: &[Place],
 ) -> Result<Vec<Row>, AllocError>
-    ensures { IfOk result (λ rows. map seen_row rows.items ≡ shown_rows course.now circled.now places.now) }
+    ensures { IfOk result (λ rows. map seen_row rows.items
+        ≡ shown_rows course.now circled.now places.now) }
 {
     let mut rows = Vec::new(alloc);
     for (at, place) in places.iter().enumerate() {

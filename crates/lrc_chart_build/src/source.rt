@@ -36,7 +36,8 @@ fn source_line(
     number: usize,
     words: &[u8],
 ) -> Result<SourceLine, AllocError>
-    ensures { IfOk result (λ line. seen_line line ≡ source_line lines.now places.now number words.now) }
+    ensures { IfOk result (λ line. seen_line line
+        ≡ source_line lines.now places.now number words.now) }
 {
     Ok(SourceLine {
         words: Vec::from_slice(alloc, words)?,
@@ -89,7 +90,8 @@ fn source_lines(
     Ok(source)
 }
 
-/// The lines of a text, from line 1, those marked that an act of these rows is of; none where no text is given.
+/// Returns the lines of a text, from line 1, or none if no text is given. A line is marked if an act of these rows
+/// belongs to it.
 pub(crate) fn source_of(
     alloc: Global,
     lines: &[u32],

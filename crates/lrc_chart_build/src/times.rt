@@ -52,7 +52,8 @@ fn last_act(acts: &[Act], node: u8, places: &[Place]) -> Option<usize>
 }
 
 fn is_same(a: Option<&Time>, b: Option<&Time>) -> bool
-    ensures { result ≡ same_time (option_map (λ time. time.now) a.entry) (option_map (λ time. time.now) b.entry) }
+    ensures { result ≡ same_time (option_map (λ time. time.now) a.entry)
+        (option_map (λ time. time.now) b.entry) }
 {
     match (a, b) {
         (Some(a), Some(b)) => a == b,
@@ -71,7 +72,8 @@ fn changes_since(times: &[Time], position: usize, before: Option<usize>) -> bool
 }
 
 fn push_entries_if(text: &mut Vec<u8>, time: Option<&Time>) -> Result<(), AllocError>
-    ensures { OnOk result (text.new.items ≡ text.old.items ++ entries_text (option_map (λ time. time.now) time.entry)) }
+    ensures { OnOk result (text.new.items
+        ≡ text.old.items ++ entries_text (option_map (λ time. time.now) time.entry)) }
 {
     match time {
         Some(time) => push_entries(text, time),
@@ -79,8 +81,8 @@ fn push_entries_if(text: &mut Vec<u8>, time: Option<&Time>) -> Result<(), AllocE
     }
 }
 
-/// The time that a node has just after its act at a position, at its first act shown and where it is another than at its act shown
-/// before; these rows are shown above it.
+/// Returns the node's time just after its act at a position, if this is the node's first act shown, or if the time has
+/// changed since its act shown before. `before` holds the rows above this one.
 pub fn new_time_text(
     alloc: Global,
     known: &Known<'_>,
@@ -115,7 +117,7 @@ fn push_hint(
     push_entries_if(text, time)
 }
 
-/// An act's position, its line, and its node's time just after it.
+/// Returns an act's position, its line, and its node's time just after it, in words; nothing if there is no act.
 pub fn hint_text(
     alloc: Global,
     known: &Known<'_>,

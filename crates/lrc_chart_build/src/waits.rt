@@ -20,7 +20,8 @@ use std::alloc::{AllocError, Global};
 
 // Adds what a request asks for.
 fn push_wish(text: &mut Vec<u8>, labels: &[Label<'_>], message: &Message) -> Result<(), AllocError>
-    ensures { OnOk result (text.new.items ≡ text.old.items ++ wish_of (map label_seen labels.now) message.now) }
+    ensures { OnOk result (text.new.items
+        ≡ text.old.items ++ wish_of (map label_seen labels.now) message.now) }
 {
     match message {
         Message::LockRequest(request) => push_lock(text, labels, b": lock ", request.lock),
@@ -37,7 +38,8 @@ fn push_first_wish(
     labels: &[Label<'_>],
     out: &[Envelope],
 ) -> Result<(), AllocError>
-    ensures { OnOk result (text.new.items ≡ text.old.items ++ first_wish (map label_seen labels.now) out.now) }
+    ensures { OnOk result (text.new.items
+        ≡ text.old.items ++ first_wish (map label_seen labels.now) out.now) }
 {
     match out {
         [envelope, ..] => push_wish(text, labels, &envelope.message),
@@ -67,7 +69,8 @@ fn begins_collection(turns: &[TurnOf<'_>], position: usize, input: &Input) -> bo
 }
 
 fn push_collection(text: &mut Vec<u8>, collects: bool) -> Result<(), AllocError>
-    ensures { OnOk result (text.new.items ≡ text.old.items ++ (if collects then codes "waits: collection" else [])) }
+    ensures { OnOk result (text.new.items
+        ≡ text.old.items ++ (if collects then codes "waits: collection" else [])) }
 {
     if collects {
         text.extend_from_slice(b"waits: collection")?;
@@ -84,7 +87,8 @@ fn push_idle_words(
     out: &[Envelope],
 ) -> Result<(), AllocError>
     ensures { OnOk result (text.new.items
-        ≡ text.old.items ++ idle_words (map label_seen labels.now) collects (seen_input input.now) out.now) }
+        ≡ text.old.items ++ idle_words (map label_seen labels.now) collects
+        (seen_input input.now) out.now) }
 {
     match input {
         Input::Run => {
@@ -95,7 +99,7 @@ fn push_idle_words(
     }
 }
 
-/// What a turn does, in words.
+/// Returns a description of what a turn does.
 pub(crate) fn turn_words(
     alloc: Global,
     course: &Course<'_>,
@@ -141,7 +145,7 @@ fn kind_by(turns: &[TurnOf<'_>], position: usize, input: &Input, act: Option<Act
     }
 }
 
-/// What kind of row the turn at a position has.
+/// Returns the kind of row for the turn at a position.
 pub(crate) fn turn_kind(turns: &[TurnOf<'_>], position: usize, turn: &TurnOf<'_>) -> Kind
     ensures { result ≡ turn_kind turns.now position turn.now }
 {

@@ -23,21 +23,23 @@ fn push_access(
     word: u32,
     value: u64,
 ) -> Result<(), AllocError>
-    ensures { OnOk result (text.new.items ≡ text.old.items ++ access_words (map label_seen labels.now) name.now word value) }
+    ensures { OnOk result (text.new.items
+        ≡ text.old.items ++ access_words (map label_seen labels.now) name.now word value) }
 {
     push_number(text, name, u64::from(word))?;
     push_word_label(text, labels, word)?;
     push_number(text, b": ", value)
 }
 
-/// Adds what is done with a lock, and the lock with its label.
+/// Adds what a deed does with a lock, and the lock with its label.
 pub(crate) fn push_lock(
     text: &mut Vec<u8>,
     labels: &[Label<'_>],
     name: &[u8],
     lock: u8,
 ) -> Result<(), AllocError>
-    ensures { OnOk result (text.new.items ≡ text.old.items ++ lock_words (map label_seen labels.now) name.now lock) }
+    ensures { OnOk result (text.new.items
+        ≡ text.old.items ++ lock_words (map label_seen labels.now) name.now lock) }
 {
     push_number(text, name, u64::from(lock))?;
     push_lock_label(text, labels, lock)
@@ -49,7 +51,8 @@ fn push_deed_words(
     barrier: u64,
     deed: Deed,
 ) -> Result<(), AllocError>
-    ensures { OnOk result (text.new.items ≡ text.old.items ++ deed_words (map label_seen labels.now) barrier deed) }
+    ensures { OnOk result (text.new.items
+        ≡ text.old.items ++ deed_words (map label_seen labels.now) barrier deed) }
 {
     match deed {
         Deed::Read(word, value) => push_access(text, labels, b"read ", word, value),
@@ -75,7 +78,7 @@ pub fn push_act_words(
     push_deed_words(text, known.labels, barrier, deed)
 }
 
-/// What kind of row an act has.
+/// Returns the kind of row for a deed.
 pub fn deed_kind(deed: Deed) -> Kind
     ensures { result ≡ deed_kind deed }
 {
@@ -92,7 +95,7 @@ fn closes_interval(deed: Deed) -> bool
     matches!(deed, Deed::Acquire(_) | Deed::Release(_) | Deed::Arrive)
 }
 
-/// Whether an act closes an interval.
+/// Returns whether an act closes an interval.
 pub fn act_closes(act: Option<Act>) -> bool
     ensures { result ≡ act_closes act }
 {
@@ -119,7 +122,7 @@ fn interval_at(acts: &[Act], node: u8, position: usize) -> u64
     1 + closed_before(acts, node, position)
 }
 
-/// The line at a position; 0 where there is none.
+/// Returns the line at a position, or 0 if there is none.
 pub(crate) fn line_at(lines: &[u32], position: usize) -> u32
     ensures { result ≡ slice_index lines.now position }
 {
@@ -137,7 +140,7 @@ fn push_place(text: &mut Vec<u8>, line: u32, interval: u64) -> Result<(), AllocE
     push_number(text, b", interval ", interval)
 }
 
-/// The line and the interval of a node's act at a position.
+/// Returns the line and the interval of a node's act at a position.
 pub fn act_place_text(
     alloc: Global,
     known: &Known<'_>,

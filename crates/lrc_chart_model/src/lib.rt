@@ -1,5 +1,5 @@
-//! What a picture of a run shows, whatever it is drawn with: columns of nodes, rows of turns, messages, barriers and races, each with its
-//! words.
+//! The contents of a picture of a run, independent of how it is drawn. A picture has columns of nodes, rows of turns,
+//! messages, barriers and races, each with its words.
 #![tactic(auto)]
 
 mod picture;

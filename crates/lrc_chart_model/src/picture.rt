@@ -5,54 +5,55 @@
 pub enum Kind {
     /// An act.
     Act,
-    /// It began to wait.
+    /// The node began to wait.
     Wait,
-    /// It took or sent messages, and no more.
+    /// The node only took or sent messages.
     Message,
     /// An act that trapped.
     Trap,
-    /// It came to a barrier or left one.
+    /// The node reached a barrier or left one.
     Barrier,
 }
 
-/// A turn; in a chart of acts alone, an act.
+/// A turn, or in a chart of acts alone, an act.
 #[derive(Drop)]
 pub struct Row {
-    /// Its number: its place, from 0, among the rows of the part with those that are hidden.
+    /// Its number: its place among the rows of the part, from 0, with the hidden rows counted.
     pub number: usize,
     /// The column of its node.
     pub column: u8,
     pub kind: Kind,
     /// What was done.
     pub words: Vec<u8>,
-    /// The node's time, where it is another than at its act shown before.
+    /// The node's vector time, if it differs from the time at the node's act shown before.
     pub time: Vec<u8>,
-    /// The pages that became invalid, as `page 0 invalid`; nothing where none did.
+    /// The pages that became invalid, such as `page 0 invalid`, or nothing if none did.
     pub invalid: Vec<u8>,
     /// The line and the interval.
     pub place: Vec<u8>,
-    /// What is shown to who points at it.
+    /// What a reader sees when the pointer is on it.
     pub hint: Vec<u8>,
     /// Whether it closed an interval.
     pub closes: bool,
-    /// Whether its node is of a circle of waiting, and it is the last row of the node with an act or at which the node begins to wait.
+    /// Whether its node is in a circle of waiting, and this is the node's last row that has an act or where the node
+    /// begins to wait.
     pub circled: bool,
 }
 
-/// A message that was taken; in a chart of acts alone, a lock that one node released and another acquired.
+/// A message that was taken, or in a chart of acts alone, a lock that one node released and another acquired.
 #[derive(Drop)]
 pub struct Arrow {
-    /// The row and the column of the turn that sent it (of the release),
+    /// The row and the column of the turn that sent the message, or of the release.
     pub from: usize,
     pub sender: u8,
-    /// and of the turn that took it (of the acquire).
+    /// The row and the column of the turn that took it, or of the acquire.
     pub to: usize,
     pub receiver: u8,
     /// Whether it was taken before.
     pub again: bool,
-    /// Its kind; the lock.
+    /// The kind of the message, or the lock.
     pub label: Vec<u8>,
-    /// What is shown to who points at it.
+    /// What a reader sees when the pointer is on it.
     pub hint: Vec<u8>,
 }
 
@@ -66,11 +67,11 @@ pub struct Lost {
     pub receiver: u8,
     /// Its kind.
     pub label: Vec<u8>,
-    /// What is shown to who points at it.
+    /// What a reader sees when the pointer is on it.
     pub hint: Vec<u8>,
 }
 
-/// A barrier, from the row of the first who came to the row of the last who left.
+/// A barrier, from the row of the first node that reached it to the row of the last node that left it.
 #[derive(Drop)]
 pub struct Band {
     pub from: usize,
@@ -78,36 +79,36 @@ pub struct Band {
     pub label: Vec<u8>,
 }
 
-/// A group of races, by two acts that race.
+/// A group of races, shown by two acts that race.
 #[derive(Drop)]
 pub struct Race {
-    /// Its number: from 1, among all groups of the run, in the order of `explain`.
+    /// Its number among all groups of the run, counted from 1, in the order of `explain`.
     pub number: usize,
-    /// The row and the column of the earlier act,
+    /// The row and the column of the earlier act.
     pub from: usize,
     pub first: u8,
-    /// and of the later one.
+    /// The row and the column of the later act.
     pub to: usize,
     pub second: u8,
-    /// The group.
+    /// The group in words.
     pub label: Vec<u8>,
-    /// What is shown to who points at it.
+    /// What a reader sees when the pointer is on it.
     pub hint: Vec<u8>,
 }
 
 /// A line of the program's text.
 #[derive(Drop)]
 pub struct SourceLine {
-    /// The line as it stands there, without what ends it.
+    /// The line's text, without its line end.
     pub words: Vec<u8>,
-    /// Whether an act of a row that is shown is of this line.
+    /// Whether an act of a row that is shown has this line.
     pub marked: bool,
 }
 
 /// A picture of a run, or of acts alone.
 #[derive(Drop)]
 pub struct Picture {
-    /// The command.
+    /// The command that made the picture.
     pub title: Vec<u8>,
     /// The names of the columns.
     pub columns: Vec<Vec<u8>>,
@@ -118,6 +119,6 @@ pub struct Picture {
     pub races: Vec<Race>,
     /// The circles of waiting, in the words of `explain`.
     pub deadlocks: Vec<Vec<u8>>,
-    /// The lines of the program's text, from line 1; none where the text is not shown.
+    /// The lines of the program's text, from line 1; none if the text is not shown.
     pub source: Vec<SourceLine>,
 }

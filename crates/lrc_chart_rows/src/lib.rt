@@ -1,4 +1,5 @@
-//! What a picture of a run shows, as data: its turns in order, a row for each that is shown, and which turns take a message.
+//! The data behind a picture of a run: its turns in order, a row for each turn that is shown, and the turns that take a
+//! given message.
 #![tactic(auto)]
 
 mod counts;

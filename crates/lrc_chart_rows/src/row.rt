@@ -10,9 +10,9 @@ use std::alloc::{AllocError, Global};
 /// A row of a picture.
 #[derive(Clone, Copy, PartialEq, Eq)]
 pub struct Row {
-    /// The position of its turn.
+    /// The position of its turn in the run.
     pub turn: usize,
-    /// The position of its turn's act among the acts of the run, if it makes one.
+    /// The position of the turn's act among the acts of the run, if the turn makes one.
     pub act: Option<usize>,
 }
 
@@ -67,7 +67,7 @@ fn push_if(rows: &mut Vec<Row>, row: Row, is_shown: bool) -> Result<(), AllocErr
     Ok(())
 }
 
-/// A row for each turn that makes an act, sends or takes a message, in order.
+/// Returns a row for each turn that makes an act, sends or takes a message, in order.
 pub fn rows_of(alloc: Global, turns: &[TurnOf<'_>]) -> Result<Vec<Row>, AllocError>
     ensures { IfOk result (λ rows. rows.items ≡ rows_of turns.now) }
 {

@@ -8,7 +8,7 @@ use lrc_envelope::Envelope;
 use lrc_node::Input;
 use std::alloc::{AllocError, Global};
 
-/// Whether a turn takes the message.
+/// Returns whether a turn takes the message.
 pub fn takes(turn: &TurnOf<'_>, envelope: &Envelope) -> bool
     ensures { result ≡ takes_it envelope.now turn.now }
 {
@@ -26,7 +26,8 @@ pub fn takes(turn: &TurnOf<'_>, envelope: &Envelope) -> bool
 
 // Adds a position, if it is one of those that are wanted.
 fn push_if(positions: &mut Vec<usize>, position: usize, is_wanted: bool) -> Result<(), AllocError>
-    ensures { OnOk result (positions.new.items ≡ positions.old.items ++ (if is_wanted then position ∷ [] else [])) }
+    ensures { OnOk result (positions.new.items
+        ≡ positions.old.items ++ (if is_wanted then position ∷ [] else [])) }
 {
     if is_wanted {
         positions.push(position)?;
@@ -34,7 +35,7 @@ fn push_if(positions: &mut Vec<usize>, position: usize, is_wanted: bool) -> Resu
     Ok(())
 }
 
-/// The positions of the turns that take a message.
+/// Returns the positions of the turns that take a message.
 pub fn takers(
     alloc: Global,
     turns: &[TurnOf<'_>],

@@ -1,6 +1,7 @@
 // The turns of a run in the order in which its nodes made them.
 
-ghost use Rattle.std.specs.Prelude.{◌≡◌, ◌++◌, IfOk, OnOk, map};
+ghost use Rattle.std.specs.Prelude.{◌≡◌, ◌++◌, IfOk, OnOk};
+ghost use Rattle.lrc_protocol.specs.Run.{turns_of_logs};
 ghost use Rattle.lrc_turns_text.specs.Turns.{next, turns_told};
 ghost use Rattle.lrc_chart_rows.specs.Counts.{Counts};
 
@@ -33,7 +34,8 @@ fn push_next<'a>(
     node: u8,
 ) -> Result<(), AllocError>
     requires { Counts turns.old.items made.old.counts }
-    ensures turns { OnOk result (turns.new.items ≡ turns.old.items ++ next (map (λ log. log.items) logs.now) turns.old.items node) }
+    ensures turns { OnOk result (turns.new.items
+        ≡ turns.old.items ++ next (turns_of_logs logs.now) turns.old.items node) }
     ensures counts { OnOk result (Counts turns.new.items made.new.counts) }
 {
     if let Some(entry) = entry_of(logs, node, made.by(node)) {
@@ -43,13 +45,15 @@ fn push_next<'a>(
     Ok(())
 }
 
-/// The turns that nodes made, one after another: each is the next one of its node's log.
+/// Returns the turns that the nodes made, in this order. Each is the next entry of its node's log. A node whose log has
+/// no more entries adds no turn.
 pub fn turns_of<'a>(
     alloc: Global,
     logs: &'a [Vec<Entry>],
     order: &[u8],
 ) -> Result<Vec<TurnOf<'a>>, AllocError>
-    ensures { IfOk result (λ turns. turns.items ≡ turns_told (map (λ log. log.items) logs.now) order.now) }
+    ensures { IfOk result (λ turns. turns.items
+        ≡ turns_told (turns_of_logs logs.now) order.now) }
 {
     let mut turns = Vec::new(alloc);
     let mut made = Made::new();

@@ -25,7 +25,8 @@ fn push_arrow(
     layout: &Layout,
     arrow: &Arrow,
 ) -> Result<(), AllocError>
-    ensures { OnOk result (all_marks contents.new.items ≡ all_marks contents.old.items ++ arrow_marks (plan_in layout.now) arrow.now) }
+    ensures { OnOk result (all_marks contents.new.items
+        ≡ all_marks contents.old.items ++ arrow_marks (plan_in layout.now) arrow.now) }
 {
     let way = Span::between(layout, arrow.sender, arrow.receiver);
     let from = way.tail(layout.height(arrow.from));
@@ -52,7 +53,8 @@ fn push_lost(
     place: usize,
     lost: &Lost,
 ) -> Result<(), AllocError>
-    ensures { OnOk result (all_marks contents.new.items ≡ all_marks contents.old.items ++ lost_marks (plan_in layout.now) place lost.now) }
+    ensures { OnOk result (all_marks contents.new.items
+        ≡ all_marks contents.old.items ++ lost_marks (plan_in layout.now) place lost.now) }
 {
     let way = Span::between(layout, lost.sender, lost.receiver);
     let from = way.tail(layout.height(lost.from));
@@ -73,7 +75,8 @@ fn push_lost_label(
     place: usize,
     lost: &Lost,
 ) -> Result<(), AllocError>
-    ensures { OnOk result (all_marks contents.new.items ≡ all_marks contents.old.items ++ lost_label (plan_in layout.now) place lost.now) }
+    ensures { OnOk result (all_marks contents.new.items
+        ≡ all_marks contents.old.items ++ lost_label (plan_in layout.now) place lost.now) }
 {
     let way = Span::between(layout, lost.sender, lost.receiver);
     let at = Point {
@@ -84,14 +87,15 @@ fn push_lost_label(
     push_label(alloc, contents, at, hand, lost.label.as_slice())
 }
 
-/// Adds arrows to turns.
+/// Adds the arrows of messages that turns take.
 pub(crate) fn push_arrows(
     alloc: Global,
     contents: &mut Vec<Content>,
     layout: &Layout,
     arrows: &[Arrow],
 ) -> Result<(), AllocError>
-    ensures { OnOk result (all_marks contents.new.items ≡ all_marks contents.old.items ++ flat_map (arrow_marks (plan_in layout.now)) arrows.now) }
+    ensures { OnOk result (all_marks contents.new.items
+        ≡ all_marks contents.old.items ++ flat_map (arrow_marks (plan_in layout.now)) arrows.now) }
 {
     for arrow in arrows {
         push_arrow(alloc, contents, layout, arrow)?;
@@ -99,14 +103,15 @@ pub(crate) fn push_arrows(
     Ok(())
 }
 
-/// Adds arrows to nowhere.
+/// Adds the arrows of messages that no turn takes.
 pub(crate) fn push_all_lost(
     alloc: Global,
     contents: &mut Vec<Content>,
     layout: &Layout,
     lost: &[Lost],
 ) -> Result<(), AllocError>
-    ensures { OnOk result (all_marks contents.new.items ≡ all_marks contents.old.items ++ each (lost_marks (plan_in layout.now)) lost.now) }
+    ensures { OnOk result (all_marks contents.new.items
+        ≡ all_marks contents.old.items ++ each (lost_marks (plan_in layout.now)) lost.now) }
 {
     for (place, one) in lost.iter().enumerate() {
         push_lost(alloc, contents, layout, place, one)?;
@@ -114,14 +119,15 @@ pub(crate) fn push_all_lost(
     Ok(())
 }
 
-/// Adds the kinds of messages that were never taken.
+/// Adds the labels (kinds) of messages that no turn takes.
 pub(crate) fn push_lost_labels(
     alloc: Global,
     contents: &mut Vec<Content>,
     layout: &Layout,
     lost: &[Lost],
 ) -> Result<(), AllocError>
-    ensures { OnOk result (all_marks contents.new.items ≡ all_marks contents.old.items ++ each (lost_label (plan_in layout.now)) lost.now) }
+    ensures { OnOk result (all_marks contents.new.items
+        ≡ all_marks contents.old.items ++ each (lost_label (plan_in layout.now)) lost.now) }
 {
     for (place, one) in lost.iter().enumerate() {
         push_lost_label(alloc, contents, layout, place, one)?;

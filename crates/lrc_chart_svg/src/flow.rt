@@ -6,14 +6,16 @@ ghost use Rattle.lrc_chart_svg.specs.Flow.{timed_flow, wide, words_flow};
 
 use lrc_chart_model::{Arrow, Row};
 
-/// How many letters there are. No words come to the bound, of 4 GiB: the longest of a run are a list of 1,024 pages, about 4,000 letters.
+/// Returns the number of letters in some words, at most 4,294,967,295.
+///
+/// No words reach this bound of 4 GiB. The longest words of a run list 1,024 pages, in about 4,000 letters.
 pub(crate) fn letters(words: &[u8]) -> u32
     ensures { result ≡ letters words.now }
 {
     words.len().min(4_294_967_295) as u32
 }
 
-/// How wide so many letters are.
+/// Returns the width of so many letters, in pixels.
 pub(crate) fn width(letters: u64) -> u128
     ensures most { result ≤ 8 * letters }
     ensures exact { result ≡ wide letters }
@@ -21,7 +23,7 @@ pub(crate) fn width(letters: u64) -> u128
     letters as u128 * 73 / 10
 }
 
-/// How far the words in a box go: the line, how many letters of it are used, and the most that are of any line.
+/// The extent of the words in a box: the current line, its used letters, and the most letters of any line.
 #[derive(Clone, Copy)]
 pub(crate) struct Flow {
     pub line: u32,
@@ -29,7 +31,7 @@ pub(crate) struct Flow {
     pub most: u32,
 }
 
-/// Where words stand in a box: the line, and how many letters are before them.
+/// The place of words in a box: their line, and the number of letters before them on it.
 #[derive(Clone, Copy)]
 pub(crate) struct Spot {
     pub line: u32,
@@ -37,7 +39,7 @@ pub(crate) struct Spot {
 }
 
 impl Flow {
-    /// Before any words.
+    /// Returns the extent of no words.
     pub(crate) fn begun() -> Flow
         ensures { result ≡ begun }
     {
@@ -48,7 +50,7 @@ impl Flow {
         }
     }
 
-    /// Where words of so many letters stand behind these.
+    /// Returns the place of the next words, which have `count` letters, in a box that is `room` letters wide.
     pub(crate) fn spot(self, room: u32, count: u32) -> Spot
         ensures line { result.line ≡ line_of room self count }
         ensures before { result.before ≡ before room self count }
@@ -72,7 +74,7 @@ impl Flow {
         }
     }
 
-    /// How far they go with words of so many letters behind them.
+    /// Returns the extent after `count` more letters, in a box that is `room` letters wide.
     pub(crate) fn behind(self, room: u32, count: u32) -> Flow
         ensures { result ≡ behind room self count }
     {
@@ -88,7 +90,7 @@ impl Flow {
         }
     }
 
-    /// The same with the kind of a message, if it is taken at this row.
+    /// Returns the extent with the arrow's label added, if this row takes the arrow's message.
     pub(crate) fn behind_label(self, room: u32, number: usize, arrow: &Arrow) -> Flow
         ensures { result ≡ label_flow room number self arrow.now }
     {
@@ -100,28 +102,28 @@ impl Flow {
     }
 }
 
-/// How far go what was done,
+/// Returns the extent of the words for what a row's turn does.
 pub(crate) fn done_flow(room: u32, row: &Row) -> Flow
     ensures { result ≡ done_flow room row.now }
 {
     Flow::begun().behind(room, letters(row.words.as_slice()))
 }
 
-/// the node's time behind it,
+/// Returns the extent of those words followed by the node's time.
 pub(crate) fn timed_flow(room: u32, row: &Row) -> Flow
     ensures { result ≡ timed_flow room row.now }
 {
     done_flow(room, row).behind(room, letters(row.time.as_slice()))
 }
 
-/// and invalid pages.
+/// Returns the extent of those words followed by the node's time and the invalid pages.
 pub(crate) fn words_flow(room: u32, row: &Row) -> Flow
     ensures { result ≡ words_flow room row.now }
 {
     timed_flow(room, row).behind(room, letters(row.invalid.as_slice()))
 }
 
-/// How far go the words of a row with the kinds of the messages that it takes behind them.
+/// Returns the extent of a row's words followed by the kinds of the messages that it takes.
 pub(crate) fn kinds_flow(room: u32, number: usize, row: &Row, arrows: &[Arrow]) -> Flow
     ensures { result ≡ kinds_flow room number row.now arrows.now }
 {
@@ -132,7 +134,7 @@ pub(crate) fn kinds_flow(room: u32, number: usize, row: &Row, arrows: &[Arrow]) 
     flow
 }
 
-/// How far all words of a row go.
+/// Returns the extent of all words of a row.
 pub(crate) fn row_flow(room: u32, number: usize, row: &Row, arrows: &[Arrow]) -> Flow
     ensures { result ≡ row_flow room number row.now arrows.now }
 {

@@ -10,21 +10,22 @@ use crate::flow::{Flow, row_flow};
 use lrc_chart_model::{Arrow, Band, Lost, Picture, Row};
 use std::alloc::{AllocError, Global};
 
-/// How many letters fit beside each other in a box, by how many columns there are.
+/// Returns the width of a box in letters (20 to 36), by the number of columns.
 pub(crate) fn room_of(columns: usize) -> u32
     ensures { result ≡ room_of columns }
 {
     (175 / columns.max(1)).min(36).max(20) as u32
 }
 
-/// How many pixels there are between two columns.
+/// Returns the gap between two columns in pixels (56 to 120), by the number of columns.
 pub(crate) fn gap_of(columns: usize) -> u64
     ensures { result ≡ gap_of columns }
 {
     (460 / columns.max(1)).min(120).max(56) as u64
 }
 
-/// The box of a row: its column, its top, how high it is, how many letters it has beside each other, and whether an arrow begins or ends there.
+/// The box of a row: its column, its top and height in pixels, its width in letters, and whether an arrow begins or
+/// ends at it.
 #[derive(Clone, Copy)]
 pub(crate) struct Frame {
     pub column: u8,
@@ -140,7 +141,7 @@ fn frame_below(picture: &Picture, above: &[Frame], row: &Row) -> Frame
     frame_of(picture, above, flow, row)
 }
 
-/// The boxes of all rows.
+/// Returns the boxes of all rows.
 pub(crate) fn frames_of(alloc: Global, picture: &Picture) -> Result<Vec<Frame>, AllocError>
     ensures { IfOk result (λ frames. frames.items ≡ frames_of picture.now) }
 {
@@ -152,7 +153,7 @@ pub(crate) fn frames_of(alloc: Global, picture: &Picture) -> Result<Vec<Frame>, 
     Ok(frames)
 }
 
-/// The box of a row.
+/// Returns the box of the row at a place.
 pub(crate) fn frame_at(frames: &[Frame], number: usize) -> Frame
     ensures { result ≡ frame_at frames.now number }
 {
@@ -169,7 +170,7 @@ pub(crate) fn frame_at(frames: &[Frame], number: usize) -> Frame
     }
 }
 
-/// The lowest foot of the first so many boxes.
+/// Returns the lowest foot among the first `count` boxes.
 pub(crate) fn first_foot(frames: &[Frame], count: usize) -> u128
     ensures few { result < 2 ^ 66 }
     ensures exact { result ≡ rows_foot (take (min count (length frames.now)) frames.now) }
@@ -178,7 +179,7 @@ pub(crate) fn first_foot(frames: &[Frame], count: usize) -> u128
     rows_foot(&frames[..last])
 }
 
-/// The lowest foot of these boxes.
+/// Returns the lowest foot among these boxes.
 pub(crate) fn rows_foot(frames: &[Frame]) -> u128
     ensures few { result < 2 ^ 66 }
     ensures exact { result ≡ rows_foot frames.now }

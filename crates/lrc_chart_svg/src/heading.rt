@@ -24,14 +24,15 @@ const CROSSED: &[u8] = b"h23 m-5 -5 l10 10 m-10 0 l10 -10";
 
 const KNOTTED: &[u8] = b"m0 -4 v8 m0 -4 h28 m0 -4 v8";
 
-/// Adds the ground and the title.
+/// Adds the background and the title.
 pub(crate) fn push_title(
     alloc: Global,
     contents: &mut Vec<Content>,
     size: Point,
     title: &[u8],
 ) -> Result<(), AllocError>
-    ensures { OnOk result (all_marks contents.new.items ≡ all_marks contents.old.items ++ title_marks size.x size.y title.now) }
+    ensures { OnOk result (all_marks contents.new.items
+        ≡ all_marks contents.old.items ++ title_marks size.x size.y title.now) }
 {
     let ground = Area {
         x: 0,
@@ -50,7 +51,8 @@ fn push_named(
     x: u16,
     name: &[u8],
 ) -> Result<(), AllocError>
-    ensures { OnOk result (all_marks contents.new.items ≡ all_marks contents.old.items ++ words_from (x + 34) (decimal 48) name.now ∷ []) }
+    ensures { OnOk result (all_marks contents.new.items
+        ≡ all_marks contents.old.items ++ words_from (x + 34) (decimal 48) name.now ∷ []) }
 {
     let at = Point {
         x: u128::from(x) + 34,
@@ -67,7 +69,8 @@ fn push_sample(
     kind: Kind,
     name: &[u8],
 ) -> Result<(), AllocError>
-    ensures { OnOk result (all_marks contents.new.items ≡ all_marks contents.old.items ++ sample x kind name.now) }
+    ensures { OnOk result (all_marks contents.new.items
+        ≡ all_marks contents.old.items ++ sample x kind name.now) }
 {
     let area = Area {
         x: u128::from(x),
@@ -89,7 +92,8 @@ fn push_stroke(
     name: &[u8],
 ) -> Result<(), AllocError>
     requires { begins_with_digit strokes.now ≡ false }
-    ensures { OnOk result (all_marks contents.new.items ≡ all_marks contents.old.items ++ line x strokes.now style.dashes.now name.now) }
+    ensures { OnOk result (all_marks contents.new.items
+        ≡ all_marks contents.old.items ++ line x strokes.now style.dashes.now name.now) }
 {
     let at = Point {
         x: u128::from(x),
@@ -101,7 +105,8 @@ fn push_stroke(
 
 // Adds what boxes are.
 fn push_samples(alloc: Global, contents: &mut Vec<Content>) -> Result<(), AllocError>
-    ensures { OnOk result (all_marks contents.new.items ≡ all_marks contents.old.items ++ samples_named) }
+    ensures { OnOk result (all_marks contents.new.items
+        ≡ all_marks contents.old.items ++ samples_named) }
 {
     push_sample(alloc, contents, 8, Kind::Act, b"act")?;
     push_sample(alloc, contents, 80, Kind::Wait, b"waits")?;
@@ -112,7 +117,8 @@ fn push_samples(alloc: Global, contents: &mut Vec<Content>) -> Result<(), AllocE
 
 // Adds what lines are.
 fn push_lines(alloc: Global, contents: &mut Vec<Content>) -> Result<(), AllocError>
-    ensures { OnOk result (all_marks contents.new.items ≡ all_marks contents.old.items ++ lines_named) }
+    ensures { OnOk result (all_marks contents.new.items
+        ≡ all_marks contents.old.items ++ lines_named) }
 {
     push_stroke(
         alloc,
@@ -158,7 +164,8 @@ fn push_lines(alloc: Global, contents: &mut Vec<Content>) -> Result<(), AllocErr
 
 // Adds what boxes and lines are.
 fn push_signs(alloc: Global, contents: &mut Vec<Content>) -> Result<(), AllocError>
-    ensures { OnOk result (all_marks contents.new.items ≡ all_marks contents.old.items ++ signs_named) }
+    ensures { OnOk result (all_marks contents.new.items
+        ≡ all_marks contents.old.items ++ signs_named) }
 {
     push_samples(alloc, contents)?;
     push_lines(alloc, contents)
@@ -172,7 +179,8 @@ fn push_told(
     colour: &'static [u8],
     name: &[u8],
 ) -> Result<(), AllocError>
-    ensures { OnOk result (all_marks contents.new.items ≡ all_marks contents.old.items ++ told x name.now) }
+    ensures { OnOk result (all_marks contents.new.items
+        ≡ all_marks contents.old.items ++ told x name.now) }
 {
     let at = Point {
         x: u128::from(x),
@@ -183,7 +191,8 @@ fn push_told(
 
 // Adds what words in a box are.
 fn push_words(alloc: Global, contents: &mut Vec<Content>) -> Result<(), AllocError>
-    ensures { OnOk result (all_marks contents.new.items ≡ all_marks contents.old.items ++ words_named) }
+    ensures { OnOk result (all_marks contents.new.items
+        ≡ all_marks contents.old.items ++ words_named) }
 {
     push_told(alloc, contents, 8, INK, b"in a box:")?;
     push_told(alloc, contents, 90, INK, b"what was done")?;
@@ -194,7 +203,8 @@ fn push_words(alloc: Global, contents: &mut Vec<Content>) -> Result<(), AllocErr
 
 /// Adds the legend.
 pub(crate) fn push_legend(alloc: Global, contents: &mut Vec<Content>) -> Result<(), AllocError>
-    ensures { OnOk result (all_marks contents.new.items ≡ all_marks contents.old.items ++ legend_marks) }
+    ensures { OnOk result (all_marks contents.new.items
+        ≡ all_marks contents.old.items ++ legend_marks) }
 {
     push_signs(alloc, contents)?;
     push_words(alloc, contents)
@@ -230,7 +240,7 @@ fn push_column(
     push_label(alloc, contents, at, Hand::bold(), name.as_slice())
 }
 
-/// Adds the columns, down to a height.
+/// Adds the columns, down to a given height.
 pub(crate) fn push_columns(
     alloc: Global,
     contents: &mut Vec<Content>,
@@ -238,7 +248,8 @@ pub(crate) fn push_columns(
     foot: u128,
     names: &[Vec<u8>],
 ) -> Result<(), AllocError>
-    ensures { OnOk result (all_marks contents.new.items ≡ all_marks contents.old.items ++ each (column_marks (plan_in layout.now) foot) names.now) }
+    ensures { OnOk result (all_marks contents.new.items
+        ≡ all_marks contents.old.items ++ each (column_marks (plan_in layout.now) foot) names.now) }
 {
     for (column, name) in names.iter().enumerate() {
         push_column(alloc, contents, layout.lane(column), foot, name)?;

@@ -8,7 +8,7 @@ use crate::frames::{Frame, gap_of};
 use lrc_chart_model::{Lost, Picture};
 use std::alloc::{AllocError, Global};
 
-/// Where a column begins and ends.
+/// The left and right edges of a column.
 #[derive(Clone, Copy)]
 pub(crate) struct Lane {
     pub left: u64,
@@ -46,7 +46,7 @@ fn lane_letters(column: usize, name: &[u8], frames: &[Frame], lost: &[Lost]) -> 
     most_of_lost(column, most_of_rows(column, letters(name), frames), lost)
 }
 
-/// Where the next column begins behind these.
+/// Returns the left edge of the column that would follow these.
 pub(crate) fn next_left(gap: u64, lanes: &[Lane]) -> u128
     ensures few { result < 2 ^ 66 }
     ensures exact { result ≡ next_left gap lanes.now }
@@ -82,7 +82,7 @@ fn lane_behind(picture: &Picture, frames: &[Frame], lanes: &[Lane], name: &Vec<u
     lane_from(left, letters)
 }
 
-/// All columns.
+/// Returns all columns of a picture.
 pub(crate) fn lanes_by(
     alloc: Global,
     picture: &Picture,
@@ -98,7 +98,7 @@ pub(crate) fn lanes_by(
     Ok(lanes)
 }
 
-/// A column.
+/// Returns the column with this number.
 pub(crate) fn lane_at(lanes: &[Lane], column: usize) -> Lane
     ensures { result ≡ lane_at lanes.now column }
 {

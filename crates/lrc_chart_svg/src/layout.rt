@@ -5,7 +5,7 @@ use crate::lanes::{Lane, lane_at, lanes_by, next_left};
 use lrc_chart_model::{Band, Picture};
 use std::alloc::{AllocError, Global};
 
-/// The columns and the boxes of rows.
+/// The columns of a picture, and the boxes of its rows.
 #[derive(Drop)]
 pub(crate) struct Layout {
     lanes: Vec<Lane>,
@@ -20,7 +20,7 @@ impl Layout {
     ghost use Rattle.lrc_chart_svg.specs.Rooms.{room_of};
     ghost use Rattle.lrc_chart_svg.specs.Widths.{lane_at, next_left};
 
-    /// The layout of a picture.
+    /// Computes the layout of a picture.
     pub(crate) fn of(alloc: Global, picture: &Picture) -> Result<Layout, AllocError>
         ensures { IfOk result (λ layout. plan_in layout ≡ plan_of picture.now) }
     {
@@ -29,21 +29,21 @@ impl Layout {
         Ok(Layout { lanes, frames })
     }
 
-    /// A column.
+    /// Returns the column with this number.
     pub(crate) fn lane(&self, column: usize) -> Lane
         ensures { result ≡ lane_at self.now.lanes.items column }
     {
         lane_at(&self.lanes, column)
     }
 
-    /// The box of a row.
+    /// Returns the box of the row at a place.
     pub(crate) fn frame(&self, number: usize) -> Frame
         ensures { result ≡ frame_at self.now.frames.items number }
     {
         frame_at(&self.frames, number)
     }
 
-    /// The height of the middle of a row's first line.
+    /// Returns the height of the middle of a row's first line.
     pub(crate) fn height(&self, row: usize) -> u128
         ensures least { 8 ≤ result }
         ensures most { result < 2 ^ 66 }
@@ -52,7 +52,7 @@ impl Layout {
         u128::from(self.frame(row).top) + 8
     }
 
-    /// The lowest foot of all boxes.
+    /// Returns the lowest foot of all boxes.
     pub(crate) fn foot(&self) -> u128
         ensures most { result < 2 ^ 66 }
         ensures exact { result ≡ rows_foot self.now.frames.items }
@@ -60,7 +60,7 @@ impl Layout {
         rows_foot(&self.frames)
     }
 
-    /// The height of a line below all rows.
+    /// Returns the height of a line below all rows, with `lines` lines above it there.
     pub(crate) fn line_height(&self, lines: u128) -> u128
         requires { lines < 2 ^ 68 }
         ensures most { result < 2 ^ 74 }
@@ -69,7 +69,7 @@ impl Layout {
         self.foot() + 20 + 20 * lines
     }
 
-    /// The foot of a band.
+    /// Returns the foot of a band.
     pub(crate) fn band_foot(&self, band: &Band) -> u128
         ensures { result ≡ band_foot (plan_in self.now) band.now }
     {
@@ -77,7 +77,7 @@ impl Layout {
         first_foot(&self.frames, count) + 4
     }
 
-    /// Where a column would begin behind the last one.
+    /// Returns the left edge of the column that would follow the last one.
     pub(crate) fn next_left(&self, gap: u64) -> u128
         ensures most { result < 2 ^ 66 }
         ensures exact { result ≡ next_left gap self.now.lanes.items }
@@ -85,7 +85,7 @@ impl Layout {
         next_left(gap, &self.lanes)
     }
 
-    /// How many letters fit beside each other in a box.
+    /// Returns the width of a box in letters.
     pub(crate) fn room(&self) -> u32
         ensures { result ≡ room_of (length self.now.lanes.items) }
     {

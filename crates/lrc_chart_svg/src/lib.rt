@@ -1,5 +1,6 @@
-//! What a picture of a run shows, laid out as a tree of elements. What is shown, where it stands and how large it is, is
-//! `specs/Shown.antt`, and how large the whole is `specs/Root.antt`; colours, and how thick lines and letters are, are code alone.
+//! Draws the picture of a run as an SVG document: a tree of elements. `specs/Shown.antt` defines the elements, their
+//! places and their sizes; `specs/Root.antt` defines the size of the whole. Colours, line widths and letter sizes are
+//! in the code only.
 #![tactic(auto)]
 
 mod arrows;

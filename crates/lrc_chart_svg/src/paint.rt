@@ -8,18 +8,18 @@ ghost use Rattle.lrc_chart_svg.specs.Flow.{wide};
 
 use crate::flow::width;
 use crate::style::{Anchor, GROUND, Hand, Style};
-use itoa::Buffer;
 use lrc_svg::{Attribute, Content, Key, Tag};
+use lrc_text::push_wide_number;
 use std::alloc::{AllocError, Global};
 
-/// A place, from the left and from the top.
+/// A point: its distance from the left and from the top.
 #[derive(Clone, Copy)]
 pub(crate) struct Point {
     pub x: u128,
     pub y: u128,
 }
 
-/// An area, by its corner and its size.
+/// A rectangle: its upper left corner and its size.
 #[derive(Clone, Copy)]
 pub(crate) struct Area {
     pub x: u128,
@@ -32,13 +32,13 @@ pub(crate) struct Area {
 pub(crate) fn push_number(text: &mut Vec<u8>, number: u128) -> Result<(), AllocError>
     ensures { OnOk result (text.new.items ≡ text.old.items ++ decimal number) }
 {
-    let mut digits = Buffer::new();
-    text.extend_from_slice(digits.format(number).as_bytes())
+    push_wide_number(text, b"", number)
 }
 
-/// Adds how far a place is from the left, and how far from the top.
+/// Adds the coordinates of a point: the distance from the left, a blank, and the distance from the top.
 pub(crate) fn push_point(text: &mut Vec<u8>, point: Point) -> Result<(), AllocError>
-    ensures { OnOk result (text.new.items ≡ text.old.items ++ decimal point.x ++ codes " " ++ decimal point.y) }
+    ensures { OnOk result (text.new.items
+        ≡ text.old.items ++ decimal point.x ++ codes " " ++ decimal point.y) }
 {
     push_number(text, point.x)?;
     text.extend_from_slice(b" ")?;
@@ -54,7 +54,7 @@ fn pixels(alloc: Global, number: u128) -> Result<Vec<u8>, AllocError>
     Ok(text)
 }
 
-/// A copy of these words.
+/// Returns a copy of these words.
 pub(crate) fn bytes(alloc: Global, words: &[u8]) -> Result<Vec<u8>, AllocError>
     ensures { IfOk result (λ text. text.items ≡ words.now) }
 {
@@ -76,32 +76,35 @@ pub(crate) fn push_attribute(
     key: Key,
     value: Vec<u8>,
 ) -> Result<(), AllocError>
-    ensures { OnOk result (said attributes.new.items ≡ said attributes.old.items ++ (key, value.items) ∷ []) }
+    ensures { OnOk result (said attributes.new.items
+        ≡ said attributes.old.items ++ (key, value.items) ∷ []) }
 {
     attributes.push(Attribute { key, value })?;
     Ok(())
 }
 
-/// Adds an attribute that is a number of pixels.
+/// Adds an attribute whose value is a number of pixels.
 pub(crate) fn push_pixels(
     alloc: Global,
     attributes: &mut Vec<Attribute>,
     key: Key,
     number: u128,
 ) -> Result<(), AllocError>
-    ensures { OnOk result (said attributes.new.items ≡ said attributes.old.items ++ (key, decimal number) ∷ []) }
+    ensures { OnOk result (said attributes.new.items
+        ≡ said attributes.old.items ++ (key, decimal number) ∷ []) }
 {
     push_attribute(attributes, key, pixels(alloc, number)?)
 }
 
-/// Adds an attribute that is these words.
+/// Adds an attribute with these words as its value.
 pub(crate) fn push_value(
     alloc: Global,
     attributes: &mut Vec<Attribute>,
     key: Key,
     words: &[u8],
 ) -> Result<(), AllocError>
-    ensures { OnOk result (said attributes.new.items ≡ said attributes.old.items ++ (key, words.now) ∷ []) }
+    ensures { OnOk result (said attributes.new.items
+        ≡ said attributes.old.items ++ (key, words.now) ∷ []) }
 {
     push_attribute(attributes, key, bytes(alloc, words)?)
 }
@@ -109,7 +112,8 @@ pub(crate) fn push_value(
 // Adds where an area is, and how large.
 fn push_area(alloc: Global, attributes: &mut Vec<Attribute>, area: Area) -> Result<(), AllocError>
     ensures { OnOk result (said attributes.new.items ≡ said attributes.old.items
-        ++ (Key.X, decimal area.x) ∷ (Key.Y, decimal area.y) ∷ (Key.Width, decimal area.width) ∷ (Key.Height, decimal area.height) ∷ []) }
+        ++ (Key.X, decimal area.x) ∷ (Key.Y, decimal area.y) ∷ (Key.Width, decimal area.width)
+        ∷ (Key.Height, decimal area.height) ∷ []) }
 {
     push_pixels(alloc, attributes, Key::X, area.x)?;
     push_pixels(alloc, attributes, Key::Y, area.y)?;
@@ -125,7 +129,8 @@ fn push_ends(
     to: Point,
 ) -> Result<(), AllocError>
     ensures { OnOk result (said attributes.new.items ≡ said attributes.old.items
-        ++ (Key.FromX, decimal from.x) ∷ (Key.FromY, decimal from.y) ∷ (Key.ToX, decimal to.x) ∷ (Key.ToY, decimal to.y) ∷ []) }
+        ++ (Key.FromX, decimal from.x) ∷ (Key.FromY, decimal from.y) ∷ (Key.ToX, decimal to.x)
+        ∷ (Key.ToY, decimal to.y) ∷ []) }
 {
     push_pixels(alloc, attributes, Key::FromX, from.x)?;
     push_pixels(alloc, attributes, Key::FromY, from.y)?;
@@ -141,7 +146,8 @@ fn push_points(
     strokes: &[u8],
 ) -> Result<(), AllocError>
     ensures { OnOk result (said attributes.new.items ≡ said attributes.old.items
-        ++ (Key.Points, codes "M" ++ decimal start.x ++ codes " " ++ decimal start.y ++ strokes.now) ∷ []) }
+        ++ (Key.Points, codes "M" ++ decimal start.x ++ codes " " ++ decimal start.y ++ strokes.now)
+        ∷ []) }
 {
     let mut points = bytes(alloc, b"M")?;
     push_point(&mut points, start)?;
@@ -156,7 +162,8 @@ fn push_line_style(
     style: Style,
 ) -> Result<(), AllocError>
     ensures { OnOk result (said attributes.new.items ≡ said attributes.old.items
-        ++ (Key.Stroke, style.stroke.now) ∷ (Key.StrokeWidth, style.width.now) ∷ (Key.Dashes, style.dashes.now) ∷ []) }
+        ++ (Key.Stroke, style.stroke.now) ∷ (Key.StrokeWidth, style.width.now)
+        ∷ (Key.Dashes, style.dashes.now) ∷ []) }
 {
     push_value(alloc, attributes, Key::Stroke, style.stroke)?;
     push_value(alloc, attributes, Key::StrokeWidth, style.width)?;
@@ -205,7 +212,8 @@ fn push_element(
 ) -> Result<(), AllocError>
     requires { named_once attributes.items ≡ true }
     ensures { OnOk result (all_marks contents.new.items
-        ≡ all_marks contents.old.items ++ own tag attributes.items (all_words inside.items) ++ held tag (all_marks inside.items) ++ behind tag) }
+        ≡ all_marks contents.old.items ++ own tag attributes.items (all_words inside.items)
+        ++ held tag (all_marks inside.items) ++ behind tag) }
 {
     contents.push(Content::Element(tag, attributes, inside))?;
     Ok(())
@@ -219,7 +227,8 @@ pub(crate) fn push_box(
     style: Style,
 ) -> Result<(), AllocError>
     ensures { OnOk result (all_marks contents.new.items ≡ all_marks contents.old.items
-        ++ box (decimal area.x) (decimal area.y) (decimal area.width) (decimal area.height) style.width.now style.dashes.now ∷ []) }
+        ++ box (decimal area.x) (decimal area.y) (decimal area.width)
+        (decimal area.height) style.width.now style.dashes.now ∷ []) }
 {
     let mut attributes = Vec::new(alloc);
     push_area(alloc, &mut attributes, area)?;
@@ -227,7 +236,7 @@ pub(crate) fn push_box(
     push_element(contents, Tag::Box, attributes, Vec::new(alloc))
 }
 
-/// Adds a shape from a place on, by strokes.
+/// Adds a shape that begins at a point and goes on by these strokes.
 pub(crate) fn push_path(
     alloc: Global,
     contents: &mut Vec<Content>,
@@ -237,7 +246,8 @@ pub(crate) fn push_path(
 ) -> Result<(), AllocError>
     requires { begins_with_digit strokes.now ≡ false }
     ensures { OnOk result (all_marks contents.new.items
-        ≡ all_marks contents.old.items ++ path (decimal start.x) (decimal start.y) strokes.now style.dashes.now ∷ []) }
+        ≡ all_marks contents.old.items
+        ++ path (decimal start.x) (decimal start.y) strokes.now style.dashes.now ∷ []) }
 {
     let mut attributes = Vec::new(alloc);
     push_points(alloc, &mut attributes, start, strokes)?;
@@ -254,7 +264,9 @@ pub(crate) fn push_line(
     style: Style,
 ) -> Result<(), AllocError>
     ensures { OnOk result (all_marks contents.new.items
-        ≡ all_marks contents.old.items ++ stroke (decimal from.x) (decimal from.y) (decimal to.x) (decimal to.y) style.dashes.now ∷ []) }
+        ≡ all_marks contents.old.items
+        ++ stroke (decimal from.x) (decimal from.y) (decimal to.x)
+        (decimal to.y) style.dashes.now ∷ []) }
 {
     let mut attributes = Vec::new(alloc);
     push_ends(alloc, &mut attributes, from, to)?;
@@ -262,7 +274,7 @@ pub(crate) fn push_line(
     push_element(contents, Tag::Line, attributes, Vec::new(alloc))
 }
 
-/// Adds words, whose foot is at this height.
+/// Adds words with their foot at this height.
 pub(crate) fn push_label(
     alloc: Global,
     contents: &mut Vec<Content>,
@@ -271,7 +283,8 @@ pub(crate) fn push_label(
     words: &[u8],
 ) -> Result<(), AllocError>
     ensures { OnOk result (all_marks contents.new.items
-        ≡ all_marks contents.old.items ++ word (decimal at.x) (decimal at.y) (anchor_word hand.anchor) words.now ∷ []) }
+        ≡ all_marks contents.old.items
+        ++ word (decimal at.x) (decimal at.y) (anchor_word hand.anchor) words.now ∷ []) }
 {
     let mut attributes = Vec::new(alloc);
     push_hand(alloc, &mut attributes, at, hand)?;
@@ -299,7 +312,7 @@ fn plate(at: Point, anchor: Anchor, letters: usize) -> Area
     }
 }
 
-/// Adds words on an area of the ground's colour, so that no line goes through them.
+/// Adds words on an area in the background's colour, so that no line crosses them.
 pub(crate) fn push_plated(
     alloc: Global,
     contents: &mut Vec<Content>,
@@ -307,7 +320,8 @@ pub(crate) fn push_plated(
     hand: Hand,
     words: &[u8],
 ) -> Result<(), AllocError>
-    ensures { OnOk result (all_marks contents.new.items ≡ all_marks contents.old.items ++ plated hand.anchor at.x at.y words.now) }
+    ensures { OnOk result (all_marks contents.new.items
+        ≡ all_marks contents.old.items ++ plated hand.anchor at.x at.y words.now) }
 {
     let area = plate(at, hand.anchor, words.len());
     push_box(alloc, contents, area, Style::plain(GROUND))?;
@@ -320,18 +334,20 @@ pub(crate) fn push_hint(
     contents: &mut Vec<Content>,
     words: &[u8],
 ) -> Result<(), AllocError>
-    ensures { OnOk result (all_marks contents.new.items ≡ all_marks contents.old.items ++ hint words.now ∷ []) }
+    ensures { OnOk result (all_marks contents.new.items
+        ≡ all_marks contents.old.items ++ hint words.now ∷ []) }
 {
     push_element(contents, Tag::Hint, Vec::new(alloc), text_of(alloc, words)?)
 }
 
-/// Adds elements as one group.
+/// Adds some elements as one group.
 pub(crate) fn push_group(
     alloc: Global,
     contents: &mut Vec<Content>,
     inside: Vec<Content>,
 ) -> Result<(), AllocError>
-    ensures { OnOk result (all_marks contents.new.items ≡ all_marks contents.old.items ++ begins ∷ (all_marks inside.items ++ ends ∷ [])) }
+    ensures { OnOk result (all_marks contents.new.items
+        ≡ all_marks contents.old.items ++ begins ∷ (all_marks inside.items ++ ends ∷ [])) }
 {
     push_element(contents, Tag::Group, Vec::new(alloc), inside)
 }

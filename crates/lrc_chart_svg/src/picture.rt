@@ -39,7 +39,8 @@ fn push_attributes(
     attributes: &mut Vec<Attribute>,
     size: Point,
 ) -> Result<(), AllocError>
-    ensures { OnOk result (said attributes.new.items ≡ said attributes.old.items ++ whole_said size.x size.y) }
+    ensures { OnOk result (said attributes.new.items
+        ≡ said attributes.old.items ++ whole_said size.x size.y) }
 {
     push_value(alloc, attributes, Key::Space, b"http://www.w3.org/2000/svg")?;
     push_size(alloc, attributes, size)?;
@@ -55,7 +56,8 @@ fn push_attributes(
 // The attributes of the whole.
 fn attributes_of(alloc: Global, size: Point) -> Result<Vec<Attribute>, AllocError>
     ensures once { IfOk result (λ attributes. named_once attributes.items ≡ true) }
-    ensures space { IfOk result (λ attributes. attribute_value is_space attributes.items ≡ codes "http://www.w3.org/2000/svg") }
+    ensures space { IfOk result (λ attributes. attribute_value is_space attributes.items
+        ≡ codes "http://www.w3.org/2000/svg") }
     ensures said { IfOk result (λ attributes. said attributes.items ≡ whole_said size.x size.y) }
 {
     let mut attributes = Vec::new(alloc);
@@ -72,7 +74,8 @@ fn push_ground(
     picture: &Picture,
 ) -> Result<(), AllocError>
     ensures { OnOk result (all_marks contents.new.items
-        ≡ all_marks contents.old.items ++ ground_marks (plan_in layout.now) size.whole.x size.foot picture.now) }
+        ≡ all_marks contents.old.items
+        ++ ground_marks (plan_in layout.now) size.whole.x size.foot picture.now) }
 {
     push_bands(
         alloc,
@@ -97,7 +100,8 @@ fn push_run(
     layout: &Layout,
     picture: &Picture,
 ) -> Result<(), AllocError>
-    ensures { OnOk result (all_marks contents.new.items ≡ all_marks contents.old.items ++ run_marks (plan_in layout.now) picture.now) }
+    ensures { OnOk result (all_marks contents.new.items
+        ≡ all_marks contents.old.items ++ run_marks (plan_in layout.now) picture.now) }
 {
     push_arrows(alloc, contents, layout, picture.arrows.as_slice())?;
     push_all_lost(alloc, contents, layout, picture.lost.as_slice())?;
@@ -124,7 +128,8 @@ fn push_foot(
     layout: &Layout,
     picture: &Picture,
 ) -> Result<(), AllocError>
-    ensures { OnOk result (all_marks contents.new.items ≡ all_marks contents.old.items ++ foot_marks (plan_in layout.now) picture.now) }
+    ensures { OnOk result (all_marks contents.new.items
+        ≡ all_marks contents.old.items ++ foot_marks (plan_in layout.now) picture.now) }
 {
     let used = picture.lost.len() as u128 + picture.races.len() as u128;
     push_lost_labels(alloc, contents, layout, picture.lost.as_slice())?;
@@ -165,7 +170,8 @@ fn push_picture(
     requires near { size.left < 2 ^ 70 }
     requires source { size.source ≡ source_wide picture.now.source.items }
     ensures { OnOk result (all_marks contents.new.items ≡ all_marks contents.old.items
-        ++ marks_by (plan_in layout.now) size.whole.x size.whole.y size.foot size.left picture.now) }
+        ++ marks_by (plan_in layout.now) size.whole.x size.whole.y size.foot size.left
+        picture.now) }
 {
     push_title(alloc, contents, size.whole, picture.title.as_slice())?;
     push_legend(alloc, contents)?;
@@ -174,12 +180,13 @@ fn push_picture(
     push_side(alloc, contents, layout, size, picture)
 }
 
-/// The picture as a document: what it shows, in order, and how large it is, are the definitions'. Its elements are those of scalable vector
-/// graphics.
+/// Returns the picture as an SVG document. The specifications define its content, in order, and its size.
 pub fn document_of(alloc: Global, picture: &Picture) -> Result<Document, AllocError>
-    ensures shown { IfOk result (λ document. all_marks document.inside.items ≡ picture_marks picture.now) }
+    ensures shown { IfOk result (λ document. all_marks document.inside.items
+        ≡ picture_marks picture.now) }
     ensures once { IfOk result (λ document. named_once document.attributes.items ≡ true) }
-    ensures space { IfOk result (λ document. attribute_value is_space document.attributes.items ≡ codes "http://www.w3.org/2000/svg") }
+    ensures space { IfOk result (λ document. attribute_value is_space document.attributes.items
+        ≡ codes "http://www.w3.org/2000/svg") }
     ensures root { IfOk result (λ document. IsRootOf picture.now document.attributes.items) }
 {
     let layout = Layout::of(alloc, picture)?;

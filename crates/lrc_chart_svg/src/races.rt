@@ -31,7 +31,8 @@ fn push_knotted(
     to: Point,
 ) -> Result<(), AllocError>
     ensures { OnOk result (all_marks inside.new.items
-        ≡ all_marks inside.old.items ++ knotted (decimal from.x) (decimal from.y) (decimal to.x) (decimal to.y)) }
+        ≡ all_marks inside.old.items
+        ++ knotted (decimal from.x) (decimal from.y) (decimal to.x) (decimal to.y)) }
 {
     push_line(alloc, inside, from, to, Style::line(RACE, b"3"))?;
     push_path(alloc, inside, from, KNOT, Style::plain(RACE))?;
@@ -58,7 +59,8 @@ fn push_beside(
     name: &[u8],
 ) -> Result<(), AllocError>
     ensures { OnOk result (all_marks inside.new.items
-        ≡ all_marks inside.old.items ++ plated (beside_anchor from to) (beside (plan_in layout.now) from to) foot name.now) }
+        ≡ all_marks inside.old.items
+        ++ plated (beside_anchor from to) (beside (plan_in layout.now) from to) foot name.now) }
 {
     let way = Span::between(layout, from, to);
     let at = Point {
@@ -77,7 +79,8 @@ fn push_race_ends(
     name: &[u8],
 ) -> Result<(), AllocError>
     ensures { OnOk result (all_marks inside.new.items ≡ all_marks inside.old.items
-        ++ race_ends (plan_in layout.now) race.now.from race.now.first race.now.to race.now.second name.now) }
+        ++ race_ends (plan_in layout.now) race.now.from race.now.first race.now.to race.now.second
+        name.now) }
 {
     let above = layout.height(race.from) - 6;
     let below = layout.height(race.to) + 15;
@@ -93,7 +96,8 @@ fn push_race_words(
     name: &[u8],
     words: &[u8],
 ) -> Result<(), AllocError>
-    ensures { OnOk result (all_marks inside.new.items ≡ all_marks inside.old.items ++ race_words (decimal foot) name.now words.now) }
+    ensures { OnOk result (all_marks inside.new.items
+        ≡ all_marks inside.old.items ++ race_words (decimal foot) name.now words.now) }
 {
     let before = Point { x: 78, y: foot };
     let at = Point { x: 84, y: foot };
@@ -115,8 +119,10 @@ fn push_race_line(
     race: &Race,
 ) -> Result<(), AllocError>
     ensures { OnOk result (all_marks inside.new.items ≡ all_marks inside.old.items
-        ++ knotted (decimal (start_side (plan_in layout.now) race.now.first race.now.second)) (middle (plan_in layout.now) race.now.from)
-        (decimal (end_side (plan_in layout.now) race.now.first race.now.second)) (middle (plan_in layout.now) race.now.to)) }
+        ++ knotted (decimal (start_side (plan_in layout.now) race.now.first race.now.second))
+        (middle (plan_in layout.now) race.now.from)
+        (decimal (end_side (plan_in layout.now) race.now.first race.now.second))
+        (middle (plan_in layout.now) race.now.to)) }
 {
     let way = Span::between(layout, race.first, race.second);
     let from = Point {
@@ -152,7 +158,7 @@ fn push_race(
     push_group(alloc, contents, inside)
 }
 
-/// Adds groups of races.
+/// Adds the groups of races.
 pub(crate) fn push_races(
     alloc: Global,
     contents: &mut Vec<Content>,
@@ -160,7 +166,8 @@ pub(crate) fn push_races(
     used: usize,
     races: &[Race],
 ) -> Result<(), AllocError>
-    ensures { OnOk result (all_marks contents.new.items ≡ all_marks contents.old.items ++ each (race_marks (plan_in layout.now) used) races.now) }
+    ensures { OnOk result (all_marks contents.new.items
+        ≡ all_marks contents.old.items ++ each (race_marks (plan_in layout.now) used) races.now) }
 {
     for (place, race) in races.iter().enumerate() {
         push_race(alloc, contents, layout, used, place, race)?;
@@ -176,7 +183,8 @@ fn push_band(
     width: u128,
     band: &Band,
 ) -> Result<(), AllocError>
-    ensures { OnOk result (all_marks contents.new.items ≡ all_marks contents.old.items ++ band_marks (plan_in layout.now) width band.now) }
+    ensures { OnOk result (all_marks contents.new.items
+        ≡ all_marks contents.old.items ++ band_marks (plan_in layout.now) width band.now) }
 {
     let first = u128::from(layout.frame(band.from).top);
     let top = first.saturating_sub(4);
@@ -194,7 +202,7 @@ fn push_band(
     push_label(alloc, contents, at, Hand::plain(INK), band.label.as_slice())
 }
 
-/// Adds barriers.
+/// Adds the bands of barriers.
 pub(crate) fn push_bands(
     alloc: Global,
     contents: &mut Vec<Content>,
@@ -202,7 +210,9 @@ pub(crate) fn push_bands(
     width: u128,
     bands: &[Band],
 ) -> Result<(), AllocError>
-    ensures { OnOk result (all_marks contents.new.items ≡ all_marks contents.old.items ++ flat_map (band_marks (plan_in layout.now) width) bands.now) }
+    ensures { OnOk result (all_marks contents.new.items
+        ≡ all_marks contents.old.items
+        ++ flat_map (band_marks (plan_in layout.now) width) bands.now) }
 {
     for band in bands {
         push_band(alloc, contents, layout, width, band)?;
@@ -221,7 +231,8 @@ fn push_deadlock(
 ) -> Result<(), AllocError>
     requires { used < 2 ^ 66 }
     ensures { OnOk result (all_marks contents.new.items
-        ≡ all_marks contents.old.items ++ deadlock_marks (plan_in layout.now) used place words.now) }
+        ≡ all_marks contents.old.items
+        ++ deadlock_marks (plan_in layout.now) used place words.now) }
 {
     let at = Point {
         x: 8,
@@ -230,7 +241,7 @@ fn push_deadlock(
     push_label(alloc, contents, at, Hand::plain(RACE), words.as_slice())
 }
 
-/// Adds circles of waiting.
+/// Adds the circles of waiting nodes (deadlocks).
 pub(crate) fn push_deadlocks(
     alloc: Global,
     contents: &mut Vec<Content>,
@@ -240,7 +251,8 @@ pub(crate) fn push_deadlocks(
 ) -> Result<(), AllocError>
     requires { used < 2 ^ 66 }
     ensures { OnOk result (all_marks contents.new.items
-        ≡ all_marks contents.old.items ++ each (deadlock_marks (plan_in layout.now) used) deadlocks.now) }
+        ≡ all_marks contents.old.items
+        ++ each (deadlock_marks (plan_in layout.now) used) deadlocks.now) }
 {
     for (place, words) in deadlocks.iter().enumerate() {
         push_deadlock(alloc, contents, layout, used, place, words)?;

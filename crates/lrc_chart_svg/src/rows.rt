@@ -36,7 +36,8 @@ fn push_framed(
     requires high { frame.height < 2 ^ 66 }
     requires wide { frame.width < 2 ^ 66 }
     ensures { OnOk result (all_marks inside.new.items ≡ all_marks inside.old.items
-        ++ frame_marks frame.x frame.y frame.width frame.height row.now.kind row.now.closes row.now.circled) }
+        ++ frame_marks frame.x frame.y frame.width frame.height row.now.kind row.now.closes
+        row.now.circled) }
 {
     push_box(alloc, inside, frame, Style::row(row.kind))?;
     push_rule(alloc, inside, frame, row.closes)?;
@@ -53,7 +54,8 @@ fn push_rule(
     requires top { frame.y < 2 ^ 66 }
     requires high { frame.height < 2 ^ 66 }
     ensures { OnOk result (all_marks inside.new.items
-        ≡ all_marks inside.old.items ++ rule_marks frame.x (frame.y + frame.height) frame.width closes) }
+        ≡ all_marks inside.old.items
+        ++ rule_marks frame.x (frame.y + frame.height) frame.width closes) }
 {
     if closes {
         let rule = Area {
@@ -76,7 +78,8 @@ fn push_circle(
     requires high { frame.height < 2 ^ 66 }
     requires wide { frame.width < 2 ^ 66 }
     ensures { OnOk result (all_marks inside.new.items
-        ≡ all_marks inside.old.items ++ circle_marks frame.x frame.y frame.width frame.height circled) }
+        ≡ all_marks inside.old.items
+        ++ circle_marks frame.x frame.y frame.width frame.height circled) }
 {
     if circled {
         let around = Area {
@@ -123,7 +126,8 @@ fn push_last_phrase(
     words: &[u8],
 ) -> Result<(), AllocError>
     ensures { OnOk result (all_marks inside.new.items
-        ≡ all_marks inside.old.items ++ last_phrase sheet.right sheet.top sheet.room flow words.now) }
+        ≡ all_marks inside.old.items
+        ++ last_phrase sheet.right sheet.top sheet.room flow words.now) }
 {
     if words.is_empty() {
         return Ok(());
@@ -143,7 +147,8 @@ fn push_own_words(
     sheet: Sheet,
     row: &Row,
 ) -> Result<(), AllocError>
-    ensures { OnOk result (all_marks inside.new.items ≡ all_marks inside.old.items ++ own_words sheet.left sheet.top sheet.room row.now) }
+    ensures { OnOk result (all_marks inside.new.items
+        ≡ all_marks inside.old.items ++ own_words sheet.left sheet.top sheet.room row.now) }
 {
     let done = done_flow(sheet.room, row);
     let timed = timed_flow(sheet.room, row);
@@ -183,7 +188,8 @@ fn push_kind(
     arrow: &Arrow,
 ) -> Result<(), AllocError>
     ensures { OnOk result (all_marks inside.new.items
-        ≡ all_marks inside.old.items ++ kind_behind sheet.left sheet.top sheet.room number flow arrow.now) }
+        ≡ all_marks inside.old.items
+        ++ kind_behind sheet.left sheet.top sheet.room number flow arrow.now) }
 {
     if arrow.to == number {
         push_phrase(
@@ -208,7 +214,8 @@ fn push_kinds(
     arrows: &[Arrow],
 ) -> Result<(), AllocError>
     ensures { OnOk result (all_marks inside.new.items
-        ≡ all_marks inside.old.items ++ row_kinds sheet.left sheet.top sheet.room number row.now arrows.now) }
+        ≡ all_marks inside.old.items
+        ++ row_kinds sheet.left sheet.top sheet.room number row.now arrows.now) }
 {
     let mut flow = words_flow(sheet.room, row);
     for arrow in arrows {
@@ -244,7 +251,8 @@ fn push_frame(
     number: usize,
     row: &Row,
 ) -> Result<(), AllocError>
-    ensures { OnOk result (all_marks inside.new.items ≡ all_marks inside.old.items ++ row_box_marks (plan_in layout.now) number row.now) }
+    ensures { OnOk result (all_marks inside.new.items
+        ≡ all_marks inside.old.items ++ row_box_marks (plan_in layout.now) number row.now) }
 {
     let lane = layout.lane(usize::from(row.column));
     let frame = layout.frame(number);
@@ -267,7 +275,8 @@ fn push_words(
     row: &Row,
 ) -> Result<(), AllocError>
     ensures { OnOk result (all_marks inside.new.items
-        ≡ all_marks inside.old.items ++ row_word_marks (plan_in layout.now) arrows.now number row.now) }
+        ≡ all_marks inside.old.items
+        ++ row_word_marks (plan_in layout.now) arrows.now number row.now) }
 {
     let lane = layout.lane(usize::from(row.column));
     let frame = layout.frame(number);
@@ -290,7 +299,8 @@ fn push_row(
     row: &Row,
 ) -> Result<(), AllocError>
     ensures { OnOk result (all_marks contents.new.items
-        ≡ all_marks contents.old.items ++ row_marks_at (plan_in layout.now) arrows.now number row.now) }
+        ≡ all_marks contents.old.items
+        ++ row_marks_at (plan_in layout.now) arrows.now number row.now) }
 {
     let mut inside = Vec::new(alloc);
     push_hint(alloc, &mut inside, row.hint.as_slice())?;
@@ -299,7 +309,7 @@ fn push_row(
     push_group(alloc, contents, inside)
 }
 
-/// Adds rows, from the top.
+/// Adds the rows, from the top.
 pub(crate) fn push_rows(
     alloc: Global,
     contents: &mut Vec<Content>,
@@ -308,7 +318,8 @@ pub(crate) fn push_rows(
     rows: &[Row],
 ) -> Result<(), AllocError>
     ensures { OnOk result (all_marks contents.new.items
-        ≡ all_marks contents.old.items ++ each (row_marks_at (plan_in layout.now) arrows.now) rows.now) }
+        ≡ all_marks contents.old.items
+        ++ each (row_marks_at (plan_in layout.now) arrows.now) rows.now) }
 {
     for (number, row) in rows.iter().enumerate() {
         push_row(alloc, contents, layout, arrows, number, row)?;

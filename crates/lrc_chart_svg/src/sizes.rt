@@ -15,12 +15,12 @@ use lrc_chart_model::Picture;
 // How wide the legend is.
 const LEGEND_WIDTH: u128 = 1092;
 
-/// How large a picture is, and down to where its columns go.
+/// The size of a picture, and the foot of its columns.
 #[derive(Clone, Copy)]
 pub(crate) struct Size {
     pub whole: Point,
     pub foot: u128,
-    /// Where the program's text begins, and how wide it is.
+    /// The left edge of the program's text, and its width.
     pub left: u128,
     pub source: u128,
 }

@@ -41,7 +41,7 @@ fn most_of_source(lines: &[SourceLine]) -> u32
     most
 }
 
-/// How wide the text is.
+/// Returns the width of the text in pixels.
 pub(crate) fn source_wide(lines: &[SourceLine]) -> u128
     ensures most { result < 2 ^ 66 }
     ensures exact { result ≡ source_wide lines.now }
@@ -52,7 +52,7 @@ pub(crate) fn source_wide(lines: &[SourceLine]) -> u128
     width(u64::from(most_of_source(lines))) + 72
 }
 
-/// The foot of a line.
+/// Returns the foot of the line at a place.
 pub(crate) fn source_foot(place: usize) -> u128
     ensures least { 98 ≤ result }
     ensures most { result < 2 ^ 70 }
@@ -70,7 +70,8 @@ fn push_line_box(
     marked: bool,
 ) -> Result<(), AllocError>
     requires { at.x < 2 ^ 70 }
-    ensures { OnOk result (all_marks contents.new.items ≡ all_marks contents.old.items ++ line_box at.x at.y width marked) }
+    ensures { OnOk result (all_marks contents.new.items
+        ≡ all_marks contents.old.items ++ line_box at.x at.y width marked) }
 {
     if marked {
         let area = Area {
@@ -93,7 +94,9 @@ fn push_line_number(
 ) -> Result<(), AllocError>
     requires { at.x < 2 ^ 70 }
     ensures { OnOk result (all_marks contents.new.items
-        ≡ all_marks contents.old.items ++ word (decimal (at.x + 44)) (decimal at.y) (anchor_word End) (decimal (place + 1)) ∷ []) }
+        ≡ all_marks contents.old.items
+        ++ word (decimal (at.x + 44)) (decimal at.y) (anchor_word End) (decimal (place + 1))
+        ∷ []) }
 {
     let mut number = bytes(alloc, b"")?;
     push_number(&mut number, place as u128 + 1)?;
@@ -119,7 +122,8 @@ fn push_line_words(
     words: &[u8],
 ) -> Result<(), AllocError>
     requires { at.x < 2 ^ 70 }
-    ensures { OnOk result (all_marks contents.new.items ≡ all_marks contents.old.items ++ line_words at.x at.y place words.now) }
+    ensures { OnOk result (all_marks contents.new.items
+        ≡ all_marks contents.old.items ++ line_words at.x at.y place words.now) }
 {
     let text = Point {
         x: at.x + 54 + width(blanks(words) as u64),
@@ -139,7 +143,8 @@ fn push_source_line(
     line: &SourceLine,
 ) -> Result<(), AllocError>
     requires { left < 2 ^ 70 }
-    ensures { OnOk result (all_marks contents.new.items ≡ all_marks contents.old.items ++ source_marks left width place line.now) }
+    ensures { OnOk result (all_marks contents.new.items
+        ≡ all_marks contents.old.items ++ source_marks left width place line.now) }
 {
     let at = Point {
         x: left,
@@ -149,7 +154,7 @@ fn push_source_line(
     push_line_words(alloc, contents, at, place, line.words.as_slice())
 }
 
-/// Adds the text.
+/// Adds the program's text.
 pub(crate) fn push_source(
     alloc: Global,
     contents: &mut Vec<Content>,
@@ -158,7 +163,8 @@ pub(crate) fn push_source(
     lines: &[SourceLine],
 ) -> Result<(), AllocError>
     requires { left < 2 ^ 70 }
-    ensures { OnOk result (all_marks contents.new.items ≡ all_marks contents.old.items ++ each (source_marks left width) lines.now) }
+    ensures { OnOk result (all_marks contents.new.items
+        ≡ all_marks contents.old.items ++ each (source_marks left width) lines.now) }
 {
     for (place, line) in lines.iter().enumerate() {
         push_source_line(alloc, contents, left, width, place, line)?;

@@ -7,7 +7,7 @@ ghost use Rattle.lrc_chart_svg.specs.Shown.{message_dashes, row_border, row_dash
 
 use lrc_chart_model::Kind;
 
-/// How an area or a line is drawn, by the words of the form.
+/// The style of an area or a line, as values of SVG attributes.
 #[derive(Clone, Copy)]
 pub(crate) struct Style {
     pub fill: &'static [u8],
@@ -17,7 +17,7 @@ pub(crate) struct Style {
 }
 
 impl Style {
-    /// An area of one colour.
+    /// Returns the style of an area in one colour, without a border.
     pub(crate) fn plain(fill: &'static [u8]) -> Style
         ensures width { result.width.now ≡ codes "0" }
         ensures dashes { result.dashes.now ≡ through }
@@ -25,7 +25,7 @@ impl Style {
         Style::bordered(fill, b"none", b"0")
     }
 
-    /// An area and its border.
+    /// Returns the style of an area with a border.
     pub(crate) fn bordered(
         fill: &'static [u8],
         stroke: &'static [u8],
@@ -42,14 +42,14 @@ impl Style {
         }
     }
 
-    /// A line that runs through.
+    /// Returns the style of a solid line.
     pub(crate) fn line(stroke: &'static [u8], width: &'static [u8]) -> Style
         ensures { result.dashes.now ≡ through }
     {
         Style::bordered(b"none", stroke, width)
     }
 
-    /// The line of a message: of one that is taken again, dashed.
+    /// Returns the style of a message's line: dashed if the message is taken again.
     pub(crate) fn message(again: bool) -> Style
         ensures { result.dashes.now ≡ message_dashes again }
     {
@@ -59,7 +59,7 @@ impl Style {
         }
     }
 
-    /// The box of a row.
+    /// Returns the style of a row's box.
     pub(crate) fn row(kind: Kind) -> Style
         ensures width { result.width.now ≡ row_border kind }
         ensures dashes { result.dashes.now ≡ row_dashes kind }
@@ -77,7 +77,7 @@ impl Style {
     }
 }
 
-/// Whether words begin or end at their place.
+/// Whether words begin or end at their point.
 #[derive(Clone, Copy)]
 pub(crate) enum Anchor {
     Start,
@@ -85,7 +85,7 @@ pub(crate) enum Anchor {
 }
 
 impl Anchor {
-    /// As it stands in the text.
+    /// Returns the anchor as SVG spells it.
     #[tactic(auto, unfolding(crate::specs::Attributes::anchor_word))]
     pub(crate) fn word(self) -> &'static [u8]
         ensures { result.now ≡ anchor_word self }
@@ -97,7 +97,7 @@ impl Anchor {
     }
 }
 
-/// How words are written.
+/// The style of words.
 #[derive(Clone, Copy)]
 pub(crate) struct Hand {
     pub anchor: Anchor,
@@ -106,14 +106,14 @@ pub(crate) struct Hand {
 }
 
 impl Hand {
-    /// Words that begin at their place.
+    /// Returns the style of words that begin at their point.
     pub(crate) fn plain(colour: &'static [u8]) -> Hand
         ensures { result.anchor ≡ Start }
     {
         Hand::anchored(Anchor::Start, colour)
     }
 
-    /// Words that begin or end there.
+    /// Returns the style of words that begin or end at their point.
     pub(crate) fn anchored(anchor: Anchor, colour: &'static [u8]) -> Hand
         ensures { result.anchor ≡ anchor }
     {
@@ -124,7 +124,7 @@ impl Hand {
         }
     }
 
-    /// A name.
+    /// Returns the style of a name.
     pub(crate) fn bold() -> Hand
         ensures { result.anchor ≡ Start }
     {
@@ -135,7 +135,8 @@ impl Hand {
     }
 }
 
-/// The colours of words, of the line and interval beside them, of times, of messages, of pages that become invalid, and of races.
+/// The colours of words, of the line and interval beside them, of times, of messages, of pages that become invalid, and
+/// of races.
 pub(crate) const INK: &[u8] = b"#1a1a1a";
 
 pub(crate) const PALE: &[u8] = b"#5a5a5a";
@@ -147,7 +148,7 @@ pub(crate) const MESSAGE: &[u8] = b"#1f5f9f";
 pub(crate) const INVALID: &[u8] = b"#a04800";
 
 pub(crate) const RACE: &[u8] = b"#c80000";
-/// The colours of the ground, of columns' borders and heads, and of barriers across them and their borders.
+/// The colours of the background, of the borders and heads of columns, and of barrier bands and their borders.
 pub(crate) const GROUND: &[u8] = b"#ffffff";
 
 pub(crate) const LANE: &[u8] = b"#b4b4b4";

@@ -18,10 +18,10 @@ const COMES_FROM_RIGHT: &[u8] = b"h-12 l9 -4 v8 l-9 -4";
 
 const COMES_FROM_ITSELF: &[u8] = b"h-8 l8 -4 v8 l-8 -4";
 
-/// A way between two columns, by the sides that face each other.
+/// The way of an arrow between two columns, from side to facing side.
 #[derive(Clone, Copy)]
 pub(crate) struct Span {
-    /// The sides.
+    /// The side where the way starts, and the side where it ends.
     pub start: u128,
     pub end: u128,
     // Where an arrow's line begins and ends, and what is drawn at each end.
@@ -29,7 +29,7 @@ pub(crate) struct Span {
     to: u128,
     pub leaves: &'static [u8],
     pub comes: &'static [u8],
-    /// Where words stand beside the end, and where beyond it.
+    /// The place of words beside the end, and of words beyond it.
     pub words: u128,
     pub anchor: Anchor,
     pub beyond: u128,
@@ -163,7 +163,7 @@ impl Span {
         }
     }
 
-    /// Where an arrow's line begins,
+    /// Returns the point where an arrow's line begins.
     pub(crate) fn tail(self, row: u128) -> Point
         ensures left { result.x ≡ self.from }
         ensures row { result.y ≡ row }
@@ -174,7 +174,7 @@ impl Span {
         }
     }
 
-    /// and where it ends.
+    /// Returns the point where an arrow's line ends.
     pub(crate) fn head(self, row: u128) -> Point
         ensures left { result.x ≡ self.to }
         ensures row { result.y ≡ row }

@@ -9,7 +9,8 @@ use lrc_chart_model::Kind;
 use lrc_text::push_number;
 use std::alloc::{AllocError, Global};
 
-/// What a row shows in the columns: the sign of its turn, and an arrow between two columns, from a column to itself where there is none.
+/// The part of a row that stands in the columns: the sign of its turn, and an arrow between two columns. Without an
+/// arrow, both columns are the same.
 #[derive(Clone, Copy)]
 pub(crate) struct Shape {
     pub column: u8,
@@ -19,7 +20,7 @@ pub(crate) struct Shape {
     pub to: u8,
 }
 
-/// How many signs a column has, of so many columns.
+/// Returns the width of each column in characters, by the number of columns.
 pub(crate) fn width_of(columns: usize) -> usize
     ensures is { result ≡ width_of columns }
     ensures some { 3 ≤ result }
@@ -33,7 +34,7 @@ pub(crate) fn width_of(columns: usize) -> usize
     }
 }
 
-/// How many signs words have behind them.
+/// Returns the width in characters that is left for words, by the number of columns.
 pub(crate) fn room_of(columns: usize) -> usize
     ensures is { result ≡ room_of columns }
     ensures some { 0 < result }
@@ -143,7 +144,7 @@ impl Shape {
     }
 }
 
-/// Adds a sign so many times.
+/// Adds a character so many times.
 pub(crate) fn push_times(text: &mut Vec<u8>, sign: u8, times: usize) -> Result<(), AllocError>
     ensures { OnOk result (text.new.items ≡ text.old.items ++ replicate times sign) }
 {
@@ -210,7 +211,7 @@ fn push_place(alloc: Global, text: &mut Vec<u8>, number: usize) -> Result<(), Al
     text.extend_from_slice(b"  ")
 }
 
-/// What stands before the first line of a row.
+/// Returns the margin of a row's first line: what precedes its words.
 pub(crate) fn row_margin(
     alloc: Global,
     columns: usize,
@@ -226,14 +227,14 @@ pub(crate) fn row_margin(
     Ok(margin)
 }
 
-/// What stands before each further one.
+/// Returns the margin of each further line of a row.
 pub(crate) fn bars_margin(alloc: Global, columns: usize) -> Result<Vec<u8>, AllocError>
     ensures { IfOk result (λ margin. margin.items ≡ bars_margin columns) }
 {
     name_margin(alloc, columns, columns)
 }
 
-/// What stands before the name of a column.
+/// Returns the margin before the name of a column.
 pub(crate) fn name_margin(
     alloc: Global,
     columns: usize,
@@ -250,7 +251,9 @@ pub(crate) fn name_margin(
 
 // Adds a rule across all columns.
 fn push_rules(text: &mut Vec<u8>, columns: usize) -> Result<(), AllocError>
-    ensures { OnOk result (text.new.items ≡ text.old.items ++ flat_map (λ column. replicate (width_of columns) 61) (range_with_len 0 columns)) }
+    ensures { OnOk result (text.new.items
+        ≡ text.old.items ++ flat_map (λ column. replicate (width_of columns) 61)
+        (range_with_len 0 columns)) }
 {
     for _column in 0..columns {
         push_times(text, b'=', width_of(columns))?;
@@ -258,7 +261,7 @@ fn push_rules(text: &mut Vec<u8>, columns: usize) -> Result<(), AllocError>
     Ok(())
 }
 
-/// What stands before the name of a barrier.
+/// Returns the margin before the name of a barrier.
 pub(crate) fn band_margin(alloc: Global, columns: usize) -> Result<Vec<u8>, AllocError>
     ensures { IfOk result (λ margin. margin.items ≡ band_margin columns) }
 {

@@ -2,7 +2,8 @@
 
 ghost use Rattle.lrc_chart_text.specs.Short.{NoLineIsLonger};
 
-/// No line of a picture of at most 16 nodes, whose rows have numbers below 10,000, is longer than the 100 columns of a terminal.
+/// No line is longer than the 100 columns of a terminal, if the picture has at most 16 nodes and row numbers below
+/// 10,000.
 pub fn no_line_is_longer_than_the_terminal()
     ensures { NoLineIsLonger }
 {}

@@ -1,5 +1,5 @@
-//! A picture of a run as text, for a terminal of 100 columns: a line for each turn, with the nodes' columns at the left and words behind
-//! them.
+//! Draws the picture of a run as text for a terminal of 100 columns. Each turn has a line, with the nodes' columns at
+//! the left and words behind them.
 #![tactic(auto)]
 
 mod columns;

@@ -61,7 +61,8 @@ fn used_behind(room: usize, used: usize, size: usize) -> usize
 
 // Adds what stands before a piece: a gap, or the margin of a line of its own.
 fn push_break(text: &mut Vec<u8>, margin: &[u8], used: usize, joins: bool) -> Result<(), AllocError>
-    ensures { OnOk result (text.new.items ≡ text.old.items ++ (if joins then gap used else codes "\n" ++ margin.now)) }
+    ensures { OnOk result (text.new.items
+        ≡ text.old.items ++ (if joins then gap used else codes "\n" ++ margin.now)) }
 {
     if joins {
         text.extend_from_slice(gap_of(used))
@@ -82,7 +83,9 @@ fn push_piece(
     requires small { room < 1000 }
     requires used { used ≤ room }
     requires size { length piece.now ≤ room }
-    ensures text { OnOk result (text.new.items ≡ text.old.items ++ piece_text room (codes "\n" ++ margin.now) used (plain_signs piece.now)) }
+    ensures text { OnOk result (text.new.items
+        ≡ text.old.items ++ piece_text room (codes "\n" ++ margin.now) used
+        (plain_signs piece.now)) }
     ensures used { IfOk result (λ now. now ≡ used_behind room used (length piece.now)) }
     ensures short { IfOk result (λ now. now ≤ room) }
 {
@@ -102,8 +105,10 @@ fn push_phrase(
     requires small { room < 1000 }
     requires some { 0 < room }
     requires used { used ≤ room }
-    ensures text { IfOk result (λ now. (more : List (List ℕ)) → text.new.items ++ written room (codes "\n" ++ margin.now) now more
-        ≡ text.old.items ++ written room (codes "\n" ++ margin.now) used (pieces_of room phrase.now ++ more)) }
+    ensures text { IfOk result (λ now. (more : List (List ℕ))
+        → text.new.items ++ written room (codes "\n" ++ margin.now) now more
+        ≡ text.old.items ++ written room (codes "\n" ++ margin.now) used
+        (pieces_of room phrase.now ++ more)) }
     ensures short { IfOk result (λ now. now ≤ room) }
 {
     let mut now = used;
@@ -119,7 +124,7 @@ fn push_end(text: &mut Vec<u8>) -> Result<(), AllocError>
     text.extend_from_slice(b"\n")
 }
 
-/// Adds phrases in lines of this room, the first behind one margin and the others behind another.
+/// Adds phrases in lines of this width. The first line has one margin, and the others have another.
 pub(crate) fn push_paragraph(
     text: &mut Vec<u8>,
     first: &[u8],
@@ -130,7 +135,8 @@ pub(crate) fn push_paragraph(
     requires small { room < 1000 }
     requires some { 0 < room }
     ensures { OnOk result (text.new.items
-        ≡ text.old.items ++ lines_text (headed first.now rest.now (paragraph room (texts_of phrases.now)))) }
+        ≡ text.old.items ++ lines_text
+        (headed first.now rest.now (paragraph room (texts_of phrases.now)))) }
 {
     text.extend_from_slice(first)?;
     let mut used = 0;

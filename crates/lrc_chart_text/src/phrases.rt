@@ -20,7 +20,7 @@ fn name_of_column(columns: &[Vec<u8>], column: u8) -> &[u8]
     }
 }
 
-/// The words of a row; none past the last one.
+/// Returns the words of a row, or none past the last row.
 pub(crate) fn words_of_row(rows: &[Row], number: usize) -> &[u8]
     ensures { result.now ≡ words_of_row rows.now number }
 {
@@ -30,7 +30,7 @@ pub(crate) fn words_of_row(rows: &[Row], number: usize) -> &[u8]
     }
 }
 
-/// The number of a row that is to be shown; past the last one its place.
+/// Returns the number that the row at a place shows, or the place itself past the last row.
 pub(crate) fn number_of_row(rows: &[Row], place: usize) -> usize
     ensures { result ≡ number_of_row rows.now place }
 {
@@ -40,13 +40,14 @@ pub(crate) fn number_of_row(rows: &[Row], place: usize) -> usize
     }
 }
 
-/// Adds a phrase.
+/// Adds a copy of a phrase.
 pub(crate) fn push_copy(
     alloc: Global,
     phrases: &mut Vec<Vec<u8>>,
     words: &[u8],
 ) -> Result<(), AllocError>
-    ensures { OnOk result (texts_of phrases.new.items ≡ texts_of phrases.old.items ++ words.now ∷ []) }
+    ensures { OnOk result (texts_of phrases.new.items
+        ≡ texts_of phrases.old.items ++ words.now ∷ []) }
 {
     let phrase = Vec::from_slice(alloc, words)?;
     phrases.push(phrase)?;
@@ -61,7 +62,8 @@ fn push_lead(
     words: &[u8],
     place: &[u8],
 ) -> Result<(), AllocError>
-    ensures { OnOk result (texts_of phrases.new.items ≡ texts_of phrases.old.items ++ padded_words words.now place.now ∷ []) }
+    ensures { OnOk result (texts_of phrases.new.items
+        ≡ texts_of phrases.old.items ++ padded_words words.now place.now ∷ []) }
 {
     let mut phrase = Vec::from_slice(alloc, words)?;
     push_blanks(&mut phrase, words.len(), place.is_empty())?;
@@ -71,7 +73,8 @@ fn push_lead(
 
 // Adds blanks behind words of so many signs, so that a place stands below the others.
 fn push_blanks(text: &mut Vec<u8>, size: usize, is_last: bool) -> Result<(), AllocError>
-    ensures { OnOk result (text.new.items ≡ text.old.items ++ (if is_last then [] else replicate (16 - size) 32)) }
+    ensures { OnOk result (text.new.items
+        ≡ text.old.items ++ (if is_last then [] else replicate (16 - size) 32)) }
 {
     if is_last {
         Ok(())
@@ -81,7 +84,8 @@ fn push_blanks(text: &mut Vec<u8>, size: usize, is_last: bool) -> Result<(), All
 }
 
 fn push_turn_phrases(alloc: Global, phrases: &mut Vec<Vec<u8>>, row: &Row) -> Result<(), AllocError>
-    ensures { OnOk result (texts_of phrases.new.items ≡ texts_of phrases.old.items ++ turn_phrases row.now) }
+    ensures { OnOk result (texts_of phrases.new.items
+        ≡ texts_of phrases.old.items ++ turn_phrases row.now) }
 {
     push_lead(alloc, phrases, row.words.as_slice(), row.place.as_slice())?;
     push_copy(alloc, phrases, row.place.as_slice())?;
@@ -104,7 +108,8 @@ fn push_message(
     arrow: &Arrow,
 ) -> Result<(), AllocError>
     requires { position < 18446744073709551615 }
-    ensures { OnOk result (text.new.items ≡ text.old.items ++ arrow_phrase sign.now position arrow.now) }
+    ensures { OnOk result (text.new.items
+        ≡ text.old.items ++ arrow_phrase sign.now position arrow.now) }
 {
     push_number(text, sign, position as u64 + 1)?;
     text.extend_from_slice(b" ")?;
@@ -121,7 +126,8 @@ fn push_taken(
 ) -> Result<(), AllocError>
     requires { position < 18446744073709551615 }
     ensures { OnOk result (texts_of phrases.new.items
-        ≡ texts_of phrases.old.items ++ only_if (arrow.now.to == number) (taken_phrase position arrow.now)) }
+        ≡ texts_of phrases.old.items
+        ++ only_if (arrow.now.to == number) (taken_phrase position arrow.now)) }
 {
     if arrow.to == number {
         let mut phrase = Vec::new(alloc);
@@ -138,7 +144,8 @@ fn push_all_taken(
     number: usize,
     picture: &Picture,
 ) -> Result<(), AllocError>
-    ensures { OnOk result (texts_of phrases.new.items ≡ texts_of phrases.old.items ++ taken_phrases picture.now number) }
+    ensures { OnOk result (texts_of phrases.new.items
+        ≡ texts_of phrases.old.items ++ taken_phrases picture.now number) }
 {
     for (position, arrow) in picture.arrows.iter().enumerate() {
         push_taken(alloc, phrases, number, position, arrow)?;
@@ -148,7 +155,8 @@ fn push_all_taken(
 
 // Adds to whom a message is sent.
 fn push_receiver(text: &mut Vec<u8>, columns: &[Vec<u8>], receiver: u8) -> Result<(), AllocError>
-    ensures { OnOk result (text.new.items ≡ text.old.items ++ codes " to " ++ name_of_column columns.now receiver) }
+    ensures { OnOk result (text.new.items
+        ≡ text.old.items ++ codes " to " ++ name_of_column columns.now receiver) }
 {
     text.extend_from_slice(b" to ")?;
     text.extend_from_slice(name_of_column(columns, receiver))
@@ -164,7 +172,8 @@ fn push_sent(
 ) -> Result<(), AllocError>
     requires { position < 18446744073709551615 }
     ensures { OnOk result (texts_of phrases.new.items
-        ≡ texts_of phrases.old.items ++ only_if (arrow.now.from == number) (sent_phrase columns.now position arrow.now)) }
+        ≡ texts_of phrases.old.items
+        ++ only_if (arrow.now.from == number) (sent_phrase columns.now position arrow.now)) }
 {
     if arrow.from == number {
         let mut phrase = Vec::new(alloc);
@@ -182,7 +191,8 @@ fn push_all_sent(
     number: usize,
     picture: &Picture,
 ) -> Result<(), AllocError>
-    ensures { OnOk result (texts_of phrases.new.items ≡ texts_of phrases.old.items ++ sent_phrases picture.now number) }
+    ensures { OnOk result (texts_of phrases.new.items
+        ≡ texts_of phrases.old.items ++ sent_phrases picture.now number) }
 {
     let columns = picture.columns.as_slice();
     for (position, arrow) in picture.arrows.iter().enumerate() {
@@ -214,7 +224,8 @@ fn push_lost(
     lost: &Lost,
 ) -> Result<(), AllocError>
     ensures { OnOk result (texts_of phrases.new.items
-        ≡ texts_of phrases.old.items ++ only_if (lost.now.from == number) (lost_phrase columns.now lost.now)) }
+        ≡ texts_of phrases.old.items
+        ++ only_if (lost.now.from == number) (lost_phrase columns.now lost.now)) }
 {
     if lost.from == number {
         let mut phrase = Vec::new(alloc);
@@ -231,7 +242,8 @@ fn push_all_lost(
     number: usize,
     picture: &Picture,
 ) -> Result<(), AllocError>
-    ensures { OnOk result (texts_of phrases.new.items ≡ texts_of phrases.old.items ++ lost_phrases picture.now number) }
+    ensures { OnOk result (texts_of phrases.new.items
+        ≡ texts_of phrases.old.items ++ lost_phrases picture.now number) }
 {
     let columns = picture.columns.as_slice();
     for lost in &picture.lost {
@@ -256,7 +268,9 @@ fn push_race(
     race: &Race,
 ) -> Result<(), AllocError>
     ensures { OnOk result (texts_of phrases.new.items
-        ≡ texts_of phrases.old.items ++ only_if ((race.now.from == number) || (race.now.to == number)) (race_name race.now.number)) }
+        ≡ texts_of phrases.old.items
+        ++ only_if ((race.now.from == number) || (race.now.to == number))
+        (race_name race.now.number)) }
 {
     if race.from == number || race.to == number {
         let mut phrase = Vec::new(alloc);
@@ -273,7 +287,8 @@ fn push_all_races(
     number: usize,
     picture: &Picture,
 ) -> Result<(), AllocError>
-    ensures { OnOk result (texts_of phrases.new.items ≡ texts_of phrases.old.items ++ race_phrases picture.now number) }
+    ensures { OnOk result (texts_of phrases.new.items
+        ≡ texts_of phrases.old.items ++ race_phrases picture.now number) }
 {
     for race in &picture.races {
         push_race(alloc, phrases, number, race)?;
@@ -283,7 +298,8 @@ fn push_all_races(
 
 // Adds that a row is in a circle of waiting.
 fn push_circle(alloc: Global, phrases: &mut Vec<Vec<u8>>, circled: bool) -> Result<(), AllocError>
-    ensures { OnOk result (texts_of phrases.new.items ≡ texts_of phrases.old.items ++ only_if circled (codes "deadlock")) }
+    ensures { OnOk result (texts_of phrases.new.items
+        ≡ texts_of phrases.old.items ++ only_if circled (codes "deadlock")) }
 {
     if circled {
         push_copy(alloc, phrases, b"deadlock")?;
@@ -291,14 +307,15 @@ fn push_circle(alloc: Global, phrases: &mut Vec<Vec<u8>>, circled: bool) -> Resu
     Ok(())
 }
 
-/// What is said of a row.
+/// Returns the phrases about a row.
 pub(crate) fn row_phrases(
     alloc: Global,
     picture: &Picture,
     number: usize,
     row: &Row,
 ) -> Result<Vec<Vec<u8>>, AllocError>
-    ensures { IfOk result (λ phrases. texts_of phrases.items ≡ row_phrases picture.now number row.now) }
+    ensures { IfOk result (λ phrases. texts_of phrases.items
+        ≡ row_phrases picture.now number row.now) }
 {
     let mut phrases = Vec::new(alloc);
     push_turn_phrases(alloc, &mut phrases, row)?;

@@ -19,7 +19,8 @@ use std::alloc::{AllocError, Global};
 
 // Adds words that stand beside no column.
 fn push_loose(text: &mut Vec<u8>, phrases: &[Vec<u8>]) -> Result<(), AllocError>
-    ensures { OnOk result (text.new.items ≡ text.old.items ++ lines_text (loose_lines 98 (texts_of phrases.now))) }
+    ensures { OnOk result (text.new.items
+        ≡ text.old.items ++ lines_text (loose_lines 98 (texts_of phrases.now))) }
 {
     push_paragraph(text, b"", b"  ", 98, phrases)
 }
@@ -52,7 +53,8 @@ fn push_name(
     column: usize,
     name: &Vec<u8>,
 ) -> Result<(), AllocError>
-    ensures { OnOk result (text.new.items ≡ text.old.items ++ lines_text (name_lines columns column name.now)) }
+    ensures { OnOk result (text.new.items
+        ≡ text.old.items ++ lines_text (name_lines columns column name.now)) }
 {
     let margin = name_margin(alloc, columns, column)?;
     let mut phrases = Vec::new(alloc);
@@ -62,7 +64,8 @@ fn push_name(
 
 // Adds the names of the columns.
 fn push_names(alloc: Global, text: &mut Vec<u8>, columns: &[Vec<u8>]) -> Result<(), AllocError>
-    ensures { OnOk result (text.new.items ≡ text.old.items ++ lines_text (each (name_lines (length columns.now)) columns.now)) }
+    ensures { OnOk result (text.new.items
+        ≡ text.old.items ++ lines_text (each (name_lines (length columns.now)) columns.now)) }
 {
     for (column, name) in columns.iter().enumerate() {
         push_name(alloc, text, columns.len(), column, name)?;
@@ -105,7 +108,8 @@ fn push_turn(
     row: &Row,
 ) -> Result<(), AllocError>
     requires { margin.now ≡ bars_margin (length picture.now.columns.items) }
-    ensures { OnOk result (text.new.items ≡ text.old.items ++ lines_text (turn_lines picture.now number row.now)) }
+    ensures { OnOk result (text.new.items
+        ≡ text.old.items ++ lines_text (turn_lines picture.now number row.now)) }
 {
     let columns = picture.columns.len();
     let shape = shape_of(number, row, picture.arrows.as_slice());
@@ -125,7 +129,8 @@ fn push_band(
     is_here: bool,
 ) -> Result<(), AllocError>
     requires { margin.now ≡ bars_margin columns }
-    ensures { OnOk result (text.new.items ≡ text.old.items ++ lines_text (lines_if is_here (band_lines columns end.now band.now))) }
+    ensures { OnOk result (text.new.items
+        ≡ text.old.items ++ lines_text (lines_if is_here (band_lines columns end.now band.now))) }
 {
     if !is_here {
         return Ok(());
@@ -147,7 +152,8 @@ fn push_begins(
     number: usize,
 ) -> Result<(), AllocError>
     requires { margin.now ≡ bars_margin (length picture.now.columns.items) }
-    ensures { OnOk result (text.new.items ≡ text.old.items ++ lines_text (begin_lines picture.now number)) }
+    ensures { OnOk result (text.new.items
+        ≡ text.old.items ++ lines_text (begin_lines picture.now number)) }
 {
     let columns = picture.columns.len();
     for band in &picture.bands {
@@ -173,7 +179,8 @@ fn push_ends(
     number: usize,
 ) -> Result<(), AllocError>
     requires { margin.now ≡ bars_margin (length picture.now.columns.items) }
-    ensures { OnOk result (text.new.items ≡ text.old.items ++ lines_text (end_lines picture.now number)) }
+    ensures { OnOk result (text.new.items
+        ≡ text.old.items ++ lines_text (end_lines picture.now number)) }
 {
     let columns = picture.columns.len();
     for band in &picture.bands {
@@ -199,7 +206,8 @@ fn push_row(
     row: &Row,
 ) -> Result<(), AllocError>
     requires { margin.now ≡ bars_margin (length picture.now.columns.items) }
-    ensures { OnOk result (text.new.items ≡ text.old.items ++ lines_text (row_lines picture.now number row.now)) }
+    ensures { OnOk result (text.new.items
+        ≡ text.old.items ++ lines_text (row_lines picture.now number row.now)) }
 {
     push_begins(alloc, text, picture, margin, number)?;
     push_turn(alloc, text, picture, margin, number, row)?;
@@ -207,7 +215,8 @@ fn push_row(
 }
 
 fn push_rows(alloc: Global, text: &mut Vec<u8>, picture: &Picture) -> Result<(), AllocError>
-    ensures { OnOk result (text.new.items ≡ text.old.items ++ lines_text (each (row_lines picture.now) picture.now.rows.items)) }
+    ensures { OnOk result (text.new.items
+        ≡ text.old.items ++ lines_text (each (row_lines picture.now) picture.now.rows.items)) }
 {
     let margin = bars_margin(alloc, picture.columns.len())?;
     for (number, row) in picture.rows.iter().enumerate() {
@@ -227,7 +236,8 @@ fn push_race_head(text: &mut Vec<u8>, rows: &[Row], race: &Race) -> Result<(), A
 }
 
 fn push_race(alloc: Global, text: &mut Vec<u8>, rows: &[Row], race: &Race) -> Result<(), AllocError>
-    ensures { OnOk result (text.new.items ≡ text.old.items ++ lines_text (race_lines rows.now race.now)) }
+    ensures { OnOk result (text.new.items
+        ≡ text.old.items ++ lines_text (race_lines rows.now race.now)) }
 {
     let mut head = Vec::new(alloc);
     push_race_head(&mut head, rows, race)?;
@@ -247,7 +257,8 @@ fn push_races(
     rows: &[Row],
     races: &[Race],
 ) -> Result<(), AllocError>
-    ensures { OnOk result (text.new.items ≡ text.old.items ++ lines_text (all_race_lines rows.now races.now)) }
+    ensures { OnOk result (text.new.items
+        ≡ text.old.items ++ lines_text (all_race_lines rows.now races.now)) }
 {
     if races.is_empty() {
         return Ok(());
@@ -262,7 +273,8 @@ fn push_races(
 // ---- circles of waiting
 
 fn push_deadlock(alloc: Global, text: &mut Vec<u8>, words: &Vec<u8>) -> Result<(), AllocError>
-    ensures { OnOk result (text.new.items ≡ text.old.items ++ lines_text (deadlock_lines words.now)) }
+    ensures { OnOk result (text.new.items
+        ≡ text.old.items ++ lines_text (deadlock_lines words.now)) }
 {
     let mut phrases = Vec::new(alloc);
     push_copy(alloc, &mut phrases, words.as_slice())?;
@@ -275,7 +287,8 @@ fn push_deadlocks(
     text: &mut Vec<u8>,
     deadlocks: &[Vec<u8>],
 ) -> Result<(), AllocError>
-    ensures { OnOk result (text.new.items ≡ text.old.items ++ lines_text (all_deadlock_lines deadlocks.now)) }
+    ensures { OnOk result (text.new.items
+        ≡ text.old.items ++ lines_text (all_deadlock_lines deadlocks.now)) }
 {
     if deadlocks.is_empty() {
         return Ok(());
@@ -300,7 +313,7 @@ fn push_foot(alloc: Global, text: &mut Vec<u8>, picture: &Picture) -> Result<(),
     push_deadlocks(alloc, text, picture.deadlocks.as_slice())
 }
 
-/// A picture as text.
+/// Returns a picture as text.
 pub fn sketch(alloc: Global, picture: &Picture) -> Result<Vec<u8>, AllocError>
     ensures { IfOk result (λ text. text.items ≡ sketch_text picture.now) }
 {

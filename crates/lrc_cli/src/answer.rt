@@ -27,16 +27,17 @@ use lrc_verdict::pairs::PairsJudgement;
 use lrc_world::ends::ends;
 use std::alloc::{AllocError, Global};
 
-/// What is answered to a choice.
+/// The answer to a choice.
 #[derive(Drop)]
 pub enum Answered {
-    /// A text, with its status.
+    /// A text, with its exit status.
     Printed(Printout),
-    /// A judgement of acts, of which the racing pairs are found while they are told.
+    /// A judgement of acts. Its racing pairs are found while they are written.
     Judged(PairsJudgement),
 }
 
-/// Answers a choice that starts no threads, with the text of its FILE, and that of its events where it names them.
+/// Answers a choice that starts no threads, from the text of its FILE, and from the text of events if the choice names
+/// one.
 pub fn answer(
     alloc: Global,
     choice: &Choice<'_>,
@@ -59,7 +60,7 @@ pub fn answer(
     }
 }
 
-/// A printout, as an answer.
+/// Returns a printout as an answer.
 pub(crate) fn printed(printout: Result<Printout, Fault>) -> Result<Answered, Fault>
     ensures { result ≡ printed printout }
 {

@@ -18,7 +18,7 @@ use lrc_lang::parse;
 use lrc_lang::program::Program;
 use std::alloc::Global;
 
-/// Answers the command `explore`, with the text of a program.
+/// Answers the command `explore` for the text of a program.
 pub(crate) fn explored(
     alloc: Global,
     exploring: &Exploring<'_>,
@@ -60,7 +60,9 @@ fn every_order(
     lines: &[u32],
 ) -> Result<Printout, Fault>
     requires { IsTextOf text.now program.now }
-    ensures ok { IfOk result (λ printout. ShowsOrders exploring.now (labels_in text.now program.now) program.now lines.now (whole_text printout.parts.items) printout.status) }
+    ensures ok { IfOk result (λ printout.
+        ShowsOrders exploring.now (labels_in text.now program.now) program.now lines.now
+        (whole_text printout.parts.items) printout.status) }
     ensures err { IfErr result (IsSearchFault exploring.now program.now) }
 {
     let labels = read_labels(alloc, text, program.words, program.locks)?;
@@ -95,7 +97,9 @@ fn one_outcome(
     number: u64,
 ) -> Result<Printout, Fault>
     requires { 1 ≤ number }
-    ensures ok { IfOk result (λ printout. ShowsOutcome exploring.now program.now lines.now number (whole_text printout.parts.items) printout.status) }
+    ensures ok { IfOk result (λ printout.
+        ShowsOutcome exploring.now program.now lines.now number
+        (whole_text printout.parts.items) printout.status) }
     ensures err { IfErr result (HasOutcomeFault exploring.now program.now number) }
 {
     let most = exploring.most.count;

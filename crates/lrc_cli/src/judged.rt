@@ -13,7 +13,7 @@ use lrc_verdict::judge::judge;
 use lrc_verdict::pairs::{PairsJudgement, judge_pairs};
 use std::alloc::Global;
 
-/// Answers the command `judge` without its racing pairs, with a text of acts.
+/// Answers the command `judge`, without racing pairs, for a text of acts.
 pub(crate) fn judged(alloc: Global, judging: &Judging<'_>, text: &[u8]) -> Result<Printout, Fault>
     ensures ok { IfOk result (λ printout. Judges (judged_nodes judging.now) false text.now
         (whole_text printout.parts.items) printout.status) }
@@ -26,13 +26,15 @@ pub(crate) fn judged(alloc: Global, judging: &Judging<'_>, text: &[u8]) -> Resul
     })
 }
 
-/// Answers the command `judge` with its racing pairs, which are still to be found, with a text of acts.
+/// Answers the command `judge`, with racing pairs, for a text of acts. The pairs are found later, while they are
+/// written.
 pub(crate) fn judged_with_pairs(
     alloc: Global,
     judging: &Judging<'_>,
     text: &[u8],
 ) -> Result<PairsJudgement, Fault>
-    ensures ok { IfOk result (λ judgement. Judges (judged_nodes judging.now) true text.now (told_text judgement) judgement.status) }
+    ensures ok { IfOk result (λ judgement.
+        Judges (judged_nodes judging.now) true text.now (told_text judgement) judgement.status) }
     ensures races { IfOk result HasItsRaces }
     ensures err { IfErr result (IsActsFault (judged_nodes judging.now) text.now) }
 {

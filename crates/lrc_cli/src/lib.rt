@@ -1,4 +1,5 @@
-//! What the program `treadmarks` answers to a choice, and where it writes that.
+//! The commands of `treadmarks`: computes the answer to a choice from the texts of its files, and writes the answer or
+//! the line of its fault.
 #![tactic(auto)]
 
 pub mod answer;

@@ -10,7 +10,7 @@ use lrc_answer::printout::Printout;
 use lrc_linted::lint;
 use std::alloc::Global;
 
-/// Answers the command `lint`, with the text of this file.
+/// Answers the command `lint` for the text of this file. It fails only if memory runs out.
 pub(crate) fn linted(alloc: Global, file: &str, text: &[u8]) -> Result<Printout, Fault>
     ensures ok { IfOk result (λ printout. IsLinted file.now text.now
         (whole_text printout.parts.items) printout.status) }

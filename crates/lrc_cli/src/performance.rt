@@ -25,10 +25,12 @@ use std::io::Write;
 use std::sync::Wait;
 use std::thread::Threads;
 
-/// Does what a choice asks for that starts no threads, with the text of its FILE, and that of its events where it names
-/// them. What it prints goes to `out`; where there is a fault, its line goes to `err`, and nothing to `out`. The answer is
-/// the status with which the program ends: 1 after a fault. After a failed write nothing more is written, and the answer is
-/// 1. The parts of a text are written one by one, and neither writer is flushed.
+/// Carries out a choice that starts no threads, with the text of its FILE, and the text of events if the choice names
+/// one. Returns the exit status.
+///
+/// The output goes to `out`. On a fault its line goes to `err`, nothing goes to `out`, and the status is 1. After a
+/// failed write nothing more is written, and the status is 1. The parts of a text are written one by one, and neither
+/// writer is flushed.
 pub fn perform<W: Write, E: Write>(
     alloc: Global,
     choice: &Choice<'_>,
@@ -45,8 +47,8 @@ pub fn perform<W: Write, E: Write>(
     tell(alloc, answer(alloc, choice, text, events), out, err)
 }
 
-/// Does what a choice asks for, as [`perform`] does, also where that starts threads: a run in which each node lives on a
-/// thread of its own. What such a run kept is not freed, since the program ends with its answer.
+/// Carries out any choice as [`perform`] does, including a choice that starts threads: a run with each node on its own
+/// thread. The memory of such a run is not freed, because the program ends with its answer.
 pub fn execute<R: Threads + Wait + Sync, W: Write, E: Write>(
     rt: &R,
     alloc: Global,
@@ -63,8 +65,9 @@ pub fn execute<R: Threads + Wait + Sync, W: Write, E: Write>(
     tell(alloc, answer_any(rt, alloc, choice, text, events), out, err)
 }
 
-/// Answers any choice, on threads where it asks for them, with the text of its FILE, and that of its events where it names
-/// them. Nothing is written. What a run on threads kept is not freed, since the program ends with its answer.
+/// Answers any choice, on threads if the choice asks for them, with the text of its FILE, and the text of events if the
+/// choice names one. It writes nothing. The memory of a run on threads is not freed, because the program ends with its
+/// answer.
 pub fn answer_any<R: Threads + Wait + Sync>(
     rt: &R,
     alloc: Global,
@@ -87,7 +90,7 @@ pub fn answer_any<R: Threads + Wait + Sync>(
     }
 }
 
-/// Writes what was answered to a choice, or the line of its fault, as [`perform`] does, and gives the status.
+/// Writes the answer to a choice, or the line of its fault, as [`perform`] does, and returns the exit status.
 pub fn tell<W: Write, E: Write>(
     alloc: Global,
     answered: Result<Answered, Fault>,
@@ -145,7 +148,8 @@ fn print_pairs<W: Write, E: Write>(
     err: &mut E,
 ) -> u8
     requires { HasItsRaces judgement.now }
-    ensures { IsPrintedOrCut (W.contents out.old) (W.contents out.new) (E.contents err.old) (E.contents err.new)
+    ensures { IsPrintedOrCut (W.contents out.old) (W.contents out.new) (E.contents err.old)
+        (E.contents err.new)
         (told_text judgement.now) judgement.now.status result }
 {
     match write_pairs(alloc, judgement, out) {

@@ -12,7 +12,7 @@ use lrc_shown::charted::{drawn, part_of};
 use lrc_title::title_of_acts;
 use std::alloc::Global;
 
-/// Answers the command `chart` with a text of acts.
+/// Answers the command `chart` for a text of acts.
 pub(crate) fn pictured(
     alloc: Global,
     acts: &ChartedActs<'_>,

@@ -11,7 +11,7 @@ use lrc_shown::reasoned::asked_of;
 use lrc_why_text::acts::why_acts;
 use std::alloc::Global;
 
-/// Answers the command `why` with a text of acts.
+/// Answers the command `why` for a text of acts.
 pub(crate) fn reasoned(
     alloc: Global,
     acts: &ForeignActs<'_>,

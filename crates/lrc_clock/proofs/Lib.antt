@@ -13,3 +13,4 @@ pub mod Prefixes
 pub mod Computing
 pub mod Deciding
 pub mod Present
+pub mod NextPast

@@ -3,3 +3,5 @@ pub mod Keeping
 pub mod Cover
 pub mod Races
 pub mod Laws
+pub mod Past
+pub mod Joined

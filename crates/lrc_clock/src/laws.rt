@@ -23,12 +23,12 @@ pub fn every_time_has_an_entry_for_each_node()
     ensures stamp { LengthOfStamp }
 {}
 
-/// A node's own entry at its position is the number of its closing acts up to and with that position.
+/// A node's own entry at its position is the number of its closing acts up to and including that position.
 pub fn own_entry_counts_closes()
     ensures { OwnEntryAt }
 {}
 
-/// The interval of a position is the node's own entry there, and one more where the act closes none.
+/// The interval of a position is the node's own entry there, plus one unless the act closes an interval.
 pub fn interval_is_own_entry()
     ensures other { IntervalOfOther }
     ensures closing { IntervalOfClosing }
@@ -36,7 +36,7 @@ pub fn interval_is_own_entry()
     ensures stamp { IntervalOfStamp }
 {}
 
-/// Nobody knows more of a node than it has closed.
+/// No time knows more intervals of a node than that node has closed.
 pub fn nobody_knows_more_of_a_node()
     ensures at { EntryBound }
     ensures before { EntryBoundBefore }
@@ -47,40 +47,44 @@ pub fn times_rise_along_happens_before()
     ensures { TimesRise }
 {}
 
-/// Times characterize happens before (Mattern 1989, Fidge 1988): an entry of the time at a position is at least k exactly
-/// where the closing act of that node's interval k is the position or happens before it.
+/// Times characterize happens before (Mattern 1989, Fidge 1988): an entry of the time at a position is at least k
+/// exactly if the closing act of that node's interval k is the position or happens before it.
 pub fn entry_is_cover()
     ensures any { EntryIsCover }
     ensures other { OtherEntryIsHappensBefore }
 {}
 
-/// What the present time of a node covers: between its acts, after its last, while it waits for a lock with its interval
-/// closed, and where it has taken the time of a barrier and not departed yet.
+/// The present time of a node covers exactly the intervals that were closed at one of its positions or before them in
+/// happens before. This holds between its acts and after its last act. While it waits for a lock, the time also covers
+/// the interval that it closed for that. After it takes a barrier's time and before it departs, the time also covers
+/// what that time covers.
 pub fn present_time_is_cover()
     ensures between { PresentIsCover }
     ensures meeting { MeetingIsCover }
     ensures waiting { WaitingIsCover }
 {}
 
-/// What a lock hands on with its last release, and a barrier with its arrives.
+/// The time that a lock passes on with its last release covers exactly the intervals closed at its releases or before
+/// them in happens before. The time of a barrier covers those closed at its arrives or before them.
 pub fn learned_time_is_cover()
     ensures released { ReleasedIsCover }
     ensures arrived { ArrivedIsCover }
 {}
 
-/// The time of a barrier is the least that covers the times at its arrives.
+/// The time of a barrier is the least time that covers the times at its arrives.
 pub fn barrier_time_is_the_least_cover()
     ensures covers { ArrivedCoversArrives }
     ensures least { ArrivedIsLeast }
 {}
 
-/// Of acts of two nodes, accesses above all, the one happens before the other exactly where the other's time covers its
-/// interval.
+/// Of two acts of different nodes, the one happens before the other exactly if the other's time covers its interval.
 pub fn order_of_acts_is_cover()
     ensures { OrderIsCover }
 {}
 
-/// The stamp of a closed interval: the closing act's own time but for an acquire, which learns more.
+/// A closing act's time covers the stamp of the interval that it closes, and has the same own entry. In every other
+/// entry the stamp is the node's time before the act. So only an acquire, which learns more, has a time above the
+/// stamp.
 pub fn stamps_are_of_closing_acts()
     ensures covered { CloserCoversStamp }
     ensures act_index { CloserHasIndex }
@@ -88,50 +92,54 @@ pub fn stamps_are_of_closing_acts()
     ensures before { StampIsTimeBefore }
 {}
 
-/// The stamps of a node rise.
+/// The stamps of a node's intervals rise.
 pub fn stamps_of_a_node_rise()
     ensures { StampsRise }
 {}
 
-/// Every time is closed downward: what it covers was closed, and it covers the stamp of that.
+/// Times are closed downward: every interval that a time covers was closed, and the time covers its stamp. A stamp also
+/// covers its own interval.
 pub fn times_are_closed_downward()
     ensures at { CutAt }
     ensures before { CutBefore }
     ensures stamp { CutOfStamp }
 {}
 
-/// Where the stamp of an interval covers another interval, the other weighs less, and does not cover it.
+/// If the stamp of an interval covers another interval, the stamp of that other interval weighs less, and does not
+/// cover the first.
 pub fn covered_interval_is_lighter()
     ensures lighter { CoveredIsLighter }
     ensures one_way { CoveredDoesNotCover }
 {}
 
-/// Two accesses of different nodes are unordered exactly where neither's time covers the other's interval, and the named races
+/// Two accesses of different nodes are unordered exactly if neither's time covers the other's interval. The named races
 /// are those of two such accesses.
 pub fn unordered_accesses_are_unknown()
     ensures accesses { UnorderedIsUnknown }
     ensures races { NamedRaceIsUnknown }
 {}
 
-/// The named races are exactly those of two segments of different nodes, one of which wrote the word and the other accessed it,
-/// of which neither time covers the other's interval.
+/// The named races are exactly those of two segments of different nodes such that one wrote the word, the other
+/// accessed it, and neither time covers the other's interval.
 pub fn named_races_are_of_segments()
     ensures { NamedRaceIsOfSegments }
 {}
 
-/// Within an interval a node's time stands still from its first access on.
+/// Within an interval a node's time does not change after its first access.
 pub fn time_stands_still_within_an_interval()
     ensures time { TimeStandsStill }
     ensures stamp { StampOfInterval }
     ensures segment { SegmentTime }
 {}
 
-/// An access happens before one of another node exactly where the stamp of that one's interval covers its interval.
+/// An act happens before an access of another node exactly if the stamp of the access's interval covers the act's
+/// interval.
 pub fn order_of_intervals_is_cover()
     ensures { IntervalOrderIsCover }
 {}
 
-/// Epochs agree: what has fewer departs of its node before it happens before what has more, and is covered there.
+/// Epochs are ordered. If an act that is no depart has fewer departs of its node before it than another act has of its
+/// own, then it happens before that act, and that act's time covers its interval.
 pub fn earlier_epoch_is_covered()
     ensures before { EarlierEpochHappensBefore }
     ensures covered { EarlierEpochIsCovered }
@@ -146,20 +154,22 @@ pub fn times_on_a_prefix()
     ensures arrived { ArrivedOnPrefix }
 {}
 
-/// A prefix of what keeps time keeps time, and one act more does exactly where its time is that of the rule.
+/// If a list of times keeps time for a run, its prefix keeps time for the prefix of the run. One more act keeps time
+/// exactly if its node is in range and its time is that of the rule.
 pub fn keeping_time_on_a_prefix()
     ensures prefix { KeepsOnPrefix }
     ensures one_more { KeepsByOneMore }
 {}
 
-/// A run of these nodes has exactly one list of times that keeps time, so whether a list does is decided.
+/// A run of the given nodes has exactly one list of times that keeps time. Whether a list keeps time is decidable.
 pub fn the_rule_determines_the_times()
     ensures exist { TimesExist }
     ensures one { TimesAreOne }
     ensures decided { KeepingIsDecided }
 {}
 
-/// Where the times of nodes and locks are taken from.
+/// The time of a node is that of its last act, and the time of a lock is that of its last release, or all zeros if
+/// there is none.
 pub fn times_are_those_of_the_last()
     ensures before { BeforeIsLast }
     ensures zeros { BeforeIsZeros }
@@ -167,14 +177,15 @@ pub fn times_are_those_of_the_last()
     ensures released_zeros { ReleasedIsZeros }
 {}
 
-/// The times of barriers: settled once every node has arrived, rising, and of each node what it knew of itself.
+/// The time of a barrier does not change once every node has arrived. It covers the time of the barrier before, and for
+/// each node it has the node's own entry at its arrive.
 pub fn barrier_times_are_settled()
     ensures settled { ArrivedIsSettled }
     ensures rise { BarriersRise }
     ensures own { BarrierHasOwn }
 {}
 
-/// No time knows of an interval that is open at its position or later.
+/// No time knows an interval that is open at its position or later.
 pub fn open_intervals_are_unknown()
     ensures at { OpenAtPosition }
     ensures node { OpenToNode }

@@ -121,14 +121,14 @@ static COMMANDS: [&str; 16] = [
     "explore", "why", "lint", "races", "help", "version",
 ];
 
-/// Whether a command is called so.
+/// Returns whether a command has this name.
 pub fn is_command(word: &str) -> bool
     ensures { result ≡ is_command word.now }
 {
     COMMANDS.contains(&word)
 }
 
-/// The command line of the program.
+/// Returns the command line of the program, as clap takes it.
 pub fn command_line<'w>(alloc: Global) -> Result<Command<'w>, AllocError>
     ensures { IfOk result (λ command. app_of command ≡ treadmarks) }
 {
@@ -139,7 +139,8 @@ pub fn command_line<'w>(alloc: Global) -> Result<Command<'w>, AllocError>
 
 // The command line without its commands.
 fn bare_command_line<'w>(alloc: Global) -> Result<Command<'w>, AllocError>
-    ensures { IfOk result (λ command. app_of command ≡ record { top = treadmarks_shape; subs = [] }) }
+    ensures { IfOk result (λ command. app_of command
+        ≡ record { top = treadmarks_shape; subs = [] }) }
 {
     Command::new(alloc, "treadmarks")
         .about("Runs programs on lazy-release-consistent shared memory. With no words: `sim -`")
@@ -197,7 +198,8 @@ fn having<'w>(
     below: Result<Command<'w>, AllocError>,
 ) -> Result<Command<'w>, AllocError>
     ensures { (app sub : App) → IfOk command.entry (λ command. app_of command ≡ app)
-        → IfOk below.entry (λ below. app_of below ≡ sub) → IfOk below.entry (λ below. (fields_of below).has_globals ≡ false)
+        → IfOk below.entry (λ below. app_of below ≡ sub)
+        → IfOk below.entry (λ below. (fields_of below).has_globals ≡ false)
         → IfOk result (λ given. app_of given ≡ with_subcommand app sub.top) }
 {
     match below {
@@ -212,8 +214,10 @@ fn taking<'w>(
     arg: Arg<'w>,
 ) -> Result<Command<'w>, AllocError>
     ensures app { (app : App) (rule : Rule) → arg.entry.global ≡ false → rule_of arg.entry ≡ rule
-        → IfOk command.entry (λ command. app_of command ≡ app) → IfOk result (λ given. app_of given ≡ with_rule app rule) }
-    ensures local { arg.entry.global ≡ false → IfOk command.entry (λ command. (fields_of command).has_globals ≡ false)
+        → IfOk command.entry (λ command. app_of command ≡ app)
+        → IfOk result (λ given. app_of given ≡ with_rule app rule) }
+    ensures local { arg.entry.global ≡ false
+        → IfOk command.entry (λ command. (fields_of command).has_globals ≡ false)
         → IfOk result (λ given. (fields_of given).has_globals ≡ false) }
 {
     match command {
@@ -407,7 +411,8 @@ fn taking_showing_options<'w>(
     command: Command<'w>,
 ) -> Result<Command<'w>, AllocError>
     requires { (fields_of command).has_globals ≡ false }
-    ensures app { IfOk result (λ given. app_of given ≡ with_showing_options (app_of command.entry)) }
+    ensures app { IfOk result (λ given. app_of given
+        ≡ with_showing_options (app_of command.entry)) }
     ensures local { IfOk result (λ given. (fields_of given).has_globals ≡ false) }
 {
     let command = taking_way_options(alloc, command);
@@ -428,7 +433,8 @@ fn taking_ways<'w>(
     alloc: Global,
     command: Result<Command<'w>, AllocError>,
 ) -> Result<Command<'w>, AllocError>
-    ensures app { (app : App) → IfOk command.entry (λ command. app_of command ≡ app) → IfOk result (λ given. app_of given ≡ with_ways app) }
+    ensures app { (app : App) → IfOk command.entry (λ command. app_of command ≡ app)
+        → IfOk result (λ given. app_of given ≡ with_ways app) }
     ensures local { IfOk command.entry (λ command. (fields_of command).has_globals ≡ false)
         → IfOk result (λ given. (fields_of given).has_globals ≡ false) }
 {
@@ -443,7 +449,8 @@ fn taking_part<'w>(
     from: &'w str,
     to: &'w str,
 ) -> Result<Command<'w>, AllocError>
-    ensures app { (app : App) → IfOk command.entry (λ command. app_of command ≡ app) → IfOk result (λ given. app_of given ≡ with_part app) }
+    ensures app { (app : App) → IfOk command.entry (λ command. app_of command ≡ app)
+        → IfOk result (λ given. app_of given ≡ with_part app) }
     ensures local { IfOk command.entry (λ command. (fields_of command).has_globals ≡ false)
         → IfOk result (λ given. (fields_of given).has_globals ≡ false) }
 {
@@ -470,7 +477,8 @@ fn taking_counts<'w>(
     command: Result<Command<'w>, AllocError>,
     orders: &'w str,
 ) -> Result<Command<'w>, AllocError>
-    ensures app { (app : App) → IfOk command.entry (λ command. app_of command ≡ app) → IfOk result (λ given. app_of given ≡ with_counts app) }
+    ensures app { (app : App) → IfOk command.entry (λ command. app_of command ≡ app)
+        → IfOk result (λ given. app_of given ≡ with_counts app) }
     ensures local { IfOk command.entry (λ command. (fields_of command).has_globals ≡ false)
         → IfOk result (λ given. (fields_of given).has_globals ≡ false) }
 {

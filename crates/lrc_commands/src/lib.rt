@@ -1,4 +1,4 @@
-//! The commands of `treadmarks` and their options, as clap is told of them.
+//! Describes the command line of `treadmarks` to clap: its commands, and the options of each.
 #![tactic(auto)]
 
 mod commands;

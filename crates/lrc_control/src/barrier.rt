@@ -11,8 +11,8 @@ use lrc_barrier::{Arrival, BarrierFault, Departures, Manager};
 use std::alloc::{AllocError, Global};
 use std::marker::Model;
 
-/// How often a node has arrived, and up to which of its intervals it has sent them with an arrival. Node 0 has the
-/// manager of barriers too.
+/// A node's part in barriers: how often it has arrived, and up to which index it has sent its intervals with an
+/// arrival. Node 0 also has the manager of barriers.
 #[derive(Drop)]
 pub struct Barrier {
     episode: u32,
@@ -33,7 +33,7 @@ impl Model for Barrier {
 }
 
 impl Barrier {
-    /// Node `me` of 1 to 16 before any arrival.
+    /// Creates the part of node `me` in a run of 1 to 16 nodes, before any arrival.
     pub fn new(alloc: Global, me: u8, nodes: u8) -> Barrier
         requires some { 1 ≤ nodes }
         requires few { nodes ≤ 16 }
@@ -51,9 +51,10 @@ impl Barrier {
         }
     }
 
-    /// The manager of barriers, if it is here.
+    /// Returns the manager of barriers, if this node has it.
     pub fn manager(&self) -> Option<&Manager>
-        ensures { MatchOption result (self.now.manager ≡ None) (λ manager. self.now.manager ≡ Some manager.now) }
+        ensures { MatchOption result (self.now.manager ≡ None)
+            (λ manager. self.now.manager ≡ Some manager.now) }
     {
         match &self.manager {
             Some(manager) => Some(manager),
@@ -61,21 +62,21 @@ impl Barrier {
         }
     }
 
-    /// How often the node has arrived.
+    /// Returns how often the node has arrived.
     pub fn episode(&self) -> u32
         ensures { result ≡ self.now.episode }
     {
         self.episode
     }
 
-    /// The index of the node's newest interval that it sent with an arrival, 0 where it has sent none.
+    /// Returns the index of the node's newest interval that it has sent with an arrival, or 0 if it has sent none.
     pub fn sent(&self) -> u32
         ensures { result ≡ self.now.sent }
     {
         self.sent
     }
 
-    /// The node arrives once more, with its intervals up to this index.
+    /// Notes that the node arrives again, and sends its intervals up to this index.
     pub fn arrive(&mut self, index: u32)
         requires { self.old.episode < MOST_NUMBER }
         ensures barrier { self.new ≡ with_arrive index self.old }
@@ -85,7 +86,7 @@ impl Barrier {
         self.sent = index;
     }
 
-    /// The index of a node's newest interval that has come to the manager, 0 where the manager isn't here.
+    /// Returns the index of a node's newest interval that has reached the manager, or 0 if the manager is not here.
     pub fn last_from(&self, from: u8) -> u32
         requires { IfSome self.now.manager (λ manager. from < length manager.last) }
         ensures { result ≡ last_arrived self.now from }
@@ -96,11 +97,12 @@ impl Barrier {
         }
     }
 
-    /// Whether the manager is here and would accept a node's arrival at this episode.
+    /// Returns whether the manager is here and would accept a node's arrival in this episode.
     pub fn accepts(&self, from: u8, episode: u32) -> bool
         requires { IfSome self.now.manager (λ manager. from < length manager.last) }
         ensures { (arrival : ArrivalRecord) → arrival.episode ≡ episode
-            → result ≡ unwrap_or (option_map is_accepted (arrive_step self.now from arrival)) false }
+            → result ≡ unwrap_or (option_map is_accepted (arrive_step self.now from arrival))
+            false }
     {
         match &self.manager {
             Some(manager) => manager.accepts(from, episode),
@@ -108,10 +110,11 @@ impl Barrier {
         }
     }
 
-    /// Whether the manager is here and would accept a node's Clean for this episode.
+    /// Returns whether the manager is here and would accept a node's Clean for this episode.
     pub fn accepts_clean(&self, from: u8, episode: u32) -> bool
         requires { IfSome self.now.manager (λ manager. from < length manager.last) }
-        ensures { result ≡ unwrap_or (option_map is_clean (clean_step self.now from episode)) false }
+        ensures { result ≡ unwrap_or (option_map is_clean (clean_step self.now from episode))
+            false }
     {
         match &self.manager {
             Some(manager) => manager.accepts_clean(from, episode),
@@ -119,20 +122,24 @@ impl Barrier {
         }
     }
 
-    /// The manager, which is here and accepts it, takes another node's arrival; the last one gives the departures. Where
-    /// no memory is left, the barrier stays as it was.
+    /// Takes a node's arrival at the manager, which must be here and accept it. The last arrival of an episode returns
+    /// the departures. On error the barrier does not change.
     pub fn take_arrival(
         &mut self,
         from: u8,
         arrival: Arrival,
     ) -> Result<Option<Departures>, AllocError>
-        requires accepted { IsTrue (unwrap_or (option_map is_accepted (arrive_step self.old from arrival)) false) }
-        requires own { IfSome self.old.manager (λ manager. (from < length manager.last) × IsArrival (length manager.last) from arrival) }
+        requires accepted { IsTrue (unwrap_or (option_map is_accepted
+            (arrive_step self.old from arrival)) false) }
+        requires own { IfSome self.old.manager (λ manager. (from < length manager.last)
+            × IsArrival (length manager.last) from arrival) }
         requires begun { 1 ≤ arrival.episode }
-        ensures taken { IfOk result (λ answer. arrival_taken self.old (arrive_step self.old from arrival) ≡ Some (answer, self.new)) }
+        ensures taken { IfOk result (λ answer. arrival_taken self.old
+            (arrive_step self.old from arrival) ≡ Some (answer, self.new)) }
         ensures same { SameBarrier self.old self.new }
         ensures unchanged { OnErr result (self.new ≡ self.old) }
-        ensures departures { (nodes : ℕ) → IsOfNodes nodes self.old → IfOk result (λ answer. IfSome answer (AreDepartures nodes)) }
+        ensures departures { (nodes : ℕ) → IsOfNodes nodes self.old
+            → IfOk result (λ answer. IfSome answer (AreDepartures nodes)) }
     {
         let Some(manager) = &mut self.manager else {
             unreachable!()
@@ -144,12 +151,14 @@ impl Barrier {
         }
     }
 
-    /// The manager, which is here and accepts it, takes a node's Clean; the last one gives the episode of which all may
-    /// discard.
+    /// Takes a node's Clean at the manager, which must be here and accept it. The last Clean returns the episode for
+    /// which all nodes may discard.
     pub fn take_clean(&mut self, from: u8, episode: u32) -> Option<u32>
-        requires accepted { IsTrue (unwrap_or (option_map is_clean (clean_step self.old from episode)) false) }
+        requires accepted { IsTrue (unwrap_or (option_map is_clean
+            (clean_step self.old from episode)) false) }
         requires from { IfSome self.old.manager (λ manager. from < length manager.last) }
-        ensures taken { clean_taken self.old (clean_step self.old from episode) ≡ Some (result, self.new) }
+        ensures taken { clean_taken self.old (clean_step self.old from episode)
+            ≡ Some (result, self.new) }
         ensures same { SameBarrier self.old self.new }
     {
         let Some(manager) = &mut self.manager else {

@@ -15,8 +15,8 @@ use lrc_lock::{Held, Managed, Pass};
 use lrc_time::Time;
 use std::marker::Model;
 
-/// A node's time, which counts closed intervals; what it knows of each lock's token; and who asked last for the locks
-/// that it manages.
+/// A node's time, which counts closed intervals, with its knowledge of each lock's token, and the last node to ask for
+/// each lock that it manages.
 #[derive(Drop)]
 pub struct Clock {
     me: u8,
@@ -37,7 +37,7 @@ impl Model for Clock {
 }
 
 impl Clock {
-    /// The clock of node `me` of 1 to 16 nodes at the start, with at most 64 locks.
+    /// Creates the clock of node `me` in a run of 1 to 16 nodes, at the start, with at most 64 locks.
     pub fn new(me: u8, nodes: u8, locks: u8) -> Clock
         requires here { me < nodes }
         requires few { nodes ≤ 16 }
@@ -52,21 +52,21 @@ impl Clock {
         }
     }
 
-    /// What the node knows of each lock's token.
+    /// Returns what the node knows of each lock's token.
     pub fn held(&self) -> &Held
         ensures { result.now ≡ self.now.held }
     {
         &self.held
     }
 
-    /// Who asked last for the locks that the node manages.
+    /// Returns the last node to ask for each lock that this node manages.
     pub fn managed(&self) -> &Managed
         ensures { result.now ≡ self.now.managed }
     {
         &self.managed
     }
 
-    /// The node's time.
+    /// Returns the node's time.
     pub fn time(&self) -> &Time
         ensures time { result.now ≡ self.now.time }
         ensures is { IsClock self.now.held.me self.now }
@@ -74,14 +74,14 @@ impl Clock {
         &self.time
     }
 
-    /// The index of the node's newest closed interval, 0 where it has closed none.
+    /// Returns the index of the node's newest closed interval, or 0 if it has closed none.
     pub fn index(&self) -> u32
         ensures { result ≡ entry self.now.time self.now.held.me }
     {
         self.time.at(self.me)
     }
 
-    /// The stamp that the open interval has or would have: the node's time, its own entry one greater.
+    /// Returns the stamp that the open interval has or would have: the node's time with its own entry plus one.
     pub fn next(&self) -> Time
         requires { entry self.now.time self.now.held.me < MOST_NUMBER }
         ensures stamp { result ≡ next_time self.now.held.me self.now.time }
@@ -94,7 +94,7 @@ impl Clock {
         time
     }
 
-    /// The open interval is closed.
+    /// Counts the open interval as closed.
     pub fn tick(&mut self)
         requires { entry self.old.time self.old.held.me < MOST_NUMBER }
         ensures clock { self.new ≡ ticked self.old.held.me self.old }
@@ -103,7 +103,7 @@ impl Clock {
         self.time = self.next();
     }
 
-    /// The node learns what this time knows.
+    /// Joins this time to the node's time.
     pub fn learn(&mut self, time: &Time)
         requires { length time.now ≡ length self.old.time }
         ensures clock { self.new ≡ with_joined_time time.now self.old }
@@ -112,7 +112,7 @@ impl Clock {
         self.time.join(time);
     }
 
-    /// Takes the lock if its token is here and the lock is free, and answers whether it did.
+    /// Takes the lock if its token is here and the lock is free, and returns whether it did.
     pub fn try_local(&mut self, lock: u8) -> bool
         requires { lock < length self.old.held.locks }
         ensures answer { result ≡ is_free (lock_at self.old.held lock) }
@@ -122,7 +122,7 @@ impl Clock {
         self.held.try_local(lock)
     }
 
-    /// Notes that the token was asked for. It is neither here nor awaited.
+    /// Notes that the node has asked for the token. The token must be neither here nor awaited.
     pub fn ask(&mut self, lock: u8)
         requires lock { lock < length self.old.held.locks }
         requires away { lock_at self.old.held lock ≡ Away }
@@ -132,12 +132,14 @@ impl Clock {
         self.held.ask(lock);
     }
 
-    /// The node, which holds the lock, releases it at its present time. The pass is to the successor, if there is one.
+    /// Releases a lock that the node holds, at the node's present time. It returns the pass to the successor, if there
+    /// is one.
     pub fn release(&mut self, lock: u8) -> Option<Pass>
         requires lock { lock < length self.old.held.locks }
         requires held { IsTrue (is_held (lock_at self.old.held lock)) }
         ensures answer { result ≡ pass_of (released self.old.held lock self.old.time) }
-        ensures clock { self.new ≡ with_held (held_after self.old.held lock (released self.old.held lock self.old.time)) self.old }
+        ensures clock { self.new ≡ with_held (held_after self.old.held lock
+            (released self.old.held lock self.old.time)) self.old }
         ensures same { SameClock self.old self.new }
         ensures pass { IfSome result (IsPass self.old.held.me (length self.old.time)) }
     {
@@ -145,7 +147,7 @@ impl Clock {
         self.held.release(lock, now)
     }
 
-    /// Whether another node's request would be taken now, if it were forwarded to this one.
+    /// Returns whether another node's request would be taken now, if it were forwarded to this node.
     pub fn accepts(&self, lock: u8, asker: u8) -> bool
         requires { lock < length self.now.held.locks }
         ensures { (time : List ℕ) → result ≡ is_taken (forwarded self.now.held lock asker time) }
@@ -153,7 +155,7 @@ impl Clock {
         self.held.accepts(lock, asker)
     }
 
-    /// Another node's request, with its time, is forwarded to this one, which takes it. The pass is there if the token
+    /// Takes another node's request, with its time, that was forwarded to this node. It returns a pass if the token
     /// leaves at once.
     pub fn forward(&mut self, lock: u8, asker: u8, time: Time) -> Option<Pass>
         requires lock { lock < length self.old.held.locks }
@@ -161,7 +163,8 @@ impl Clock {
         requires counted { length time ≡ length self.old.time }
         requires taken { IsTrue (is_taken (forwarded self.old.held lock asker time)) }
         ensures answer { result ≡ pass_of (forwarded self.old.held lock asker time) }
-        ensures clock { self.new ≡ with_held (held_after self.old.held lock (forwarded self.old.held lock asker time)) self.old }
+        ensures clock { self.new ≡ with_held (held_after self.old.held lock
+            (forwarded self.old.held lock asker time)) self.old }
         ensures same { SameClock self.old self.new }
         ensures pass { IfSome result (IsPass self.old.held.me (length self.old.time)) }
     {
@@ -171,11 +174,12 @@ impl Clock {
         pass
     }
 
-    /// The token comes, which was awaited, and the node holds the lock.
+    /// Notes that the awaited token has arrived. The node holds the lock.
     pub fn granted(&mut self, lock: u8)
         requires lock { lock < length self.old.held.locks }
         requires awaited { IsTrue (is_awaited (lock_at self.old.held lock)) }
-        ensures clock { self.new ≡ with_held (held_after self.old.held lock (granted self.old.held lock)) self.old }
+        ensures clock { self.new ≡ with_held (held_after self.old.held lock
+            (granted self.old.held lock)) self.old }
         ensures same { SameClock self.old self.new }
     {
         let Ok(()) = self.held.granted(lock) else {
@@ -183,14 +187,15 @@ impl Clock {
         };
     }
 
-    /// The node to which a request for a lock that this node manages goes on; from now on the asker is the one that asked
-    /// last.
+    /// Returns the node to which a request for a lock managed here is forwarded. From then on the asker is the last
+    /// node to have asked.
     pub fn request(&mut self, lock: u8, asker: u8) -> u8
         requires lock { lock < length self.old.held.locks }
         requires asker { asker < length self.old.time }
         requires managed { manager_of self.old.managed.nodes lock ≡ self.old.managed.me }
         ensures answer { request_answer (requested self.old.managed lock asker) ≡ Ok result }
-        ensures clock { self.new ≡ with_managed (managed_after self.old.managed (requested self.old.managed lock asker)) self.old }
+        ensures clock { self.new ≡ with_managed (managed_after self.old.managed
+            (requested self.old.managed lock asker)) self.old }
         ensures same { SameClock self.old self.new }
         ensures to { result < length self.old.time }
     {

@@ -14,21 +14,21 @@ use lrc_trace::act::{Cause, Deed};
 use lrc_trace::end::End;
 use std::marker::Model;
 
-/// Where a node's text stands.
+/// The state of a node's text.
 #[derive(Clone, Copy)]
 pub(crate) enum TextStanding {
-    /// It goes on.
+    /// The text goes on.
     Running,
-    /// It has arrived at a barrier, and has not departed from it.
+    /// The text has arrived at a barrier, and has not departed from it.
     Arrived,
-    /// It has trapped.
+    /// The text has trapped.
     Trapped(Cause),
-    /// It has come to its end.
+    /// The text has reached its end.
     Ended,
 }
 
 /// How far a node's text has come, and how many steps the node may still make. A step is a statement begun or a
-/// condition evaluated; the end of the text counts none.
+/// condition evaluated. The end of the text counts as no step.
 #[derive(Drop)]
 pub struct Text<'c> {
     machine: Machine<'c>,
@@ -52,7 +52,7 @@ impl<'c> Model for Text<'c> {
 }
 
 impl<'c> Text<'c> {
-    /// Node `me` of `nodes` at the beginning of a program, with so many steps.
+    /// Creates the text of node `me` of `nodes` at the beginning of a program, with the given number of steps.
     pub fn new(code: &'c Code<'_>, me: u8, nodes: u8, steps: u32) -> Text<'c>
         ensures { result ≡ record { course = going (start_of code.now nodes me); left = steps } }
     {
@@ -63,7 +63,7 @@ impl<'c> Text<'c> {
         }
     }
 
-    /// What the text asks for next, none once it has stopped.
+    /// Returns what the text asks for next, or none if it has stopped.
     pub fn asked(&self) -> Option<Ask>
         ensures { result ≡ asked_in self.now.course }
     {
@@ -74,7 +74,7 @@ impl<'c> Text<'c> {
         }
     }
 
-    /// What the text would begin: none where it has stopped or is at a barrier, or its steps are used up.
+    /// Returns what the text would begin, or none if it has stopped, is at a barrier, or has used up its steps.
     pub fn begins(&self) -> Option<Ask>
         ensures asked { result ≡ option_map ask_of (begun_by self.now) }
         ensures paid { IfSome result (λ ask. cost_asked ask ≤ self.now.left) }
@@ -85,7 +85,7 @@ impl<'c> Text<'c> {
         }
     }
 
-    /// Whether the text would begin anything.
+    /// Returns whether the text would begin anything.
     pub fn is_ready(&self) -> bool
         ensures { result ≡ is_some (begun_by self.now) }
     {
@@ -95,7 +95,7 @@ impl<'c> Text<'c> {
         }
     }
 
-    /// Begins this, which comes next, and counts the step.
+    /// Begins what the text asks for next, and counts the step.
     #[inline(always)]
     pub fn begin(&mut self, ask: Ask)
         requires { option_map ask_of (begun_by self.old) ≡ Some ask }
@@ -104,8 +104,8 @@ impl<'c> Text<'c> {
         self.left -= ask.cost();
     }
 
-    /// Makes the deed that comes next, which is what the text asks for, a read with this value. None once the text has
-    /// stopped.
+    /// Makes the deed that comes next, which is what the text asks for. A read gets this value. It returns none if the
+    /// text has stopped.
     pub fn go_on(&mut self, asked: Option<Ask>, value: u64) -> Option<Deed>
         requires { asked ≡ asked_in self.old.course }
         ensures deed { result ≡ deed_in value self.old.course }
@@ -125,7 +125,7 @@ impl<'c> Text<'c> {
         }
     }
 
-    /// Goes on by a step that only its own thread sees: an assignment or a condition.
+    /// Makes a step that only its own thread sees: an assignment or a condition.
     #[inline(always)]
     pub fn go_on_quietly(&mut self)
         requires { asked_in self.old.course ≡ Some Ask.Quiet }
@@ -135,7 +135,7 @@ impl<'c> Text<'c> {
         self.machine.answer(0);
     }
 
-    /// How the node ended.
+    /// Returns how the node ended.
     pub fn end(&self) -> End
         ensures { result ≡ end_of self.now.course }
     {

@@ -7,7 +7,8 @@ pub fn fitting_value_may_be_read<A>()
     ensures { FittingValueMayBeRead A }
 {}
 
-/// So may a word of a copy that fits what its node's time covers, with the node's own interval.
+/// A word of a copy may be read if the copy fits the intervals that its node's time covers, with the node's own
+/// interval.
 pub fn fitting_copy_may_be_read<A>()
     ensures { FittingCopyMayBeRead A }
 {}

@@ -4,60 +4,61 @@ ghost use Rattle.lrc_copies.specs.WordLaws.{ZeroFitsNothing, UnwrittenWordsAreZe
 ghost use Rattle.lrc_copies.specs.WordLaws.{OrderedWritersHaveALast, ClosingStaysSound, ClosingWithoutAWriteStaysSound, AddingOneKeepsTheFit};
 ghost use Rattle.lrc_copies.specs.WordLaws.{RepairingKeepsTheFit, FittingIsDecided};
 
-/// Before the first write a word is zero.
+/// Zero fits the empty list: before the first write a word is zero.
 pub fn zero_fits_nothing<A>()
     ensures { ZeroFitsNothing A }
 {}
 
-/// Where no member of a list wrote the word, what fits is zero.
+/// If no member of a list wrote the word, only zero fits.
 pub fn unwritten_words_are_zero<A>()
     ensures { UnwrittenWordsAreZero A }
 {}
 
-/// Of the members of a list only those that wrote the word count, and of these only that they are members: a copy goes
-/// on to fit a list with more intervals of which none writes the word.
+/// Of the members of a list, only those that wrote the word count, and of these only that they are members. So a copy
+/// still fits a list with more intervals if none of them writes the word.
 pub fn only_writers_count<A>()
     ensures { OnlyWritersCount A }
 {}
 
-/// Nothing counts but what the members wrote and which of them is below which.
+/// Only what the members wrote, and which of them is below which, counts.
 pub fn only_members_count<A>()
     ensures { OnlyMembersCount A }
 {}
 
-/// Where a copy fits a list, what an open interval makes of the copy fits the list and the interval: its last value, or
-/// what the copy had where it did not write.
+/// If a copy fits a list, then what an open interval makes of the copy fits the list with the interval: the interval's
+/// last value, or the copy's value if the interval did not write.
 pub fn open_interval_keeps_the_fit<A>()
     ensures { OpenIntervalKeepsTheFit A }
 {}
 
-/// Where the writers of a list are ordered, there is none, or one is the last: the heaviest. No question has to be
-/// decided for that but which of two numbers is larger.
+/// If the writers in a list are ordered, there is none, or one is the last: the heaviest. Finding it requires no
+/// decision but which of two numbers is larger.
 pub fn ordered_writers_have_a_last<A>()
     ensures { OrderedWritersHaveALast A }
 {}
 
-/// What is closed after all others is sound, also where it wrote what the word had before.
+/// An interval that is closed after all others is sound, even if it wrote the value that the word had before.
 pub fn closing_stays_sound<A>()
     ensures { ClosingStaysSound A }
 {}
 
-/// So is what is closed without writing the word and without a change of it.
+/// An interval that is closed after all others is sound if it neither wrote the word nor has a change of it.
 pub fn closing_without_a_write_stays_sound<A>()
     ensures { ClosingWithoutAWriteStaysSound A }
 {}
 
-/// To apply the changes of one interval keeps the fit, where all below it are in and it is below none that is in.
+/// Applying the changes of one interval keeps the fit, if all writers below it are in and it is below no writer that is
+/// in.
 pub fn adding_one_keeps_the_fit<A>()
     ensures { AddingOneKeepsTheFit A }
 {}
 
-/// To apply the changes of several keeps it, by rising weight.
+/// Applying the changes of several intervals by rising weight keeps the fit.
 pub fn repairing_keeps_the_fit<A>()
     ensures { RepairingKeepsTheFit A }
 {}
 
-/// Where intervals are named by numbers, a test tells whether a value fits.
+/// If intervals are named by numbers, a test decides whether a value fits.
 pub fn fitting_is_decided()
     ensures { FittingIsDecided }
 {}

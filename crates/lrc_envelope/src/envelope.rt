@@ -1,4 +1,4 @@
-//! Messages on their way.
+//! Messages in flight.
 
 use crate::message::Message;
 use std::marker::Model;
@@ -10,7 +10,7 @@ pub struct Envelope {
     pub from: u8,
     /// The receiver, below `MOST_NODES`.
     pub to: u8,
-    /// The message's place among those that this sender sent this receiver.
+    /// The message's place among those from this sender to this receiver.
     pub number: u32,
     pub message: Message,
 }

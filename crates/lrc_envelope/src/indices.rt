@@ -1,4 +1,4 @@
-//! Intervals of one node, by their indices.
+//! Intervals of one node, given by their indices.
 
 ghost use Rattle.std.specs.Prelude.{◌≡◌, ◌≤◌, ◌<◌, ◌↔◌, IsTrue, All, OnOk, OnErr, Some, [], ◌∷◌, ◌++◌, length, slice_get};
 ghost use Rattle.std.specs.Option.{ForSome};
@@ -9,10 +9,10 @@ use smallvec::SmallVec;
 use std::alloc::{AllocError, Global};
 use std::marker::Model;
 
-/// How many indices stand in a list itself, which asks for memory where there are more. Most requests name fewer.
+/// The number of indices that a list holds in itself; a longer one allocates memory. Most requests name fewer.
 pub const FEW_INDICES: usize = 4;
 
-/// Indices of intervals of one node, each at least 1, strictly ascending.
+/// Indices of intervals of one node, strictly ascending, each at least 1.
 #[derive(Drop)]
 pub struct Indices {
     list: SmallVec<u32, FEW_INDICES>,
@@ -30,7 +30,7 @@ impl Model for Indices {
 }
 
 impl Indices {
-    /// No indices.
+    /// Returns an empty list of indices.
     pub fn empty(alloc: Global) -> Self
         ensures { result ≡ [] }
     {
@@ -39,7 +39,7 @@ impl Indices {
         }
     }
 
-    /// These indices, which ascend from 1 or above.
+    /// Returns a list of the given indices, which ascend strictly from 1 or above.
     pub fn from_ascending(list: Vec<u32>) -> Self
         requires { AreIndices list.items }
         ensures { result ≡ list.items }
@@ -49,7 +49,8 @@ impl Indices {
         }
     }
 
-    /// These indices, which ascend from 1 or above, from a list that keeps a few in itself.
+    /// Returns a list of the given indices, which ascend strictly from 1 or above. They come in a list that holds a few
+    /// in itself.
     pub fn from_short(list: SmallVec<u32, FEW_INDICES>) -> Self
         requires { AreIndices list.items }
         ensures { result ≡ list.items }
@@ -57,7 +58,7 @@ impl Indices {
         Indices { list }
     }
 
-    /// Adds an index above all others. An error leaves the indices as they were.
+    /// Adds an index above all others. It fails if memory runs out, and then nothing changes.
     pub fn push(&mut self, index: u32) -> Result<(), AllocError>
         requires begun { 1 ≤ index }
         requires above { ForSome (last_index self.old) (λ last. last < index) }
@@ -68,7 +69,7 @@ impl Indices {
         Ok(())
     }
 
-    /// How many indices there are.
+    /// Returns the number of indices.
     pub fn len(&self) -> usize
         ensures count { result ≡ length self.now }
         ensures are { AreIndices self.now }
@@ -76,14 +77,14 @@ impl Indices {
         self.list.len()
     }
 
-    /// Whether there is no index.
+    /// Returns whether there is no index.
     pub fn is_empty(&self) -> bool
         ensures { IsTrue result ↔ (self.now ≡ []) }
     {
         self.list.is_empty()
     }
 
-    /// The index at a place, counted from 0 in ascending order.
+    /// Returns the index at a place, counted from 0 in ascending order.
     pub fn at(&self, place: usize) -> u32
         requires { place < length self.now }
         ensures { slice_get self.now place ≡ Some result }
@@ -91,7 +92,7 @@ impl Indices {
         self.list.as_slice()[place]
     }
 
-    /// The indices, ascending.
+    /// Returns the indices, ascending.
     pub fn as_slice(&self) -> &[u32]
         ensures all { result.now ≡ self.now }
         ensures are { AreIndices self.now }

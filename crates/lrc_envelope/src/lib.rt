@@ -1,6 +1,6 @@
-//! What nodes tell each other: the kinds of messages of the lazy release consistency protocol with locks, barriers and
-//! collection (Keleher, Cox and Zwaenepoel 1992; Amza et al. 1996), in envelopes that name sender, receiver and number.
-//! How they travel as bytes is `lrc_wire`'s.
+//! The messages between nodes: the kinds that lazy release consistency with locks, barriers and collection needs
+//! (Keleher, Cox and Zwaenepoel 1992; Amza et al. 1996). Each travels in an envelope with its sender, its receiver and
+//! a number. The crate `lrc_wire` turns them into bytes.
 #![tactic(auto)]
 
 mod envelope;

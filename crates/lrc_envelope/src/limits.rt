@@ -1,4 +1,4 @@
-//! How many locks and nodes a message can name.
+//! The numbers of locks and nodes that a message can name.
 
 /// The largest number of locks.
 pub const MOST_LOCKS: u8 = 64;

@@ -7,7 +7,7 @@ use lrc_page::Page;
 use lrc_time::Time;
 use std::marker::Model;
 
-/// What one node tells another.
+/// A message from one node to another.
 #[derive(Drop)]
 pub enum Message {
     LockRequest(LockRequest),
@@ -26,9 +26,9 @@ pub enum Message {
 /// Asks a lock's manager for the lock.
 #[derive(Drop)]
 pub struct LockRequest {
-    /// Below `MOST_LOCKS`.
+    /// The lock, below `MOST_LOCKS`.
     pub lock: u8,
-    /// What the asker knows.
+    /// The asker's time.
     pub time: Time,
 }
 
@@ -44,14 +44,14 @@ impl Model for LockRequest {
     ghost invariant = { λ m. m.lock < MOST_LOCKS };
 }
 
-/// A lock's manager passes a request on to the node that asked for the lock before.
+/// Forwards a request from a lock's manager to the last node that asked for the lock before.
 #[derive(Drop)]
 pub struct LockForward {
-    /// Below `MOST_LOCKS`.
+    /// The lock, below `MOST_LOCKS`.
     pub lock: u8,
     /// The node that asks, below `MOST_NODES`.
     pub asker: u8,
-    /// What the asker knows.
+    /// The asker's time.
     pub time: Time,
 }
 
@@ -65,12 +65,12 @@ impl Model for LockForward {
     ghost invariant = { λ m. IsLockForward (record { lock = m.lock; asker = m.asker; time = m.time }) };
 }
 
-/// Hands a lock on.
+/// Hands a lock to the node that asked for it.
 #[derive(Drop)]
 pub struct LockGrant {
-    /// Below `MOST_LOCKS`.
+    /// The lock, below `MOST_LOCKS`.
     pub lock: u8,
-    /// What the lock's last holder knew at its release, with the intervals that the asker lacks of it.
+    /// The time of the lock's last holder at its release, and the intervals up to it that the asker lacks.
     pub news: News,
 }
 
@@ -86,14 +86,14 @@ impl Model for LockGrant {
     ghost invariant = { λ m. m.lock < MOST_LOCKS };
 }
 
-/// A node has arrived at the barrier.
+/// Tells the barrier's manager that a node has arrived.
 #[derive(Drop)]
 pub struct Arrive {
-    /// Which barrier of the run, from 1.
+    /// The number of the barrier in the run, from 1.
     pub episode: u32,
     /// Whether the node asks for a collection.
     pub ask: bool,
-    /// What the node knows, with its own intervals since its last arrival.
+    /// The node's time, and its own intervals since its last arrival.
     pub news: News,
 }
 
@@ -108,14 +108,14 @@ impl Model for Arrive {
     ghost invariant = { λ m. 1 ≤ m.episode };
 }
 
-/// A node may leave the barrier.
+/// Lets a node depart from the barrier.
 #[derive(Drop)]
 pub struct Depart {
-    /// Which barrier of the run, from 1.
+    /// The number of the barrier in the run, from 1.
     pub episode: u32,
-    /// Whether this barrier collects.
+    /// Whether a collection follows this barrier.
     pub collect: bool,
-    /// What all nodes together knew when they arrived, with the intervals that the node lacks of it.
+    /// The join of all nodes' times at their arrivals, and the intervals up to it that the node lacks.
     pub news: News,
 }
 
@@ -130,10 +130,10 @@ impl Model for Depart {
     ghost invariant = { λ m. 1 ≤ m.episode };
 }
 
-/// A node's copies are up to date: its part of a collection is done.
+/// Tells that a node's copies are up to date, so its part of a collection is done.
 #[derive(Drop)]
 pub struct Clean {
-    /// Which barrier of the run collects, from 1.
+    /// The number of the barrier that collects, from 1.
     pub episode: u32,
 }
 
@@ -147,10 +147,10 @@ impl Model for Clean {
     ghost invariant = { λ m. 1 ≤ m.episode };
 }
 
-/// Every node's part of a collection is done: what it collects may be dropped.
+/// Tells that every node's part of a collection is done, so what it collects may be dropped.
 #[derive(Drop)]
 pub struct Discard {
-    /// Which barrier of the run collects, from 1.
+    /// The number of the barrier that collects, from 1.
     pub episode: u32,
 }
 
@@ -164,12 +164,12 @@ impl Model for Discard {
     ghost invariant = { λ m. 1 ≤ m.episode };
 }
 
-/// Asks a node for what some of its intervals changed in a page.
+/// Asks a node for the changes that some of its intervals made to a page.
 #[derive(Drop)]
 pub struct ChangesRequest {
-    /// Below `MOST_PAGES`.
+    /// The page, below `MOST_PAGES`.
     pub page: u16,
-    /// The intervals, at least one.
+    /// The indices of the intervals, at least one.
     pub indices: Indices,
 }
 
@@ -183,12 +183,12 @@ impl Model for ChangesRequest {
     ghost invariant = { λ m. IsChangesRequest (record { page = m.page; indices = m.indices }) };
 }
 
-/// What some of a node's intervals changed in a page.
+/// The changes that some of a node's intervals made to a page.
 #[derive(Drop)]
 pub struct ChangesReply {
-    /// Below `MOST_PAGES`.
+    /// The page, below `MOST_PAGES`.
     pub page: u16,
-    /// At least one.
+    /// The changes of each interval, at least one interval.
     pub parts: Parts,
 }
 
@@ -205,7 +205,7 @@ impl Model for ChangesReply {
 /// Asks a page's keeper for its base copy.
 #[derive(Drop)]
 pub struct PageRequest {
-    /// Below `MOST_PAGES`.
+    /// The page, below `MOST_PAGES`.
     pub page: u16,
 }
 
@@ -223,7 +223,7 @@ impl Model for PageRequest {
 /// A page's base copy.
 #[derive(Drop)]
 pub struct PageReply {
-    /// Below `MOST_PAGES`.
+    /// The page, below `MOST_PAGES`.
     pub page: u16,
     pub copy: Box<Page>,
 }

@@ -1,11 +1,11 @@
-//! What a node tells of the intervals that it knows.
+//! What a node tells another about the intervals that it knows.
 
 use lrc_store::Intervals;
 use lrc_time::Time;
 use std::marker::Model;
 
-/// A node's time, and intervals that go with it: write notices ride on grants and barriers (Keleher, Cox and
-/// Zwaenepoel 1992).
+/// A node's time, and intervals that go with it. Write notices travel with grants and barrier messages (Keleher, Cox
+/// and Zwaenepoel 1992).
 #[derive(Drop)]
 pub struct News {
     /// What the sender knew.

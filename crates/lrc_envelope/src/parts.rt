@@ -1,4 +1,4 @@
-//! What intervals of one node changed in a page.
+//! The changes that intervals of one node made to a page.
 
 ghost use Rattle.std.specs.Prelude.{◌≡◌, ◌<◌, ◌↔◌, IsTrue, OnOk, OnErr, Some, [], ◌∷◌, ◌++◌, length, slice_get};
 ghost use Rattle.std.specs.Option.{ForSome};
@@ -10,7 +10,7 @@ use std::alloc::{AllocError, Global};
 use std::default::MadeWith;
 use std::marker::Model;
 
-/// What one interval changed in a page.
+/// The changes that one interval made to a page.
 #[derive(Drop)]
 pub struct IndexedChanges {
     /// The interval's index, at least 1.
@@ -28,7 +28,7 @@ impl Model for IndexedChanges {
     ghost invariant = { λ p. IsIndexedChanges (record { index = p.index; changes = p.changes }) };
 }
 
-/// A part whose changes are none, for the places of a list that are not taken.
+/// Makes a part without changes, for the unused places of a list.
 impl MadeWith<Global> for IndexedChanges {
     fn made_with(alloc: Global) -> Self {
         IndexedChanges {
@@ -38,10 +38,10 @@ impl MadeWith<Global> for IndexedChanges {
     }
 }
 
-/// How many parts stand in a list itself, which asks for memory where there are more. Most replies have one.
+/// The number of parts that a list holds in itself; a longer one allocates memory. Most replies have one.
 pub const FEW_PARTS: usize = 1;
 
-/// What some intervals of one node changed in a page, strictly ascending by index.
+/// The changes that some intervals of one node made to a page, strictly ascending by index.
 #[derive(Drop)]
 pub struct Parts {
     list: SmallVec<IndexedChanges, FEW_PARTS>,
@@ -59,7 +59,7 @@ impl Model for Parts {
 }
 
 impl Parts {
-    /// No parts.
+    /// Returns an empty list of parts.
     pub fn empty(alloc: Global) -> Self
         ensures { result ≡ [] }
     {
@@ -68,7 +68,7 @@ impl Parts {
         }
     }
 
-    /// These parts, which ascend by index.
+    /// Returns a list of the given parts, which ascend strictly by index.
     pub fn from_ascending(list: Vec<IndexedChanges>) -> Self
         requires { AreParts list.items }
         ensures { result ≡ list.items }
@@ -78,7 +78,7 @@ impl Parts {
         }
     }
 
-    /// These parts, which ascend by index, from a list that keeps one in itself.
+    /// Returns a list of the given parts, which ascend strictly by index. They come in a list that holds one in itself.
     pub fn from_short(list: SmallVec<IndexedChanges, FEW_PARTS>) -> Self
         requires { AreParts list.items }
         ensures { result ≡ list.items }
@@ -86,7 +86,7 @@ impl Parts {
         Parts { list }
     }
 
-    /// Adds a part of an index above all others. An error leaves the parts as they were.
+    /// Adds a part whose index is above all others. It fails if memory runs out, and then nothing changes.
     pub fn push(&mut self, part: IndexedChanges) -> Result<(), AllocError>
         requires { ForSome (last_part self.old) (λ last. last.index < part.index) }
         ensures ok { OnOk result (self.new ≡ self.old ++ part ∷ []) }
@@ -96,7 +96,7 @@ impl Parts {
         Ok(())
     }
 
-    /// How many parts there are.
+    /// Returns the number of parts.
     pub fn len(&self) -> usize
         ensures count { result ≡ length self.now }
         ensures are { AreParts self.now }
@@ -104,14 +104,14 @@ impl Parts {
         self.list.len()
     }
 
-    /// Whether there is no part.
+    /// Returns whether there is no part.
     pub fn is_empty(&self) -> bool
         ensures { IsTrue result ↔ (self.now ≡ []) }
     {
         self.list.is_empty()
     }
 
-    /// The part at a place, counted from 0 in the order of the indices.
+    /// Returns the part at a place, counted from 0 in the order of the indices.
     pub fn at(&self, place: usize) -> &IndexedChanges
         requires { place < length self.now }
         ensures { slice_get self.now place ≡ Some result.now }
@@ -119,7 +119,7 @@ impl Parts {
         &self.list.as_slice()[place]
     }
 
-    /// The parts in order.
+    /// Returns the parts in order.
     pub fn as_slice(&self) -> &[IndexedChanges]
         ensures all { result.now ≡ self.now }
         ensures are { AreParts self.now }

@@ -11,15 +11,15 @@ use lrc_protocol::Event;
 use lrc_text::read_number;
 use std::alloc::{AllocFailed, Global};
 
-/// The longest text of events, in bytes.
+/// The length of the longest text of events, in bytes.
 pub const MOST_BYTES: usize = 16_777_216;
 
 const GREATEST_PLACE: u64 = 4_294_967_295;
 
-/// Why a text gives no events.
+/// Why a text was not read as events.
 #[derive(Clone, Copy, Debug, PartialEq, Eq)]
 pub enum EventsFault {
-    /// The line of this number, counted from 1, names no event.
+    /// The line with this number, counted from 1, is not an event.
     BadEvent(u32),
     /// Memory ran out.
     NoMemory,
@@ -33,13 +33,14 @@ impl<T: Drop> From<AllocFailed<T>> for EventsFault {
     }
 }
 
-/// The events that a text names, one on each line: `run N`, `deliver N` or `repeat N` with a number of up to 4294967295 in
-/// decimal digits. An empty line names none. A text of more than 16,777,216 bytes is wrong in its first line. Memory runs out only where
-/// there is an event to be kept.
+/// Reads the events of a text, one on each line: `run N`, `deliver N` or `repeat N`, with a number of up to 4294967295
+/// in decimal digits. Empty lines are skipped. A text of more than 16,777,216 bytes is wrong in its first line. Memory
+/// can run out only if there is an event to keep.
 pub fn events_of(alloc: Global, text: &[u8]) -> Result<Vec<Event>, EventsFault>
     ensures ok { IfOk result (λ events. ReadsEvents text.now (Ok events.items)) }
     ensures err { IfErr result (λ fault. ReadsEvents text.now (Err fault)) }
-    ensures memory { IfErr result (λ fault. fault ≡ NoMemory → (length text.now ≤ most_events_bytes) × NamesSome (lines_of text.now)) }
+    ensures memory { IfErr result (λ fault. fault ≡ NoMemory
+        → (length text.now ≤ most_events_bytes) × NamesSome (lines_of text.now)) }
 {
     if text.len() > MOST_BYTES {
         return Err(EventsFault::BadEvent(1));
@@ -60,7 +61,8 @@ pub fn events_of(alloc: Global, text: &[u8]) -> Result<Vec<Event>, EventsFault>
 }
 
 fn event_on(line: &[u8]) -> Option<Event>
-    ensures { MatchOption result ((event : Event) → ¬ NamesEvent line.now event) (λ event. NamesEvent line.now event) }
+    ensures { MatchOption result ((event : Event) → ¬ NamesEvent line.now event)
+        (λ event. NamesEvent line.now event) }
 {
     if let Some(digits) = line.strip_prefix(b"run ") {
         return Some(Event::Run(place_in(digits)?));
@@ -73,7 +75,8 @@ fn event_on(line: &[u8]) -> Option<Event>
 }
 
 fn place_in(digits: &[u8]) -> Option<u32>
-    ensures { MatchOption result ((place : ℕ) → ¬ IsNumber digits.now 4294967295 place) (λ place. IsNumber digits.now 4294967295 place) }
+    ensures { MatchOption result ((place : ℕ) → ¬ IsNumber digits.now 4294967295 place)
+        (λ place. IsNumber digits.now 4294967295 place) }
 {
     Some(read_number(digits, GREATEST_PLACE)? as u32)
 }

@@ -1,4 +1,5 @@
-//! The events of a run as a text: what a text names, and what is written of events.
+//! Reads and writes the events of a run as text, one event on each line. The program, the number of nodes, the options
+//! and the events determine a run, so a run can be replayed from such a text.
 #![tactic(auto)]
 
 pub mod events;

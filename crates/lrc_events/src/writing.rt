@@ -7,7 +7,7 @@ use lrc_protocol::Event;
 use lrc_text::push_number;
 use std::alloc::{AllocError, Global};
 
-/// A line for each event, in order: the text of which they are read again.
+/// Returns a line for each event, in order. `events_of` reads the same events from it.
 pub fn events_part(alloc: Global, events: &[Event]) -> Result<Vec<u8>, AllocError>
     ensures { IfOk result (λ part. part.items ≡ events_text events.now) }
 {
@@ -19,7 +19,7 @@ pub fn events_part(alloc: Global, events: &[Event]) -> Result<Vec<u8>, AllocErro
     Ok(text)
 }
 
-/// Adds the words of an event.
+/// Adds an event as text, without a line end.
 pub fn push_event(text: &mut Vec<u8>, event: Event) -> Result<(), AllocError>
     ensures { OnOk result (text.new.items ≡ text.old.items ++ event_text event) }
 {

@@ -8,22 +8,22 @@ use lrc_lang::program::{Program, Statement};
 use std::alloc::{AllocError, Global};
 use std::marker::Model;
 
-/// One instruction: a statement of the program, and the places where a thread goes on. A place is the number of an
-/// instruction, counted from 1 in the order in which they stand; place 0 is the end of the text.
+/// One instruction of flat code: a statement of the program, and the places where a thread may continue. A place is the
+/// number of an instruction, counted from 1 in the order of the code. Place 0 is the end of the text.
 #[derive(Clone, Copy)]
 pub struct Instruction<'p> {
     /// The statement that begins here.
     pub statement: &'p Statement,
     /// The place after the statement.
     pub next: usize,
-    /// Where a condition leads that holds; for a statement without one, the place after it.
+    /// The place to which a true condition leads. For a statement without a condition it is the place after it.
     pub then: usize,
-    /// Where a condition leads that does not hold.
+    /// The place to which a false condition leads.
     pub otherwise: usize,
 }
 
 impl Instruction<'_> {
-    /// Where a condition of this value leads.
+    /// Returns the place to which a condition with this value leads.
     pub fn chosen(&self, value: u64) -> usize
         ensures { result ≡ chosen value self.now.then self.now.otherwise }
     {
@@ -35,7 +35,7 @@ impl Instruction<'_> {
     }
 }
 
-/// The flat code of a program, which it borrows. In a contract it is that program.
+/// The flat code of a program, which it borrows. In a contract its value is that program.
 #[derive(Drop)]
 pub struct Code<'p> {
     program: &'p Program,
@@ -62,7 +62,7 @@ impl<'p> Model for Code<'p> {
 impl<'p> Code<'p> {
     ghost use Rattle.lrc_exec.specs.Flat.{IsCodeOf};
 
-    /// The code of a program.
+    /// Translates a program to flat code. It fails only if memory runs out.
     pub fn new(alloc: Global, program: &'p Program) -> Result<Code<'p>, AllocError>
         ensures { IfOk result (λ code. code ≡ program.now) }
     {
@@ -75,28 +75,28 @@ impl<'p> Code<'p> {
         })
     }
 
-    /// How many words the shared memory has, 1 to 65,536.
+    /// Returns the number of words of the shared memory, 1 to 65,536.
     pub fn words(&self) -> u32
         ensures { result ≡ self.now.words }
     {
         self.program.words()
     }
 
-    /// How many locks there are, 0 to 64.
+    /// Returns the number of locks, 0 to 64.
     pub fn locks(&self) -> u8
         ensures { result ≡ self.now.locks }
     {
         self.program.locks()
     }
 
-    /// The program.
+    /// Returns the program.
     pub fn program(&self) -> &'p Program
         ensures { result.now ≡ self.now }
     {
         self.program
     }
 
-    /// The instructions, and the place where the text begins.
+    /// Returns the instructions, and the place where the text begins.
     pub fn parts(&self) -> (&[Instruction<'p>], usize)
         ensures { IsCodeOf result.0.now result.1 self.now.statements.items }
     {

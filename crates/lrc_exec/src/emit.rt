@@ -13,7 +13,8 @@ fn put<'p>(
     instruction: Instruction<'p>,
 ) -> Result<usize, AllocError>
     ensures place { IfOk result (λ place. place ≡ length code.new.items) }
-    ensures items { IfOk result (λ place. code.new.items ≡ code.old.items ++ instruction.entry ∷ []) }
+    ensures items { IfOk result (λ place. code.new.items
+        ≡ code.old.items ++ instruction.entry ∷ []) }
 {
     code.push(instruction)?;
     Ok(code.len())
@@ -46,7 +47,8 @@ fn put_statement<'p>(
     next: usize,
 ) -> Result<usize, AllocError>
     requires { next ≤ length code.old.items }
-    ensures { IfOk result (λ place. IsPut code.old.items code.new.items (statement.now ∷ []) next place) }
+    ensures { IfOk result (λ place. IsPut code.old.items code.new.items
+        (statement.now ∷ []) next place) }
 {
     match statement {
         Statement::If(_, first, second) => {
@@ -74,7 +76,8 @@ fn put_statement<'p>(
 
 // An instruction that leads to one place alone.
 fn straight(statement: &Statement, next: usize) -> Instruction<'_>
-    ensures { result ≡ record { statement = statement.entry; next = next; then = next; otherwise = next } }
+    ensures { result
+        ≡ record { statement = statement.entry; next = next; then = next; otherwise = next } }
 {
     Instruction {
         statement,

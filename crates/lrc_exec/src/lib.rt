@@ -1,4 +1,6 @@
-//! The language on one node: what a program means, flat code that does it, and the plain machine with one flat memory.
+//! The execution of programs on one machine. The crate defines what a program means, translates it to flat code, and
+//! runs that code on the plain machine, whose nodes share one flat memory. The plain machine runs in a given order of
+//! the nodes, or in rounds.
 #![tactic(auto)]
 
 pub mod code;

@@ -15,30 +15,30 @@ use std::marker::Model;
 /// What a thread asks for next.
 #[derive(Clone, Copy, PartialEq, Eq)]
 pub enum Ask {
-    /// Nothing: a step that only this thread sees, an assignment or a condition.
+    /// Nothing: the step is an assignment or a condition, which only this thread sees.
     Quiet,
-    /// That this value be printed.
+    /// To print this value.
     Print(u64),
-    /// The value of a word of the shared memory.
+    /// To read this word of the shared memory.
     Read(u32),
-    /// That this value be written to a word of the shared memory.
+    /// To write this value to a word of the shared memory.
     Write(u32, u64),
-    /// A lock that it does not hold.
+    /// To acquire a lock that it does not hold.
     Acquire(u8),
-    /// That a lock that it holds be given back.
+    /// To release a lock that it holds.
     Release(u8),
-    /// That every node come to the barrier.
+    /// To wait at the barrier until every node has arrived.
     Barrier,
-    /// Nothing more: it has trapped.
+    /// Nothing more: the thread has trapped.
     Trap(Cause),
-    /// Nothing more: it is at the end of the text.
+    /// Nothing more: the thread is at the end of the text.
     End,
 }
 
 impl Ask {
     ghost use Rattle.lrc_exec.specs.Ask.{cost_asked, deed_asked};
 
-    /// The deed of a thread that asks for this, a read with this value.
+    /// Returns the deed of a thread that asks for this. For a read, `value` is the value that it gives.
     pub fn deed(self, value: u64) -> Deed
         ensures { result ≡ deed_asked value self }
     {
@@ -55,7 +55,7 @@ impl Ask {
         }
     }
 
-    /// How many steps it costs to begin this.
+    /// Returns how many steps it costs to begin this: 0 at the end of the text, otherwise 1.
     pub fn cost(self) -> u32
         ensures { result ≡ cost_asked self }
     {
@@ -73,9 +73,9 @@ pub(crate) fn steps_of(deed: Deed) -> u32
     }
 }
 
-/// A thread that runs the code of a program on one node. In a contract it is the thread of the meaning, which has not
-/// arrived at a barrier: one answer to [`Ask::Barrier`] takes it through the arrive and the depart. Each expression is
-/// evaluated once, when the thread comes to its statement.
+/// A thread that runs the code of a program on one node. In a contract it is the thread of the meaning, not arrived at
+/// a barrier: one answer to [`Ask::Barrier`] takes it through the arrive and the depart. Each expression is evaluated
+/// once, when the thread reaches its statement.
 #[derive(Drop)]
 pub struct Machine<'c> {
     flat: Flat<'c>,
@@ -100,7 +100,7 @@ impl<'c> Model for Machine<'c> {
 }
 
 impl<'c> Machine<'c> {
-    /// Node `me` of `nodes` at the beginning of a program.
+    /// Returns the thread of node `me` of `nodes` at the beginning of a program.
     pub fn new(code: &'c Code<'_>, me: u8, nodes: u8) -> Machine<'c>
         ensures { result ≡ start_of code.now nodes me }
     {
@@ -108,7 +108,7 @@ impl<'c> Machine<'c> {
         Machine::at(&flat, &Spot::begun(me, place))
     }
 
-    /// A node that stands at a place of flat code, and is at no barrier.
+    /// Returns the thread of a node at a place of flat code, at no barrier.
     pub fn at(flat: &Flat<'c>, spot: &Spot) -> Machine<'c>
         requires flat { IsFlat flat.now }
         requires within { spot.now.place ≤ length flat.now.code.now }
@@ -122,7 +122,7 @@ impl<'c> Machine<'c> {
         }
     }
 
-    /// What the thread asks for next.
+    /// Returns what the thread asks for next.
     pub fn ask(&self) -> Ask
         ensures asked { result ≡ ask_of (next_of self.now) }
         ensures not_arrived { self.now.arrived ≡ false }
@@ -130,15 +130,15 @@ impl<'c> Machine<'c> {
         self.wish.ask
     }
 
-    /// Whether the condition holds that the thread evaluates next. Where it evaluates none, it does not.
+    /// Returns whether the condition that the thread evaluates next holds, or false if it evaluates none.
     pub fn condition_holds(&self) -> bool
         ensures { result ≡ condition_holds self.now }
     {
         self.flat.condition_holds(&self.spot)
     }
 
-    /// Completes what the thread asked for. For [`Ask::Read`] the value is the one that was read; otherwise it is not
-    /// used.
+    /// Completes what the thread asked for. For [`Ask::Read`] the value is the one that was read; otherwise it is
+    /// ignored.
     #[inline(always)]
     pub fn answer(&mut self, value: u64)
         requires { TakesAnswer (ask_of (next_of self.old)) }

@@ -10,9 +10,11 @@ use lrc_lang::program::Program;
 use lrc_trace::act::Act;
 use std::alloc::{AllocError, Global};
 
-/// The acts of a program on the plain machine, one for each entry of `order`, which names the node that makes it. None
-/// where an entry names no node, or a node that cannot step: one that has trapped or ended, that waits for a lock that
-/// another holds, or that waits at a barrier. There are 1 to 16 nodes.
+/// Runs a program on the plain machine, and returns one act for each entry of `order`, which names the node that makes
+/// it. There are 1 to 16 nodes.
+///
+/// Returns none if an entry names no node, or a node that cannot step: it has trapped or ended, waits for a lock that
+/// another node holds, or waits at a barrier. It fails only if memory runs out.
 pub fn plain_run(
     alloc: Global,
     program: &Program,
@@ -21,7 +23,8 @@ pub fn plain_run(
 ) -> Result<Option<Vec<Act>>, AllocError>
     requires some_nodes { 1 ≤ nodes }
     requires few_nodes { nodes ≤ 16 }
-    ensures { IfOk result (λ run. option_map (λ acts. acts.items) run ≡ plain program.now nodes order.now) }
+    ensures { IfOk result (λ run. option_map (λ acts. acts.items) run
+        ≡ plain program.now nodes order.now) }
 {
     let code = Code::new(alloc, program)?;
     let (flat, place) = Flat::of(&code, nodes);

@@ -30,7 +30,8 @@ impl Pace {
         requires state { IsStateOf flat.now self.old.state }
         requires node { node < vec_len self.old.left }
         requires room { slice_index self.old.state.arrivals.items node < 2 ^ 64 - 1 }
-        ensures made { MakesTurn (paced_of flat.now self.old) (paced_of flat.now self.new) node result }
+        ensures made { MakesTurn (paced_of flat.now self.old)
+            (paced_of flat.now self.new) node result }
         ensures state { IsStateOf flat.now self.new.state }
     {
         let step = self.state.next_step(flat, node)?;
@@ -50,7 +51,8 @@ impl Pace {
         requires few_nodes { vec_len self.old.left ≤ 16 }
         requires room { (k : ℕ) → slice_index self.old.state.arrivals.items k ≤ vec_len acts.old }
         ensures made { IfOk result (λ _.
-            MakesRound (vec_len self.old.left) (paced_of flat.now self.old) (paced_of flat.now self.new) acts.old.items acts.new.items) }
+            MakesRound (vec_len self.old.left) (paced_of flat.now self.old)
+            (paced_of flat.now self.new) acts.old.items acts.new.items) }
         ensures more { IfOk result (λ more. IsTrue more ↔ (vec_len acts.old < vec_len acts.new)) }
         ensures state { OnOk result (IsStateOf flat.now self.new.state) }
     {
@@ -67,10 +69,12 @@ impl Pace {
     }
 }
 
-/// The acts of a program on the plain machine in rounds. In each round every node from 0 up makes its next act, if it
-/// can and has steps left; the run ends after a round with no act. Each node begins with `steps` steps, and each
-/// condition that it evaluates and each other statement that it begins takes one. A depart takes none, and neither does
-/// the end of the text. There are 1 to 16 nodes and 1 to 1,000,000 steps.
+/// Runs a program on the plain machine in rounds, and returns its acts. There are 1 to 16 nodes and 1 to 1,000,000
+/// steps. It fails only if memory runs out.
+///
+/// In each round every node from 0 up makes its next act, if it can and has steps left. The run ends after a round
+/// without an act. Each node begins with `steps` steps. Each condition that it evaluates and each other statement that
+/// it begins takes one step. A depart and the end of the text take none.
 pub fn plain_rounds(
     alloc: Global,
     program: &Program,

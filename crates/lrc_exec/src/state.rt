@@ -18,7 +18,7 @@ pub struct State {
     pub spots: Vec<Spot>,
 }
 
-/// What a node can do now, and the number that its statement goes on with.
+/// What a node can do now, and the number with which its statement continues.
 #[derive(Clone, Copy)]
 pub(crate) struct Step {
     pub(crate) deed: Deed,
@@ -33,7 +33,8 @@ impl State {
     ghost use Rattle.lrc_exec.specs.Places.{place_after};
     ghost use Rattle.lrc_exec.specs.States.{plain_at, IsStateOf, IsCopy, place_then, HasMoved, IsFirst, IsThere, deed_now, CompletesAt};
 
-    /// The beginning of a program, whose text begins at this place of the code.
+    /// Returns the state at the beginning of a program whose text begins at this place of the code. It fails only if
+    /// memory runs out.
     pub fn start(alloc: Global, flat: &Flat, place: usize) -> Result<State, AllocError>
         requires { place ≤ length flat.now.code.now }
         ensures first { IfOk result (IsFirst flat.now place) }
@@ -54,7 +55,7 @@ impl State {
         })
     }
 
-    /// The same state.
+    /// Returns a copy of this state. It fails only if memory runs out.
     pub fn copy(&self, alloc: Global) -> Result<State, AllocError>
         ensures { IfOk result (λ state. IsCopy state self.now) }
     {
@@ -66,23 +67,26 @@ impl State {
         })
     }
 
-    /// What a node can do now.
+    /// Returns what a node can do now, or none if it cannot step.
     pub fn next_deed(&self, flat: &Flat, node: usize) -> Option<Deed>
         requires flat { IsFlat flat.now }
         requires state { IsStateOf flat.now self.now }
-        ensures { result ≡ option_map (λ step. step.0) (plain_step (plain_at flat.now self.now) node) }
+        ensures { result ≡ option_map (λ step. step.0)
+            (plain_step (plain_at flat.now self.now) node) }
     {
         let step = self.next_step(flat, node)?;
         Some(step.deed)
     }
 
-    /// Does what a node can do now.
+    /// Makes the act that a node can make now.
     pub fn make(&mut self, flat: &Flat, node: usize, deed: Deed)
         requires flat { IsFlat flat.now }
         requires state { IsStateOf flat.now self.old }
-        requires can { option_map (λ step. step.0) (plain_step (plain_at flat.now self.old) node) ≡ Some deed }
+        requires can { option_map (λ step. step.0) (plain_step (plain_at flat.now self.old) node)
+            ≡ Some deed }
         requires room { slice_index self.old.arrivals.items node < 2 ^ 64 - 1 }
-        ensures made { plain_step (plain_at flat.now self.old) node ≡ Some (deed, plain_at flat.now self.new) }
+        ensures made { plain_step (plain_at flat.now self.old) node
+            ≡ Some (deed, plain_at flat.now self.new) }
         ensures moved { HasMoved self.old node (place_then flat.now deed) self.new }
         ensures state { IsStateOf flat.now self.new }
     {
@@ -90,12 +94,14 @@ impl State {
         self.take(flat, node, Step { deed, number });
     }
 
-    /// What a node can do now, with the number that its statement goes on with.
+    /// Returns what a node can do now, with the number with which its statement continues, or none if it cannot step.
     pub(crate) fn next_step(&self, flat: &Flat, node: usize) -> Option<Step>
         requires flat { IsFlat flat.now }
         requires state { IsStateOf flat.now self.now }
-        ensures deed { option_map (λ step. step.deed) result ≡ option_map (λ step. step.0) (plain_step (plain_at flat.now self.now) node) }
-        ensures number { IfSome result (λ step. CompletesAt (plain_at flat.now self.now) node step.number) }
+        ensures deed { option_map (λ step. step.deed) result
+            ≡ option_map (λ step. step.0) (plain_step (plain_at flat.now self.now) node) }
+        ensures number { IfSome result (λ step. CompletesAt
+            (plain_at flat.now self.now) node step.number) }
     {
         let spot = self.spots.get(node)?;
         if spot.stopped {
@@ -113,14 +119,16 @@ impl State {
         })
     }
 
-    /// Does what a node can do now, with that number.
+    /// Makes the act that a node can make now, given that number.
     pub(crate) fn take(&mut self, flat: &Flat, node: usize, step: Step)
         requires flat { IsFlat flat.now }
         requires state { IsStateOf flat.now self.old }
-        requires can { option_map (λ step. step.0) (plain_step (plain_at flat.now self.old) node) ≡ Some step.deed }
+        requires can { option_map (λ step. step.0) (plain_step (plain_at flat.now self.old) node)
+            ≡ Some step.deed }
         requires number { CompletesAt (plain_at flat.now self.old) node step.number }
         requires room { slice_index self.old.arrivals.items node < 2 ^ 64 - 1 }
-        ensures made { plain_step (plain_at flat.now self.old) node ≡ Some (step.deed, plain_at flat.now self.new) }
+        ensures made { plain_step (plain_at flat.now self.old) node
+            ≡ Some (step.deed, plain_at flat.now self.new) }
         ensures moved { HasMoved self.old node (place_then flat.now step.deed) self.new }
         ensures state { IsStateOf flat.now self.new }
     {
@@ -170,8 +178,10 @@ impl State {
         requires resumable { IsSomeAnd (thread_in (plain_at flat.now self.old) node) IsResumable }
         requires number { CompletesAt (plain_at flat.now self.old) node number }
         ensures gone { plain_at flat.now self.new
-            ≡ with_thread (plain_at flat.now self.old) node (option_map (resumed value arrived) (thread_in (plain_at flat.now self.old) node)) }
-        ensures moved { HasMoved self.old node (λ spot. place_after (thread_at flat.now spot) flat.now.code.now spot.place) self.new }
+            ≡ with_thread (plain_at flat.now self.old) node
+            (option_map (resumed value arrived) (thread_in (plain_at flat.now self.old) node)) }
+        ensures moved { HasMoved self.old node (λ spot.
+            place_after (thread_at flat.now spot) flat.now.code.now spot.place) self.new }
         ensures state { IsStateOf flat.now self.new }
     {
         let spot = &mut self.spots[node];
@@ -184,7 +194,8 @@ impl State {
         requires state { IsStateOf flat.now self.old }
         requires there { IsSome (thread_in (plain_at flat.now self.old) node) }
         ensures left { plain_at flat.now self.new
-            ≡ with_thread (plain_at flat.now self.old) node (option_map thread_departed (thread_in (plain_at flat.now self.old) node)) }
+            ≡ with_thread (plain_at flat.now self.old) node
+            (option_map thread_departed (thread_in (plain_at flat.now self.old) node)) }
         ensures moved { HasMoved self.old node (λ spot. spot.place) self.new }
         ensures state { IsStateOf flat.now self.new }
     {
@@ -195,7 +206,8 @@ impl State {
     fn stop(&mut self, flat: &Flat, node: usize)
         requires state { IsStateOf flat.now self.old }
         requires there { IsSome (thread_in (plain_at flat.now self.old) node) }
-        ensures ended { plain_at flat.now self.new ≡ with_thread (plain_at flat.now self.old) node None }
+        ensures ended { plain_at flat.now self.new
+            ≡ with_thread (plain_at flat.now self.old) node None }
         ensures moved { HasMoved self.old node (λ _. 0) self.new }
         ensures state { IsStateOf flat.now self.new }
     {
@@ -207,7 +219,8 @@ impl State {
     fn depart(&self, flat: &Flat, node: usize) -> Option<Deed>
         requires state { IsStateOf flat.now self.now }
         requires within { node < length self.now.spots.items }
-        ensures { result ≡ (if all_arrived (plain_at flat.now self.now) node then Some Deed.Depart else None) }
+        ensures { result ≡ (if all_arrived
+            (plain_at flat.now self.now) node then Some Deed.Depart else None) }
     {
         if all_at_least(&self.arrivals, self.arrivals[node]) {
             Some(Deed::Depart)
@@ -238,7 +251,7 @@ fn all_at_least(counts: &[u64], least: u64) -> bool
     counts.iter().all(|count| least <= *count)
 }
 
-/// A list of the same items.
+/// Returns a list of the same items. It fails only if memory runs out.
 pub fn copied<T: Copy>(alloc: Global, items: &[T]) -> Result<Vec<T>, AllocError>
     ensures { IfOk result (λ copy. copy.items ≡ items.now) }
 {

@@ -27,7 +27,8 @@ fn apply(operator: Operator, x: u64, y: u64) -> Option<u64>
     }
 }
 
-/// The value of an expression on node `me` of `nodes`, with these values of the 32 private names.
+/// Returns the value of an expression on node `me` of `nodes`, given the values of the 32 private names. It fails only
+/// if it divides by zero.
 pub fn evaluate(
     expression: &Expression,
     privates: &[u64; 32],
@@ -40,7 +41,8 @@ pub fn evaluate(
     compute(expression, privates, me, nodes).ok_or(Cause::DivisionByZero)
 }
 
-/// The same value; none is a division by zero. One without an operator is read at the place of the call.
+/// Returns the same value, or none if it divides by zero. An expression without an operator is read inline, at the
+/// place of the call.
 #[cycle(value)]
 #[inline(always)]
 pub(crate) fn compute(
@@ -76,7 +78,8 @@ fn combine(
 ) -> Option<u64>
     requires left { names_in_expression (expression_of left.now) ≤ 32 }
     requires right { names_in_expression (expression_of right.now) ≤ 32 }
-    ensures { result ≡ combined operator (value_of me nodes privates.now left.now) (value_of me nodes privates.now right.now) }
+    ensures { result ≡ combined operator (value_of me nodes privates.now left.now)
+        (value_of me nodes privates.now right.now) }
 {
     let Some(x) = leaf_value(left, privates, me, nodes) else {
         return combine_deep(left, operator, right, privates, me, nodes);
@@ -100,7 +103,8 @@ fn combine_deep(
 ) -> Option<u64>
     requires left { names_in_expression (expression_of left.now) ≤ 32 }
     requires right { names_in_expression (expression_of right.now) ≤ 32 }
-    ensures { result ≡ combined operator (value_of me nodes privates.now left.now) (value_of me nodes privates.now right.now) }
+    ensures { result ≡ combined operator (value_of me nodes privates.now left.now)
+        (value_of me nodes privates.now right.now) }
 {
     let x = compute(left, privates, me, nodes)?;
     let y = compute(right, privates, me, nodes)?;

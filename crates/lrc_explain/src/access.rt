@@ -61,7 +61,7 @@ fn push_words(text: &mut Vec<u8>, left: u64, deed: Deed) -> Result<(), AllocErro
     }
 }
 
-/// Adds the access at a position.
+/// Adds the access at a position in words.
 pub(crate) fn push_access(
     text: &mut Vec<u8>,
     acts: &[Act],

@@ -12,7 +12,7 @@ use lrc_trace::act::{Act, Deed};
 use std::alloc::{AllocError, Global};
 use std::collections::BTreeMap;
 
-/// Of each act the interval, and what the acts before it leave in its word.
+/// For each act, its interval, and the value that the acts before it leave in its word.
 #[derive(Drop)]
 pub(crate) struct Before {
     pub(crate) intervals: Vec<u64>,
@@ -50,7 +50,7 @@ fn lefts_of(alloc: Global, acts: &[Act]) -> Result<Vec<u64>, AllocError>
 }
 
 impl Before {
-    /// What stands before these acts.
+    /// Computes this for a list of acts.
     pub(crate) fn of(alloc: Global, acts: &[Act]) -> Result<Before, AllocError>
         requires { All (λ act. act.node < NODES) acts.now }
         ensures { IfOk result (IsBeforeActs acts.now) }

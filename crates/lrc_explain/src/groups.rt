@@ -77,7 +77,8 @@ fn push_count(text: &mut Vec<u8>, number: u64) -> Result<(), AllocError>
 }
 
 fn push_word(text: &mut Vec<u8>, labels: &[Label<'_>], word: u32) -> Result<(), AllocError>
-    ensures { OnOk result (text.new.items ≡ text.old.items ++ word_words (map label_seen labels.now) word) }
+    ensures { OnOk result (text.new.items
+        ≡ text.old.items ++ word_words (map label_seen labels.now) word) }
 {
     push_numbered_word(text, labels, b"  word ", word)
 }
@@ -102,7 +103,8 @@ fn push_pair(
 ) -> Result<(), AllocError>
     requires within { IsWithin acts.now pair }
     requires before { IsBeforeActs acts.now before.now }
-    ensures { OnOk result (text.new.items ≡ text.old.items ++ pair_text (map label_seen labels.now) acts.now pair) }
+    ensures { OnOk result (text.new.items
+        ≡ text.old.items ++ pair_text (map label_seen labels.now) acts.now pair) }
 {
     let word = word_of(act_at(acts, pair.later).deed);
     push_word(text, labels, word)?;
@@ -125,7 +127,8 @@ fn push_group(
 ) -> Result<(), AllocError>
     requires within { IsWithin acts.now pair }
     requires before { IsBeforeActs acts.now before.now }
-    ensures { OnOk result (text.new.items ≡ text.old.items ++ group_text (map label_seen labels.now) acts.now lines.now pair count) }
+    ensures { OnOk result (text.new.items
+        ≡ text.old.items ++ group_text (map label_seen labels.now) acts.now lines.now pair count) }
 {
     push_site(text, site_of(acts, lines, pair), count)?;
     push_pair(text, labels, acts, before, pair)
@@ -143,7 +146,8 @@ fn push_group_if(
 ) -> Result<(), AllocError>
     requires within { IsWithin acts.now pair }
     requires before { IsBeforeActs acts.now before.now }
-    ensures { OnOk result (text.new.items ≡ text.old.items ++ group_if (map label_seen labels.now) acts.now lines.now pair count) }
+    ensures { OnOk result (text.new.items
+        ≡ text.old.items ++ group_if (map label_seen labels.now) acts.now lines.now pair count) }
 {
     match count {
         Some(count) => push_group(text, labels, acts, before, lines, pair, count),
@@ -151,8 +155,8 @@ fn push_group_if(
     }
 }
 
-/// The groups of these pairs, each with its number of pairs and the first of them, in the order of the first ones; the word of the
-/// first with its label.
+/// Returns the groups of these pairs, in the order of their first pairs. Each group is told with its number of pairs
+/// and its first pair, whose word has its label.
 pub(crate) fn groups_part(
     alloc: Global,
     labels: &[Label<'_>],
@@ -162,7 +166,8 @@ pub(crate) fn groups_part(
 ) -> Result<Vec<u8>, AllocError>
     requires nodes { All (λ act. act.node < NODES) acts.now }
     requires within { All (IsWithin acts.now) pairs.now }
-    ensures { IfOk result (λ part. part.items ≡ groups_text (map label_seen labels.now) acts.now lines.now pairs.now) }
+    ensures { IfOk result (λ part. part.items
+        ≡ groups_text (map label_seen labels.now) acts.now lines.now pairs.now) }
 {
     let before = Before::of(alloc, acts)?;
     let mut counts = counts_of(alloc, acts, lines, pairs)?;

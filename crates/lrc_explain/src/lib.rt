@@ -1,4 +1,5 @@
-//! Why a run ended as it did: how each node ended and why, circles of waiting, and its races by the lines of the text.
+//! Explains why a run ended the way it did. It tells how each node ended and why, which nodes wait in a circle, and the
+//! races by the lines of the text.
 #![tactic(auto)]
 
 mod access;

@@ -7,7 +7,7 @@ ghost use Rattle.lrc_explain.specs.Site.{deed_writes, site_of};
 use lrc_judge::first_pairs::Pair;
 use lrc_trace::act::{Act, Deed};
 
-/// The lines of two acts, the earlier first, and whether they write.
+/// The lines of two acts, the earlier act first, and whether each writes.
 #[derive(Clone, Copy, PartialEq, Eq, PartialOrd, Ord)]
 pub struct Site {
     pub line: u32,
@@ -16,7 +16,7 @@ pub struct Site {
     pub later_writes: bool,
 }
 
-/// The act at a position; past the last one an act that does nothing.
+/// Returns the act at a position, or an act of node 0 that does nothing if the position is past the last act.
 pub fn act_at(acts: &[Act], position: usize) -> Act
     ensures { result ≡ act_at acts.now position }
 {
@@ -46,7 +46,7 @@ fn deed_writes(deed: Deed) -> bool
     matches!(deed, Deed::Write(_, _))
 }
 
-/// The site of the acts at two positions.
+/// Returns the site of the acts at two positions.
 pub fn site_of(acts: &[Act], lines: &[u32], pair: Pair) -> Site
     ensures { result ≡ site_of acts.now lines.now pair }
 {

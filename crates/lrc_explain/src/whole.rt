@@ -62,7 +62,8 @@ fn nodes_part(
     acts: &[Act],
     stands: &[Stand],
 ) -> Result<Vec<u8>, AllocError>
-    ensures { IfOk result (λ part. part.items ≡ fates_text (map label_seen labels.now) acts.now stands.now) }
+    ensures { IfOk result (λ part. part.items
+        ≡ fates_text (map label_seen labels.now) acts.now stands.now) }
 {
     let mut text = Vec::new(alloc);
     for node in 0..stands.len() {
@@ -98,9 +99,9 @@ fn parts_of(
     Ok(parts)
 }
 
-/// What is printed of a run with reasons, in parts: of each node what it printed, how it ended and why; the circles of waiting; the
-/// races by groups; and the first race. The program's statements, and the text's end behind them, have these lines; each node has so
-/// many steps. The labels of words and of locks stand behind their numbers.
+/// Returns what is printed of a run with its reasons, in parts: for each node what it printed, how it ended and why;
+/// the circles of waiting; the races by groups; and the first race. `lines` has the lines of the program's statements,
+/// and of the text's end behind them. Each node has `steps` steps. The labels of words and locks follow their numbers.
 pub fn explain(
     alloc: Global,
     labels: &[Label<'_>],
@@ -113,7 +114,9 @@ pub fn explain(
 ) -> Result<Vec<Vec<u8>>, AllocError>
     requires { All (λ act. act.node < NODES) acts.now }
     ensures { IfOk result (λ parts. (pairs : List PairRecord) × AreFirstPairs acts.now pairs
-        × (whole_text parts.items ≡ explain_text (map label_seen labels.now) code.now nodes lines.now steps acts.now pairs first_race)) }
+        × (whole_text parts.items
+        ≡ explain_text (map label_seen labels.now) code.now nodes lines.now steps acts.now pairs
+        first_race)) }
 {
     let followed = follow_acts(alloc, code, lines, nodes, acts)?;
     let stands = stands_of(alloc, &followed, nodes, Some(steps), acts)?;

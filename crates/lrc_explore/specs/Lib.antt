@@ -1,6 +1,5 @@
 pub mod Meeting
 pub mod Stuck
-pub mod States
 pub mod Led
 pub mod Kept
 pub mod Breadth

@@ -12,7 +12,7 @@ use lrc_exec::spot::Spot;
 use lrc_exec::state::{State, copied};
 use std::alloc::{AllocError, Global};
 
-/// What the nodes of a state share: the words, who holds each lock, and how often each node has arrived.
+/// What the nodes of a state share: the words, the holder of each lock, and how often each node has arrived.
 #[derive(PartialEq, Eq, Hash, Drop)]
 pub struct Shared {
     pub memory: Vec<u64>,
@@ -20,14 +20,14 @@ pub struct Shared {
     pub arrivals: Vec<u64>,
 }
 
-/// A state, by the place of what its nodes share and the places of where they stand.
+/// A stored state: the place of what its nodes share, and the place of each node's spot.
 #[derive(PartialEq, Eq, Hash, Drop)]
 pub struct Kept {
     pub shared: usize,
     pub spots: Vec<usize>,
 }
 
-/// States, each once, in the order in which they were added, and the distinct parts of them.
+/// A set of states in the order of adding, and their distinct parts.
 #[derive(Drop)]
 pub struct States {
     pub shared: IndexSet<Shared>,
@@ -39,7 +39,7 @@ impl States {
     ghost use Rattle.std.specs.Prelude.{◌≡◌, ◌<◌, ◌^◌, IfOk, OnOk};
     ghost use Rattle.lrc_explore.specs.Kept.{AreDistinct, IsAddedAt, IsAt, IsStatePlace, Widens, size};
 
-    /// No states.
+    /// Returns the empty set.
     pub fn new(alloc: Global) -> States
         ensures empty { size result ≡ 0 }
         ensures distinct { AreDistinct result }
@@ -51,7 +51,7 @@ impl States {
         }
     }
 
-    /// How many states there are.
+    /// Returns the number of states.
     pub fn len(&self) -> usize
         ensures len { result ≡ size self.now }
         ensures small { result < 2 ^ 63 }
@@ -59,7 +59,7 @@ impl States {
         self.kept.len()
     }
 
-    /// The state at a place.
+    /// Returns a copy of the state at a place. It fails if memory runs out.
     pub fn state(&self, alloc: Global, place: usize) -> Result<State, AllocError>
         requires { IsStatePlace self.now place }
         ensures { IfOk result (IsAt self.now place) }
@@ -74,13 +74,15 @@ impl States {
         })
     }
 
-    /// Adds a state, if it is new: its place, and whether it is new.
+    /// Adds a state if it is new. Returns its place, and whether it was new. It fails if memory runs out, and then
+    /// promises nothing about the set.
     pub fn add(&mut self, alloc: Global, state: State) -> Result<(usize, bool), AllocError>
         requires distinct { AreDistinct self.old }
         ensures widens { OnOk result (Widens self.old self.new) }
         ensures distinct { OnOk result (AreDistinct self.new) }
         ensures there { IfOk result (λ added. IsAt self.new added.0 state) }
-        ensures added { IfOk result (λ added. IsAddedAt (size self.old) (size self.new) added.0 added.1) }
+        ensures added { IfOk result (λ added. IsAddedAt (size self.old)
+            (size self.new) added.0 added.1) }
     {
         let spots = places_of(alloc, &mut self.spots, &state.spots)?;
         let (shared, _new) = self.shared.insert_full(Shared {

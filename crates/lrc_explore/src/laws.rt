@@ -18,34 +18,38 @@ ghost use Rattle.lrc_explore.specs.declared.kept.States.{States};
 ghost use Rattle.lrc_exec.specs.declared.state.State.{State};
 ghost use Rattle.lrc_explore.specs.Kept.{AreAlikeTogether, AreDistinct, IsKeptAs};
 
-/// A program has no race exactly where no order leads two nodes of the plain machine to where both are about to access one
+/// A program has no race exactly if no order leads two nodes of the plain machine to where both are about to access one
 /// word, and one of them to write it.
 pub fn a_race_is_a_meeting()
-    ensures { (program : Program) (nodes : ℕ) → (HasNoRace program nodes ↔ NeverMeets program nodes) }
+    ensures { (program : Program) (nodes : ℕ)
+        → (HasNoRace program nodes ↔ NeverMeets program nodes) }
 {}
 
-/// States that have the start, and all that a step leads to from one of them, certify a program where at none of them two nodes
-/// meet.
+/// A list of states certifies that a program has no race if it has the start and each state to which a step leads from
+/// one of them, and if no two nodes meet at any of them.
 pub fn certified_programs_have_no_race()
-    ensures { (program : Program) (nodes : ℕ) (states : List Plain) → IsCertificate program nodes states → HasNoRace program nodes }
+    ensures { (program : Program) (nodes : ℕ) (states : List Plain)
+        → IsCertificate program nodes states → HasNoRace program nodes }
 {}
 
-/// Where every order was looked at and none races, a run that follows the text, is well synchronized and reads lazily has no
-/// race and is one of the plain machine.
+/// If every order was examined and none races, then a run that follows the text, is well synchronized and reads lazily
+/// has no race and is one of the plain machine.
 pub fn runs_of_explored_programs_are_plain()
-    ensures { (program : Program) (nodes : ℕ) (verdict : Verdict) (run : List Act) → IsVerdict program nodes verdict → FindsNoRace verdict
+    ensures { (program : Program) (nodes : ℕ) (verdict : Verdict) (run : List Act)
+        → IsVerdict program nodes verdict → FindsNoRace verdict
         → FollowsText program nodes run → IsWellSynchronized nodes run → ReadsLazily run
         → IsRaceFree run × (plain program nodes (nodes_of_acts run) ≡ Some run) }
 {}
 
-/// What is noted of one act more is what was noted, with that act put in behind the notes of the nodes up to its own.
+/// Noting one more act inserts it behind the notes of the nodes up to its own.
 pub fn notes_of_one_act_more()
     ensures { (nodes : ℕ) (acts : List Act) (act : Act) → act.node < nodes
         → notes_of nodes (acts ++ act ∷ []) ≡ notes_with (notes_of nodes acts) act }
 {}
 
-/// Where no two parts are equal, two states are kept alike exactly where they are alike: so the set of what is kept is the set of
-/// the states.
+/// If no two parts are equal, two states are stored alike exactly if they are alike. So the set of stored states is the
+/// set of the states.
 pub fn states_are_kept_alike_where_they_are_alike()
-    ensures { (states : States) (a b : Kept) (s t : State) → AreDistinct states → IsKeptAs states a s → IsKeptAs states b t → AreAlikeTogether a b s t }
+    ensures { (states : States) (a b : Kept) (s t : State) → AreDistinct states
+        → IsKeptAs states a s → IsKeptAs states b t → AreAlikeTogether a b s t }
 {}

@@ -24,7 +24,7 @@ pub struct Way {
     pub notes: Vec<Act>,
 }
 
-/// States with notes, each once, in the order in which they were added.
+/// A set of states with notes, in the order of adding.
 #[derive(Drop)]
 pub struct NotedStates {
     pub states: States,
@@ -50,7 +50,7 @@ impl Noted {
         })
     }
 
-    /// The state after a deed, with its note.
+    /// Returns the state after a deed of a node, with its note. It fails if memory runs out.
     pub fn after(
         &self,
         alloc: Global,
@@ -61,12 +61,16 @@ impl Noted {
         requires flat { IsFlat flat.now }
         requires state { IsStateOf flat.now self.now.state }
         requires node { node < flat.now.nodes }
-        requires can { option_map (λ step. step.0) (plain_step (plain_at flat.now self.now.state) node) ≡ Some deed }
+        requires can { option_map (λ step. step.0)
+            (plain_step (plain_at flat.now self.now.state) node) ≡ Some deed }
         requires room { slice_index self.now.state.arrivals.items node < 2 ^ 64 - 1 }
-        ensures made { IfOk result (λ after. plain_step (plain_at flat.now self.now.state) node ≡ Some (deed, plain_at flat.now after.state)) }
-        ensures moved { IfOk result (λ after. HasMoved self.now.state node (place_then flat.now deed) after.state) }
+        ensures made { IfOk result (λ after. plain_step (plain_at flat.now self.now.state) node
+            ≡ Some (deed, plain_at flat.now after.state)) }
+        ensures moved { IfOk result (λ after. HasMoved self.now.state node
+            (place_then flat.now deed) after.state) }
         ensures state { IfOk result (λ after. IsStateOf flat.now after.state) }
-        ensures notes { IfOk result (λ after. after.notes.items ≡ notes_with self.now.notes.items (act_of node deed)) }
+        ensures notes { IfOk result (λ after. after.notes.items
+            ≡ notes_with self.now.notes.items (act_of node deed)) }
     {
         let _nodes = flat.nodes;
         let mut after = self.copy(alloc)?;
@@ -85,7 +89,7 @@ impl NotedStates {
     ghost use Rattle.lrc_explore.specs.Kept.{IsAddedAt};
     ghost use Rattle.lrc_explore.specs.Noted.{AreNotedDistinct, IsNotedAt, IsNotedPlace, WidensNoted, noted_count};
 
-    /// No states.
+    /// Returns the empty set.
     pub fn new(alloc: Global) -> NotedStates
         ensures empty { noted_count result ≡ 0 }
         ensures distinct { AreNotedDistinct result }
@@ -96,7 +100,7 @@ impl NotedStates {
         }
     }
 
-    /// How many there are.
+    /// Returns the number of states with notes: a state counts once for each of its lists of notes.
     pub fn len(&self) -> usize
         ensures len { result ≡ noted_count self.now }
         ensures small { result < 2 ^ 63 }
@@ -104,7 +108,7 @@ impl NotedStates {
         self.ways.len()
     }
 
-    /// The state at a place, with its notes.
+    /// Returns a copy of the state at a place, with its notes. It fails if memory runs out.
     pub fn noted(&self, alloc: Global, place: usize) -> Result<Noted, AllocError>
         requires { IsNotedPlace self.now place }
         ensures { IfOk result (IsNotedAt self.now place) }
@@ -116,13 +120,15 @@ impl NotedStates {
         })
     }
 
-    /// Adds a state with its notes, if it is new with these: its place, and whether it is new.
+    /// Adds a state with its notes if the two are new together. Returns their place, and whether they were new. It
+    /// fails if memory runs out, and then promises nothing about the set.
     pub fn add(&mut self, alloc: Global, noted: Noted) -> Result<(usize, bool), AllocError>
         requires distinct { AreNotedDistinct self.old }
         ensures widens { OnOk result (WidensNoted self.old self.new) }
         ensures distinct { OnOk result (AreNotedDistinct self.new) }
         ensures there { IfOk result (λ added. IsNotedAt self.new added.0 noted) }
-        ensures added { IfOk result (λ added. IsAddedAt (noted_count self.old) (noted_count self.new) added.0 added.1) }
+        ensures added { IfOk result (λ added. IsAddedAt (noted_count self.old)
+            (noted_count self.new) added.0 added.1) }
     {
         let (place, _new) = self.states.add(alloc, noted.state)?;
         let (way, added) = self.ways.insert_full(Way {

@@ -6,7 +6,8 @@ ghost use Rattle.lrc_explore.specs.Notes.{is_noted_deed, notes_with, place_in};
 use lrc_trace::act::{Act, Deed};
 use std::alloc::AllocError;
 
-/// Notes an act, if it is a print, a trap or the end of the text, behind the notes of the nodes up to its own.
+/// Notes an act behind the notes of the nodes up to its own, if it is a print, a trap or the end of the text. It fails
+/// if memory runs out.
 pub fn note(notes: &mut Vec<Act>, act: Act) -> Result<(), AllocError>
     ensures { OnOk result (notes.new.items ≡ notes_with notes.old.items act) }
 {

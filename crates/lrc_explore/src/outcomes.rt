@@ -16,7 +16,8 @@ use lrc_lang::program::Program;
 use lrc_trace::act::Act;
 use std::alloc::{AllocError, Global};
 
-/// What the nodes print, each one's in order, and how each ends: the prints, the traps and the ends, node by node.
+/// An outcome of a program: the prints, the traps and the ends, node by node. It says what each node prints, in order,
+/// and how the node ends.
 #[derive(PartialEq, Eq, Hash, Drop)]
 pub struct Outcome {
     pub notes: Vec<Act>,
@@ -29,17 +30,21 @@ pub(crate) struct Gathered {
     outcomes: IndexSet<Outcome>,
 }
 
-/// Every outcome of the orders in which so many nodes can run a program, after which no node can make an act. Gives up where
-/// there are more states to tell apart than `most`.
+/// Returns every outcome of the orders of this number of nodes after which no node can make an act.
+///
+/// It fails with `BadNodes` exactly if the number of nodes is not 1 to 16, with `TooMany` if there are more than `most`
+/// states to tell apart (states with different notes count apart), and with `NoMemory` if memory runs out.
 pub fn outcomes(
     alloc: Global,
     program: &Program,
     nodes: u32,
     most: usize,
 ) -> Result<IndexSet<Outcome>, ExploreFault>
-    ensures exact { IfOk result (λ found. (notes : List Act) → (HasOutcome found.keys notes ↔ IsOutcome program.now nodes notes)) }
+    ensures exact { IfOk result (λ found. (notes : List Act)
+        → (HasOutcome found.keys notes ↔ IsOutcome program.now nodes notes)) }
     ensures bad_nodes { (result ≡ Err ExploreFault.BadNodes) ↔ (¬ AreNodes nodes) }
-    ensures too_many { IfErr result (λ fault. fault ≡ ExploreFault.TooMany → HasMoreNoted program.now nodes most) }
+    ensures too_many { IfErr result (λ fault. fault ≡ ExploreFault.TooMany
+        → HasMoreNoted program.now nodes most) }
     ensures fits { IfOk result (λ _. FitsNoted program.now nodes most) }
 {
     let nodes = count_of(nodes)?;
@@ -54,9 +59,11 @@ fn outcomes_of(
     nodes: u8,
     most: usize,
 ) -> Result<IndexSet<Outcome>, ExploreFault>
-    ensures exact { IfOk result (λ found. (notes : List Act) → (HasOutcome found.keys notes ↔ IsOutcome code.now nodes notes)) }
+    ensures exact { IfOk result (λ found. (notes : List Act)
+        → (HasOutcome found.keys notes ↔ IsOutcome code.now nodes notes)) }
     ensures nodes { IfErr result (λ fault. fault ≢ ExploreFault.BadNodes) }
-    ensures too_many { IfErr result (λ fault. fault ≡ ExploreFault.TooMany → HasMoreNoted code.now nodes most) }
+    ensures too_many { IfErr result (λ fault. fault ≡ ExploreFault.TooMany
+        → HasMoreNoted code.now nodes most) }
     ensures fits { IfOk result (λ _. FitsNoted code.now nodes most) }
 {
     let (instructions, place) = code.parts();
@@ -115,13 +122,18 @@ impl Gathered {
         requires none { noted_count self.old.states ≡ 0 }
         requires distinct { AreNotedDistinct self.old.states }
         requires outcomes { self.old.outcomes.keys ≡ [] }
-        ensures start { OnOk result (HasNoted flat.now self.new.states (machine_begun flat.now place) []) }
-        ensures led { OnOk result (AreGathered flat.now (machine_begun flat.now place) place self.new.states) }
-        ensures sound { OnOk result (AreSound flat.now (machine_begun flat.now place) self.new.outcomes.keys) }
-        ensures done { OnOk result (AreSearched flat.now self.new.states self.new.outcomes.keys (noted_count self.new.states)) }
+        ensures start { OnOk result (HasNoted flat.now self.new.states
+            (machine_begun flat.now place) []) }
+        ensures led { OnOk result (AreGathered flat.now
+            (machine_begun flat.now place) place self.new.states) }
+        ensures sound { OnOk result (AreSound flat.now
+            (machine_begun flat.now place) self.new.outcomes.keys) }
+        ensures done { OnOk result (AreSearched flat.now self.new.states self.new.outcomes.keys
+            (noted_count self.new.states)) }
         ensures fits { OnOk result (noted_count self.new.states ≤ most) }
         ensures nodes { IfErr result (λ fault. fault ≢ ExploreFault.BadNodes) }
-        ensures faults { IfErr result (λ fault. fault ≡ ExploreFault.TooMany → MeetsMoreNoted flat.now (machine_begun flat.now place) place most) }
+        ensures faults { IfErr result (λ fault. fault ≡ ExploreFault.TooMany
+            → MeetsMoreNoted flat.now (machine_begun flat.now place) place most) }
     {
         self.begin(alloc, flat, place)?;
         self.go_through(alloc, flat, place, most)
@@ -132,8 +144,10 @@ impl Gathered {
         requires place { place ≤ length flat.now.code.now }
         requires none { noted_count self.old.states ≡ 0 }
         requires distinct { AreNotedDistinct self.old.states }
-        ensures led { OnOk result (AreGathered flat.now (machine_begun flat.now place) place self.new.states) }
-        ensures start { OnOk result (HasNoted flat.now self.new.states (machine_begun flat.now place) []) }
+        ensures led { OnOk result (AreGathered flat.now
+            (machine_begun flat.now place) place self.new.states) }
+        ensures start { OnOk result (HasNoted flat.now self.new.states
+            (machine_begun flat.now place) []) }
         ensures same { self.new.outcomes ≡ self.old.outcomes }
     {
         let state = State::start(alloc, flat, place)?;
@@ -154,12 +168,16 @@ impl Gathered {
         requires led { AreGathered flat.now (machine_begun flat.now start) start self.old.states }
         requires none { self.old.outcomes.keys ≡ [] }
         ensures widens { OnOk result (WidensNoted self.old.states self.new.states) }
-        ensures led { OnOk result (AreGathered flat.now (machine_begun flat.now start) start self.new.states) }
-        ensures sound { OnOk result (AreSound flat.now (machine_begun flat.now start) self.new.outcomes.keys) }
-        ensures done { OnOk result (AreSearched flat.now self.new.states self.new.outcomes.keys (noted_count self.new.states)) }
+        ensures led { OnOk result (AreGathered flat.now
+            (machine_begun flat.now start) start self.new.states) }
+        ensures sound { OnOk result (AreSound flat.now
+            (machine_begun flat.now start) self.new.outcomes.keys) }
+        ensures done { OnOk result (AreSearched flat.now self.new.states self.new.outcomes.keys
+            (noted_count self.new.states)) }
         ensures fits { OnOk result (noted_count self.new.states ≤ most) }
         ensures nodes { IfErr result (λ fault. fault ≢ ExploreFault.BadNodes) }
-        ensures faults { IfErr result (λ fault. fault ≡ ExploreFault.TooMany → MeetsMoreNoted flat.now (machine_begun flat.now start) start most) }
+        ensures faults { IfErr result (λ fault. fault ≡ ExploreFault.TooMany
+            → MeetsMoreNoted flat.now (machine_begun flat.now start) start most) }
     {
         let mut place = 0;
         while place < self.states.len() {
@@ -186,10 +204,13 @@ impl Gathered {
         requires within { place < noted_count self.old.states }
         requires small { place < 2 ^ 63 }
         ensures widens { OnOk result (WidensNoted self.old.states self.new.states) }
-        ensures led { OnOk result (AreGathered flat.now (machine_begun flat.now start) start self.new.states) }
+        ensures led { OnOk result (AreGathered flat.now
+            (machine_begun flat.now start) start self.new.states) }
         ensures more { OnOk result (Grows self.old.outcomes.keys self.new.outcomes.keys) }
-        ensures sound { OnOk result (AreSound flat.now (machine_begun flat.now start) self.new.outcomes.keys) }
-        ensures done { OnOk result (IsSearchedAt flat.now self.new.states self.new.outcomes.keys place) }
+        ensures sound { OnOk result (AreSound flat.now
+            (machine_begun flat.now start) self.new.outcomes.keys) }
+        ensures done { OnOk result (IsSearchedAt flat.now self.new.states self.new.outcomes.keys
+            place) }
     {
         let key = self.states.noted(alloc, place)?;
         self.expand(alloc, flat, start, place, &key)?;
@@ -214,9 +235,11 @@ impl Gathered {
         requires small { place < 2 ^ 63 }
         requires state { IsStateOf flat.now key.now.state }
         ensures widens { OnOk result (WidensNoted self.old.states self.new.states) }
-        ensures led { OnOk result (AreGathered flat.now (machine_begun flat.now start) start self.new.states) }
+        ensures led { OnOk result (AreGathered flat.now
+            (machine_begun flat.now start) start self.new.states) }
         ensures same { self.new.outcomes.keys ≡ self.old.outcomes.keys }
-        ensures next { OnOk result (HasNextBelow flat.now self.new.states key.now (length key.now.state.spots.items)) }
+        ensures next { OnOk result (HasNextBelow flat.now self.new.states key.now
+            (length key.now.state.spots.items)) }
     {
         for node in 0..key.state.spots.len() {
             let Some(deed) = key.state.next_deed(flat, node) else {
@@ -241,9 +264,11 @@ impl Gathered {
         requires led_to { IsLed flat.now (machine_begun flat.now start) start after }
         requires counted { CountsUpTo (noted_count self.old.states) after }
         ensures widens { OnOk result (WidensNoted self.old.states self.new.states) }
-        ensures led { OnOk result (AreGathered flat.now (machine_begun flat.now start) start self.new.states) }
+        ensures led { OnOk result (AreGathered flat.now
+            (machine_begun flat.now start) start self.new.states) }
         ensures same { self.new.outcomes.keys ≡ self.old.outcomes.keys }
-        ensures has { OnOk result (HasNoted flat.now self.new.states (plain_at flat.now after.state) after.notes.items) }
+        ensures has { OnOk result (HasNoted flat.now self.new.states
+            (plain_at flat.now after.state) after.notes.items) }
     {
         let (_place, _new) = self.states.add(alloc, after)?;
         Ok(())

@@ -10,7 +10,8 @@ use lrc_exec::machine::Ask;
 use lrc_exec::spot::Flat;
 use lrc_exec::state::State;
 
-/// The access that a node makes next: the word, and whether it is written.
+/// Returns the access that a node makes next: the word, and whether it is a write. Returns none if the node makes no
+/// access next.
 pub fn next_access(flat: &Flat, state: &State, node: usize) -> Option<(u32, bool)>
     requires flat { IsFlat flat.now }
     requires state { IsStateOf flat.now state.now }
@@ -27,7 +28,8 @@ pub fn next_access(flat: &Flat, state: &State, node: usize) -> Option<(u32, bool
     }
 }
 
-/// The least two nodes that meet, the lower one first.
+/// Returns the least two nodes that meet, the lower one first, or none if no two nodes meet. Nodes meet if both are
+/// about to access one word and one of them to write it.
 pub fn meeting(flat: &Flat, state: &State) -> Option<(usize, usize)>
     requires flat { IsFlat flat.now }
     requires state { IsStateOf flat.now state.now }
@@ -51,7 +53,8 @@ fn partner(flat: &Flat, state: &State, p: usize, word: u32, writes: bool) -> Opt
     requires flat { IsFlat flat.now }
     requires state { IsStateOf flat.now state.now }
     requires node { p < length state.now.spots.items }
-    ensures { MatchOption result (HasNoPartner (plain_at flat.now state.now) p (length state.now.spots.items) word writes)
+    ensures { MatchOption result (HasNoPartner (plain_at flat.now state.now) p
+        (length state.now.spots.items) word writes)
         (λ q. (p < q) × IsPartner (plain_at flat.now state.now) q word writes
         × HasNoPartner (plain_at flat.now state.now) p q word writes) }
 {
@@ -73,7 +76,7 @@ fn joins(other: u32, also: bool, word: u32, writes: bool) -> bool
     other == word && (writes || also)
 }
 
-/// Whether no node can make an act and some node has neither ended nor trapped.
+/// Returns whether no node can make an act and some node has neither ended nor trapped.
 pub fn is_stuck(flat: &Flat, state: &State) -> bool
     requires flat { IsFlat flat.now }
     requires state { IsStateOf flat.now state.now }
@@ -82,7 +85,7 @@ pub fn is_stuck(flat: &Flat, state: &State) -> bool
     is_still(flat, state) && is_unfinished(flat, state)
 }
 
-/// Whether no node can make an act.
+/// Returns whether no node can make an act.
 pub fn is_still(flat: &Flat, state: &State) -> bool
     requires flat { IsFlat flat.now }
     requires state { IsStateOf flat.now state.now }

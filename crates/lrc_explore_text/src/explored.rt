@@ -13,19 +13,20 @@ use lrc_labels::label::Label;
 use lrc_lang::program::Program;
 use std::alloc::Global;
 
-/// What is printed, and the status with which the program ends after it.
+/// A printed text, and the exit status of the program after it.
 #[derive(Drop)]
 pub struct Printout {
     /// The parts of the text.
     pub parts: Vec<Vec<u8>>,
-    /// 0, or 3 after a race, or 4 where some order gets stuck.
+    /// 0, or 3 after a race, or 4 if some order gets stuck.
     pub status: u8,
 }
 
-/// What is printed of every order in which so many nodes can run a program whose statements, and the text's end behind them, have
-/// these lines: whether one races, and else whether one gets stuck; or in place of that every outcome, where outcomes are asked
-/// for. The labels of words and of locks stand behind their numbers in the lines of nodes that are stuck. There are 1 to 16 nodes.
-/// Gives up where there are more states to tell apart than `most`.
+/// Searches every order in which `nodes` nodes can run a program, and returns what is printed: whether an order races,
+/// and if none does, whether one gets stuck. If `outcomes` is true, it prints every outcome instead. `lines` has the
+/// lines of the program's statements, and of the text's end behind them. In the lines of stuck nodes, the labels of
+/// words and locks follow their numbers. There must be 1 to 16 nodes. Fails if there are more than `most` states to
+/// tell apart, or if memory runs out.
 pub fn explored(
     alloc: Global,
     labels: &[Label<'_>],
@@ -36,10 +37,14 @@ pub fn explored(
     outcomes: bool,
 ) -> Result<Printout, ExploreFault>
     requires { AreNodes nodes }
-    ensures ok { IfOk result (λ printout. Explores (map label_seen labels.now) program.now nodes lines.now outcomes (whole_text printout.parts.items) printout.status) }
-    ensures fits { IfOk result (λ printout. MeetsFew program.now nodes most outcomes printout.status) }
+    ensures ok { IfOk result (λ printout.
+        Explores (map label_seen labels.now) program.now nodes lines.now outcomes
+        (whole_text printout.parts.items) printout.status) }
+    ensures fits { IfOk result (λ printout.
+        MeetsFew program.now nodes most outcomes printout.status) }
     ensures nodes { IfErr result (λ fault. fault ≢ ExploreFault.BadNodes) }
-    ensures too_many { IfErr result (λ fault. fault ≡ ExploreFault.TooMany → MeetsTooMany program.now nodes most outcomes) }
+    ensures too_many { IfErr result (λ fault. fault ≡ ExploreFault.TooMany
+        → MeetsTooMany program.now nodes most outcomes) }
 {
     if outcomes {
         outcomes_told(alloc, program, nodes, most)

@@ -12,7 +12,7 @@ use lrc_trace::act::{Act, Deed};
 use lrc_trace::race::Race;
 use std::alloc::{AllocError, Global};
 
-/// The races of the act at a position with earlier ones, ascending, each once.
+/// Returns the races of the act at a position with earlier acts, in ascending order, each once.
 pub(crate) fn races_at(
     alloc: Global,
     acts: &[Act],
@@ -37,7 +37,8 @@ fn races_between(
 ) -> Result<Vec<Race>, AllocError>
     requires earlier { All (λ pair. pair.earlier < length acts.now) pairs.now }
     requires later { All (λ pair. pair.later < length acts.now) pairs.now }
-    ensures { IfOk result (λ races. races.items ≡ flat_map (race_ending_at acts.now position) pairs.now) }
+    ensures { IfOk result (λ races. races.items
+        ≡ flat_map (race_ending_at acts.now position) pairs.now) }
 {
     let mut races = Vec::new(alloc);
     for pair in pairs {
@@ -55,7 +56,8 @@ fn push_race_if(
 ) -> Result<(), AllocError>
     requires earlier { pair.earlier < length acts.now }
     requires later { pair.later < length acts.now }
-    ensures { OnOk result (races.new.items ≡ races.old.items ++ race_ending_at acts.now position pair) }
+    ensures { OnOk result (races.new.items
+        ≡ races.old.items ++ race_ending_at acts.now position pair) }
 {
     if is_at(pair, position) {
         races.push(race_of_pair(acts, pair))?;

@@ -15,14 +15,20 @@ ghost use Rattle.lrc_explore.specs.Verdict.{FindsNoRace};
 ghost use Rattle.lrc_breadth.specs.Answers.{IsAnswer};
 ghost use Rattle.lrc_explore.specs.declared.search.Verdict.{Verdict};
 
-/// Where every order was looked at and none races, no report of the distributed memory has a race, and its acts are those of the
-/// plain machine: whatever its options and events are, so also in rounds, at random and on threads, whose reports are each of some
-/// events.
+/// If every order was searched and none races, then no report of the distributed memory has a race, and its acts are
+/// those of the plain machine. This holds for all options and events, and so also for runs in rounds, at random and on
+/// threads, because each of their reports is the report of some events.
 pub fn reports_of_explored_programs_are_plain()
-    ensures plain { (program : Program) (nodes : ℕ) (verdict : Verdict) (options : OptionsRecord) (events : List Event) (report : Report)
-        → IsAnswer program nodes verdict → FindsNoRace verdict → IsReportOf program nodes options events report
-        → IsRaceFree report.acts.items × (plain program nodes (nodes_of_acts report.acts.items) ≡ Some report.acts.items) }
-    ensures unraced { (program : Program) (nodes : ℕ) (verdict : Verdict) (options : OptionsRecord) (events : List Event) (report : Report)
-        → IsAnswer program nodes verdict → FindsNoRace verdict → IsReportOf program nodes options events report
-        → AreNamedRaces report.acts.items report.races.items → (report.first_race ≡ None) × (report.races.items ≡ []) }
+    ensures plain { (program : Program) (nodes : ℕ) (verdict : Verdict) (options : OptionsRecord)
+        (events : List Event) (report : Report)
+        → IsAnswer program nodes verdict → FindsNoRace verdict
+        → IsReportOf program nodes options events report
+        → IsRaceFree report.acts.items
+        × (plain program nodes (nodes_of_acts report.acts.items) ≡ Some report.acts.items) }
+    ensures unraced { (program : Program) (nodes : ℕ) (verdict : Verdict) (options : OptionsRecord)
+        (events : List Event) (report : Report)
+        → IsAnswer program nodes verdict → FindsNoRace verdict
+        → IsReportOf program nodes options events report
+        → AreNamedRaces report.acts.items report.races.items
+        → (report.first_race ≡ None) × (report.races.items ≡ []) }
 {}

@@ -1,4 +1,5 @@
-//! What is printed of every order of a program: whether one races, whether one gets stuck, and what the nodes can come to.
+//! Prints what a search of every order of a program finds. It tells whether an order races, whether one gets stuck, or
+//! which outcomes the nodes can reach.
 #![tactic(auto)]
 
 pub mod explored;

@@ -29,8 +29,8 @@ use lrc_text::{first_race_part, races_part};
 use lrc_trace::act::Act;
 use std::alloc::{AllocError, Global};
 
-/// What is printed of the verdict on a program, and of the order that it names. The labels of words and of locks stand in the lines of
-/// nodes that are stuck.
+/// Returns what is printed of the verdict on a program, and of the order that it names. The lines of stuck nodes have
+/// the labels of words and locks.
 pub(crate) fn orders_told(
     alloc: Global,
     labels: &[Label<'_>],
@@ -40,10 +40,14 @@ pub(crate) fn orders_told(
     most: usize,
 ) -> Result<Printout, ExploreFault>
     requires { AreNodes nodes }
-    ensures ok { IfOk result (λ printout. TellsOrders (map label_seen labels.now) program.now nodes lines.now (whole_text printout.parts.items) printout.status) }
-    ensures fits { IfOk result (λ printout. printout.status ≢ 3 → FitsSettled program.now nodes most) }
+    ensures ok { IfOk result (λ printout.
+        TellsOrders (map label_seen labels.now) program.now nodes lines.now
+        (whole_text printout.parts.items) printout.status) }
+    ensures fits { IfOk result (λ printout. printout.status ≢ 3
+        → FitsSettled program.now nodes most) }
     ensures nodes { IfErr result (λ fault. fault ≢ ExploreFault.BadNodes) }
-    ensures too_many { IfErr result (λ fault. fault ≡ ExploreFault.TooMany → MetTooMany program.now nodes most) }
+    ensures too_many { IfErr result (λ fault. fault ≡ ExploreFault.TooMany
+        → MetTooMany program.now nodes most) }
 {
     let verdict = explore(alloc, program, nodes, most)?;
     let printout = verdict_told(alloc, labels, program, lines, nodes as u8, &verdict)?;
@@ -60,7 +64,9 @@ fn verdict_told(
 ) -> Result<Printout, AllocError>
     requires nodes { AreNodes nodes }
     requires verdict { IsAnswer program.now nodes verdict.now }
-    ensures ok { IfOk result (λ printout. TellsOrders (map label_seen labels.now) program.now nodes lines.now (whole_text printout.parts.items) printout.status) }
+    ensures ok { IfOk result (λ printout.
+        TellsOrders (map label_seen labels.now) program.now nodes lines.now
+        (whole_text printout.parts.items) printout.status) }
     ensures free { IfOk result (λ printout. printout.status ≢ 3 → FindsNoRace verdict.now) }
 {
     match verdict {
@@ -82,7 +88,9 @@ fn free_told(
 ) -> Result<Printout, AllocError>
     requires free { HasNoRace program.now nodes }
     requires never { NeverStuck program.now nodes }
-    ensures { IfOk result (λ printout. TellsOrders (map label_seen labels.now) program.now nodes lines.now (whole_text printout.parts.items) printout.status) }
+    ensures { IfOk result (λ printout.
+        TellsOrders (map label_seen labels.now) program.now nodes lines.now
+        (whole_text printout.parts.items) printout.status) }
 {
     // For the proof: the lines are in range, and the labels are those of the others.
     let _lines = lines;
@@ -104,7 +112,9 @@ fn stuck_told(
     requires nodes { AreNodes nodes }
     requires free { HasNoRace program.now nodes }
     requires stuck { GetsStuck program.now nodes order.now }
-    ensures { IfOk result (λ printout. TellsOrders (map label_seen labels.now) program.now nodes lines.now (whole_text printout.parts.items) printout.status) }
+    ensures { IfOk result (λ printout.
+        TellsOrders (map label_seen labels.now) program.now nodes lines.now
+        (whole_text printout.parts.items) printout.status) }
 {
     let acts = acts_of(alloc, program, nodes, order)?;
     let head = Vec::from_slice(alloc, b"race free in every order\nsome order gets stuck:\n")?;
@@ -125,7 +135,9 @@ fn race_told(
 ) -> Result<Printout, AllocError>
     requires nodes { AreNodes nodes }
     requires ends { EndsInRace program.now nodes order.now }
-    ensures ok { IfOk result (λ printout. TellsOrders (map label_seen labels.now) program.now nodes lines.now (whole_text printout.parts.items) printout.status) }
+    ensures ok { IfOk result (λ printout.
+        TellsOrders (map label_seen labels.now) program.now nodes lines.now
+        (whole_text printout.parts.items) printout.status) }
     ensures status { IfOk result (λ printout. printout.status ≡ 3) }
 {
     let raced = acts_of(alloc, program, nodes, order)?;
@@ -143,8 +155,11 @@ fn last_race_told(
     acts: &[Act],
 ) -> Result<Printout, AllocError>
     requires in_range { All (λ act. act.node < NODES) acts.now }
-    requires tells { (order : List ℕ) × (run : List ActType) × (plain program.now nodes order ≡ Some run) × TellsRace program.now nodes run acts.now }
-    ensures ok { IfOk result (λ printout. TellsOrders (map label_seen labels.now) program.now nodes lines.now (whole_text printout.parts.items) printout.status) }
+    requires tells { (order : List ℕ) × (run : List ActType)
+        × (plain program.now nodes order ≡ Some run) × TellsRace program.now nodes run acts.now }
+    ensures ok { IfOk result (λ printout.
+        TellsOrders (map label_seen labels.now) program.now nodes lines.now
+        (whole_text printout.parts.items) printout.status) }
     ensures status { IfOk result (λ printout. printout.status ≡ 3) }
 {
     let last = last_of(acts);
@@ -170,7 +185,8 @@ fn three_parts(
     second: Vec<u8>,
     third: Vec<u8>,
 ) -> Result<Vec<Vec<u8>>, AllocError>
-    ensures { IfOk result (λ parts. whole_text parts.items ≡ first.items ++ second.items ++ third.items) }
+    ensures { IfOk result (λ parts. whole_text parts.items
+        ≡ first.items ++ second.items ++ third.items) }
 {
     let mut parts = Vec::new(alloc);
     parts.push(first)?;
@@ -206,13 +222,14 @@ fn ends_told(
     nodes: u8,
     acts: &[Act],
 ) -> Result<Vec<u8>, AllocError>
-    ensures { IfOk result (λ text. text.items ≡ ends_text (map label_seen labels.now) program.now nodes lines.now acts.now) }
+    ensures { IfOk result (λ text. text.items
+        ≡ ends_text (map label_seen labels.now) program.now nodes lines.now acts.now) }
 {
     let code = Code::new(alloc, program)?;
     stuck_part(alloc, labels, &code, lines, nodes, None, acts)
 }
 
-/// A line for each act of an order.
+/// Returns a line for each act of an order.
 pub(crate) fn acts_told(
     alloc: Global,
     program: &Program,

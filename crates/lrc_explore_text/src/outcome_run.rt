@@ -20,9 +20,10 @@ use lrc_lang::program::Program;
 use lrc_trace::act::Act;
 use std::alloc::{AllocError, Global};
 
-/// What is printed of the outcome of this number, counted from 1, among those of a program whose statements, and the text's end behind
-/// them, have these lines: the acts of a run that has it. Nothing where there are fewer outcomes. There are 1 to 16 nodes. Gives up
-/// where there are more states to tell apart than `most`.
+/// Returns what is printed of the outcome with this number, counted from 1, among the outcomes of a program: the acts
+/// of a run that has it. Returns none if there are fewer outcomes. `lines` has the lines of the program's statements,
+/// and of the text's end behind them. There must be 1 to 16 nodes. Fails if there are more than `most` states to tell
+/// apart, or if memory runs out.
 pub fn outcome_run_told(
     alloc: Global,
     program: &Program,
@@ -33,10 +34,12 @@ pub fn outcome_run_told(
 ) -> Result<Option<Vec<u8>>, ExploreFault>
     requires nodes { AreNodes nodes }
     requires number { 1 ≤ number }
-    ensures told { IfOk result (λ told. TellsRunOfNumber program.now nodes lines.now number (option_map (λ text. text.items) told)) }
+    ensures told { IfOk result (λ told. TellsRunOfNumber program.now nodes lines.now number
+        (option_map (λ text. text.items) told)) }
     ensures fits { IfOk result (λ _. FitsSettledNoted program.now nodes most) }
     ensures nodes { IfErr result (λ fault. fault ≢ ExploreFault.BadNodes) }
-    ensures too_many { IfErr result (λ fault. fault ≡ ExploreFault.TooMany → MetTooMany program.now nodes most) }
+    ensures too_many { IfErr result (λ fault. fault ≡ ExploreFault.TooMany
+        → MetTooMany program.now nodes most) }
 {
     let count = nodes as u8;
     let run = outcome_run(alloc, program, count, most, number)?;
@@ -58,7 +61,8 @@ fn outcome_run(
     number: u64,
 ) -> Result<Option<Vec<Act>>, ExploreFault>
     requires number { 1 ≤ number }
-    ensures run { IfOk result (λ run. IsRunOfNumber program.now nodes number (option_map (λ acts. acts.items) run)) }
+    ensures run { IfOk result (λ run. IsRunOfNumber program.now nodes number
+        (option_map (λ acts. acts.items) run)) }
     ensures fits { IfOk result (λ _. FitsSettledNoted program.now nodes most) }
     ensures faults { IfErr result (IsFaultOf program.now nodes most) }
 {
@@ -75,7 +79,8 @@ fn run_in(
     number: u64,
 ) -> Result<Option<Vec<Act>>, ExploreFault>
     requires number { 1 ≤ number }
-    ensures run { IfOk result (λ run. IsRunOfNumber code.now nodes number (option_map (λ acts. acts.items) run)) }
+    ensures run { IfOk result (λ run. IsRunOfNumber code.now nodes number
+        (option_map (λ acts. acts.items) run)) }
     ensures fits { IfOk result (λ _. FitsSettledNoted code.now nodes most) }
     ensures faults { IfErr result (IsFaultOf code.now nodes most) }
 {
@@ -88,8 +93,10 @@ fn run_of(alloc: Global, task: &Task<'_>, number: u64) -> Result<Option<Vec<Act>
     requires task { IsTask task.now }
     requires noting { task.now.noting ≡ true }
     requires number { 1 ≤ number }
-    ensures run { IfOk result (λ run. IsRunOfNumber task.now.program.now task.now.flat.nodes number (option_map (λ acts. acts.items) run)) }
-    ensures fits { IfOk result (λ _. FitsSettledNoted task.now.program.now task.now.flat.nodes task.now.most) }
+    ensures run { IfOk result (λ run. IsRunOfNumber task.now.program.now task.now.flat.nodes number
+        (option_map (λ acts. acts.items) run)) }
+    ensures fits { IfOk result (λ _. FitsSettledNoted task.now.program.now task.now.flat.nodes
+        task.now.most) }
     ensures faults { IfErr result (IsFault task.now) }
 {
     let ended = all_ended(alloc, task)?;
@@ -150,7 +157,8 @@ fn place_of_line(
     outcomes: &[Outcome],
     line: &[u8],
 ) -> Result<usize, AllocError>
-    requires { Contains (map (λ outcome. outcome_line nodes outcome.notes.items) outcomes.now) line.now }
+    requires { Contains (map (λ outcome. outcome_line nodes outcome.notes.items) outcomes.now)
+        line.now }
     ensures { IfOk result (IsLineAt nodes outcomes.now line.now) }
 {
     for place in 0..outcomes.len() {
@@ -164,7 +172,8 @@ fn place_of_line(
 
 // Whether an outcome has this line.
 fn has_line(alloc: Global, nodes: u8, outcome: &Outcome, line: &[u8]) -> Result<bool, AllocError>
-    ensures { IfOk result (λ has. IsTrue has ↔ (outcome_line nodes outcome.now.notes.items ≡ line.now)) }
+    ensures { IfOk result (λ has. IsTrue has
+        ↔ (outcome_line nodes outcome.now.notes.items ≡ line.now)) }
 {
     let own = outcome_line(alloc, nodes, &outcome.notes)?;
     Ok(is_same(&own, line))

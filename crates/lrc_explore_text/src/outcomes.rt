@@ -20,7 +20,7 @@ use lrc_trace::act::Act;
 use lrc_world::ends::ends;
 use std::alloc::{AllocError, Global};
 
-/// What is printed of the outcomes of a program.
+/// Returns what is printed of the outcomes of a program.
 pub(crate) fn outcomes_told(
     alloc: Global,
     program: &Program,
@@ -28,11 +28,13 @@ pub(crate) fn outcomes_told(
     most: usize,
 ) -> Result<Printout, ExploreFault>
     requires { AreNodes nodes }
-    ensures text { IfOk result (λ printout. TellsOutcomes program.now nodes (whole_text printout.parts.items)) }
+    ensures text { IfOk result (λ printout.
+        TellsOutcomes program.now nodes (whole_text printout.parts.items)) }
     ensures status { IfOk result (λ printout. printout.status ≡ 0) }
     ensures fits { IfOk result (λ _. FitsSettledNoted program.now nodes most) }
     ensures nodes { IfErr result (λ fault. fault ≢ ExploreFault.BadNodes) }
-    ensures too_many { IfErr result (λ fault. fault ≡ ExploreFault.TooMany → MetTooMany program.now nodes most) }
+    ensures too_many { IfErr result (λ fault. fault ≡ ExploreFault.TooMany
+        → MetTooMany program.now nodes most) }
 {
     let found = outcomes(alloc, program, nodes, most)?;
     let parts = outcomes_listed(alloc, nodes as u8, &found)?;
@@ -45,7 +47,8 @@ fn outcomes_listed(
     nodes: u8,
     outcomes: &IndexSet<Outcome>,
 ) -> Result<Vec<Vec<u8>>, AllocError>
-    ensures listed { IfOk result (λ parts. ListsOutcomes nodes outcomes.now.keys (whole_text parts.items)) }
+    ensures listed { IfOk result (λ parts. ListsOutcomes nodes outcomes.now.keys
+        (whole_text parts.items)) }
     ensures once { OnOk result (IsDistinct eq-value.it outcomes.now.keys) }
 {
     let count = outcomes.len();
@@ -66,7 +69,8 @@ fn with_head(head: Vec<u8>, lines: Vec<Vec<u8>>) -> Result<Vec<Vec<u8>>, AllocEr
 
 // How many outcomes there are, and where there are none that no run ends.
 fn head_of(alloc: Global, count: usize) -> Result<Vec<u8>, AllocError>
-    ensures { IfOk result (λ head. head.items ≡ codes "outcomes " ++ decimal count ++ codes " in every order\n" ++ none_ends count) }
+    ensures { IfOk result (λ head. head.items
+        ≡ codes "outcomes " ++ decimal count ++ codes " in every order\n" ++ none_ends count) }
 {
     let mut head = Vec::new(alloc);
     push_number(&mut head, b"outcomes ", count as u64)?;
@@ -77,7 +81,7 @@ fn head_of(alloc: Global, count: usize) -> Result<Vec<u8>, AllocError>
     Ok(head)
 }
 
-/// The lines of outcomes, ascending.
+/// Returns the lines of outcomes, in ascending order.
 pub(crate) fn sorted_lines(
     alloc: Global,
     nodes: u8,
@@ -92,7 +96,8 @@ pub(crate) fn sorted_lines(
 
 // A line for each outcome.
 fn lines_of(alloc: Global, nodes: u8, outcomes: &[Outcome]) -> Result<Vec<Vec<u8>>, AllocError>
-    ensures { IfOk result (λ lines. texts_of lines.items ≡ map (λ outcome. outcome_line nodes outcome.notes.items) outcomes.now) }
+    ensures { IfOk result (λ lines. texts_of lines.items
+        ≡ map (λ outcome. outcome_line nodes outcome.notes.items) outcomes.now) }
 {
     let mut lines = Vec::new(alloc);
     for outcome in outcomes {
@@ -101,7 +106,7 @@ fn lines_of(alloc: Global, nodes: u8, outcomes: &[Outcome]) -> Result<Vec<Vec<u8
     Ok(lines)
 }
 
-/// The line of an outcome.
+/// Returns the line of an outcome.
 pub(crate) fn outcome_line(alloc: Global, nodes: u8, notes: &[Act]) -> Result<Vec<u8>, AllocError>
     ensures { IfOk result (λ line. line.items ≡ outcome_line nodes notes.now) }
 {

@@ -14,7 +14,7 @@ use lrc_trace::act::{Act, Deed};
 use std::alloc::AllocError;
 use std::collections::BTreeMap;
 
-/// Whether some node but this one has a number above what of it is reached.
+/// Returns whether some other node has a number in `latest` that is above its number in the reach.
 pub fn is_some_unreached(latest: &[usize], node: usize, reach: &Reach) -> bool
     requires { length latest.now ≡ NODES }
     ensures { IsTrue result ↔ IsSomeUnreached latest.now node reach.now }
@@ -37,7 +37,7 @@ fn touched_at(words: &BTreeMap<u32, Touched>, word: u32) -> Touched
     }
 }
 
-/// Whether the act at this position races with an earlier one.
+/// Returns whether the act at this position races with an earlier act.
 pub fn races(words: &BTreeMap<u32, Touched>, acts: &[Act], position: usize, reach: &Reach) -> bool
     requires touched { AreTouched acts.now position words.now }
     requires reach { Gathers acts.now (λ k. k ≡ position) reach.now }
@@ -52,7 +52,7 @@ pub fn races(words: &BTreeMap<u32, Touched>, acts: &[Act], position: usize, reac
     }
 }
 
-/// Takes the act at this position in.
+/// Records the act at this position. It fails only if memory runs out.
 pub fn note(
     words: &mut BTreeMap<u32, Touched>,
     acts: &[Act],

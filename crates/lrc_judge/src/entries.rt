@@ -6,7 +6,7 @@ use crate::lanes::{Entry, Lane};
 use lrc_trace::act::{Act, Deed};
 use std::alloc::{AllocError, Global};
 
-/// What is listed, and what tells lanes apart.
+/// Which accesses are listed, and how they are divided into lanes.
 #[derive(Clone, Copy, PartialEq, Eq)]
 pub enum Told {
     /// Reads and writes, by word and node.
@@ -42,7 +42,8 @@ fn lane_of(told: Told, act: Act) -> Option<Lane>
     }
 }
 
-/// The accesses of a run, in order by lanes.
+/// Returns the accesses of a run that `told` selects, sorted by lane, then by position. It fails only if memory runs
+/// out.
 pub fn entries_of(alloc: Global, acts: &[Act], told: Told) -> Result<Vec<Entry>, AllocError>
     ensures { IfOk result (λ entries. AreEntries (IsEntry acts.now told) entries.items) }
 {

@@ -10,11 +10,12 @@ use lrc_trace::act::Act;
 use std::alloc::{AllocError, Global};
 use std::collections::BTreeMap;
 
-/// The least position of a run that races with an earlier one, and none where no two acts race. It takes one pass over the
-/// acts: what is kept of a word is where each node accessed it last.
+/// Returns the least position of a run whose act races with an earlier one, or none if no two acts race. It takes one
+/// pass over the acts, and keeps for each word where each node accessed it last. It fails only if memory runs out.
 pub fn first_race(alloc: Global, acts: &[Act]) -> Result<Option<usize>, AllocError>
     requires { All (λ act. act.node < NODES) acts.now }
-    ensures { IfOk result (λ first. MatchOption first (IsRaceFree acts.now) (IsFirstRace acts.now)) }
+    ensures { IfOk result (λ first. MatchOption first (IsRaceFree acts.now)
+        (IsFirstRace acts.now)) }
 {
     let mut past = Past::new(alloc)?;
     let mut words = BTreeMap::new(alloc);

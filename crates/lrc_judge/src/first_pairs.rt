@@ -52,9 +52,11 @@ fn leaders_of(
     Ok(leaders)
 }
 
-/// The first pairs of the races that a run names: of each race that pair, among those that it names, whose later act comes first,
-/// and among these that whose earlier act does. By the later act, then by the earlier, each once. It costs little more than the
-/// acts, times the nodes, and the races.
+/// Returns the first pair of each race that a run names. Among the pairs with the same race, it is the one whose later
+/// act comes first, and among these the one whose earlier act comes first.
+///
+/// The pairs are sorted by the later act, then by the earlier, each once. The cost is nearly linear in the acts times
+/// the nodes, plus the races. It fails only if memory runs out.
 pub fn first_pairs(alloc: Global, acts: &[Act]) -> Result<Vec<Pair>, AllocError>
     requires { All (λ act. act.node < NODES) acts.now }
     ensures { IfOk result (λ pairs. AreFirstPairs acts.now pairs.items) }

@@ -11,7 +11,7 @@ use crate::lanes::Entry;
 use lrc_trace::act::{Act, Deed};
 use std::alloc::{AllocError, Global};
 
-/// The interval of each act, of its node.
+/// Returns for each act the interval of its node in which it is. It fails only if memory runs out.
 pub fn intervals_of(alloc: Global, acts: &[Act]) -> Result<Vec<u64>, AllocError>
     requires { All (λ act. act.node < NODES) acts.now }
     ensures { IfOk result (λ intervals. AreIntervals acts.now (length acts.now) intervals.items) }
@@ -35,7 +35,8 @@ fn is_alike(entries: &[Entry], intervals: &[u64], at: usize) -> bool
     requires at { at < length entries.now }
     requires within { All (λ e. e.position < length intervals.now) entries.now }
     ensures { MatchBool result ((e : Entry) → ¬ IsFirstAt entries.now intervals.now at e)
-        ((e : Entry) → slice_get entries.now at ≡ Some e → IsFirstAt entries.now intervals.now at e) }
+        ((e : Entry) → slice_get entries.now at ≡ Some e
+        → IsFirstAt entries.now intervals.now at e) }
 {
     if at == 0 {
         return false;
@@ -48,7 +49,7 @@ fn is_alike(entries: &[Entry], intervals: &[u64], at: usize) -> bool
     intervals[before.position] == intervals[entry.position]
 }
 
-/// Of the accesses of a lane the first of each interval.
+/// Returns the first access in each interval of each lane. It fails only if memory runs out.
 pub fn firsts_of(
     alloc: Global,
     entries: &[Entry],

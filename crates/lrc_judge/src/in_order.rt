@@ -9,12 +9,12 @@ use lrc_trace::act::{Act, Deed};
 use std::alloc::{AllocError, Global};
 use std::collections::BTreeMap;
 
-/// A read that does not give what the last write before it wrote.
+/// A read that does not give the value of the last write before it.
 #[derive(Clone, Copy, PartialEq, Eq)]
 pub struct OutOfOrder {
-    /// Where the read is.
+    /// The position of the read.
     pub position: usize,
-    /// What the last write to its word before it wrote, or 0 where there is none.
+    /// The value of the last write to the word before the read, or 0 if there is none.
     pub last_written: u64,
 }
 
@@ -28,9 +28,11 @@ fn last_written(memory: &BTreeMap<u32, u64>, word: u32) -> u64
     }
 }
 
-/// The first read of a run that does not give what the last write before it wrote. It takes one pass over the acts.
+/// Returns the first read of a run that does not give the value of the last write before it, or none if every read
+/// does. It takes one pass over the acts. It fails only if memory runs out.
 pub fn first_out_of_order(alloc: Global, acts: &[Act]) -> Result<Option<OutOfOrder>, AllocError>
-    ensures { IfOk result (λ first. MatchOption first (ReadsLastWritten acts.now) (IsFirstOutOfOrder acts.now)) }
+    ensures { IfOk result (λ first. MatchOption first (ReadsLastWritten acts.now)
+        (IsFirstOutOfOrder acts.now)) }
 {
     let mut memory = BTreeMap::new(alloc);
     for position in 0..acts.len() {

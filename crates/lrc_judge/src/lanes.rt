@@ -10,7 +10,8 @@ use crate::order::Order;
 use std::alloc::AllocError;
 use std::cmp::Ordering;
 
-/// Accesses of one word by one node, and, where values tell lanes apart, with one value; else the value is 0.
+/// A class of accesses: those of one node to one word, and, if values distinguish lanes, with one value. Otherwise the
+/// value is 0.
 #[derive(Clone, Copy, PartialEq, Eq, PartialOrd, Ord)]
 pub struct Lane {
     pub word: u32,
@@ -18,14 +19,14 @@ pub struct Lane {
     pub node: u8,
 }
 
-/// An access of a lane. The order is by lanes, then by positions.
+/// An access of a lane. Entries are ordered by lane, then by position.
 #[derive(Clone, Copy, PartialEq, Eq, PartialOrd, Ord)]
 pub struct Entry {
     pub lane: Lane,
     pub position: usize,
 }
 
-/// Two positions, the later first. The order is by the later, then by the earlier.
+/// Two positions, the later first. Pairs are ordered by the later position, then by the earlier.
 #[derive(Clone, Copy, PartialEq, Eq, PartialOrd, Ord)]
 pub struct Pair {
     /// The later position.
@@ -59,10 +60,11 @@ fn first_beyond(entries: &[Entry], order: &Order, lane: Lane, position: usize) -
     )
 }
 
-/// The last position of a lane that is before this position.
+/// Returns the last position of a lane whose act happens before the one at this position, or none if there is none.
 pub fn last_before(entries: &[Entry], order: &Order, lane: Lane, position: usize) -> Option<usize>
     requires { AreSearchable order.now entries.now }
-    ensures { MatchOption result ((k : ℕ) → Contains entries.now (entry lane k) → ¬ IsTrue (is_before order.now k position))
+    ensures { MatchOption result ((k : ℕ) → Contains entries.now (entry lane k)
+        → ¬ IsTrue (is_before order.now k position))
         (IsLastOfLane entries.now order.now lane position) }
 {
     let beyond = first_beyond(entries, order, lane, position);
@@ -85,7 +87,8 @@ fn add_from(
     beyond: usize,
 ) -> Result<(), AllocError>
     ensures { OnOk result ((order : Order) → AreSearchable order entries.now
-        → IsPartitionPoint (λ e. is_behind order lane position e ≡ true) (λ e. is_behind order lane position e ≡ false) entries.now beyond
+        → IsPartitionPoint (λ e. is_behind order lane position e ≡ true)
+        (λ e. is_behind order lane position e ≡ false) entries.now beyond
         → Adds pairs.old.items pairs.new.items (IsOfLane entries.now order lane position)) }
 {
     for at in beyond..entries.len() {
@@ -101,8 +104,8 @@ fn add_from(
     Ok(())
 }
 
-/// Adds the pairs of a position with the earlier ones of a lane that are not before it. It costs little more than there
-/// are such pairs.
+/// Adds the pairs of a position with the earlier positions of a lane whose acts do not happen before it. The cost is
+/// nearly linear in the number of these pairs. It fails only if memory runs out.
 pub fn add_unordered(
     pairs: &mut Vec<Pair>,
     entries: &[Entry],
@@ -111,7 +114,8 @@ pub fn add_unordered(
     position: usize,
 ) -> Result<(), AllocError>
     requires { AreSearchable order.now entries.now }
-    ensures { OnOk result (Adds pairs.old.items pairs.new.items (IsOfLane entries.now order.now lane position)) }
+    ensures { OnOk result (Adds pairs.old.items pairs.new.items
+        (IsOfLane entries.now order.now lane position)) }
 {
     let beyond = first_beyond(entries, order, lane, position);
     add_from(pairs, entries, lane, position, beyond)?;

@@ -6,7 +6,7 @@ ghost use Rattle.lrc_judge.specs.Latest.{later_of};
 
 use lrc_trace::act::{Act, Deed};
 
-/// The greater of what there is.
+/// Returns the greater of two positions, or the only one given, or none.
 pub fn later_of(first: Option<usize>, second: Option<usize>) -> Option<usize>
     ensures { result ≡ later_of first second }
 {
@@ -19,10 +19,11 @@ pub fn later_of(first: Option<usize>, second: Option<usize>) -> Option<usize>
     }
 }
 
-/// What is written at the position.
+/// Returns the value written at the position.
 pub fn value_at(acts: &[Act], position: usize) -> u64
     requires { position < length acts.now }
-    ensures { (node word value : ℕ) → Does acts.now position node (Write word value) → result ≡ value }
+    ensures { (node word value : ℕ) → Does acts.now position node (Write word value)
+        → result ≡ value }
 {
     match acts[position].deed {
         Deed::Write(_, value) => value,

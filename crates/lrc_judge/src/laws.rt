@@ -8,17 +8,18 @@ ghost use Rattle.lrc_judge.specs.Reading.{Misreads};
 ghost use Rattle.lrc_judge.specs.Synchronization.{Breaks};
 ghost use Rattle.lrc_judge.specs.declared.TheConstants.{NODES};
 
-/// The judge takes runs of up to 16 nodes.
+/// The judge accepts runs of up to 16 nodes.
 pub fn the_limits()
     ensures { NODES ≡ 16 }
 {}
 
-/// No read gives a value that it may not give, exactly where the run reads lazily.
+/// A run reads lazily exactly if no read of it gives a value that it may not give.
 pub fn no_misread_is_lazy_reading()
     ensures { (run : List Act) → ((j : ℕ) → ¬ Misreads run j) ↔ ReadsLazily run }
 {}
 
-/// No position breaks well-synchronization, exactly where the run is well synchronized.
+/// A run is well synchronized exactly if no position of it breaks well-synchronization.
 pub fn no_break_is_well_synchronized()
-    ensures { (nodes : ℕ) (run : List Act) → ((j : ℕ) → ¬ Breaks nodes run j) ↔ IsWellSynchronized nodes run }
+    ensures { (nodes : ℕ) (run : List Act) → ((j : ℕ) → ¬ Breaks nodes run j)
+        ↔ IsWellSynchronized nodes run }
 {}

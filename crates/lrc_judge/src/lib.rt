@@ -1,7 +1,6 @@
-//! The judge: plain programs that compute the definitions on acts, for any list of acts, whoever made it.
-//!
-//! They are the reference against which every other body is compared, and of use by themselves to authors of race
-//! detectors and memory systems, who can judge their own traces.
+//! The judge: plain programs that decide the definitions of the model for any list of acts, from any source. They
+//! compute happens before, find races, and check lazy reading and synchronization. They are the reference for every
+//! faster implementation, and authors of race detectors and memory systems can judge their traces with them.
 #![tactic(auto)]
 
 ghost use Rattle.std.specs.Prelude.{◌<◌, ◌↔◌, All, IsTrue};
@@ -30,13 +29,13 @@ mod written;
 
 pub use firsts::intervals_of;
 
-/// How many nodes a run has at most.
+/// The largest number of nodes of a run.
 pub const NODES: usize = MOST_NODES;
 
-/// How many locks an act can name.
+/// How many lock numbers an act can name.
 const LOCKS: usize = 256;
 
-/// Whether every act is of a node from 0 to 15, as the judge asks.
+/// Returns whether every act is of a node from 0 to 15, as the judge requires.
 pub fn are_in_range(acts: &[Act]) -> bool
     ensures { IsTrue result ↔ All (λ act. act.node < NODES) acts.now }
 {

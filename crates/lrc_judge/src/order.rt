@@ -8,16 +8,16 @@ use crate::reach::Reached;
 use lrc_trace::act::Act;
 use std::alloc::{AllocError, Global};
 
-/// Happens before of a run: the closure of program order, lock order and barrier order, as a table (vector time, as in
-/// Fidge 1988 and Mattern 1989).
+/// The happens-before order of a run, as a table: the closure of program order, lock order and barrier order (vector
+/// time, as in Fidge 1988 and Mattern 1989).
 #[derive(Drop)]
 pub struct Order {
     rows: Vec<Reached>,
 }
 
 impl Order {
-    /// Whether the act at the first position happens before the one at the second. Past the end of the run nothing
-    /// does.
+    /// Returns whether the act at the first position happens before the one at the second. Beyond the end of the run
+    /// nothing does.
     pub fn is_before(&self, earlier: usize, later: usize) -> bool
         ensures { result ≡ is_before self.now earlier later }
     {
@@ -29,7 +29,7 @@ impl Order {
     }
 }
 
-/// Happens before of a run.
+/// Computes the happens-before order of a run. It fails only if memory runs out.
 pub fn happens_before(alloc: Global, acts: &[Act]) -> Result<Order, AllocError>
     requires { All (λ act. act.node < NODES) acts.now }
     ensures { IfOk result (IsOrderOf acts.now) }

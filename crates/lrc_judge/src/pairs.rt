@@ -38,8 +38,8 @@ fn add_of_others(
     Ok(())
 }
 
-/// Adds the pairs of positions of the first entries with earlier ones of the second, of other nodes and the same word, that
-/// are not before them.
+/// Adds each pair of an entry of `from` and an earlier entry of `among` of another node and the same word, unless the
+/// earlier act happens before the later one. It fails only if memory runs out.
 pub fn add_crossing(
     pairs: &mut Vec<Pair>,
     order: &Order,
@@ -47,7 +47,8 @@ pub fn add_crossing(
     among: &[Entry],
 ) -> Result<(), AllocError>
     requires { AreSearchable order.now among.now }
-    ensures { OnOk result (Adds pairs.old.items pairs.new.items (IsCrossing from.now among.now order.now)) }
+    ensures { OnOk result (Adds pairs.old.items pairs.new.items
+        (IsCrossing from.now among.now order.now)) }
 {
     for entry in from {
         add_of_others(pairs, order, *entry, among)?;
@@ -55,7 +56,7 @@ pub fn add_crossing(
     Ok(())
 }
 
-/// What tells the racing pairs of a run position by position: its order, and its accesses by word and node.
+/// What determines the racing pairs of a run, position by position: its order, and its accesses by word and node.
 #[derive(Drop)]
 pub struct Conflicts {
     order: Order,
@@ -63,7 +64,8 @@ pub struct Conflicts {
     writes: Vec<Entry>,
 }
 
-/// The accesses of a run, ready to tell which of them race. It costs little more than the acts.
+/// Prepares the accesses of a run, to find which of them race. The cost is nearly linear in the number of acts. It
+/// fails only if memory runs out.
 pub fn conflicts_of(alloc: Global, acts: &[Act]) -> Result<Conflicts, AllocError>
     requires { All (λ act. act.node < NODES) acts.now }
     ensures { IfOk result (AreConflictsOf acts.now) }
@@ -84,7 +86,8 @@ impl Conflicts {
         position: usize,
     ) -> Result<(), AllocError>
         requires searchable { AreSearchableConflicts self.now }
-        ensures { OnOk result (Adds pairs.old.items pairs.new.items (IsPairOfAct self.now act.node act.deed position)) }
+        ensures { OnOk result (Adds pairs.old.items pairs.new.items
+            (IsPairOfAct self.now act.node act.deed position)) }
     {
         let (word, among) = match act.deed {
             Deed::Read(word, _) => (word, self.writes.as_slice()),
@@ -99,8 +102,8 @@ impl Conflicts {
         add_of_others(pairs, &self.order, Entry { lane, position }, among)
     }
 
-    /// The pairs of accesses that race whose later one stands at this position, by the earlier, each once. It costs little more
-    /// than there are such pairs.
+    /// Returns the racing pairs of accesses whose later one is at this position, sorted by the earlier, each once. The
+    /// cost is nearly linear in the number of these pairs. It fails only if memory runs out.
     pub fn pairs_with_later(
         &self,
         alloc: Global,
@@ -121,8 +124,8 @@ impl Conflicts {
     }
 }
 
-/// The pairs of accesses that race, by the later, then by the earlier, each once. It costs little more than the acts and the
-/// pairs.
+/// Returns the racing pairs of accesses, sorted by the later, then by the earlier, each once. The cost is nearly linear
+/// in the number of acts and pairs. It fails only if memory runs out.
 pub fn racing_pairs(alloc: Global, acts: &[Act]) -> Result<Vec<Pair>, AllocError>
     requires { All (λ act. act.node < NODES) acts.now }
     ensures { IfOk result (λ pairs. AreRacingPairs acts.now pairs.items) }

@@ -7,14 +7,14 @@ use crate::{LOCKS, NODES};
 use lrc_trace::act::{Act, Deed};
 use std::alloc::{AllocError, Global};
 
-/// What the acts before a position hand on to the act there.
+/// What the acts before a position pass on to the act there.
 #[derive(Drop)]
 pub struct Past {
-    /// For each node, what its acts are reached by.
+    /// For each node, the reach of its acts.
     pub acted: [Reach; NODES],
-    /// For each lock, what its releases are reached by.
+    /// For each lock, the reach of its releases.
     pub released: Vec<Reach>,
-    /// For each number, what the arrives with so many of their own node before them are reached by.
+    /// At index n, the reach of the arrives that follow n arrives of their own node.
     pub arrived: Vec<Reach>,
     /// How often each node has arrived.
     pub arrives: [usize; NODES],
@@ -32,7 +32,7 @@ impl Past {
     ghost use Rattle.lrc_trace.specs.Order.{Precedes};
     ghost use Rattle.lrc_judge.specs.Past.{Gathers, IsPast};
 
-    /// Before any act.
+    /// Returns the past of the first position, before any act. It fails only if memory runs out.
     pub fn new(alloc: Global) -> Result<Past, AllocError>
         ensures { IfOk result (λ past. (run : List Act) → IsPast run 0 past) }
     {
@@ -65,7 +65,7 @@ impl Past {
         }
     }
 
-    /// What the act at this position is reached by.
+    /// Returns the reach of the act at this position.
     pub fn reach_of(&self, acts: &[Act], position: usize) -> Reach
         requires past { IsPast acts.now position self.now }
         requires nodes { All (λ act. act.node < NODES) acts.now }
@@ -77,7 +77,7 @@ impl Past {
         reach
     }
 
-    /// Takes the act at this position in.
+    /// Records the act at this position. It fails only if memory runs out.
     pub fn note(&mut self, acts: &[Act], position: usize, reach: Reach) -> Result<(), AllocError>
         requires past { IsPast acts.now position self.old }
         requires reach { Gathers acts.now (λ k. k ≡ position) reach }

@@ -15,7 +15,7 @@ use lrc_trace::act::{Act, Deed};
 use lrc_trace::race::Race;
 use std::alloc::{AllocError, Global};
 
-/// The word of an access; of another deed 0.
+/// Returns the word of an access, or 0 for another deed.
 pub fn word_of(deed: Deed) -> u32
     ensures { result ≡ word_of deed }
 {
@@ -25,7 +25,7 @@ pub fn word_of(deed: Deed) -> u32
     }
 }
 
-/// The race on a word of accesses of two nodes in these intervals, the lower node first.
+/// Returns the race of the accesses of two nodes to a word, in these intervals. The lower node comes first.
 pub fn race_of_places(word: u32, p: u8, i: u64, q: u8, j: u64) -> Race
     ensures { result ≡ race_of_places word p i q j }
 {
@@ -92,7 +92,8 @@ fn add_names(
     requires earlier { All (λ pair. pair.earlier < length acts.now) pairs.now }
     requires later { All (λ pair. pair.later < length acts.now) pairs.now }
     requires long { length intervals.now ≡ length acts.now }
-    ensures { OnOk result (Adds races.old.items races.new.items (IsOfSome pairs.now (IsNameOf acts.now intervals.now))) }
+    ensures { OnOk result (Adds races.old.items races.new.items
+        (IsOfSome pairs.now (IsNameOf acts.now intervals.now))) }
 {
     for pair in pairs {
         let first = acts[pair.earlier];
@@ -105,7 +106,8 @@ fn add_names(
     Ok(())
 }
 
-/// The races that a run names, ascending, each once. It costs little more than the acts, times the nodes, and the races.
+/// Returns the races that a run names, ascending, each once. The cost is nearly linear in the acts times the nodes,
+/// plus the races. It fails only if memory runs out.
 pub fn named_races(alloc: Global, acts: &[Act]) -> Result<Vec<Race>, AllocError>
     requires { All (λ act. act.node < NODES) acts.now }
     ensures { IfOk result (λ races. AreNamedRaces acts.now races.items) }

@@ -4,8 +4,8 @@ ghost use Rattle.lrc_judge.specs.declared.TheConstants.{NODES};
 
 use crate::NODES;
 
-/// For each node, one more than the latest of its positions that are or happen before some positions, or 0 where there
-/// is none.
+/// The reach of a set of positions: for each node, its latest position that is in the set or happens before a position
+/// in it, plus one, or 0 if there is none.
 #[derive(Clone, Copy)]
 pub struct Reach {
     pub latest: [usize; NODES],
@@ -13,16 +13,17 @@ pub struct Reach {
 }
 
 impl Reach {
-    /// Nothing.
+    /// Returns the empty reach.
     pub fn none() -> Reach
         ensures { (node : ℕ) → slice_index result.latest node ≡ 0 }
     {
         Reach { latest: [0; NODES] }
     }
 
-    /// What is reached by the one or the other.
+    /// Returns the reach of both sets together.
     pub fn joined(self, other: Reach) -> Reach
-        ensures { (node : ℕ) → slice_index result.latest node ≡ max (slice_index self.latest node) (slice_index other.latest node) }
+        ensures { (node : ℕ) → slice_index result.latest node
+            ≡ max (slice_index self.latest node) (slice_index other.latest node) }
     {
         let mut latest = self.latest;
         for node in 0..NODES {
@@ -32,7 +33,7 @@ impl Reach {
     }
 }
 
-/// What an act is reached by, and its node.
+/// The reach of an act, and its node.
 #[derive(Clone, Copy)]
 pub struct Reached {
     pub node: u8,

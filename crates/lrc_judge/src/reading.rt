@@ -18,7 +18,7 @@ use crate::written::Written;
 use lrc_trace::act::{Act, Deed};
 use std::alloc::{AllocError, Global};
 
-/// A write: where it is, and what it writes.
+/// A write: its position, and its value.
 #[derive(Clone, Copy)]
 struct StoredValue {
     position: usize,
@@ -37,7 +37,7 @@ fn stored_at(acts: &[Act], position: usize, word: u32) -> Option<StoredValue>
     }
 }
 
-/// What the writes to a word so far that happen before a position say of a read there.
+/// What the writes to a word so far that happen before a position determine about a read there.
 #[derive(Clone, Copy)]
 struct Tally {
     /// Whether any two of them are ordered.
@@ -78,7 +78,8 @@ impl Tally {
 fn tally_of(order: &Order, acts: &[Act], position: usize, word: u32) -> Tally
     requires order { IsOrderOf acts.now order.now }
     requires within { position < length acts.now }
-    ensures { (w : Bool) × IsTally acts.now position word 0 position w result.are_ordered result.last }
+    ensures { (w : Bool) × IsTally acts.now position word 0 position w result.are_ordered
+        result.last }
 {
     let mut tally = Tally {
         are_ordered: true,
@@ -105,7 +106,8 @@ fn add_written(
 ) -> Result<(), AllocError>
     requires order { IsOrderOf acts.now order.now }
     requires within { position < length acts.now }
-    ensures { OnOk result (Adds values.old.items values.new.items (IsSomeWrite acts.now position word)) }
+    ensures { OnOk result (Adds values.old.items values.new.items
+        (IsSomeWrite acts.now position word)) }
 {
     values.push(0)?;
     for earlier in 0..position {
@@ -119,8 +121,9 @@ fn add_written(
     Ok(())
 }
 
-/// The values that a read of the word at this position may give, ascending, each once: where the writes that happen before
-/// it are ordered the last one's, or 0 where there are none; else 0 and what they wrote.
+/// Returns the values that a read of the word at this position may give, ascending, each once. If the writes that
+/// happen before it are ordered, this is the last one's value, or 0 if there are none. Otherwise these are 0 and all
+/// values that they wrote. It fails only if memory runs out.
 pub fn values_allowed(
     alloc: Global,
     acts: &[Act],
@@ -151,7 +154,8 @@ fn flag_at(written: &Written, ordered: &[bool], acts: &[Act], position: usize) -
     requires flags { AreFlags acts.now position ordered.now }
     requires long { position ≤ length ordered.now }
     requires within { position < length acts.now }
-    ensures { (word value : ℕ) → IsDone acts.now position (Write word value) → IsTrue result ↔ AreOrdered acts.now position word }
+    ensures { (word value : ℕ) → IsDone acts.now position (Write word value) → IsTrue result
+        ↔ AreOrdered acts.now position word }
 {
     match acts[position].deed {
         Deed::Write(word, _) => written.are_ordered(ordered, word, position),
@@ -166,7 +170,8 @@ fn is_allowed(written: &Written, ordered: &[bool], acts: &[Act], position: usize
     requires flags { AreFlags acts.now position ordered.now }
     requires long { position ≤ length ordered.now }
     requires within { position < length acts.now }
-    ensures { MatchBool result ((word value : ℕ) → IsDone acts.now position (Read word value) → MayRead acts.now position word value)
+    ensures { MatchBool result ((word value : ℕ) → IsDone acts.now position (Read word value)
+        → MayRead acts.now position word value)
         (Misreads acts.now position) }
 {
     match acts[position].deed {
@@ -178,11 +183,14 @@ fn is_allowed(written: &Written, ordered: &[bool], acts: &[Act], position: usize
     }
 }
 
-/// The least position of a read that breaks lazy reading: it gives a value that no write before it wrote, or not that
-/// of the last of them although they are ordered. It costs little more than the acts, times the nodes.
+/// Returns the least position of a read that breaks lazy reading, or none if the run reads lazily. Such a read gives a
+/// value other than 0 that no write that happens before it wrote; or the writes that happen before it are ordered, and
+/// it does not give the last one's value, or 0 if there are none. The cost is nearly linear in the acts times the
+/// nodes. It fails only if memory runs out.
 pub fn first_fault_of_reading(alloc: Global, acts: &[Act]) -> Result<Option<usize>, AllocError>
     requires { All (λ act. act.node < NODES) acts.now }
-    ensures { IfOk result (λ fault. MatchOption fault (ReadsLazily acts.now) (IsFirstMisread acts.now)) }
+    ensures { IfOk result (λ fault. MatchOption fault (ReadsLazily acts.now)
+        (IsFirstMisread acts.now)) }
 {
     let written = Written::of(alloc, acts)?;
     let mut ordered = Vec::new(alloc);

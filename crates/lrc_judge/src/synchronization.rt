@@ -8,10 +8,10 @@ ghost use Rattle.lrc_judge.specs.Synchronization.{Breaks, IsFirstBreak};
 use crate::{LOCKS, NODES};
 use lrc_trace::act::{Act, Deed};
 
-/// What the acts before a position leave of locks and barriers, as long as they are well synchronized.
+/// The state of the locks and barriers after the acts before a position, if they are well synchronized.
 #[derive(Clone, Copy)]
 struct Standing {
-    /// For each lock the node that holds it.
+    /// For each lock, the node that holds it.
     holder: [Option<u8>; LOCKS],
     /// How often each node has arrived.
     arrives: [usize; NODES],
@@ -42,7 +42,8 @@ impl Standing {
         requires nodes { nodes ≤ NODES }
         requires acts { All (λ act. act.node < NODES) acts.now }
         requires within { position < length acts.now }
-        ensures { MatchBool result (¬ Breaks nodes acts.now position) (Breaks nodes acts.now position) }
+        ensures { MatchBool result (¬ Breaks nodes acts.now position)
+            (Breaks nodes acts.now position) }
     {
         match acts[position].deed {
             Deed::Acquire(lock) => self.holder[usize::from(lock)].is_none(),
@@ -81,8 +82,9 @@ fn are_above(counts: &[usize], bound: usize) -> bool
     counts.iter().all(|count| bound < *count)
 }
 
-/// The least position at which a run of so many nodes is not well synchronized: an acquire of a lock that some node
-/// holds, a release by a node that does not hold the lock, or a depart before every node has arrived as often.
+/// Returns the least position at which a run of `nodes` nodes is not well synchronized, or none if it is. The act there
+/// is an acquire of a lock that a node holds, a release by a node that does not hold the lock, or a depart before every
+/// node has arrived at that barrier.
 pub fn first_fault_of_synchronization(acts: &[Act], nodes: u8) -> Option<usize>
     requires nodes { nodes ≤ NODES }
     requires acts { All (λ act. act.node < NODES) acts.now }

@@ -4,8 +4,8 @@ ghost use Rattle.lrc_judge.specs.declared.TheConstants.{NODES};
 
 use crate::NODES;
 
-/// For each node, one more than the latest of its positions at which it accessed a word, and at which it wrote it, or 0
-/// where there is none.
+/// For each node, its latest position that accessed a word, and its latest that wrote it, each plus one, or 0 if there
+/// is none.
 #[derive(Clone, Copy)]
 pub struct Touched {
     pub accessed: [usize; NODES],
@@ -15,7 +15,7 @@ pub struct Touched {
 }
 
 impl Touched {
-    /// Before any access.
+    /// Returns the record before any access.
     pub fn none() -> Touched
         ensures accessed { (node : ℕ) → slice_index result.accessed node ≡ 0 }
         ensures written { (node : ℕ) → slice_index result.written node ≡ 0 }
@@ -26,7 +26,7 @@ impl Touched {
         }
     }
 
-    /// The same with a read by this node at this position.
+    /// Returns this record, updated for a read by this node at this position.
     pub fn with_read(self, node: usize, position: usize) -> Touched
         requires node { node < NODES }
         requires few { position + 1 < 2 ^ 64 }
@@ -39,7 +39,7 @@ impl Touched {
         Touched { accessed, written }
     }
 
-    /// The same with a write by this node at this position.
+    /// Returns this record, updated for a write by this node at this position.
     pub fn with_write(self, node: usize, position: usize) -> Touched
         requires node { node < NODES }
         requires few { position + 1 < 2 ^ 64 }

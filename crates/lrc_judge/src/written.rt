@@ -10,7 +10,7 @@ use crate::order::{Order, happens_before};
 use lrc_trace::act::Act;
 use std::alloc::{AllocError, Global};
 
-/// Happens before of a run, and its writes by word and by value.
+/// The happens-before order of a run, and its writes by word and by value.
 #[derive(Drop)]
 pub struct Written {
     order: Order,
@@ -23,7 +23,7 @@ impl Written {
     ghost use Rattle.lrc_trace.specs.Reading.{AreOrdered, MayRead};
     ghost use Rattle.lrc_judge.specs.Written.{AllLead, AreFlags, AreReady, IsLatestBelow, IsValueBelow, IsWrittenOf};
 
-    /// The writes of a run.
+    /// Returns the order and the writes of a run. It fails only if memory runs out.
     pub fn of(alloc: Global, acts: &[Act]) -> Result<Written, AllocError>
         requires { All (λ act. act.node < NODES) acts.now }
         ensures { IfOk result (IsWrittenOf acts.now) }
@@ -59,7 +59,8 @@ impl Written {
     // Whether each write to the word that happens before the position is this one, or happens before it.
     fn leads(&self, word: u32, position: usize, latest: usize) -> bool
         requires { AreReady self.now }
-        ensures { (run : List Act) → IsWrittenOf run self.now → IsTrue result ↔ AllLead self.now word NODES position latest }
+        ensures { (run : List Act) → IsWrittenOf run self.now → IsTrue result
+            ↔ AllLead self.now word NODES position latest }
     {
         for node in 0..NODES {
             let lane = Lane {
@@ -76,12 +77,13 @@ impl Written {
         true
     }
 
-    /// Whether any two of the writes to the word that happen before the position are ordered, where it is known for each
-    /// earlier write whether those before it are.
+    /// Returns whether any two of the writes to the word that happen before the position are ordered. For each earlier
+    /// write, `ordered` tells the same about the writes before it.
     pub fn are_ordered(&self, ordered: &[bool], word: u32, position: usize) -> bool
         requires ready { AreReady self.now }
         requires long { position ≤ length ordered.now }
-        ensures { (run : List Act) → IsWrittenOf run self.now → All (λ act. act.node < NODES) run → AreFlags run position ordered.now
+        ensures { (run : List Act) → IsWrittenOf run self.now → All (λ act. act.node < NODES) run
+            → AreFlags run position ordered.now
             → IsTrue result ↔ AreOrdered run position word }
     {
         match self.latest(word, position) {
@@ -108,7 +110,7 @@ impl Written {
         false
     }
 
-    /// Whether the read of the word at the position may give the value.
+    /// Returns whether the read of the word at the position may give the value.
     pub fn allows(
         &self,
         acts: &[Act],

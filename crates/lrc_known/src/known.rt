@@ -6,34 +6,34 @@ ghost use Rattle.lrc_known.specs.Effect.{IsSmall, IsWithin};
 use crate::word::{Effect, copied, last_of, past, values_of, values_with, word_after};
 use std::alloc::{AllocError, Global};
 
-/// Of the writes that are known: what the last of them wrote, where they are ordered.
+/// The last of the known writes.
 #[derive(Clone, Copy, Debug, PartialEq, Eq, Hash)]
 pub enum Last {
     /// No write is known.
     Nothing,
-    /// They are ordered, and the last one wrote this value.
+    /// The known writes are ordered, and the last one wrote this value.
     Value(u64),
-    /// Two of them are not ordered.
+    /// Two of the known writes are not ordered.
     Unordered,
 }
 
-/// What one knows of the writes of a word.
+/// What one knower (a node, a lock or a barrier) knows of the writes to a word.
 #[derive(PartialEq, Eq, Hash, Drop)]
 pub struct Known {
     pub last: Last,
-    /// The values that they wrote.
+    /// The values of the known writes.
     pub values: Vec<u64>,
-    /// Whose last write is one of them.
+    /// For each knower, whether its last write is among the known writes.
     pub above: Vec<bool>,
 }
 
-/// What each of those who know knows of the writes of one word.
+/// What each knower knows of the writes to one word.
 #[derive(PartialEq, Eq, Hash, Drop)]
 pub struct KnownWord {
     pub knowers: Vec<Known>,
 }
 
-/// What each of those who know knows of the writes of each word.
+/// What each knower knows of the writes to each word.
 #[derive(PartialEq, Eq, Hash, Drop)]
 pub struct Knowledge {
     pub words: Vec<KnownWord>,
@@ -44,7 +44,7 @@ impl Knowledge {
     ghost use Rattle.lrc_known.specs.Word.{Gives};
     ghost use Rattle.lrc_known.specs.Effect.{IsAfter, IsKnowledgeAfter, IsSmall, word_of};
 
-    /// Nothing is known of any word.
+    /// Returns the knowledge of no write to any word.
     pub fn nothing(alloc: Global) -> Knowledge
         ensures { (word : ℕ) → word_of result word ≡ [] }
     {
@@ -53,7 +53,7 @@ impl Knowledge {
         }
     }
 
-    /// What is known of the writes of a word.
+    /// Returns what each knower knows of the writes to a word.
     pub fn word(&self, word: usize) -> &[Known]
         ensures { result.now ≡ word_of self.now word }
     {
@@ -63,9 +63,10 @@ impl Knowledge {
         }
     }
 
-    /// What a node that knows this may read of a word.
+    /// Returns the values that a node with this knowledge may read from a word. It fails if memory runs out.
     pub fn readable(&self, alloc: Global, word: usize, node: usize) -> Result<Vec<u64>, AllocError>
-        ensures { IfOk result (λ all. (value : ℕ) → (Contains all.items value ↔ Gives (word_of self.now word) node value)) }
+        ensures { IfOk result (λ all. (value : ℕ)
+            → (Contains all.items value ↔ Gives (word_of self.now word) node value)) }
     {
         let known = self.word(word);
         match last_of(known, node) {
@@ -75,7 +76,7 @@ impl Knowledge {
         }
     }
 
-    /// What is known after an act.
+    /// Returns what is known after an act with this effect. It fails if memory runs out.
     pub fn after(&self, alloc: Global, effect: Effect) -> Result<Knowledge, AllocError>
         requires { IsSmall effect }
         ensures { IfOk result (IsKnowledgeAfter effect self.now) }

@@ -8,7 +8,7 @@ ghost use Rattle.lrc_known.specs.Effect.{IsAfter, IsSmall};
 use crate::known::{Known, Last};
 use std::alloc::{AllocError, Global};
 
-/// Whose last write is the last of what two know: the learner's own, the one that it was taught, or there is none.
+/// Whose last write becomes the learner's when it learns what a teacher knows: its own, the teacher's, or neither's.
 #[derive(Clone, Copy)]
 pub enum Source {
     Own,
@@ -16,18 +16,18 @@ pub enum Source {
     Neither,
 }
 
-/// What an act changes of what is known.
+/// How an act changes what is known.
 #[derive(Clone, Copy)]
 pub enum Effect {
-    /// Nothing.
+    /// The act changes nothing.
     Passes,
-    /// One writes this value to a word.
+    /// A knower writes a value: the knower, the word and the value.
     Writes(usize, usize, u64),
-    /// The first learns what the second knows.
+    /// The first knower learns what the second knows.
     Learns(usize, usize),
 }
 
-/// What one knows of the last write.
+/// Returns what a knower knows of the last write.
 pub fn last_of(word: &[Known], knower: usize) -> Last
     ensures { result ≡ last_of word.now knower }
 {
@@ -37,7 +37,7 @@ pub fn last_of(word: &[Known], knower: usize) -> Last
     }
 }
 
-/// The values of the writes that one knows.
+/// Returns the values of the writes that a knower knows.
 pub fn values_of(word: &[Known], knower: usize) -> &[u64]
     ensures { result.now ≡ values_of word.now knower }
 {
@@ -176,7 +176,8 @@ fn row_learned(
     knower: usize,
 ) -> Result<Vec<bool>, AllocError>
     requires { learner < 2 ^ 64 - 1 }
-    ensures { IfOk result (λ row. (z : ℕ) → slice_index_or row.items z false ≡ above_learned word.now learner teacher knower z) }
+    ensures { IfOk result (λ row. (z : ℕ)
+        → slice_index_or row.items z false ≡ above_learned word.now learner teacher knower z) }
 {
     let own = row_of(word, knower);
     let taught = row_of(word, teacher);
@@ -258,7 +259,9 @@ fn values_written(
     value: u64,
     knower: usize,
 ) -> Result<Vec<u64>, AllocError>
-    ensures { IfOk result (λ all. (v : ℕ) → (Contains all.items v ↔ (Contains (values_of word.now knower) v ⊎ ((knower ≡ writer) × (v ≡ value))))) }
+    ensures { IfOk result (λ all. (v : ℕ)
+        → (Contains all.items v ↔
+        (Contains (values_of word.now knower) v ⊎ ((knower ≡ writer) × (v ≡ value))))) }
 {
     if knower == writer {
         values_with(alloc, values_of(word, knower), value)
@@ -296,7 +299,8 @@ fn row_written(
     knower: usize,
 ) -> Result<Vec<bool>, AllocError>
     requires { writer < 2 ^ 64 - 1 }
-    ensures { IfOk result (λ row. (z : ℕ) → slice_index_or row.items z false ≡ above_written word.now writer knower z) }
+    ensures { IfOk result (λ row. (z : ℕ)
+        → slice_index_or row.items z false ≡ above_written word.now writer knower z) }
 {
     let own = row_of(word, knower);
     let width = past(own.len(), writer);
@@ -368,7 +372,8 @@ fn same(alloc: Global, word: &[Known]) -> Result<Vec<Known>, AllocError>
     Ok(after)
 }
 
-/// What is known of a word after an act.
+/// Returns what is known of a word after an act with this effect; `number` is the word's number. It fails if memory
+/// runs out.
 pub fn word_after(
     alloc: Global,
     word: &[Known],
@@ -396,7 +401,8 @@ pub fn word_after(
 
 // The values of both.
 fn joined(alloc: Global, own: &[u64], more: &[u64]) -> Result<Vec<u64>, AllocError>
-    ensures { IfOk result (λ all. (v : ℕ) → (Contains all.items v ↔ (Contains own.now v ⊎ Contains more.now v))) }
+    ensures { IfOk result (λ all. (v : ℕ)
+        → (Contains all.items v ↔ (Contains own.now v ⊎ Contains more.now v))) }
 {
     let mut all = copied(alloc, own)?;
     for place in 0..more.len() {
@@ -405,9 +411,10 @@ fn joined(alloc: Global, own: &[u64], more: &[u64]) -> Result<Vec<u64>, AllocErr
     Ok(all)
 }
 
-/// These values and one more.
+/// Returns a list of exactly these values and one more. It fails if memory runs out.
 pub fn values_with(alloc: Global, values: &[u64], value: u64) -> Result<Vec<u64>, AllocError>
-    ensures { IfOk result (λ all. (v : ℕ) → (Contains all.items v ↔ (Contains values.now v ⊎ (v ≡ value)))) }
+    ensures { IfOk result (λ all. (v : ℕ)
+        → (Contains all.items v ↔ (Contains values.now v ⊎ (v ≡ value)))) }
 {
     let mut all = copied(alloc, values)?;
     with_value(&mut all, value)?;
@@ -416,7 +423,8 @@ pub fn values_with(alloc: Global, values: &[u64], value: u64) -> Result<Vec<u64>
 
 // Puts a value before the first that is greater, if it is not there.
 fn with_value(values: &mut Vec<u64>, value: u64) -> Result<(), AllocError>
-    ensures { OnOk result ((v : ℕ) → (Contains values.new.items v ↔ (Contains values.old.items v ⊎ (v ≡ value)))) }
+    ensures { OnOk result ((v : ℕ) → (Contains values.new.items v
+        ↔ (Contains values.old.items v ⊎ (v ≡ value)))) }
 {
     for place in 0..values.len() {
         if values[place] == value {
@@ -431,7 +439,7 @@ fn with_value(values: &mut Vec<u64>, value: u64) -> Result<(), AllocError>
     Ok(())
 }
 
-/// A list of the same items.
+/// Returns a copy of a list. It fails if memory runs out.
 pub fn copied<T: Copy>(alloc: Global, items: &[T]) -> Result<Vec<T>, AllocError>
     ensures { IfOk result (λ copy. copy.items ≡ items.now) }
 {
@@ -448,7 +456,7 @@ fn wider(one: usize, other: usize) -> usize
     if one < other { other } else { one }
 }
 
-/// A count that has a number too.
+/// Returns a count that is at least `count` and greater than `number`.
 pub fn past(count: usize, number: usize) -> usize
     requires { number < 2 ^ 64 - 1 }
     ensures count { count ≤ result }

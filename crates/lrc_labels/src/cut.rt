@@ -16,9 +16,10 @@ pub enum Divider {
     Hash,
 }
 
-/// What stands between the dividers of a text, in order.
+/// Returns the pieces of a text between its dividers, in order. It fails only if memory runs out.
 pub fn cut(alloc: Global, divider: Divider, text: &[u8]) -> Result<Vec<&[u8]>, AllocError>
-    ensures { IfOk result (λ pieces. map (λ piece. piece.now) pieces.items ≡ cut (divides divider) text.now) }
+    ensures { IfOk result (λ pieces. map (λ piece. piece.now) pieces.items
+        ≡ cut (divides divider) text.now) }
 {
     let mut pieces = Vec::new(alloc);
     let mut rest = text;
@@ -33,7 +34,8 @@ pub fn cut(alloc: Global, divider: Divider, text: &[u8]) -> Result<Vec<&[u8]>, A
 // What stands in front of the first divider of a text, and what stands behind it.
 fn first_piece(divider: Divider, text: &[u8]) -> Option<(&[u8], &[u8])>
     ensures { MatchOption result (cut (divides divider) text.now ≡ text.now ∷ [])
-        (λ found. (cut (divides divider) text.now ≡ found.0.now ∷ cut (divides divider) found.1.now) × (length found.1.now < length text.now)) }
+        (λ found. (cut (divides divider) text.now ≡ found.0.now ∷ cut (divides divider) found.1.now)
+        × (length found.1.now < length text.now)) }
 {
     match first_divider(divider, text) {
         Some(at) => Some((&text[..at], &text[at + 1..])),
@@ -41,7 +43,7 @@ fn first_piece(divider: Divider, text: &[u8]) -> Option<(&[u8], &[u8])>
     }
 }
 
-/// Where the first divider of a text stands.
+/// Returns the position of the first divider of a text, or none if there is none.
 pub fn first_divider(divider: Divider, text: &[u8]) -> Option<usize>
     ensures place { result ≡ position (divides divider) text.now }
     ensures within { IfSome result (λ at. at < length text.now) }

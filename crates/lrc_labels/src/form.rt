@@ -8,9 +8,11 @@ ghost use Rattle.lrc_labels.specs.Reading.{label_seen, reading_of, single_label,
 use crate::label::{Label, Reason, Target};
 use crate::name::{is_name, is_numeral, number_below};
 
-/// The label of these fields of a label line, in a program of so many words and locks.
+/// Reads a label from the fields of a label line, in a program with this many words and locks. It fails, with the first
+/// reason that applies, if they form no valid label. It does not look at other labels.
 pub fn reading_of<'t>(fields: &[&'t [u8]], words: u32, locks: u8) -> Result<Label<'t>, Reason>
-    ensures { MatchResult result (λ label. reading_of words locks (map (λ field. field.now) fields.now) ≡ Ok (label_seen label))
+    ensures { MatchResult result (λ label.
+        reading_of words locks (map (λ field. field.now) fields.now) ≡ Ok (label_seen label))
         (λ reason. reading_of words locks (map (λ field. field.now) fields.now) ≡ Err reason) }
 {
     match fields {
@@ -28,8 +30,11 @@ fn reading_of_three<'t>(
     words: u32,
     locks: u8,
 ) -> Result<Label<'t>, Reason>
-    ensures { MatchResult result (λ label. reading_of words locks (kind.now ∷ number.now ∷ name.entry.now ∷ []) ≡ Ok (label_seen label))
-        (λ reason. reading_of words locks (kind.now ∷ number.now ∷ name.entry.now ∷ []) ≡ Err reason) }
+    ensures { MatchResult result (λ label.
+        reading_of words locks (kind.now ∷ number.now ∷ name.entry.now ∷ [])
+        ≡ Ok (label_seen label))
+        (λ reason. reading_of words locks (kind.now ∷ number.now ∷ name.entry.now ∷ [])
+        ≡ Err reason) }
 {
     if is_numeral(number) && is_name(name) {
         single_label(kind, number, name, words, locks)
@@ -45,8 +50,11 @@ fn reading_of_four<'t>(
     name: &'t [u8],
     words: u32,
 ) -> Result<Label<'t>, Reason>
-    ensures { MatchResult result (λ label. reading_of words 0 (kind.now ∷ first.now ∷ last.now ∷ name.entry.now ∷ []) ≡ Ok (label_seen label))
-        (λ reason. reading_of words 0 (kind.now ∷ first.now ∷ last.now ∷ name.entry.now ∷ []) ≡ Err reason) }
+    ensures { MatchResult result (λ label.
+        reading_of words 0 (kind.now ∷ first.now ∷ last.now ∷ name.entry.now ∷ [])
+        ≡ Ok (label_seen label))
+        (λ reason. reading_of words 0 (kind.now ∷ first.now ∷ last.now ∷ name.entry.now ∷ [])
+        ≡ Err reason) }
 {
     if kind == b"words".as_slice() && is_numeral(first) && is_numeral(last) && is_name(name) {
         words_label(first, last, name, words)
@@ -64,8 +72,11 @@ fn single_label<'t>(
     locks: u8,
 ) -> Result<Label<'t>, Reason>
     requires { is_numeral number.now ≡ true }
-    ensures { MatchResult result (λ label. single_label words locks kind.now (digits_value 10 number.now) name.entry.now ≡ Ok (label_seen label))
-        (λ reason. single_label words locks kind.now (digits_value 10 number.now) name.entry.now ≡ Err reason) }
+    ensures { MatchResult result (λ label.
+        single_label words locks kind.now (digits_value 10 number.now) name.entry.now
+        ≡ Ok (label_seen label))
+        (λ reason. single_label words locks kind.now (digits_value 10 number.now) name.entry.now
+        ≡ Err reason) }
 {
     if kind == b"word".as_slice() {
         match number_below(number, words) {
@@ -97,8 +108,10 @@ fn words_label<'t>(
 ) -> Result<Label<'t>, Reason>
     requires first { is_numeral first.now ≡ true }
     requires last { is_numeral last.now ≡ true }
-    ensures { let label_is = words_label words (digits_value 10 first.now) (digits_value 10 last.now) name.entry.now in
-        MatchResult result (λ label. label_is ≡ Ok (label_seen label)) (λ reason. label_is ≡ Err reason) }
+    ensures { let label_is = words_label words (digits_value 10 first.now)
+        (digits_value 10 last.now) name.entry.now in
+        MatchResult result (λ label. label_is ≡ Ok (label_seen label))
+        (λ reason. label_is ≡ Err reason) }
 {
     let Some(last_word) = number_below(last, words) else {
         return Err(Reason::NoSuchWord);

@@ -11,31 +11,31 @@ pub enum Target {
     Lock(u8),
 }
 
-/// A name for words or for a lock. The name is the bytes of the text that spell it.
+/// A name for words or for a lock. The name is given by the bytes of the text that spell it.
 #[derive(Clone, Copy)]
 pub struct Label<'t> {
     pub target: Target,
     pub name: &'t [u8],
 }
 
-/// Why a label line says nothing: the first of these that is so.
+/// Why a label line has no effect. The first reason that applies is given.
 #[derive(Clone, Copy, PartialEq, Eq)]
 pub enum Reason {
     /// It has none of the three forms.
     AnotherForm,
-    /// A word that it names is not below the number of words, or its first word is above its last.
+    /// A word is not below the number of words, or the first word is above the last.
     NoSuchWord,
-    /// Its lock is not below the number of locks.
+    /// The lock is not below the number of locks.
     NoSuchLock,
-    /// A label line before it that says something names one of its words.
+    /// An earlier label already names one of its words.
     WordTaken,
-    /// A label line before it that says something names its lock.
+    /// An earlier label already names its lock.
     LockTaken,
-    /// A label line before it that says something has its name.
+    /// An earlier label already has its name.
     NameTaken,
 }
 
-/// A label line that says nothing: its line, counted from 1, and the column of its `#`, in bytes from 1.
+/// A label line without effect: its line, counted from 1, the column of its `#`, in bytes from 1, and the reason.
 #[derive(Clone, Copy)]
 pub struct IdleLabel {
     pub line: usize,
@@ -46,8 +46,8 @@ pub struct IdleLabel {
 /// The label lines of a text.
 #[derive(Drop)]
 pub struct Labels<'t> {
-    /// What those say that say something, in the order of the text.
+    /// The labels, in the order of the text.
     pub said: Vec<Label<'t>>,
-    /// Those that say nothing, in the order of the text.
+    /// The label lines without effect, in the order of the text.
     pub idle: Vec<IdleLabel>,
 }

@@ -7,9 +7,10 @@ ghost use Rattle.lrc_labels.specs.Apart.{AreApart};
 ghost use Rattle.lrc_labels.specs.Name.{is_name, is_numeral};
 ghost use Rattle.lrc_labels.specs.Reading.{labels_of};
 
-/// A name is what the language takes for a word and for no keyword.
+/// Exactly the words of the language that are no keywords are names.
 pub fn names_are_words_that_are_no_keywords()
-    ensures { (bytes : List ℕ) → IsTrue (is_name bytes) ↔ (IsWord bytes bytes [] × (¬ IsKeyword bytes)) }
+    ensures { (bytes : List ℕ) → IsTrue (is_name bytes)
+        ↔ (IsWord bytes bytes [] × (¬ IsKeyword bytes)) }
 {}
 
 /// A numeral is one or more decimal digits, and nothing else.
@@ -17,8 +18,8 @@ pub fn numerals_are_digits()
     ensures { (bytes : List ℕ) → IsTrue (is_numeral bytes) ↔ IsNumeral 10 bytes }
 {}
 
-/// Of the labels of a text no two name one word or one lock, and no two have one name. So each word and each lock has at most
-/// one label.
+/// No two labels of a text share a word, a lock or a name. So each word and each lock has at most one label.
 pub fn no_two_labels_name_one_thing()
-    ensures { (words locks : ℕ) (lines : List (List ℕ)) → AllPairs AreApart (labels_of words locks lines) }
+    ensures { (words locks : ℕ) (lines : List (List ℕ))
+        → AllPairs AreApart (labels_of words locks lines) }
 {}

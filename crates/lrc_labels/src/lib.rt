@@ -1,5 +1,5 @@
-//! Labels: comments that name the words and the locks of a program. `#: word 1 flag` calls word 1 `flag`, `#: words 2 5 list` calls
-//! words 2 to 5 `list[0]` to `list[3]`, and `#: lock 0 mutex` calls lock 0 `mutex`.
+//! Labels: comments that give names to the words and locks of a program. `#: word 1 flag` names word 1 `flag`, `#:
+//! words 2 5 list` names words 2 to 5 `list[0]` to `list[3]`, and `#: lock 0 mutex` names lock 0 `mutex`.
 #![tactic(auto)]
 
 pub mod cut;

@@ -6,16 +6,16 @@ ghost use Rattle.lrc_labels.specs.Line.{fields_of, has_bytes, label_line_in, lin
 use crate::cut::{Divider, cut, first_divider};
 use std::alloc::{AllocError, Global};
 
-/// The comment of a line that begins with `#:`.
+/// The comment of a line, if it begins with `#:`.
 #[derive(Clone, Copy)]
 pub struct LabelLine<'t> {
     /// The column of the `#`, in bytes from 1.
     pub column: usize,
-    /// What stands behind the `#:`.
+    /// The bytes after the `#:`.
     pub body: &'t [u8],
 }
 
-/// The label line in a line of a text, if its comment is one.
+/// Returns the label line in a line of a text, or none if its comment is not one.
 pub fn label_line(line: &[u8]) -> Option<LabelLine<'_>>
     ensures { option_map line_seen result ≡ label_line_in line.now }
 {
@@ -29,7 +29,7 @@ pub fn label_line(line: &[u8]) -> Option<LabelLine<'_>>
     }
 }
 
-/// What stands between the blanks of a text.
+/// Returns the pieces of a text between its blanks. It fails only if memory runs out.
 pub fn fields(alloc: Global, text: &[u8]) -> Result<Vec<&[u8]>, AllocError>
     ensures { IfOk result (λ fields. map (λ field. field.now) fields.items ≡ fields_of text.now) }
 {

@@ -25,7 +25,7 @@ const KEYWORDS: [Keyword; 11] = [
     Keyword::Nodes,
 ];
 
-/// Whether these bytes are a name: a word of the language that is no keyword.
+/// Returns whether these bytes are a name: a word of the language that is no keyword.
 pub fn is_name(bytes: &[u8]) -> bool
     ensures { result ≡ is_name bytes.now }
 {
@@ -78,7 +78,7 @@ fn spelling_of(keyword: Keyword) -> &'static [u8]
     }
 }
 
-/// Whether these bytes are one or more decimal digits.
+/// Returns whether these bytes are one or more decimal digits.
 pub fn is_numeral(bytes: &[u8]) -> bool
     ensures { result ≡ is_numeral bytes.now }
 {
@@ -94,10 +94,11 @@ fn are_digits(bytes: &[u8]) -> bool
     bytes.iter().all(|byte| byte.is_ascii_digit())
 }
 
-/// The number that decimal digits write, where it is below this one.
+/// Returns the number that decimal digits write, or none if it is not below `limit`.
 pub fn number_below(digits: &[u8], limit: u32) -> Option<u32>
     requires { is_numeral digits.now ≡ true }
-    ensures { result ≡ (if nat_lt (digits_value 10 digits.now) limit then Some (digits_value 10 digits.now) else None) }
+    ensures { result ≡ (if nat_lt (digits_value 10 digits.now) limit then Some
+        (digits_value 10 digits.now) else None) }
 {
     match read_number(digits, u64::from(limit)) {
         Some(number) => below(number, limit),

@@ -14,15 +14,17 @@ use crate::label::{IdleLabel, Label, Labels, Reason, Target};
 use crate::line::{LabelLine, fields, label_line};
 use std::alloc::{AllocError, Global};
 
-/// Reads the label lines of a text, of a program that has so many words and locks.
+/// Reads the label lines of a text, for a program with this many words and locks. It fails only if memory runs out.
 pub fn read_labels(
     alloc: Global,
     text: &[u8],
     words: u32,
     locks: u8,
 ) -> Result<Labels<'_>, AllocError>
-    ensures said { IfOk result (λ labels. map label_seen labels.said.items ≡ labels_of words locks (cut (divides LineFeed) text.now)) }
-    ensures idle { IfOk result (λ labels. labels.idle.items ≡ idle_of words locks (cut (divides LineFeed) text.now)) }
+    ensures said { IfOk result (λ labels. map label_seen labels.said.items
+        ≡ labels_of words locks (cut (divides LineFeed) text.now)) }
+    ensures idle { IfOk result (λ labels. labels.idle.items
+        ≡ idle_of words locks (cut (divides LineFeed) text.now)) }
 {
     let lines = cut(alloc, Divider::LineFeed, text)?;
     let mut labels = Labels {
@@ -44,9 +46,11 @@ fn read_line<'t>(
     words: u32,
     locks: u8,
 ) -> Result<(), AllocError>
-    ensures said { OnOk result (map label_seen labels.new.said.items ≡ labels_with words locks (map label_seen labels.old.said.items) line.entry.now) }
+    ensures said { OnOk result (map label_seen labels.new.said.items
+        ≡ labels_with words locks (map label_seen labels.old.said.items) line.entry.now) }
     ensures idle { OnOk result (labels.new.idle.items
-        ≡ labels.old.idle.items ++ idle_in words locks (map label_seen labels.old.said.items) number (label_line_in line.entry.now)) }
+        ≡ labels.old.idle.items ++ idle_in words locks (map label_seen labels.old.said.items) number
+        (label_line_in line.entry.now)) }
 {
     match label_line(line) {
         Some(found) => read_label_line(labels, alloc, number, found, words, locks),
@@ -63,10 +67,14 @@ fn read_label_line<'t>(
     words: u32,
     locks: u8,
 ) -> Result<(), AllocError>
-    ensures said { OnOk result (map label_seen labels.new.said.items ≡ map label_seen labels.old.said.items
-        ++ labels_by (said_of words locks (map label_seen labels.old.said.items) (fields_of found.entry.body.now))) }
+    ensures said { OnOk result (map label_seen labels.new.said.items
+        ≡ map label_seen labels.old.said.items
+        ++ labels_by (said_of words locks (map label_seen labels.old.said.items)
+        (fields_of found.entry.body.now))) }
     ensures idle { OnOk result (labels.new.idle.items ≡ labels.old.idle.items
-        ++ idle_by number found.entry.column (said_of words locks (map label_seen labels.old.said.items) (fields_of found.entry.body.now))) }
+        ++ idle_by number found.entry.column
+        (said_of words locks (map label_seen labels.old.said.items)
+        (fields_of found.entry.body.now))) }
 {
     let fields = fields(alloc, found.body)?;
     match said_by(&labels.said, &fields, words, locks) {
@@ -87,8 +95,10 @@ fn said_by<'t>(
     words: u32,
     locks: u8,
 ) -> Result<Label<'t>, Reason>
-    ensures { let said_is = said_of words locks (map label_seen earlier.now) (map (λ field. field.now) fields.now) in
-        MatchResult result (λ label. said_is ≡ Ok (label_seen label)) (λ reason. said_is ≡ Err reason) }
+    ensures { let said_is = said_of words locks (map label_seen earlier.now)
+        (map (λ field. field.now) fields.now) in
+        MatchResult result (λ label. said_is ≡ Ok (label_seen label))
+        (λ reason. said_is ≡ Err reason) }
 {
     let label = reading_of(fields, words, locks)?;
     if has_target(earlier, label.target) {
@@ -107,9 +117,10 @@ fn has_target(labels: &[Label<'_>], target: Target) -> bool
     labels.iter().any(|label| meets(label.target, target))
 }
 
-/// Whether one of these labels has this name.
+/// Returns whether one of these labels has this name.
 pub fn has_name(labels: &[Label<'_>], name: &[u8]) -> bool
-    ensures { result ≡ list_any (λ label. bytes_eq label.name name.now) (map label_seen labels.now) }
+    ensures { result ≡ list_any (λ label. bytes_eq label.name name.now)
+        (map label_seen labels.now) }
 {
     labels.iter().any(|label| label.name == name)
 }
@@ -126,7 +137,8 @@ fn meets(one: Target, other: Target) -> bool
 }
 
 fn overlap(one: Target, other: Target) -> bool
-    ensures { result ≡ (nat_le (first_of one) (last_of other) && nat_le (first_of other) (last_of one)) }
+    ensures { result ≡ (nat_le (first_of one) (last_of other)
+        && nat_le (first_of other) (last_of one)) }
 {
     first_of(one) <= last_of(other) && first_of(other) <= last_of(one)
 }

@@ -10,14 +10,16 @@ use crate::label::{Label, Target};
 use lrc_text::push_number;
 use std::alloc::AllocError;
 
-/// Adds ` (LABEL)` behind the number of a word, where one of the labels names the word. The label is `NAME`, and under `words`
-/// `NAME[I]` with the word's place I among its words.
+/// Appends ` (LABEL)` after the number of a word, if one of the labels names the word. The label is `NAME`, and under
+/// `words` `NAME[I]`, where I is the word's place among its words. It fails if memory runs out; then only part of it
+/// may have been appended.
 pub fn push_word_label(
     text: &mut Vec<u8>,
     labels: &[Label<'_>],
     word: u32,
 ) -> Result<(), AllocError>
-    ensures ok { OnOk result (text.new.items ≡ text.old.items ++ word_label_text (map label_seen labels.now) word) }
+    ensures ok { OnOk result (text.new.items
+        ≡ text.old.items ++ word_label_text (map label_seen labels.now) word) }
     ensures err { OnErr result (BeginsWith text.new.items text.old.items) }
 {
     match label_of_word(labels, word) {
@@ -26,9 +28,11 @@ pub fn push_word_label(
     }
 }
 
-/// Adds ` (LABEL)` behind the number of a lock, where one of the labels names the lock.
+/// Appends ` (LABEL)` after the number of a lock, if one of the labels names the lock. It fails if memory runs out;
+/// then only part of it may have been appended.
 pub fn push_lock_label(text: &mut Vec<u8>, labels: &[Label<'_>], lock: u8) -> Result<(), AllocError>
-    ensures ok { OnOk result (text.new.items ≡ text.old.items ++ lock_label_text (map label_seen labels.now) lock) }
+    ensures ok { OnOk result (text.new.items
+        ≡ text.old.items ++ lock_label_text (map label_seen labels.now) lock) }
     ensures err { OnErr result (BeginsWith text.new.items text.old.items) }
 {
     match label_of_lock(labels, lock) {
@@ -37,41 +41,47 @@ pub fn push_lock_label(text: &mut Vec<u8>, labels: &[Label<'_>], lock: u8) -> Re
     }
 }
 
-/// Adds the number of a word behind a name, and its label behind the number.
+/// Appends a name, the number of a word, and the word's label. It fails if memory runs out; then only part of it may
+/// have been appended.
 pub fn push_numbered_word(
     text: &mut Vec<u8>,
     labels: &[Label<'_>],
     name: &[u8],
     word: u32,
 ) -> Result<(), AllocError>
-    ensures ok { OnOk result (text.new.items ≡ text.old.items ++ numbered_word (map label_seen labels.now) name.now word) }
+    ensures ok { OnOk result (text.new.items
+        ≡ text.old.items ++ numbered_word (map label_seen labels.now) name.now word) }
     ensures err { OnErr result (BeginsWith text.new.items text.old.items) }
 {
     push_number(text, name, u64::from(word))?;
     push_word_label(text, labels, word)
 }
 
-/// Adds the number of a lock behind a name, and its label behind the number.
+/// Appends a name, the number of a lock, and the lock's label. It fails if memory runs out; then only part of it may
+/// have been appended.
 pub fn push_numbered_lock(
     text: &mut Vec<u8>,
     labels: &[Label<'_>],
     name: &[u8],
     lock: u8,
 ) -> Result<(), AllocError>
-    ensures ok { OnOk result (text.new.items ≡ text.old.items ++ numbered_lock (map label_seen labels.now) name.now lock) }
+    ensures ok { OnOk result (text.new.items
+        ≡ text.old.items ++ numbered_lock (map label_seen labels.now) name.now lock) }
     ensures err { OnErr result (BeginsWith text.new.items text.old.items) }
 {
     push_number(text, name, u64::from(lock))?;
     push_lock_label(text, labels, lock)
 }
 
-/// Adds the label of a word as a member of an object of JSON, where one of the labels names the word.
+/// Appends the label of a word as a member of a JSON object, if one of the labels names the word. It fails only if
+/// memory runs out.
 pub fn push_word_member(
     text: &mut Vec<u8>,
     labels: &[Label<'_>],
     word: u32,
 ) -> Result<(), AllocError>
-    ensures { OnOk result (text.new.items ≡ text.old.items ++ word_label_member (map label_seen labels.now) word) }
+    ensures { OnOk result (text.new.items
+        ≡ text.old.items ++ word_label_member (map label_seen labels.now) word) }
 {
     match label_of_word(labels, word) {
         Some(label) => push_member_of_word(text, label, word),
@@ -79,13 +89,15 @@ pub fn push_word_member(
     }
 }
 
-/// Adds the label of a lock as a member of an object of JSON, where one of the labels names the lock.
+/// Appends the label of a lock as a member of a JSON object, if one of the labels names the lock. It fails only if
+/// memory runs out.
 pub fn push_lock_member(
     text: &mut Vec<u8>,
     labels: &[Label<'_>],
     lock: u8,
 ) -> Result<(), AllocError>
-    ensures { OnOk result (text.new.items ≡ text.old.items ++ lock_label_member (map label_seen labels.now) lock) }
+    ensures { OnOk result (text.new.items
+        ≡ text.old.items ++ lock_label_member (map label_seen labels.now) lock) }
 {
     match label_of_lock(labels, lock) {
         Some(label) => push_member_of_lock(text, label),
@@ -95,7 +107,8 @@ pub fn push_lock_member(
 
 // The first of the labels that names a word.
 fn label_of_word<'t>(labels: &[Label<'t>], word: u32) -> Option<Label<'t>>
-    ensures { option_map label_seen result ≡ find (λ label. names_word label.target word) (map label_seen labels.now) }
+    ensures { option_map label_seen result
+        ≡ find (λ label. names_word label.target word) (map label_seen labels.now) }
 {
     labels
         .iter()
@@ -105,7 +118,8 @@ fn label_of_word<'t>(labels: &[Label<'t>], word: u32) -> Option<Label<'t>>
 
 // The first of the labels that names a lock.
 fn label_of_lock<'t>(labels: &[Label<'t>], lock: u8) -> Option<Label<'t>>
-    ensures { option_map label_seen result ≡ find (λ label. names_lock label.target lock) (map label_seen labels.now) }
+    ensures { option_map label_seen result
+        ≡ find (λ label. names_lock label.target lock) (map label_seen labels.now) }
 {
     labels
         .iter()
@@ -133,7 +147,8 @@ fn names_lock(target: Target, lock: u8) -> bool
 }
 
 fn push_word_text(text: &mut Vec<u8>, label: Label<'_>, word: u32) -> Result<(), AllocError>
-    ensures ok { OnOk result (text.new.items ≡ text.old.items ++ word_text word (label_seen label.entry)) }
+    ensures ok { OnOk result (text.new.items
+        ≡ text.old.items ++ word_text word (label_seen label.entry)) }
     ensures err { OnErr result (BeginsWith text.new.items text.old.items) }
 {
     text.extend_from_slice(b" (")?;
@@ -142,7 +157,8 @@ fn push_word_text(text: &mut Vec<u8>, label: Label<'_>, word: u32) -> Result<(),
 }
 
 fn push_member_of_word(text: &mut Vec<u8>, label: Label<'_>, word: u32) -> Result<(), AllocError>
-    ensures { OnOk result (text.new.items ≡ text.old.items ++ word_member word (label_seen label.entry)) }
+    ensures { OnOk result (text.new.items
+        ≡ text.old.items ++ word_member word (label_seen label.entry)) }
 {
     text.extend_from_slice(b",\"label\":\"")?;
     push_word_name(text, label, word)?;
@@ -151,7 +167,8 @@ fn push_member_of_word(text: &mut Vec<u8>, label: Label<'_>, word: u32) -> Resul
 
 // Adds the name by which a label calls a word.
 fn push_word_name(text: &mut Vec<u8>, label: Label<'_>, word: u32) -> Result<(), AllocError>
-    ensures ok { OnOk result (text.new.items ≡ text.old.items ++ word_name word (label_seen label.entry)) }
+    ensures ok { OnOk result (text.new.items
+        ≡ text.old.items ++ word_name word (label_seen label.entry)) }
     ensures err { OnErr result (BeginsWith text.new.items text.old.items) }
 {
     text.extend_from_slice(label.name)?;
@@ -173,7 +190,8 @@ fn push_place(text: &mut Vec<u8>, target: Target, word: u32) -> Result<(), Alloc
 }
 
 fn push_lock_text(text: &mut Vec<u8>, label: Label<'_>) -> Result<(), AllocError>
-    ensures ok { OnOk result (text.new.items ≡ text.old.items ++ lock_text (label_seen label.entry)) }
+    ensures ok { OnOk result (text.new.items
+        ≡ text.old.items ++ lock_text (label_seen label.entry)) }
     ensures err { OnErr result (BeginsWith text.new.items text.old.items) }
 {
     text.extend_from_slice(b" (")?;
@@ -182,7 +200,8 @@ fn push_lock_text(text: &mut Vec<u8>, label: Label<'_>) -> Result<(), AllocError
 }
 
 fn push_member_of_lock(text: &mut Vec<u8>, label: Label<'_>) -> Result<(), AllocError>
-    ensures { OnOk result (text.new.items ≡ text.old.items ++ lock_member (label_seen label.entry)) }
+    ensures { OnOk result (text.new.items
+        ≡ text.old.items ++ lock_member (label_seen label.entry)) }
 {
     text.extend_from_slice(b",\"label\":\"")?;
     text.extend_from_slice(label.name)?;

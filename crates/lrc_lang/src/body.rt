@@ -22,20 +22,20 @@ use crate::token::{Keyword, Sign};
 use std::alloc::Global;
 use std::mem;
 
-/// What an expression stands in a statement for.
+/// What a statement uses an expression for.
 #[derive(Drop)]
 enum Purpose {
-    /// The value of a private name.
+    /// The value assigned to a private name.
     Assigned(u8),
-    /// The word that is read to a private name.
+    /// The word that is read into a private name.
     WordRead(u8),
     /// The word that is written.
     WordWritten,
-    /// The value that is written to this word.
+    /// The value written to this word.
     Written(Expression),
-    /// A lock.
+    /// The lock to acquire.
     Acquired,
-    /// A lock.
+    /// The lock to release.
     Released,
     /// The value that is printed.
     Printed,
@@ -43,24 +43,24 @@ enum Purpose {
     WhileCondition,
 }
 
-/// Where the last symbol has led to.
+/// Where the last symbol left the parser.
 #[derive(Drop)]
 enum Place {
     /// A statement may begin, and a block may end.
     AtStatement,
-    /// Behind the name at the beginning of a statement.
+    /// After the name at the beginning of a statement.
     AfterName(u8),
-    /// Behind that name and `=`.
+    /// After that name and `=`.
     AfterEquals(u8),
     /// In an expression.
     InExpression(Purpose),
-    /// Behind the `[word]` at the beginning of a statement.
+    /// After the `[word]` at the beginning of a statement.
     AfterWord(Expression),
-    /// In front of the `;` that ends this statement.
+    /// Before the `;` that ends this statement.
     BeforeEnd(Statement),
-    /// Behind the condition and the first block of an `if`: `else` may come, and what may come at a statement.
+    /// After the condition and the first block of an `if`: `else` may come, or whatever may come at a statement.
     AfterThen(Expression, Vec<Statement>),
-    /// Behind that `else`.
+    /// After that `else`.
     AfterElse(Expression, Vec<Statement>),
 }
 
@@ -75,23 +75,23 @@ enum Owner {
     Inside(Expression),
 }
 
-/// What stands around an open block: the statements in front of the one that the block belongs to, and its owner.
+/// What surrounds an open block: its owner, and the statements before the one that the block belongs to.
 #[derive(Drop)]
 struct Around {
     before: Vec<Statement>,
     owner: Owner,
 }
 
-/// Statements of which some symbols have come.
+/// A statement list in the middle of parsing: the symbols taken so far.
 #[derive(Drop)]
 pub struct Body {
     alloc: Global,
-    /// What stands around each open block, outermost first.
+    /// What surrounds each open block, outermost first.
     outer: Vec<Around>,
-    /// The statements of the innermost open block, or of the text where none is open.
+    /// The statements of the innermost open block, or of the text if no block is open.
     before: Vec<Statement>,
     place: Place,
-    /// The expression, in the place of one.
+    /// The expression being parsed, if the place is in one.
     expression: Partial,
 }
 
@@ -170,7 +170,7 @@ impl Purpose {
 }
 
 impl Body {
-    /// Statements of which nothing has come.
+    /// Returns a statement list before its first symbol.
     pub fn start(alloc: Global) -> Body
         ensures { body_seen result ≡ start }
     {
@@ -183,7 +183,7 @@ impl Body {
         }
     }
 
-    /// Takes one more symbol, if it can stand here.
+    /// Takes one more symbol. It fails if the symbol cannot come here, or if memory runs out.
     pub fn take(&mut self, symbol: Symbol) -> Result<(), FaultKind>
         ensures { GivesNew result (body_seen self.new)
             (body_with (body_seen self.old) (symbol_seen symbol)) }
@@ -200,7 +200,7 @@ impl Body {
         }
     }
 
-    /// Whether `take` takes this symbol.
+    /// Returns whether `take` accepts this symbol.
     pub fn takes(&self, symbol: Symbol) -> bool
         ensures { result ≡ is_some (body_with (body_seen self.now) (symbol_seen symbol)) }
     {
@@ -215,7 +215,7 @@ impl Body {
         }
     }
 
-    /// Whether `finish` ends the statements.
+    /// Returns whether the statements may end here, so that `finish` succeeds.
     pub fn is_whole(&self) -> bool
         ensures { result ≡ is_some (whole_of (body_seen self.now)) }
     {
@@ -224,7 +224,8 @@ impl Body {
 
     // Whether a statement may begin with this, or the innermost block end with it.
     fn begins(&self, symbol: Symbol) -> bool
-        ensures { (before : Block) → result ≡ is_some (begin (outer_seen self.now) before (symbol_seen symbol)) }
+        ensures { (before : Block) → result
+            ≡ is_some (begin (outer_seen self.now) before (symbol_seen symbol)) }
     {
         match symbol {
             Symbol::Name(_)
@@ -245,7 +246,8 @@ impl Body {
     // Whether this symbol may stand behind the first block of an `if`.
     fn follows_then(&self, symbol: Symbol) -> bool
         ensures { (before first : Block) (condition : Word) →
-            result ≡ is_some (behind_then (outer_seen self.now) before condition first (symbol_seen symbol)) }
+            result ≡ is_some (behind_then (outer_seen self.now) before condition first
+            (symbol_seen symbol)) }
     {
         is_else(symbol) || self.begins(symbol)
     }
@@ -262,7 +264,7 @@ impl Body {
         }
     }
 
-    /// Ends the statements, if they may end here.
+    /// Ends the statements. It fails if they cannot end here, or if memory runs out.
     pub fn finish(&mut self) -> Result<(), FaultKind>
         ensures { GivesNew result (body_seen self.new)
             (option_map holding (whole_of (body_seen self.old))) }
@@ -280,7 +282,7 @@ impl Body {
         }
     }
 
-    /// The statements that have come, where no block is open. They are here no more.
+    /// Takes out the statements parsed so far outside every open block, and leaves none.
     pub fn take_statements(&mut self) -> Vec<Statement>
         ensures { block_of result.items ≡ (body_seen self.old).before }
     {

@@ -9,22 +9,22 @@ use thiserror::Error;
 /// What is wrong with a text. For one token the kinds are tried in this order, from `BadByte` to `OverLimit`.
 #[derive(Clone, Copy, Debug, PartialEq, Eq, Error)]
 pub enum FaultKind {
-    /// The text has over 65,536 bytes. This is tried before anything else.
+    /// The text has more than 65,536 bytes. This is tried before anything else.
     #[error("text too long")]
     TooLong,
     /// The byte begins no token.
     #[error("bad byte")]
     BadByte,
-    /// A number over 2^64 - 1, or digits that a letter or `_` follows at once.
+    /// A number is over 2^64 - 1, or a letter or `_` directly follows its digits.
     #[error("bad number")]
     BadNumber,
-    /// No program begins with the tokens up to this one.
+    /// No program begins with the tokens up to and including this one.
     #[error("unexpected token")]
     Unexpected,
-    /// A `{` or `(` that would be the 33rd open one.
+    /// A `{` or `(` would be the 33rd open one.
     #[error("nested too deep")]
     TooDeep,
-    /// A name that would be the 33rd different one.
+    /// A name would be the 33rd different one.
     #[error("too many names")]
     TooManyNames,
     /// The number of words is not 1 to 65,536, the number of locks is over 64, or an expression has a 257th operator.
@@ -51,8 +51,8 @@ impl<T: Drop> From<AllocFailed<T>> for FaultKind {
     }
 }
 
-/// The first fault of a text, and the line of the token that has it: lines are counted from 1 by line feeds, and the
-/// end of the text is a token too. Where memory ran out the line is 0.
+/// The first fault of a text, and the line of the token that has it. Lines are counted from 1, by line feeds, and the
+/// end of the text is a token too. The line is 0 if memory ran out.
 #[derive(Clone, Copy, Debug, PartialEq, Eq, Error)]
 #[error("line {line}: {kind}")]
 pub struct ParseFault {

@@ -25,13 +25,14 @@ use crate::symbol::{Symbol, symbol_of_sign};
 use crate::token::{Lexeme, Token};
 use std::alloc::{AllocError, Global};
 
-/// The first fault of a text.
+/// The first fault of a text, with the kinds of tokens that may come there instead.
 #[derive(Drop)]
 pub struct FirstFault {
-    /// The place of what has it among what stands in the text, from 0.
+    /// The index of the faulty item among the items of the text, from 0.
     pub index: usize,
     pub kind: FaultKind,
-    /// The kinds of tokens that may stand there, sizes aside, where a token is unexpected or a byte begins none.
+    /// The kinds of tokens that may come there, sizes aside, if a token is unexpected or a byte begins no token. For
+    /// another fault nothing is promised about them.
     pub may_stand: Vec<Kind>,
 }
 
@@ -42,21 +43,25 @@ struct Stop {
     may_stand: Vec<Kind>,
 }
 
-/// The first fault of what stands in a text.
+/// Returns the first fault of the items of a text, or none if they are the tokens of a program. It fails only if memory
+/// runs out.
 pub fn first_fault(alloc: Global, all: &[Located<'_>]) -> Result<Option<FirstFault>, AllocError>
     ensures { IfOk result (λ found. MatchOption found
         ((tokens : List TokenSeen) × AreFaultless [] (map placed (map located_of all.now)) tokens)
-        (λ fault. IsFirstFaultOf (map located_of all.now) fault.index fault.kind fault.may_stand.items)) }
+        (λ fault. IsFirstFaultOf (map located_of all.now) fault.index fault.kind
+        fault.may_stand.items)) }
 {
     let mut state = ParserState::start(alloc);
     let mut limits = Limits::empty(alloc);
     first_fault_behind(&mut state, &mut limits, alloc, all)
 }
 
-/// The first fault of what stands in a text is the first fault of the text.
+/// The first fault of the items of a text of at most 65,536 bytes is the first fault of the text.
 pub fn first_faults_are_those_of_texts()
-    ensures { (text : List ℕ) (all : List Spot) (index : ℕ) (kind : FaultKindSeen) (may_stand : List KindSeen) → length text ≤ 65536
-        → HasLocated text all → (first : IsFirstFaultOf all index kind may_stand) → HasFirstFault text first.has.found.line kind }
+    ensures { (text : List ℕ) (all : List Spot) (index : ℕ) (kind : FaultKindSeen)
+        (may_stand : List KindSeen) → length text ≤ 65536
+        → HasLocated text all → (first : IsFirstFaultOf all index kind may_stand)
+        → HasFirstFault text first.has.found.line kind }
 {}
 
 // The first fault of what stands in a text, from the state of a text of which nothing has come.
@@ -72,7 +77,8 @@ fn first_fault_behind<'t>(
     requires operators { limits.old.operators ≡ 0 }
     ensures { IfOk result (λ found. MatchOption found
         ((tokens : List TokenSeen) × AreFaultless [] (map placed (map located_of all.now)) tokens)
-        (λ fault. IsFirstFaultOf (map located_of all.now) fault.index fault.kind fault.may_stand.items)) }
+        (λ fault. IsFirstFaultOf (map located_of all.now) fault.index fault.kind
+        fault.may_stand.items)) }
 {
     for (index, found) in all.iter().enumerate() {
         if let Some(stop) = stop_at(alloc, state, limits, found.lexeme)? {
@@ -102,7 +108,8 @@ fn stop_at<'t>(
     limits: &mut Limits<'t>,
     lexeme: Lexeme<'t>,
 ) -> Result<Option<Stop>, AllocError>
-    ensures { IfOk result (λ stop. Stops stop state.old limits.old (lexeme_of lexeme.entry) state.new limits.new) }
+    ensures { IfOk result (λ stop. Stops stop state.old limits.old
+        (lexeme_of lexeme.entry) state.new limits.new) }
 {
     if let Some(kind) = refusal(state, limits, lexeme) {
         let may_stand = kinds_taken(alloc, state)?;
@@ -120,8 +127,10 @@ fn stop_at<'t>(
 
 // Why the parser does not take what stands next, whatever its size.
 fn refusal<'t>(state: &ParserState, limits: &Limits<'t>, lexeme: Lexeme<'t>) -> Option<FaultKind>
-    ensures { MatchOption result (IsTaken (state_seen state.now) (names_seen limits.now) (lexeme_of lexeme.entry))
-        (λ kind. IsRefused kind (state_seen state.now) (names_seen limits.now) (lexeme_of lexeme.entry)) }
+    ensures { MatchOption result (IsTaken (state_seen state.now) (names_seen limits.now)
+        (lexeme_of lexeme.entry))
+        (λ kind. IsRefused kind (state_seen state.now) (names_seen limits.now)
+        (lexeme_of lexeme.entry)) }
 {
     match lexeme {
         Lexeme::Token(token) => refusal_of(state, limits, token),
@@ -131,8 +140,10 @@ fn refusal<'t>(state: &ParserState, limits: &Limits<'t>, lexeme: Lexeme<'t>) -> 
 }
 
 fn refusal_of<'t>(state: &ParserState, limits: &Limits<'t>, found: Token<'t>) -> Option<FaultKind>
-    ensures { MatchOption result (IsTaken (state_seen state.now) (names_seen limits.now) (token (token_of found.entry)))
-        (λ kind. IsRefused kind (state_seen state.now) (names_seen limits.now) (token (token_of found.entry))) }
+    ensures { MatchOption result (IsTaken (state_seen state.now) (names_seen limits.now)
+        (token (token_of found.entry)))
+        (λ kind. IsRefused kind (state_seen state.now) (names_seen limits.now)
+        (token (token_of found.entry))) }
 {
     if state.takes(limits.symbol(found)) {
         None

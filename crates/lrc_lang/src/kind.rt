@@ -6,12 +6,12 @@ ghost use Rattle.lrc_lang.specs.Parser.View.{token_of};
 
 use crate::token::{Keyword, Sign, Token};
 
-/// A kind of token: what the grammar tells apart.
+/// A kind of token, as far as the grammar tells tokens apart.
 #[derive(Clone, Copy)]
 pub enum Kind {
-    /// A private name, whichever.
+    /// Any private name.
     Name,
-    /// A number, whichever.
+    /// Any number.
     Number,
     Keyword(Keyword),
     Sign(Sign),
@@ -19,7 +19,7 @@ pub enum Kind {
     End,
 }
 
-/// All kinds, in the order in which they are told.
+/// All kinds, in the order in which they are listed.
 const KINDS: &[Kind] = &[
     Kind::Name,
     Kind::Number,
@@ -56,14 +56,14 @@ const KINDS: &[Kind] = &[
     Kind::End,
 ];
 
-/// All kinds, in the order in which they are told.
+/// Returns all kinds, in the order in which they are listed.
 pub fn all_kinds() -> &'static [Kind]
     ensures { result.now ≡ all_kinds }
 {
     KINDS
 }
 
-/// The kind of a token.
+/// Returns the kind of a token.
 pub fn kind_of(token: Token<'_>) -> Kind
     ensures { result ≡ kind_of (token_of token.entry) }
 {

@@ -4,18 +4,20 @@ ghost use Rattle.std.specs.Prelude.{◌≡◌, ℕ, ◌+◌, ◌==◌, List, [],
 ghost use Rattle.lrc_lang.specs.Token.{finish, token, Placed};
 ghost use Rattle.lrc_lang.specs.Lexemes.{at, Lexes};
 
-/// Something stands in every text.
+/// Every text has a list of lexemes.
 pub fn every_text_has_lexemes()
     ensures { (line : ℕ) (text : List ℕ) → (all : List Placed) × Lexes line text all }
 {}
 
-/// No two different things stand in a text.
+/// A text has only one list of lexemes.
 pub fn lexemes_are_unique()
-    ensures { (line : ℕ) (text : List ℕ) (one other : List Placed) → Lexes line text one → Lexes line text other → one ≡ other }
+    ensures { (line : ℕ) (text : List ℕ) (one other : List Placed) → Lexes line text one
+        → Lexes line text other → one ≡ other }
 {}
 
-/// The line of the end of a text is one more than its line feeds.
+/// If the lexemes of a text reach its end, the line of the end is the number of line feeds plus one.
 pub fn the_end_is_on_the_last_line()
     ensures { (text : List ℕ) (front : List Placed) (line : ℕ) →
-        Lexes 1 text (front ++ at line (token finish) ∷ []) → line ≡ count_by (λ byte. byte == 10) text + 1 }
+        Lexes 1 text (front ++ at line (token finish) ∷ [])
+        → line ≡ count_by (λ byte. byte == 10) text + 1 }
 {}

@@ -28,33 +28,33 @@ const KEYWORDS: [Keyword; 11] = [
 /// A text that is read from the left.
 #[derive(Drop)]
 pub struct Lexer<'t> {
-    /// What is left of the text.
+    /// The bytes not read yet.
     pub rest: &'t [u8],
-    /// The line on which that begins, counted from 1.
+    /// The line on which they begin, counted from 1.
     pub line: u32,
-    /// The line stays in range, however many line feeds are left.
+    /// The line stays in range, however many line feeds follow.
     ghost line_fits: { line + length rest.now < 2 ^ 32 },
 }
 
-/// What stands next in a text, and how many bytes are left of the text from its first byte on.
+/// The next lexeme of a text, and how many bytes of the text are left from its first byte on.
 #[derive(Clone, Copy)]
 pub struct Met<'t> {
     pub found: Placed<'t>,
     pub left: usize,
 }
 
-/// Bytes that stand together.
+/// A class of bytes that are read together.
 #[derive(Clone, Copy)]
 enum Class {
     Digit,
     /// Letters, digits and `_`.
     Word,
-    /// Any bytes but line feeds.
+    /// Any bytes except line feeds.
     Comment,
 }
 
 impl<'t> Lexer<'t> {
-    /// A lexer at the beginning of a text.
+    /// Returns a lexer at the beginning of a text.
     pub fn new(text: &'t [u8]) -> Self
         requires { 1 + length text.now < 2 ^ 32 }
         ensures rest { result.rest.now ≡ text.now }
@@ -66,10 +66,11 @@ impl<'t> Lexer<'t> {
         }
     }
 
-    /// Passes over blanks, line feeds and comments, and takes what stands next. Once that was the end of the text or
-    /// a fault, nothing is promised of what a further call finds.
+    /// Skips blanks, line feeds and comments, and takes the next lexeme. After the end of the text or a fault, nothing
+    /// is promised about further calls.
     pub fn next_lexeme(&mut self) -> Placed<'t>
-        ensures next { NextIs self.old.line self.old.rest.now (placed_of result) self.new.line self.new.rest.now }
+        ensures next { NextIs self.old.line self.old.rest.now
+            (placed_of result) self.new.line self.new.rest.now }
         ensures shorter { IsShorter (lexeme_of result.lexeme) self.old.rest.now self.new.rest.now }
     {
         self.skip();
@@ -79,11 +80,13 @@ impl<'t> Lexer<'t> {
         Placed { line, lexeme }
     }
 
-    /// Takes what stands next, as `next_lexeme` does, and says where it is.
+    /// Takes the next lexeme, as `next_lexeme` does, and tells where it is.
     pub fn next_met(&mut self) -> Met<'t>
-        ensures next { NextAt self.old.line self.old.rest.now (placed_of result.found) result.left self.new.rest.now }
+        ensures next { NextAt self.old.line self.old.rest.now
+            (placed_of result.found) result.left self.new.rest.now }
         ensures line { self.new.line ≡ result.found.line }
-        ensures shorter { IsShorter (lexeme_of result.found.lexeme) self.old.rest.now self.new.rest.now }
+        ensures shorter { IsShorter (lexeme_of result.found.lexeme) self.old.rest.now
+            self.new.rest.now }
     {
         self.skip();
         let left = self.rest.len();
@@ -184,7 +187,8 @@ fn sign_at(first: u8, behind: &[u8]) -> (Lexeme<'_>, &[u8])
 // The sign of two bytes, this one and a `=` behind it, and the rest behind that.
 fn long_sign_at(first: u8, behind: &[u8]) -> Option<(Sign, &[u8])>
     ensures { MatchOption result
-        (BeginsWith (λ byte. byte ≡ 61) behind.now → (sign : Sign) → sign_text sign ≢ first ∷ 61 ∷ [])
+        (BeginsWith (λ byte. byte ≡ 61) behind.now → (sign : Sign)
+        → sign_text sign ≢ first ∷ 61 ∷ [])
         (λ found. (sign_text found.0 ≡ first ∷ 61 ∷ []) × (behind.now ≡ 61 ∷ found.1.now)) }
 {
     match behind {
@@ -195,7 +199,8 @@ fn long_sign_at(first: u8, behind: &[u8]) -> Option<(Sign, &[u8])>
 
 // The sign of this byte and `=`.
 fn long_sign(first: u8) -> Option<Sign>
-    ensures { MatchOption result ((sign : Sign) → sign_text sign ≢ first ∷ 61 ∷ []) (λ sign. sign_text sign ≡ first ∷ 61 ∷ []) }
+    ensures { MatchOption result ((sign : Sign) → sign_text sign ≢ first ∷ 61 ∷ [])
+        (λ sign. sign_text sign ≡ first ∷ 61 ∷ []) }
 {
     match first {
         b'=' => Some(Sign::Equal),
@@ -208,7 +213,8 @@ fn long_sign(first: u8) -> Option<Sign>
 
 // The sign of this byte alone.
 fn short_sign(first: u8) -> Option<Sign>
-    ensures { MatchOption result ((sign : Sign) → sign_text sign ≢ first ∷ []) (λ sign. sign_text sign ≡ first ∷ []) }
+    ensures { MatchOption result ((sign : Sign) → sign_text sign ≢ first ∷ [])
+        (λ sign. sign_text sign ≡ first ∷ []) }
 {
     match first {
         b';' => Some(Sign::Semicolon),
@@ -232,7 +238,8 @@ fn short_sign(first: u8) -> Option<Sign>
 
 // The keyword that is spelled so.
 fn keyword_of(word: &[u8]) -> Option<Keyword>
-    ensures { MatchOption result (¬ IsKeyword word.now) (λ keyword. word.now ≡ keyword_text keyword) }
+    ensures { MatchOption result (¬ IsKeyword word.now)
+        (λ keyword. word.now ≡ keyword_text keyword) }
 {
     KEYWORDS
         .iter()

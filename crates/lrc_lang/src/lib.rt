@@ -1,4 +1,6 @@
-//! The language of the programs that run on shared memory: its trees, and the parser from text to trees.
+//! The language of the programs that run on the shared memory. A program has a number of words and of locks, and
+//! statements that read and write words, acquire and release locks, wait at barriers and print. The crate defines the
+//! syntax trees, the lexer and the parser, which finds the first fault of a text that is no program.
 #![tactic(auto)]
 
 mod body;

@@ -21,14 +21,14 @@ const MOST_OPEN: u32 = 32;
 /// How many operators an expression may have.
 const MOST_OPERATORS: u32 = 256;
 
-/// What the limits count, over the tokens so far.
+/// The counts that the limits bound, over the tokens so far.
 #[derive(Drop)]
 pub struct Limits<'t> {
-    /// The different names, in the order in which they first came.
+    /// The different names, in the order of their first occurrence.
     names: Vec<&'t [u8]>,
     /// How many `{` and `(` are open.
     nested: u32,
-    /// How many operators have come since the last symbol that no expression has.
+    /// How many operators have come since the last symbol that cannot be in an expression.
     operators: u32,
     ghost few_names: { vec_len names ≤ 32 },
 }
@@ -54,7 +54,7 @@ fn is_among(names: &[&[u8]], name: &[u8]) -> bool
 impl<'t> Limits<'t> {
     ghost use Rattle.lrc_lang.specs.Parser.SeenLimits.{names_seen, TakesToken};
 
-    /// The counts where no token has come.
+    /// Returns the counts before the first token.
     pub fn empty(alloc: Global) -> Self
         ensures names { names_seen result ≡ [] }
         ensures nested { result.nested ≡ 0 }
@@ -67,7 +67,7 @@ impl<'t> Limits<'t> {
         }
     }
 
-    /// What a token is in the grammar.
+    /// Returns the symbol that the grammar sees for a token.
     pub fn symbol(&self, token: Token<'t>) -> Symbol
         ensures { symbol_seen result ≡ symbol_of (names_seen self.now) (token_of token.entry) }
     {
@@ -80,7 +80,7 @@ impl<'t> Limits<'t> {
         }
     }
 
-    /// Counts one more token, unless it passes a limit.
+    /// Counts one more token. It fails if the token exceeds a limit, or if memory runs out.
     pub fn take(&mut self, token: Token<'t>) -> Result<(), FaultKind>
         ensures { TakesToken result self.old (token_of token.entry) self.new }
     {
@@ -143,9 +143,11 @@ impl<'t> Limits<'t> {
 
     // One more is open.
     fn nest(&mut self) -> Result<(), FaultKind>
-        ensures nested { OnOk result ((self.old.nested < 32) × (self.new.nested ≡ self.old.nested + 1)) }
+        ensures nested { OnOk result ((self.old.nested < 32)
+            × (self.new.nested ≡ self.old.nested + 1)) }
         ensures full { IfErr result (λ kind. (kind ≡ TooDeep) × (32 ≤ self.old.nested)) }
-        ensures others { (self.new.names ≡ self.old.names) × (self.new.operators ≡ self.old.operators) }
+        ensures others { (self.new.names ≡ self.old.names)
+            × (self.new.operators ≡ self.old.operators) }
     {
         if self.nested >= MOST_OPEN {
             return Err(FaultKind::TooDeep);

@@ -15,11 +15,13 @@ use crate::parser::MOST_BYTES;
 use crate::token::{Keyword, Lexeme, Placed, Sign, Token};
 use std::alloc::{AllocError, Global};
 
-/// The line of each statement of a text, in the order of the text, and at last the line of the text's end. A statement's
-/// line is the line on which its first token begins; those of its blocks stand behind it, those of the first block of an
-/// `if` in front of those of the second. Of a text that is no program it gives some lines; none, where the text is too long.
+/// Returns the line of each statement of a text, in the order of the text, and then the line of the text's end. The
+/// line of a statement is the line on which its first token begins. The lines of its blocks come after it, those of the
+/// first block of an `if` before those of the second. If the text is no program, the lines mean nothing; if it is too
+/// long, there are none. It fails only if memory runs out.
 pub fn lines_of(alloc: Global, text: &[u8]) -> Result<Vec<u32>, AllocError>
-    ensures { (p : ProgramTree) → IsText text.now p → IfOk result (λ lines. HasLines text.now p lines.items) }
+    ensures { (p : ProgramTree) → IsText text.now p
+        → IfOk result (λ lines. HasLines text.now p lines.items) }
 {
     if text.len() > MOST_BYTES {
         return Ok(Vec::new(alloc));
@@ -30,7 +32,8 @@ pub fn lines_of(alloc: Global, text: &[u8]) -> Result<Vec<u32>, AllocError>
 // The lines of what begins a statement, by the token before, and of the end of the text.
 fn marked(alloc: Global, text: &[u8]) -> Result<Vec<u32>, AllocError>
     requires { length text.now ≤ 65536 }
-    ensures { (all : List PlacedSeen) → Lexes 1 text.now all → IfOk result (λ lines. lines.items ≡ marked false all) }
+    ensures { (all : List PlacedSeen) → Lexes 1 text.now all
+        → IfOk result (λ lines. lines.items ≡ marked false all) }
 {
     let mut lines = Vec::new(alloc);
     let mut lexer = Lexer::new(text);
@@ -47,7 +50,8 @@ fn marked(alloc: Global, text: &[u8]) -> Result<Vec<u32>, AllocError>
 
 // Keeps the line of what stands next, if it is marked.
 fn mark(lines: &mut Vec<u32>, behind_seam: bool, found: Placed<'_>) -> Result<(), AllocError>
-    ensures { OnOk result (lines.new.items ≡ lines.old.items ++ marks behind_seam (placed_of found.entry)) }
+    ensures { OnOk result (lines.new.items
+        ≡ lines.old.items ++ marks behind_seam (placed_of found.entry)) }
 {
     if is_marked(behind_seam, found.lexeme) {
         lines.push(found.line)?;
@@ -87,7 +91,8 @@ fn goes_on(lexeme: Lexeme<'_>) -> bool
     }
 }
 
-/// A text has one list of lines.
+/// A text has only one list of lines.
 pub fn lines_are_of_one_text()
-    ensures { (text : List ℕ) (p q : ProgramTree) (lines others : List ℕ) → HasLines text p lines → HasLines text q others → lines ≡ others }
+    ensures { (text : List ℕ) (p q : ProgramTree) (lines others : List ℕ) → HasLines text p lines
+        → HasLines text q others → lines ≡ others }
 {}

@@ -26,7 +26,7 @@ use std::alloc::Global;
 pub const MOST_BYTES: usize = 65_536;
 
 /// Parses a text of at most 65,536 bytes, in one pass from the left. The parser keeps the trees so far, at most 32
-/// names, and what is open around the token that it has come to. However deep a text nests, no call nests with it.
+/// names, and what is open around the current token. It does not recurse, however deep the text nests.
 pub fn parse(alloc: Global, text: &[u8]) -> Result<Program, ParseFault>
     // The program is that of the text.
     ensures program { IfOk result (λ p. IsText text.now (program_of p)) }
@@ -89,13 +89,14 @@ fn read_into(state: &mut ParserState, alloc: Global, text: &[u8]) -> Result<(), 
     }
 }
 
-/// Takes what stands next.
+/// Takes the next lexeme.
 pub fn take<'t>(
     state: &mut ParserState,
     limits: &mut Limits<'t>,
     lexeme: Lexeme<'t>,
 ) -> Result<(), FaultKind>
-    ensures { TakesLexeme result state.old limits.old (lexeme_of lexeme.entry) state.new limits.new }
+    ensures { TakesLexeme result state.old limits.old
+        (lexeme_of lexeme.entry) state.new limits.new }
 {
     match lexeme {
         Lexeme::Token(token) => {
@@ -126,14 +127,14 @@ fn fault(line: u32, kind: FaultKind) -> ParseFault
     }
 }
 
-/// No tokens are those of two programs.
+/// A list of tokens is that of at most one program.
 pub fn tokens_are_of_one_program()
     ensures { (tokens : List TokenSeen) (p q : ProgramTree) →
         IsProgram p tokens → IsProgram q tokens → p ≡ q }
 {}
 
-/// The program of a text takes at most 32 private names, its blocks lie at most 32 deep in one another, none of its
-/// expressions has more than 256 operators, and it has 1 to 65,536 words of shared memory and at most 64 locks.
+/// The program of a text has at most 32 private names, nests its blocks at most 32 deep, and has at most 256 operators
+/// in each expression. It has 1 to 65,536 words of shared memory and at most 64 locks.
 pub fn texts_are_within_the_limits()
     ensures sizes { (text : List ℕ) (p : ProgramTree) → IsText text p → (names_in p.statements ≤ 32)
         × (depth_of p.statements ≤ 32) × (most_operators p.statements ≤ 256) }

@@ -18,33 +18,33 @@ use std::mem;
 /// What an operator joins.
 #[derive(Clone, Copy)]
 enum Joins {
-    /// Two factors, to a term.
+    /// Two factors, into a term.
     Factors,
-    /// Two terms, to a sum.
+    /// Two terms, into a sum.
     Terms,
     /// Two sums, which it compares.
     Sums,
 }
 
-/// A left side, and the operator behind it.
+/// A left side, and the operator after it.
 #[derive(Drop)]
 pub struct Pending {
     left: Expression,
     operator: Operator,
 }
 
-/// What waits for its right side, outside of all parentheses or inside of one.
+/// What waits for its right side, outside all parentheses or inside one.
 #[derive(Drop)]
 pub struct Level {
-    /// A sum that is compared.
+    /// A sum that will be compared.
     compared: Option<Pending>,
-    /// A sum of which some terms have come.
+    /// A sum whose first terms have come.
     added: Option<Pending>,
-    /// A term of which some factors have come.
+    /// A term whose first factors have come.
     multiplied: Option<Pending>,
 }
 
-/// An expression of which some symbols have come.
+/// An expression in the middle of parsing: the symbols taken so far.
 #[derive(Drop)]
 pub struct Partial {
     /// What waits around each open parenthesis, outermost first.
@@ -161,7 +161,7 @@ fn waiting(left: Expression, operator: Operator) -> Option<Pending>
     Some(Pending { left, operator })
 }
 
-/// Whether an operand may begin with this.
+/// Returns whether an operand may begin with this symbol.
 pub fn begins_operand(symbol: Symbol) -> bool
     ensures { result ≡ is_some (partial_with nothing (symbol_seen symbol)) }
 {
@@ -175,7 +175,7 @@ pub fn begins_operand(symbol: Symbol) -> bool
 }
 
 impl Partial {
-    /// Whether `take` takes this symbol.
+    /// Returns whether `take` accepts this symbol.
     pub fn takes(&self, symbol: Symbol) -> bool
         ensures { result ≡ is_some (partial_with (partial_seen self.now) (symbol_seen symbol)) }
     {
@@ -188,7 +188,8 @@ impl Partial {
     // Whether this symbol may stand behind an operand.
     fn goes_on(&self, symbol: Symbol) -> bool
         ensures { (operand : Operand) → result
-            ≡ is_some (go_on (partial_seen self.now).outer (level_seen self.now.level) operand (symbol_seen symbol)) }
+            ≡ is_some (go_on (partial_seen self.now).outer (level_seen self.now.level) operand
+            (symbol_seen symbol)) }
     {
         match symbol {
             Symbol::Operator(operator) => self.level.takes(operator),
@@ -197,14 +198,14 @@ impl Partial {
         }
     }
 
-    /// Whether `finish` gives an expression.
+    /// Returns whether the expression may end here, so that `finish` gives it.
     pub fn is_whole(&self) -> bool
         ensures { result ≡ is_some (value_of (partial_seen self.now)) }
     {
         self.outer.is_empty() && self.operand.is_some()
     }
 
-    /// An expression of which nothing has come.
+    /// Returns an expression before its first symbol.
     pub fn empty(alloc: Global) -> Partial
         ensures { partial_seen result ≡ nothing }
     {
@@ -215,14 +216,14 @@ impl Partial {
         }
     }
 
-    /// Nothing has come from now on.
+    /// Discards the symbols taken so far.
     pub fn clear(&mut self, alloc: Global)
         ensures { partial_seen self.new ≡ nothing }
     {
         *self = Partial::empty(alloc);
     }
 
-    /// Takes one more symbol, if it can stand here.
+    /// Takes one more symbol. It fails if the symbol cannot come here, or if memory runs out.
     pub fn take(&mut self, alloc: Global, symbol: Symbol) -> Result<(), FaultKind>
         ensures { GivesNew result (partial_seen self.new)
             (partial_with (partial_seen self.old) (symbol_seen symbol)) }
@@ -271,7 +272,8 @@ impl Partial {
     fn close(&mut self, alloc: Global, operand: Expression) -> Result<(), FaultKind>
         requires { self.old.operand ≡ None }
         ensures { GivesNew result (partial_seen self.new)
-            (close (partial_seen self.old).outer (level_seen self.old.level) (expression_of operand)) }
+            (close (partial_seen self.old).outer (level_seen self.old.level)
+            (expression_of operand)) }
     {
         let Some(around) = self.outer.pop() else {
             return Err(FaultKind::Unexpected);
@@ -281,7 +283,8 @@ impl Partial {
         Ok(())
     }
 
-    /// The whole expression, if it may end here. Nothing is left of it then.
+    /// Returns the whole expression, and leaves an empty one. It fails if the expression cannot end here, or if memory
+    /// runs out.
     pub fn finish(&mut self, alloc: Global) -> Result<Expression, FaultKind>
         ensures value { Gives expression_of result (value_of (partial_seen self.old)) }
         ensures empty { IsOk result → partial_seen self.new ≡ nothing }

@@ -10,20 +10,20 @@ use crate::lexer::Lexer;
 use crate::token::{Lexeme, Token};
 use std::alloc::{AllocError, Global};
 
-/// What stands in a text, and where its first byte is.
+/// A lexeme of a text, and where its first byte is.
 #[derive(Clone, Copy)]
 pub struct Located<'t> {
-    /// Counted from 1, by line feeds.
+    /// The line, counted from 1 by line feeds.
     pub line: u32,
-    /// Counted from 1, in bytes.
+    /// The column, counted from 1 in bytes.
     pub column: u32,
-    /// How many bytes of the text stand before it.
+    /// How many bytes of the text come before it.
     pub offset: u32,
     pub lexeme: Lexeme<'t>,
 }
 
-/// What stands in a text that is not too long, and where: its tokens up to its end, or up to the first fault of a byte
-/// or a number.
+/// Returns the lexemes of a text of at most 65,536 bytes with their positions: its tokens up to the end, or up to the
+/// first bad byte or number. It fails only if memory runs out.
 pub fn positions_of(alloc: Global, text: &[u8]) -> Result<Vec<Located<'_>>, AllocError>
     requires { length text.now ≤ 65536 }
     ensures { IfOk result (λ all. HasLocated text.now (map located_of all.items)) }

@@ -7,7 +7,7 @@ ghost use Rattle.lrc_lang.specs.Statements.{block_of};
 
 use crate::MOST_WORDS;
 
-/// An operator. Numbers are u64, and sums, differences and products wrap. A comparison gives 1 or 0.
+/// An operator. Values are u64, and sums, differences and products wrap. A comparison gives 1 or 0.
 #[derive(Clone, Copy, PartialEq, Eq)]
 pub enum Operator {
     Add,
@@ -23,17 +23,17 @@ pub enum Operator {
     GreaterOrEqual,
 }
 
-/// An expression. A private name is its number in the text: 0 for the name that comes first, 1 for the next
-/// different one, and so on to 31.
+/// An expression. A private name is given by its number in the text: 0 for the first name, 1 for the next different
+/// one, and so on up to 31.
 #[derive(Drop)]
 pub enum Expression {
-    /// A number of the text.
+    /// A number in the text.
     Number(u64),
     /// A private name.
     Private(u8),
-    /// The number of the node that runs the text.
+    /// The number of the node that runs the program.
     Me,
-    /// How many nodes run it.
+    /// How many nodes run the program.
     Nodes,
     /// The left side, the operator and the right side. The left side is evaluated first.
     Binary(Box<Expression>, Operator, Box<Expression>),
@@ -56,41 +56,41 @@ pub enum Statement {
     Barrier,
     /// `print value;`
     Print(Expression),
-    /// `if condition { .. } else { .. }`; with no `else` the second list is empty
+    /// `if condition { .. } else { .. }`; without `else` the second list is empty
     If(Expression, Vec<Statement>, Vec<Statement>),
     /// `while condition { .. }`
     While(Expression, Vec<Statement>),
 }
 
-/// A program: how many words of shared memory and how many locks it has, and its statements. Whatever program there is,
-/// it is within the limits that its text was held to, so what walks through its trees nests no deeper than they allow.
+/// A program: its number of words of shared memory, its number of locks, and its statements. Every value of this type
+/// is within the limits of the language, so a walk through its trees nests no deeper than they allow.
 #[derive(Drop)]
 pub struct Program {
     pub words: u32,
     pub locks: u8,
     pub statements: Vec<Statement>,
-    /// There are 1 to 65,536 words.
+    /// It has 1 to 65,536 words.
     pub ghost some_words: { 1 ≤ words },
     pub ghost few_words: { words ≤ MOST_WORDS },
-    /// There are at most 64 locks.
+    /// It has at most 64 locks.
     pub ghost few_locks: { locks ≤ 64 },
     /// Each private name has a number below 32.
     pub ghost few_names: { names_in (block_of statements.items) ≤ 32 },
-    /// At most 32 blocks lie in one another.
+    /// Blocks nest at most 32 deep.
     pub ghost shallow: { depth_of (block_of statements.items) ≤ 32 },
-    /// No expression has more than 256 operators, so none nests deeper.
+    /// No expression has more than 256 operators, so none nests deeper than that.
     pub ghost short: { most_operators (block_of statements.items) ≤ 256 },
 }
 
 impl Program {
-    /// How many words the shared memory has, 1 to 65,536.
+    /// Returns the number of words of the shared memory, 1 to 65,536.
     pub fn words(&self) -> u32
         ensures { result ≡ self.now.words }
     {
         self.words
     }
 
-    /// How many locks there are, 0 to 64.
+    /// Returns the number of locks, 0 to 64.
     pub fn locks(&self) -> u8
         ensures { result ≡ self.now.locks }
     {
@@ -98,7 +98,7 @@ impl Program {
     }
 }
 
-/// The limit of words as a number: 65,536.
+/// The limit on words is 65,536.
 pub fn the_most_words()
     ensures { MOST_WORDS ≡ 65536 }
 {}

@@ -11,7 +11,7 @@ use crate::symbol::Symbol;
 use crate::token::{Keyword, Sign};
 use std::alloc::Global;
 
-/// What has to come next.
+/// What must come next.
 #[derive(Clone, Copy)]
 enum Stage {
     Words,
@@ -25,7 +25,7 @@ enum Stage {
     Nothing,
 }
 
-/// What the parser keeps of a text of which some symbols have come.
+/// The state of the parser between two symbols.
 #[derive(Drop)]
 pub struct ParserState {
     stage: Stage,
@@ -44,7 +44,7 @@ impl ParserState {
     ghost use Rattle.lrc_lang.specs.Sizes.{names_in, depth_of, most_operators};
     ghost use Rattle.lrc_lang.specs.Tree.{program_of};
 
-    /// A text of which nothing has come.
+    /// Returns the state before the first symbol.
     pub fn start(alloc: Global) -> ParserState
         ensures { state_seen result ≡ start }
     {
@@ -56,7 +56,7 @@ impl ParserState {
         }
     }
 
-    /// Whether this symbol can stand here, its size aside.
+    /// Returns whether this symbol can come here, sizes aside.
     pub fn takes(&self, symbol: Symbol) -> bool
         ensures { result ≡ is_some (state_with (state_seen self.now) (symbol_seen symbol)) }
     {
@@ -80,9 +80,11 @@ impl ParserState {
         }
     }
 
-    /// Takes one more symbol, if it can stand here.
+    /// Takes one more symbol. It fails if the symbol cannot come here, if its number is over a limit, or if memory runs
+    /// out.
     pub fn take(&mut self, symbol: Symbol) -> Result<(), FaultKind>
-        ensures { TakesSymbol result (state_seen self.old) (symbol_seen symbol) (state_seen self.new) }
+        ensures { TakesSymbol result (state_seen self.old) (symbol_seen symbol)
+            (state_seen self.new) }
     {
         match (self.stage, symbol) {
             (Stage::Words, Symbol::Keyword(Keyword::Words)) => self.stage = Stage::WordsNumber,
@@ -113,7 +115,7 @@ impl ParserState {
         Ok(())
     }
 
-    /// The program, once the text has ended. Its statements are here no more.
+    /// Takes out the program once the text has ended, and leaves no statements.
     pub fn take_program(&mut self) -> Program
         requires names { names_in (program_in (state_seen self.old)).statements ≤ 32 }
         requires depth { depth_of (program_in (state_seen self.old)).statements ≤ 32 }

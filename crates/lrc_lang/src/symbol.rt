@@ -13,7 +13,7 @@ pub enum Symbol {
     Number(u64),
     /// A private name, by its number.
     Name(u8),
-    /// A sign that joins two operands.
+    /// An operator: a sign that joins two operands.
     Operator(Operator),
     Keyword(Keyword),
     /// Any other sign.
@@ -22,7 +22,7 @@ pub enum Symbol {
     End,
 }
 
-/// What a sign is in the grammar.
+/// Returns the symbol that the grammar sees for a sign.
 pub fn symbol_of_sign(sign: Sign) -> Symbol
     ensures { symbol_seen result ≡ symbol_of_sign sign }
 {

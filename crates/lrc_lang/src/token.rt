@@ -1,6 +1,6 @@
 // Tokens: what a text is made of, once spaces and comments are left out.
 
-/// A word that no private name may be.
+/// A reserved word: no private name may be one.
 #[derive(Clone, Copy)]
 pub enum Keyword {
     Words,
@@ -59,7 +59,7 @@ pub enum Sign {
     GreaterOrEqual,
 }
 
-/// A token of a text. A name is the bytes of the text that spell it.
+/// A token of a text. A name is given by the bytes that spell it.
 #[derive(Clone, Copy)]
 pub enum Token<'t> {
     Number(u64),
@@ -70,17 +70,17 @@ pub enum Token<'t> {
     End,
 }
 
-/// What stands next in a text: a token, or what is none.
+/// A lexeme: a token of a text, or bytes that are no token.
 #[derive(Clone, Copy)]
 pub enum Lexeme<'t> {
     Token(Token<'t>),
     /// A byte that begins no token.
     BadByte,
-    /// Digits whose value is over 2^64 - 1, or that a letter or `_` follows at once.
+    /// Digits whose value is over 2^64 - 1, or that a letter or `_` directly follows.
     BadNumber,
 }
 
-/// What stands next in a text, and the line of its first byte. Lines are counted from 1, by line feeds.
+/// A lexeme, and the line of its first byte. Lines are counted from 1, by line feeds.
 #[derive(Clone, Copy)]
 pub struct Placed<'t> {
     pub line: u32,

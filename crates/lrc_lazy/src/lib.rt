@@ -1,4 +1,5 @@
-//! Lazy runs of a program: what any memory that keeps lazy reading may do, and that without races it is what the plain machine does.
+//! Laws of the lazy runs of a program: the runs that any memory with lazy reading may make. Without races the lazy runs
+//! are exactly those of the plain machine.
 #![tactic(auto)]
 
 pub mod laws;

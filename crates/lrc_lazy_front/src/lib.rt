@@ -1,4 +1,5 @@
-//! Which act of a lazy run may come first: an act that may come next and is no acquire, for all that other nodes do before it.
+//! Laws of which act of a lazy run may come first. An act that may come next and is no acquire may come before all that
+//! other nodes do before it.
 #![tactic(auto)]
 
 pub mod laws;

@@ -1,4 +1,5 @@
-//! Every run of the shared memory is a lazy run of its program.
+//! Laws that every run of the shared memory is a lazy run of its program. So the outcomes of the shared memory are lazy
+//! outcomes.
 #![tactic(auto)]
 
 pub mod laws;

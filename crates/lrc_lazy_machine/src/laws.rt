@@ -11,29 +11,38 @@ ghost use Rattle.lrc_known.specs.declared.known.Knowledge.{Knowledge};
 ghost use Rattle.lrc_known.specs.Effect.{word_of, IsKnowledgeAfter};
 ghost use Rattle.lrc_lazy_machine.specs.Standing.{with_memory, effect_at, CanMake, MayGive, Stands};
 
-/// Before the first act the machine stands at the beginning of the program, and nothing is known.
+/// Before the first act the machine is at the beginning of the program, and nothing is known.
 pub fn the_machine_begins_with_the_program()
-    ensures { (program : Program) (nodes : ℕ) (knowledge : Knowledge) → ((word : ℕ) → word_of knowledge word ≡ [])
+    ensures { (program : Program) (nodes : ℕ) (knowledge : Knowledge)
+        → ((word : ℕ) → word_of knowledge word ≡ [])
         → Stands program nodes [] (plain_start program nodes) knowledge }
 {}
 
-/// A lazy run goes on with an act exactly where the machine that stands there can make it.
+/// A lazy run goes on with an act exactly if the machine, where the run has led it, can make this act.
 pub fn a_lazy_run_goes_on_with_what_the_machine_can_make()
-    ensures { (program : Program) (nodes : ℕ) (acts : List Act) (machine : Plain) (knowledge : Knowledge) → Stands program nodes acts machine knowledge
-        → (node : ℕ) (deed : Deed) → (IsLazyRun program nodes (acts ++ act_of node deed ∷ []) ↔ CanMake program.words machine knowledge node deed) }
+    ensures { (program : Program) (nodes : ℕ) (acts : List Act) (machine : Plain)
+        (knowledge : Knowledge) → Stands program nodes acts machine knowledge
+        → (node : ℕ) (deed : Deed)
+        → (IsLazyRun program nodes (acts ++ act_of node deed ∷ [])
+        ↔ CanMake program.words machine knowledge node deed) }
 {}
 
-/// After the act the machine stands where it leads, whatever its words are, and what is known changes as its effect says.
+/// After the act the machine is where the act leads, whatever its words are, and what is known changes as the act's
+/// effect says.
 pub fn the_machine_stands_where_its_acts_lead()
-    ensures { (program : Program) (nodes : ℕ) (acts : List Act) (machine : Plain) (knowledge : Knowledge) → Stands program nodes acts machine knowledge
+    ensures { (program : Program) (nodes : ℕ) (acts : List Act) (machine : Plain)
+        (knowledge : Knowledge) → Stands program nodes acts machine knowledge
         → (node : ℕ) (deed : Deed) (memory later : List ℕ) (after : Plain) (kept : Knowledge)
-        → plain_step (with_memory machine memory) node ≡ Some (deed, with_memory after later) → MayGive knowledge node deed
+        → plain_step (with_memory machine memory) node ≡ Some (deed, with_memory after later)
+        → MayGive knowledge node deed
         → IsKnowledgeAfter (effect_at nodes program.locks machine node deed) knowledge kept
         → Stands program nodes (acts ++ act_of node deed ∷ []) after kept }
 {}
 
-/// A lazy run is over exactly where the machine that stands there can make no act.
+/// A lazy run is over exactly if the machine, where the run has led it, can make no act.
 pub fn a_lazy_run_is_over_where_the_machine_can_make_nothing()
-    ensures { (program : Program) (nodes : ℕ) (acts : List Act) (machine : Plain) (knowledge : Knowledge) → Stands program nodes acts machine knowledge
-        → (IsOver program nodes acts ↔ ((node : ℕ) (deed : Deed) → ¬ CanMake program.words machine knowledge node deed)) }
+    ensures { (program : Program) (nodes : ℕ) (acts : List Act) (machine : Plain)
+        (knowledge : Knowledge) → Stands program nodes acts machine knowledge
+        → (IsOver program nodes acts
+        ↔ ((node : ℕ) (deed : Deed) → ¬ CanMake program.words machine knowledge node deed)) }
 {}

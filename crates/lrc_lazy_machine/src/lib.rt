@@ -1,4 +1,5 @@
-//! The machine that makes lazy runs: the plain machine without its memory, and what each node knows of the writes.
+//! Laws of the machine that makes lazy runs. The machine is the plain machine without its memory, together with what
+//! each node knows of the writes.
 #![tactic(auto)]
 
 pub mod laws;

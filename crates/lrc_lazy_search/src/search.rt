@@ -18,17 +18,20 @@ use lrc_known::word::copied;
 use lrc_lang::program::Program;
 use std::alloc::{AllocError, Global};
 
-/// Every outcome of the lazy runs of a program on so many nodes, after which no node can make an act. Gives up where there are more states
-/// to tell apart than `most`.
+/// Returns every outcome of the lazy runs of a program on this many nodes, after which no node can make an act. It
+/// fails with `BadNodes` exactly if the number of nodes is not 1 to 16. It gives up with `TooMany` if there are more
+/// states to tell apart than `most`, and fails if memory runs out.
 pub fn lazy_outcomes(
     alloc: Global,
     program: &Program,
     nodes: u32,
     most: usize,
 ) -> Result<IndexSet<Outcome>, ExploreFault>
-    ensures exact { IfOk result (λ found. (notes : List ActType) → (IsLazyOutcome program.now nodes notes ↔ HasOutcome found.keys notes)) }
+    ensures exact { IfOk result (λ found. (notes : List ActType)
+        → (IsLazyOutcome program.now nodes notes ↔ HasOutcome found.keys notes)) }
     ensures bad_nodes { (result ≡ Err ExploreFault.BadNodes) ↔ (¬ AreNodes nodes) }
-    ensures too_many { IfErr result (λ fault. fault ≡ ExploreFault.TooMany → MeetsMore program.now nodes most) }
+    ensures too_many { IfErr result (λ fault. fault ≡ ExploreFault.TooMany
+        → MeetsMore program.now nodes most) }
 {
     let count = count_of(nodes)?;
     let code = Code::new(alloc, program)?;
@@ -42,9 +45,11 @@ fn lazy_outcomes_of(
     nodes: u8,
     most: usize,
 ) -> Result<IndexSet<Outcome>, ExploreFault>
-    ensures exact { IfOk result (λ found. (notes : List ActType) → (IsLazyOutcome code.now nodes notes ↔ HasOutcome found.keys notes)) }
+    ensures exact { IfOk result (λ found. (notes : List ActType)
+        → (IsLazyOutcome code.now nodes notes ↔ HasOutcome found.keys notes)) }
     ensures nodes { IfErr result (λ fault. fault ≢ ExploreFault.BadNodes) }
-    ensures too_many { IfErr result (λ fault. fault ≡ ExploreFault.TooMany → MeetsMore code.now nodes most) }
+    ensures too_many { IfErr result (λ fault. fault ≡ ExploreFault.TooMany
+        → MeetsMore code.now nodes most) }
 {
     let task = task_of(code, nodes, most);
     let mut searched = Searched::none(alloc);
@@ -79,7 +84,8 @@ fn task_of<'c>(code: &'c Code<'c>, nodes: u8, most: usize) -> Task<'c>
 
 // How many nodes there are, where they are 1 to 16.
 fn count_of(nodes: u32) -> Result<u8, ExploreFault>
-    ensures { MatchResult result (λ count. (count ≡ nodes) × AreNodes nodes) (λ fault. (fault ≡ ExploreFault.BadNodes) × ¬ AreNodes nodes) }
+    ensures { MatchResult result (λ count. (count ≡ nodes) × AreNodes nodes)
+        (λ fault. (fault ≡ ExploreFault.BadNodes) × ¬ AreNodes nodes) }
 {
     if nodes < 1 || nodes > 16 {
         return Err(ExploreFault::BadNodes);
@@ -87,7 +93,8 @@ fn count_of(nodes: u32) -> Result<u8, ExploreFault>
     Ok(nodes as u8)
 }
 
-/// What is searched: a program, its code and the place where that begins, and how many states there may be.
+/// The task of a search: a program, its code and the place where the code begins, and the limit on the number of
+/// states.
 #[derive(Clone, Copy)]
 pub(crate) struct Task<'c> {
     program: &'c Program,
@@ -137,9 +144,12 @@ impl Searched {
         requires task { IsTask task.now }
         requires none { self.old.states.keys ≡ [] }
         requires outcomes { self.old.outcomes.keys ≡ [] }
-        ensures exact { OnOk result ((notes : List ActType) → (IsLazyOutcome task.now.program.now task.now.flat.nodes notes ↔ HasOutcome self.new.outcomes.keys notes)) }
+        ensures exact { OnOk result ((notes : List ActType)
+            → (IsLazyOutcome task.now.program.now task.now.flat.nodes notes
+            ↔ HasOutcome self.new.outcomes.keys notes)) }
         ensures nodes { IfErr result (λ fault. fault ≢ ExploreFault.BadNodes) }
-        ensures too_many { IfErr result (λ fault. fault ≡ ExploreFault.TooMany → MeetsMore task.now.program.now task.now.flat.nodes task.now.most) }
+        ensures too_many { IfErr result (λ fault. fault ≡ ExploreFault.TooMany
+            → MeetsMore task.now.program.now task.now.flat.nodes task.now.most) }
     {
         self.begin(alloc, task)?;
         self.go_through(alloc, task)
@@ -163,9 +173,12 @@ impl Searched {
         requires task { IsTask task.now }
         requires order { IsInOrder task.now self.old.states.keys }
         requires outcomes { self.old.outcomes.keys ≡ [] }
-        ensures exact { OnOk result ((notes : List ActType) → (IsLazyOutcome task.now.program.now task.now.flat.nodes notes ↔ HasOutcome self.new.outcomes.keys notes)) }
+        ensures exact { OnOk result ((notes : List ActType)
+            → (IsLazyOutcome task.now.program.now task.now.flat.nodes notes
+            ↔ HasOutcome self.new.outcomes.keys notes)) }
         ensures nodes { IfErr result (λ fault. fault ≢ ExploreFault.BadNodes) }
-        ensures too_many { IfErr result (λ fault. fault ≡ ExploreFault.TooMany → MeetsMore task.now.program.now task.now.flat.nodes task.now.most) }
+        ensures too_many { IfErr result (λ fault. fault ≡ ExploreFault.TooMany
+            → MeetsMore task.now.program.now task.now.flat.nodes task.now.most) }
     {
         let mut place = 0;
         while place < self.states.len() {
@@ -188,8 +201,10 @@ impl Searched {
         ensures order { OnOk result (IsInOrder task.now self.new.states.keys) }
         ensures grows { OnOk result (Grows self.old.states.keys self.new.states.keys) }
         ensures more { OnOk result (Grows self.old.outcomes.keys self.new.outcomes.keys) }
-        ensures sound { OnOk result (AreSound task.now.program.now task.now.flat self.new.outcomes.keys) }
-        ensures done { OnOk result ((key : StateType) → slice_get self.old.states.keys place ≡ Some key
+        ensures sound { OnOk result (AreSound task.now.program.now task.now.flat
+            self.new.outcomes.keys) }
+        ensures done { OnOk result ((key : StateType)
+            → slice_get self.old.states.keys place ≡ Some key
             → IsSearched task.now.flat self.new.states.keys self.new.outcomes.keys key) }
     {
         let nexts = self.nexts_at(alloc, task, place)?;
@@ -211,10 +226,15 @@ impl Searched {
         requires order { IsInOrder task.now self.now.states.keys }
         requires within { place < length self.now.states.keys }
         requires small { place < 2 ^ 63 - 1 }
-        ensures reached { IfOk result (λ all. (k : ℕ) (after : StateType) → slice_get all.items k ≡ Some after
+        ensures reached { IfOk result (λ all. (k : ℕ) (after : StateType)
+            → slice_get all.items k ≡ Some after
             → IsReached task.now.program.now task.now.flat after (length self.now.states.keys)) }
-        ensures sound { IfOk result (λ all. (key : StateType) → slice_get self.now.states.keys place ≡ Some key → AreNext task.now.flat key all.items) }
-        ensures enough { IfOk result (λ all. (key : StateType) → slice_get self.now.states.keys place ≡ Some key → AreEnough task.now.flat key all.items) }
+        ensures sound { IfOk result (λ all. (key : StateType)
+            → slice_get self.now.states.keys place ≡ Some key
+            → AreNext task.now.flat key all.items) }
+        ensures enough { IfOk result (λ all. (key : StateType)
+            → slice_get self.now.states.keys place ≡ Some key
+            → AreEnough task.now.flat key all.items) }
     {
         self.states.as_slice()[place].nexts(alloc, &task.flat)
     }
@@ -228,11 +248,15 @@ impl Searched {
     ) -> Result<(), AllocError>
         requires sound { AreSound task.now.program.now task.now.flat self.old.outcomes.keys }
         requires within { place < length self.old.states.keys }
-        requires over { (key : StateType) → slice_get self.old.states.keys place ≡ Some key → IsLazyOutcome task.now.program.now task.now.flat.nodes key.notes.items }
+        requires over { (key : StateType) → slice_get self.old.states.keys place ≡ Some key
+            → IsLazyOutcome task.now.program.now task.now.flat.nodes key.notes.items }
         ensures same { self.new.states ≡ self.old.states }
         ensures more { OnOk result (Grows self.old.outcomes.keys self.new.outcomes.keys) }
-        ensures sound { OnOk result (AreSound task.now.program.now task.now.flat self.new.outcomes.keys) }
-        ensures has { OnOk result ((key : StateType) → slice_get self.old.states.keys place ≡ Some key → HasOutcome self.new.outcomes.keys key.notes.items) }
+        ensures sound { OnOk result (AreSound task.now.program.now task.now.flat
+            self.new.outcomes.keys) }
+        ensures has { OnOk result ((key : StateType)
+            → slice_get self.old.states.keys place ≡ Some key
+            → HasOutcome self.new.outcomes.keys key.notes.items) }
     {
         let _task = task;
         let notes = copied(alloc, &self.states.as_slice()[place].notes)?;

@@ -14,11 +14,11 @@ use lrc_known::word::{Effect, copied, word_after};
 use lrc_trace::act::{Act, Deed};
 use std::alloc::{AllocError, Global};
 
-/// The most acts that are made one after another between two states that are told apart.
+/// The most acts made one after another between two states that are told apart.
 const LONGEST: usize = 64;
 
-/// Where the nodes stand, what they know of the writes, and what was noted on the way. The words of the state are all 0: what a read gives
-/// is said by what its node knows.
+/// A state of the search: where the nodes are, what they know of the writes, and what was noted on the way. The words
+/// of the state are all 0: what a node knows says what a read gives.
 #[derive(PartialEq, Eq, Hash, Drop)]
 pub struct LazyState {
     pub state: State,
@@ -37,7 +37,7 @@ impl LazyState {
     ghost use Rattle.lrc_lazy_search.specs.Fit.{IsFit};
     ghost use Rattle.lrc_lazy_search.specs.Searching.{HasAll, AreNext, AreEnough, IsAhead, IsForced, IsInFront, Makes, Steps, IsPoked};
 
-    /// The beginning of a program, whose text begins at this place of the code.
+    /// Returns the beginning of a program whose text begins at this place of the code.
     pub fn start(alloc: Global, flat: &Flat, place: usize) -> Result<LazyState, AllocError>
         requires { place ≤ length flat.now.code.now }
         ensures first { IfOk result (λ key. IsFirst flat.now place key.state) }
@@ -52,13 +52,16 @@ impl LazyState {
         })
     }
 
-    /// What a node can do now, a read with each value that it may give.
+    /// Returns the deeds that a node can do now, with a read for each value that it may give.
     pub fn deeds(&self, alloc: Global, flat: &Flat, node: usize) -> Result<Vec<Deed>, AllocError>
         requires flat { IsFlat flat.now }
         requires fit { IsFit flat.now self.now }
-        ensures sound { IfOk result (λ deeds. (k : ℕ) (deed : DeedType) → slice_get deeds.items k ≡ Some deed
-            → CanMake flat.now.words (plain_at flat.now self.now.state) self.now.knowledge node deed) }
-        ensures all { IfOk result (λ deeds. (deed : DeedType) → CanMake flat.now.words (plain_at flat.now self.now.state) self.now.knowledge node deed
+        ensures sound { IfOk result (λ deeds. (k : ℕ) (deed : DeedType)
+            → slice_get deeds.items k ≡ Some deed
+            → CanMake flat.now.words (plain_at flat.now self.now.state) self.now.knowledge node
+            deed) }
+        ensures all { IfOk result (λ deeds. (deed : DeedType)
+            → CanMake flat.now.words (plain_at flat.now self.now.state) self.now.knowledge node deed
             → (k : ℕ) × (slice_get deeds.items k ≡ Some deed)) }
     {
         let Some(deed) = self.state.next_deed(flat, node) else {
@@ -97,7 +100,8 @@ impl LazyState {
     ) -> Result<State, AllocError>
         requires flat { IsFlat flat.now }
         requires fit { IsFit flat.now self.now }
-        requires can { CanMake flat.now.words (plain_at flat.now self.now.state) self.now.knowledge node deed }
+        requires can { CanMake flat.now.words (plain_at flat.now self.now.state) self.now.knowledge
+            node deed }
         requires room { slice_index self.now.state.arrivals.items node < 2 ^ 63 }
         ensures made { IfOk result (Makes flat.now self.now.state node deed) }
         ensures state { IfOk result (IsStateOf flat.now) }
@@ -113,7 +117,7 @@ impl LazyState {
         })
     }
 
-    /// The state after a deed that a node can do.
+    /// Returns the state after a deed that the node can do.
     pub fn after(
         &self,
         alloc: Global,
@@ -123,7 +127,8 @@ impl LazyState {
     ) -> Result<LazyState, AllocError>
         requires flat { IsFlat flat.now }
         requires fit { IsFit flat.now self.now }
-        requires can { CanMake flat.now.words (plain_at flat.now self.now.state) self.now.knowledge node deed }
+        requires can { CanMake flat.now.words (plain_at flat.now self.now.state) self.now.knowledge
+            node deed }
         requires room { slice_index self.now.state.arrivals.items node < 2 ^ 63 }
         requires node { node < flat.now.nodes }
         ensures steps { IfOk result (Steps flat.now self.now node deed) }
@@ -196,7 +201,8 @@ impl LazyState {
     // Makes the word of a deed 0 again.
     fn blank(&mut self, flat: &Flat, deed: Deed)
         requires state { IsStateOf flat.now self.old.state }
-        ensures same { plain_at flat.now self.new.state ≡ with_memory (plain_at flat.now self.old.state) self.new.state.memory.items }
+        ensures same { plain_at flat.now self.new.state
+            ≡ with_memory (plain_at flat.now self.old.state) self.new.state.memory.items }
         ensures state { IsStateOf flat.now self.new.state }
         ensures knowledge { self.new.knowledge ≡ self.old.knowledge }
         ensures notes { self.new.notes ≡ self.old.notes }
@@ -215,7 +221,8 @@ impl LazyState {
     fn move_on(&mut self, flat: &Flat, node: usize, deed: Deed)
         requires flat { IsFlat flat.now }
         requires fit { IsFit flat.now self.old }
-        requires can { CanMake flat.now.words (plain_at flat.now self.old.state) self.old.knowledge node deed }
+        requires can { CanMake flat.now.words (plain_at flat.now self.old.state) self.old.knowledge
+            node deed }
         requires room { slice_index self.old.state.arrivals.items node < 2 ^ 63 }
         ensures made { Makes flat.now self.old.state node deed self.new.state }
         ensures state { IsStateOf flat.now self.new.state }
@@ -230,7 +237,8 @@ impl LazyState {
     // Changes what is known as an act does.
     fn learn(&mut self, alloc: Global, effect: Effect) -> Result<(), AllocError>
         requires { IsSmall effect }
-        ensures known { OnOk result (IsKnowledgeAfter effect self.old.knowledge self.new.knowledge) }
+        ensures known { OnOk result (IsKnowledgeAfter effect self.old.knowledge
+            self.new.knowledge) }
         ensures state { self.new.state ≡ self.old.state }
         ensures notes { self.new.notes ≡ self.old.notes }
     {
@@ -254,7 +262,8 @@ impl LazyState {
     ) -> Result<(), AllocError>
         requires flat { IsFlat flat.now }
         requires fit { IsFit flat.now self.old }
-        requires can { CanMake flat.now.words (plain_at flat.now self.old.state) self.old.knowledge node deed }
+        requires can { CanMake flat.now.words (plain_at flat.now self.old.state) self.old.knowledge
+            node deed }
         requires room { slice_index self.old.state.arrivals.items node < 2 ^ 63 }
         requires node { node < flat.now.nodes }
         ensures steps { OnOk result (Steps flat.now self.old node deed self.new) }
@@ -276,7 +285,8 @@ impl LazyState {
         requires flat { IsFlat flat.now }
         requires fit { IsFit flat.now self.now }
         requires front { IsInFront flat.now self.now node }
-        ensures { IfOk result (λ found. (deed : DeedType) → found ≡ Some deed → IsForced flat.now self.now node deed) }
+        ensures { IfOk result (λ found. (deed : DeedType) → found ≡ Some deed
+            → IsForced flat.now self.now node deed) }
     {
         let deeds = self.deeds(alloc, flat, node)?;
         if deeds.len() != 1 {
@@ -305,8 +315,8 @@ impl LazyState {
         Ok(true)
     }
 
-    /// Goes on as long as the lowest node that can do something other than acquire a lock can do one deed alone, which is no arrive, and not
-    /// for too long.
+    /// Makes deeds as long as the lowest node that can do something other than acquire a lock can do only one deed,
+    /// which is no arrive. It makes no more than `LONGEST` deeds. It fails if memory runs out.
     pub fn go_ahead(&mut self, alloc: Global, flat: &Flat) -> Result<(), AllocError>
         requires flat { IsFlat flat.now }
         requires state { IsStateOf flat.now self.old.state }
@@ -321,8 +331,8 @@ impl LazyState {
         Ok(())
     }
 
-    /// The states to go on with: those to which the lowest node leads that can do something other than acquire a lock, and where there is
-    /// none, those to which any node leads.
+    /// Returns the states to go on with: those to which the lowest node leads that can do something other than acquire
+    /// a lock. If there is no such node, they are those to which any node leads. It fails if memory runs out.
     pub fn nexts(&self, alloc: Global, flat: &Flat) -> Result<Vec<LazyState>, AllocError>
         requires flat { IsFlat flat.now }
         requires fit { IsFit flat.now self.now }
@@ -369,7 +379,8 @@ impl LazyState {
         requires sound { AreNext flat.now self.now all.old.items }
         ensures sound { OnOk result (AreNext flat.now self.now all.new.items) }
         ensures all { OnOk result (HasAll flat.now self.now node all.new.items) }
-        ensures kept { OnOk result ((n : ℕ) → HasAll flat.now self.now n all.old.items → HasAll flat.now self.now n all.new.items) }
+        ensures kept { OnOk result ((n : ℕ) → HasAll flat.now self.now n all.old.items
+            → HasAll flat.now self.now n all.new.items) }
     {
         let deeds = self.deeds(alloc, flat, node)?;
         for place in 0..deeds.len() {
@@ -433,7 +444,8 @@ fn learn_write(
     value: u64,
 ) -> Result<(), AllocError>
     requires { IsSmall (Writes writer word value) }
-    ensures { OnOk result (IsKnowledgeAfter (Writes writer word value) knowledge.old knowledge.new) }
+    ensures { OnOk result (IsKnowledgeAfter
+        (Writes writer word value) knowledge.old knowledge.new) }
 {
     make_room(alloc, knowledge, word)?;
     let effect = Effect::Writes(writer, word, value);

@@ -14,32 +14,36 @@ ghost use Rattle.lrc_lines.specs.Places.{StandsAmong, in_order};
 ghost use Rattle.lrc_lines.specs.Standing.{Agrees};
 ghost use Rattle.lrc_lines.specs.Walks.{end_line, line_at, act_lines, walk_behind};
 
-/// The lines of a text are those on which its statements begin: one for each statement in the order of the text, the line of
-/// the first of the tokens that spell the statement, and at last that of the text's end.
+/// The lines of a text are those on which its statements begin: one for each statement in the order of the text, which
+/// is the line of the statement's first token, and last the line of the text's end.
 pub fn each_statement_begins_on_its_line()
     ensures { (text : List ℕ) (program : Program) (lines : List ℕ)
         → HasLines text (program_of program) lines → BeginOnLines text program lines }
 {}
 
-/// Whatever the acts are, the statements still to do with their lines are those that the node's thread has still to do.
+/// Whatever the acts are, the statements that a walk still has to do are those that the node's thread still has to do.
 pub fn walks_agree_with_their_threads()
     ensures { (program : Program) (nodes : ℕ) (lines : List ℕ) (acts : List Act) (node : ℕ)
         → Agrees (walk_behind program nodes lines acts node) }
 {}
 
-/// What a node has still to do stands in the program's text, with the lines from its own place on: the first of them is its line.
+/// What a node still has to do is part of the program's text, with the lines from that place on. The first of these
+/// lines is the node's line.
 pub fn what_is_still_to_do_stands_in_the_text()
     ensures { (program : Program) (nodes : ℕ) (lines : List ℕ) (acts : List Act) (node : ℕ)
-        → All (StandsAmong (in_order program.statements.items) lines) (walk_behind program nodes lines acts node).todo }
+        → All (StandsAmong (in_order program.statements.items) lines)
+        (walk_behind program nodes lines acts node).todo }
 {}
 
-/// The line of each act is that of what comes next on its node's way; and where acts follow the text, that is what makes the act:
-/// the statement on that line, the barrier from which the node departs, or the end of the text.
+/// The line of each act is that of what comes next on its node's way. If acts follow the text, this is what makes the
+/// act: the statement on that line, the barrier from which the node departs, or the end of the text.
 pub fn each_line_is_of_what_makes_the_act()
-    ensures line { (program : Program) (nodes : ℕ) (lines : List ℕ) (acts : List Act) (i node : ℕ) (deed : Deed)
+    ensures line { (program : Program) (nodes : ℕ) (lines : List ℕ) (acts : List Act) (i node : ℕ)
+        (deed : Deed)
         → Does acts i node deed → node < nodes → slice_get (act_lines program nodes lines acts) i
         ≡ Some (line_at (end_line lines) (walk_behind program nodes lines (take i acts) node)) }
-    ensures made { (program : Program) (nodes : ℕ) (lines : List ℕ) (acts : List Act) (i node : ℕ) (deed : Deed)
+    ensures made { (program : Program) (nodes : ℕ) (lines : List ℕ) (acts : List Act) (i node : ℕ)
+        (deed : Deed)
         → FollowsText program nodes acts → Does acts i node deed → node < nodes
         → MakesNext (walk_behind program nodes lines (take i acts) node) deed }
 {}

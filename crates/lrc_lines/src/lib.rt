@@ -1,4 +1,6 @@
-//! The lines of the acts of a run: on which line of the text the statement stands that an act is of.
+//! The lines of the acts of a run. For each act, the crate gives the line of the program's text with the statement that
+//! makes the act. It follows each node through the text, and keeps the statements that the node still has to do, with
+//! their lines.
 #![tactic(auto)]
 
 pub mod laws;

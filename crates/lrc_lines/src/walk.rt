@@ -27,7 +27,8 @@ fn goes_on(ask: Ask) -> bool
 }
 
 impl<'c> Walk<'c> {
-    /// Node `me` of `nodes` at the beginning of a program whose statements have these lines.
+    /// Places node `me` of `nodes` at the beginning of a program whose statements have these lines. It fails if memory
+    /// runs out.
     pub fn start(
         alloc: Global,
         code: &'c Code<'_>,
@@ -44,21 +45,21 @@ impl<'c> Walk<'c> {
         })
     }
 
-    /// What the node's thread asks for next. At a barrier to which it has come that is the barrier still.
+    /// Returns what the node's thread asks for next. If the node has arrived at a barrier, this is still the barrier.
     pub fn ask(&self) -> Ask
         ensures { result ≡ ask_of (next_of (walk_of self.now).thread) }
     {
         self.machine.ask()
     }
 
-    /// The line of what comes next; `end` is the line of the text's end.
+    /// Returns the line of what comes next; `end` is the line of the text's end.
     pub fn line(&self, end: u32) -> u32
         ensures { result ≡ line_at end (walk_of self.now) }
     {
         self.way.line(end)
     }
 
-    /// The node does this deed. After an error it is where it was.
+    /// Moves the node on by this deed. If memory runs out, it fails and the node stays where it was.
     #[tactic(auto, using(crate::proofs::Following::led_onward))]
     pub fn follow(&mut self, deed: Deed) -> Result<(), AllocError>
         ensures ok { OnOk result (walk_of self.new ≡ led (walk_of self.old) deed) }

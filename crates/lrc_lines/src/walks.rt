@@ -20,12 +20,12 @@ pub struct Walks<'c> {
     end: u32,
 }
 
-/// Acts that were followed.
+/// The lines of acts that were followed, and where the acts leave the nodes.
 #[derive(Drop)]
 pub struct Followed<'c> {
     /// The line of each act.
     pub lines: Vec<u32>,
-    /// Where the nodes are once the acts are done.
+    /// Where the nodes are after the acts.
     pub walks: Walks<'c>,
 }
 
@@ -41,14 +41,16 @@ fn end_line(lines: &[u32]) -> u32
 }
 
 impl<'c> Walks<'c> {
-    /// Nodes 0, 1, .. at the beginning of a program whose statements, and the text's end behind them, have these lines.
+    /// Places nodes 0, 1, .. at the beginning of a program. `lines` has the lines of its statements, and last that of
+    /// the text's end. It fails if memory runs out.
     pub fn start(
         alloc: Global,
         code: &'c Code<'_>,
         lines: &'c [u32],
         nodes: u8,
     ) -> Result<Walks<'c>, AllocError>
-        ensures walks { IfOk result (λ walks. walks_of walks ≡ walks_behind code.now nodes lines.now []) }
+        ensures walks { IfOk result (λ walks. walks_of walks
+            ≡ walks_behind code.now nodes lines.now []) }
         ensures end { IfOk result (λ walks. walks.end ≡ end_line lines.now) }
     {
         let mut walks = Vec::new(alloc);
@@ -61,10 +63,11 @@ impl<'c> Walks<'c> {
         })
     }
 
-    /// What a node's thread asks for next; at a barrier to which it has come that is the barrier still. Where there is
-    /// no such node, it is the end.
+    /// Returns what a node's thread asks for next. If the node has arrived at a barrier, this is still the barrier. If
+    /// there is no such node, it is the end.
     pub fn ask(&self, node: u8) -> Ask
-        ensures { result ≡ slice_index_or (map (λ walk. ask_of (next_of walk.thread)) (walks_of self.now)) node Ask.End }
+        ensures { result ≡ slice_index_or (map (λ walk. ask_of (next_of walk.thread))
+            (walks_of self.now)) node Ask.End }
     {
         let node = usize::from(node);
         if node < self.nodes.len() {
@@ -74,9 +77,10 @@ impl<'c> Walks<'c> {
         }
     }
 
-    /// The line of what a node comes to next. Where there is no such node, it is the line of the text's end.
+    /// Returns the line of what a node does next, or the line of the text's end if there is no such node.
     pub fn line(&self, node: u8) -> u32
-        ensures { result ≡ slice_index_or (map (line_at self.now.end) (walks_of self.now)) node self.now.end }
+        ensures { result ≡ slice_index_or (map (line_at self.now.end) (walks_of self.now)) node
+            self.now.end }
     {
         let node = usize::from(node);
         if node < self.nodes.len() {
@@ -86,11 +90,13 @@ impl<'c> Walks<'c> {
         }
     }
 
-    /// An act is done. After an error every node is where it was.
+    /// Moves the act's node on by the act; without such a node nothing changes. If memory runs out, it fails and every
+    /// node stays where it was.
     pub fn follow(&mut self, act: &Act) -> Result<(), AllocError>
         ensures walks { (program : Program) (nodes : ℕ) (lines : List ℕ) (before : List Act)
             → walks_of self.old ≡ walks_behind program nodes lines before
-            → OnOk result (walks_of self.new ≡ walks_behind program nodes lines (before ++ act.now ∷ [])) }
+            → OnOk result (walks_of self.new
+            ≡ walks_behind program nodes lines (before ++ act.now ∷ [])) }
         ensures err { OnErr result (walks_of self.new ≡ walks_of self.old) }
         ensures end { self.new.end ≡ self.old.end }
     {
@@ -103,8 +109,8 @@ impl<'c> Walks<'c> {
     }
 }
 
-/// Follows acts of nodes 0, 1, .. from the beginning of a program whose statements, and the text's end behind them, have
-/// these lines.
+/// Follows acts of nodes 0, 1, .. from the beginning of a program. `lines` has the lines of its statements, and last
+/// that of the text's end. It fails if memory runs out.
 pub fn follow_acts<'c>(
     alloc: Global,
     code: &'c Code<'_>,
@@ -112,8 +118,10 @@ pub fn follow_acts<'c>(
     nodes: u8,
     acts: &[Act],
 ) -> Result<Followed<'c>, AllocError>
-    ensures lines { IfOk result (λ followed. followed.lines.items ≡ act_lines code.now nodes lines.now acts.now) }
-    ensures walks { IfOk result (λ followed. walks_of followed.walks ≡ walks_behind code.now nodes lines.now acts.now) }
+    ensures lines { IfOk result (λ followed. followed.lines.items
+        ≡ act_lines code.now nodes lines.now acts.now) }
+    ensures walks { IfOk result (λ followed. walks_of followed.walks
+        ≡ walks_behind code.now nodes lines.now acts.now) }
     ensures end { IfOk result (λ followed. followed.walks.end ≡ end_line lines.now) }
 {
     let mut walks = Walks::start(alloc, code, lines, nodes)?;
@@ -128,7 +136,8 @@ pub fn follow_acts<'c>(
     })
 }
 
-/// The lines of acts: of each the line of the statement that it is of, or for an end that of the text's end.
+/// Returns the line of each act: that of its statement, or for an end that of the text's end. It fails if memory runs
+/// out.
 pub fn lines_of_acts(
     alloc: Global,
     code: &Code<'_>,

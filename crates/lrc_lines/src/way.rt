@@ -64,7 +64,8 @@ impl<'c> Todo<'c> {
         statements: &'c [Statement],
         lines: &'c [u32],
     ) -> Result<Todo<'c>, AllocError>
-        ensures { IfOk result (λ way. todo_of way.stretches.items ≡ tasks statements.now lines.now) }
+        ensures { IfOk result (λ way. todo_of way.stretches.items
+            ≡ tasks statements.now lines.now) }
     {
         let mut way = Todo {
             stretches: Vec::new(alloc),
@@ -105,7 +106,8 @@ impl<'c> Todo<'c> {
     // anything changes.
     #[tactic(auto, using(crate::proofs::Passing::passings))]
     pub(crate) fn pass(&mut self, holds: bool) -> Result<(), AllocError>
-        ensures ok { OnOk result (todo_of self.new.stretches.items ≡ passed holds (todo_of self.old.stretches.items)) }
+        ensures ok { OnOk result (todo_of self.new.stretches.items
+            ≡ passed holds (todo_of self.old.stretches.items)) }
         ensures err { OnErr result (self.new.stretches.items ≡ self.old.stretches.items) }
     {
         self.stretches.reserve(1)?;
@@ -136,7 +138,9 @@ impl<'c> Todo<'c> {
     // What stands in a stretch behind its first statement comes first.
     fn leave(&mut self, stretch: Stretch<'c>) -> Result<(), AllocError>
         ensures ok { OnOk result (todo_of self.new.stretches.items
-            ≡ tasks stretch.entry.others.now (behind stretch.entry.first.now stretch.entry.lines.now) ++ todo_of self.old.stretches.items) }
+            ≡ tasks stretch.entry.others.now
+            (behind stretch.entry.first.now stretch.entry.lines.now)
+            ++ todo_of self.old.stretches.items) }
         ensures full { OnErr result (vec_capacity self.old.stretches ≤ vec_len self.old.stretches) }
         ensures room { vec_capacity self.old.stretches ≤ vec_capacity self.new.stretches }
         ensures more { vec_len self.new.stretches ≤ vec_len self.old.stretches + 1 }

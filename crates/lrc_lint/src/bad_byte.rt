@@ -4,7 +4,7 @@ use crate::fault::Fault;
 use crate::hint::Hint;
 use lrc_lang::token::Sign;
 
-/// The first hint that applies.
+/// Returns the first hint that applies to a byte that begins no token.
 pub fn bad_byte_hint<'t>(fault: &Fault<'t>) -> Option<Hint<'t>> {
     if begins_with_order_mark(fault.text) {
         return Some(Hint::ByteOrderMark);
@@ -25,7 +25,7 @@ fn begins_with_order_mark(text: &[u8]) -> bool {
     matches!(text, [0xef, 0xbb, 0xbf, ..])
 }
 
-/// The byte of a text at this place.
+/// Returns the byte of a text at a place, if the text has one there.
 pub fn byte_at(text: &[u8], place: usize) -> Option<u8> {
     text.get(place).copied()
 }

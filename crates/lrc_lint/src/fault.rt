@@ -17,22 +17,23 @@ use lrc_lint_text::{operand_kinds, operator_kinds, statement_kinds};
 #[derive(Clone, Copy)]
 pub struct Fault<'t> {
     pub text: &'t [u8],
-    /// What stands before it.
+    /// The tokens before the fault.
     pub before: &'t [Located<'t>],
-    /// What has the fault.
+    /// The token or byte at fault.
     pub found: Located<'t>,
     pub kind: FaultKind,
-    /// What may stand in place of it.
+    /// The kinds of tokens that may stand in its place.
     pub may_stand: &'t [Kind],
 }
 
 impl<'t> Fault<'t> {
-    /// What stands right before it.
+    /// Returns the token right before the fault.
     pub fn previous(&self) -> Option<Located<'t>> {
         self.before.last().copied()
     }
 
-    /// The first six tokens of a program say how many words and locks it has.
+    /// Returns whether the fault is among the first six tokens of the text, where a program says how many words and
+    /// locks it has.
     pub fn is_in_header(&self) -> bool {
         self.before.len() < 6
     }
@@ -57,7 +58,7 @@ impl<'t> Fault<'t> {
         has_all(self.may_stand, operator_kinds())
     }
 
-    /// Whether it is this sign.
+    /// Returns whether the token at fault is this sign.
     pub fn is(&self, sign: Sign) -> bool {
         is_sign(self.found, sign)
     }
@@ -124,7 +125,7 @@ impl<'t> Fault<'t> {
         )
     }
 
-    /// Whether this sign stands right before it.
+    /// Returns whether this sign is right before the fault.
     pub fn is_behind(&self, sign: Sign) -> bool {
         match self.previous() {
             Some(previous) => is_sign(previous, sign),
@@ -132,7 +133,7 @@ impl<'t> Fault<'t> {
         }
     }
 
-    /// The name right before it.
+    /// Returns the name right before the fault, if there is one.
     pub fn name_before(&self) -> Option<&'t [u8]> {
         match self.previous()?.lexeme {
             Lexeme::Token(Token::Name(name)) => Some(name),
@@ -140,7 +141,7 @@ impl<'t> Fault<'t> {
         }
     }
 
-    /// The keyword right before it.
+    /// Returns the keyword right before the fault, if there is one.
     pub fn keyword_before(&self) -> Option<Keyword> {
         match self.previous()?.lexeme {
             Lexeme::Token(Token::Keyword(keyword)) => Some(keyword),
@@ -148,7 +149,7 @@ impl<'t> Fault<'t> {
         }
     }
 
-    /// The name right before it, where that begins a statement.
+    /// Returns the name right before the fault, if it begins a statement.
     pub fn opening_name(&self) -> Option<&'t [u8]> {
         if self.may_sign(Sign::Assign) {
             self.name_before()
@@ -157,7 +158,7 @@ impl<'t> Fault<'t> {
         }
     }
 
-    /// Whether what stands right before it is on its line.
+    /// Returns whether the token right before the fault is on the same line.
     pub fn is_on_line_of_previous(&self) -> bool {
         match self.previous() {
             Some(previous) => previous.line == self.found.line,
@@ -165,22 +166,24 @@ impl<'t> Fault<'t> {
         }
     }
 
-    /// How what was found is spelled.
+    /// Returns the spelling of the token at fault.
     pub fn spelling(&self) -> &'t [u8]
-        ensures { result.now ≡ spelled self.now.text.now self.now.found.offset (lexeme_of self.now.found.lexeme) }
+        ensures { result.now ≡ spelled self.now.text.now self.now.found.offset
+            (lexeme_of self.now.found.lexeme) }
     {
         spelling(self.text, self.found)
     }
 }
 
-/// Whether this is this sign.
+/// Returns whether a token is this sign.
 pub fn is_sign(located: Located<'_>, wanted: Sign) -> bool {
     matches!(located.lexeme, Lexeme::Token(Token::Sign(sign)) if sign == wanted)
 }
 
-/// How a token of a text is spelled.
+/// Returns the spelling of a token in a text.
 pub fn spelling<'t>(text: &'t [u8], located: Located<'t>) -> &'t [u8]
-    ensures { result.now ≡ spelled text.entry.now located.entry.offset (lexeme_of located.entry.lexeme) }
+    ensures { result.now ≡ spelled text.entry.now located.entry.offset
+        (lexeme_of located.entry.lexeme) }
 {
     match located.lexeme {
         Lexeme::Token(Token::Name(name)) => name,
@@ -220,7 +223,7 @@ fn is_digit(byte: u8) -> bool
     byte >= b'0' && byte <= b'9'
 }
 
-/// How a keyword is spelled.
+/// Returns the spelling of a keyword.
 pub fn keyword_text(keyword: Keyword) -> &'static [u8]
     ensures { result.now ≡ keyword_text keyword }
 {

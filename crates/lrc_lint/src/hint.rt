@@ -8,18 +8,18 @@ use lrc_lang::token::Sign;
 use lrc_text::push_number;
 use std::alloc::AllocError;
 
-/// What helps with a fault. Bytes are those of the text that spell a token.
+/// A hint on how to mend a fault. Its bytes are spellings of tokens in the text.
 #[derive(Clone, Copy)]
 pub enum Hint<'t> {
     TooLong,
     BadNumber,
     TooDeep,
     TooManyNames,
-    /// How many words there may be.
+    /// The number of words that a program may have.
     Words,
-    /// How many locks there may be.
+    /// The number of locks that a program may have.
     Locks,
-    /// How many operators an expression may have.
+    /// The number of operators that an expression may have.
     Operators,
     ByteOrderMark,
     /// There is no `&&` and no `||`.
@@ -31,37 +31,37 @@ pub enum Hint<'t> {
     Ascii,
     /// How a program begins.
     Header,
-    /// What stands behind a condition.
+    /// A block follows a condition.
     Block,
     /// How a comment begins.
     Comment,
     /// There is no `for`.
     For,
     Declaration,
-    /// How a lock is taken and given back.
+    /// How a lock is acquired and released.
     Lock,
     Arrays,
-    /// `x += 1`: this name, and this operator.
+    /// A statement such as `x += 1`, with its name and its operator.
     Compound(&'t [u8], &'t [u8]),
-    /// This name begins a statement as a keyword would.
+    /// This name is where a statement's keyword would be.
     NoKeyword(&'t [u8]),
-    /// What stands behind `else`.
+    /// A block follows `else`.
     BehindElse,
-    /// Where an `else` stands.
+    /// Where an `else` may stand.
     Else,
-    /// This keyword stands where a name would.
+    /// This keyword is where a name would be.
     Keyword(&'t [u8]),
-    /// Where no `;` stands.
+    /// Where a `;` may not stand.
     Semicolon,
-    /// A `}` too many.
+    /// There is one `}` too many.
     NoBrace,
-    /// This bracket, on this line, is open.
+    /// This bracket, opened on this line, is still open.
     Open(Sign, u32),
-    /// How a shared word is read.
+    /// How to read a shared word.
     SharedRead,
-    /// A `;` may be missing behind this token, on this line.
+    /// A `;` may be missing after this token, on this line.
     Missing(&'t [u8], u32),
-    /// How a shared word is written, and read.
+    /// How to write a shared word, and how to read one.
     SharedWrite,
     Comparisons,
     OneComparison,
@@ -93,7 +93,8 @@ fn push_words(out: &mut Vec<u8>, hint: Hint<'_>) -> Result<(), AllocError>
 }
 
 fn push_compound(out: &mut Vec<u8>, name: &[u8], operator: &[u8]) -> Result<(), AllocError>
-    ensures { OnOk result (out.new.items ≡ out.old.items ++ hint_words (Compound name.entry operator.entry)) }
+    ensures { OnOk result (out.new.items
+        ≡ out.old.items ++ hint_words (Compound name.entry operator.entry)) }
 {
     out.extend_from_slice(b"write `")?;
     out.extend_from_slice(name)?;
@@ -114,7 +115,8 @@ fn push_no_keyword(out: &mut Vec<u8>, name: &[u8]) -> Result<(), AllocError>
 }
 
 fn push_keyword(out: &mut Vec<u8>, keyword: &[u8]) -> Result<(), AllocError>
-    ensures { OnOk result (out.new.items ≡ out.old.items ++ hint_words (KeywordHint keyword.entry)) }
+    ensures { OnOk result (out.new.items
+        ≡ out.old.items ++ hint_words (KeywordHint keyword.entry)) }
 {
     out.extend_from_slice(keyword)?;
     out.extend_from_slice(b" is a keyword and no name")

@@ -6,7 +6,7 @@ use crate::hint::Hint;
 use crate::unexpected::unexpected_hint;
 use lrc_lang::fault::FaultKind;
 
-/// The first hint that applies to a fault.
+/// Returns the first hint that applies to a fault.
 pub fn hint_for<'t>(fault: &Fault<'t>) -> Option<Hint<'t>> {
     match fault.kind {
         FaultKind::TooLong => Some(Hint::TooLong),

@@ -1,5 +1,5 @@
-//! What `lint` answers: of a text that is no program its first fault, where it is, what may stand there, and a hint; of a program its
-//! warnings.
+//! The part of `lint` that answers for a text that is not a program. It reports the first fault: its place, the tokens
+//! that may stand there, and a hint on how to mend it.
 #![tactic(auto)]
 
 mod bad_byte;

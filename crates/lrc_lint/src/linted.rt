@@ -24,19 +24,21 @@ use lrc_lint_text::{
 };
 use std::alloc::{AllocError, Global};
 
-/// What is printed of a text, and the status with which the program ends after it.
+/// The answer of `lint`: the text to print, and the exit status.
 #[derive(Drop)]
 pub struct Linted {
-    /// The parts of what is printed.
+    /// The parts of the printed text.
     pub parts: Vec<Vec<u8>>,
     pub status: u8,
 }
 
-/// What is told of a text that is no program, if it is none. The file is named as it was given.
+/// Reports the first fault of a text, or returns none if the text is a program. The report names the file as it was
+/// given.
 pub fn lint_fault(alloc: Global, file: &[u8], text: &[u8]) -> Result<Option<Linted>, AllocError>
     ensures { IfOk result (λ told. MatchOption told
         ((line : ℕ) (kind : FaultKindSeen) → HasFirstFault text.now line kind → ⊥)
-        (λ linted. TellsNoProgram file.now text.now (whole_text linted.parts.items) × (linted.status ≡ 1))) }
+        (λ linted. TellsNoProgram file.now text.now (whole_text linted.parts.items)
+        × (linted.status ≡ 1))) }
 {
     if text.len() > MOST_BYTES {
         return Ok(Some(too_long(alloc, file)?));
@@ -59,7 +61,8 @@ fn no_program(alloc: Global, part: Vec<u8>) -> Result<Linted, AllocError>
 }
 
 fn too_long(alloc: Global, file: &[u8]) -> Result<Linted, AllocError>
-    ensures parts { IfOk result (λ linted. whole_text linted.parts.items ≡ too_long_lines file.now) }
+    ensures parts { IfOk result (λ linted. whole_text linted.parts.items
+        ≡ too_long_lines file.now) }
     ensures status { IfOk result (λ linted. linted.status ≡ 1) }
 {
     let mut out = Vec::new(alloc);
@@ -83,9 +86,11 @@ fn faulty(
     first: FirstFault,
 ) -> Result<Linted, AllocError>
     requires all { HasLocated text.now (map located_of all.now) }
-    requires first { IsFirstFaultOf (map located_of all.now) first.index first.kind first.may_stand.items }
+    requires first { IsFirstFaultOf (map located_of all.now) first.index first.kind
+        first.may_stand.items }
     requires within { first.index < length all.now }
-    ensures parts { IfOk result (λ linted. TellsFault file.now text.now (whole_text linted.parts.items)) }
+    ensures parts { IfOk result (λ linted. TellsFault file.now text.now
+        (whole_text linted.parts.items)) }
     ensures status { IfOk result (λ linted. linted.status ≡ 1) }
 {
     let mut out = Vec::new(alloc);
@@ -102,9 +107,11 @@ fn push_first(
     first: &FirstFault,
 ) -> Result<(), AllocError>
     requires all { HasLocated text.now (map located_of all.now) }
-    requires first { IsFirstFaultOf (map located_of all.now) first.now.index first.now.kind first.now.may_stand.items }
+    requires first { IsFirstFaultOf (map located_of all.now) first.now.index first.now.kind
+        first.now.may_stand.items }
     requires within { first.now.index < length all.now }
-    ensures { OnOk result ((lines : List ℕ) × (out.new.items ≡ out.old.items ++ lines) × TellsFault file.now text.now lines) }
+    ensures { OnOk result ((lines : List ℕ) × (out.new.items ≡ out.old.items ++ lines)
+        × TellsFault file.now text.now lines) }
 {
     let fault = fault_of(text, all, first);
     push_told(out, alloc, file, &fault)
@@ -134,7 +141,8 @@ fn push_told(
     fault: &Fault<'_>,
 ) -> Result<(), AllocError>
     ensures { OnOk result ((hint : Option HintSeen) × (out.new.items ≡ out.old.items
-        ++ fault_lines file.now fault.now.text.now (located_of fault.now.found) fault.now.kind fault.now.may_stand.now hint)) }
+        ++ fault_lines file.now fault.now.text.now
+        (located_of fault.now.found) fault.now.kind fault.now.may_stand.now hint)) }
 {
     let found = fault.found;
     push_place(out, file, u64::from(found.line), u64::from(found.column))?;
@@ -160,7 +168,8 @@ fn push_hint_if_any(out: &mut Vec<u8>, hint: Option<Hint<'_>>) -> Result<(), All
 }
 
 fn push_may_stand(out: &mut Vec<u8>, alloc: Global, fault: &Fault<'_>) -> Result<(), AllocError>
-    ensures { OnOk result (out.new.items ≡ out.old.items ++ expected_of fault.now.kind fault.now.may_stand.now) }
+    ensures { OnOk result (out.new.items
+        ≡ out.old.items ++ expected_of fault.now.kind fault.now.may_stand.now) }
 {
     match fault.kind {
         FaultKind::Unexpected => push_expected(out, alloc, fault.may_stand),
@@ -169,7 +178,8 @@ fn push_may_stand(out: &mut Vec<u8>, alloc: Global, fault: &Fault<'_>) -> Result
 }
 
 fn push_kind(out: &mut Vec<u8>, fault: &Fault<'_>) -> Result<(), AllocError>
-    ensures { OnOk result (out.new.items ≡ out.old.items ++ kind_of fault.now.kind fault.now.text.now (located_of fault.now.found)) }
+    ensures { OnOk result (out.new.items
+        ≡ out.old.items ++ kind_of fault.now.kind fault.now.text.now (located_of fault.now.found)) }
 {
     match fault.kind {
         FaultKind::Unexpected => push_unexpected_found(out, fault),
@@ -179,7 +189,8 @@ fn push_kind(out: &mut Vec<u8>, fault: &Fault<'_>) -> Result<(), AllocError>
 
 fn push_unexpected_found(out: &mut Vec<u8>, fault: &Fault<'_>) -> Result<(), AllocError>
     ensures { OnOk result (out.new.items ≡ out.old.items
-        ++ unexpected_of fault.now.text.now fault.now.found.offset (lexeme_of fault.now.found.lexeme)) }
+        ++ unexpected_of fault.now.text.now fault.now.found.offset
+        (lexeme_of fault.now.found.lexeme)) }
 {
     if fault.is_end() {
         push_unexpected_end(out)

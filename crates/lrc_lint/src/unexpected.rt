@@ -7,7 +7,7 @@ use lrc_lang::kind::Kind;
 use lrc_lang::positions::Located;
 use lrc_lang::token::{Keyword, Sign};
 
-/// The first hint that applies.
+/// Returns the first hint that applies to an unexpected token.
 pub fn unexpected_hint<'t>(fault: &Fault<'t>) -> Option<Hint<'t>> {
     first_of_text(fault)
         .or(first_behind_name(fault))

@@ -8,11 +8,11 @@ ghost use Rattle.lrc_lint_text.specs.Excerpt.{caret_text, excerpt_text, line_tex
 use lrc_labels::cut::{Divider, cut};
 use std::alloc::{AllocError, Global};
 
-/// How many bytes of a line are shown.
+/// The most bytes of a line that are shown.
 const MOST_SHOWN: usize = 200;
 
-/// Adds the line of this number, counted from 1, and below it a `^` under this column, in bytes from 1. Nothing is added where the
-/// line has no bytes, and no `^` under a column that is not shown.
+/// Adds the line with this number, counted from 1, and below it a `^` under this column, in bytes from 1. It adds
+/// nothing if the line has no bytes, and no `^` if the column is not shown.
 pub fn push_excerpt(
     out: &mut Vec<u8>,
     alloc: Global,
@@ -21,7 +21,8 @@ pub fn push_excerpt(
     column: usize,
 ) -> Result<(), AllocError>
     ensures { OnOk result (out.new.items ≡ out.old.items
-        ++ excerpt_text (without_return (get_or (cut (divides LineFeed) text.now) (number - 1) [])) column) }
+        ++ excerpt_text (without_return (get_or (cut (divides LineFeed) text.now) (number - 1) []))
+        column) }
 {
     let lines = cut(alloc, Divider::LineFeed, text)?;
     let line = line_at(&lines, number.saturating_sub(1));

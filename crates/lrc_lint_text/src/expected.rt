@@ -11,7 +11,7 @@ use lrc_lang::kind::{Kind, all_kinds};
 use lrc_lang::token::{Keyword, Sign};
 use std::alloc::{AllocError, Global};
 
-/// What begins a statement.
+/// The kinds of tokens that may begin a statement.
 const STATEMENT: &[Kind] = &[
     Kind::Name,
     Kind::Sign(Sign::OpenBracket),
@@ -23,7 +23,7 @@ const STATEMENT: &[Kind] = &[
     Kind::Keyword(Keyword::While),
 ];
 
-/// What begins an operand.
+/// The kinds of tokens that may begin an operand.
 const OPERAND: &[Kind] = &[
     Kind::Name,
     Kind::Number,
@@ -49,36 +49,36 @@ const COMPARISON: &[Kind] = &[
     Kind::Sign(Sign::GreaterOrEqual),
 ];
 
-/// What begins a statement.
+/// Returns the kinds of tokens that may begin a statement.
 pub fn statement_kinds() -> &'static [Kind]
     ensures { result.now ≡ statement_kinds }
 {
     STATEMENT
 }
 
-/// What begins an operand.
+/// Returns the kinds of tokens that may begin an operand.
 pub fn operand_kinds() -> &'static [Kind]
     ensures { result.now ≡ operand_kinds }
 {
     OPERAND
 }
 
-/// The signs of sums and products.
+/// Returns the signs of sums and products.
 pub fn operator_kinds() -> &'static [Kind]
     ensures { result.now ≡ operator_kinds }
 {
     OPERATOR
 }
 
-/// The signs that compare.
+/// Returns the signs of comparisons.
 pub fn comparison_kinds() -> &'static [Kind]
     ensures { result.now ≡ comparison_kinds }
 {
     COMPARISON
 }
 
-/// Adds the line that says that these kinds of tokens may stand in a place. Where all members of a group may stand, the line has the
-/// group's name in place of theirs: `a statement`, `an operand`, `an operator`, `a comparison`.
+/// Adds the line that lists the kinds of tokens that may stand at a place. If all members of a group are among them,
+/// the group's name replaces them: `a statement`, `an operand`, `an operator`, `a comparison`.
 pub fn push_expected(out: &mut Vec<u8>, alloc: Global, kinds: &[Kind]) -> Result<(), AllocError>
     ensures { OnOk result (out.new.items ≡ out.old.items ++ expected_text kinds.now) }
 {
@@ -89,7 +89,8 @@ pub fn push_expected(out: &mut Vec<u8>, alloc: Global, kinds: &[Kind]) -> Result
 }
 
 fn phrases_of<'t>(alloc: Global, kinds: &[Kind]) -> Result<Vec<&'t [u8]>, AllocError>
-    ensures { IfOk result (λ phrases. map (λ phrase. phrase.now) phrases.items ≡ phrases_of kinds.now) }
+    ensures { IfOk result (λ phrases. map (λ phrase. phrase.now) phrases.items
+        ≡ phrases_of kinds.now) }
 {
     let mut phrases = Vec::new(alloc);
     add_group(&mut phrases, kinds, b"a statement", statement_kinds())?;
@@ -107,7 +108,8 @@ fn add_group<'t>(
     members: &[Kind],
 ) -> Result<(), AllocError>
     ensures { OnOk result (map (λ phrase. phrase.now) phrases.new.items
-        ≡ map (λ phrase. phrase.now) phrases.old.items ++ group_phrase kinds.now name.entry.now members.now) }
+        ≡ map (λ phrase. phrase.now) phrases.old.items
+        ++ group_phrase kinds.now name.entry.now members.now) }
 {
     if has_all(kinds, members) {
         phrases.push(name)?;
@@ -121,7 +123,8 @@ fn add_singles<'t>(
     all: &[Kind],
 ) -> Result<(), AllocError>
     ensures { OnOk result (map (λ phrase. phrase.now) phrases.new.items
-        ≡ map (λ phrase. phrase.now) phrases.old.items ++ flat_map (single_phrase kinds.now) all.now) }
+        ≡ map (λ phrase. phrase.now) phrases.old.items
+        ++ flat_map (single_phrase kinds.now) all.now) }
 {
     for kind in all {
         add_single(phrases, kinds, *kind)?;
@@ -156,7 +159,8 @@ fn says(kinds: &[Kind], members: &[Kind], kind: Kind) -> bool
 }
 
 fn push_joined(out: &mut Vec<u8>, phrases: &[&[u8]]) -> Result<(), AllocError>
-    ensures { OnOk result (out.new.items ≡ out.old.items ++ joined (map (λ phrase. phrase.now) phrases.now)) }
+    ensures { OnOk result (out.new.items
+        ≡ out.old.items ++ joined (map (λ phrase. phrase.now) phrases.now)) }
 {
     match phrases {
         [] => Ok(()),
@@ -168,7 +172,9 @@ fn push_joined(out: &mut Vec<u8>, phrases: &[&[u8]]) -> Result<(), AllocError>
 }
 
 fn push_others(out: &mut Vec<u8>, phrases: &[&[u8]]) -> Result<(), AllocError>
-    ensures { OnOk result (out.new.items ≡ out.old.items ++ flat_map (λ phrase. codes ", " ++ phrase) (map (λ phrase. phrase.now) phrases.now)) }
+    ensures { OnOk result (out.new.items
+        ≡ out.old.items ++ flat_map (λ phrase. codes ", " ++ phrase)
+        (map (λ phrase. phrase.now) phrases.now)) }
 {
     for phrase in phrases {
         push_other(out, phrase)?;

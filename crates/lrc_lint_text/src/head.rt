@@ -17,7 +17,7 @@ pub fn push_place(out: &mut Vec<u8>, file: &[u8], line: u64, column: u64) -> Res
     out.extend_from_slice(b": ")
 }
 
-/// Adds the line that tells a token which may not stand where it stands, as it is spelled.
+/// Adds the line about an unexpected token, with the token as it is spelled.
 pub fn push_unexpected(out: &mut Vec<u8>, token: &[u8]) -> Result<(), AllocError>
     ensures { OnOk result (out.new.items ≡ out.old.items ++ unexpected_text token.now) }
 {
@@ -26,14 +26,14 @@ pub fn push_unexpected(out: &mut Vec<u8>, token: &[u8]) -> Result<(), AllocError
     out.extend_from_slice(b"`\n")
 }
 
-/// Adds the line that tells the end of the text, where it may not stand.
+/// Adds the line about an unexpected end of the text.
 pub fn push_unexpected_end(out: &mut Vec<u8>) -> Result<(), AllocError>
     ensures { OnOk result (out.new.items ≡ out.old.items ++ unexpected_end_text) }
 {
     out.extend_from_slice(b"error: unexpected end of the text\n")
 }
 
-/// Adds the line that tells any other fault.
+/// Adds the line about any other fault.
 pub fn push_fault(out: &mut Vec<u8>, kind: FaultKind) -> Result<(), AllocError>
     ensures { OnOk result (out.new.items ≡ out.old.items ++ fault_text kind) }
 {
@@ -58,7 +58,7 @@ fn words_of(kind: FaultKind) -> &'static [u8]
     }
 }
 
-/// Adds the line that says how many warnings there are.
+/// Adds the line with the number of warnings.
 pub fn push_count(out: &mut Vec<u8>, count: u64) -> Result<(), AllocError>
     ensures { OnOk result (out.new.items ≡ out.old.items ++ count_text count) }
 {

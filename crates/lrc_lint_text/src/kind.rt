@@ -6,7 +6,7 @@ ghost use Rattle.lrc_lint_text.specs.Kind.{has, has_all, keyword_phrase, phrase,
 use lrc_lang::kind::Kind;
 use lrc_lang::token::{Keyword, Sign};
 
-/// How a kind is called where it may stand: a keyword and a sign by its spelling in back quotes.
+/// Returns the name of a kind in a list of expected tokens. A keyword or sign is its spelling in backquotes.
 pub fn phrase(kind: Kind) -> &'static [u8]
     ensures { result.now ≡ phrase kind }
 {
@@ -63,14 +63,14 @@ fn sign_phrase(sign: Sign) -> &'static [u8]
     }
 }
 
-/// Whether a kind is among these.
+/// Returns whether a kind is among these.
 pub fn has(kinds: &[Kind], kind: Kind) -> bool
     ensures { result ≡ has kinds.now kind }
 {
     kinds.iter().any(|other| phrase(*other) == phrase(kind))
 }
 
-/// Whether these members are all among the kinds.
+/// Returns whether these members are all among the kinds.
 pub fn has_all(kinds: &[Kind], members: &[Kind]) -> bool
     ensures { result ≡ has_all kinds.now members.now }
 {

@@ -1,4 +1,5 @@
-//! The words of `lint`: where something was found, a line of the text with a caret below it, and what may stand in a place.
+//! The words of `lint`: the place of a finding, the line of the text with a caret below it, and the tokens that were
+//! expected there.
 #![tactic(auto)]
 
 mod excerpt;

@@ -1,4 +1,5 @@
-//! What `lint` answers of any text: of one that is no program its first fault, of a program its warnings.
+//! The answer of `lint` to any text. For a text that is not a program it is the first fault, and for a program its
+//! warnings.
 #![tactic(auto)]
 
 pub mod laws;

@@ -17,8 +17,8 @@ use lrc_lint::{Linted, lint_fault};
 use lrc_warnings::warnings;
 use std::alloc::{AllocError, Global};
 
-/// What `lint` answers of a text: of one that is no program its first fault, with status 1, and of a program its warnings, with
-/// status 0. The file is named as it was given.
+/// Returns what `lint` answers to a text: the first fault with status 1 if it is not a program, else its warnings with
+/// status 0. The answer names the file as it was given.
 pub fn lint(alloc: Global, file: &[u8], text: &[u8]) -> Result<Linted, AllocError>
     ensures { IfOk result (λ linted.
         (TellsNoProgram file.now text.now (whole_text linted.parts.items) × (linted.status ≡ 1))
@@ -40,7 +40,8 @@ fn lint_program(
     program: &Program,
 ) -> Result<Linted, AllocError>
     requires { IsText text.now (program_of program.now) }
-    ensures lines { IfOk result (λ linted. LintsProgram file.now text.now (whole_text linted.parts.items)) }
+    ensures lines { IfOk result (λ linted. LintsProgram file.now text.now
+        (whole_text linted.parts.items)) }
     ensures status { IfOk result (λ linted. linted.status ≡ 0) }
 {
     let mut out = Vec::new(alloc);

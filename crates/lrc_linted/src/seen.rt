@@ -13,9 +13,10 @@ use lrc_lang::token::{Lexeme, Token};
 use lrc_warnings::warning::Spot;
 use std::alloc::{AllocError, Global};
 
-/// The tokens of a program.
+/// Returns the tokens of a program.
 pub fn tokens_of<'t>(alloc: Global, all: &[Located<'t>]) -> Result<Vec<Token<'t>>, AllocError>
-    ensures { IfOk result (λ tokens. map token_of tokens.items ≡ tokens_of (map located_of all.now)) }
+    ensures { IfOk result (λ tokens. map token_of tokens.items
+        ≡ tokens_of (map located_of all.now)) }
 {
     let mut tokens = Vec::new(alloc);
     for found in all {
@@ -34,7 +35,7 @@ fn token_in<'t>(lexeme: Lexeme<'t>) -> Token<'t>
     }
 }
 
-/// The lines and the columns of the tokens.
+/// Returns the lines and columns of the tokens.
 pub fn spots_of(alloc: Global, all: &[Located<'_>]) -> Result<Vec<Spot>, AllocError>
     ensures { IfOk result (λ spots. spots.items ≡ spots_of (map located_of all.now)) }
 {
@@ -48,9 +49,10 @@ pub fn spots_of(alloc: Global, all: &[Located<'_>]) -> Result<Vec<Spot>, AllocEr
     Ok(spots)
 }
 
-/// The different private names, in the order in which they first come.
+/// Returns the distinct private names, in the order of their first use.
 pub fn names_of<'t>(alloc: Global, tokens: &[Token<'t>]) -> Result<Vec<&'t [u8]>, AllocError>
-    ensures { IfOk result (λ names. map (λ name. name.now) names.items ≡ names_of (map token_of tokens.now)) }
+    ensures { IfOk result (λ names. map (λ name. name.now) names.items
+        ≡ names_of (map token_of tokens.now)) }
 {
     let mut names = Vec::new(alloc);
     for token in tokens {

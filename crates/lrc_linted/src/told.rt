@@ -11,7 +11,7 @@ use lrc_warnings::push_words;
 use lrc_warnings::warning::Warning;
 use std::alloc::AllocError;
 
-/// Adds a line for each of these warnings, and the line that says how many they are.
+/// Adds a line for each of these warnings, then the line with their number.
 pub fn push_warned(
     out: &mut Vec<u8>,
     file: &[u8],
@@ -20,7 +20,8 @@ pub fn push_warned(
     labels: &[Label<'_>],
 ) -> Result<(), AllocError>
     ensures { OnOk result (out.new.items ≡ out.old.items
-        ++ warned_lines file.now (map (λ name. name.now) names.now) (map label_seen labels.now) warnings.now) }
+        ++ warned_lines file.now (map (λ name. name.now) names.now)
+        (map label_seen labels.now) warnings.now) }
 {
     push_warnings(out, file, warnings, names, labels)?;
     push_count(out, warnings.len() as u64)
@@ -34,7 +35,8 @@ fn push_warnings(
     labels: &[Label<'_>],
 ) -> Result<(), AllocError>
     ensures { OnOk result (out.new.items ≡ out.old.items
-        ++ flat_map (warning_line file.now (map (λ name. name.now) names.now) (map label_seen labels.now)) warnings.now) }
+        ++ flat_map (warning_line file.now (map (λ name. name.now) names.now)
+        (map label_seen labels.now)) warnings.now) }
 {
     for warning in warnings {
         push_warning(out, file, *warning, names, labels)?;
@@ -50,7 +52,8 @@ fn push_warning(
     labels: &[Label<'_>],
 ) -> Result<(), AllocError>
     ensures { OnOk result (out.new.items ≡ out.old.items
-        ++ warning_line file.now (map (λ name. name.now) names.now) (map label_seen labels.now) warning) }
+        ++ warning_line file.now (map (λ name. name.now) names.now)
+        (map label_seen labels.now) warning) }
 {
     push_place(out, file, warning.line as u64, warning.column as u64)?;
     out.extend_from_slice(b"warning: ")?;

@@ -10,7 +10,7 @@ ghost use Rattle.lrc_live.specs.Live.{AreLive, forgot, without_dead};
 use lrc_exec::spot::{Flat, Spot};
 use lrc_exec::state::State;
 
-/// Sets each private value to 0 that nothing depends on any more. So states that go on alike are one.
+/// Sets each private value to 0 on which nothing depends any more. So states that go on alike become equal.
 pub fn forget_dead(flat: &Flat, table: &[[bool; 32]], state: &mut State)
     requires flat { IsFlat flat.now }
     requires live { AreLive flat.now.code.now table.now }

@@ -7,9 +7,11 @@ ghost use Rattle.lrc_exec.specs.Plain.{Plain};
 ghost use Rattle.lrc_settled.specs.Steps.{IsSettledState};
 ghost use Rattle.lrc_live.specs.Like.{AreLike, GoesOnLike};
 
-/// Neither how often nodes have arrived matters, nor the value of a name that nothing uses any more: two settled states that differ in
-/// nothing else go on alike.
+/// Two settled states go on alike if they differ only in how often nodes have arrived and in the values of names that
+/// nothing uses any more.
 pub fn settled_states_go_on_alike_whatever_is_dead()
-    ensures { (program : Program) (nodes : ℕ) (acts others : List Act) (machine other : Plain) → IsSettledState program nodes acts machine
-        → IsSettledState program nodes others other → AreLike machine other → GoesOnLike machine other }
+    ensures { (program : Program) (nodes : ℕ) (acts others : List Act) (machine other : Plain)
+        → IsSettledState program nodes acts machine
+        → IsSettledState program nodes others other → AreLike machine other
+        → GoesOnLike machine other }
 {}

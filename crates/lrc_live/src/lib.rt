@@ -1,4 +1,5 @@
-//! The private names of a program whose values what is still to do may use: at each place of its code, and what a state needs of them.
+//! Liveness of private names: at each place of a program's code, the names whose values the rest of the code may still
+//! use. A search need not tell states apart by any other name.
 #![tactic(auto)]
 
 mod forget;

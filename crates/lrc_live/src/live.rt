@@ -9,8 +9,8 @@ use lrc_exec::code::Instruction;
 use lrc_lang::program::{Expression, Statement};
 use std::alloc::{AllocError, Global};
 
-/// Of each place of the code the names that matter there: their values are used by what is still to do, before it sets them. The
-/// places are counted from 0, the end of the text.
+/// Returns, for each place of the code, the names that matter there: the rest of the code may use their values before
+/// it sets them. Places count from 0, the end of the text. It fails if memory runs out.
 pub fn live_names(alloc: Global, code: &[Instruction<'_>]) -> Result<Vec<[bool; 32]>, AllocError>
     requires { IsSoundFrom 0 code.now }
     ensures { IfOk result (λ table. AreLive code.now table.items) }
@@ -69,7 +69,8 @@ fn add_before_all(statements: &[Statement], names: &mut [bool; 32])
 
 // In front of a statement that sets a name to what an expression gives.
 fn set_before(name: u8, expression: &Expression, names: &mut [bool; 32])
-    ensures { AreNames names.new (λ n. uses expression.now n || (has names.old n && not (nat_eq name n))) }
+    ensures { AreNames names.new (λ n.
+        uses expression.now n || (has names.old n && not (nat_eq name n))) }
 {
     if name < 32 {
         names[name as usize] = false;

@@ -2,16 +2,16 @@
 
 use thiserror::Error;
 
-/// Why a message about a lock was not taken.
+/// Why a lock message was refused.
 #[derive(Clone, Copy, Debug, PartialEq, Eq, Error)]
 pub enum LockFault {
-    /// The lock is managed by another node; or its token is neither here nor on its way; or a node would follow itself.
+    /// Another node manages the lock; or the token is neither here nor awaited; or a node would be its own successor.
     #[error("the lock is not this node's concern")]
     NotMine,
-    /// The token came where nobody had asked for it.
+    /// The token arrived, but this node had not asked for it.
     #[error("the token was not asked for")]
     NotAsked,
-    /// Another node waits already to have the token next.
+    /// Another node already waits to have the token next.
     #[error("another node has the token next")]
     SecondSuccessor,
 }

@@ -12,7 +12,7 @@ use arrayvec::ArrayVec;
 use lrc_time::Time;
 use std::marker::Model;
 
-/// What a node knows of each lock: where its token is, who is to have it next, and the time of the last release here.
+/// What a node knows of each lock: where the token is, which node has it next, and the time of the last release here.
 #[derive(Drop)]
 pub struct Held {
     me: u8,
@@ -31,7 +31,8 @@ impl Model for Held {
 }
 
 impl Held {
-    /// What node `me` of 1 to 16 knows of at most 64 locks at the start: of those that it manages it has the token.
+    /// Returns what node `me` of 1 to 16 nodes knows of at most 64 locks at the start. It has the tokens of exactly the
+    /// locks that it manages.
     pub fn new(me: u8, nodes: u8, locks: u8) -> Self
         requires here { me < nodes }
         requires few { nodes ≤ 16 }
@@ -49,7 +50,7 @@ impl Held {
         }
     }
 
-    /// What the node knows of a lock.
+    /// Returns what the node knows of a lock.
     pub fn state(&self, lock: u8) -> &LockState
         requires { lock < length self.now.locks }
         ensures { result.now ≡ lock_at self.now lock }
@@ -57,7 +58,7 @@ impl Held {
         &self.locks[usize::from(lock)]
     }
 
-    /// Takes the lock if its token is here and the lock is free, and answers whether it did.
+    /// Takes the lock if its token is here and the lock is free. Returns whether it did.
     pub fn try_local(&mut self, lock: u8) -> bool
         requires { lock < length self.old.locks }
         ensures answer { result ≡ is_free (lock_at self.old lock) }
@@ -72,7 +73,7 @@ impl Held {
         free
     }
 
-    /// Notes that the token was asked for. It is neither here nor awaited.
+    /// Notes that the node has asked for the token. The token is neither here nor already awaited.
     pub fn ask(&mut self, lock: u8)
         requires lock { lock < length self.old.locks }
         requires away { lock_at self.old lock ≡ Away }
@@ -82,18 +83,21 @@ impl Held {
         self.locks[usize::from(lock)] = LockState::Awaited(None);
     }
 
-    /// Whether a request of this node would be taken now, if it reached this one.
+    /// Returns whether the asker's request would be accepted if it arrived now.
     pub fn accepts(&self, lock: u8, asker: u8) -> bool
         requires { lock < length self.now.locks }
-        ensures { (time : List ℕ) → result ≡ is_ok (answer_of (forwarded self.now lock asker time)) }
+        ensures { (time : List ℕ) → result
+            ≡ is_ok (answer_of (forwarded self.now lock asker time)) }
     {
         asker != self.me && self.locks[usize::from(lock)].accepts()
     }
 
-    /// A request of another node, with its time, reaches this one. If the token is here and the lock is free it leaves
-    /// at once, with the time of the last release here. If the node holds the lock or awaits the token it keeps the
-    /// asker as successor, and there is no pass. Refused, in this order, with nothing changed: `NotMine` if the asker is
-    /// this node, or the token neither here nor awaited; `SecondSuccessor` if there is a successor.
+    /// Takes another node's request, with its time. If the token is here and the lock is free, the token leaves at
+    /// once: the pass has the time of the last release here. If the node holds the lock or awaits the token, the asker
+    /// becomes its successor, and there is no pass.
+    ///
+    /// A refusal changes nothing. The reasons, in this order: `NotMine` if the asker is this node, or if the token is
+    /// neither here nor awaited; `SecondSuccessor` if there is a successor already.
     pub fn forward(&mut self, lock: u8, asker: u8, time: Time) -> Result<Option<Pass>, LockFault>
         requires lock { lock < length self.old.locks }
         requires asker { asker < self.old.nodes }
@@ -110,8 +114,8 @@ impl Held {
         state.forward(lock, Waiter { node: asker, time })
     }
 
-    /// The token comes, and the node holds the lock; a successor stays. Refused with `NotAsked`, with nothing changed,
-    /// if the token isn't awaited.
+    /// Takes the token, and the node then holds the lock; a successor stays. If the token is not awaited, it is refused
+    /// with `NotAsked`, and nothing changes.
     pub fn granted(&mut self, lock: u8) -> Result<(), LockFault>
         requires { lock < length self.old.locks }
         ensures answer { result ≡ grant_answer (granted self.old lock) }
@@ -121,8 +125,8 @@ impl Held {
         self.locks[usize::from(lock)].granted()
     }
 
-    /// The node, which holds the lock, releases it at this time. The token leaves for the successor with this time; if
-    /// there is none it stays here with it.
+    /// Releases a lock, which the node holds, at the given time. With a successor, the token leaves for it with this
+    /// time. Without one, the token stays here with this time, and there is no pass.
     pub fn release(&mut self, lock: u8, now: Time) -> Option<Pass>
         requires lock { lock < length self.old.locks }
         requires held { IsTrue (is_held (lock_at self.old lock)) }

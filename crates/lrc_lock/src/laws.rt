@@ -12,31 +12,32 @@ ghost use Rattle.lrc_lock.specs.Held.{has_token, taken, asked, forwarded, grante
 
 use crate::MOST_LOCKS;
 
-/// The limit as a number: 64 locks.
+/// There are at most 64 locks.
 pub fn the_limits()
     ensures { MOST_LOCKS ≡ 64 }
 {}
 
-/// At the start the token of each lock is at one node, the lock's manager.
+/// At the start, the token of each lock is at exactly one node, the lock's manager.
 pub fn one_node_has_the_token_at_first()
     ensures { (me nodes locks lock : ℕ) → lock < locks
-        → IsTrue (has_token (lock_at (first_held me nodes locks) lock)) ↔ (manager_of nodes lock ≡ me) }
+        → IsTrue (has_token (lock_at (first_held me nodes locks) lock))
+        ↔ (manager_of nodes lock ≡ me) }
 {}
 
-/// A call on a lock leaves the other locks as they were.
+/// A call on one lock changes no other lock.
 pub fn a_step_leaves_the_other_locks()
     ensures { (held : HeldRecord) (lock other : ℕ) (step : LockStep) → other ≢ lock
         → lock_at (held_after held lock step) other ≡ lock_at held other }
 {}
 
-/// After a pass the token is gone.
+/// After a pass, the token is no longer here.
 pub fn a_pass_takes_the_token_away()
     ensures { (held : HeldRecord) (lock : ℕ) (pass : Pass) → lock < length held.locks
         → lock_at (held_after held lock (passes pass)) lock ≡ Away }
 {}
 
-/// A request of another node makes the token leave exactly where it is here and the lock is free. The grant has the time
-/// of the request, and the one kept with the token.
+/// Another node's request makes the token leave exactly if the token is here and the lock is free. The pass has the
+/// time of the request and the time kept with the token.
 pub fn a_request_gets_a_free_token()
     ensures only { (held : HeldRecord) (lock asker : ℕ) (time : List ℕ) (pass : Pass)
         → forwarded held lock asker time ≡ passes pass
@@ -48,8 +49,8 @@ pub fn a_request_gets_a_free_token()
         ≡ passes (pass_to lock (record { node = asker; time = time }) kept) }
 {}
 
-/// A release makes the token leave exactly where there is a successor, and with the time of this release. Else the token
-/// stays with that time.
+/// A release makes the token leave exactly if there is a successor. The token goes with the time of this release, or
+/// stays with it.
 pub fn a_release_serves_the_successor()
     ensures passes { (held : HeldRecord) (lock : ℕ) (now : List ℕ) (waiter : Waiter)
         → lock_at held lock ≡ Held (Some waiter)
@@ -58,10 +59,11 @@ pub fn a_release_serves_the_successor()
         → lock_at held lock ≡ Held None → released held lock now ≡ stays (Free now) }
     ensures only { (held : HeldRecord) (lock : ℕ) (now : List ℕ) (pass : Pass)
         → released held lock now ≡ passes pass
-        → (waiter : Waiter) × (lock_at held lock ≡ Held (Some waiter)) × (pass ≡ pass_to lock waiter now) }
+        → (waiter : Waiter) × (lock_at held lock ≡ Held (Some waiter))
+        × (pass ≡ pass_to lock waiter now) }
 {}
 
-/// A token comes by a grant alone, to a node that awaits it, and it goes by a pass alone.
+/// A token arrives only by a grant, at a node that awaits it, and leaves only by a pass.
 pub fn a_token_comes_by_a_grant_and_goes_by_a_pass()
     ensures granted { (held : HeldRecord) (lock : ℕ) (next : LockState)
         → granted held lock ≡ stays next
@@ -78,10 +80,11 @@ pub fn a_token_comes_by_a_grant_and_goes_by_a_pass()
         → IsFalse (has_token (lock_at (asked held lock) lock)) }
     ensures awaited { (held : HeldRecord) (lock : ℕ) (next : LockState)
         → granted held lock ≡ stays next
-        → (successor : Option Waiter) × (lock_at held lock ≡ Awaited successor) × (next ≡ Held successor) }
+        → (successor : Option Waiter) × (lock_at held lock ≡ Awaited successor)
+        × (next ≡ Held successor) }
 {}
 
-/// A request goes on to whoever asked last before.
+/// A request is forwarded to the last node that asked before.
 pub fn a_request_goes_to_the_last_asker()
     ensures { (managed next later : ManagedRecord) (lock first second to onward : ℕ)
         → lock < length managed.recent

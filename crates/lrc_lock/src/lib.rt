@@ -1,7 +1,7 @@
-//! Locks, each with one token that goes from node to node (Keleher, Cox, Dwarkadas and Zwaenepoel 1994). A lock has a
-//! manager, who knows who asked last for it. A node that has the token of a free lock takes the lock by itself. Any
-//! other asks the manager, who sends the request on to whoever asked last before; that node passes the token on, at
-//! once if the lock is free there, else at its release. No call here takes memory.
+//! Locks, each with one token that moves from node to node (Keleher, Cox, Dwarkadas and Zwaenepoel 1994). A node that
+//! has the token of a free lock takes the lock without a message. Any other node asks the lock's manager, which knows
+//! the last node that asked and forwards the request to it. That node passes the token on, at once if the lock is free
+//! there, and otherwise at its release. No call here allocates memory.
 #![tactic(auto)]
 
 mod fault;

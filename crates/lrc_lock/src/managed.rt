@@ -9,8 +9,8 @@ use crate::state::MOST_LOCKS;
 use arrayvec::ArrayVec;
 use std::marker::Model;
 
-/// The most recent asker of each lock that a node manages. Lock `l` is managed by node `l % nodes`, which has its token
-/// at the start and counts as the first asker.
+/// The last asker of each lock that a node manages. Node `l % nodes` manages lock `l`. It has the lock's token at the
+/// start, and counts as its first asker.
 #[derive(Drop)]
 pub struct Managed {
     me: u8,
@@ -29,7 +29,7 @@ impl Model for Managed {
 }
 
 impl Managed {
-    /// What node `me` of 1 to 16 manages of at most 64 locks, before any request.
+    /// Returns what node `me` of 1 to 16 nodes manages of at most 64 locks, before any request.
     pub fn new(me: u8, nodes: u8, locks: u8) -> Self
         requires here { me < nodes }
         requires few { nodes ≤ 16 }
@@ -43,10 +43,11 @@ impl Managed {
         Managed { me, nodes, recent }
     }
 
-    /// Who asked last for a lock, and none where another node manages it.
+    /// Returns the last node to ask for the lock, or none if another node manages it.
     pub fn last_asker(&self, lock: u8) -> Option<u8>
         requires { lock < length self.now.recent }
-        ensures { result ≡ (if manager_of self.now.nodes lock == self.now.me then Some (slice_index self.now.recent lock) else None) }
+        ensures { result ≡ (if manager_of self.now.nodes lock == self.now.me then Some
+            (slice_index self.now.recent lock) else None) }
     {
         if lock % self.nodes != self.me {
             return None;
@@ -54,8 +55,8 @@ impl Managed {
         Some(self.recent[usize::from(lock)])
     }
 
-    /// The node to which a request for a lock goes on: whoever asked last before. From now on that is `asker`. A lock
-    /// that another node manages is refused with `NotMine`, and nothing changes.
+    /// Returns the node to which a request is forwarded, the last one that asked before, and notes `asker` as the last.
+    /// If another node manages the lock, the request is refused with `NotMine`, and nothing changes.
     pub fn request(&mut self, lock: u8, asker: u8) -> Result<u8, LockFault>
         requires lock { lock < length self.old.recent }
         requires asker { asker < self.old.nodes }

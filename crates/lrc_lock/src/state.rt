@@ -9,37 +9,37 @@ use lrc_time::Time;
 /// The largest number of locks.
 pub const MOST_LOCKS: usize = 64;
 
-/// A node that waits for a token, and the time that came with its request.
+/// A node that waits for a token, with the time of its request.
 #[derive(Drop)]
 pub struct Waiter {
     pub node: u8,
     pub time: Time,
 }
 
-/// A token to be sent to another node with a grant.
+/// A token that leaves for another node, with a grant.
 #[derive(Drop)]
 pub struct Pass {
     /// The lock, counted from 0.
     pub lock: u8,
-    /// The node that is to have the token.
+    /// The node that gets the token.
     pub to: u8,
-    /// The time that came with that node's request.
+    /// The time of that node's request.
     pub since: Time,
-    /// The time of the last release of this lock here, zeros before any.
+    /// The time of the last release of this lock here, all zeros before the first.
     pub upto: Time,
 }
 
-/// What a node knows of one lock. Its successor is the node to have the token next.
+/// What a node knows of one lock. Its successor is the node that gets the token next.
 #[derive(Default, Drop)]
 pub enum LockState {
     /// The token is at another node, or on its way to one.
     #[default]
     Away,
-    /// The node has asked for the token. Perhaps its successor has come already.
+    /// The node has asked for the token. Its successor may have asked already.
     Awaited(Option<Waiter>),
-    /// The token is here and nobody holds the lock. The time is that of the last release here, zeros before any.
+    /// The token is here and the lock is free. The time is that of the last release here, all zeros before the first.
     Free(Time),
-    /// The node holds the lock.
+    /// The node holds the lock. Its successor may have asked already.
     Held(Option<Waiter>),
 }
 
@@ -58,7 +58,7 @@ impl Waiter {
 }
 
 impl LockState {
-    /// What node `me` knows of a lock at the start.
+    /// Returns what node `me` knows of a lock at the start.
     pub(crate) fn first(me: u8, nodes: u8, lock: u8) -> Self
         requires some { 1 ≤ nodes }
         requires few { nodes ≤ 16 }
@@ -71,16 +71,17 @@ impl LockState {
         }
     }
 
-    /// Whether the token is here and nobody holds the lock.
+    /// Returns whether the token is here and the lock is free.
     pub(crate) fn is_free(&self) -> bool
         ensures { result ≡ is_free self.now }
     {
         matches!(self, LockState::Free(_))
     }
 
-    /// Whether another node's request is taken now.
+    /// Returns whether another node's request would be accepted now.
     pub(crate) fn accepts(&self) -> bool
-        ensures { (lock : ℕ) (waiter : Waiter) → result ≡ is_ok (answer_of (forwarded_at lock waiter self.now)) }
+        ensures { (lock : ℕ) (waiter : Waiter)
+            → result ≡ is_ok (answer_of (forwarded_at lock waiter self.now)) }
     {
         matches!(
             self,
@@ -88,7 +89,9 @@ impl LockState {
         )
     }
 
-    /// Another node's request comes.
+    /// Takes another node's request. The result is a pass if the lock is free here, and none if the waiter becomes the
+    /// successor. A refusal changes nothing: `NotMine` if the token is neither here nor awaited, `SecondSuccessor` if
+    /// there is a successor already.
     pub(crate) fn forward(&mut self, lock: u8, waiter: Waiter) -> Result<Option<Pass>, LockFault>
         ensures answer { result ≡ answer_of (forwarded_at lock waiter self.old) }
         ensures state { self.new ≡ state_after self.old (forwarded_at lock waiter self.old) }
@@ -114,7 +117,8 @@ impl LockState {
         }
     }
 
-    /// The token comes.
+    /// Takes the token, and the node then holds the lock; a successor stays. If the token is not awaited, it is refused
+    /// with `NotAsked`, and nothing changes.
     pub(crate) fn granted(&mut self) -> Result<(), LockFault>
         ensures answer { result ≡ grant_answer (granted_at self.old) }
         ensures state { self.new ≡ state_after self.old (granted_at self.old) }
@@ -129,7 +133,8 @@ impl LockState {
         }
     }
 
-    /// The holder releases the lock.
+    /// Releases the lock at the given time. With a successor, the token leaves for it; without one, it stays here and
+    /// there is no pass. If the node does not hold the lock, nothing changes.
     pub(crate) fn release(&mut self, lock: u8, now: Time) -> Option<Pass>
         ensures answer { result ≡ pass_of (released_at lock now self.old) }
         ensures state { self.new ≡ state_after self.old (released_at lock now self.old) }

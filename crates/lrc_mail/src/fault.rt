@@ -6,7 +6,7 @@ ghost use Rattle.lrc_mail.specs.declared.fault.MailFault.TheVariants.{NoMemory};
 use std::alloc::{AllocError, AllocFailed};
 use thiserror::Error;
 
-/// Why letters did not get numbers.
+/// Why letters were not numbered.
 #[derive(Clone, Copy, Debug, PartialEq, Eq, Error)]
 pub enum MailFault {
     /// A number would pass 4,294,967,295.

@@ -3,7 +3,7 @@
 use lrc_envelope::Message;
 use std::marker::Model;
 
-/// A message for a node, before it has a number.
+/// A message to a node, before it has a number.
 #[derive(Drop)]
 pub struct Letter {
     /// The receiver, counted from 0.

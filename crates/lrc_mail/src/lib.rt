@@ -1,7 +1,7 @@
-//! A node's mail: letters, the requests for what pages need, and the numbers of the messages that it has sent and taken.
-//! Messages may be repeated and come in any order: each has a number, and the numbers taken from a node are kept as spans,
-//! so that those taken in order cost constant memory. What is needed of pages and what the node waits for is `lrc_need`'s; a
-//! need becomes requests here (Amza et al. 1996), since they are letters.
+//! The mail of one node: letters (messages without numbers yet), the requests for what pages need, and the numbers of
+//! the messages sent and taken. Messages may be repeated and may arrive in any order, so each has a number. The numbers
+//! taken from a node are kept as spans: those taken in order cost constant memory. `lrc_need` says what pages need and
+//! what the node waits for. A need becomes requests here, because requests are letters (Amza et al. 1996).
 #![tactic(auto)]
 
 mod fault;

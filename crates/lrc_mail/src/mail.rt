@@ -16,8 +16,8 @@ use std::alloc::{AllocError, Global};
 use std::marker::Model;
 use std::mem;
 
-/// A node's mail: what it waits for, how many messages it has sent to each node, and the numbers of those that it has
-/// taken from each.
+/// A node's mail: what the node waits for, how many messages it has sent to each node, and the numbers of the messages
+/// that it has taken from each.
 #[derive(Drop)]
 pub struct Mail {
     wait: Wait,
@@ -45,7 +45,7 @@ impl Model for Mail {
 impl Mail {
     ghost use Rattle.lrc_need.specs.Wait.{seen_wait};
 
-    /// The mail of a node among so many, 1 to 16, at the start: nothing is awaited, sent or taken.
+    /// Creates the mail of a node in a run of 1 to 16 nodes, at the start. Nothing is awaited, sent or taken.
     pub fn new(alloc: Global, nodes: u8) -> Result<Self, AllocError>
         requires { nodes ≤ MOST_NODES }
         ensures { IfOk result (λ mail. mail ≡ fresh_mail nodes) }
@@ -59,14 +59,14 @@ impl Mail {
         })
     }
 
-    /// What is awaited.
+    /// Returns what the node waits for.
     pub fn wait(&self) -> &Wait
         ensures { seen_wait result.now ≡ self.now.wait }
     {
         &self.wait
     }
 
-    /// How many messages were sent to a node.
+    /// Returns how many messages were sent to a node.
     pub fn sent(&self, to: u8) -> u64
         requires { to < length self.now.sent }
         ensures { result ≡ slice_index self.now.sent to }
@@ -74,7 +74,7 @@ impl Mail {
         self.sent[usize::from(to)]
     }
 
-    /// How many messages from a node were taken, repeats not counted.
+    /// Returns how many messages from a node were taken, not counting repeats.
     pub fn taken(&self, from: u8) -> u64
         requires { from < length self.now.taken }
         ensures { result ≡ length (slice_index_or self.now.taken from []) }
@@ -82,14 +82,14 @@ impl Mail {
         self.taken[usize::from(from)].count()
     }
 
-    /// From now on this is awaited.
+    /// Sets what the node waits for.
     pub fn wait_for(&mut self, wait: Wait)
         ensures { self.new ≡ record self.old { wait = seen_wait wait } }
     {
         self.wait = wait;
     }
 
-    /// From now on nothing is awaited. Answers what was.
+    /// Stops waiting, and returns what was awaited.
     pub fn stop_waiting(&mut self) -> Wait
         ensures was { seen_wait result ≡ self.old.wait }
         ensures after { self.new ≡ record self.old { wait = nothing } }
@@ -97,7 +97,7 @@ impl Mail {
         mem::replace(&mut self.wait, Wait::Nothing)
     }
 
-    /// Whether the message of this number from this node was taken before.
+    /// Returns whether this node's message with the given number was taken before.
     pub fn was_taken(&self, from: u8, number: u32) -> bool
         requires { from < length self.now.taken }
         ensures { result ≡ was_taken self.now from number }
@@ -105,17 +105,18 @@ impl Mail {
         self.taken[usize::from(from)].contains(number)
     }
 
-    /// The message of this number from this node is taken. It was not taken before.
+    /// Notes that the message with this number from this node is taken. It must not have been taken before.
     pub fn note_taken(&mut self, from: u8, number: u32) -> Result<(), AllocError>
         requires from { from < length self.old.taken }
         requires anew { was_taken self.old from number ≡ false }
         ensures ok { OnOk result (self.new ≡ with_taken from number self.old) }
-        ensures lengths { (length self.new.sent ≡ length self.old.sent) × (length self.new.taken ≡ length self.old.taken) }
+        ensures lengths { (length self.new.sent ≡ length self.old.sent)
+            × (length self.new.taken ≡ length self.old.taken) }
     {
         self.taken[usize::from(from)].add(number)
     }
 
-    /// An empty list for letters, in the place of those that were numbered last.
+    /// Returns an empty list for letters. It reuses the list of the letters numbered last.
     pub fn letters(&mut self) -> Vec<Letter>
         ensures empty { result.items ≡ [] }
         ensures same { self.new ≡ self.old }
@@ -126,8 +127,9 @@ impl Mail {
         letters
     }
 
-    /// Gives node `me`'s letters the numbers that follow those sent to each receiver before, from `first` on, and counts
-    /// them as sent. Refused with `Worn` where a number would pass 4,294,967,295. A refusal counts none of them.
+    /// Numbers the letters of node `me`, and counts them as sent. The first message to each receiver has the number
+    /// `first`, and each later one the number of the one before plus one. It fails with `Worn` if a number would pass
+    /// 4,294,967,295, and with `NoMemory` if memory runs out. An error counts no letter.
     pub fn number(
         &mut self,
         me: u8,
@@ -136,11 +138,13 @@ impl Mail {
     ) -> Result<Vec<Envelope>, MailFault>
         requires me { me < MOST_NODES }
         requires to { All (λ letter. letter.to < length self.old.sent) letters.items }
-        ensures numbers { IfOk result (λ out. numbered me first self.old.sent letters.items ≡ Some (out.items, self.new.sent)) }
+        ensures numbers { IfOk result (λ out. numbered me first self.old.sent letters.items
+            ≡ Some (out.items, self.new.sent)) }
         ensures after { OnOk result (self.new ≡ record self.old { sent = self.new.sent }) }
         ensures worn { result ≡ Err Worn → numbered me first self.old.sent letters.items ≡ None }
         ensures refused { OnErr result (self.new ≡ self.old) }
-        ensures lengths { (length self.new.sent ≡ length self.old.sent) × (length self.new.taken ≡ length self.old.taken) }
+        ensures lengths { (length self.new.sent ≡ length self.old.sent)
+            × (length self.new.taken ≡ length self.old.taken) }
     {
         let mut counts = [0u64; 16];
         let counts = &mut counts[..self.sent.len()];
@@ -152,7 +156,7 @@ impl Mail {
         Ok(out)
     }
 
-    /// Keeps a list of messages that are of no use any more, whose place the messages of a later turn can take.
+    /// Keeps a list of messages that are no longer needed, so that the messages of a later turn can reuse its memory.
     pub fn keep_list(&mut self, mut out: Vec<Envelope>)
         ensures { self.new ≡ self.old }
     {
@@ -226,7 +230,8 @@ fn number_all(
     requires empty { envelopes.items ≡ [] }
     requires me { me < MOST_NODES }
     requires to { All (λ letter. letter.to < length sent.old) letters.old.items }
-    ensures numbers { IfOk result (λ out. numbered me first sent.old letters.old.items ≡ Some (out.items, sent.new)) }
+    ensures numbers { IfOk result (λ out. numbered me first sent.old letters.old.items
+        ≡ Some (out.items, sent.new)) }
     ensures worn { result ≡ Err Worn → numbered me first sent.old letters.old.items ≡ None }
     ensures counts { AreCounts sent.new }
 {
@@ -236,7 +241,7 @@ fn number_all(
     Ok(envelopes)
 }
 
-/// Puts the letter, with its number, which counts as sent, behind others.
+/// Appends the letter with its number, and counts it as sent.
 fn put_numbered(
     sent: &mut [u64],
     me: u8,
@@ -247,9 +252,13 @@ fn put_numbered(
     requires counts { AreCounts sent.old }
     requires me { me < MOST_NODES }
     requires to { letter.to < length sent.old }
-    ensures number { OnOk result (number_after first (slice_index sent.old letter.to) ≡ Some (first + slice_index sent.old letter.to)) }
-    ensures put { OnOk result (envelopes.new.items ≡ envelopes.old.items ++ envelope_of me (first + slice_index sent.old letter.to) letter ∷ []) }
-    ensures after { OnOk result (sent.new ≡ slice_set sent.old letter.to (slice_index sent.old letter.to + 1)) }
+    ensures number { OnOk result (number_after first (slice_index sent.old letter.to)
+        ≡ Some (first + slice_index sent.old letter.to)) }
+    ensures put { OnOk result (envelopes.new.items
+        ≡ envelopes.old.items ++ envelope_of me (first + slice_index sent.old letter.to) letter
+        ∷ []) }
+    ensures after { OnOk result (sent.new ≡ slice_set sent.old letter.to
+        (slice_index sent.old letter.to + 1)) }
     ensures worn { result ≡ Err Worn → number_after first (slice_index sent.old letter.to) ≡ None }
     ensures counts { AreCounts sent.new }
 {

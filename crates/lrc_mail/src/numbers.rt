@@ -16,7 +16,7 @@ pub struct Span {
     pub last: u32,
 }
 
-/// A set of numbers, kept as spans that ascend, with a gap between each two. So numbers that are added in order cost
+/// A set of numbers, kept as ascending spans with a gap between each two. So numbers that are added in order cost
 /// constant memory.
 #[derive(Drop)]
 pub struct Numbers {
@@ -36,7 +36,7 @@ impl Model for Numbers {
 }
 
 impl Numbers {
-    /// No numbers.
+    /// Returns an empty set.
     pub fn empty(alloc: Global) -> Self
         ensures { result ≡ [] }
     {
@@ -45,7 +45,7 @@ impl Numbers {
         }
     }
 
-    /// How many numbers there are.
+    /// Returns how many numbers the set has.
     pub fn count(&self) -> u64
         ensures { result ≡ length self.now }
     {
@@ -57,7 +57,7 @@ impl Numbers {
         count
     }
 
-    /// Whether this number is among them.
+    /// Returns whether the set contains this number.
     pub fn contains(&self, number: u32) -> bool
         ensures { result ≡ list_any (λ n. n == number) self.now }
     {
@@ -68,7 +68,7 @@ impl Numbers {
         }
     }
 
-    /// Adds a number that is not among them, at its place.
+    /// Adds a number that is not in the set, at its place.
     pub fn add(&mut self, number: u32) -> Result<(), AllocError>
         requires { list_any (λ n. n == number) self.old ≡ false }
         ensures { OnOk result (self.new ≡ placed nat_lt number self.old) }
@@ -83,9 +83,11 @@ fn put(spans: &mut Vec<Span>, place: usize, number: u32) -> Result<(), AllocErro
     requires are { AreSpans spans.old.items }
     requires bound { place ≤ length spans.old.items }
     requires before { AllWithin (λ span. span.last < number) spans.old.items 0 place }
-    requires from { AllWithin (λ span. number < span.first) spans.old.items place (length spans.old.items) }
+    requires from { AllWithin (λ span. number < span.first) spans.old.items place
+        (length spans.old.items) }
     ensures are { AreSpans spans.new.items }
-    ensures numbers { OnOk result (spanned spans.new.items ≡ placed nat_lt number (spanned spans.old.items)) }
+    ensures numbers { OnOk result (spanned spans.new.items
+        ≡ placed nat_lt number (spanned spans.old.items)) }
 {
     let joins = begins_next(spans, place, number);
     if ended_before(spans, place, number) {
@@ -110,8 +112,10 @@ fn put(spans: &mut Vec<Span>, place: usize, number: u32) -> Result<(), AllocErro
 
 // Whether the span at a place begins just above a number. It doesn't begin below.
 fn begins_next(spans: &[Span], place: usize, number: u32) -> bool
-    requires { (d : Span) → place < length spans.now → number < (slice_index_or spans.now place d).first }
-    ensures yes { result ≡ true → (place < length spans.now) × ((d : Span) → (slice_index_or spans.now place d).first ≡ number + 1) }
+    requires { (d : Span) → place < length spans.now
+        → number < (slice_index_or spans.now place d).first }
+    ensures yes { result ≡ true → (place < length spans.now)
+        × ((d : Span) → (slice_index_or spans.now place d).first ≡ number + 1) }
     ensures no { result ≡ false → IsClear number spans.now place }
 {
     place < spans.len() && spans[place].first - number == 1
@@ -122,7 +126,8 @@ fn ended_before(spans: &[Span], place: usize, number: u32) -> bool
     requires are { AreSpans spans.now }
     requires bound { place ≤ length spans.now }
     requires before { AllWithin (λ span. span.last < number) spans.now 0 place }
-    ensures yes { result ≡ true → (1 ≤ place) × ((d : Span) → (slice_index_or spans.now (place - 1) d).last + 1 ≡ number) }
+    ensures yes { result ≡ true → (1 ≤ place)
+        × ((d : Span) → (slice_index_or spans.now (place - 1) d).last + 1 ≡ number) }
     ensures no { result ≡ false → AllWithin (λ span. span.last + 1 < number) spans.now 0 place }
 {
     place > 0 && number - spans[place - 1].last == 1
@@ -135,7 +140,8 @@ fn lengthen(spans: &mut Vec<Span>, place: usize, number: u32, joins: bool)
     requires before { AllWithin (λ span. span.last < number) spans.old.items 0 place }
     requires place { place < length spans.old.items }
     requires ends { (d : Span) → (slice_index_or spans.old.items place d).last + 1 ≡ number }
-    requires joins { joins ≡ true → (suc place < length spans.old.items) × ((d : Span) → (slice_index_or spans.old.items (suc place) d).first ≡ number + 1) }
+    requires joins { joins ≡ true → (suc place < length spans.old.items)
+        × ((d : Span) → (slice_index_or spans.old.items (suc place) d).first ≡ number + 1) }
     requires apart { joins ≡ false → IsClear number spans.old.items (suc place) }
     ensures { Puts number 0 spans.old.items spans.new.items }
 {

@@ -11,7 +11,7 @@ use lrc_envelope::{ChangesRequest, Message, PageRequest};
 use lrc_need::{Asked, Base, Need};
 use std::alloc::{AllocError, Global};
 
-/// The requests for some pages, page by page.
+/// Returns the requests for several pages, page by page.
 pub fn requests(alloc: Global, needs: &[Need]) -> Result<Vec<Letter>, AllocError>
     ensures { IfOk result (λ letters. letters.items ≡ flat_map requests_of needs.now) }
 {
@@ -22,7 +22,8 @@ pub fn requests(alloc: Global, needs: &[Need]) -> Result<Vec<Letter>, AllocError
     Ok(letters)
 }
 
-/// The requests for a page: the keeper's first, then one for each maker, makers ascending.
+/// Returns the requests for a page: first the one to the keeper, if a base copy is due, then one for each maker, makers
+/// ascending.
 pub fn requests_for(alloc: Global, need: &Need) -> Result<Vec<Letter>, AllocError>
     ensures { IfOk result (λ letters. letters.items ≡ requests_of need.now) }
 {
@@ -31,7 +32,7 @@ pub fn requests_for(alloc: Global, need: &Need) -> Result<Vec<Letter>, AllocErro
     Ok(letters)
 }
 
-/// Puts the requests for a page behind other letters.
+/// Appends the requests for a page to other letters.
 pub fn put_requests(need: &Need, letters: &mut Vec<Letter>) -> Result<(), AllocError>
     ensures { OnOk result (letters.new.items ≡ letters.old.items ++ requests_of need.now) }
 {
@@ -43,7 +44,8 @@ pub fn put_requests(need: &Need, letters: &mut Vec<Letter>) -> Result<(), AllocE
 // Puts the request of a page's base copy, where it is due, behind other letters.
 fn put_page_request(page: u16, base: &Base, letters: &mut Vec<Letter>) -> Result<(), AllocError>
     requires { page < MOST_PAGES }
-    ensures { OnOk result (letters.new.items ≡ letters.old.items ++ page_request_of page (seen_base base.now)) }
+    ensures { OnOk result (letters.new.items
+        ≡ letters.old.items ++ page_request_of page (seen_base base.now)) }
 {
     if let Base::Due(keeper) = *base {
         letters.push(page_request(keeper, page))?;
@@ -83,7 +85,8 @@ fn put_changes_requests(
 ) -> Result<(), AllocError>
     requires page { page < MOST_PAGES }
     requires some { All (λ asked. 1 ≤ length asked.indices) all.now }
-    ensures { OnOk result (letters.new.items ≡ letters.old.items ++ map (changes_request_of page) all.now) }
+    ensures { OnOk result (letters.new.items
+        ≡ letters.old.items ++ map (changes_request_of page) all.now) }
 {
     for asked in all {
         let request = changes_request(*letters.allocator(), page, asked)?;

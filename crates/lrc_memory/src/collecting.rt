@@ -22,15 +22,16 @@ use lrc_time::Time;
 use std::alloc::{AllocError, Global};
 
 impl Memory {
-    /// The base copy of a page, if one is kept here.
+    /// Returns the base copy of a page, if one is kept here.
     pub fn base(&self, page: u16) -> Option<&Page>
         requires { page < length self.now.memory.copies }
-        ensures { MatchOption result (base_at self.now.memory page ≡ None) (λ base. base_at self.now.memory page ≡ Some base.now) }
+        ensures { MatchOption result (base_at self.now.memory page ≡ None)
+            (λ base. base_at self.now.memory page ≡ Some base.now) }
     {
         self.table.base(page)
     }
 
-    /// Pages that were named since the last collection get new keepers: of each the lowest node that named it.
+    /// Gives a new keeper to each page that was named since the last collection: the lowest node that named it.
     pub fn take_keepers(&mut self)
         ensures taken { self.new ≡ with_known self.old (with_keepers self.old.memory) }
         ensures same { SameMemory self.old self.new }
@@ -40,7 +41,7 @@ impl Memory {
         take_keepers(&self.store, &mut self.notes);
     }
 
-    /// The pages that this node keeps and that were named since the last collection, ascending.
+    /// Returns the pages that this node keeps and that were named since the last collection, ascending.
     pub fn kept_pages(&self) -> Result<Pages, AllocError>
         ensures pages { IfOk result (λ pages. pages ≡ kept_pages self.now.me self.now.memory) }
     {
@@ -49,7 +50,7 @@ impl Memory {
         kept_pages(*self.notes.allocator(), &self.store, self.me, &self.notes)
     }
 
-    /// Keeps the values of a valid copy as the base copy of its page. An error changes nothing.
+    /// Keeps the values of a valid copy as the base copy of its page. On error nothing changes.
     pub fn keep_base(&mut self, page: u16) -> Result<(), AllocError>
         requires in_range { page < length self.old.memory.copies }
         requires readable { is_readable (copy_at self.old.memory page) ≡ true }
@@ -61,13 +62,14 @@ impl Memory {
         self.table.keep_base(page)
     }
 
-    /// Drops all that is covered by a collection's time, which covers the node's own intervals: intervals with their
-    /// changes, made or not, base copies of pages that other nodes keep, and invalid copies.
+    /// Drops everything that the time of a collection covers: intervals with their changes, made or not, base copies of
+    /// pages that other nodes keep, and invalid copies. The time must cover the node's own intervals.
     pub fn collect(&mut self, time: &Time)
         requires time { length time.now ≡ length self.old.memory.store.last }
         requires closed { NoneIsWritten self.old.memory }
         requires own { entry self.old.memory.store.last self.old.me ≤ entry time.now self.old.me }
-        ensures collected { self.new ≡ with_known self.old (after_collection self.old.me time.now self.old.memory) }
+        ensures collected { self.new ≡ with_known self.old
+            (after_collection self.old.me time.now self.old.memory) }
         ensures same { SameMemory self.old self.new }
     {
         let in_step = is_last(&self.store, time);
@@ -98,7 +100,8 @@ fn drop_bases(table: &mut PageTable, me: u8, notes: &[PageNote])
 fn take_keepers(store: &Store, notes: &mut Vec<PageNote>)
     requires { length notes.old.items ≤ MOST_PAGES }
     ensures keepers { keepers_of notes.new.items
-        ≡ map (λ place. unwrap_or (least (namers_of store.now place.0)) place.1) (enumerate_from 0 (keepers_of notes.old.items)) }
+        ≡ map (λ place. unwrap_or (least (namers_of store.now place.0)) place.1)
+        (enumerate_from 0 (keepers_of notes.old.items)) }
     ensures since { since_of notes.new.items ≡ since_of notes.old.items }
     ensures named { named_of notes.new.items ≡ named_of notes.old.items }
 {
@@ -137,7 +140,9 @@ fn lower(first: Option<u8>, second: u8) -> u8
 // The pages that this node keeps and that an interval names, ascending.
 fn kept_pages(alloc: Global, store: &Store, me: u8, notes: &[PageNote]) -> Result<Pages, AllocError>
     requires { length notes.now ≤ MOST_PAGES }
-    ensures { IfOk result (λ pages. pages ≡ filter (λ page. is_named (intervals_of store.now) page && (slice_index (keepers_of notes.now) page == me))
+    ensures { IfOk result (λ pages. pages
+        ≡ filter (λ page. is_named (intervals_of store.now) page
+        && (slice_index (keepers_of notes.now) page == me))
         (range_with_len 0 (length notes.now))) }
 {
     let mut pages = Pages::empty(alloc);
@@ -152,7 +157,8 @@ fn kept_pages(alloc: Global, store: &Store, me: u8, notes: &[PageNote]) -> Resul
 // Whether this node keeps the page and an interval names it.
 fn is_kept(store: &Store, me: u8, notes: &[PageNote], page: u16) -> bool
     requires { page < length notes.now }
-    ensures { result ≡ (is_named (intervals_of store.now) page && (slice_index (keepers_of notes.now) page == me)) }
+    ensures { result ≡ (is_named (intervals_of store.now) page
+        && (slice_index (keepers_of notes.now) page == me)) }
 {
     store.first_on_page(page).is_some() && notes[usize::from(page)].keeper == me
 }

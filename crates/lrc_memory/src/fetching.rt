@@ -26,7 +26,8 @@ use lrc_time::Time;
 use std::alloc::{AllocError, Global};
 
 impl Memory {
-    /// What the node's own interval of this index changed in a page, for a reply. Nothing where no such changes are known.
+    /// Returns what the node's own interval with this index changed in a page, for a reply. The list is empty if no
+    /// such changes are known.
     pub fn changes_of(&mut self, page: u16, index: u32) -> Result<Changes, AllocError>
         requires { page < length self.old.memory.copies }
         ensures changes { IfOk result (λ changes. changes
@@ -40,11 +41,14 @@ impl Memory {
         changes_or_none(alloc, &self.store, Key { node, index, page })
     }
 
-    /// Stores what intervals of a maker changed in a page.
+    /// Stores what the intervals of a maker changed in a page.
     pub fn attach(&mut self, maker: u8, page: u16, parts: &Parts) -> Result<(), AllocError>
         requires awaited { AreAwaited self.old.size self.old.memory.store maker page parts.now }
         ensures ok { OnOk result (self.new ≡ with_known self.old
-            (record self.old.memory { store = fold (with_part maker page) self.old.memory.store parts.now })) }
+            (record self.old.memory {
+              store = fold (with_part maker page) self.old.memory.store
+                  parts.now;
+            })) }
         ensures same { SameMemory self.old self.new }
     {
         for part in parts.as_slice() {
@@ -59,17 +63,19 @@ impl Memory {
     fn keep(&mut self, key: Key, changes: Changes)
         requires awaited { notice_at self.old.memory.store key ≡ Some (unread key.page) }
         requires sized { All (λ c. c.offset < words_of self.old.size) changes }
-        ensures kept { self.new ≡ with_known self.old (record self.old.memory { store = attached self.old.memory.store key changes }) }
+        ensures kept { self.new ≡ with_known self.old
+            (record self.old.memory { store = attached self.old.memory.store key changes }) }
         ensures same { SameMemory self.old self.new }
     {
         self.store.attach(key, changes);
     }
 
-    /// What a page needs before it can be read: a base copy where its copy is absent, and the changes that its copy lacks,
-    /// of which those are asked of their makers that are not known.
+    /// Returns what a page needs before it can be read: a base copy if its copy is absent, and the changes that its
+    /// copy lacks. Those that are not known here are asked of their makers.
     pub fn need(&self, page: u16) -> Result<Need, AllocError>
         requires { page < length self.now.memory.copies }
-        ensures need { IfOk result (λ need. need ≡ need_of (length self.now.memory.store.last) self.now.memory page) }
+        ensures need { IfOk result (λ need. need
+            ≡ need_of (length self.now.memory.store.last) self.now.memory page) }
         ensures keeper { keeper_at self.now.memory page < length self.now.memory.store.last }
     {
         let alloc = *self.notes.allocator();
@@ -88,7 +94,7 @@ impl Memory {
         )
     }
 
-    /// The notices of a page that its copy lacks, in the order in which their changes are applied.
+    /// Returns the notices of a page that its copy lacks, in the order in which their changes are applied.
     pub fn lacking(&self, page: u16) -> Result<Vec<Key>, AllocError>
         requires { page < length self.now.memory.copies }
         ensures keys { IfOk result (λ keys. keys.items ≡ missing_at self.now.memory page) }
@@ -104,11 +110,12 @@ impl Memory {
         }
     }
 
-    /// Repairs a page whose copy is not readable: what it lacks is applied to the base copy that came, or else to the
-    /// copy, and it is valid.
+    /// Repairs a page whose copy is not readable. The missing changes are applied to the base copy that arrived, or
+    /// else to the present copy. The copy is then valid.
     pub fn mend(&mut self, need: &Need)
         requires in_range { need.now.page < length self.old.memory.copies }
-        requires fit { is_mendable self.old.size (copy_at self.old.memory need.now.page) need.now.base ≡ true }
+        requires fit { is_mendable self.old.size
+            (copy_at self.old.memory need.now.page) need.now.base ≡ true }
         requires of_page { All (λ key. key.page ≡ need.now.page) need.now.missing }
         ensures mended { self.new ≡ with_known self.old (repaired self.old.memory need.now) }
         ensures same { SameMemory self.old self.new }
@@ -140,8 +147,11 @@ fn missing(store: &Store, page: u16, since: &Time, in_step: bool) -> Result<Vec<
 // Puts the base copy that has come in the place of an absent copy, which is invalid then. An invalid copy stays.
 fn install_base(table: &mut PageTable, page: u16, base: &Base)
     requires in_range { page < length table.old.copies }
-    requires fit { is_mendable table.old.size (seen_in (tables.copy_at table.old page).state [] (tables.copy_at table.old page)) (seen_base base.now) ≡ true }
-    ensures copy { table.new ≡ with_copy table.old page (begun_with (tables.copy_at table.old page) (seen_base base.now)) }
+    requires fit { is_mendable table.old.size
+        (seen_in (tables.copy_at table.old page).state [] (tables.copy_at table.old page))
+        (seen_base base.now) ≡ true }
+    ensures copy { table.new ≡ with_copy table.old page
+        (begun_with (tables.copy_at table.old page) (seen_base base.now)) }
     ensures invalid { (tables.copy_at table.new page).state ≡ State.Invalid }
 {
     if let Base::Come(copy) = base {
@@ -154,7 +164,8 @@ fn patch_all(table: &mut PageTable, store: &Store, page: u16, keys: &[Key])
     requires in_range { page < length table.old.copies }
     requires invalid { (tables.copy_at table.old page).state ≡ State.Invalid }
     requires sized { All (AreSized table.old.size) store.now.entries }
-    ensures { table.new ≡ with_copy table.old page (patched_with store.now (tables.copy_at table.old page) keys.now) }
+    ensures { table.new ≡ with_copy table.old page
+        (patched_with store.now (tables.copy_at table.old page) keys.now) }
 {
     for key in keys {
         if let Some(changes) = store.changes(*key) {
@@ -184,7 +195,14 @@ fn need_of(
 ) -> Result<Need, AllocError>
     requires page { page < MOST_PAGES }
     requires askable { AreAskable missing.items }
-    ensures { IfOk result (λ need. need ≡ record { page = page; base = seen_base base; asked = asked_of nodes (unknown_of store.now missing.items); missing = missing.items }) }
+    ensures { IfOk result (λ need. need
+        ≡ record {
+          page = page;
+          base = seen_base base;
+          asked = asked_of nodes
+              (unknown_of store.now missing.items);
+          missing = missing.items;
+        }) }
 {
     if are_unknown(store, &missing) {
         return Need::asking_all(alloc, nodes, page, base, missing);

@@ -17,12 +17,13 @@ use lrc_time::Time;
 use std::alloc::AllocError;
 
 impl Memory {
-    /// Learns intervals of other nodes, at a time before these are known: they are stored, and the valid copies of the
-    /// pages that they name become invalid. A page that is written stays so.
+    /// Learns intervals of other nodes. They are stored, and the valid copies of the pages that they name become
+    /// invalid. A written page stays written. `before` is the node's time before it learns them.
     pub fn learn(&mut self, before: &Time, intervals: &Intervals) -> Result<(), AllocError>
         requires before { length before.now ≡ length self.old.memory.store.last }
         requires intervals { CanBeAdded self.old.memory.store intervals.now }
-        ensures ok { OnOk result (self.new ≡ with_known self.old (learned before.now intervals.now self.old.memory)) }
+        ensures ok { OnOk result (self.new ≡ with_known self.old
+            (learned before.now intervals.now self.old.memory)) }
         ensures same { SameMemory self.old self.new }
     {
         let in_step = is_last(&self.store, before);
@@ -43,8 +44,10 @@ impl Memory {
         requires before { length before.now ≡ length self.old.memory.store.last }
         requires in_step { IsTrue in_step → WasLast self.old.memory.store before.now }
         requires in_range { IsInRange self.old.memory.store interval.now }
-        requires next { index_of interval.now ≡ entry self.old.memory.store.last interval.now.node + 1 }
-        ensures ok { OnOk result (self.new ≡ with_known self.old (learned_one before.now self.old.memory interval.now)) }
+        requires next { index_of interval.now ≡ entry self.old.memory.store.last interval.now.node +
+            1 }
+        ensures ok { OnOk result (self.new ≡ with_known self.old
+            (learned_one before.now self.old.memory interval.now)) }
         ensures same { SameMemory self.old self.new }
     {
         self.store.add(interval)?;
@@ -60,7 +63,10 @@ impl Memory {
         requires in_step { IsTrue in_step → WasLast self.old.memory.store before.now }
         requires in_range { page < length self.old.memory.copies }
         ensures ok { OnOk result (self.new ≡ with_known self.old
-            (record self.old.memory { copies = invalidated_on before.now self.old.memory.copies page })) }
+            (record self.old.memory {
+              copies = invalidated_on before.now self.old.memory.copies
+                  page;
+            })) }
         ensures same { SameMemory self.old self.new }
     {
         if let State::Valid = self.table.state(page) {
@@ -72,24 +78,26 @@ impl Memory {
         Ok(())
     }
 
-    /// The intervals that `upto` knows and `since` does not, ascending by node and index.
+    /// Returns the intervals that `upto` knows and `since` does not, ascending by node and index.
     pub fn newer(&self, since: &Time, upto: &Time) -> Result<Intervals, AllocError>
         requires since { length since.now ≡ length self.now.memory.store.last }
         requires upto { length upto.now ≡ length self.now.memory.store.last }
-        ensures found { IfOk result (λ found. found ≡ newer_of self.now.memory.store since.now upto.now) }
-        ensures stamps { IfOk result (λ found. All (λ i. length i.stamp ≡ length self.now.memory.store.last) found) }
+        ensures found { IfOk result (λ found. found
+            ≡ newer_of self.now.memory.store since.now upto.now) }
+        ensures stamps { IfOk result (λ found. All
+            (λ i. length i.stamp ≡ length self.now.memory.store.last) found) }
     {
         self.store.newer_than(since, upto)
     }
 
-    /// How many intervals there are.
+    /// Returns the number of stored intervals.
     pub fn len(&self) -> usize
         ensures { result ≡ length self.now.memory.store.entries }
     {
         self.store.len()
     }
 
-    /// The greatest index ever added of this node, 0 before any.
+    /// Returns the greatest index ever added for this node, or 0 if there is none.
     pub fn last(&self, node: u8) -> u32
         requires { node < length self.now.memory.store.last }
         ensures index { result ≡ entry self.now.memory.store.last node }
@@ -97,7 +105,7 @@ impl Memory {
         self.store.last(node)
     }
 
-    /// Whether the interval of this node and index is stored and names the page.
+    /// Returns whether this node's interval with the given index is stored and names the page.
     pub fn has_notice(&self, node: u8, index: u32, page: u16) -> bool
         ensures { result
             ≡ is_some (notice_at self.now.memory.store (record { node = node; index = index; page = page })) }
@@ -106,7 +114,7 @@ impl Memory {
     }
 }
 
-/// Whether this time is just what was added last of each node, as a node's time is before it learns.
+/// Returns whether this time equals the last index added for each node. A node's time does so before it learns.
 pub(crate) fn is_last(store: &Store, time: &Time) -> bool
     requires { length time.now ≡ length store.now.last }
     ensures { IsTrue result ↔ (time.now ≡ store.now.last) }

@@ -1,5 +1,6 @@
-//! One node's memory under lazy release consistency: its copies of the pages, the intervals that it knows with their
-//! changes, and who keeps a base copy of which page (Keleher, Cox, Dwarkadas and Zwaenepoel 1994; Amza et al. 1996).
+//! The memory of one node under lazy release consistency: its copies of the pages, the intervals that it knows with
+//! their changes (diffs), and which node keeps the base copy of which page (Keleher, Cox, Dwarkadas and Zwaenepoel
+//! 1994; Amza et al. 1996).
 #![tactic(auto)]
 
 mod collecting;

@@ -15,18 +15,18 @@ use lrc_time::Time;
 use std::alloc::{AllocError, Global};
 use std::marker::Model;
 
-/// What a node remembers of a page beside its copy.
+/// What a node remembers of a page besides its copy.
 #[derive(Drop)]
 pub(crate) struct PageNote {
-    /// The time from before the copy became invalid.
+    /// The node's time before the copy became invalid.
     pub(crate) since: Time,
-    /// The index of the own interval that named the page last.
+    /// The index of the node's own interval that named the page last.
     pub(crate) named: u32,
     /// The node that keeps the base copy.
     pub(crate) keeper: u8,
 }
 
-/// What a node knows of the shared memory. The changes of its closed intervals are made when they are needed.
+/// What a node knows of the shared memory. The changes of its closed intervals are made only when they are needed.
 #[derive(Drop)]
 pub struct Memory {
     pub(crate) me: u8,
@@ -72,7 +72,8 @@ impl Model for Memory {
 }
 
 impl Memory {
-    /// The memory of a node at the start, with this many nodes and words: every word is zero, and every copy valid.
+    /// Creates the memory of node `me` at the start, in a run of at most 16 nodes, with 1 to 65,536 words. Every word
+    /// is zero, and every copy is valid.
     pub fn new(alloc: Global, me: u8, nodes: u8, words: u32, size: Size) -> Result<Self, AllocError>
         requires counted { me < nodes }
         requires few_nodes { nodes ≤ 16 }
@@ -94,14 +95,14 @@ impl Memory {
         })
     }
 
-    /// The size of the pages.
+    /// Returns the size of the pages.
     pub fn size(&self) -> Size
         ensures { result ≡ self.now.size }
     {
         self.table.size()
     }
 
-    /// Whether the copy of a page may be read and written.
+    /// Returns whether the copy of a page may be read and written.
     pub fn is_readable(&self, page: u16) -> bool
         requires { page < length self.now.memory.copies }
         ensures { result ≡ is_readable (copy_at self.now.memory page) }
@@ -112,7 +113,7 @@ impl Memory {
         }
     }
 
-    /// The value of a word, or `None` if the copy of its page may not be read.
+    /// Returns the value of a word, or `None` if the copy of its page may not be read.
     pub fn read(&self, word: u32) -> Option<u64>
         requires in_range { word < MOST_WORDS }
         requires on_a_page { page_of word self.now.size < length self.now.memory.copies }
@@ -122,13 +123,15 @@ impl Memory {
         self.table.read(word)
     }
 
-    /// Gives a word a value and answers `true`, or `false` if the copy of its page may not be written, which changes
-    /// nothing. The first write of an interval to a page keeps its values as a twin.
+    /// Sets a word, and returns `true`. If the copy of its page may not be written, it returns `false` and changes
+    /// nothing. The first write to a page in an interval keeps the page's values as a twin.
     pub fn write(&mut self, word: u32, value: u64) -> Result<bool, AllocError>
         requires in_range { word < MOST_WORDS }
         requires on_a_page { page_of word self.old.size < length self.old.memory.copies }
-        ensures done { IfOk result (λ done. done ≡ is_readable (copy_at self.old.memory (page_of word self.old.size))) }
-        ensures ok { OnOk result (self.new ≡ with_known self.old (with_written_word self.old.size word value self.old.memory)) }
+        ensures done { IfOk result (λ done. done
+            ≡ is_readable (copy_at self.old.memory (page_of word self.old.size))) }
+        ensures ok { OnOk result (self.new ≡ with_known self.old
+            (with_written_word self.old.size word value self.old.memory)) }
         ensures same { SameMemory self.old self.new }
     {
         let page = page_of(word, self.table.size());
@@ -136,11 +139,13 @@ impl Memory {
         self.table.write(word, value)
     }
 
-    /// Closes the open interval, which names the pages written in it. The stamp is the node's time just after.
+    /// Closes the open interval, which names the pages written in it. `stamp` is the node's time just after the close.
     pub fn close(&mut self, stamp: &Time) -> Result<(), AllocError>
         requires stamp { length stamp.now ≡ length self.old.memory.store.last }
-        requires next { entry stamp.now self.old.me ≡ entry self.old.memory.store.last self.old.me + 1 }
-        ensures ok { OnOk result (self.new ≡ with_known self.old (with_interval self.old.me stamp.now self.old.memory)) }
+        requires next { entry stamp.now self.old.me
+            ≡ entry self.old.memory.store.last self.old.me + 1 }
+        ensures ok { OnOk result (self.new ≡ with_known self.old
+            (with_interval self.old.me stamp.now self.old.memory)) }
         ensures same { SameMemory self.old self.new }
     {
         // For the proof: every copy is whole.
@@ -159,7 +164,8 @@ impl Memory {
 // Sets the index for each of these pages.
 fn name_pages(notes: &mut Vec<PageNote>, pages: &[u16], index: u32)
     requires { All (λ page. page < length notes.old.items) pages.now }
-    ensures named { named_of notes.new.items ≡ fold (λ named page. slice_set named page index) (named_of notes.old.items) pages.now }
+    ensures named { named_of notes.new.items
+        ≡ fold (λ named page. slice_set named page index) (named_of notes.old.items) pages.now }
     ensures since { since_of notes.new.items ≡ since_of notes.old.items }
     ensures keepers { keepers_of notes.new.items ≡ keepers_of notes.old.items }
 {
@@ -170,7 +176,8 @@ fn name_pages(notes: &mut Vec<PageNote>, pages: &[u16], index: u32)
 
 // This many notes of pages that no interval has named, with node 0 as the keeper.
 fn first_notes(alloc: Global, start: &Time, count: usize) -> Result<Vec<PageNote>, AllocError>
-    ensures { IfOk result (λ notes. notes.items ≡ replicate count (record { since = start.now; named = 0; keeper = 0 })) }
+    ensures { IfOk result (λ notes. notes.items
+        ≡ replicate count (record { since = start.now; named = 0; keeper = 0 })) }
 {
     let mut notes = Vec::with_capacity(alloc, count)?;
     for _ in 0..count {

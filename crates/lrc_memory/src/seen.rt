@@ -14,20 +14,20 @@ use lrc_table::{PageTable, State};
 use lrc_time::Time;
 use std::alloc::AllocError;
 
-/// A copy of a page, as the protocol has it.
+/// A copy of a page, as the protocol sees it.
 pub enum SeenCopy<'m> {
-    /// The copy's values, which may be read.
+    /// The values of a copy that may be read.
     Valid(&'m [u64]),
-    /// The values of a copy that was written in the open interval, and those from before the first such write.
+    /// The values of a copy that was written in the open interval, and its values before the first such write.
     Written(&'m [u64], &'m [u64]),
-    /// The values of a copy that may not be read, and the node's time from before the first notice that it lacks.
+    /// The values of a copy that may not be read, and the node's time before the first notice that the copy lacks.
     Invalid(&'m [u64], &'m Time),
-    /// There is no copy.
+    /// The node has no copy.
     Absent,
 }
 
 impl Memory {
-    /// The copy of a page.
+    /// Returns the copy of a page.
     pub fn copy(&self, page: u16) -> SeenCopy<'_>
         requires { page < length self.now.memory.copies }
         ensures { copy_shown result ≡ copy_at self.now.memory page }
@@ -44,7 +44,7 @@ impl Memory {
         }
     }
 
-    /// The node that keeps the base copy of a page.
+    /// Returns the node that keeps the base copy of a page.
     pub fn keeper(&self, page: u16) -> u8
         requires { page < length self.now.memory.copies }
         ensures { result ≡ keeper_at self.now.memory page }
@@ -52,14 +52,14 @@ impl Memory {
         self.notes[usize::from(page)].keeper
     }
 
-    /// The time up to which intervals were collected.
+    /// Returns the time up to which intervals were collected.
     pub fn collected(&self) -> &Time
         ensures { result.now ≡ self.now.memory.collected }
     {
         &self.collected
     }
 
-    /// What the interval of this node and index changed in a page, as far as it is known here; none where it is not.
+    /// Returns what this node's interval with the given index changed in a page, or `None` if that is not known here.
     pub fn changes_known(
         &self,
         node: u8,

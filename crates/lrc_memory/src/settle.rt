@@ -14,8 +14,8 @@ use lrc_store::{Key, Store};
 use lrc_table::PageTable;
 use std::alloc::AllocError;
 
-/// Makes the changes that a page has still to make, if it has any, and stores them with the notice of the node's own
-/// interval that named the page last. An error changes nothing.
+/// Makes the pending changes of a page, if it has any, and stores them with the notice of the node's own interval that
+/// named the page last. On error nothing changes.
 pub(crate) fn settle_page(
     table: &mut PageTable,
     store: &mut Store,
@@ -26,9 +26,11 @@ pub(crate) fn settle_page(
     requires page { page < length table.old.copies }
     requires noted { page < length notes.now }
     requires noticed { ForSome (pending_changes (copy_at table.old page))
-        (λ changes. notice_at store.old (record { node = me; index = slice_index (named_of notes.now) page; page = page })
+        (λ changes. notice_at store.old
+        (record { node = me; index = slice_index (named_of notes.now) page; page = page })
         ≡ Some (record { page = page; changes = None })) }
-    ensures table { OnOk result (table.new ≡ with_copy table.old page (settled (copy_at table.old page))) }
+    ensures table { OnOk result (table.new ≡ with_copy table.old page
+        (settled (copy_at table.old page))) }
     ensures store { OnOk result (store.new
         ≡ settled_store store.old (record { node = me; index = slice_index (named_of notes.now) page; page = page }) (pending_changes (copy_at table.old page))) }
     ensures err_table { OnErr result (table.new ≡ table.old) }

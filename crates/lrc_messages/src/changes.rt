@@ -12,7 +12,8 @@ use lrc_text::push_number;
 use std::alloc::{AllocError, Global};
 
 fn push_change(text: &mut Vec<u8>, place: usize, change: Change) -> Result<(), AllocError>
-    ensures ok { OnOk result (text.new.items ≡ text.old.items ++ before place (codes ",") ++ change_text change) }
+    ensures ok { OnOk result (text.new.items
+        ≡ text.old.items ++ before place (codes ",") ++ change_text change) }
     ensures err { OnErr result (BeginsWith text.new.items text.old.items) }
 {
     push_before(text, place, b",")?;
@@ -21,7 +22,8 @@ fn push_change(text: &mut Vec<u8>, place: usize, change: Change) -> Result<(), A
 }
 
 fn push_changes(text: &mut Vec<u8>, changes: &Changes) -> Result<(), AllocError>
-    ensures ok { OnOk result (text.new.items ≡ text.old.items ++ separated (codes ",") change_text changes.now) }
+    ensures ok { OnOk result (text.new.items
+        ≡ text.old.items ++ separated (codes ",") change_text changes.now) }
     ensures err { OnErr result (BeginsWith text.new.items text.old.items) }
 {
     for place in 0..changes.len() {
@@ -31,7 +33,8 @@ fn push_changes(text: &mut Vec<u8>, changes: &Changes) -> Result<(), AllocError>
 }
 
 fn push_changes_or_dash(text: &mut Vec<u8>, changes: &Changes) -> Result<(), AllocError>
-    ensures ok { OnOk result (text.new.items ≡ text.old.items ++ separated_or_dash (codes ",") change_text changes.now) }
+    ensures ok { OnOk result (text.new.items
+        ≡ text.old.items ++ separated_or_dash (codes ",") change_text changes.now) }
     ensures err { OnErr result (BeginsWith text.new.items text.old.items) }
 {
     if changes.is_empty() {
@@ -44,7 +47,8 @@ fn push_changes_or_dash(text: &mut Vec<u8>, changes: &Changes) -> Result<(), All
 // Adds changes in brackets.
 fn push_bracketed(text: &mut Vec<u8>, changes: &Changes) -> Result<(), AllocError>
     ensures ok { OnOk result (text.new.items
-        ≡ text.old.items ++ (codes "[" ++ separated (codes ",") change_text changes.now ++ codes "]")) }
+        ≡ text.old.items ++ (codes "[" ++ separated (codes ",") change_text changes.now
+        ++ codes "]")) }
     ensures err { OnErr result (BeginsWith text.new.items text.old.items) }
 {
     text.extend_from_slice(b"[")?;
@@ -53,7 +57,8 @@ fn push_bracketed(text: &mut Vec<u8>, changes: &Changes) -> Result<(), AllocErro
 }
 
 fn push_part(text: &mut Vec<u8>, place: usize, part: &IndexedChanges) -> Result<(), AllocError>
-    ensures ok { OnOk result (text.new.items ≡ text.old.items ++ before place (codes " ") ++ part_text part.now) }
+    ensures ok { OnOk result (text.new.items
+        ≡ text.old.items ++ before place (codes " ") ++ part_text part.now) }
     ensures err { OnErr result (BeginsWith text.new.items text.old.items) }
 {
     push_before(text, place, b" ")?;
@@ -61,9 +66,10 @@ fn push_part(text: &mut Vec<u8>, place: usize, part: &IndexedChanges) -> Result<
     push_bracketed(text, &part.changes)
 }
 
-/// Adds what intervals changed, each with its index.
+/// Adds the changes of intervals, each with its index.
 pub(crate) fn push_parts(text: &mut Vec<u8>, parts: &Parts) -> Result<(), AllocError>
-    ensures ok { OnOk result (text.new.items ≡ text.old.items ++ separated (codes " ") part_text parts.now) }
+    ensures ok { OnOk result (text.new.items
+        ≡ text.old.items ++ separated (codes " ") part_text parts.now) }
     ensures err { OnErr result (BeginsWith text.new.items text.old.items) }
 {
     for place in 0..parts.len() {
@@ -81,7 +87,8 @@ fn nonzero_words(alloc: Global, page: &Page) -> Result<Changes, AllocError>
 
 /// Adds the words of a page that are not 0.
 pub(crate) fn push_words(alloc: Global, text: &mut Vec<u8>, page: &Page) -> Result<(), AllocError>
-    ensures ok { OnOk result (text.new.items ≡ text.old.items ++ separated_or_dash (codes ",") change_text (nonzero_words page.now)) }
+    ensures ok { OnOk result (text.new.items
+        ≡ text.old.items ++ separated_or_dash (codes ",") change_text (nonzero_words page.now)) }
     ensures err { OnErr result (BeginsWith text.new.items text.old.items) }
 {
     let words = nonzero_words(alloc, page)?;

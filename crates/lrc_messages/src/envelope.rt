@@ -26,7 +26,8 @@ fn push_head(
     other: u8,
 ) -> Result<(), AllocError>
     ensures ok { OnOk result (text.new.items
-        ≡ text.old.items ++ (codes "# node " ++ decimal node ++ does.now ++ decimal number ++ way.now ++ decimal other)) }
+        ≡ text.old.items ++ (codes "# node " ++ decimal node ++ does.now ++ decimal number
+        ++ way.now ++ decimal other)) }
     ensures err { OnErr result (BeginsWith text.new.items text.old.items) }
 {
     push_number(text, b"# node ", u64::from(node))?;
@@ -34,7 +35,8 @@ fn push_head(
     push_number(text, way, u64::from(other))
 }
 
-/// Adds the line of a message that a node takes; of one that it took before no more is said.
+/// Adds the line of a message that a node takes. If the node took it before (`again`), the line does not repeat what it
+/// says. On error `text` still begins with its old bytes.
 pub fn push_taken(
     alloc: Global,
     text: &mut Vec<u8>,
@@ -42,7 +44,8 @@ pub fn push_taken(
     envelope: &Envelope,
     again: bool,
 ) -> Result<(), AllocError>
-    ensures ok { OnOk result (text.new.items ≡ text.old.items ++ taken_text node envelope.now again) }
+    ensures ok { OnOk result (text.new.items
+        ≡ text.old.items ++ taken_text node envelope.now again) }
     ensures err { OnErr result (BeginsWith text.new.items text.old.items) }
 {
     push_head(
@@ -65,7 +68,8 @@ fn push_said(
     again: bool,
 ) -> Result<(), AllocError>
     ensures ok { OnOk result (text.new.items
-        ≡ text.old.items ++ (if again then codes " again" else codes ": " ++ message_text message.now)) }
+        ≡ text.old.items ++ (if again then codes " again" else codes ": "
+        ++ message_text message.now)) }
     ensures err { OnErr result (BeginsWith text.new.items text.old.items) }
 {
     if again {
@@ -90,7 +94,8 @@ fn size_of(alloc: Global, envelope: &Envelope) -> Result<Option<u64>, AllocError
     }
 }
 
-/// Adds how many bytes an envelope has, or `no` where it has more than may be sent.
+/// Adds the number of bytes of an envelope, or `no` if its message is too long to be sent. On error `text` still begins
+/// with its old bytes.
 pub fn push_size(alloc: Global, text: &mut Vec<u8>, envelope: &Envelope) -> Result<(), AllocError>
     ensures ok { OnOk result (text.new.items ≡ text.old.items ++ size_text envelope.now) }
     ensures err { OnErr result (BeginsWith text.new.items text.old.items) }
@@ -103,7 +108,8 @@ pub fn push_size(alloc: Global, text: &mut Vec<u8>, envelope: &Envelope) -> Resu
 
 // Adds the size of an envelope, and the words around it.
 fn push_bytes(alloc: Global, text: &mut Vec<u8>, envelope: &Envelope) -> Result<(), AllocError>
-    ensures ok { OnOk result (text.new.items ≡ text.old.items ++ (codes ", " ++ size_text envelope.now ++ codes " bytes: ")) }
+    ensures ok { OnOk result (text.new.items
+        ≡ text.old.items ++ (codes ", " ++ size_text envelope.now ++ codes " bytes: ")) }
     ensures err { OnErr result (BeginsWith text.new.items text.old.items) }
 {
     text.extend_from_slice(b", ")?;
@@ -111,7 +117,7 @@ fn push_bytes(alloc: Global, text: &mut Vec<u8>, envelope: &Envelope) -> Result<
     text.extend_from_slice(b" bytes: ")
 }
 
-/// Adds the line of a message that a node sends.
+/// Adds the line of a message that a node sends. On error `text` still begins with its old bytes.
 pub fn push_sent(
     alloc: Global,
     text: &mut Vec<u8>,
@@ -134,7 +140,7 @@ pub fn push_sent(
     text.extend_from_slice(b"\n")
 }
 
-/// Adds a line for each message that a node sends.
+/// Adds a line for each message that a node sends. On error `text` still begins with its old bytes.
 pub fn push_all_sent(
     alloc: Global,
     text: &mut Vec<u8>,

@@ -1,4 +1,5 @@
-//! Messages in words: what one node tells another, and a line for each message that a node takes or sends.
+//! Writes messages in words. It tells what one node says to another, and gives a line for each message that a node
+//! takes or sends.
 #![tactic(auto)]
 
 mod changes;

@@ -10,7 +10,7 @@ use lrc_page::Pages;
 use lrc_text::push_number;
 use std::alloc::AllocError;
 
-/// Adds what stands before an item at this place of a list: the sign, but before the first nothing.
+/// Adds the separator before the list item at this place, or nothing before the first item.
 pub(crate) fn push_before(text: &mut Vec<u8>, place: usize, sign: &[u8]) -> Result<(), AllocError>
     ensures ok { OnOk result (text.new.items ≡ text.old.items ++ before place sign.now) }
     ensures err { OnErr result (BeginsWith text.new.items text.old.items) }
@@ -34,7 +34,7 @@ fn push_listed(text: &mut Vec<u8>, place: usize, number: u64) -> Result<(), Allo
     }
 }
 
-/// Adds the numbers of pages, with commas between them.
+/// Adds page numbers, separated by commas.
 pub(crate) fn push_pages(text: &mut Vec<u8>, pages: &Pages) -> Result<(), AllocError>
     ensures ok { OnOk result (text.new.items ≡ text.old.items ++ with_commas pages.now) }
     ensures err { OnErr result (BeginsWith text.new.items text.old.items) }
@@ -45,7 +45,7 @@ pub(crate) fn push_pages(text: &mut Vec<u8>, pages: &Pages) -> Result<(), AllocE
     Ok(())
 }
 
-/// Adds the indices of intervals, with commas between them.
+/// Adds the indices of intervals, separated by commas.
 pub(crate) fn push_indices(text: &mut Vec<u8>, indices: &Indices) -> Result<(), AllocError>
     ensures ok { OnOk result (text.new.items ≡ text.old.items ++ with_commas indices.now) }
     ensures err { OnErr result (BeginsWith text.new.items text.old.items) }

@@ -16,7 +16,7 @@ use lrc_text::push_number;
 use lrc_wire::Kind;
 use std::alloc::{AllocError, Global};
 
-/// The name of a kind.
+/// Returns the name of a message kind.
 #[tactic(auto, unfolding(crate::specs::MessageText::kind_name))]
 pub fn kind_name(kind: Kind) -> &'static [u8]
     ensures { result.now ≡ kind_name kind }
@@ -115,7 +115,7 @@ fn push_page_reply(alloc: Global, text: &mut Vec<u8>, m: &PageReply) -> Result<(
     push_words(alloc, text, &m.copy)
 }
 
-/// Adds a message in words: its kind, and what it says.
+/// Adds a message in words: its kind, and what it says. On error `text` still begins with its old bytes.
 pub fn push_message(alloc: Global, text: &mut Vec<u8>, message: &Message) -> Result<(), AllocError>
     ensures ok { OnOk result (text.new.items ≡ text.old.items ++ message_text message.now) }
     ensures err { OnErr result (BeginsWith text.new.items text.old.items) }

@@ -16,7 +16,7 @@ use lrc_text::push_number;
 use lrc_time::Time;
 use std::alloc::AllocError;
 
-/// Adds the entries of a time.
+/// Adds the entries of a vector time.
 pub(crate) fn push_time(text: &mut Vec<u8>, time: &Time) -> Result<(), AllocError>
     ensures ok { OnOk result (text.new.items ≡ text.old.items ++ time_text time.now) }
     ensures err { OnErr result (BeginsWith text.new.items text.old.items) }
@@ -28,7 +28,8 @@ pub(crate) fn push_time(text: &mut Vec<u8>, time: &Time) -> Result<(), AllocErro
 // Adds the node of an interval, and its number among those of that node.
 fn push_interval_name(text: &mut Vec<u8>, interval: &Interval) -> Result<(), AllocError>
     ensures ok { OnOk result (text.new.items
-        ≡ text.old.items ++ (decimal interval.now.node ++ codes "." ++ decimal (index_of interval.now))) }
+        ≡ text.old.items ++ (decimal interval.now.node ++ codes "."
+        ++ decimal (index_of interval.now))) }
     ensures err { OnErr result (BeginsWith text.new.items text.old.items) }
 {
     push_number(text, b"", u64::from(interval.node))?;
@@ -37,7 +38,8 @@ fn push_interval_name(text: &mut Vec<u8>, interval: &Interval) -> Result<(), All
 
 // Adds the numbers of pages in brackets.
 fn push_bracketed(text: &mut Vec<u8>, pages: &Pages) -> Result<(), AllocError>
-    ensures ok { OnOk result (text.new.items ≡ text.old.items ++ (codes "[" ++ with_commas pages.now ++ codes "]")) }
+    ensures ok { OnOk result (text.new.items
+        ≡ text.old.items ++ (codes "[" ++ with_commas pages.now ++ codes "]")) }
     ensures err { OnErr result (BeginsWith text.new.items text.old.items) }
 {
     text.extend_from_slice(b"[")?;
@@ -46,7 +48,8 @@ fn push_bracketed(text: &mut Vec<u8>, pages: &Pages) -> Result<(), AllocError>
 }
 
 fn push_interval(text: &mut Vec<u8>, place: usize, interval: &Interval) -> Result<(), AllocError>
-    ensures ok { OnOk result (text.new.items ≡ text.old.items ++ before place (codes " ") ++ interval_text interval.now) }
+    ensures ok { OnOk result (text.new.items
+        ≡ text.old.items ++ before place (codes " ") ++ interval_text interval.now) }
     ensures err { OnErr result (BeginsWith text.new.items text.old.items) }
 {
     push_before(text, place, b" ")?;
@@ -55,7 +58,8 @@ fn push_interval(text: &mut Vec<u8>, place: usize, interval: &Interval) -> Resul
 }
 
 fn push_intervals(text: &mut Vec<u8>, intervals: &Intervals) -> Result<(), AllocError>
-    ensures ok { OnOk result (text.new.items ≡ text.old.items ++ separated (codes " ") interval_text intervals.now) }
+    ensures ok { OnOk result (text.new.items
+        ≡ text.old.items ++ separated (codes " ") interval_text intervals.now) }
     ensures err { OnErr result (BeginsWith text.new.items text.old.items) }
 {
     for place in 0..intervals.len() {
@@ -65,7 +69,8 @@ fn push_intervals(text: &mut Vec<u8>, intervals: &Intervals) -> Result<(), Alloc
 }
 
 fn push_intervals_or_dash(text: &mut Vec<u8>, intervals: &Intervals) -> Result<(), AllocError>
-    ensures ok { OnOk result (text.new.items ≡ text.old.items ++ separated_or_dash (codes " ") interval_text intervals.now) }
+    ensures ok { OnOk result (text.new.items
+        ≡ text.old.items ++ separated_or_dash (codes " ") interval_text intervals.now) }
     ensures err { OnErr result (BeginsWith text.new.items text.old.items) }
 {
     if intervals.is_empty() {
@@ -75,9 +80,10 @@ fn push_intervals_or_dash(text: &mut Vec<u8>, intervals: &Intervals) -> Result<(
     }
 }
 
-/// Adds a time, and intervals.
+/// Adds a vector time and intervals with their write notices.
 pub(crate) fn push_news(text: &mut Vec<u8>, news: &News) -> Result<(), AllocError>
-    ensures ok { OnOk result (text.new.items ≡ text.old.items ++ news_text news.now.time news.now.intervals) }
+    ensures ok { OnOk result (text.new.items
+        ≡ text.old.items ++ news_text news.now.time news.now.intervals) }
     ensures err { OnErr result (BeginsWith text.new.items text.old.items) }
 {
     push_time(text, &news.time)?;
@@ -85,7 +91,7 @@ pub(crate) fn push_news(text: &mut Vec<u8>, news: &News) -> Result<(), AllocErro
     push_intervals_or_dash(text, &news.intervals)
 }
 
-/// Adds that a collection is asked for, or that there is one.
+/// Adds that the message asks for a collection or announces one, if `collects` is true.
 pub(crate) fn push_collect(text: &mut Vec<u8>, collects: bool) -> Result<(), AllocError>
     ensures ok { OnOk result (text.new.items ≡ text.old.items ++ collect_text collects) }
     ensures err { OnErr result (BeginsWith text.new.items text.old.items) }

@@ -8,17 +8,21 @@ ghost use Rattle.lrc_protocol.specs.Node.{Node, needs_of, nothing};
 ghost use Rattle.lrc_protocol.specs.Rules.{keeping, need_at, upkeep_at};
 ghost use Rattle.lrc_protocol.specs.Turn.{expects_departure};
 
-/// What a node asks for is all that is missing. Where a node that is reached needs nothing of pages, no changes are known of
-/// what a copy lacks; nor are they where it has the news of a departure that it expects, before it asks for what the pages need
-/// that it keeps. So at a miss, and at the start of a collection, all changes are asked for that a copy lacks: that the machine
-/// asks for nothing that is known takes nothing away.
+/// A node asks for all that is missing. If a reached node needs nothing of pages, it knows no changes of what a copy
+/// lacks. The same holds when it has the news of a departure that it expects, before it asks for what the pages that it
+/// keeps need. So at a miss, and at the start of a collection, it asks for all changes that a copy lacks. That the
+/// machine asks for nothing that is known takes nothing away.
 pub fn all_that_is_missing_is_asked_for()
     ensures access { (node : Node) (page : ℕ) → IsReached node → needs_of node.mail.wait ≡ []
         → unknown_of node.memory.store (missing_at node.memory page) ≡ missing_at node.memory page }
-    ensures upkeep { (node : Node) (from page : ℕ) (m : DepartRecord) → IsReached node → expects_departure node from m ≡ true
-        → unknown_of (keeping node m).memory.store (missing_at (keeping node m).memory page) ≡ missing_at (keeping node m).memory page }
+    ensures upkeep { (node : Node) (from page : ℕ) (m : DepartRecord) → IsReached node
+        → expects_departure node from m ≡ true
+        → unknown_of (keeping node m).memory.store (missing_at (keeping node m).memory page)
+        ≡ missing_at (keeping node m).memory page }
     ensures at_miss { (node : Node) (page : ℕ) → IsReached node → node.mail.wait ≡ nothing
         → (need_at node page).asked ≡ asked_of node.setting.nodes (need_at node page).missing }
-    ensures in_upkeep { (node : Node) (from : ℕ) (m : DepartRecord) → IsReached node → expects_departure node from m ≡ true
-        → All (λ (need : Need). need.asked ≡ asked_of node.setting.nodes need.missing) (upkeep_at node m) }
+    ensures in_upkeep { (node : Node) (from : ℕ) (m : DepartRecord) → IsReached node
+        → expects_departure node from m ≡ true
+        → All (λ (need : Need). need.asked ≡ asked_of node.setting.nodes need.missing)
+        (upkeep_at node m) }
 {}

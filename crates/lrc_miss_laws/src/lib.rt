@@ -1,4 +1,4 @@
-//! That a node asks for all that its copies lack, though the machine asks only for what is not known. One law.
+//! One law: a node asks for all that its copies lack, although the machine asks only for what is not known.
 #![tactic(auto)]
 
 pub mod laws;

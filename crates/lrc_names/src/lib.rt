@@ -1,4 +1,5 @@
-//! The form of a line of a trace, with the names as they stand on it, and a reader of lines.
+//! A reader of the lines of a trace. A line has the form `THREAD|OP(TARGET)` or `THREAD|OP(TARGET)|LOCATION`; a line
+//! that is read gives the names as they are on it. A table numbers the names.
 #![tactic(auto)]
 
 pub mod line;

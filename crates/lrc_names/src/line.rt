@@ -27,26 +27,26 @@ pub enum Kind {
     Idle,
 }
 
-/// An event as its line names it. The names are parts of the line.
+/// An event with the names on its line. The names are parts of the line.
 #[derive(Clone, Copy)]
 pub struct Named<'a> {
     /// The thread.
     pub thread: &'a [u8],
-    /// What it does.
+    /// What the thread does.
     pub kind: Kind,
-    /// To what; of an idle event nothing.
+    /// The target of the operation; empty for an idle event.
     pub target: &'a [u8],
-    /// Where in its program; nothing, where that is not said.
+    /// The location in the thread's program; empty if the line gives none.
     pub location: &'a [u8],
 }
 
 /// What a line says.
 #[derive(Clone, Copy)]
 pub enum Line<'a> {
-    /// It is empty, or a comment.
+    /// Nothing: the line is empty or a comment.
     Nothing,
     /// An event.
     Event(Named<'a>),
-    /// It has not the form of one.
+    /// The line has neither form.
     Bad,
 }

@@ -7,10 +7,10 @@ ghost use Rattle.lrc_names.specs.Lacking.{Lacks};
 
 use crate::line::{Kind, Line, Named};
 
-/// How long a line is at most.
+/// The greatest length of a line, in bytes.
 const LONGEST_LINE: usize = 4096;
 
-/// How long a name is at most.
+/// The greatest length of a name, in bytes.
 const LONGEST_NAME: usize = 255;
 
 const KINDS: [Kind; 10] = [
@@ -26,9 +26,11 @@ const KINDS: [Kind; 10] = [
     Kind::Depart,
 ];
 
-/// What stands before the first of these bytes, and what behind it.
+/// Splits a text at the first such byte: returns what precedes it and what follows it, or none if the text lacks the
+/// byte.
 pub fn split(text: &[u8], byte: u8) -> Option<(&[u8], &[u8])>
-    ensures { MatchOption result (Lacks byte text.now) (λ parts. (text.now ≡ parts.0.now ++ byte ∷ parts.1.now) × Lacks byte parts.0.now) }
+    ensures { MatchOption result (Lacks byte text.now)
+        (λ parts. (text.now ≡ parts.0.now ++ byte ∷ parts.1.now) × Lacks byte parts.0.now) }
 {
     for (at, other) in text.iter().enumerate() {
         if *other == byte {
@@ -113,7 +115,8 @@ fn is_idle_word(text: &[u8]) -> bool
 
 // What stands before this byte, where it is the last.
 fn without_last(text: &[u8], byte: u8) -> Option<&[u8]>
-    ensures { MatchOption result ((front : List ℕ) → text.now ≡ front ++ byte ∷ [] → ⊥) (λ front. text.now ≡ front.now ++ byte ∷ []) }
+    ensures { MatchOption result ((front : List ℕ) → text.now ≡ front ++ byte ∷ [] → ⊥)
+        (λ front. text.now ≡ front.now ++ byte ∷ []) }
 {
     let (last, front) = text.split_last()?;
     if *last == byte { Some(front) } else { None }
@@ -122,7 +125,8 @@ fn without_last(text: &[u8], byte: u8) -> Option<&[u8]>
 // The operation of this word before an opening parenthesis, with this behind it, and its target.
 fn opened<'a>(word: &'a [u8], rest: &'a [u8]) -> Option<(Kind, &'a [u8])>
     requires { Lacks 40 word.now }
-    ensures { MatchOption result ((kind : Kind) (target : List ℕ) → SpellsOperation kind target (word.now ++ 40 ∷ rest.now) → ⊥)
+    ensures { MatchOption result ((kind : Kind) (target : List ℕ)
+        → SpellsOperation kind target (word.now ++ 40 ∷ rest.now) → ⊥)
         (λ found. SpellsOperation found.0 found.1.now (word.now ++ 40 ∷ rest.now)) }
 {
     let inner = without_last(rest, b')')?;
@@ -142,7 +146,8 @@ fn opened<'a>(word: &'a [u8], rest: &'a [u8]) -> Option<(Kind, &'a [u8])>
 
 // The operation that the bytes spell, and its target.
 fn operation_of(text: &[u8]) -> Option<(Kind, &[u8])>
-    ensures { MatchOption result ((kind : Kind) (target : List ℕ) → SpellsOperation kind target text.now → ⊥)
+    ensures { MatchOption result ((kind : Kind) (target : List ℕ)
+        → SpellsOperation kind target text.now → ⊥)
         (λ found. SpellsOperation found.0 found.1.now text.now) }
 {
     match split(text, b'(') {
@@ -155,8 +160,10 @@ fn operation_of(text: &[u8]) -> Option<(Kind, &[u8])>
 // The event that the bytes spell.
 fn event_of(body: &[u8]) -> Option<Named<'_>>
     ensures { MatchOption result
-        ((thread : List ℕ) (kind : Kind) (target location : List ℕ) → SpellsEvent thread kind target location body.now → ⊥)
-        (λ named. SpellsEvent named.thread.now named.kind named.target.now named.location.now body.now) }
+        ((thread : List ℕ) (kind : Kind) (target location : List ℕ)
+        → SpellsEvent thread kind target location body.now → ⊥)
+        (λ named. SpellsEvent named.thread.now named.kind named.target.now named.location.now
+        body.now) }
 {
     let (thread, rest) = split(body, b'|')?;
     if !is_name(thread) {
@@ -206,7 +213,7 @@ fn is_blank(body: &[u8]) -> bool
     }
 }
 
-/// What a line says, its line feed left out.
+/// Returns what a line says. The line comes without its line feed.
 pub fn read_line(line: &[u8]) -> Line<'_>
     ensures { Reads line.now result }
 {

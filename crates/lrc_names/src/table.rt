@@ -5,15 +5,15 @@ ghost use Rattle.lrc_names.specs.Table.{names_of, IsNumbered};
 use indexmap::IndexSet;
 use std::alloc::{AllocError, Global};
 
-/// Numbers for names, in the order in which they are first mentioned: 0, 1, 2 and so on. A table is for names of one kind:
-/// a thread and a lock of one name are two things.
+/// A table that numbers names 0, 1, 2 and so on, in the order in which they are first mentioned. A table is for names
+/// of one kind: a thread and a lock of the same name are two things.
 #[derive(Drop)]
 pub struct Table {
     names: IndexSet<Vec<u8>>,
 }
 
 impl Table {
-    /// Before any name.
+    /// Returns the table without names.
     pub fn new(alloc: Global) -> Table
         ensures { names_of result ≡ [] }
     {
@@ -22,14 +22,14 @@ impl Table {
         }
     }
 
-    /// How many names there are.
+    /// Returns the number of names.
     pub fn count(&self) -> usize
         ensures { result ≡ length (names_of self.now) }
     {
         self.names.len()
     }
 
-    /// The name of this number; none, where no name has it.
+    /// Returns the name with this number, or none if no name has it.
     pub fn name(&self, number: usize) -> Option<&[u8]>
         ensures { option_map (λ name. name.now) result ≡ slice_get (names_of self.now) number }
     {
@@ -39,9 +39,11 @@ impl Table {
         }
     }
 
-    /// The number of a name: its own, where it was met before, and else the next. An error leaves the table as it was.
+    /// Returns the number of a name. A known name keeps its number; a new one gets the next. If memory runs out, it
+    /// fails and the table is unchanged.
     pub fn number(&mut self, name: &[u8]) -> Result<usize, AllocError>
-        ensures numbered { IfOk result (λ number. IsNumbered (names_of self.old) name.now (names_of self.new) number) }
+        ensures numbered { IfOk result (λ number. IsNumbered (names_of self.old) name.now
+            (names_of self.new) number) }
         ensures distinct { OnOk result (AllPairs (λ x y. x ≢ y) (names_of self.new)) }
         ensures unchanged { OnErr result (names_of self.new ≡ names_of self.old) }
     {

@@ -13,12 +13,12 @@ use smallvec::SmallVec;
 use std::alloc::{AllocError, Global};
 use std::marker::Model;
 
-/// The changes that are asked of a maker.
+/// The changes that a node asks of one maker.
 #[derive(Drop)]
 pub struct Asked {
-    /// The node that made them, counted from 0.
+    /// The node that made the changes, counted from 0.
     pub maker: u8,
-    /// Its intervals that made them.
+    /// The maker's intervals that made the changes.
     pub indices: Indices,
 }
 
@@ -38,7 +38,7 @@ impl Asked {
         self.maker == maker && are_of(self.indices.as_slice(), parts)
     }
 
-    /// The indices once more.
+    /// Returns a copy of the indices.
     pub fn duplicate_indices(&self, alloc: Global) -> Result<Indices, AllocError>
         ensures { IfOk result (λ indices. indices ≡ self.now.indices) }
     {
@@ -62,21 +62,21 @@ fn are_of(indices: &[u32], parts: &[IndexedChanges]) -> bool
     true
 }
 
-/// Whether these are the changes that are asked of this maker in one of these.
+/// Returns whether one of these is a request to this maker for exactly these changes.
 pub(crate) fn is_any_of(all: &[Asked], maker: u8, parts: &[IndexedChanges]) -> bool
     ensures { result ≡ list_any (asks_just maker (map (λ part. part.index) parts.now)) all.now }
 {
     all.iter().any(|asked| asked.is_of(maker, parts))
 }
 
-/// Takes out what is asked of this maker.
+/// Removes what is asked of this maker.
 pub(crate) fn drop_maker(all: &mut Vec<Asked>, maker: u8)
     ensures { all.new.items ≡ filter (λ asked. not (asked.maker == maker)) all.old.items }
 {
     all.retain(|asked| asked.maker != maker);
 }
 
-/// What is asked of the makers of these keys, makers ascending.
+/// Returns what is asked of each maker of these keys, makers ascending.
 pub(crate) fn ask(alloc: Global, nodes: u8, keys: &[Key]) -> Result<Vec<Asked>, AllocError>
     requires { AreAskable keys.now }
     ensures asked { IfOk result (λ asked. asked.items ≡ asked_of nodes keys.now) }
@@ -93,7 +93,8 @@ pub(crate) fn ask(alloc: Global, nodes: u8, keys: &[Key]) -> Result<Vec<Asked>, 
 
 // Adds what is asked of a maker, where it is anything.
 fn put_some(all: &mut Vec<Asked>, maker: u8, indices: Indices) -> Result<(), AllocError>
-    ensures { OnOk result (all.new.items ≡ all.old.items ++ option_to_list (some_asked maker indices)) }
+    ensures { OnOk result (all.new.items
+        ≡ all.old.items ++ option_to_list (some_asked maker indices)) }
 {
     if !indices.is_empty() {
         all.push(Asked { maker, indices })?;
@@ -117,7 +118,8 @@ fn indices_by(
     keys: &[Key],
     maker: u8,
 ) -> Result<SmallVec<u32, FEW_INDICES>, AllocError>
-    ensures { IfOk result (λ list. list.items ≡ map (λ key. key.index) (filter (λ key. key.node == maker) keys.now)) }
+    ensures { IfOk result (λ list. list.items
+        ≡ map (λ key. key.index) (filter (λ key. key.node == maker) keys.now)) }
 {
     let mut list = SmallVec::new(alloc);
     for key in keys {

@@ -2,13 +2,13 @@
 
 use lrc_page::Page;
 
-/// A base copy of a page that a node needs.
+/// The base copy of a page, as far as a node needs one.
 #[derive(Drop)]
 pub enum Base {
-    /// The node has a copy of its own.
+    /// The node has a copy already.
     Unneeded,
-    /// It is to come from this node, the page's keeper.
+    /// The base copy is due from this node, the page's keeper.
     Due(u8),
-    /// It has come.
+    /// The base copy has arrived.
     Come(Box<Page>),
 }

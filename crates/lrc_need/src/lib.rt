@@ -1,7 +1,7 @@
-//! What a node needs of pages, and what it waits for. A node that misses a page, or that has to keep one anew in a
-//! collection, needs the changes that its copy lacks, of their makers, and for an absent page first a base copy, of the
-//! page's keeper (Amza et al. 1996). A need says what of that has not come yet; a node waits until its needs are met, or for
-//! a lock's grant, a barrier's departure, or the word to discard.
+//! What a node needs of pages, and what it waits for. A node needs changes if it misses a page, or if it must keep a
+//! new base copy in a collection. It asks the makers for the changes that its copy lacks; for an absent page it first
+//! asks the page's keeper for a base copy (Amza et al. 1996). A need lists what has not arrived yet. A node waits until
+//! its needs are met, or for the grant of a lock, the departure from a barrier, or the message to discard.
 #![tactic(auto)]
 
 mod asked;

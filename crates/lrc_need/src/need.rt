@@ -12,8 +12,8 @@ use lrc_store::Key;
 use std::alloc::{AllocError, Global};
 use std::marker::Model;
 
-/// What one page needs before it can be read: perhaps a base copy, changes that have not come yet, and the keys of all
-/// changes that the node's copy lacks, in the order in which they are applied.
+/// What one page needs before it can be read: a base copy if its copy is absent, the changes that have not arrived yet,
+/// and the keys of all changes that the node's copy lacks, in the order in which they are applied.
 #[derive(Drop)]
 pub struct Need {
     page: u16,
@@ -39,8 +39,8 @@ impl Need {
     ghost use Rattle.lrc_need.specs.Seen.{seen_base};
     ghost use Rattle.lrc_need.specs.Need.{AreAskable};
 
-    /// What a page needs, with so many nodes: this base copy, and the changes of the missing keys, in this order, of which
-    /// those of the unknown ones are asked of their makers.
+    /// Creates the need of a page in a run of `nodes` nodes: this base copy, and the changes of the missing keys, in
+    /// this order. Of these, the changes of the unknown keys are asked of their makers.
     pub fn new(
         alloc: Global,
         nodes: u8,
@@ -51,7 +51,14 @@ impl Need {
     ) -> Result<Self, AllocError>
         requires page { page < MOST_PAGES }
         requires askable { AreAskable unknown.now }
-        ensures { IfOk result (λ need. need ≡ record { page = page; base = seen_base base; asked = asked_of nodes unknown.now; missing = missing.items }) }
+        ensures { IfOk result (λ need. need
+            ≡ record {
+              page = page;
+              base = seen_base base;
+              asked = asked_of nodes unknown.now;
+              missing =
+                  missing.items;
+            }) }
     {
         let asked = ask(alloc, nodes, unknown)?;
         Ok(Need {
@@ -62,7 +69,7 @@ impl Need {
         })
     }
 
-    /// The same where the changes of all missing keys are asked of their makers.
+    /// Does the same, but asks the makers for the changes of all missing keys.
     pub fn asking_all(
         alloc: Global,
         nodes: u8,
@@ -72,7 +79,14 @@ impl Need {
     ) -> Result<Self, AllocError>
         requires page { page < MOST_PAGES }
         requires askable { AreAskable missing.items }
-        ensures { IfOk result (λ need. need ≡ record { page = page; base = seen_base base; asked = asked_of nodes missing.items; missing = missing.items }) }
+        ensures { IfOk result (λ need. need
+            ≡ record {
+              page = page;
+              base = seen_base base;
+              asked = asked_of nodes missing.items;
+              missing =
+                  missing.items;
+            }) }
     {
         let asked = ask(alloc, nodes, missing.as_slice())?;
         Ok(Need {
@@ -83,7 +97,7 @@ impl Need {
         })
     }
 
-    /// Which page it is.
+    /// Returns the page that needs this.
     pub fn page(&self) -> u16
         ensures page { result ≡ self.now.page }
         ensures in_range { result < MOST_PAGES }
@@ -91,14 +105,14 @@ impl Need {
         self.page
     }
 
-    /// The base copy.
+    /// Returns the base copy.
     pub fn base(&self) -> &Base
         ensures { seen_base result.now ≡ self.now.base }
     {
         &self.base
     }
 
-    /// What has not come yet of the changes that were asked for, by their makers, ascending.
+    /// Returns the requested changes that have not arrived yet, by maker, makers ascending.
     pub fn asked(&self) -> &[Asked]
         ensures asked { result.now ≡ self.now.asked }
         ensures some { All (λ a. 1 ≤ length a.indices) result.now }
@@ -106,35 +120,35 @@ impl Need {
         self.asked.as_slice()
     }
 
-    /// The keys of all changes that the node's copy lacks, in the order in which they are applied.
+    /// Returns the keys of all changes that the node's copy lacks, in the order in which they are applied.
     pub fn missing(&self) -> &[Key]
         ensures { result.now ≡ self.now.missing }
     {
         self.missing.as_slice()
     }
 
-    /// Whether all has come that the page needs.
+    /// Returns whether everything that the page needs has arrived.
     pub fn is_met(&self) -> bool
         ensures { result ≡ is_met self.now }
     {
         self.asked.is_empty() && !matches!(self.base, Base::Due(_))
     }
 
-    /// Whether just these changes of this page are awaited from this maker.
+    /// Returns whether exactly these changes of this page are awaited from this maker.
     pub fn awaits_changes(&self, page: u16, maker: u8, parts: &[IndexedChanges]) -> bool
         ensures { result ≡ awaits_changes page maker (map (λ part. part.index) parts.now) self.now }
     {
         self.page == page && is_any_of(&self.asked, maker, parts)
     }
 
-    /// Whether this page is awaited from this keeper.
+    /// Returns whether this page is awaited from this keeper.
     pub fn awaits_page(&self, page: u16, keeper: u8) -> bool
         ensures { result ≡ awaits_page page keeper self.now }
     {
         self.page == page && matches!(self.base, Base::Due(asked) if asked == keeper)
     }
 
-    /// The changes of this page that were asked of this maker have come. A need of another page stays as it is.
+    /// Notes that the changes of this page asked of this maker have arrived. A need of another page does not change.
     pub fn take_changes(&mut self, page: u16, maker: u8)
         ensures { self.new ≡ changes_came page maker self.old }
     {
@@ -143,7 +157,7 @@ impl Need {
         }
     }
 
-    /// The page's base copy has come.
+    /// Notes that the page's base copy has arrived.
     pub fn take_page(&mut self, copy: Box<Page>)
         ensures { self.new ≡ page_came self.old.page copy.value self.old }
     {

@@ -18,9 +18,9 @@ use std::slice;
 /// A collection under way at a node.
 #[derive(Drop)]
 pub struct Collection {
-    /// The barrier's time, up to which intervals are collected.
+    /// The time of the barrier. Intervals up to it are collected.
     pub time: Time,
-    /// The pages of which the node keeps a base copy anew.
+    /// The pages of which the node keeps a new base copy.
     pub kept: Pages,
 }
 
@@ -37,29 +37,29 @@ impl Model for Collection {
 #[derive(Drop)]
 pub enum Wait {
     Nothing,
-    /// The grant of a lock.
+    /// The grant of this lock.
     Grant(u8),
-    /// The departure from the barrier where it has arrived.
+    /// The departure from the barrier at which the node has arrived.
     Departure,
     /// What the page of its next access needs.
     Access(Need),
-    /// What the pages need that it keeps, in a collection.
+    /// What the pages that the node keeps need, in a collection.
     Upkeep(Collection, Vec<Need>),
-    /// The word to discard: its copies are clean.
+    /// The message to discard. The node's copies are clean.
     Discard(Collection),
 }
 
 impl Wait {
     ghost use Rattle.lrc_need.specs.Wait.{seen_wait};
 
-    /// Whether nothing is awaited.
+    /// Returns whether the node waits for nothing.
     pub fn is_idle(&self) -> bool
         ensures { result ≡ is_idle (seen_wait self.now) }
     {
         matches!(self, Wait::Nothing)
     }
 
-    /// What is still needed of pages.
+    /// Returns the needs of pages that are not met yet.
     pub fn needs(&self) -> &[Need]
         ensures { result.now ≡ needs_of (seen_wait self.now) }
     {
@@ -70,37 +70,38 @@ impl Wait {
         }
     }
 
-    /// Whether this lock's grant is awaited.
+    /// Returns whether this lock's grant is awaited.
     pub fn awaits_grant(&self, lock: u8) -> bool
         ensures { result ≡ awaits_grant lock (seen_wait self.now) }
     {
         matches!(self, Wait::Grant(awaited) if *awaited == lock)
     }
 
-    /// Whether the departure is awaited.
+    /// Returns whether the departure is awaited.
     pub fn awaits_departure(&self) -> bool
         ensures { result ≡ awaits_departure (seen_wait self.now) }
     {
         matches!(self, Wait::Departure)
     }
 
-    /// Whether the word to discard is awaited.
+    /// Returns whether the message to discard is awaited.
     pub fn awaits_discard(&self) -> bool
         ensures { result ≡ awaits_discard (seen_wait self.now) }
     {
         matches!(self, Wait::Discard(_))
     }
 
-    /// Whether a page is awaited for which just these changes are asked of this maker.
+    /// Returns whether exactly these changes of this page are awaited from this maker.
     pub fn awaits_changes(&self, page: u16, maker: u8, parts: &[IndexedChanges]) -> bool
-        ensures { result ≡ list_any (awaits_changes page maker (map (λ part. part.index) parts.now)) (needs_of (seen_wait self.now)) }
+        ensures { result ≡ list_any (awaits_changes page maker (map (λ part. part.index) parts.now))
+            (needs_of (seen_wait self.now)) }
     {
         self.needs()
             .iter()
             .any(|need| need.awaits_changes(page, maker, parts))
     }
 
-    /// Whether this page's base copy is awaited from this keeper.
+    /// Returns whether this page's base copy is awaited from this keeper.
     pub fn awaits_page(&self, page: u16, keeper: u8) -> bool
         ensures { result ≡ list_any (awaits_page page keeper) (needs_of (seen_wait self.now)) }
     {
@@ -109,7 +110,7 @@ impl Wait {
             .any(|need| need.awaits_page(page, keeper))
     }
 
-    /// The changes of this page that were asked of this maker have come.
+    /// Notes that the changes of this page asked of this maker have arrived.
     pub fn take_changes(&mut self, page: u16, maker: u8)
         ensures { seen_wait self.new ≡ with_needs (changes_came page maker) (seen_wait self.old) }
     {
@@ -120,7 +121,7 @@ impl Wait {
         }
     }
 
-    /// This page's base copy has come. No two needs are of one page.
+    /// Notes that this page's base copy has arrived. No two needs may be of the same page.
     pub fn take_page(&mut self, page: u16, copy: Box<Page>)
         requires { AllPairs (λ a b. a.page ≢ b.page) (needs_of (seen_wait self.old)) }
         ensures { seen_wait self.new ≡ with_needs (page_came page copy.value) (seen_wait self.old) }

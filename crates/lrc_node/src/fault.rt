@@ -7,19 +7,19 @@ ghost use Rattle.lrc_node.specs.declared.fault.NodeFault.TheVariants.{NoMemory};
 use std::alloc::{AllocError, AllocFailed};
 use thiserror::Error;
 
-/// Why a node doesn't take its turn.
+/// Why a node did not make its turn.
 #[derive(Clone, Copy, Debug, PartialEq, Eq, Error)]
 pub enum NodeFault {
-    /// An earlier turn of the node was worn or without memory.
+    /// An earlier turn of the node failed with `Worn` or `NoMemory`.
     #[error("the node has failed before")]
     Failed,
     /// The node waits, has stopped, or has used up its steps.
     #[error("the node is not ready")]
     NotReady,
-    /// The node doesn't expect the message.
+    /// The node does not expect the message.
     #[error("the message is not expected")]
     Unexpected,
-    /// A message number, an interval's index or a turn's stamp would be too large.
+    /// A message number, the index of an interval or the stamp of a turn would be too large.
     #[error("message numbers used up")]
     Worn,
     /// No memory was left.
@@ -28,7 +28,7 @@ pub enum NodeFault {
 }
 
 impl NodeFault {
-    /// Whether the node fails with it.
+    /// Returns whether this fault makes the node fail.
     pub(crate) fn is_final(self) -> bool
         ensures { result ≡ is_final self }
     {

@@ -8,27 +8,34 @@ ghost use Rattle.lrc_node.specs.Logged.{LeadsFrom, LogsTo, NotesIn, TracedLog};
 ghost use Rattle.lrc_node.specs.Whole.{IsWholeLog};
 ghost use Rattle.lrc_node.specs.declared.fault.NodeFault.TheVariants.{NotReady, Unexpected};
 
-/// A node with its log that made its turns from a fresh one on has the trace that those turns make, and each further turn that
-/// is logged keeps it so. An input that is refused changes nothing.
+/// If a node with its log made all its turns from a fresh node, its trace is the one that these turns make. Each
+/// further logged turn keeps this true. A refused input changes nothing.
 pub fn logs_lead_on()
     ensures fresh { (program : Program) (nodes : ℕ) (options : OptionsRecord) (me : ℕ)
-        → LeadsFrom (fresh_node program nodes options me) (record { node = fresh_node program nodes options me; log = [] })
+        → LeadsFrom (fresh_node program nodes options me)
+        (record { node = fresh_node program nodes options me; log = [] })
         (record {
           logged = record { node = Some (fresh_node program nodes options me); log = [] };
           trace = record { node = me; size = options.size; segments = [] };
         }) }
-    ensures turn { (start : NodeRecord) (l : LogRecord) (old new : TracedLog) (input : Input) (came : ℕ) → LeadsFrom start l old
+    ensures turn { (start : NodeRecord) (l : LogRecord) (old new : TracedLog) (input : Input)
+        (came : ℕ) → LeadsFrom start l old
         → LogsTo old.logged input came new.logged (Ok tt) → NotesIn old new (Ok tt)
-        → (entry : EntryRecord) × (after : LogRecord) × (logs l input came ≡ logged entry after) × LeadsFrom start after new }
-    ensures unready { (start : NodeRecord) (l : LogRecord) (old new : TracedLog) (input : Input) (came : ℕ) → LeadsFrom start l old
-        → LogsTo old.logged input came new.logged (Err NotReady) → NotesIn old new (Err NotReady) → LeadsFrom start l new }
-    ensures unexpected { (start : NodeRecord) (l : LogRecord) (old new : TracedLog) (input : Input) (came : ℕ) → LeadsFrom start l old
-        → LogsTo old.logged input came new.logged (Err Unexpected) → NotesIn old new (Err Unexpected) → LeadsFrom start l new }
+        → (entry : EntryRecord) × (after : LogRecord) × (logs l input came ≡ logged entry after)
+        × LeadsFrom start after new }
+    ensures unready { (start : NodeRecord) (l : LogRecord) (old new : TracedLog) (input : Input)
+        (came : ℕ) → LeadsFrom start l old
+        → LogsTo old.logged input came new.logged (Err NotReady) → NotesIn old new (Err NotReady)
+        → LeadsFrom start l new }
+    ensures unexpected { (start : NodeRecord) (l : LogRecord) (old new : TracedLog) (input : Input)
+        (came : ℕ) → LeadsFrom start l old
+        → LogsTo old.logged input came new.logged (Err Unexpected)
+        → NotesIn old new (Err Unexpected) → LeadsFrom start l new }
 {}
 
-/// The log of a fresh node that has made no turn is whole. Each call of `run` and `take` of a node with its log keeps it so, by its
-/// clause `whole`, whatever it answers: so the turns of a log that is handed over are the node's local turns of the inputs that it
-/// stores.
+/// The log of a fresh node without turns is whole: its turns are the node's local turns on the inputs that it stores.
+/// Each call of `run` and `take` on a node with its log keeps the log whole, whatever the call returns, by its clause
+/// `whole`. So a log from which no turn was forgotten is whole when it is handed over.
 pub fn fresh_logs_are_whole()
     ensures { (program : Program) (nodes : ℕ) (options : OptionsRecord) (me : ℕ)
         → IsWholeLog program nodes options me (record {

@@ -1,6 +1,6 @@
-//! One node of the distributed shared memory: what each of its turns does. A turn goes on by one statement, or takes one
-//! message (Keleher, Cox, Dwarkadas and Zwaenepoel 1994; Amza et al. 1996). In contracts a node is that of the protocol
-//! machine in `lrc_protocol`.
+//! One node of the distributed shared memory: what each of its turns does. In a turn the node goes on by one statement,
+//! or takes one message (Keleher, Cox, Dwarkadas and Zwaenepoel 1994; Amza et al. 1996). In contracts a node is that of
+//! the protocol machine in `lrc_protocol`.
 #![tactic(auto)]
 
 // A node, alone and with its log, and what its calls are given and give.

@@ -23,16 +23,16 @@ use lrc_trace::trace::Trace;
 use std::alloc::Global;
 use std::marker::Model;
 
-/// What makes a turn.
+/// The input of a turn.
 #[derive(Drop)]
 pub enum Input {
-    /// The node is named.
+    /// The node goes on by itself.
     Run,
-    /// A message is delivered.
+    /// This message is delivered to the node.
     Taken(Box<Envelope>),
 }
 
-/// An input, the stamp of its turn, and the turn.
+/// A turn with its input and its stamp.
 #[derive(Drop)]
 pub struct Entry {
     pub input: Input,
@@ -50,8 +50,9 @@ impl Model for Entry {
     ghost view = { λ e. record { input = seen_input e.input; stamp = e.stamp; turn = e.turn } };
 }
 
-/// A node with its log: the turns that it made, with their stamps. A turn's stamp is one more than the greater of the
-/// node's last one and of that of the turn that sent the message. A refused call adds nothing to the log.
+/// A node with its log: the turns that it made, with their stamps. The stamp of a turn is the greater of two stamps
+/// plus one: that of the node's last turn, and that of the turn that sent the message. A refused call adds nothing to
+/// the log.
 #[derive(Drop)]
 pub struct Logged<'c> {
     node: Node<'c>,
@@ -78,9 +79,11 @@ impl<'c> Model for Logged<'c> {
 }
 
 impl<'c> Logged<'c> {
-    /// A node that has made no turn, with its log.
+    /// Creates the log of a node that has made no turn.
     pub fn new(alloc: Global, node: Node<'c>) -> Logged<'c>
-        ensures { result ≡ record { logged = record { node = node.entry.node; log = [] }; trace = node.entry.trace } }
+        ensures { result
+            ≡ record
+            { logged = record { node = node.entry.node; log = [] }; trace = node.entry.trace } }
     {
         Logged {
             node,
@@ -90,18 +93,24 @@ impl<'c> Logged<'c> {
         }
     }
 
-    /// The node goes on by itself. `Failed` and `NotReady` change nothing; after `Worn` and `NoMemory` the node has
-    /// failed. There is no memory for the log before it is looked whether the node is ready, and the stamp is too large before the
-    /// turn is made. A refused call adds nothing to the log, and nothing to the trace.
+    /// Lets the node go on by itself, and logs the turn.
+    ///
+    /// It is refused, in this order, with: `Failed`; `NoMemory` if there is no memory for the log; `NotReady` if the
+    /// node waits, has stopped, or has used up its steps; `Worn` if the stamp would be too large; or as the turn itself
+    /// is. `Failed` and `NotReady` change nothing. After `Worn` and `NoMemory` the node has failed. A refused call adds
+    /// nothing to the log or the trace.
     pub fn run(&mut self) -> Result<(), NodeFault>
         ensures logs { LogsTo self.old.logged log.run 0 self.new.logged result }
         ensures notes { NotesIn self.old self.new result }
-        ensures failed { self.old.logged.node ≡ None → (result ≡ Err Failed) × (self.new ≡ self.old) }
-        ensures fails { IfErr result (λ fault. is_final fault ≡ true → self.new.logged ≡ record { node = None; log = self.old.logged.log }) }
+        ensures failed { self.old.logged.node ≡ None
+            → (result ≡ Err Failed) × (self.new ≡ self.old) }
+        ensures fails { IfErr result (λ fault. is_final fault ≡ true
+            → self.new.logged ≡ record { node = None; log = self.old.logged.log }) }
         ensures fault { IfErr result (MayAnswer log.run) }
         ensures kept { OnErr result (self.new.logged.log ≡ self.old.logged.log) }
         ensures whole { (program : Program) (nodes : ℕ) (options : OptionsRecord) (me : ℕ)
-            → IsWholeLog program nodes options me self.old → IsWholeLog program nodes options me self.new }
+            → IsWholeLog program nodes options me self.old
+            → IsWholeLog program nodes options me self.new }
     {
         make_room(&mut self.node, &mut self.log)?;
         let wish = self.node.wish();
@@ -117,19 +126,24 @@ impl<'c> Logged<'c> {
         settle(&mut self.log, &mut self.stamp, Input::Run, stamp, outcome)
     }
 
-    /// The node takes a message, which came with the stamp of the turn that sent it. `Failed` and `Unexpected` change
-    /// nothing; after `Worn` and `NoMemory` the node has failed. There is no memory for the log before it is looked whether the
-    /// message is expected, and the stamp is too large before the turn is made. A refused call adds nothing to the log, and nothing to
-    /// the trace.
+    /// Takes a message that came with the stamp of the turn that sent it, and logs the turn.
+    ///
+    /// It is refused, in this order, with: `Failed`; `NoMemory` if there is no memory for the log; `Unexpected` if the
+    /// node does not expect the message; `Worn` if the stamp would be too large; or as the turn itself is. `Failed` and
+    /// `Unexpected` change nothing. After `Worn` and `NoMemory` the node has failed. A refused call adds nothing to the
+    /// log or the trace.
     pub fn take(&mut self, envelope: Envelope, stamp: u64) -> Result<(), NodeFault>
         ensures logs { LogsTo self.old.logged (log.taken envelope) stamp self.new.logged result }
         ensures notes { NotesIn self.old self.new result }
-        ensures failed { self.old.logged.node ≡ None → (result ≡ Err Failed) × (self.new ≡ self.old) }
-        ensures fails { IfErr result (λ fault. is_final fault ≡ true → self.new.logged ≡ record { node = None; log = self.old.logged.log }) }
+        ensures failed { self.old.logged.node ≡ None
+            → (result ≡ Err Failed) × (self.new ≡ self.old) }
+        ensures fails { IfErr result (λ fault. is_final fault ≡ true
+            → self.new.logged ≡ record { node = None; log = self.old.logged.log }) }
         ensures fault { IfErr result (MayAnswer (log.taken envelope)) }
         ensures kept { OnErr result (self.new.logged.log ≡ self.old.logged.log) }
         ensures whole { (program : Program) (nodes : ℕ) (options : OptionsRecord) (me : ℕ)
-            → IsWholeLog program nodes options me self.old → IsWholeLog program nodes options me self.new }
+            → IsWholeLog program nodes options me self.old
+            → IsWholeLog program nodes options me self.new }
     {
         make_room(&mut self.node, &mut self.log)?;
         let alloc = *self.log.allocator();
@@ -163,7 +177,7 @@ impl<'c> Logged<'c> {
         }
     }
 
-    /// Whether the node would go on if it were named. A failed one would not.
+    /// Returns whether the node would go on by itself. A failed node would not.
     pub fn ready(&self) -> bool
         ensures sound { (l : log.Logged) → self.now.logged ≡ sound l → result ≡ is_ready l.node }
         ensures failed { self.now.logged.node ≡ None → result ≡ false }
@@ -171,9 +185,10 @@ impl<'c> Logged<'c> {
         self.node.ready()
     }
 
-    /// How the node ended. Of one that has failed its log says so.
+    /// Returns how the node ended. If the node has failed, its log tells that.
     pub fn end(&self) -> End
-        ensures sound { (l : log.Logged) → self.now.logged ≡ sound l → result ≡ end_of l.node.course }
+        ensures sound { (l : log.Logged) → self.now.logged ≡ sound l
+            → result ≡ end_of l.node.course }
         ensures failed { self.now.logged.node ≡ None → result ≡ ended_by self.now.logged.log }
     {
         if self.node.has_failed() {
@@ -183,24 +198,25 @@ impl<'c> Logged<'c> {
         }
     }
 
-    /// The accesses that the node made, by interval.
+    /// Returns the accesses that the node made, by interval.
     pub fn trace(&self) -> &Trace
         ensures { result.now ≡ self.now.trace }
     {
         self.node.trace()
     }
 
-    /// The turns so far, with their stamps.
+    /// Returns the turns so far, with their stamps.
     pub fn log(&self) -> &[Entry]
         ensures { result.now ≡ self.now.logged.log }
     {
         self.log.as_slice()
     }
 
-    /// Forgets all turns but the newest. Nothing that the node does later depends on the others, but how it ended, once it
-    /// has failed, is told by the turns that are left.
+    /// Forgets all turns but the newest. Nothing that the node does later depends on the forgotten ones, with one
+    /// exception: once the node has failed, `end` is told by the turns that are left.
     pub fn forget(&mut self)
-        ensures log { self.new.logged ≡ record { node = self.old.logged.node; log = newest self.old.logged.log } }
+        ensures log { self.new.logged ≡ record
+            { node = self.old.logged.node; log = newest self.old.logged.log } }
         ensures trace { self.new.trace ≡ self.old.trace }
     {
         let count = self.log.len();
@@ -211,7 +227,7 @@ impl<'c> Logged<'c> {
         }
     }
 
-    /// The turns with their stamps, and the trace, once the run is over. Takes no memory.
+    /// Returns the turns with their stamps, and the trace, once the run is over. It takes no memory.
     pub fn into_parts(self) -> (Vec<Entry>, Trace)
         ensures log { result.0.items ≡ self.entry.logged.log }
         ensures trace { result.1 ≡ self.entry.trace }

@@ -23,9 +23,9 @@ use lrc_trace::trace::Trace;
 use std::alloc::{AllocError, Global};
 use std::marker::Model;
 
-/// A node, which runs a program and takes messages, and keeps a trace of its accesses. In a contract it is that of the
-/// protocol machine, and none once it has failed: a number was too large, or no memory was left. How it had ended by then
-/// stays.
+/// A node, which runs a program, takes messages, and keeps a trace of its accesses. In a contract it is the node of the
+/// protocol machine, or none once it has failed. A node fails if a number would be too large, or if memory runs out.
+/// How it had ended by then does not change.
 #[derive(Drop)]
 pub struct Node<'c> {
     state: NodeState<'c>,
@@ -51,7 +51,7 @@ impl<'c> Model for Node<'c> {
 }
 
 impl<'c> Node<'c> {
-    /// Node `me` of `nodes`, at most 16, at the beginning of a program.
+    /// Creates node `me` of `nodes`, at most 16, at the beginning of a program.
     pub fn new(
         alloc: Global,
         code: &'c Code<'_>,
@@ -74,16 +74,21 @@ impl<'c> Node<'c> {
         })
     }
 
-    /// Goes on by one statement, or begins one that waits. Refused, in this order: `Failed`; `NotReady`, with nothing
-    /// changed, where the node waits, has stopped, or has used up its steps; `Worn` where a number would be too large;
-    /// `NoMemory`. After the last two the node has failed. The access that is made, if one is, is noted in the trace.
+    /// Goes on by one statement, or begins one that waits. If the node makes an access, the access is noted in the
+    /// trace.
+    ///
+    /// It is refused, in this order, with: `Failed`; `NotReady`, which changes nothing, if the node waits, has stopped,
+    /// or has used up its steps; `Worn` if a number would be too large; `NoMemory`. After the last two the node has
+    /// failed.
     pub fn run(&mut self) -> Result<Turn, NodeFault>
         ensures failed { self.old.node ≡ None → (result ≡ Err Failed) × (self.new ≡ self.old) }
         ensures done { (node : NodeRecord) → self.old.node ≡ Some node
             → IfOk result (λ turn. (after : NodeRecord) × (run_turn node ≡ done turn after)
             × (self.new ≡ sound_node after (with_act after turn.act self.old.trace))) }
-        ensures refused { (node : NodeRecord) → self.old.node ≡ Some node → IfErr result (λ fault. AnswersTurn (run_turn node) node fault self.new.node) }
-        ensures ready { (node : NodeRecord) → self.old.node ≡ Some node → run_turn node ≡ not_ready → result ≡ Err NotReady }
+        ensures refused { (node : NodeRecord) → self.old.node ≡ Some node
+            → IfErr result (λ fault. AnswersTurn (run_turn node) node fault self.new.node) }
+        ensures ready { (node : NodeRecord) → self.old.node ≡ Some node → run_turn node ≡ not_ready
+            → result ≡ Err NotReady }
         ensures kept { OnErr result (self.new.trace ≡ self.old.trace) }
         ensures ended { OnErr result (self.new.end ≡ self.old.end) }
         ensures fault { IfErr result (MayAnswer run) }
@@ -92,7 +97,7 @@ impl<'c> Node<'c> {
         self.run_wish(wish)
     }
 
-    /// What the node begins if it is named: none where it has failed or is not ready.
+    /// Returns what the node would begin by itself, or none if it has failed or is not ready.
     #[inline(always)]
     pub(crate) fn wish(&self) -> Option<Ask>
         ensures { result ≡ wish_of self.now.node }
@@ -104,15 +109,17 @@ impl<'c> Node<'c> {
         }
     }
 
-    /// Goes on as `run` does, by what its wish has said.
+    /// Goes on as `run` does, given the answer of `wish`.
     pub(crate) fn run_wish(&mut self, wish: Option<Ask>) -> Result<Turn, NodeFault>
         requires { wish ≡ wish_of self.old.node }
         ensures failed { self.old.node ≡ None → (result ≡ Err Failed) × (self.new ≡ self.old) }
         ensures done { (node : NodeRecord) → self.old.node ≡ Some node
             → IfOk result (λ turn. (after : NodeRecord) × (run_turn node ≡ done turn after)
             × (self.new ≡ sound_node after (with_act after turn.act self.old.trace))) }
-        ensures refused { (node : NodeRecord) → self.old.node ≡ Some node → IfErr result (λ fault. AnswersTurn (run_turn node) node fault self.new.node) }
-        ensures ready { (node : NodeRecord) → self.old.node ≡ Some node → run_turn node ≡ not_ready → result ≡ Err NotReady }
+        ensures refused { (node : NodeRecord) → self.old.node ≡ Some node
+            → IfErr result (λ fault. AnswersTurn (run_turn node) node fault self.new.node) }
+        ensures ready { (node : NodeRecord) → self.old.node ≡ Some node → run_turn node ≡ not_ready
+            → result ≡ Err NotReady }
         ensures kept { OnErr result (self.new.trace ≡ self.old.trace) }
         ensures ended { OnErr result (self.new.end ≡ self.old.end) }
         ensures fault { IfErr result (MayAnswer run) }
@@ -130,7 +137,7 @@ impl<'c> Node<'c> {
         }
     }
 
-    /// Goes on by a step that only its own thread sees. Such a turn makes no access, sends nothing and can't fail.
+    /// Makes a step that only its own thread sees. Such a turn makes no access, sends nothing and cannot fail.
     #[inline(always)]
     pub(crate) fn run_quietly(&mut self) -> Turn
         requires { wish_of self.old.node ≡ Some Ask.Quiet }
@@ -141,17 +148,22 @@ impl<'c> Node<'c> {
         self.state.run_quietly()
     }
 
-    /// Takes a message; a repeat of one that was taken is an empty turn. Refused, in this order: `Failed`; `Unexpected`,
-    /// with nothing changed, where the node doesn't expect the message; `Worn` where a number would be too large;
-    /// `NoMemory`. After the last two the node has failed. The access that is made, if one is, is noted in the trace.
+    /// Takes a message. A repeat of a message that was taken is an empty turn. If the node makes an access, the access
+    /// is noted in the trace.
+    ///
+    /// It is refused, in this order, with: `Failed`; `Unexpected`, which changes nothing, if the node does not expect
+    /// the message; `Worn` if a number would be too large; `NoMemory`. After the last two the node has failed.
     pub fn take(&mut self, envelope: &Envelope) -> Result<Turn, NodeFault>
         ensures failed { self.old.node ≡ None → (result ≡ Err Failed) × (self.new ≡ self.old) }
         ensures done { (node : NodeRecord) → self.old.node ≡ Some node
-            → IfOk result (λ turn. (after : NodeRecord) × (take_turn node envelope.now ≡ done turn after)
+            → IfOk result (λ turn. (after : NodeRecord)
+            × (take_turn node envelope.now ≡ done turn after)
             × (self.new ≡ sound_node after (with_act after turn.act self.old.trace))) }
         ensures refused { (node : NodeRecord) → self.old.node ≡ Some node
-            → IfErr result (λ fault. AnswersTurn (take_turn node envelope.now) node fault self.new.node) }
-        ensures unexpected { (node : NodeRecord) → self.old.node ≡ Some node → take_turn node envelope.now ≡ unexpected → result ≡ Err Unexpected }
+            → IfErr result (λ fault. AnswersTurn
+            (take_turn node envelope.now) node fault self.new.node) }
+        ensures unexpected { (node : NodeRecord) → self.old.node ≡ Some node
+            → take_turn node envelope.now ≡ unexpected → result ≡ Err Unexpected }
         ensures kept { OnErr result (self.new.trace ≡ self.old.trace) }
         ensures ended { OnErr result (self.new.end ≡ self.old.end) }
         ensures fault { IfErr result (MayAnswer (taken envelope.now)) }
@@ -169,37 +181,40 @@ impl<'c> Node<'c> {
         }
     }
 
-    /// Whether the node would take a message, as far as its numbers go. Nothing is asked of a node that has failed.
+    /// Returns whether the node would take a message, if numbers that are too large are left aside. For a failed node
+    /// the answer means nothing.
     pub(crate) fn awaits(&self, envelope: &Envelope) -> bool
-        ensures { (node : NodeRecord) → self.now.node ≡ Some node → result ≡ is_turn (take_turn node envelope.now) }
+        ensures { (node : NodeRecord) → self.now.node ≡ Some node
+            → result ≡ is_turn (take_turn node envelope.now) }
     {
         self.failed.is_none() && self.state.awaits(envelope)
     }
 
-    /// Whether the node has failed.
+    /// Returns whether the node has failed.
     pub(crate) fn has_failed(&self) -> bool
         ensures { result ≡ is_none self.now.node }
     {
         self.failed.is_some()
     }
 
-    /// The node fails: every later turn is refused. It ended as it had ended before.
+    /// Makes the node fail: every later turn is refused. How it had ended does not change.
     pub(crate) fn fail(&mut self)
         ensures { self.new ≡ record { node = None; trace = self.old.trace; end = self.old.end } }
     {
         self.failed = Some(self.end());
     }
 
-    /// Keeps a list of messages that are of no use any more, whose place those of a later turn take.
+    /// Keeps a list of messages that are no longer needed, so that the messages of a later turn can reuse its memory.
     pub(crate) fn keep_list(&mut self, out: Vec<Envelope>)
         ensures { self.new ≡ self.old }
     {
         self.state.keep_list(out);
     }
 
-    /// The node's parts, as they are seen by calls that change nothing; none once it has failed.
+    /// Returns the node's parts, for calls that change nothing, or none if the node has failed.
     pub fn state(&self) -> Option<&NodeState<'c>>
-        ensures { MatchOption result (self.now.node ≡ None) (λ state. self.now.node ≡ Some state.now) }
+        ensures { MatchOption result (self.now.node ≡ None)
+            (λ state. self.now.node ≡ Some state.now) }
     {
         match self.failed {
             Some(_) => None,
@@ -207,17 +222,18 @@ impl<'c> Node<'c> {
         }
     }
 
-    /// Whether the node would go on if it were named. A failed one would not.
+    /// Returns whether the node would go on by itself. A failed node would not.
     pub fn ready(&self) -> bool
         ensures { result ≡ unwrap_or (option_map is_ready self.now.node) false }
     {
         self.failed.is_none() && self.state.is_ready()
     }
 
-    /// How the node ended. A failed one ended as it had ended before it failed.
+    /// Returns how the node ended. A failed node ended as it had before it failed.
     pub fn end(&self) -> End
         ensures kept { result ≡ self.now.end }
-        ensures sound { (node : NodeRecord) → self.now.node ≡ Some node → result ≡ end_of node.course }
+        ensures sound { (node : NodeRecord) → self.now.node ≡ Some node
+            → result ≡ end_of node.course }
     {
         match self.failed {
             Some(end) => end,
@@ -225,14 +241,15 @@ impl<'c> Node<'c> {
         }
     }
 
-    /// The accesses that the node made, by interval, each interval with its epoch and the stamp that it has or would have.
+    /// Returns the accesses that the node made, by interval. Each interval has its epoch and the stamp that it has or
+    /// would have.
     pub fn trace(&self) -> &Trace
         ensures { result.now ≡ self.now.trace }
     {
         &self.trace
     }
 
-    /// The trace, once the node makes no further turn. Takes no memory.
+    /// Returns the trace, once the node makes no further turn. It takes no memory.
     pub(crate) fn into_trace(self) -> Trace
         ensures { result ≡ self.entry.trace }
     {

@@ -20,9 +20,9 @@ use lrc_trace::trace::Trace;
 use std::alloc::AllocError;
 
 impl NodeState<'_> {
-    /// Goes on by one statement, or begins one that waits, and notes the access that is made, if one is. Which it is, its
-    /// wish has said. `NotReady`, with nothing changed, where the node waits, has stopped, or has used up its steps; `Worn`
-    /// where a number would be too large. After an error the trace is as it was.
+    /// Goes on by one statement, or begins one that waits, as the wish says. If the node makes an access, the access is
+    /// noted in the trace. It fails with `NotReady`, and changes nothing, if the node waits, has stopped, or has used
+    /// up its steps; and with `Worn` if a number would be too large. On error the trace does not change.
     pub(crate) fn run_noting(
         &mut self,
         wish: Option<Ask>,
@@ -33,7 +33,8 @@ impl NodeState<'_> {
         ensures done { IfOk result (λ turn. run_turn self.old ≡ done turn self.new) }
         ensures noted { IfOk result (λ turn. trace.new ≡ with_act self.new turn.act trace.old) }
         ensures kept { OnErr result (trace.new ≡ trace.old) }
-        ensures ready { run_turn self.old ≡ not_ready → (result ≡ Err NotReady) × (self.new ≡ self.old) }
+        ensures ready { run_turn self.old ≡ not_ready
+            → (result ≡ Err NotReady) × (self.new ≡ self.old) }
         ensures refused { IfErr result (λ fault. RefusesRun (run_turn self.old) fault) }
     {
         let Some(ask) = wish else {
@@ -59,7 +60,8 @@ impl NodeState<'_> {
         Ok(turn)
     }
 
-    /// Takes a message as `take` does, and notes the access that is made, if one is. After an error the trace is as it was.
+    /// Takes a message as `take` does. If the node makes an access, the access is noted in the trace. On error the
+    /// trace does not change.
     pub(crate) fn take_noting(
         &mut self,
         trace: &mut Trace,
@@ -69,8 +71,10 @@ impl NodeState<'_> {
         ensures done { IfOk result (λ turn. take_turn self.old envelope.now ≡ done turn self.new) }
         ensures noted { IfOk result (λ turn. trace.new ≡ with_act self.new turn.act trace.old) }
         ensures kept { OnErr result (trace.new ≡ trace.old) }
-        ensures refused { IfErr result (λ fault. RefusesTake (take_turn self.old envelope.now) self.old fault self.new) }
-        ensures unexpected { take_turn self.old envelope.now ≡ unexpected → result ≡ Err Unexpected }
+        ensures refused { IfErr result (λ fault. RefusesTake
+            (take_turn self.old envelope.now) self.old fault self.new) }
+        ensures unexpected { take_turn self.old envelope.now ≡ unexpected
+            → result ≡ Err Unexpected }
     {
         let turn = self.take(envelope)?;
         self.note(trace, turn.act)?;

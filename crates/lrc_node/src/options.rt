@@ -3,14 +3,14 @@
 use lrc_page::Size;
 use std::marker::Model;
 
-/// How the nodes of a run go.
+/// The options of a run, which are the same for all nodes.
 #[derive(Clone, Copy)]
 pub struct Options {
-    /// How many steps each node may make: statements begun and conditions evaluated, 1 to 1,000,000.
+    /// How many steps each node may make, 1 to 1,000,000. A step is a statement begun or a condition evaluated.
     pub steps: u32,
-    /// From how many stored intervals on a node asks for a collection at a barrier; 0: never.
+    /// The number of stored intervals from which on a node asks for a collection at a barrier, or 0 for never.
     pub collect: u32,
-    /// The number of the first message from each node to each.
+    /// The number of the first message from each node to each node.
     pub first: u32,
     /// The size of a page.
     pub size: Size,

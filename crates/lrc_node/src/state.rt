@@ -14,7 +14,7 @@ use lrc_page::pages_of;
 use std::alloc::{AllocError, Global};
 use std::marker::Model;
 
-/// A node, as long as it has not failed: its text, its clock with tokens, its part in barriers, its memory and its mail.
+/// A node that has not failed: its text, its clock with the tokens, its part in barriers, its memory and its mail.
 #[derive(Drop)]
 pub struct NodeState<'c> {
     pub(crate) alloc: Global,
@@ -47,7 +47,7 @@ impl<'c> Model for NodeState<'c> {
 }
 
 impl<'c> NodeState<'c> {
-    /// Node `me` of `nodes` at the beginning of a program.
+    /// Creates node `me` of `nodes`, at most 16, at the beginning of a program.
     pub(crate) fn new(
         alloc: Global,
         code: &'c Code<'_>,
@@ -78,7 +78,7 @@ impl<'c> NodeState<'c> {
         })
     }
 
-    /// Which node it is.
+    /// Returns the number of this node, counted from 0.
     pub fn me(&self) -> u8
         ensures me { result ≡ self.now.setting.me }
         ensures here { result < self.now.setting.nodes }
@@ -86,7 +86,7 @@ impl<'c> NodeState<'c> {
         self.me
     }
 
-    /// Of how many nodes it is.
+    /// Returns the number of nodes, at most 16.
     pub fn nodes(&self) -> u8
         ensures nodes { result ≡ self.now.setting.nodes }
         ensures few { result ≤ 16 }
@@ -94,7 +94,7 @@ impl<'c> NodeState<'c> {
         self.nodes
     }
 
-    /// How many locks there are.
+    /// Returns the number of locks, at most 64.
     pub fn locks(&self) -> u8
         ensures locks { result ≡ self.now.setting.locks }
         ensures few { result ≤ 64 }
@@ -102,7 +102,7 @@ impl<'c> NodeState<'c> {
         self.locks
     }
 
-    /// How far its text has come, and the steps that are left.
+    /// Returns how far the node's text has come, with the steps that are left.
     pub fn text(&self) -> &Text<'c>
         ensures course { result.now.course ≡ self.now.course }
         ensures left { result.now.left ≡ self.now.left }
@@ -110,7 +110,8 @@ impl<'c> NodeState<'c> {
         &self.text
     }
 
-    /// Its time, the tokens that it has or awaits, and who asked last for the locks that it manages.
+    /// Returns the node's time, the tokens that it has or awaits, and the last node to ask for each lock that it
+    /// manages.
     pub fn clock(&self) -> &Clock
         ensures clock { result.now ≡ self.now.locks }
         ensures nodes { length self.now.locks.time ≡ self.now.setting.nodes }
@@ -119,7 +120,7 @@ impl<'c> NodeState<'c> {
         &self.clock
     }
 
-    /// Its part in barriers.
+    /// Returns the node's part in barriers.
     pub fn barrier(&self) -> &Barrier
         ensures barrier { result.now ≡ self.now.barrier }
         ensures nodes { IsOfNodes self.now.setting.nodes self.now.barrier }
@@ -127,7 +128,7 @@ impl<'c> NodeState<'c> {
         &self.barrier
     }
 
-    /// What it knows of the shared memory.
+    /// Returns what the node knows of the shared memory.
     pub fn memory(&self) -> &Memory
         ensures me { result.now.me ≡ self.now.setting.me }
         ensures size { result.now.size ≡ self.now.options.size }
@@ -137,7 +138,7 @@ impl<'c> NodeState<'c> {
         &self.memory
     }
 
-    /// What it waits for, and the messages that it has sent and taken.
+    /// Returns what the node waits for, and the messages that it has sent and taken.
     pub fn mail(&self) -> &Mail
         ensures mail { result.now ≡ self.now.mail }
         ensures sent { length self.now.mail.sent ≡ self.now.setting.nodes }
@@ -146,7 +147,7 @@ impl<'c> NodeState<'c> {
         &self.mail
     }
 
-    /// How many pages there are.
+    /// Returns the number of pages.
     pub fn pages(&self) -> u16
         ensures exact { result ≡ pages_of self.now.setting.words self.now.options.size }
         ensures copies { result ≡ length self.now.memory.copies }

@@ -7,7 +7,7 @@ use lrc_mail::Letter;
 use lrc_trace::act::{Act, Deed};
 use std::marker::Model;
 
-/// What a node's turn does: its act if it makes one, and the messages that it sends, in order.
+/// What a node's turn does: its act, if it makes one, and the messages that it sends, in order.
 #[derive(Drop)]
 pub struct Turn {
     pub act: Option<Act>,
@@ -22,7 +22,7 @@ impl Model for Turn {
     ghost view = { λ t. record { act = t.act; out = t.out.items } };
 }
 
-/// A turn before its messages have numbers: its deed if it makes an act, and what it sends.
+/// A turn before its messages have numbers: its deed, if it makes an act, and the letters that it sends.
 #[derive(Drop)]
 pub(crate) struct Effect {
     pub deed: Option<Deed>,
@@ -30,7 +30,7 @@ pub(crate) struct Effect {
 }
 
 impl Effect {
-    /// No act is made, and these letters are sent.
+    /// Returns the effect that makes no act and sends these letters.
     pub(crate) fn sending(letters: Vec<Letter>) -> Effect
         ensures { result ≡ record { deed = None; letters = letters } }
     {

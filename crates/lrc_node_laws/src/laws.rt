@@ -45,76 +45,94 @@ ghost use Rattle.lrc_time.specs.Time.{entry};
 ghost use Rattle.lrc_envelope.specs.Envelope.{EnvelopeRecord};
 ghost use Rattle.lrc_envelope.specs.Records.{IndexedChangesRecord, ChangesReplyRecord, PageReplyRecord};
 
-/// A fresh node is reached, and so is a node after each turn of one that is reached.
+/// A fresh node is reached, and each turn of a reached node gives a reached node.
 pub fn turns_lead_on()
     ensures fresh { (program : Program) (nodes : ℕ) (options : OptionsRecord) (me : ℕ) → me < nodes
         → IsReached (fresh_node program nodes options me) }
-    ensures run { (node after : Node) (turn : TurnRecord) → IsReached node → run_turn node ≡ done turn after → IsReached after }
-    ensures take { (node after : Node) (turn : TurnRecord) (envelope : EnvelopeRecord) → IsReached node
+    ensures run { (node after : Node) (turn : TurnRecord) → IsReached node
+        → run_turn node ≡ done turn after → IsReached after }
+    ensures take { (node after : Node) (turn : TurnRecord) (envelope : EnvelopeRecord)
+        → IsReached node
         → take_turn node envelope ≡ done turn after → IsReached after }
-    ensures with_turns { (program : Program) (nodes : ℕ) (options : OptionsRecord) (me : ℕ) (l : Local) (input : Input)
-        (turn : TurnRecord) (after : Node) → LeadsTo program nodes options me l → outcome_of l.node input ≡ done turn after
+    ensures with_turns { (program : Program) (nodes : ℕ) (options : OptionsRecord) (me : ℕ)
+        (l : Local) (input : Input)
+        (turn : TurnRecord) (after : Node) → LeadsTo program nodes options me l
+        → outcome_of l.node input ≡ done turn after
         → LeadsTo program nodes options me (record { node = after; turns = l.turns ++ turn ∷ [] }) }
 {}
 
-/// A node that is reached has the setting of its program on one of the nodes, and its options.
+/// A reached node has the setting of its program on one of the nodes, and its options.
 pub fn setting_and_options_stay()
-    ensures { (program : Program) (nodes : ℕ) (options : OptionsRecord) (me : ℕ) (l : Local) → LeadsTo program nodes options me l
+    ensures { (program : Program) (nodes : ℕ) (options : OptionsRecord) (me : ℕ) (l : Local)
+        → LeadsTo program nodes options me l
         → (l.node.setting ≡ setting_of program nodes me) × (l.node.options ≡ options) }
 {}
 
-/// At a node that is reached each call on a token is in turn: a lock that the text acquires next has a token with a place here
-/// that is not held, and where it isn't free it is neither here nor awaited; one that the text releases next is held; and one
-/// whose grant is awaited is awaited.
+/// At a reached node each call on a token comes in turn. A lock that the text acquires next has a place here and is not
+/// held; if it is not free and the node waits for nothing, its token is neither here nor awaited. A lock that the text
+/// releases next is held. A lock whose grant the node waits for is awaited. What the node waits for fixes what its text
+/// does next.
 pub fn tokens_are_called_in_turn()
     ensures shape { (node : Node) → IsReached node → HasShape node.setting node.locks }
-    ensures acquire { (node : Node) (lock : ℕ) → IsReached node → acquiring (next_in node.course) ≡ Some lock
+    ensures acquire { (node : Node) (lock : ℕ) → IsReached node
+        → acquiring (next_in node.course) ≡ Some lock
         → (lock < length node.locks.held.locks) × (is_held (lock_at node.locks.held lock) ≡ false) }
-    ensures ask { (node : Node) (lock : ℕ) → IsReached node → node.mail.wait ≡ nothing → acquiring (next_in node.course) ≡ Some lock
+    ensures ask { (node : Node) (lock : ℕ) → IsReached node → node.mail.wait ≡ nothing
+        → acquiring (next_in node.course) ≡ Some lock
         → is_free (lock_at node.locks.held lock) ≡ false → lock_at node.locks.held lock ≡ Away }
-    ensures release { (node : Node) (lock : ℕ) (after : Thread) → IsReached node → next_in node.course ≡ Some (releases lock after)
+    ensures release { (node : Node) (lock : ℕ) (after : Thread) → IsReached node
+        → next_in node.course ≡ Some (releases lock after)
         → (lock < length node.locks.held.locks) × (is_held (lock_at node.locks.held lock) ≡ true) }
     ensures grant { (node : Node) (lock : ℕ) → IsReached node → node.mail.wait ≡ grant lock
-        → (lock < length node.locks.held.locks) × (is_awaited (lock_at node.locks.held lock) ≡ true) }
-    ensures waits { (node : Node) → IsReached node → FixesNext node.mail.wait (next_in node.course) }
+        → (lock < length node.locks.held.locks)
+        × (is_awaited (lock_at node.locks.held lock) ≡ true) }
+    ensures waits { (node : Node) → IsReached node
+        → FixesNext node.mail.wait (next_in node.course) }
 {}
 
-/// A node that is reached is one of the nodes, its time has an entry for each, and its memory has a place for each page. The
-/// time of a collection under way is the node's own.
+/// A reached node is one of the nodes, its time has an entry for each node, and its memory has a place for each page.
+/// The time of a collection under way is the node's own.
 pub fn memory_has_its_ranges()
     ensures me { (node : Node) → IsReached node → node.setting.me < node.setting.nodes }
     ensures time { (node : Node) → IsReached node → length node.locks.time ≡ node.setting.nodes }
     ensures memory { (node : Node) → IsReached node
         → HasRanges node.setting.nodes (pages_of node.setting.words node.options.size) node.memory }
-    ensures collection { (node : Node) → IsReached node → CollectsAt node.locks.time node.mail.wait }
+    ensures collection { (node : Node) → IsReached node
+        → CollectsAt node.locks.time node.mail.wait }
 {}
 
-/// A node that is reached stores exactly the intervals above its collected time and up to its time, those of each node in
-/// rising order, and the greatest index ever added of each node is the entry of the time. So the interval that it closes next,
-/// and the news that it can learn, can be added one after another.
+/// A reached node stores exactly the intervals above its collected time and up to its time, those of each node in
+/// rising order. The greatest index ever added of each node is that node's entry of the time. So the interval that the
+/// node closes next, and the news that it can learn, can be added one after another.
 pub fn intervals_are_stored_exactly()
     ensures exact { (node : Node) → IsReached node → StoresExactly node.locks.time node.memory }
     ensures store { (node : Node) → IsReached node → IsStore node.memory.store }
     ensures own { (node : Node) → IsReached node
         → (length (next_time node.setting.me node.locks.time) ≡ length node.memory.store.last)
-        × (entry (next_time node.setting.me node.locks.time) node.setting.me ≡ entry node.memory.store.last node.setting.me + 1) }
+        × (entry (next_time node.setting.me node.locks.time) node.setting.me
+        ≡ entry node.memory.store.last node.setting.me + 1) }
     ensures news { (node : Node) (time : List ℕ) (intervals : List IntervalRecord) → IsReached node
         → is_learnable node time intervals ≡ true
         → All (InRange node.setting.nodes (pages_of node.setting.words node.options.size)) intervals
-        × ((q : ℕ) → indices_by intervals q ≡ range_with_len (entry node.memory.store.last q + 1) (length (indices_by intervals q))) }
+        × ((q : ℕ) → indices_by intervals q
+        ≡ range_with_len (entry node.memory.store.last q + 1)
+        (length (indices_by intervals q))) }
 {}
 
-/// A node that is reached counts messages of each node, has the manager of barriers exactly where it is node 0, and has arrived
-/// no more often than it closed intervals, and where it is inside a barrier at least once.
+/// A reached node counts messages for each node, and has the barrier manager exactly if it is node 0. It has arrived at
+/// most as often as it has closed intervals, and at least once if it is inside a barrier.
 pub fn mail_and_barriers_fit()
     ensures sent { (node : Node) → IsReached node → length node.mail.sent ≡ node.setting.nodes }
     ensures taken { (node : Node) → IsReached node → length node.mail.taken ≡ node.setting.nodes }
-    ensures manager { (node : Node) → IsReached node → HasManager node.setting.me node.setting.nodes node.barrier.manager }
-    ensures episode { (node : Node) → IsReached node → node.barrier.episode ≤ entry node.locks.time node.setting.me }
-    ensures inside { (node : Node) → IsReached node → is_inside node.mail.wait ≤ node.barrier.episode }
+    ensures manager { (node : Node) → IsReached node
+        → HasManager node.setting.me node.setting.nodes node.barrier.manager }
+    ensures episode { (node : Node) → IsReached node
+        → node.barrier.episode ≤ entry node.locks.time node.setting.me }
+    ensures inside { (node : Node) → IsReached node
+        → is_inside node.mail.wait ≤ node.barrier.episode }
 {}
 
-/// The text of a node that is reached has the node's setting, and has arrived at a barrier exactly while the node is inside one.
+/// The text of a reached node has the node's setting. It has arrived at a barrier exactly while the node is inside one.
 pub fn texts_fit()
     ensures setting { (node : Node) (thread : Thread) → IsReached node → node.course ≡ going thread
         → (thread.setting ≡ node.setting) × (length thread.held ≡ 64) }
@@ -122,93 +140,121 @@ pub fn texts_fit()
         → thread.arrived ≡ (is_inside node.mail.wait == 1) }
 {}
 
-/// A node that is reached and waits for a grant, or is inside a barrier, has no page that is written in its open interval.
+/// A reached node that waits for a grant or is inside a barrier has no page that is written in its open interval.
 pub fn waiting_node_has_no_written_page()
     ensures { (node : Node) → IsReached node → IsQuiet node.mail.wait node.memory }
 {}
 
-/// What a node that is reached needs of pages fits its memory: the pages ascend; each need has just the keys that the copy of
-/// its page lacks, and asks of each maker for just those changes that are not known; a base copy is due or has come exactly
-/// where the copy is absent. In a collection the node keeps the pages that were named and are its own, and needs those that are
-/// not readable. Who waits at a miss makes its next access on the page that it needs.
+/// What a reached node needs of pages fits its memory. The pages ascend. Each need has exactly the keys that the copy
+/// of its page lacks, and asks each maker for exactly those changes that are not known. A base copy is due or has come
+/// exactly if the copy is absent. In a collection the node keeps the named pages that are its own, and needs those of
+/// them that are not readable. A node that waits at a miss makes its next access on the page that it needs.
 pub fn needs_fit_the_memory()
     ensures each { (node : Node) → IsReached node
-        → All (FitsNeed node.setting.nodes (pages_of node.setting.words node.options.size) (words_of node.options.size) node.memory)
+        → All (FitsNeed node.setting.nodes (pages_of node.setting.words node.options.size)
+        (words_of node.options.size) node.memory)
         (needs_of node.mail.wait) }
     ensures apart { (node : Node) → IsReached node
-        → AllPairs (λ (a b : ℕ). a < b) (map (λ (need : Need). need.page) (needs_of node.mail.wait)) }
-    ensures kept { (node : Node) → IsReached node → FitsKept node.setting.me node.memory node.mail.wait }
-    ensures access { (node : Node) → IsReached node → ReachesFor node.options.size (next_in node.course) node.mail.wait }
+        → AllPairs (λ (a b : ℕ). a < b)
+        (map (λ (need : Need). need.page) (needs_of node.mail.wait)) }
+    ensures kept { (node : Node) → IsReached node
+        → FitsKept node.setting.me node.memory node.mail.wait }
+    ensures access { (node : Node) → IsReached node
+        → ReachesFor node.options.size (next_in node.course) node.mail.wait }
 {}
 
-/// The changes in a reply that a node expects are of stored notices of which no changes are known, and of words of a page.
+/// The changes in a reply that a node expects are of stored notices whose changes are not known, and of words of a
+/// page.
 pub fn replies_are_of_unread_notices()
-    ensures { (node : Node) (from : ℕ) (m : ChangesReplyRecord) → IsReached node → expects_changes_reply node from m ≡ true
+    ensures { (node : Node) (from : ℕ) (m : ChangesReplyRecord) → IsReached node
+        → expects_changes_reply node from m ≡ true
         → All (λ (part : IndexedChangesRecord).
-        (notice_at node.memory.store (record { node = from; index = part.index; page = m.page }) ≡ Some (unread m.page))
-        × All (λ (change : Change). change.offset < words_of node.options.size) part.changes) m.parts }
+        (notice_at node.memory.store (record { node = from; index = part.index; page = m.page })
+        ≡ Some (unread m.page))
+        × All (λ (change : Change). change.offset < words_of node.options.size) part.changes)
+        m.parts }
 {}
 
-/// At a node that is reached each copy, twin and base copy is a page long, each remembered time has an entry for each node, and
-/// all changes that are known are of words of a page.
+/// At a reached node each copy, twin and base copy is one page long, each remembered time has an entry for each node,
+/// and all known changes are of words of a page.
 pub fn copies_are_whole()
-    ensures copies { (node : Node) → IsReached node → All (IsWholeCopy node.setting.nodes (words_of node.options.size)) node.memory.copies }
-    ensures bases { (node : Node) → IsReached node → All (IsWholeBase (words_of node.options.size)) node.memory.bases }
-    ensures changes { (node : Node) → IsReached node → All (IsSized (words_of node.options.size)) node.memory.store.entries }
+    ensures copies { (node : Node) → IsReached node
+        → All (IsWholeCopy node.setting.nodes (words_of node.options.size)) node.memory.copies }
+    ensures bases { (node : Node) → IsReached node
+        → All (IsWholeBase (words_of node.options.size)) node.memory.bases }
+    ensures changes { (node : Node) → IsReached node
+        → All (IsSized (words_of node.options.size)) node.memory.store.entries }
 {}
 
-/// A node that is reached stores each of its own intervals with the changes of all its pages, and its copies have what they
-/// wrote: so it has all that a request can ask of it, its copies lack no interval of its own, and it asks nothing of itself.
+/// A reached node stores each of its own intervals with the changes of all its pages, and its copies have what they
+/// wrote. So it has all that a request can ask of it, its copies lack none of its own intervals, and it asks nothing of
+/// itself.
 pub fn own_changes_are_attached()
     ensures attached { (node : Node) → IsReached node → OwnAttached node.setting.me node.memory }
     ensures copied { (node : Node) → IsReached node → OwnCopied node.setting.me node.memory }
     ensures known { (node : Node) (index page : ℕ) → IsReached node
-        → is_some (notice_at node.memory.store (record { node = node.setting.me; index = index; page = page })) ≡ true
-        → is_some (changes_at node.memory.store (record { node = node.setting.me; index = index; page = page })) ≡ true }
+        → is_some (notice_at node.memory.store
+        (record { node = node.setting.me; index = index; page = page })) ≡ true
+        → is_some (changes_at node.memory.store
+        (record { node = node.setting.me; index = index; page = page })) ≡ true }
     ensures lacking { (node : Node) (page : ℕ) → IsReached node
         → All (λ (key : Key). key.node ≡ node.setting.me → ⊥) (missing_at node.memory page) }
     ensures asked { (node : Node) → IsReached node
-        → All (λ (need : Need). All (λ (asked : Asked). (asked.maker < node.setting.nodes) × (asked.maker ≡ node.setting.me → ⊥)) need.asked)
+        → All (λ (need : Need). All
+        (λ (asked : Asked). (asked.maker < node.setting.nodes)
+        × (asked.maker ≡ node.setting.me → ⊥)) need.asked)
         (needs_of node.mail.wait) }
 {}
 
-/// At a node that is reached the time that is remembered of an invalid copy covers what was collected and is covered by the
-/// node's time, and the copy lacks an interval that is stored. Where all has come that a page needs, all changes that its copy
-/// lacks are known.
+/// At a reached node the time remembered of an invalid copy covers the collected time and is covered by the node's
+/// time, and the copy lacks a stored interval. If all that a page needs has come, all changes that its copy lacks are
+/// known.
 pub fn remembered_times_are_between()
     ensures remembered { (node : Node) (page : ℕ) → IsReached node
         → IsBetween node.locks.time node.memory page (copy_at node.memory page) }
     ensures met { (node : Node) (need : Need) → IsReached node
-        → FitsNeed node.setting.nodes (pages_of node.setting.words node.options.size) (words_of node.options.size) node.memory need
-        → is_met need ≡ true → All (λ (key : Key). is_none (changes_at node.memory.store key) ≡ false) need.missing }
+        → FitsNeed node.setting.nodes (pages_of node.setting.words node.options.size)
+        (words_of node.options.size) node.memory need
+        → is_met need ≡ true → All
+        (λ (key : Key). is_none (changes_at node.memory.store key) ≡ false) need.missing }
 {}
 
-/// A node's copies are what its open interval made of them: after the turns that lead to it, a page is written, with a twin,
-/// exactly where the node's own deeds since the last acquire, release or arrive write it, and its values are those of the twin
-/// after these writes, in order. Who waits for a grant has closed its interval already.
+/// A node's copies are what its open interval made of them. After the turns that lead to the node, a page is written,
+/// with a twin, exactly if the node's deeds since its last acquire, release or arrive write it. The page's values are
+/// those of the twin after these writes, in order. A node that waits for a grant has already closed its interval.
 pub fn copies_are_made_by_the_open_interval()
-    ensures { (program : Program) (nodes : ℕ) (options : OptionsRecord) (me : ℕ) (l : Local) → LeadsTo program nodes options me l
-        → AreMadeBy l.node.options.size l.node.memory (open_in l.node.mail.wait (open_writes (deeds_in l.turns))) }
+    ensures { (program : Program) (nodes : ℕ) (options : OptionsRecord) (me : ℕ) (l : Local)
+        → LeadsTo program nodes options me l
+        → AreMadeBy l.node.options.size l.node.memory
+        (open_in l.node.mail.wait (open_writes (deeds_in l.turns))) }
 {}
 
-/// Where what comes for pages leaves a node waiting at a miss, the page that it needs is one of its memory's, a base copy is due
-/// or has come just where the copy is absent, the keys that it lacks are of it, and the text's next access is on it.
+/// If a node still waits at a miss after something for pages has come, the page that it needs is in its memory. A base
+/// copy is due or has come exactly if the copy is absent, the keys that the need lacks are of this page, and the text's
+/// next access is on it.
 pub fn what_comes_can_be_repaired()
-    ensures changes { (node : Node) (from : ℕ) (m : ChangesReplyRecord) (need : Need) → IsReached node
-        → expects_changes_reply node from m ≡ true → with_needs (changes_came m.page from) node.mail.wait ≡ access need
+    ensures changes { (node : Node) (from : ℕ) (m : ChangesReplyRecord) (need : Need)
+        → IsReached node
+        → expects_changes_reply node from m ≡ true
+        → with_needs (changes_came m.page from) node.mail.wait ≡ access need
         → CanBeRepaired node need }
     ensures page { (node : Node) (from : ℕ) (m : PageReplyRecord) (need : Need) → IsReached node
-        → is_expected node from (PageReply m) ≡ true → with_needs (page_came m.page m.values) node.mail.wait ≡ access need
+        → is_expected node from (PageReply m) ≡ true
+        → with_needs (page_came m.page m.values) node.mail.wait ≡ access need
         → CanBeRepaired node need }
 {}
 
-/// Each access that a turn of a node makes may be noted of the trace that the node keeps, in the interval that is open then;
-/// that interval's index is at most the number of steps that the node may make. And then the trace is what it keeps.
+/// A node can note each access of its turns in the trace that it keeps, in the interval that is open then. That
+/// interval's index is at most the number of steps that the node may make. The trace with the access noted is then what
+/// the node keeps.
 pub fn accesses_can_be_noted()
     ensures fresh { (program : Program) (nodes : ℕ) (options : OptionsRecord) (me : ℕ) → me < nodes
-        → IsTraced (fresh_node program nodes options me) (untraced (fresh_node program nodes options me)).trace }
-    ensures can { (node after : Node) (trace : TraceRecord) (input : Input) (turn : TurnRecord) → IsTraced node trace
+        → IsTraced (fresh_node program nodes options me)
+        (untraced (fresh_node program nodes options me)).trace }
+    ensures can { (node after : Node) (trace : TraceRecord) (input : Input) (turn : TurnRecord)
+        → IsTraced node trace
         → outcome_of node input ≡ done turn after → CanNoteAct after trace turn.act }
-    ensures kept { (node after : Node) (trace : TraceRecord) (input : Input) (turn : TurnRecord) → IsTraced node trace
+    ensures kept { (node after : Node) (trace : TraceRecord) (input : Input) (turn : TurnRecord)
+        → IsTraced node trace
         → outcome_of node input ≡ done turn after → IsTraced after (with_act after turn.act trace) }
 {}

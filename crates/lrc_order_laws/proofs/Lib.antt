@@ -54,3 +54,4 @@ pub mod Barring
 pub mod Exclusive
 pub mod Addressed
 pub mod BarrierExpected
+pub mod TimesOfRuns

@@ -17,50 +17,69 @@ ghost use Rattle.lrc_protocol.specs.declared.event.Event.{Event};
 ghost use Rattle.lrc_protocol.specs.Node.{OptionsRecord};
 ghost use Rattle.lrc_protocol.specs.Run.{World, run_of};
 
-/// In every run, at each act of a node: its time has an entry of at least k for a node exactly where the act that closes that
-/// node's interval k is this act, or happens before it; and for another node exactly where that act happens before it.
+/// In every run the time of an act has an entry of at least k for a node exactly if the act that closes that node's
+/// interval k is this act or happens before it. For a node other than the acting one: exactly if the closing act
+/// happens before this act.
 pub fn time_is_what_happens_before()
-    ensures any { (program : Program) (nodes : ℕ) (options : OptionsRecord) (events : List Event) (world : World)
-        (j node : ℕ) (deed : Deed) (q k : ℕ) → run_of program nodes options events ≡ Some world → Does world.acts j node deed → 1 ≤ k
+    ensures any { (program : Program) (nodes : ℕ) (options : OptionsRecord) (events : List Event)
+        (world : World)
+        (j node : ℕ) (deed : Deed) (q k : ℕ) → run_of program nodes options events ≡ Some world
+        → Does world.acts j node deed → 1 ≤ k
         → k ≤ entry (time_at world.times j) q ↔ IsClosedBy world.acts q k j }
-    ensures other { (program : Program) (nodes : ℕ) (options : OptionsRecord) (events : List Event) (world : World)
-        (j node : ℕ) (deed : Deed) (q k : ℕ) → run_of program nodes options events ≡ Some world → Does world.acts j node deed
+    ensures other { (program : Program) (nodes : ℕ) (options : OptionsRecord) (events : List Event)
+        (world : World)
+        (j node : ℕ) (deed : Deed) (q k : ℕ) → run_of program nodes options events ≡ Some world
+        → Does world.acts j node deed
         → q ≢ node → 1 ≤ k
-        → k ≤ entry (time_at world.times j) q ↔ ((i : ℕ) × ClosesAt world.acts q k i × HappensBefore world.acts i j) }
+        → k ≤ entry (time_at world.times j) q
+        ↔ ((i : ℕ) × ClosesAt world.acts q k i × HappensBefore world.acts i j) }
 {}
 
-/// In every run, of acts of two nodes the one happens before the other exactly where the other's time has an entry of at least
-/// the one's interval for its node: so it is of any access in that interval.
+/// In every run, for acts of two different nodes, the first happens before the second exactly if the second's time has,
+/// for the first's node, an entry of at least the first's interval. If one act happens before another, the later time
+/// covers the earlier.
 pub fn order_of_acts_is_seen_in_times()
-    ensures acts { (program : Program) (nodes : ℕ) (options : OptionsRecord) (events : List Event) (world : World)
+    ensures acts { (program : Program) (nodes : ℕ) (options : OptionsRecord) (events : List Event)
+        (world : World)
         (i j p q : ℕ) (d e : Deed) → run_of program nodes options events ≡ Some world → p ≢ q
         → Does world.acts i p d → Does world.acts j q e
-        → HappensBefore world.acts i j ↔ (interval_at world.acts p i ≤ entry (time_at world.times j) p) }
-    ensures rise { (program : Program) (nodes : ℕ) (options : OptionsRecord) (events : List Event) (world : World)
+        → HappensBefore world.acts i j
+        ↔ (interval_at world.acts p i ≤ entry (time_at world.times j) p) }
+    ensures rise { (program : Program) (nodes : ℕ) (options : OptionsRecord) (events : List Event)
+        (world : World)
         (i j : ℕ) → run_of program nodes options events ≡ Some world → HappensBefore world.acts i j
         → Covers (time_at world.times j) (time_at world.times i) }
 {}
 
-/// In every run two accesses of different nodes are unordered exactly where neither's time covers the other's interval; and
-/// the races named of the acts are exactly those of two such segments, intervals with an access and the time in them.
+/// In every run two accesses of different nodes are unordered exactly if neither's time covers the other's interval.
+/// The races named of the acts are exactly those between two such segments; a segment is an interval with an access,
+/// and the time in it.
 pub fn races_are_seen_in_times()
-    ensures unordered { (program : Program) (nodes : ℕ) (options : OptionsRecord) (events : List Event) (world : World)
+    ensures unordered { (program : Program) (nodes : ℕ) (options : OptionsRecord)
+        (events : List Event) (world : World)
         (i p j q v w : ℕ) → run_of program nodes options events ≡ Some world → p ≢ q
         → Accesses world.acts i p v → Accesses world.acts j q w
-        → ((¬ HappensBefore world.acts i j) × (¬ HappensBefore world.acts j i)) ↔ AreUnknown world.acts world.times i p j q }
-    ensures named { (program : Program) (nodes : ℕ) (options : OptionsRecord) (events : List Event) (world : World)
+        → ((¬ HappensBefore world.acts i j) × (¬ HappensBefore world.acts j i))
+        ↔ AreUnknown world.acts world.times i p j q }
+    ensures named { (program : Program) (nodes : ℕ) (options : OptionsRecord) (events : List Event)
+        (world : World)
         (race : Race) → run_of program nodes options events ≡ Some world
         → IsNamedRace world.acts race ↔ IsRaceOfSegments world.acts world.times race }
 {}
 
-/// In every run, of two acts with different numbers of departs of their nodes before them, the one with fewer happens before
-/// the other, unless it is a depart itself, and the other's time covers its interval.
+/// In every run, take two acts, and count for each the departs of its node before it. If the first act has fewer and is
+/// no depart itself, it happens before the second, and the second's time covers its interval.
 pub fn earlier_epoch_is_covered()
-    ensures before { (program : Program) (nodes : ℕ) (options : OptionsRecord) (events : List Event) (world : World)
-        (i j p q : ℕ) (d e : Deed) → run_of program nodes options events ≡ Some world → Does world.acts i p d → is_depart d ≡ false
-        → Does world.acts j q e → departs_before world.acts p i < departs_before world.acts q j → HappensBefore world.acts i j }
-    ensures covered { (program : Program) (nodes : ℕ) (options : OptionsRecord) (events : List Event) (world : World)
-        (i j p q : ℕ) (d e : Deed) → run_of program nodes options events ≡ Some world → Does world.acts i p d → is_depart d ≡ false
+    ensures before { (program : Program) (nodes : ℕ) (options : OptionsRecord) (events : List Event)
+        (world : World)
+        (i j p q : ℕ) (d e : Deed) → run_of program nodes options events ≡ Some world
+        → Does world.acts i p d → is_depart d ≡ false
+        → Does world.acts j q e → departs_before world.acts p i < departs_before world.acts q j
+        → HappensBefore world.acts i j }
+    ensures covered { (program : Program) (nodes : ℕ) (options : OptionsRecord)
+        (events : List Event) (world : World)
+        (i j p q : ℕ) (d e : Deed) → run_of program nodes options events ≡ Some world
+        → Does world.acts i p d → is_depart d ≡ false
         → Does world.acts j q e → departs_before world.acts p i < departs_before world.acts q j
         → interval_at world.acts p i ≤ entry (time_at world.times j) p }
 {}

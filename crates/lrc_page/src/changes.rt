@@ -57,7 +57,7 @@ impl Eq for Changes {
 }
 
 impl Changes {
-    /// No changes.
+    /// Returns an empty list of changes.
     pub fn empty(alloc: Global) -> Self
         ensures { result ≡ [] }
     {
@@ -66,17 +66,19 @@ impl Changes {
         }
     }
 
-    /// Adds a change at an offset above all others. An error leaves the changes as they were.
+    /// Adds a change at an offset above all others. It fails if memory runs out, and then nothing changes.
     pub fn push(&mut self, offset: u8, value: u64) -> Result<(), AllocError>
         requires { ForSome (last_change self.old) (λ c. c.offset < offset) }
-        ensures ok { OnOk result (self.new ≡ self.old ++ record { offset = offset; value = value } ∷ []) }
+        ensures ok { OnOk result (self.new ≡ self.old
+            ++ record { offset = offset; value = value } ∷ []) }
         ensures err { OnErr result (self.new ≡ self.old) }
     {
         self.list.push(Change { offset, value })?;
         Ok(())
     }
 
-    /// The changes that turn the twin into the page: the page's values where the two differ. Both have one size.
+    /// Returns the changes that turn the twin into the page: the page's values where the two differ. Both have the same
+    /// size. It fails if memory runs out.
     pub fn between(alloc: Global, twin: &Page, page: &Page) -> Result<Self, AllocError>
         requires { length twin.now ≡ length page.now }
         ensures exact { IfOk result (λ changes. changes ≡ changes_between twin.now page.now) }
@@ -85,7 +87,7 @@ impl Changes {
         Changes::between_words(alloc, twin.words(), page.words())
     }
 
-    /// `between`, of two pages that are given as their values.
+    /// Returns the same as `between`, for two pages given as their values.
     pub fn between_words(alloc: Global, twin: &[u64], page: &[u64]) -> Result<Self, AllocError>
         requires same { length twin.now ≡ length page.now }
         requires few { length page.now ≤ MOST_PAGE_WORDS }
@@ -101,7 +103,7 @@ impl Changes {
         Ok(changes)
     }
 
-    /// Writes each value to its offset of the page, and leaves the others.
+    /// Writes each value to its offset of the page. The other words keep their values.
     pub fn apply(&self, page: &mut Page)
         requires { All (λ c. c.offset < length page.old) self.now }
         ensures { page.new ≡ applied page.old self.now }
@@ -111,7 +113,7 @@ impl Changes {
         }
     }
 
-    /// `apply`, to a page that is given as its values.
+    /// Does the same as `apply`, to a page given as its values.
     pub fn apply_to_words(&self, page: &mut [u64])
         requires { All (λ c. c.offset < length page.old) self.now }
         ensures { page.new ≡ applied page.old self.now }
@@ -121,7 +123,7 @@ impl Changes {
         }
     }
 
-    /// How many changes there are. Each is of another word of the page, so they are at most `MOST_PAGE_WORDS`.
+    /// Returns the number of changes, at most `MOST_PAGE_WORDS` because each is of another word of the page.
     pub fn len(&self) -> usize
         ensures count { result ≡ length self.now }
         ensures ascending { IsAscending self.now }
@@ -130,14 +132,14 @@ impl Changes {
         self.list.len()
     }
 
-    /// Whether there is no change.
+    /// Returns whether there is no change.
     pub fn is_empty(&self) -> bool
         ensures { IsTrue result ↔ (self.now ≡ []) }
     {
         self.list.is_empty()
     }
 
-    /// The change at a place, counted from 0 in the order of the offsets.
+    /// Returns the change at a place, counted from 0 in the order of the offsets.
     pub fn at(&self, place: usize) -> Change
         requires { place < length self.now }
         ensures { slice_get self.now place ≡ Some result }
@@ -145,7 +147,7 @@ impl Changes {
         self.list.as_slice()[place]
     }
 
-    /// A second list of the same changes.
+    /// Returns a second list of the same changes. It fails if memory runs out.
     pub fn duplicate(&self) -> Result<Self, AllocError>
         ensures { IfOk result (λ changes. changes ≡ self.now) }
     {

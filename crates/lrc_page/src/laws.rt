@@ -8,7 +8,7 @@ ghost use Rattle.lrc_page.specs.Place.{page_of, offset_of, pages_of};
 
 use crate::{MOST_PAGE_WORDS, MOST_PAGES, MOST_WORDS, Size};
 
-/// The limits as numbers: pages of 64 or 256 words, 65,536 words, 1,024 pages.
+/// A page has 64 or 256 words. A memory has at most 65,536 words and 1,024 pages.
 pub fn the_limits()
     ensures small { words_of Size.Words64 ≡ 64 }
     ensures large { words_of Size.Words256 ≡ 256 }
@@ -19,14 +19,16 @@ pub fn the_limits()
 
 /// The changes between a twin and a page turn the twin into the page.
 pub fn changes_turn_the_twin_into_the_page()
-    ensures { (twin page : List ℕ) → length twin ≡ length page → applied twin (changes_between twin page) ≡ page }
+    ensures { (twin page : List ℕ) → length twin ≡ length page
+        → applied twin (changes_between twin page) ≡ page }
 {}
 
-/// The changes between a twin and a page are the differences: each offset at which the values differ, once and in
-/// ascending order, with the page's value, and no other.
+/// The changes between a twin and a page are exactly their differences: each offset at which the values differ, once
+/// and in ascending order, with the page's value.
 pub fn changes_are_the_differences()
     ensures ascending { (twin page : List ℕ) → IsAscending (changes_between twin page) }
     ensures exact { (twin page : List ℕ) (offset value : ℕ) →
         Contains (changes_between twin page) (record { offset = offset; value = value })
-        ↔ ((offset < length page) × (slice_index page offset ≡ value) × (slice_index twin offset ≢ value)) }
+        ↔ ((offset < length page) × (slice_index page offset ≡ value)
+        × (slice_index twin offset ≢ value)) }
 {}

@@ -1,5 +1,6 @@
-//! Pages of shared memory, the changes that a node made to one, sets of pages, and sets of the words of one. A twin is
-//! a copy of a page from before its first write (Keleher, Cox, Dwarkadas and Zwaenepoel 1994).
+//! Pages of shared memory, and the changes that a node makes to a page. The changes are found by comparing the page
+//! with its twin, a copy taken before the first write (Keleher, Cox, Dwarkadas and Zwaenepoel 1994). Here are also sets
+//! of pages, and sets of the words of one page.
 #![tactic(auto)]
 
 mod changes;
@@ -17,7 +18,7 @@ pub use pages::Pages;
 pub use place::{offset_of, page_of, pages_of};
 pub use size::Size;
 
-/// How many words the larger pages have.
+/// The number of words of a page of the larger size.
 pub const MOST_PAGE_WORDS: usize = 256;
 
 /// The largest number of words of a shared memory.

@@ -3,7 +3,7 @@ ghost use Rattle.lrc_page.specs.Mask.{has, no_offsets, with_offset, Meets};
 
 use std::marker::Model;
 
-/// A set of words of one page of either size, by their offsets: 256 bits, one for each offset.
+/// A set of words of one page, given by their offsets: 256 bits, one for each offset, for pages of either size.
 #[derive(Clone, Copy, PartialEq, Eq, Hash)]
 pub struct Mask {
     words: [u64; 4],
@@ -20,7 +20,7 @@ impl Model for Mask {
 }
 
 impl Mask {
-    /// The set without members.
+    /// Returns the empty set.
     pub fn none() -> Self
         ensures members { (offset : ℕ) → has result offset ≡ false }
         ensures exact { result ≡ no_offsets }
@@ -28,7 +28,7 @@ impl Mask {
         Mask { words: [0; 4] }
     }
 
-    /// The set with this offset added.
+    /// Returns the set with the given offset added.
     pub fn with(&self, offset: u8) -> Self
         ensures members { (other : ℕ) → has result other ≡ (other == offset || has self.now other) }
         ensures exact { result ≡ with_offset self.now offset }
@@ -39,14 +39,14 @@ impl Mask {
         Mask { words }
     }
 
-    /// Whether the offset is a member.
+    /// Returns whether the offset is a member.
     pub fn has(&self, offset: u8) -> bool
         ensures { result ≡ has self.now offset }
     {
         self.words[usize::from(offset / 64)] >> (offset % 64) & 1 == 1
     }
 
-    /// Whether the two sets share a member.
+    /// Returns whether the two sets share a member.
     pub fn meets(&self, other: &Mask) -> bool
         ensures { IsTrue result ↔ Meets self.now other.now }
     {

@@ -40,7 +40,7 @@ impl Eq for Page {
 }
 
 impl Page {
-    /// A page of zeros.
+    /// Returns a page of zeros.
     pub fn zero(size: Size) -> Self
         ensures { result ≡ zero_page size }
     {
@@ -50,7 +50,7 @@ impl Page {
         }
     }
 
-    /// A page with these values, as many as the size says.
+    /// Returns a page with the given values, exactly as many as the size says.
     pub fn with_words(size: Size, words: &[u64]) -> Self
         requires { length words.now ≡ words_of size }
         ensures { result ≡ words.now }
@@ -60,14 +60,14 @@ impl Page {
         Page { size, words: all }
     }
 
-    /// How many words the page has.
+    /// Returns the size of the page.
     pub fn size(&self) -> Size
         ensures { length self.now ≡ words_of result }
     {
         self.size
     }
 
-    /// The values of the words, one after the other.
+    /// Returns the values of the words in the order of their offsets.
     pub fn words(&self) -> &[u64]
         ensures values { result.now ≡ self.now }
         ensures few { length self.now ≤ MOST_PAGE_WORDS }
@@ -75,7 +75,7 @@ impl Page {
         &self.words[..usize::from(self.size.words())]
     }
 
-    /// The value of the word at this offset.
+    /// Returns the value of the word at the given offset.
     pub fn get(&self, offset: u8) -> u64
         requires { offset < length self.now }
         ensures { result ≡ slice_index self.now offset }
@@ -83,7 +83,7 @@ impl Page {
         self.words[usize::from(offset)]
     }
 
-    /// Gives the word at this offset a value.
+    /// Sets the word at the given offset to a value.
     pub fn set(&mut self, offset: u8, value: u64)
         requires { offset < length self.old }
         ensures { self.new ≡ slice_set self.old offset value }
@@ -92,7 +92,7 @@ impl Page {
         self.words[place] = value;
     }
 
-    /// A page with the same values.
+    /// Returns a page with the same values.
     pub fn copy(&self) -> Self
         ensures { result ≡ self.now }
     {

@@ -13,8 +13,8 @@ use std::marker::Model;
 // How many pages stand in the list itself, which asks for memory where there are more. Most intervals write fewer.
 const FEW_PAGES: usize = 8;
 
-/// Numbers of pages, ascending, each at most once. A write notice names a page of its interval, and the pages of an
-/// interval are such a list (Keleher, Cox and Zwaenepoel 1992).
+/// The pages that an interval wrote, by their numbers: ascending, each at most once. Each is named by one write notice
+/// of the interval (Keleher, Cox and Zwaenepoel 1992).
 #[derive(Drop)]
 pub struct Pages {
     list: SmallVec<u16, FEW_PAGES>,
@@ -50,7 +50,7 @@ impl Eq for Pages {
 }
 
 impl Pages {
-    /// No pages.
+    /// Returns an empty list of pages.
     pub fn empty(alloc: Global) -> Self
         ensures { result ≡ [] }
     {
@@ -59,7 +59,7 @@ impl Pages {
         }
     }
 
-    /// Adds a page above all others. An error leaves the pages as they were.
+    /// Adds a page above all others. It fails if memory runs out, and then nothing changes.
     pub fn push(&mut self, page: u16) -> Result<(), AllocError>
         requires in_range { page < MOST_PAGES }
         requires above { ForSome (last_page self.old) (λ last. last < page) }
@@ -70,11 +70,12 @@ impl Pages {
         Ok(())
     }
 
-    /// Adds a page that is not among them, at its place. An error leaves the pages as they were.
+    /// Adds a page that is not in the list, at its place. It fails if memory runs out, and then nothing changes.
     pub fn insert(&mut self, page: u16) -> Result<(), AllocError>
         requires in_range { page < MOST_PAGES }
         requires other { ¬ Contains self.old page }
-        ensures members { OnOk result ((p : ℕ) → Contains self.new p ↔ ((p ≡ page) ⊎ Contains self.old p)) }
+        ensures members { OnOk result ((p : ℕ) → Contains self.new p
+            ↔ ((p ≡ page) ⊎ Contains self.old p)) }
         ensures rising { OnOk result (IsRising self.new) }
         ensures err { OnErr result (self.new ≡ self.old) }
     {
@@ -83,14 +84,14 @@ impl Pages {
         Ok(())
     }
 
-    /// Takes out all pages, and keeps the room for as many.
+    /// Removes all pages, but keeps their memory.
     pub fn clear(&mut self)
         ensures { self.new ≡ [] }
     {
         self.list.clear();
     }
 
-    /// How many pages there are. They are different, so they are at most `MOST_PAGES`.
+    /// Returns the number of pages, at most `MOST_PAGES` because they are all different.
     pub fn len(&self) -> usize
         ensures count { result ≡ length self.now }
         ensures rising { IsRising self.now }
@@ -99,14 +100,14 @@ impl Pages {
         self.list.len()
     }
 
-    /// Whether there is no page.
+    /// Returns whether there is no page.
     pub fn is_empty(&self) -> bool
         ensures { IsTrue result ↔ (self.now ≡ []) }
     {
         self.list.is_empty()
     }
 
-    /// The page at a place, counted from 0 in ascending order.
+    /// Returns the page at a place, counted from 0 in ascending order.
     pub fn at(&self, place: usize) -> u16
         requires { place < length self.now }
         ensures { slice_get self.now place ≡ Some result }
@@ -114,14 +115,14 @@ impl Pages {
         self.list.as_slice()[place]
     }
 
-    /// The pages, ascending.
+    /// Returns the pages, ascending.
     pub fn as_slice(&self) -> &[u16]
         ensures { result.now ≡ self.now }
     {
         self.list.as_slice()
     }
 
-    /// A second list of the same pages.
+    /// Returns a second list of the same pages. It fails if memory runs out.
     pub fn duplicate(&self) -> Result<Self, AllocError>
         ensures { IfOk result (λ pages. pages ≡ self.now) }
     {

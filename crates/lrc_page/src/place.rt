@@ -4,7 +4,7 @@ ghost use Rattle.lrc_page.specs.Place.{page_of, offset_of, pages_of};
 
 use crate::{MOST_PAGES, MOST_WORDS, Size};
 
-/// The page that a word is on. Words and pages count from 0.
+/// Returns the page of a word. Words and pages are counted from 0.
 pub fn page_of(word: u32, size: Size) -> u16
     requires { word < MOST_WORDS }
     ensures page { result ≡ page_of word size }
@@ -13,7 +13,7 @@ pub fn page_of(word: u32, size: Size) -> u16
     (word / u32::from(size.words())) as u16
 }
 
-/// The place of a word on its page, counted from 0.
+/// Returns the offset of a word on its page, counted from 0.
 pub fn offset_of(word: u32, size: Size) -> u8
     ensures offset { result ≡ offset_of word size }
     ensures in_range { result < words_of size }
@@ -21,7 +21,7 @@ pub fn offset_of(word: u32, size: Size) -> u8
     (word % u32::from(size.words())) as u8
 }
 
-/// How many pages of this size hold this many words.
+/// Returns how many pages of the given size it takes to hold the given number of words.
 pub fn pages_of(words: u32, size: Size) -> u16
     requires { words ≤ MOST_WORDS }
     ensures pages { result ≡ pages_of words size }

@@ -1,7 +1,7 @@
 ghost use Rattle.std.specs.Prelude.{◌≡◌};
 ghost use Rattle.lrc_page.specs.Page.{words_of};
 
-/// How many words each page of a shared memory has. All pages of one memory have one size.
+/// The number of words of each page. All pages of one shared memory have the same size.
 #[derive(Clone, Copy, Debug, PartialEq, Eq)]
 pub enum Size {
     /// 64 words, 512 bytes.
@@ -11,7 +11,7 @@ pub enum Size {
 }
 
 impl Size {
-    /// How many words a page of this size has.
+    /// Returns the number of words of a page of this size.
     pub fn words(self) -> u16
         ensures { result ≡ words_of self }
     {

@@ -13,15 +13,15 @@ pub enum PostFault {
     /// The mailbox is closed.
     #[error("the mailbox is closed")]
     Closed,
-    /// No memory was left.
+    /// Memory ran out.
     #[error("out of memory")]
     NoMemory,
 }
 
-/// Parcels that were not put, and why.
+/// Parcels that were not put, and the reason.
 #[derive(Drop)]
 pub struct Unput {
-    /// Why the first of them was not put.
+    /// Why the first of them was refused.
     pub fault: PostFault,
     /// The parcel that was refused, and all after it.
     pub parcels: Vec<Parcel>,

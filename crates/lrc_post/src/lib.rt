@@ -1,6 +1,6 @@
-//! The post between nodes that run on threads of their own: one mailbox for each node, from which its owner takes what
-//! other nodes put there. A mailbox keeps all that was put and taken, in order, so that a run can be looked at when it
-//! is over. A parcel is given once, or two times, as a network that repeats a message would do.
+//! The post between nodes that run on separate threads. Each node has one mailbox: other nodes put messages there, and
+//! the owner takes them. A mailbox keeps every put and take, in order, so that a finished run can be examined. A
+//! message (a parcel) is given to the owner once, or twice, as a network that repeats messages would do.
 #![tactic(auto)]
 
 mod fault;

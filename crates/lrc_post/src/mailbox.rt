@@ -14,7 +14,7 @@ use std::alloc::{AllocError, Global};
 use std::collections::VecDeque;
 use std::marker::Model;
 
-/// One node's mailbox, with all that was put into it and taken out of it. Each take names an earlier put for the owner.
+/// The mailbox of one node, with the history of its puts and takes. Each take names an earlier put for the owner.
 #[derive(Drop)]
 pub struct Mailbox {
     owner: u8,
@@ -35,10 +35,11 @@ impl Model for Mailbox {
 }
 
 impl Mailbox {
-    /// An empty mailbox of a node, which is open, with room for an entry from each of so many nodes. There is none for want of
-    /// memory for that.
+    /// Creates an empty, open mailbox for a node, with room for an entry from each of `nodes` nodes. It fails if there
+    /// is no memory for that.
     pub fn new(alloc: Global, owner: u8, nodes: u8, picker: Picker) -> Result<Self, AllocError>
-        ensures { IfOk result (λ mailbox. mailbox ≡ record { owner = owner; picker = picker; closed = false; history = [] }) }
+        ensures { IfOk result (λ mailbox. mailbox
+            ≡ record { owner = owner; picker = picker; closed = false; history = [] }) }
     {
         Ok(Mailbox {
             owner,
@@ -49,7 +50,7 @@ impl Mailbox {
         })
     }
 
-    /// The same without room, which takes no memory.
+    /// Creates an empty, open mailbox without room. It takes no memory.
     pub(crate) fn empty(owner: u8, picker: Picker, alloc: Global) -> Self
         ensures { result ≡ record { owner = owner; picker = picker; closed = false; history = [] } }
     {
@@ -62,26 +63,28 @@ impl Mailbox {
         }
     }
 
-    /// Whose mailbox it is.
+    /// Returns the node that owns the mailbox.
     pub fn owner(&self) -> u8
         ensures { result ≡ self.now.owner }
     {
         self.owner
     }
 
-    /// Which parcel is given next.
+    /// Returns the picker, which says which parcel is given next.
     pub fn picker(&self) -> Picker
         ensures { result ≡ self.now.picker }
     {
         self.picker
     }
 
-    /// Puts parcels for the owner, in order. A closed mailbox refuses with `Closed` and stays as it was; for want of
-    /// memory the parcels before the refused one are put. The refused parcel and all after it come back.
+    /// Puts parcels for the owner, in order. A closed mailbox refuses them with `Closed`, and nothing changes. If
+    /// memory runs out, the parcels before the refused one are put. An error hands back the refused parcel and all
+    /// after it.
     pub fn put_all(&mut self, from: u8, parcels: Vec<Parcel>) -> Result<(), Unput>
         requires { All (λ p. p.to ≡ self.old.owner) parcels.items }
         ensures ok { OnOk result (self.new ≡ with_puts self.old from parcels.items) }
-        ensures closed { self.old.closed ≡ true → IsErrAnd result (λ u. (u.fault ≡ Closed) × (u.parcels.items ≡ parcels.items)) }
+        ensures closed { self.old.closed ≡ true → IsErrAnd result
+            (λ u. (u.fault ≡ Closed) × (u.parcels.items ≡ parcels.items)) }
         ensures unchanged { self.old.closed ≡ true → self.new ≡ self.old }
         ensures open { self.old.closed ≡ false → IfErr result (λ u. (u.fault ≡ NoMemory)
             × IsCutShort self.old from parcels.items u.parcels.items self.new) }
@@ -101,9 +104,9 @@ impl Mailbox {
         }
     }
 
-    /// Gives the owner its next parcel: the oldest or newest in flight, or with `Twice` the oldest, which stays in
-    /// flight after it was given once. There is none if none is in flight or the mailbox is closed. For want of memory
-    /// nothing changes.
+    /// Gives the owner its next parcel: the oldest or the newest in flight, as the picker says. With `Twice` it is the
+    /// oldest, which stays in flight after it was given for the first time. Returns none if no parcel is in flight or
+    /// the mailbox is closed. If memory runs out, nothing changes.
     pub fn give(&mut self) -> Result<Option<Parcel>, PostFault>
         ensures ok { IfOk result (λ parcel. GivesParcel self.old parcel self.new) }
         ensures err { OnErr result (self.new ≡ self.old) }
@@ -128,14 +131,14 @@ impl Mailbox {
         Ok(Some(parcel))
     }
 
-    /// Closes the mailbox. What was put and taken stays.
+    /// Closes the mailbox. The history stays.
     pub fn close(&mut self)
         ensures { self.new ≡ record self.old { closed = true } }
     {
         self.closed = true;
     }
 
-    /// All that was put and taken, in order.
+    /// Returns all puts and takes, in order.
     pub fn history(&self) -> &[Wire]
         ensures all { result.now ≡ self.now.history }
         ensures legal { IsLegal self.now.owner self.now.history }
@@ -144,17 +147,18 @@ impl Mailbox {
         self.history.as_slice()
     }
 
-    /// Whether nothing is in flight: each parcel that was put was given as often as the picker gives it.
+    /// Returns whether no parcel is in flight: each parcel was given as often as the picker requires.
     pub fn is_empty(&self) -> bool
         ensures { IsTrue result ↔ IsAllGiven self.now }
     {
         self.flight.is_empty()
     }
 
-    /// Gives the next parcel to a node, as `give` does where it is the owner. Any other node is given none.
+    /// Gives the next parcel to a node, as `give` does, if that node is the owner. Any other node is given none.
     pub(crate) fn give_to(&mut self, me: u8) -> Result<Option<Parcel>, PostFault>
         ensures mine { IfOk result (λ parcel. IfSome parcel (λ p. p.to ≡ me)) }
-        ensures given { self.old.owner ≡ me → IfOk result (λ parcel. GivesParcel self.old parcel self.new) }
+        ensures given { self.old.owner ≡ me → IfOk result
+            (λ parcel. GivesParcel self.old parcel self.new) }
         ensures err { OnErr result (self.new ≡ self.old) }
     {
         if self.owner() == me {
@@ -164,14 +168,17 @@ impl Mailbox {
         }
     }
 
-    /// Puts one parcel, as `put_all` does. One that is for another node is refused with `Closed`.
+    /// Puts one parcel, as `put_all` does. A parcel for another node is refused with `Closed`. An error changes nothing
+    /// and hands the parcel back.
     pub(crate) fn put_own(&mut self, from: u8, parcel: Parcel) -> Result<(), (PostFault, Parcel)>
         ensures ok { OnOk result (self.new ≡ with_puts self.old from (parcel ∷ [])) }
         ensures err { OnErr result (self.new ≡ self.old) }
         ensures back { IfErr result (λ refused. refused.1 ≡ parcel) }
         ensures closed { self.old.closed ≡ true → IsErrAnd result (λ refused. refused.0 ≡ Closed) }
-        ensures other { parcel.to ≢ self.old.owner → IsErrAnd result (λ refused. refused.0 ≡ Closed) }
-        ensures open { self.old.closed ≡ false → parcel.to ≡ self.old.owner → IfErr result (λ refused. refused.0 ≡ NoMemory) }
+        ensures other { parcel.to ≢ self.old.owner
+            → IsErrAnd result (λ refused. refused.0 ≡ Closed) }
+        ensures open { self.old.closed ≡ false → parcel.to ≡ self.old.owner
+            → IfErr result (λ refused. refused.0 ≡ NoMemory) }
     {
         if self.closed || parcel.to != self.owner {
             return Err((PostFault::Closed, parcel));
@@ -182,16 +189,17 @@ impl Mailbox {
         }
     }
 
-    /// Whether its owner would wait for a parcel: it is open and none is in flight.
+    /// Returns whether the owner would wait for a parcel: the mailbox is open and no parcel is in flight.
     pub(crate) fn is_quiet(&self) -> bool
         ensures { IsTrue result ↔ ((self.now.closed ≡ false) × IsAllGiven self.now) }
     {
         !self.closed && self.is_empty()
     }
 
-    /// Whether the parcel that is given next was given before, as with `Twice` after the first of its two takes.
+    /// Returns whether the next parcel was given once already, as with `Twice` after the first of its two takes.
     pub(crate) fn is_halfway(&self) -> bool
-        ensures { IsTrue result ↔ ((self.now.picker ≡ Twice) × (length (in_flight self.now.picker self.now.history) % 2 ≡ 1)) }
+        ensures { IsTrue result ↔ ((self.now.picker ≡ Twice)
+            × (length (in_flight self.now.picker self.now.history) % 2 ≡ 1)) }
     {
         self.picker == Picker::Twice && self.flight.len() % 2 == 1
     }
@@ -200,7 +208,8 @@ impl Mailbox {
     fn put_each(&mut self, from: u8, mut parcels: Vec<Parcel>) -> Result<(), Vec<Parcel>>
         requires { All (λ p. p.to ≡ self.old.owner) parcels.items }
         ensures ok { OnOk result (self.new ≡ with_puts self.old from parcels.items) }
-        ensures err { IfErr result (λ back. IsCutShort self.old from parcels.items back.items self.new) }
+        ensures err { IfErr result (λ back. IsCutShort self.old from parcels.items back.items
+            self.new) }
     {
         parcels.reverse();
         while let Some(parcel) = parcels.pop() {

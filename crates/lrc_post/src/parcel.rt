@@ -2,14 +2,14 @@
 
 use bytes::Bytes;
 
-/// A message on its way.
+/// A message on its way to a node.
 #[derive(Drop)]
 pub struct Parcel {
-    /// The node that it is for.
+    /// The node that receives it.
     pub to: u8,
-    /// The number of the turn in which it was sent, which orders the turns of all nodes.
+    /// The stamp of the turn that sent it. Stamps order the turns of all nodes.
     pub stamp: u64,
-    /// The bytes of the message, which are shared and not copied.
+    /// The bytes of the message, shared rather than copied.
     pub bytes: Bytes,
 }
 
@@ -20,9 +20,9 @@ pub enum Wire {
     Put {
         /// The node that put it.
         from: u8,
-        /// The node that it is for.
+        /// The node that receives it.
         to: u8,
-        /// The number of the turn in which it was sent.
+        /// The stamp of the turn that sent it.
         stamp: u64,
         /// The bytes of the message.
         bytes: Bytes,
@@ -31,7 +31,7 @@ pub enum Wire {
     Took {
         /// The owner.
         me: u8,
-        /// The place in this history at which the parcel was put.
+        /// The place of the parcel's put in this history.
         place: usize,
     },
 }

@@ -13,15 +13,15 @@ use std::alloc::{AllocError, Global};
 use std::sync::atomic::{AtomicUsize, Ordering};
 use std::sync::{Condvar, Mutex, Wait};
 
-/// One node's mailbox under its lock, and what its owner waits on.
+/// The mailbox of one node under its lock, and the condition on which its owner waits.
 #[derive(Drop)]
 struct Desk {
     mailbox: Mutex<Mailbox>,
     arrived: Condvar,
 }
 
-/// A mailbox for each node, from 0 up, for nodes that run on threads of their own. It closes by itself when every node
-/// waits and no parcel is in flight, for then nothing can happen any more.
+/// The mailboxes of all nodes, from node 0 up, for nodes that run on separate threads. The post closes by itself when
+/// every node waits and no parcel is in flight, because then nothing can happen any more.
 #[derive(Drop)]
 pub struct Post {
     desks: Vec<Desk>,
@@ -35,7 +35,7 @@ pub struct Post {
 }
 
 impl Post {
-    /// A post of this many nodes, each with an empty mailbox that is open.
+    /// Creates a post for this many nodes, each with an empty, open mailbox. It fails if memory runs out.
     pub fn new(alloc: Global, nodes: u8, picker: Picker) -> Result<Self, AllocError>
         ensures nodes { IfOk result (λ post. post.nodes ≡ nodes) }
         ensures picker { IfOk result (λ post. post.picker ≡ picker) }
@@ -57,8 +57,9 @@ impl Post {
         })
     }
 
-    /// Puts parcels, in order, each into the mailbox of its `to`. The first that is refused comes back with all after
-    /// it, and those before it stand: `Closed` where that mailbox is closed or there is none, or `NoMemory`.
+    /// Puts parcels, in order, each into the mailbox of its `to`. The call stops at the first refused parcel: it hands
+    /// back that parcel and all after it, and the parcels before it stay put. The fault is `Closed` if that mailbox is
+    /// closed or does not exist, and otherwise `NoMemory`.
     pub fn put_all<R: Wait>(&self, rt: &R, from: u8, mut parcels: Vec<Parcel>) -> Result<(), Unput>
         ensures back { IfErr result (λ u. IsHandedBack parcels.items u.parcels.items) }
     {
@@ -73,8 +74,8 @@ impl Post {
         Ok(())
     }
 
-    /// The next parcel for a node, or none where none is in flight for it or its mailbox is closed. For want of memory
-    /// its mailbox stays as it was.
+    /// Returns the next parcel for a node, or none if no parcel is in flight for it or its mailbox is closed. If memory
+    /// runs out, the mailbox does not change.
     pub fn poll<R: Wait>(&self, rt: &R, me: u8) -> Result<Option<Parcel>, PostFault>
         ensures mine { IfOk result (λ parcel. IfSome parcel (λ p. p.to ≡ me)) }
     {
@@ -91,7 +92,8 @@ impl Post {
         Ok(parcel)
     }
 
-    /// As `poll`, but waits until a parcel is there or the mailbox is closed. There is none only where it is closed.
+    /// Returns the next parcel for a node, as `poll` does, but waits until there is one or the mailbox is closed. It
+    /// returns none only if the mailbox is closed or there is no such node.
     pub fn take<R: Wait>(&self, rt: &R, me: u8) -> Result<Option<Parcel>, PostFault>
         ensures mine { IfOk result (λ parcel. IfSome parcel (λ p. p.to ≡ me)) }
     {
@@ -112,7 +114,7 @@ impl Post {
         Ok(parcel)
     }
 
-    /// Closes all mailboxes, one after another, and wakes the nodes that wait. What was put and taken stays.
+    /// Closes all mailboxes, one after another, and wakes the nodes that wait. The histories stay.
     pub fn close<R: Wait>(&self, rt: &R) {
         for desk in &self.desks {
             desk.mailbox.lock(rt).close();
@@ -120,7 +122,8 @@ impl Post {
         }
     }
 
-    /// The mailboxes, one for each node, with all that was put and taken, each of the post's picker. It takes no memory.
+    /// Returns the mailboxes, one for each node, with their histories. All have the picker of the post. It takes no
+    /// memory.
     #[tactic(auto, using(crate::proofs::Mailboxes::wires_more, crate::proofs::Mailboxes::no_wires))]
     pub fn into_wires(self) -> Wires
         ensures count { length result ≡ self.nodes }

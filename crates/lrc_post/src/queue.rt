@@ -10,7 +10,7 @@ use lrc_envelope::Picker;
 use std::alloc::AllocError;
 use std::collections::VecDeque;
 
-/// Makes room for one entry more, and for its place two times.
+/// Makes room for one more entry in the history, and for two more places in the queue.
 pub(crate) fn make_room(
     history: &mut Vec<Wire>,
     flight: &mut VecDeque<usize>,
@@ -24,7 +24,7 @@ pub(crate) fn make_room(
     flight.reserve(2)
 }
 
-/// Puts a place last in the queue, as often as its parcel is to be given.
+/// Appends a place to the queue, as often as its parcel is to be given.
 pub(crate) fn line_up(flight: &mut VecDeque<usize>, picker: Picker, place: usize)
     requires room { deque_len flight.old + 2 ≤ deque_capacity flight.old }
     ensures { flight.new.items ≡ flight.old.items ++ replicate (times picker) place }
@@ -35,7 +35,7 @@ pub(crate) fn line_up(flight: &mut VecDeque<usize>, picker: Picker, place: usize
     }
 }
 
-/// The place of the parcel that is given next.
+/// Returns the place of the parcel to give next, or none if no parcel is in flight.
 pub(crate) fn next_place(flight: &VecDeque<usize>, picker: Picker) -> Option<usize>
     ensures { result ≡ given_next picker flight.now.items }
 {
@@ -45,7 +45,7 @@ pub(crate) fn next_place(flight: &VecDeque<usize>, picker: Picker) -> Option<usi
     }
 }
 
-/// Takes the place that is given next out of the queue.
+/// Removes the place of the parcel to give next from the queue.
 pub(crate) fn drop_next(flight: &mut VecDeque<usize>, picker: Picker)
     ensures { flight.new.items ≡ without_next picker flight.old.items }
 {
@@ -55,7 +55,7 @@ pub(crate) fn drop_next(flight: &mut VecDeque<usize>, picker: Picker)
     };
 }
 
-/// The parcel that was put at a place.
+/// Returns the parcel that was put at a place of the history.
 pub(crate) fn parcel_at(history: &[Wire], place: usize) -> Result<Parcel, AllocError>
     requires { (owner : _) × IsPutFor owner (slice_get history.now place) }
     ensures { IfOk result (λ parcel. IsPutOf (slice_get history.now place) parcel) }

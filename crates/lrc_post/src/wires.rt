@@ -6,8 +6,9 @@ ghost use Rattle.lrc_post.specs.Post.{AreWires};
 use crate::mailbox::Mailbox;
 use std::marker::Model;
 
-/// The mailboxes of a run, one for each node, from 0 up. It keeps in its type that each is its node's, that each history is
-/// legal, and that each take of it is of the parcel that the mailbox's picker says of those in flight then.
+/// The mailboxes of a run, one for each node, from 0 up. The type guarantees three facts: each mailbox belongs to its
+/// node, each history is legal, and each take is of the parcel that the mailbox's picker chooses among those in flight
+/// at that moment.
 #[derive(Drop)]
 pub struct Wires {
     pub(crate) mailboxes: Vec<Mailbox>,
@@ -26,7 +27,7 @@ impl Model for Wires {
 }
 
 impl Wires {
-    /// The mailboxes, in the order of their nodes.
+    /// Returns the mailboxes, in the order of their nodes.
     pub fn mailboxes(&self) -> &[Mailbox]
         ensures all { result.now ≡ self.now }
         ensures legal { AreWires self.now }

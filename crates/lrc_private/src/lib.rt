@@ -1,4 +1,5 @@
-//! The private names of a program's text: how they are spelled, and what the nodes of a run have set them to.
+//! The private names of a program: how a text spells them, which names a statement reads and sets, and which act of a
+//! run last set each name of a node.
 #![tactic(auto)]
 
 pub mod laws;

@@ -10,7 +10,8 @@ use lrc_lang::positions::positions_of;
 use lrc_lang::token::{Lexeme, Token};
 use std::alloc::{AllocError, Global};
 
-/// The private names of a text that is not too long, in the order in which they first come.
+/// Returns the different private names of a text of at most 65,536 bytes, in the order in which they first occur. It
+/// fails if memory runs out.
 pub fn names_of(alloc: Global, text: &[u8]) -> Result<Vec<&[u8]>, AllocError>
     requires { length text.now ≤ 65536 }
     ensures { IfOk result (λ names. AreNamesOf text.now (map (λ name. name.now) names.items)) }
@@ -52,7 +53,7 @@ fn is_among(names: &[&[u8]], name: &[u8]) -> bool
     names.iter().any(|other| *other == name)
 }
 
-/// How the name of this number is spelled.
+/// Returns the spelling of the name with this number, which is empty if no name has it.
 pub fn spelling<'t>(names: &[&'t [u8]], name: usize) -> &'t [u8]
     ensures { result.now ≡ spelling (map (λ name. name.now) names.now) name }
 {

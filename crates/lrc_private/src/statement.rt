@@ -5,7 +5,7 @@ ghost use Rattle.lrc_private.specs.Statement.{has_name, name_set, reads_name};
 
 use lrc_lang::program::{Expression, Statement};
 
-/// Whether an expression has the name.
+/// Returns whether the name occurs in an expression.
 fn has_name(expression: &Expression, name: u8) -> bool
     ensures { result ≡ has_name name expression.now }
 {
@@ -16,7 +16,7 @@ fn has_name(expression: &Expression, name: u8) -> bool
     }
 }
 
-/// Whether a statement reads the name: of `if` and `while` the condition alone.
+/// Returns whether a statement reads the name. For `if` and `while` only the condition counts.
 pub fn reads_name(statement: &Statement, name: u8) -> bool
     ensures { result ≡ reads_name name statement.now }
 {
@@ -31,7 +31,7 @@ pub fn reads_name(statement: &Statement, name: u8) -> bool
     }
 }
 
-/// The name that a statement sets: an assignment, or a shared read.
+/// Returns the name that a statement sets, if it is an assignment or a shared read.
 pub(crate) fn name_set(statement: &Statement) -> Option<u8>
     ensures { result ≡ name_set statement.now }
 {

@@ -17,7 +17,7 @@ use lrc_lang::program::Statement;
 use lrc_trace::act::{Act, Deed};
 use std::alloc::{AllocError, Global};
 
-/// Where a node is in the flat code of a program, and for each private name by which act it was set last.
+/// Where a node is in the flat code of a program, and for each private name the act that last set it.
 #[derive(Drop)]
 pub struct Way<'c> {
     pub flat: Flat<'c>,
@@ -50,7 +50,7 @@ fn value_given(deed: Deed) -> u64
 }
 
 impl<'c> Way<'c> {
-    /// Node `me` of `nodes` at the beginning of a program.
+    /// Places node `me` of `nodes` at the beginning of a program, with no name set. It fails if memory runs out.
     pub fn start(
         alloc: Global,
         code: &'c Code<'_>,
@@ -59,7 +59,8 @@ impl<'c> Way<'c> {
     ) -> Result<Way<'c>, AllocError>
         ensures on { IfOk result IsOnWay }
         ensures thread { IfOk result (λ way. thread_of way ≡ start_of code.now nodes me) }
-        ensures unset { IfOk result (λ way. (name : ℕ) → slice_index_or way.set.items name None ≡ None) }
+        ensures unset { IfOk result (λ way. (name : ℕ)
+            → slice_index_or way.set.items name None ≡ None) }
     {
         let (instructions, place) = code.parts();
         let set = vec![in alloc; None; 32]?;
@@ -82,12 +83,14 @@ impl<'c> Way<'c> {
         })
     }
 
-    /// The statement that comes next, unless the node is at the end of the text.
+    /// Returns the statement that comes next, or none at the end of the text.
     pub fn statement(&self) -> Option<&'c Statement>
         requires { IsOnWay self.now }
         ensures next { MatchOption result ((thread_of self.now).rest ≡ [])
-            (λ statement. (rest : List AnyStatement) × ((thread_of self.now).rest ≡ statement.now ∷ rest)) }
-        ensures names { IfSome result (λ statement. names_in_statement (statement_of statement.now) ≤ 32) }
+            (λ statement. (rest : List AnyStatement)
+            × ((thread_of self.now).rest ≡ statement.now ∷ rest)) }
+        ensures names { IfSome result (λ statement. names_in_statement (statement_of statement.now)
+            ≤ 32) }
     {
         let Some(index) = self.spot.place.checked_sub(1) else {
             return None;
@@ -112,12 +115,14 @@ impl<'c> Way<'c> {
         completes(deed) && goes_on(self.flat.ask(&self.spot))
     }
 
-    /// The node's act at this position is done, of this deed.
+    /// Moves the node on by this deed, its act at this position, and records the private name that the act sets, if it
+    /// sets one.
     pub fn follow(&mut self, at: usize, deed: Deed)
         requires { IsOnWay self.old }
         ensures on { IsOnWay self.new }
         ensures thread { thread_of self.new ≡ thread_led (thread_of self.old) deed }
-        ensures set { self.new.set.items ≡ noted at (set_by (thread_of self.old) deed) self.old.set.items }
+        ensures set { self.new.set.items ≡ noted at
+            (set_by (thread_of self.old) deed) self.old.set.items }
     {
         if !self.passes(deed) {
             return;
@@ -129,7 +134,8 @@ impl<'c> Way<'c> {
         flat.answer(&mut self.spot, value_given(deed));
     }
 
-    /// The way of a node up to this position of a run of `nodes` nodes.
+    /// Follows a node up to this position of a run of `nodes` nodes, the act at the position excluded. It fails if
+    /// memory runs out.
     pub fn to(
         alloc: Global,
         code: &'c Code<'_>,
@@ -139,7 +145,8 @@ impl<'c> Way<'c> {
         position: usize,
     ) -> Result<Way<'c>, AllocError>
         requires { position ≤ length acts.now }
-        ensures { IfOk result (λ way. (lines : List ℕ) → IsWayTo code.now nodes lines acts.now me position way) }
+        ensures { IfOk result (λ way. (lines : List ℕ)
+            → IsWayTo code.now nodes lines acts.now me position way) }
     {
         let mut way = Way::start(alloc, code, nodes, me)?;
         for at in 0..position {

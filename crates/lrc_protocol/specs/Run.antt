@@ -1,7 +1,8 @@
 -- The run: a node with the log of its turns, which depend on its own inputs alone; and all nodes with the messages in flight,
 -- what each event does, and the run of a list of events.
 use Rattle.std.specs.Prelude.{[], ℕ, ◌++◌, ◌+◌, ◌==◌, ◌∷◌, Bool, false, fold, if◌then◌else◌, List, map, max, nat_le}
-use Rattle.std.specs.Prelude.{None, Option, remove, slice_get, slice_set, Some, true}
+use Rattle.std.specs.Prelude.{None, Option, remove, slice_get, slice_set, Some, true, Vec}
+use Rattle.std.specs.declared.alloc.Global.{Global}
 use Rattle.std.specs.Option.{option_to_list}
 use Rattle.std.specs.List.{enumerate_from, range_with_len}
 use Rattle.lrc_lang.specs.declared.program.Program.{Program}
@@ -25,6 +26,10 @@ pub record EntryRecord : Type 0 where
   pub input : Input
   pub stamp : ℕ
   pub turn : TurnRecord
+
+-- the turns of logs as they are kept
+abbrev pub turns_of_logs : List (Vec EntryRecord Global) → List (List EntryRecord)
+turns_of_logs logs = map (λ log. log.items) logs
 
 -- a node, and its turns so far
 pub record Logged : Type 0 where

@@ -1,4 +1,5 @@
-//! The protocol as a pure machine: what each turn of a node does, and the run of a list of events. Definitions and laws.
+//! The protocol as a pure machine. Its definitions say what each turn of a node does, and what run a list of events
+//! gives. Its laws say what these definitions have in common.
 #![tactic(auto)]
 
 mod event;

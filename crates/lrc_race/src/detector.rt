@@ -17,7 +17,7 @@ use lrc_trace::race::Race;
 use lrc_trace::trace::{Segment, Trace};
 use std::alloc::{AllocError, Global};
 
-/// The words that a trace writes, and those that it reads and does not write, in order.
+/// The words that a trace writes, and those that it reads but does not write, in order.
 #[derive(Drop)]
 struct Lane {
     writes: Vec<TouchedPlace>,
@@ -46,7 +46,7 @@ fn lanes_of(alloc: Global, traces: &[Trace]) -> Result<Vec<Lane>, AllocError>
     Ok(lanes)
 }
 
-/// Whether the segment's time knows the interval of another, which is of this node.
+/// Returns whether the segment's time knows the interval of another segment, which is of this node.
 pub fn knows(segment: &Segment, node: u8, other: &Segment) -> bool
     requires { node < length segment.now.time }
     ensures { IsTrue result ↔ Knows segment.now.time node other.now.interval }
@@ -103,7 +103,8 @@ fn skip(
     requires entries { HaveEntries a.now b.now }
     requires within { from ≤ length ys.now }
     ensures within { result ≤ length ys.now }
-    ensures behind { (k : ℕ) (y : TouchedPlace) → from ≤ k → k < result → slice_get ys.now k ≡ Some y → IsBehind rise a.now x b.now y }
+    ensures behind { (k : ℕ) (y : TouchedPlace) → from ≤ k → k < result
+        → slice_get ys.now k ≡ Some y → IsBehind rise a.now x b.now y }
 {
     let mut start = from;
     while start < ys.len() && is_behind(rise, a, x, b, ys[start]) {
@@ -117,7 +118,8 @@ fn race_of(a: &Trace, x: TouchedPlace, b: &Trace, y: TouchedPlace) -> Option<Rac
     requires first { x.segment < length a.now.segments }
     requires second { y.segment < length b.now.segments }
     requires entries { HaveEntries a.now b.now }
-    ensures { MatchOption result ((race : Race) → ¬ IsRaceOfPlaces a.now x b.now y race) (IsRaceOfPlaces a.now x b.now y) }
+    ensures { MatchOption result ((race : Race) → ¬ IsRaceOfPlaces a.now x b.now y race)
+        (IsRaceOfPlaces a.now x b.now y) }
 {
     let s = &a.segments()[x.segment];
     let t = &b.segments()[y.segment];
@@ -143,7 +145,8 @@ fn add_stretch(
     requires entries { HaveEntries a.now b.now }
     requires rising { IsTrue rise → RisesAlong b.now }
     requires within { from ≤ length ys.now }
-    ensures { OnOk result (Adds races.old.items races.new.items (IsRaceFrom a.now x b.now ys.now from)) }
+    ensures { OnOk result (Adds races.old.items races.new.items
+        (IsRaceFrom a.now x b.now ys.now from)) }
 {
     for k in from..ys.len() {
         if is_behind(rise, b, ys[k], a, x) {
@@ -172,7 +175,8 @@ fn add_races_along(
     requires second_sorted { AreInOrder ys.now }
     requires entries { HaveEntries a.now b.now }
     requires rising { IsTrue rise → RisesAlong a.now × RisesAlong b.now }
-    ensures { OnOk result (Adds races.old.items races.new.items (IsRaceOfLists a.now xs.now b.now ys.now)) }
+    ensures { OnOk result (Adds races.old.items races.new.items
+        (IsRaceOfLists a.now xs.now b.now ys.now)) }
 {
     let mut start = 0;
     for x in xs {
@@ -198,7 +202,8 @@ fn add_races(
     requires second_sorted { AreInOrder ys.now }
     requires entries { HaveEntries a.now b.now }
     requires rising { IsTrue rise → RisesAlong a.now × RisesAlong b.now }
-    ensures { OnOk result (Adds races.old.items races.new.items (IsRaceOfLists a.now xs.now b.now ys.now)) }
+    ensures { OnOk result (Adds races.old.items races.new.items
+        (IsRaceOfLists a.now xs.now b.now ys.now)) }
 {
     let near = places_near(xs, ys);
     let others = places_near(ys, near);
@@ -219,7 +224,8 @@ fn add_pair(
     requires second { IsLane b.now second.now }
     requires entries { HaveEntries a.now b.now }
     requires rising { IsTrue rise → RisesAlong a.now × RisesAlong b.now }
-    ensures { OnOk result (Adds races.old.items races.new.items (IsRaceOfLanes a.now first.now b.now second.now)) }
+    ensures { OnOk result (Adds races.old.items races.new.items
+        (IsRaceOfLanes a.now first.now b.now second.now)) }
 {
     add_races(races, rise, a, &first.writes, b, &second.writes)?;
     add_races(races, rise, a, &first.reads, b, &second.writes)?;
@@ -252,10 +258,12 @@ fn add_races_with(
     Ok(())
 }
 
-/// The races of traces, by words, nodes and intervals, each once: the word and the two intervals of different nodes, where
-/// one wrote the word, the other read or wrote it, and neither time knows the other's interval. Where the times of each
-/// trace rise, as they do in every run, it costs little more than to list the accesses and the races: each race is found once,
-/// those of two traces mostly in order, and the sort joins what is in order.
+/// Returns the races of traces, sorted by word, nodes and intervals, each once. A race is a word and two intervals of
+/// different nodes: one wrote the word, the other read or wrote it, and neither time knows the other's interval. It
+/// fails only if memory runs out.
+///
+/// If the times of each trace rise, as in every run, the cost is little more than listing the accesses and the races.
+/// Each race is then found once, those of two traces mostly in order, and the sort merges what is in order.
 pub fn races(alloc: Global, traces: &[Trace]) -> Result<Vec<Race>, AllocError>
     requires { (nodes : ℕ) × AreTracesOf nodes traces.now }
     ensures { IfOk result (λ races. AreRacesOf traces.now races.items) }

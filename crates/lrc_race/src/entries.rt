@@ -20,8 +20,8 @@ fn is_trace_of(nodes: u8, trace: &Trace) -> bool
     true
 }
 
-/// Whether the traces are of nodes below this number, and each of their times has as many entries: what `races` and
-/// `epochs_agree` ask.
+/// Returns whether the traces are of nodes below this number, and each of their times has this many entries. `races`
+/// and `epochs_agree` require it.
 pub fn are_traces_of(nodes: u8, traces: &[Trace]) -> bool
     ensures { IsTrue result ↔ AreTracesOf nodes traces.now }
 {

@@ -69,7 +69,8 @@ fn rise_along(a: &Trace, b: &Trace) -> bool
 // Whether each segment of the second trace knows those of earlier epochs of the first. Where epochs and times rise, what
 // one knows is known further on.
 fn agrees_between(a: &Trace, b: &Trace) -> bool
-    requires { (nodes : ℕ) × (a.now.node < nodes) × ((t : Segment) → Contains b.now.segments t → length t.time ≡ nodes) }
+    requires { (nodes : ℕ) × (a.now.node < nodes)
+        × ((t : Segment) → Contains b.now.segments t → length t.time ≡ nodes) }
     ensures { IsTrue result ↔ AgreesBetween a.now b.now }
 {
     let rise = rise_along(a, b);
@@ -89,7 +90,8 @@ fn agrees_between(a: &Trace, b: &Trace) -> bool
 fn agrees_with_all(traces: &[Trace], b: &Trace) -> bool
     requires traces { (nodes : ℕ) × AreTracesOf nodes traces.now }
     requires there { Contains traces.now b.now }
-    ensures { IsTrue result ↔ ((a : TraceRecord) → Contains traces.now a → a.node ≢ b.now.node → AgreesBetween a b.now) }
+    ensures { IsTrue result ↔ ((a : TraceRecord) → Contains traces.now a → a.node ≢ b.now.node
+        → AgreesBetween a b.now) }
 {
     for a in traces {
         if a.node() != b.node() && !agrees_between(a, b) {
@@ -99,8 +101,8 @@ fn agrees_with_all(traces: &[Trace], b: &Trace) -> bool
     true
 }
 
-/// Whether of any two segments of different nodes and different epochs, the time of the later epoch's knows the other's
-/// interval, as it does in every run. It takes no memory.
+/// Returns whether, for any two segments of different nodes and different epochs, the time of the later epoch's segment
+/// knows the other's interval, as in every run. It allocates no memory.
 pub fn epochs_agree(traces: &[Trace]) -> bool
     requires { (nodes : ℕ) × AreTracesOf nodes traces.now }
     ensures { IsTrue result ↔ EpochsAgree traces.now }

@@ -2,8 +2,8 @@
 
 ghost use Rattle.lrc_race.specs.OfRun.{RacesAreNamed};
 
-/// The races of the traces of a well-synchronized run are exactly those that the run names: what `races` lists for them is
-/// the run's races.
+/// For the traces of a well-synchronized run whose nodes wait at barriers, the races of the traces are exactly the
+/// races that the run names. So `races` lists the run's races.
 pub fn races_of_a_run_are_named()
     ensures { RacesAreNamed }
 {}

@@ -1,5 +1,5 @@
-//! A race detector over traces: which accesses of different nodes to one word, at least one of them a write, are in no
-//! order, by the vector times of their intervals (Perkovic and Keleher 1996).
+//! A race detector over traces. It finds the accesses of different nodes to one word, at least one of them a write,
+//! that are unordered by the vector times of their intervals (Perkovic and Keleher 1996).
 #![tactic(auto)]
 
 mod detector;

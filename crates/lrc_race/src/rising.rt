@@ -7,9 +7,10 @@ ghost use Rattle.lrc_race.specs.Races.{AreTracesOf, RisesAlong};
 
 use lrc_trace::trace::Trace;
 
-/// Whether no time of the trace lacks what the one before has.
+/// Returns whether no time of the trace lacks an interval that the time before it has.
 pub fn times_rise(trace: &Trace) -> bool
-    requires { (nodes : ℕ) × ((s : Segment) → Contains trace.now.segments s → length s.time ≡ nodes) }
+    requires { (nodes : ℕ) × ((s : Segment) → Contains trace.now.segments s
+        → length s.time ≡ nodes) }
     ensures { IsTrue result ↔ RisesAlong trace.now }
 {
     let segments = trace.segments();
@@ -21,7 +22,7 @@ pub fn times_rise(trace: &Trace) -> bool
     true
 }
 
-/// Whether the times of each trace rise, as they do in every run.
+/// Returns whether the times of each trace rise, as they do in every run.
 pub fn all_rise(traces: &[Trace]) -> bool
     requires { (nodes : ℕ) × AreTracesOf nodes traces.now }
     ensures { IsTrue result ↔ ((a : TraceRecord) → Contains traces.now a → RisesAlong a) }

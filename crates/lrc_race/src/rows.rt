@@ -7,7 +7,7 @@ use crate::places::TouchedPlace;
 use std::alloc::{AllocError, Global};
 use std::marker::Model;
 
-/// Places in 256 rows, one row after the other. In each they stand in the order of adding.
+/// Places in 256 rows, one row after the other. Within a row they are in the order of adding.
 #[derive(Drop)]
 pub struct Rows {
     rows: Vec<Vec<TouchedPlace>>,
@@ -25,7 +25,7 @@ impl Model for Rows {
 }
 
 impl Rows {
-    /// No places.
+    /// Returns rows without places. It fails only if memory runs out.
     pub fn new(alloc: Global) -> Result<Self, AllocError>
         ensures { IfOk result (λ rows. rows ≡ []) }
     {
@@ -36,7 +36,7 @@ impl Rows {
         Ok(Rows { rows })
     }
 
-    /// Adds a place to a row.
+    /// Adds a place to a row. It fails only if memory runs out.
     pub fn push(&mut self, row: u8, place: TouchedPlace) -> Result<(), AllocError>
         ensures { OnOk result (Adds self.old self.new (λ p. p ≡ place)) }
     {
@@ -53,7 +53,7 @@ impl Rows {
         len
     }
 
-    /// The places, row by row.
+    /// Returns the places, row by row. It fails only if memory runs out.
     pub fn joined(&self, alloc: Global) -> Result<Vec<TouchedPlace>, AllocError>
         ensures { IfOk result (λ places. places.items ≡ self.now) }
     {

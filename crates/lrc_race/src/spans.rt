@@ -32,11 +32,13 @@ fn up_to_word(places: &[TouchedPlace], word: u32) -> &[TouchedPlace]
     &places[..end]
 }
 
-/// The places of the words from the first to the last of another list, among them each of a word of that list.
+/// Returns the places of the words from the first to the last word of another list. They include every place whose word
+/// is in that list.
 pub fn places_near<'a>(places: &'a [TouchedPlace], others: &[TouchedPlace]) -> &'a [TouchedPlace]
     requires sorted { AreInOrder places.now }
     requires others { AreInOrder others.now }
-    ensures { IsPartOf places.now result.now (λ p. (q : TouchedPlace) × Contains others.now q × (q.word ≡ p.word)) }
+    ensures { IsPartOf places.now result.now
+        (λ p. (q : TouchedPlace) × Contains others.now q × (q.word ≡ p.word)) }
 {
     if others.is_empty() {
         return &places[..0];

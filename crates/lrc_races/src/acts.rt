@@ -11,17 +11,17 @@ use lrc_acts::words::{before_comment, first_word};
 use lrc_names::line::{Kind, Line, Named};
 use lrc_text::read_number;
 
-/// How long a line is at most.
+/// The longest line, in bytes.
 const LONGEST_LINE: usize = 4096;
 
 const GREATEST_NAME: u64 = 4_294_967_295;
 
 const GREATEST_CAUSE: u64 = 5;
 
-/// How many digits a location has at most.
+/// The most digits of a location.
 const MOST_DIGITS: usize = 10;
 
-/// The barrier of acts: there is one.
+/// The only barrier of acts.
 const BARRIER: &[u8] = b"0";
 
 // The digits without leading zeros; of zeros alone the last.
@@ -42,7 +42,8 @@ fn without_zeros(digits: &[u8]) -> &[u8]
 
 // The name that digits write: a number below 2^32.
 fn name_of(digits: &[u8]) -> Option<&[u8]>
-    ensures { MatchOption result ((name : List ℕ) → ¬ IsNamed digits.now name) (λ name. IsNamed digits.now name.now) }
+    ensures { MatchOption result ((name : List ℕ) → ¬ IsNamed digits.now name)
+        (λ name. IsNamed digits.now name.now) }
 {
     read_number(digits, GREATEST_NAME)?;
     Some(without_zeros(digits))
@@ -56,7 +57,8 @@ fn is(word: &[u8], other: &[u8]) -> bool
 
 // The operation with this word alone, and its target.
 fn bare(word: &[u8]) -> Option<(Kind, &'static [u8])>
-    ensures { MatchOption result ((kind : Kind) (target : List ℕ) → ¬ SaysOperation (word.now ∷ []) kind target)
+    ensures { MatchOption result ((kind : Kind) (target : List ℕ)
+        → ¬ SaysOperation (word.now ∷ []) kind target)
         (λ found. SaysOperation (word.now ∷ []) found.0 found.1.now) }
 {
     if is(word, b"arrive") {
@@ -73,7 +75,8 @@ fn bare(word: &[u8]) -> Option<(Kind, &'static [u8])>
 
 // The operation on the lock that digits name.
 fn on_lock(kind: Kind, digits: &[u8]) -> Option<(Kind, &[u8])>
-    ensures { MatchOption result ((name : List ℕ) → ¬ IsNamed digits.now name) (λ found. (found.0 ≡ kind) × IsNamed digits.now found.1.now) }
+    ensures { MatchOption result ((name : List ℕ) → ¬ IsNamed digits.now name)
+        (λ found. (found.0 ≡ kind) × IsNamed digits.now found.1.now) }
 {
     let name = name_of(digits)?;
     Some((kind, name))
@@ -95,8 +98,10 @@ fn access<'a>(kind: Kind, digits: &'a [u8], value: &[u8]) -> Option<(Kind, &'a [
 
 // What does nothing, where digits write a number above this one and no greater than that.
 fn idle(digits: &[u8], least: u64, greatest: u64) -> Option<(Kind, &'static [u8])>
-    ensures { MatchOption result ((number : ℕ) → least ≤ number → ¬ IsNumber digits.now greatest number)
-        (λ found. (found.0 ≡ Idle) × (found.1.now ≡ []) × ((number : ℕ) × (least ≤ number) × IsNumber digits.now greatest number)) }
+    ensures { MatchOption result ((number : ℕ) → least ≤ number
+        → ¬ IsNumber digits.now greatest number)
+        (λ found. (found.0 ≡ Idle) × (found.1.now ≡ [])
+        × ((number : ℕ) × (least ≤ number) × IsNumber digits.now greatest number)) }
 {
     let number = read_number(digits, greatest)?;
     if number < least {
@@ -107,7 +112,8 @@ fn idle(digits: &[u8], least: u64, greatest: u64) -> Option<(Kind, &'static [u8]
 
 // The operation with this word and one number.
 fn with_one<'a>(word: &[u8], digits: &'a [u8]) -> Option<(Kind, &'a [u8])>
-    ensures { MatchOption result ((kind : Kind) (target : List ℕ) → ¬ SaysOperation (word.now ∷ digits.now ∷ []) kind target)
+    ensures { MatchOption result ((kind : Kind) (target : List ℕ)
+        → ¬ SaysOperation (word.now ∷ digits.now ∷ []) kind target)
         (λ found. SaysOperation (word.now ∷ digits.now ∷ []) found.0 found.1.now) }
 {
     if is(word, b"acquire") {
@@ -127,7 +133,8 @@ fn with_one<'a>(word: &[u8], digits: &'a [u8]) -> Option<(Kind, &'a [u8])>
 
 // The operation with this word, a word of shared memory and a value.
 fn with_two<'a>(word: &[u8], digits: &'a [u8], value: &[u8]) -> Option<(Kind, &'a [u8])>
-    ensures { MatchOption result ((kind : Kind) (target : List ℕ) → ¬ SaysOperation (word.now ∷ digits.now ∷ value.now ∷ []) kind target)
+    ensures { MatchOption result ((kind : Kind) (target : List ℕ)
+        → ¬ SaysOperation (word.now ∷ digits.now ∷ value.now ∷ []) kind target)
         (λ found. SaysOperation (word.now ∷ digits.now ∷ value.now ∷ []) found.0 found.1.now) }
 {
     if is(word, b"read") {
@@ -141,7 +148,8 @@ fn with_two<'a>(word: &[u8], digits: &'a [u8], value: &[u8]) -> Option<(Kind, &'
 
 // The operation that words say, and its target.
 fn operation_in(text: &[u8]) -> Option<(Kind, &[u8])>
-    ensures { MatchOption result ((kind : Kind) (target : List ℕ) → ¬ SaysOperation (words_between text.now) kind target)
+    ensures { MatchOption result ((kind : Kind) (target : List ℕ)
+        → ¬ SaysOperation (words_between text.now) kind target)
         (λ found. SaysOperation (words_between text.now) found.0 found.1.now) }
 {
     let (word, rest) = first_word(text)?;
@@ -159,7 +167,8 @@ fn operation_in(text: &[u8]) -> Option<(Kind, &[u8])>
 
 // What stands behind this beginning.
 fn behind<'a>(text: &'a [u8], beginning: &[u8]) -> Option<&'a [u8]>
-    ensures { MatchOption result ((rest : List ℕ) → text.now ≢ beginning.now ++ rest) (λ rest. text.now ≡ beginning.now ++ rest.now) }
+    ensures { MatchOption result ((rest : List ℕ) → text.now ≢ beginning.now ++ rest)
+        (λ rest. text.now ≡ beginning.now ++ rest.now) }
 {
     if text.len() < beginning.len() {
         return None;
@@ -201,7 +210,7 @@ fn location_in(comment: &[u8]) -> &[u8]
     }
 }
 
-/// What a line says, its line feed left out.
+/// Reads what a line says. The line has no line feed.
 pub fn read_act(line: &[u8]) -> Line<'_>
     ensures { ReadsAct line.now result }
 {

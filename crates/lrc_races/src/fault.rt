@@ -4,12 +4,12 @@ ghost use Rattle.lrc_races.specs.declared.fault.Fault.TheVariants.{NoMemory};
 
 use std::alloc::{AllocError, AllocFailed};
 
-/// Why a trace is judged no further.
+/// Why the judging of a trace stopped.
 #[derive(Clone, Copy, PartialEq, Eq)]
 pub enum Fault {
-    /// The line of this number, counted from 1, has not its form.
+    /// The line with this number, counted from 1, does not have the form of a line of the trace.
     BadEvent(u64),
-    /// Memory ran out, or a number that counts lines, events, names or races.
+    /// Memory ran out, or a count of lines, events, names or races would pass its limit.
     NoMemory,
 }
 

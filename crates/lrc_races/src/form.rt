@@ -1,10 +1,10 @@
 // The form of a trace.
 
-/// How the lines of a trace are written.
+/// The format of the lines of a trace.
 #[derive(Clone, Copy, PartialEq, Eq)]
 pub enum Form {
-    /// As race detectors write them: a thread, what it does, and where.
+    /// The format of race detectors: a thread, what it does, and where.
     Std,
-    /// As acts of nodes.
+    /// The format of the acts of nodes.
     Acts,
 }

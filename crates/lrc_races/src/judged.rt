@@ -17,18 +17,18 @@ use lrc_stream::fault_finder::FaultFinder;
 use lrc_stream::groups::Groups;
 use std::alloc::{AllocError, Global};
 
-/// What is known of the events so far.
+/// The state of the analysis after the events so far.
 #[derive(Drop)]
 pub struct Judged {
     pub names: Names,
     pub detector: Detector,
     pub finder: FaultFinder,
     pub groups: Groups,
-    /// How many pairs are told.
+    /// How many pairs were reported.
     pub races: u64,
-    /// The pairs that are told of the last event.
+    /// The pairs reported for the last event.
     pub told: Vec<Pair>,
-    /// What is to be printed next.
+    /// The text to print next.
     pub text: Vec<u8>,
 }
 
@@ -42,7 +42,8 @@ fn tell(
     names: &Names,
     told: &[Pair],
 ) -> Result<(), AllocError>
-    ensures ok { OnOk result (IsTelling form group (naming_of names.now) told.now groups.old groups.new out.old.items out.new.items) }
+    ensures ok { OnOk result (IsTelling form group
+        (naming_of names.now) told.now groups.old groups.new out.old.items out.new.items) }
     ensures err { OnErr result (out.new.items ≡ out.old.items) }
 {
     if group {
@@ -67,7 +68,7 @@ fn sum(one: u64, other: u64) -> Result<u64, Fault>
 }
 
 impl Judged {
-    /// Before any event.
+    /// Creates the state before any event.
     pub fn new(alloc: Global) -> Judged
         ensures { (form : AnyForm) (group : Bool) → HasJudged form group [] [] result }
     {
@@ -82,7 +83,8 @@ impl Judged {
         }
     }
 
-    /// Takes the event that a line names, and adds the lines of the races that are told of it, or puts them into their groups.
+    /// Takes the event that a line names. It adds the lines of the races reported for the event to `out`, or puts the
+    /// races into their groups. On error `out` does not change.
     pub fn take(
         &mut self,
         form: Form,
@@ -91,7 +93,9 @@ impl Judged {
         line: u64,
         out: &mut Vec<u8>,
     ) -> Result<(), Fault>
-        ensures ok { OnOk result (HasJudgedOne form group (record { line = line; saying = saying_of named.entry }) self.old out.old.items self.new out.new.items) }
+        ensures ok { OnOk result (HasJudgedOne form group
+            (record { line = line; saying = saying_of named.entry }) self.old out.old.items self.new
+            out.new.items) }
         ensures err { OnErr result (out.new.items ≡ out.old.items) }
         ensures memory { IfErr result (λ fault. fault ≡ NoMemory) }
     {
@@ -114,8 +118,8 @@ impl Judged {
         Ok(())
     }
 
-    /// Adds what is told at the end: the groups, what is not well formed, and the last line. Answers the status of the program:
-    /// 3 where a race was told, else 0.
+    /// Adds what is reported at the end: the groups, what is not well formed, and the last line. Returns the program's
+    /// exit status: 3 if a race was reported, else 0. On error `out` does not change.
     pub fn end(&mut self, form: Form, out: &mut Vec<u8>) -> Result<u8, AllocError>
         ensures ok { IfOk result (HasToldAll form self.old out.old.items out.new.items) }
         ensures err { OnErr result (out.new.items ≡ out.old.items) }

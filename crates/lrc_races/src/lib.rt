@@ -1,5 +1,5 @@
-//! What `races` prints of a trace, block by block: the events of its lines, the races that are told of them, groups of races, and
-//! the first event that no program would give.
+//! The race reports that `races` prints of a trace, block by block: the events of its lines, the races reported for
+//! them, groups of races, and the first event that no program would give.
 #![tactic(auto)]
 
 pub mod acts;

@@ -12,24 +12,25 @@ use lrc_names::table::Table;
 use lrc_std::event::{Event, Operation};
 use std::alloc::Global;
 
-/// The names of a trace, each kind by itself.
+/// The names of a trace, in one table for each kind.
 #[derive(Drop)]
 pub struct Names {
-    /// Those of threads.
+    /// The names of threads.
     pub threads: Table,
-    /// Those of variables.
+    /// The names of variables.
     pub variables: Table,
-    /// Those of locks.
+    /// The names of locks.
     pub locks: Table,
-    /// Those of barriers.
+    /// The names of barriers.
     pub barriers: Table,
-    /// Locations.
+    /// The names of locations.
     pub locations: Table,
 }
 
 // The number of a name in its table.
 fn number(table: &mut Table, name: &[u8]) -> Result<u32, Fault>
-    ensures numbered { IfOk result (λ number. IsNumbered (names_of table.old) name.now (names_of table.new) number) }
+    ensures numbered { IfOk result (λ number. IsNumbered (names_of table.old) name.now
+        (names_of table.new) number) }
     ensures memory { IfErr result (λ fault. fault ≡ NoMemory) }
 {
     let number = table.number(name)?;
@@ -41,7 +42,8 @@ fn number(table: &mut Table, name: &[u8]) -> Result<u32, Fault>
 
 // The number of a location, where there is one.
 fn place(table: &mut Table, location: &[u8]) -> Result<Option<u32>, Fault>
-    ensures mentioned { OnOk result (Mentions (located location.now) (names_of table.old) (names_of table.new)) }
+    ensures mentioned { OnOk result (Mentions (located location.now) (names_of table.old)
+        (names_of table.new)) }
     ensures located { IfOk result (IsLocated (names_of table.new) location.now) }
     ensures memory { IfErr result (λ fault. fault ≡ NoMemory) }
 {
@@ -52,9 +54,10 @@ fn place(table: &mut Table, location: &[u8]) -> Result<Option<u32>, Fault>
 }
 
 impl Names {
-    /// Before any name.
+    /// Creates empty tables.
     pub fn new(alloc: Global) -> Names
-        ensures { naming_of result ≡ record { threads = []; variables = []; locks = []; barriers = []; locations = [] } }
+        ensures { naming_of result ≡ record
+            { threads = []; variables = []; locks = []; barriers = []; locations = [] } }
     {
         Names {
             threads: Table::new(alloc),
@@ -67,8 +70,10 @@ impl Names {
 
     // What the thread does, by the number of its target.
     fn operation(&mut self, kind: Kind, target: &[u8]) -> Result<Operation, Fault>
-        ensures mentioned { OnOk result (MentionsTarget kind target.now (naming_of self.old) (naming_of self.new)) }
-        ensures operation { IfOk result (λ operation. IsOperation (naming_of self.new) target.now kind operation) }
+        ensures mentioned { OnOk result (MentionsTarget kind target.now (naming_of self.old)
+            (naming_of self.new)) }
+        ensures operation { IfOk result (λ operation.
+            IsOperation (naming_of self.new) target.now kind operation) }
         ensures memory { IfErr result (λ fault. fault ≡ NoMemory) }
     {
         match kind {
@@ -86,10 +91,12 @@ impl Names {
         }
     }
 
-    /// The event that this line names. Names that are new have the next numbers.
+    /// Returns the event that a line names. New names get the next numbers.
     pub fn event(&mut self, named: Named<'_>, line: u64) -> Result<Event, Fault>
-        ensures mentioned { OnOk result (MentionsAll (saying_of named.entry) (naming_of self.old) (naming_of self.new)) }
-        ensures event { IfOk result (IsEvent (naming_of self.new) (record { line = line; saying = saying_of named.entry })) }
+        ensures mentioned { OnOk result (MentionsAll (saying_of named.entry) (naming_of self.old)
+            (naming_of self.new)) }
+        ensures event { IfOk result (IsEvent (naming_of self.new)
+            (record { line = line; saying = saying_of named.entry })) }
         ensures memory { IfErr result (λ fault. fault ≡ NoMemory) }
     {
         let thread = number(&mut self.threads, named.thread)?;

@@ -12,18 +12,18 @@ use lrc_names::line::Line;
 use lrc_names::reading::{read_line, split};
 use std::alloc::Global;
 
-/// How long a line is at most.
+/// The longest line, in bytes.
 const LONGEST_LINE: usize = 4096;
 
-/// What is known of a trace, of which some bytes have come.
+/// The analysis of a trace of which some bytes have come.
 #[derive(Drop)]
 pub struct Session {
     form: Form,
     group: bool,
     judged: Judged,
-    /// How many lines have come whole.
+    /// How many complete lines have come.
     lines: u64,
-    /// What has come of the next line.
+    /// The bytes of the next line that have come.
     rest: Vec<u8>,
 }
 
@@ -46,7 +46,8 @@ fn take_line(
     number: u64,
     out: &mut Vec<u8>,
 ) -> Result<(), Fault>
-    ensures ok { OnOk result (HasTakenLine form group line.now number judged.old out.old.items judged.new out.new.items) }
+    ensures ok { OnOk result (HasTakenLine form group line.now number judged.old out.old.items
+        judged.new out.new.items) }
     ensures kept { OnErr result (out.new.items ≡ out.old.items) }
     ensures bad { IfErr result (FailsLine form line.now number) }
 {
@@ -58,7 +59,7 @@ fn take_line(
 }
 
 impl Session {
-    /// Before any byte. Nothing is allocated.
+    /// Creates a session before any byte. It allocates nothing.
     pub fn new(alloc: Global, form: Form, group: bool) -> Session
         ensures { HasRead form group [] [] result }
     {
@@ -112,7 +113,8 @@ impl Session {
     // Takes the next line, which is this one.
     fn take_whole(&mut self, line: &[u8], out: &mut Vec<u8>) -> Result<(), Fault>
         requires { self.old.rest.items ≡ [] }
-        ensures ok { OnOk result (HasCompleted self.old line.now out.old.items out.new.items self.new) }
+        ensures ok { OnOk result (HasCompleted self.old line.now out.old.items out.new.items
+            self.new) }
         ensures kept { OnErr result (out.new.items ≡ out.old.items) }
         ensures bad { IfErr result (IsBadLine self.old line.now) }
     {
@@ -124,7 +126,8 @@ impl Session {
 
     // Takes what the next line has up to its line feed.
     fn complete(&mut self, part: &[u8], out: &mut Vec<u8>) -> Result<(), Fault>
-        ensures ok { OnOk result (HasCompleted self.old part.now out.old.items out.new.items self.new) }
+        ensures ok { OnOk result (HasCompleted self.old part.now out.old.items out.new.items
+            self.new) }
         ensures kept { OnErr result (out.new.items ≡ out.old.items) }
         ensures bad { IfErr result (IsBadLine self.old part.now) }
     {
@@ -137,10 +140,12 @@ impl Session {
         }
     }
 
-    /// Takes the next block of the trace, of any size, and adds to `out` what is to be told of the lines that it completes.
-    /// After a fault the session is of no more use; what is told of the lines before the bad one stands in `out`.
+    /// Takes the next block of the trace, of any size, and adds to `out` what is reported of the lines that it
+    /// completes. After a fault the session is of no more use; `out` then holds the report of the lines before the bad
+    /// one.
     pub fn take(&mut self, block: &[u8], out: &mut Vec<u8>) -> Result<(), Fault>
-        ensures ok { OnOk result (HasGoneOn self.old block.now out.old.items out.new.items self.new) }
+        ensures ok { OnOk result (HasGoneOn self.old block.now out.old.items out.new.items
+            self.new) }
         ensures bad { IfErr result (IsStoppedAt self.old block.now out.old.items out.new.items) }
     {
         let mut left = block;
@@ -153,8 +158,8 @@ impl Session {
         self.keep(left)
     }
 
-    /// The trace has ended: adds what is told of a last line without a line feed, the groups, what is not well formed, and
-    /// the last line. Answers the status: 3 where a race was told, else 0. To be called once.
+    /// Ends the trace. It adds the report of a last line without a line feed, the groups, what is not well formed, and
+    /// the last line. Returns the exit status: 3 if a race was reported, else 0. It must be called only once.
     pub fn finish(&mut self, out: &mut Vec<u8>) -> Result<u8, Fault>
         ensures ok { IfOk result (HasEnded self.old out.old.items out.new.items) }
         ensures bad { IfErr result (HasFailed self.old out.old.items out.new.items) }

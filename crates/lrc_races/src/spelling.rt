@@ -35,7 +35,8 @@ fn name(table: &Table, number: u32) -> &[u8]
 
 // Adds a word, and behind it a name.
 fn push_name(text: &mut Vec<u8>, word: &[u8], table: &Table, number: u32) -> Result<(), AllocError>
-    ensures { OnOk result (text.new.items ≡ text.old.items ++ word.now ++ name_at (names_of table.now) number) }
+    ensures { OnOk result (text.new.items
+        ≡ text.old.items ++ word.now ++ name_at (names_of table.now) number) }
 {
     push_two(text, word, name(table, number))?;
     Ok(())
@@ -43,7 +44,8 @@ fn push_name(text: &mut Vec<u8>, word: &[u8], table: &Table, number: u32) -> Res
 
 // Adds a word, and behind it how many names there are.
 fn push_count(text: &mut Vec<u8>, word: &[u8], table: &Table) -> Result<(), AllocError>
-    ensures { OnOk result (text.new.items ≡ text.old.items ++ word.now ++ decimal (length (names_of table.now))) }
+    ensures { OnOk result (text.new.items
+        ≡ text.old.items ++ word.now ++ decimal (length (names_of table.now))) }
 {
     push_number(text, word, table.count() as u64)?;
     Ok(())
@@ -121,7 +123,8 @@ fn push_access(
     names: &Names,
     event: Event,
 ) -> Result<(), AllocError>
-    ensures { OnOk result (text.new.items ≡ text.old.items ++ together (access_parts form (naming_of names.now) event)) }
+    ensures { OnOk result (text.new.items
+        ≡ text.old.items ++ together (access_parts form (naming_of names.now) event)) }
 {
     push_number(text, b"line ", event.line)?;
     push_two(text, b" ", thread_word(form))?;
@@ -133,7 +136,8 @@ fn push_access(
 
 // Adds the line of a pair of accesses that is told.
 fn push_pair(text: &mut Vec<u8>, form: Form, names: &Names, pair: Pair) -> Result<(), AllocError>
-    ensures { OnOk result (text.new.items ≡ text.old.items ++ race_line form (naming_of names.now) pair) }
+    ensures { OnOk result (text.new.items
+        ≡ text.old.items ++ race_line form (naming_of names.now) pair) }
 {
     let variable = variable_of(pair.earlier.event.operation);
     push_two(text, b"race ", variable_word(form))?;
@@ -145,14 +149,15 @@ fn push_pair(text: &mut Vec<u8>, form: Form, names: &Names, pair: Pair) -> Resul
     Ok(())
 }
 
-/// Adds the lines of pairs that are told.
+/// Adds the lines of the reported pairs.
 pub fn push_pairs(
     text: &mut Vec<u8>,
     form: Form,
     names: &Names,
     pairs: &[Pair],
 ) -> Result<(), AllocError>
-    ensures { OnOk result (text.new.items ≡ text.old.items ++ race_lines form (naming_of names.now) pairs.now) }
+    ensures { OnOk result (text.new.items
+        ≡ text.old.items ++ race_lines form (naming_of names.now) pairs.now) }
 {
     for pair in pairs {
         push_pair(text, form, names, *pair)?;
@@ -162,7 +167,8 @@ pub fn push_pairs(
 
 // Adds the location of an access, and its kind.
 fn push_side(text: &mut Vec<u8>, names: &Names, event: Event) -> Result<(), AllocError>
-    ensures { OnOk result (text.new.items ≡ text.old.items ++ together (side_parts (naming_of names.now) event)) }
+    ensures { OnOk result (text.new.items
+        ≡ text.old.items ++ together (side_parts (naming_of names.now) event)) }
 {
     push_two(text, side_place(names, event.location), b" ")?;
     push_two(text, kind_word(event.operation), b"")?;
@@ -171,7 +177,8 @@ fn push_side(text: &mut Vec<u8>, names: &Names, event: Event) -> Result<(), Allo
 
 // Adds the locations and kinds of a group.
 fn push_sides(text: &mut Vec<u8>, names: &Names, pair: Pair) -> Result<(), AllocError>
-    ensures { OnOk result (text.new.items ≡ text.old.items ++ together (sides_parts (naming_of names.now) pair)) }
+    ensures { OnOk result (text.new.items
+        ≡ text.old.items ++ together (sides_parts (naming_of names.now) pair)) }
 {
     push_two(text, b"races ", b"")?;
     push_side(text, names, pair.earlier.event)?;
@@ -182,7 +189,8 @@ fn push_sides(text: &mut Vec<u8>, names: &Names, pair: Pair) -> Result<(), Alloc
 
 // Adds the first pair of a group.
 fn push_first(text: &mut Vec<u8>, form: Form, names: &Names, pair: Pair) -> Result<(), AllocError>
-    ensures { OnOk result (text.new.items ≡ text.old.items ++ together (first_parts form (naming_of names.now) pair)) }
+    ensures { OnOk result (text.new.items
+        ≡ text.old.items ++ together (first_parts form (naming_of names.now) pair)) }
 {
     let variable = variable_of(pair.earlier.event.operation);
     push_two(text, b", first ", variable_word(form))?;
@@ -194,7 +202,8 @@ fn push_first(text: &mut Vec<u8>, form: Form, names: &Names, pair: Pair) -> Resu
 
 // Adds the line of a group of pairs.
 fn push_group(text: &mut Vec<u8>, form: Form, names: &Names, group: Group) -> Result<(), AllocError>
-    ensures { OnOk result (text.new.items ≡ text.old.items ++ group_line form (naming_of names.now) group) }
+    ensures { OnOk result (text.new.items
+        ≡ text.old.items ++ group_line form (naming_of names.now) group) }
 {
     push_sides(text, names, group.first)?;
     push_number(text, b": ", group.count)?;
@@ -210,7 +219,8 @@ fn push_groups(
     names: &Names,
     groups: &[Group],
 ) -> Result<(), AllocError>
-    ensures { OnOk result (text.new.items ≡ text.old.items ++ group_lines form (naming_of names.now) groups.now) }
+    ensures { OnOk result (text.new.items
+        ≡ text.old.items ++ group_lines form (naming_of names.now) groups.now) }
 {
     for group in groups {
         push_group(text, form, names, *group)?;
@@ -225,7 +235,8 @@ fn push_reason(
     thread: u32,
     reason: Reason,
 ) -> Result<(), AllocError>
-    ensures { OnOk result (text.new.items ≡ text.old.items ++ together (reason_parts (naming_of names.now) thread reason)) }
+    ensures { OnOk result (text.new.items
+        ≡ text.old.items ++ together (reason_parts (naming_of names.now) thread reason)) }
 {
     match reason {
         Reason::Joined { line } => {
@@ -270,7 +281,8 @@ fn push_reason(
 
 // Adds the line of the first event that no program would give, if there is one.
 fn push_fault(text: &mut Vec<u8>, names: &Names, fault: Option<Fault>) -> Result<(), AllocError>
-    ensures { OnOk result (text.new.items ≡ text.old.items ++ fault_line (naming_of names.now) fault) }
+    ensures { OnOk result (text.new.items
+        ≡ text.old.items ++ fault_line (naming_of names.now) fault) }
 {
     match fault {
         Some(fault) => {
@@ -286,7 +298,8 @@ fn push_fault(text: &mut Vec<u8>, names: &Names, fault: Option<Fault>) -> Result
 
 // Adds the last line: how many races, events, and names of each kind.
 fn push_counts(text: &mut Vec<u8>, names: &Names, races: u64, events: u64) -> Result<(), AllocError>
-    ensures { OnOk result (text.new.items ≡ text.old.items ++ counts_line (naming_of names.now) races events) }
+    ensures { OnOk result (text.new.items
+        ≡ text.old.items ++ counts_line (naming_of names.now) races events) }
 {
     push_number(text, b"races ", races)?;
     push_number(text, b", events ", events)?;
@@ -298,7 +311,8 @@ fn push_counts(text: &mut Vec<u8>, names: &Names, races: u64, events: u64) -> Re
     Ok(())
 }
 
-/// Adds what is told at the end of a trace: groups, the first event that no program would give, and the last line.
+/// Adds what is reported at the end of a trace: the groups, the first event that no program would give, and the last
+/// line.
 pub fn push_end(
     text: &mut Vec<u8>,
     form: Form,
@@ -308,8 +322,10 @@ pub fn push_end(
     races: u64,
     events: u64,
 ) -> Result<(), AllocError>
-    ensures { OnOk result (text.new.items ≡ text.old.items ++ (group_lines form (naming_of names.now) groups.now
-        ++ (fault_line (naming_of names.now) fault ++ counts_line (naming_of names.now) races events))) }
+    ensures { OnOk result (text.new.items
+        ≡ text.old.items ++ (group_lines form (naming_of names.now) groups.now
+        ++ (fault_line (naming_of names.now) fault
+        ++ counts_line (naming_of names.now) races events))) }
 {
     push_groups(text, form, names, groups)?;
     push_fault(text, names, fault)?;

@@ -20,47 +20,63 @@ ghost use Rattle.lrc_acts_text.specs.Rapid.{rapid_of};
 ghost use Rattle.lrc_races_laws.specs.Traces.{Numbers, AreEvents, AreToldOf};
 ghost use Rattle.lrc_races_laws.specs.Steps.{AreEventsOfSteps, AreToldOfSteps};
 
-/// Of events that stand for well-synchronized acts, in which nodes wait at barriers, the order is happens before of the acts, the
-/// races are theirs, and the pairs told are races of theirs, of each access and node the last.
+/// If events stand for well-synchronized acts whose nodes wait at barriers, their order is the acts' happens before,
+/// their races are the acts' races, and the pairs told are such races: for each access, the last with each node.
 pub fn races_of_synchronized_acts_are_told()
-    ensures order { (numbers : Numbers) (nodes : ℕ) (acts : List Act) (events : List Event) → AreEvents numbers acts events
-        → ((j p : ℕ) (d : Deed) → Does acts j p d → p < nodes) → IsWellSynchronized nodes acts → WaitsAtBarriers acts
+    ensures order { (numbers : Numbers) (nodes : ℕ) (acts : List Act) (events : List Event)
+        → AreEvents numbers acts events
+        → ((j p : ℕ) (d : Deed) → Does acts j p d → p < nodes) → IsWellSynchronized nodes acts
+        → WaitsAtBarriers acts
         → (i j : ℕ) → HappensBefore events i j ↔ HappensBeforeOfActs acts i j }
-    ensures races { (numbers : Numbers) (nodes : ℕ) (acts : List Act) (events : List Event) → AreEvents numbers acts events
-        → ((j p : ℕ) (d : Deed) → Does acts j p d → p < nodes) → IsWellSynchronized nodes acts → WaitsAtBarriers acts
+    ensures races { (numbers : Numbers) (nodes : ℕ) (acts : List Act) (events : List Event)
+        → AreEvents numbers acts events
+        → ((j p : ℕ) (d : Deed) → Does acts j p d → p < nodes) → IsWellSynchronized nodes acts
+        → WaitsAtBarriers acts
         → (i j : ℕ) → Races events i j ↔ RacesOfActs acts i j }
-    ensures told { (numbers : Numbers) (nodes : ℕ) (acts : List Act) (events : List Event) (pairs : List Pair) → AreEvents numbers acts events
-        → ((j p : ℕ) (d : Deed) → Does acts j p d → p < nodes) → IsWellSynchronized nodes acts → WaitsAtBarriers acts
+    ensures told { (numbers : Numbers) (nodes : ℕ) (acts : List Act) (events : List Event)
+        (pairs : List Pair) → AreEvents numbers acts events
+        → ((j p : ℕ) (d : Deed) → Does acts j p d → p < nodes) → IsWellSynchronized nodes acts
+        → WaitsAtBarriers acts
         → AreTold events pairs → AreToldOf acts pairs }
 {}
 
-/// In every run, of any program on any number of nodes and whatever its events, the races of the events that stand for its acts
-/// are the run's own, and so are the pairs told.
+/// In every run, of any program, on any number of nodes and with any events, the races of the events that stand for the
+/// acts are the races of the run. So are the pairs told.
 pub fn races_of_every_run_are_told()
-    ensures races { (program : Program) (nodes : ℕ) (options : OptionsRecord) (steps : List Step) (world : World) (numbers : Numbers)
-        (events : List Event) → run_of program nodes options steps ≡ Some world → AreEvents numbers world.acts events
+    ensures races { (program : Program) (nodes : ℕ) (options : OptionsRecord) (steps : List Step)
+        (world : World) (numbers : Numbers)
+        (events : List Event) → run_of program nodes options steps ≡ Some world
+        → AreEvents numbers world.acts events
         → (i j : ℕ) → Races events i j ↔ RacesOfActs world.acts i j }
-    ensures told { (program : Program) (nodes : ℕ) (options : OptionsRecord) (steps : List Step) (world : World) (numbers : Numbers)
-        (events : List Event) (pairs : List Pair) → run_of program nodes options steps ≡ Some world → AreEvents numbers world.acts events
+    ensures told { (program : Program) (nodes : ℕ) (options : OptionsRecord) (steps : List Step)
+        (world : World) (numbers : Numbers)
+        (events : List Event) (pairs : List Pair) → run_of program nodes options steps ≡ Some world
+        → AreEvents numbers world.acts events
         → AreTold events pairs → AreToldOf world.acts pairs }
 {}
 
-/// In every run, of any program on any number of nodes and whatever its events, the pairs told of its trace in the form of RAPID are
-/// races of the run, of each access and node the last.
+/// In every run, of any program, on any number of nodes and with any events, the pairs told of its RAPID trace are
+/// races of the run: for each access, the last with each node.
 pub fn races_of_every_rapid_trace_are_told()
-    ensures { (program : Program) (nodes : ℕ) (options : OptionsRecord) (steps : List Step) (world : World) (numbers : Numbers)
+    ensures { (program : Program) (nodes : ℕ) (options : OptionsRecord) (steps : List Step)
+        (world : World) (numbers : Numbers)
         (events : List Event) (pairs : List Pair) → run_of program nodes options steps ≡ Some world
-        → AreEventsOfSteps numbers (rapid_of program.locks nodes world.acts) events → AreTold events pairs
+        → AreEventsOfSteps numbers (rapid_of program.locks nodes world.acts) events
+        → AreTold events pairs
         → AreToldOfSteps world.acts (rapid_of program.locks nodes world.acts) pairs }
 {}
 
-/// In every run, of any program on any number of nodes and whatever its events, no event that stands for one of its acts is one that
-/// no program would give, nor is one of its trace in the form of RAPID.
+/// In every run, of any program, on any number of nodes and with any events, no event that stands for an act is one
+/// that a program cannot give. Neither is any event of its RAPID trace.
 pub fn every_run_is_well_formed()
-    ensures acts { (program : Program) (nodes : ℕ) (options : OptionsRecord) (steps : List Step) (world : World) (numbers : Numbers)
-        (events : List Event) → run_of program nodes options steps ≡ Some world → AreEvents numbers world.acts events
-        → IsWellFormed events }
-    ensures rapid { (program : Program) (nodes : ℕ) (options : OptionsRecord) (steps : List Step) (world : World) (numbers : Numbers)
+    ensures acts { (program : Program) (nodes : ℕ) (options : OptionsRecord) (steps : List Step)
+        (world : World) (numbers : Numbers)
         (events : List Event) → run_of program nodes options steps ≡ Some world
-        → AreEventsOfSteps numbers (rapid_of program.locks nodes world.acts) events → IsWellFormed events }
+        → AreEvents numbers world.acts events
+        → IsWellFormed events }
+    ensures rapid { (program : Program) (nodes : ℕ) (options : OptionsRecord) (steps : List Step)
+        (world : World) (numbers : Numbers)
+        (events : List Event) → run_of program nodes options steps ≡ Some world
+        → AreEventsOfSteps numbers (rapid_of program.locks nodes world.acts) events
+        → IsWellFormed events }
 {}

@@ -1,5 +1,5 @@
-//! Laws of the runs of a program as traces of threads: of a run's acts, and of its trace in the form of RAPID, the races are
-//! those of the run, and no event is one that a program would not give.
+//! Laws about the runs of a program, seen as traces of threads: the races of a run's acts, and of its RAPID trace, are
+//! the races of the run; and no event of either is one that a program cannot give.
 #![tactic(auto)]
 
 pub mod laws;

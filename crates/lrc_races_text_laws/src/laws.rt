@@ -13,36 +13,50 @@ ghost use Rattle.lrc_races_text_laws.specs.Runs.{IsLinedRun};
 ghost use Rattle.lrc_races_text_laws.specs.Said.{acts_said, AreSaid};
 ghost use Rattle.lrc_races_text_laws.specs.Telling.{TellsActs, TellsRapid};
 
-/// Of every run, of any program on at most 16 nodes, whatever its events, that has fewer than 2^64 acts, as each has that is kept in
-/// memory: its trace in the form of RAPID is read as just its steps, and no front of it is bad. What is told of it are its races, of
-/// each access and node the last, by the lines of the trace and of the program, and it is well formed.
+/// Take any run, of any program on at most 16 nodes and with any events, that has fewer than 2^64 acts, as every run in
+/// memory has. Its RAPID trace is read as exactly its steps, and no front of the trace is bad. The races told are the
+/// run's, for each access, the last with each node, by the lines of the trace and of the program; and the trace is well
+/// formed.
 pub fn rapid_text_of_every_run_is_told()
-    ensures read { (program : Program) (nodes : ℕ) (acts : List Act) (lines : List ℕ) (parts : List (List ℕ)) (rest : List ℕ) (said : List Said)
-        → IsLinedRun program nodes acts lines → length acts < 2 ^ 64 → IsCut (rapid_text program.locks nodes acts lines) parts rest
+    ensures read { (program : Program) (nodes : ℕ) (acts : List Act) (lines : List ℕ)
+        (parts : List (List ℕ)) (rest : List ℕ) (said : List Said)
+        → IsLinedRun program nodes acts lines → length acts < 2 ^ 64
+        → IsCut (rapid_text program.locks nodes acts lines) parts rest
         → Say Std 1 parts said ↔ AreSaid lines (rapid_of program.locks nodes acts) said }
-    ensures told { (program : Program) (nodes : ℕ) (acts : List Act) (lines : List ℕ) (group : Bool) (status : ℕ) (told : List ℕ)
-        → IsLinedRun program nodes acts lines → length acts < 2 ^ 64 → Ends Std group (rapid_text program.locks nodes acts lines) status told
+    ensures told { (program : Program) (nodes : ℕ) (acts : List Act) (lines : List ℕ) (group : Bool)
+        (status : ℕ) (told : List ℕ)
+        → IsLinedRun program nodes acts lines → length acts < 2 ^ 64
+        → Ends Std group (rapid_text program.locks nodes acts lines) status told
         → TellsRapid program nodes acts lines group status told }
-    ensures good { (program : Program) (nodes : ℕ) (acts : List Act) (lines front more : List ℕ) (group : Bool) (line : ℕ) (told : List ℕ)
-        → IsLinedRun program nodes acts lines → length acts < 2 ^ 64 → rapid_text program.locks nodes acts lines ≡ front ++ more
+    ensures good { (program : Program) (nodes : ℕ) (acts : List Act) (lines front more : List ℕ)
+        (group : Bool) (line : ℕ) (told : List ℕ)
+        → IsLinedRun program nodes acts lines → length acts < 2 ^ 64
+        → rapid_text program.locks nodes acts lines ≡ front ++ more
         → ¬ IsBadEvent Std group front line told }
-    ensures whole { (program : Program) (nodes : ℕ) (acts : List Act) (lines : List ℕ) (group : Bool) (line : ℕ) (told : List ℕ)
+    ensures whole { (program : Program) (nodes : ℕ) (acts : List Act) (lines : List ℕ)
+        (group : Bool) (line : ℕ) (told : List ℕ)
         → IsLinedRun program nodes acts lines → length acts < 2 ^ 64
         → ¬ IsBadTrace Std group (rapid_text program.locks nodes acts lines) line told }
 {}
 
-/// Of every run, of any program on at most 16 nodes, whatever its events: the text of its acts is read as just its acts, and no front of
-/// it is bad. What is told of it are its races, of each access and node the last, by the lines of the text and of the program, so the
-/// groups are by lines of the program; and it is well formed.
+/// Take any run, of any program on at most 16 nodes and with any events. The text of its acts is read as exactly its
+/// acts, and no front of the text is bad. The races told are the run's, for each access, the last with each node, by
+/// the lines of the text and of the program, so that groups are by lines of the program; and the text is well formed.
 pub fn acts_text_of_every_run_is_told()
-    ensures read { (program : Program) (nodes : ℕ) (acts : List Act) (lines : List ℕ) (parts : List (List ℕ)) (rest : List ℕ) (said : List Said)
+    ensures read { (program : Program) (nodes : ℕ) (acts : List Act) (lines : List ℕ)
+        (parts : List (List ℕ)) (rest : List ℕ) (said : List Said)
         → IsLinedRun program nodes acts lines → IsCut (acts_text acts lines) parts rest
         → Say Acts 1 parts said ↔ (said ≡ acts_said 0 lines acts) }
-    ensures told { (program : Program) (nodes : ℕ) (acts : List Act) (lines : List ℕ) (group : Bool) (status : ℕ) (told : List ℕ)
+    ensures told { (program : Program) (nodes : ℕ) (acts : List Act) (lines : List ℕ) (group : Bool)
+        (status : ℕ) (told : List ℕ)
         → IsLinedRun program nodes acts lines → Ends Acts group (acts_text acts lines) status told
         → TellsActs acts lines group status told }
-    ensures good { (program : Program) (nodes : ℕ) (acts : List Act) (lines front more : List ℕ) (group : Bool) (line : ℕ) (told : List ℕ)
-        → IsLinedRun program nodes acts lines → acts_text acts lines ≡ front ++ more → ¬ IsBadEvent Acts group front line told }
-    ensures whole { (program : Program) (nodes : ℕ) (acts : List Act) (lines : List ℕ) (group : Bool) (line : ℕ) (told : List ℕ)
-        → IsLinedRun program nodes acts lines → ¬ IsBadTrace Acts group (acts_text acts lines) line told }
+    ensures good { (program : Program) (nodes : ℕ) (acts : List Act) (lines front more : List ℕ)
+        (group : Bool) (line : ℕ) (told : List ℕ)
+        → IsLinedRun program nodes acts lines → acts_text acts lines ≡ front ++ more
+        → ¬ IsBadEvent Acts group front line told }
+    ensures whole { (program : Program) (nodes : ℕ) (acts : List Act) (lines : List ℕ)
+        (group : Bool) (line : ℕ) (told : List ℕ)
+        → IsLinedRun program nodes acts lines
+        → ¬ IsBadTrace Acts group (acts_text acts lines) line told }
 {}

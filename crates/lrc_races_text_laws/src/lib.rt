@@ -1,5 +1,5 @@
-//! What is told of the texts that are printed of every run: of its trace in the form of RAPID, and of its acts. They are read as just
-//! its steps and acts, and what is told are its races. Laws alone.
+//! Laws about the texts printed of every run: its RAPID trace and its acts. They are read as exactly the run's steps
+//! and acts, and what is told of them are the run's races.
 #![tactic(auto)]
 
 pub mod laws;

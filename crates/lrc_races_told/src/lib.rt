@@ -1,4 +1,5 @@
-//! The races of a trace, which are told as it is read: what is told of the lines that have come is written before more is waited for.
+//! Reports the races of a trace while it is read. What is known from the lines read so far is written before the next
+//! input is awaited.
 #![tactic(auto)]
 
 mod outcome;

@@ -2,16 +2,16 @@
 
 use std::io::ErrorKind;
 
-/// What has come of a trace that was told as it was read.
+/// The outcome of reporting a trace while it is read.
 #[derive(Clone, Copy)]
 pub enum Outcome {
-    /// It was told to its end, and this is the status.
+    /// The trace was read to its end, and this is the exit status.
     Ended(u8),
-    /// The line of this number, counted from 1, has not its form.
+    /// The line with this number, counted from 1, does not have the trace's form.
     BadEvent(u64),
     /// Memory ran out.
     NoMemory,
-    /// It can be read no further.
+    /// The trace can be read no further.
     Unread(ErrorKind),
     /// A write failed.
     Unwritten,

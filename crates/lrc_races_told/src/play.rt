@@ -16,8 +16,8 @@ use lrc_sources::sources::Sources;
 use std::alloc::{AllocError, Global};
 use std::io::Write;
 
-/// Tells the races of the trace in a file, in this form, by groups or not, as it is read; the path `-` is standard input. What is told
-/// goes to `out`, and a fault to `err`. Gives the exit status.
+/// Reports the races of the trace in a file, in this form, while it is read, and returns the exit status. The path `-`
+/// is standard input. The races go to `out`, by groups if asked, and a fault goes to `err`.
 pub fn play_races<F: Sources, W: Write, E: Write>(
     alloc: Global,
     path: &str,
@@ -48,7 +48,8 @@ fn play_trace<B: Blocks + Drop, W: Write, E: Write>(
     out: &mut W,
     err: &mut E,
 ) -> u8
-    ensures { (outcome : AnyOutcome) × Comes form group (B.left trace) (W.contents out.old) (W.contents out.new) outcome
+    ensures { (outcome : AnyOutcome) × Comes form group (B.left trace) (W.contents out.old)
+        (W.contents out.new) outcome
         × IsConcluded outcome (E.contents err.old) (E.contents err.new) result }
 {
     let mut trace = trace;
@@ -71,7 +72,8 @@ fn conclude<E: Write>(alloc: Global, outcome: Outcome, err: &mut E) -> u8
 
 // Says which line of a trace is bad, or, where there is no memory for that, that there is none.
 fn refuse_line<E: Write>(alloc: Global, line: u64, err: &mut E) -> u8
-    ensures told { IsTold (E.contents err.old) (E.contents err.new) (bad_line line) ⊎ IsTold (E.contents err.old) (E.contents err.new) memory_line }
+    ensures told { IsTold (E.contents err.old) (E.contents err.new) (bad_line line)
+        ⊎ IsTold (E.contents err.old) (E.contents err.new) memory_line }
     ensures status { result ≡ 1 }
 {
     match bad_line(alloc, line) {

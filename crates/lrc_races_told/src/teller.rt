@@ -29,7 +29,7 @@ struct Teller {
     ghost room: { 0 < vec_len block },
 }
 
-/// Tells the races of a trace in this form, by groups or not, as it is read.
+/// Reports the races of a trace in this form, while it is read, by groups if asked.
 pub fn tell_races<B: Blocks, W: Write>(
     alloc: Global,
     form: Form,
@@ -64,7 +64,8 @@ impl Teller {
     // Tells what is left of a trace.
     fn tell<B: Blocks, W: Write>(&mut self, trace: &mut B, out: &mut W) -> Outcome
         ensures { (form : AnyForm) (group : Bool) (held : Held) (start : Option (List ℕ))
-            → IsUnderWay form group held (B.left trace.old) start (W.contents out.old) self.old.session
+            → IsUnderWay form group held (B.left trace.old) start
+            (W.contents out.old) self.old.session
             → Comes form group held start (W.contents out.new) result }
     {
         for _turn in 0..u64::MAX {
@@ -78,8 +79,10 @@ impl Teller {
     // Reads a block, and tells of the lines that it completes.
     fn turn<B: Blocks, W: Write>(&mut self, trace: &mut B, out: &mut W) -> Option<Outcome>
         ensures { (form : AnyForm) (group : Bool) (held : Held) (start : Option (List ℕ))
-            → IsUnderWay form group held (B.left trace.old) start (W.contents out.old) self.old.session
-            → MatchOption result (IsUnderWay form group held (B.left trace.new) start (W.contents out.new) self.new.session)
+            → IsUnderWay form group held (B.left trace.old) start
+            (W.contents out.old) self.old.session
+            → MatchOption result (IsUnderWay form group held (B.left trace.new) start
+            (W.contents out.new) self.new.session)
             (Comes form group held start (W.contents out.new)) }
     {
         match trace.read(&mut self.block) {
@@ -93,8 +96,10 @@ impl Teller {
     fn take<W: Write>(&mut self, count: usize, out: &mut W) -> Option<Outcome>
         requires { count ≤ vec_len self.old.block }
         ensures { (form : AnyForm) (group : Bool) (held left after : Held) (start : Option (List ℕ))
-            → IsUnderWay form group held left start (W.contents out.old) self.old.session → IsReadOff left (take count self.old.block.items) after
-            → MatchOption result (IsUnderWay form group held after start (W.contents out.new) self.new.session)
+            → IsUnderWay form group held left start (W.contents out.old) self.old.session
+            → IsReadOff left (take count self.old.block.items) after
+            → MatchOption result (IsUnderWay form group held after start
+            (W.contents out.new) self.new.session)
             (Comes form group held start (W.contents out.new)) }
     {
         self.told.clear();
@@ -114,7 +119,8 @@ impl Teller {
     // Tells what is to be told where the trace has ended.
     fn finish<W: Write>(&mut self, out: &mut W) -> Outcome
         ensures { (form : AnyForm) (group : Bool) (held left : Held) (start : Option (List ℕ))
-            → IsUnderWay form group held left start (W.contents out.old) self.old.session → IsAtEnd left
+            → IsUnderWay form group held left start (W.contents out.old) self.old.session
+            → IsAtEnd left
             → Comes form group held start (W.contents out.new) result }
     {
         self.told.clear();

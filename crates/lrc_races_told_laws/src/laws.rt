@@ -14,43 +14,58 @@ ghost use Rattle.lrc_races.specs.Says.{Says, Said, Say, SaysNothing};
 ghost use Rattle.lrc_races.specs.Naming.{IsTrace, Naming};
 ghost use Rattle.lrc_races.specs.Told.{Ends, IsBadEvent, IsBadTrace, IsCut, Tells};
 
-/// Bytes are cut into lines in one way, and a line says one event, or nothing. So lines say one list of events.
+/// Bytes are cut into lines in one way, and a line says one event or nothing. So lines say one list of events.
 pub fn one_reading_of_bytes()
-    ensures cut { (bytes : List ℕ) (lines others : List (List ℕ)) (rest left : List ℕ) → IsCut bytes lines rest → IsCut bytes others left
+    ensures cut { (bytes : List ℕ) (lines others : List (List ℕ)) (rest left : List ℕ)
+        → IsCut bytes lines rest → IsCut bytes others left
         → (lines ≡ others) × (rest ≡ left) }
-    ensures says { (form : Form) (line : List ℕ) (one other : Saying) → Says form line one → Says form line other → one ≡ other }
-    ensures nothing { (form : Form) (line : List ℕ) (saying : Saying) → Says form line saying → ¬ SaysNothing form line }
-    ensures say { (form : Form) (number : ℕ) (lines : List (List ℕ)) (one other : List Said) → Say form number lines one
+    ensures says { (form : Form) (line : List ℕ) (one other : Saying) → Says form line one
+        → Says form line other → one ≡ other }
+    ensures nothing { (form : Form) (line : List ℕ) (saying : Saying) → Says form line saying
+        → ¬ SaysNothing form line }
+    ensures say { (form : Form) (number : ℕ) (lines : List (List ℕ)) (one other : List Said)
+        → Say form number lines one
         → Say form number lines other → one ≡ other }
 {}
 
-/// What is said has one trace: one list of names of each kind, and one list of events.
+/// What is said determines its trace: one list of names of each kind, and one list of events.
 pub fn one_trace_of_what_is_said()
-    ensures { (said : List Said) (naming others : Naming) (events more : List Event) → IsTrace said naming events → IsTrace said others more
+    ensures { (said : List Said) (naming others : Naming) (events more : List Event)
+        → IsTrace said naming events → IsTrace said others more
         → (naming ≡ others) × (events ≡ more) }
 {}
 
-/// A trace has one list of pairs that are told, in one order, one list of their groups, and one first fault.
+/// A trace determines its reported pairs and their order, their groups, and its first fault.
 pub fn one_telling_of_events()
-    ensures pairs { (events : List Event) (one other : List Pair) → AreTold events one → AreTold events other → one ≡ other }
-    ensures groups { (pairs : List Pair) (one other : List Group) → AreGroups pairs one → AreGroups pairs other → one ≡ other }
-    ensures fault { (events : List Event) (n : ℕ) (one other : Option Fault) → IsFirstFault events n one → IsFirstFault events n other
+    ensures pairs { (events : List Event) (one other : List Pair) → AreTold events one
+        → AreTold events other → one ≡ other }
+    ensures groups { (pairs : List Pair) (one other : List Group) → AreGroups pairs one
+        → AreGroups pairs other → one ≡ other }
+    ensures fault { (events : List Event) (n : ℕ) (one other : Option Fault)
+        → IsFirstFault events n one → IsFirstFault events n other
         → one ≡ other }
 {}
 
-/// Of bytes that have come one text is told, whether more is to come, or they are a whole trace, or one of their lines is bad; and
-/// so are the status and the number of the line. No bytes are both good and bad.
+/// The bytes that have come determine one text of the report, whether more bytes are to come, they are a whole trace,
+/// or one of their lines is bad. They also determine the exit status and the number of the bad line. No bytes are both
+/// good and bad.
 pub fn one_text_is_told()
-    ensures so_far { (form : Form) (group : Bool) (bytes one other : List ℕ) → Tells form group bytes one → Tells form group bytes other
+    ensures so_far { (form : Form) (group : Bool) (bytes one other : List ℕ)
+        → Tells form group bytes one → Tells form group bytes other
         → one ≡ other }
-    ensures whole { (form : Form) (group : Bool) (bytes one other : List ℕ) (status code : ℕ) → Ends form group bytes status one
+    ensures whole { (form : Form) (group : Bool) (bytes one other : List ℕ) (status code : ℕ)
+        → Ends form group bytes status one
         → Ends form group bytes code other → (one ≡ other) × (status ≡ code) }
-    ensures stopped { (form : Form) (group : Bool) (bytes one other : List ℕ) (line number : ℕ) → IsBadEvent form group bytes line one
+    ensures stopped { (form : Form) (group : Bool) (bytes one other : List ℕ) (line number : ℕ)
+        → IsBadEvent form group bytes line one
         → IsBadEvent form group bytes number other → (one ≡ other) × (line ≡ number) }
-    ensures failed { (form : Form) (group : Bool) (bytes one other : List ℕ) (line number : ℕ) → IsBadTrace form group bytes line one
+    ensures failed { (form : Form) (group : Bool) (bytes one other : List ℕ) (line number : ℕ)
+        → IsBadTrace form group bytes line one
         → IsBadTrace form group bytes number other → (one ≡ other) × (line ≡ number) }
-    ensures not_stopped { (form : Form) (group : Bool) (bytes one other : List ℕ) (line : ℕ) → Tells form group bytes one
+    ensures not_stopped { (form : Form) (group : Bool) (bytes one other : List ℕ) (line : ℕ)
+        → Tells form group bytes one
         → ¬ IsBadEvent form group bytes line other }
-    ensures not_failed { (form : Form) (group : Bool) (bytes one other : List ℕ) (status line : ℕ) → Ends form group bytes status one
+    ensures not_failed { (form : Form) (group : Bool) (bytes one other : List ℕ) (status line : ℕ)
+        → Ends form group bytes status one
         → ¬ IsBadTrace form group bytes line other }
 {}

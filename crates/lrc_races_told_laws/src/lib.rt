@@ -1,4 +1,5 @@
-//! What is told of a trace is a function of its bytes: of one trace two texts are never told. Laws alone.
+//! Laws of the race reports: what is reported of a trace is a function of its bytes, so no trace gets two different
+//! texts. The crate has only laws.
 #![tactic(auto)]
 
 pub mod laws;

@@ -11,20 +11,26 @@ ghost use Rattle.lrc_protocol.specs.Follows.{is_expected};
 ghost use Rattle.lrc_protocol.specs.Run.{Logged, World, run_of};
 ghost use Rattle.lrc_protocol.specs.Follows.{pending};
 
-/// In every run each pending arrival would be accepted by its receiver now, the manager of barriers: it is the next of that node,
-/// and tells of just the node's own intervals above the last that came with an arrival and up to the node's time. (Keleher, Cox
-/// and Zwaenepoel 1992.)
+/// In every run each pending arrival would be accepted by its receiver, the barrier manager, now. It is that node's
+/// next arrival. It tells of exactly the node's own intervals above the last that came with an arrival, and up to the
+/// node's time. (Keleher, Cox and Zwaenepoel 1992.)
 pub fn arrivals_are_accepted()
-    ensures { (program : Program) (nodes : ℕ) (options : OptionsRecord) (events : List Event) (world : World) (e : EnvelopeRecord)
-        (m : ArriveRecord) (l : Logged) → run_of program nodes options events ≡ Some world → Contains (pending world) e
-        → e.message ≡ Arrive m → slice_get world.nodes e.to ≡ Some l → is_expected l.node e.from e.message ≡ true }
+    ensures { (program : Program) (nodes : ℕ) (options : OptionsRecord) (events : List Event)
+        (world : World) (e : EnvelopeRecord)
+        (m : ArriveRecord) (l : Logged) → run_of program nodes options events ≡ Some world
+        → Contains (pending world) e
+        → e.message ≡ Arrive m → slice_get world.nodes e.to ≡ Some l
+        → is_expected l.node e.from e.message ≡ true }
 {}
 
-/// In every run each pending departure would be accepted by its receiver now: it comes from node 0, for the episode from which the
-/// receiver awaits to depart; its time covers the receiver's; and it tells of just the intervals, of each node, above the receiver's
-/// time and up to its own. (Keleher, Cox and Zwaenepoel 1992.)
+/// In every run each pending departure would be accepted by its receiver now. It comes from node 0, for the episode
+/// from which the receiver awaits to depart, and its time covers the receiver's. It tells, for each node, of exactly
+/// the intervals above the receiver's time and up to its own. (Keleher, Cox and Zwaenepoel 1992.)
 pub fn departures_are_accepted()
-    ensures { (program : Program) (nodes : ℕ) (options : OptionsRecord) (events : List Event) (world : World) (e : EnvelopeRecord)
-        (m : DepartRecord) (l : Logged) → run_of program nodes options events ≡ Some world → Contains (pending world) e
-        → e.message ≡ Depart m → slice_get world.nodes e.to ≡ Some l → is_expected l.node e.from e.message ≡ true }
+    ensures { (program : Program) (nodes : ℕ) (options : OptionsRecord) (events : List Event)
+        (world : World) (e : EnvelopeRecord)
+        (m : DepartRecord) (l : Logged) → run_of program nodes options events ≡ Some world
+        → Contains (pending world) e
+        → e.message ≡ Depart m → slice_get world.nodes e.to ≡ Some l
+        → is_expected l.node e.from e.message ≡ true }
 {}

@@ -11,10 +11,14 @@ ghost use Rattle.lrc_protocol.specs.Follows.{is_expected};
 ghost use Rattle.lrc_protocol.specs.Run.{Logged, World, run_of};
 ghost use Rattle.lrc_protocol.specs.Follows.{pending};
 
-/// In every run each pending grant would be accepted by its receiver now: it awaits the token of that lock, and the grant tells of
-/// just the intervals, of each node, above the receiver's time and up to the grant's. (Keleher, Cox and Zwaenepoel 1992.)
+/// In every run each pending grant would be accepted by its receiver now. The receiver awaits the token of that lock.
+/// The grant tells, for each node, of exactly the intervals above the receiver's time and up to the grant's time.
+/// (Keleher, Cox and Zwaenepoel 1992.)
 pub fn grants_are_accepted()
-    ensures { (program : Program) (nodes : ℕ) (options : OptionsRecord) (events : List Event) (world : World) (e : EnvelopeRecord)
-        (m : LockGrantRecord) (l : Logged) → run_of program nodes options events ≡ Some world → Contains (pending world) e
-        → e.message ≡ LockGrant m → slice_get world.nodes e.to ≡ Some l → is_expected l.node e.from e.message ≡ true }
+    ensures { (program : Program) (nodes : ℕ) (options : OptionsRecord) (events : List Event)
+        (world : World) (e : EnvelopeRecord)
+        (m : LockGrantRecord) (l : Logged) → run_of program nodes options events ≡ Some world
+        → Contains (pending world) e
+        → e.message ≡ LockGrant m → slice_get world.nodes e.to ≡ Some l
+        → is_expected l.node e.from e.message ≡ true }
 {}

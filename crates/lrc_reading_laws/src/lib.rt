@@ -1,5 +1,6 @@
-//! What the nodes of a run of the protocol machine store, tell one another and hold of the pages, coherence, and what follows of
-//! every run: lazy reading, and sequential consistency where it has no race. Laws alone.
+//! The main theorems about every run of the protocol machine: each read is lazy, and a run without a race is
+//! sequentially consistent. Beneath them are the invariants of coherence: what the nodes store, tell one another and
+//! hold of the pages. The crate has laws only.
 #![tactic(auto)]
 
 pub mod barriers;

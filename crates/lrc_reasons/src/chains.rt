@@ -11,16 +11,17 @@ use crate::starts::{Start, from_here};
 use lrc_trace::act::Act;
 use std::alloc::{AllocError, Global};
 
-/// The chain that is told from one position to another: of the shortest chains the least. None where the first position
-/// does not happen before the second, nor where there are no such acts. It takes two passes over the acts up to the
-/// second position.
+/// Returns the least of the shortest chains from one position to another. Returns none if the first position does not
+/// happen before the second, or if there are no such acts. It takes one pass over all acts, and one from the second
+/// position back to the first. It fails if memory runs out.
 pub fn chain_told(
     alloc: Global,
     acts: &[Act],
     from: usize,
     to: usize,
 ) -> Result<Option<Vec<usize>>, AllocError>
-    ensures { IfOk result (λ told. MatchOption told (¬ HappensBefore acts.now from to) (λ chain. IsTold acts.now from to chain.items)) }
+    ensures { IfOk result (λ told. MatchOption told (¬ HappensBefore acts.now from to)
+        (λ chain. IsTold acts.now from to chain.items)) }
 {
     if from >= to || to >= acts.len() {
         return Ok(None);
@@ -73,7 +74,8 @@ fn follow(
 ) -> Result<Option<Vec<usize>>, AllocError>
     requires earlier { from < to }
     requires next { AreNext acts.now to from next.now }
-    ensures { IfOk result (λ told. MatchOption told (¬ HappensBefore acts.now from to) (λ chain. IsTold acts.now from to chain.items)) }
+    ensures { IfOk result (λ told. MatchOption told (¬ HappensBefore acts.now from to)
+        (λ chain. IsTold acts.now from to chain.items)) }
 {
     let mut chain = Vec::new(alloc);
     let mut at = from;

@@ -7,7 +7,8 @@ use crate::NAMES;
 use lrc_trace::act::{Act, Deed};
 use std::alloc::{AllocError, Global};
 
-/// For each lock whether the node holds it at the position: whether it has acquired it before, and not released it since.
+/// Returns for each lock whether the node holds it at the position: whether it has acquired the lock before and not
+/// released it since. It fails if memory runs out.
 pub fn held_at(
     alloc: Global,
     acts: &[Act],
@@ -30,7 +31,7 @@ pub fn held_at(
     Ok(held)
 }
 
-/// How often the node has departed from a barrier before the position.
+/// Returns how often the node has departed from a barrier before the position.
 pub fn departs_at(acts: &[Act], node: u8, position: usize) -> usize
     requires { position ≤ length acts.now }
     ensures { result ≡ departs_before acts.now node position }
@@ -41,7 +42,7 @@ pub fn departs_at(acts: &[Act], node: u8, position: usize) -> usize
         .count()
 }
 
-/// How often the node has arrived at a barrier before the position.
+/// Returns how often the node has arrived at a barrier before the position.
 pub fn arrives_at(acts: &[Act], node: u8, position: usize) -> usize
     requires { position ≤ length acts.now }
     ensures { result ≡ arrives_before acts.now node position }

@@ -7,11 +7,12 @@ ghost use Rattle.lrc_reasons.specs.Known.{IsActOf, IsLastKnown, IsFirstKnowing};
 use lrc_judge::order::Order;
 use lrc_trace::act::Act;
 
-/// The last act of the node that is known at the position: that happens before it. None where nothing of the node is known
-/// there.
+/// Returns the node's last act that is known at the position, which means that it happens before it. Returns none if no
+/// act of the node is known there.
 pub fn last_known(acts: &[Act], order: &Order, node: u8, position: usize) -> Option<usize>
     requires { IsOrderOf acts.now order.now }
-    ensures { MatchOption result ((k : ℕ) → IsActOf acts.now node k → ¬ HappensBefore acts.now k position)
+    ensures { MatchOption result ((k : ℕ) → IsActOf acts.now node k
+        → ¬ HappensBefore acts.now k position)
         (IsLastKnown acts.now node position) }
 {
     for k in (0..acts.len()).rev() {
@@ -22,10 +23,11 @@ pub fn last_known(acts: &[Act], order: &Order, node: u8, position: usize) -> Opt
     None
 }
 
-/// The first act of the node at which the position is known. None where the node never knows of it.
+/// Returns the node's first act at which the position is known, or none if the node never knows of it.
 pub fn first_knowing(acts: &[Act], order: &Order, node: u8, position: usize) -> Option<usize>
     requires { IsOrderOf acts.now order.now }
-    ensures { MatchOption result ((k : ℕ) → IsActOf acts.now node k → ¬ HappensBefore acts.now position k)
+    ensures { MatchOption result ((k : ℕ) → IsActOf acts.now node k
+        → ¬ HappensBefore acts.now position k)
         (IsFirstKnowing acts.now node position) }
 {
     for k in 0..acts.len() {

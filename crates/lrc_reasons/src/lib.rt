@@ -1,6 +1,7 @@
-//! Reasons: why an act of a run is as it is, and how two acts are ordered.
+//! The reasons of the acts of a run: chains of acts by which one act happens before another, what a node knows and
+//! which locks it holds at an act, and which writes determine what a read may give.
 //!
-//! All of it is said of the acts alone, for any list of acts, whoever made it.
+//! Everything is defined on the acts alone, and holds for any list of acts.
 #![tactic(auto)]
 
 pub mod chains;
@@ -12,5 +13,5 @@ mod onward;
 mod starts;
 pub mod writes;
 
-/// How many nodes, and how many locks, an act can name.
+/// The number of nodes, and of locks, that an act can name.
 const NAMES: usize = 256;

@@ -6,8 +6,8 @@ use crate::NAMES;
 use lrc_trace::act::{Act, Deed};
 use std::alloc::{AllocError, Global};
 
-/// For each arrive how often its node has arrived before, for each depart how often its node has departed before, and for
-/// other acts 0.
+/// Returns a number for each act: for an arrive how often its node has arrived before, for a depart how often its node
+/// has departed before, and 0 for any other act. It fails if memory runs out.
 pub fn barrier_numbers(alloc: Global, acts: &[Act]) -> Result<Vec<usize>, AllocError>
     ensures { IfOk result (λ numbers. AreNumbers acts.now numbers.items) }
 {

@@ -7,14 +7,14 @@ use crate::starts::{Start, better};
 use lrc_trace::act::{Act, Deed};
 use std::alloc::{AllocError, Global};
 
-/// The best starts of chains, by what an earlier act needs to come right before them.
+/// The best starts of chains, by what an earlier act needs to directly precede them.
 #[derive(Drop)]
 pub struct Onward {
-    /// For each node, of its acts.
+    /// For each node, the best start at one of its acts.
     pub nodes: Vec<Option<Start>>,
-    /// For each lock, of its acquires.
+    /// For each lock, the best start at one of its acquires.
     pub acquires: Vec<Option<Start>>,
-    /// For each number, of the departs with so many of their own node before them.
+    /// For each number, the best start at a depart whose node has departed that often before.
     pub departs: Vec<Option<Start>>,
     ghost all_nodes: { vec_len nodes ≡ NAMES },
     ghost all_acquires: { vec_len acquires ≡ NAMES },
@@ -28,9 +28,11 @@ impl Onward {
     ghost use Rattle.lrc_reasons.specs.Starts.{IsBest};
     ghost use Rattle.lrc_reasons.specs.Onward.{IsOnward};
 
-    /// Behind the last position.
+    /// Creates the table for the place behind the last position, with no starts; `most` is the number of acts. It fails
+    /// if memory runs out.
     pub fn new(alloc: Global, most: usize) -> Result<Onward, AllocError>
-        ensures { IfOk result (λ onward. (vec_len onward.departs ≡ most) × ((run : List Act) (to : ℕ) → IsOnward run to (to + 1) onward)) }
+        ensures { IfOk result (λ onward. (vec_len onward.departs ≡ most)
+            × ((run : List Act) (to : ℕ) → IsOnward run to (to + 1) onward)) }
     {
         Ok(Onward {
             nodes: vec![in alloc; None; NAMES]?,
@@ -39,7 +41,7 @@ impl Onward {
         })
     }
 
-    /// The best start of those that the act at this position comes right before.
+    /// Returns the best start among those that the act at this position directly precedes.
     pub fn best_from(
         &self,
         acts: &[Act],
@@ -61,7 +63,7 @@ impl Onward {
         }
     }
 
-    /// Takes the start at this position in.
+    /// Adds the start at this position to the table.
     pub fn note(
         &mut self,
         acts: &[Act],

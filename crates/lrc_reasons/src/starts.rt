@@ -3,14 +3,14 @@ ghost use Rattle.std.specs.Prelude.{◌≡◌, ◌+◌, ◌<◌, ◌^◌};
 ghost use Rattle.std.specs.Option.{ForSome};
 ghost use Rattle.lrc_reasons.specs.Starts.{better, from_here};
 
-/// A chain to some position: how many acts it has, and where it begins.
+/// A chain to some position: the number of its acts, and the position at which it begins.
 #[derive(Clone, Copy)]
 pub struct Start {
     pub acts: usize,
     pub position: usize,
 }
 
-/// The start of the shorter chain, of two as long the earlier one.
+/// Returns the start of the shorter chain; of two that are equally long, the earlier one.
 pub fn better(first: Option<Start>, second: Option<Start>) -> Option<Start>
     ensures { result ≡ better first second }
 {
@@ -27,7 +27,7 @@ pub fn better(first: Option<Start>, second: Option<Start>) -> Option<Start>
     }
 }
 
-/// The start of the chain that goes on there, one act earlier.
+/// Returns the start of the chain that is longer by the act at this position, or none if there is no chain.
 pub fn from_here(next: Option<Start>, position: usize) -> Option<Start>
     requires { ForSome next (λ start. start.acts + 1 < 2 ^ 64) }
     ensures { result ≡ from_here next position }

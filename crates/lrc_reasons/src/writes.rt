@@ -10,7 +10,7 @@ use lrc_judge::order::Order;
 use lrc_trace::act::{Act, Deed};
 use std::alloc::{AllocError, Global};
 
-/// Two writes that race.
+/// The positions of two writes that race.
 #[derive(Clone, Copy)]
 pub struct Crossing {
     pub earlier: usize,
@@ -28,7 +28,8 @@ fn is_write(acts: &[Act], position: usize, word: u32) -> bool
     }
 }
 
-/// The writes to the word that are known at the position, ascending: those that happen before it.
+/// Returns the writes to the word that are known at the position, ascending: those that happen before it. It fails if
+/// memory runs out.
 pub fn known_writes(
     alloc: Global,
     acts: &[Act],
@@ -37,7 +38,8 @@ pub fn known_writes(
     word: u32,
 ) -> Result<Vec<usize>, AllocError>
     requires { IsOrderOf acts.now order.now }
-    ensures { IfOk result (λ writes. AreExactly (IsKnownWrite acts.now position word) writes.items) }
+    ensures { IfOk result (λ writes. AreExactly
+        (IsKnownWrite acts.now position word) writes.items) }
 {
     let mut writes = Vec::new(alloc);
     for k in 0..acts.len() {
@@ -48,10 +50,12 @@ pub fn known_writes(
     Ok(writes)
 }
 
-/// The last of the known writes. None where there are none.
+/// Returns the last of the known writes, or none if there are none.
 pub fn last_write(writes: &[usize]) -> Option<usize>
-    ensures { (run : List Act) (position word : ℕ) → AreExactly (IsKnownWrite run position word) writes.now
-        → MatchOption result ((i : ℕ) → ¬ IsKnownWrite run position word i) (IsLastKnownWrite run position word) }
+    ensures { (run : List Act) (position word : ℕ)
+        → AreExactly (IsKnownWrite run position word) writes.now
+        → MatchOption result ((i : ℕ) → ¬ IsKnownWrite run position word i)
+        (IsLastKnownWrite run position word) }
 {
     writes.last().copied()
 }
@@ -60,7 +64,8 @@ pub fn last_write(writes: &[usize]) -> Option<usize>
 fn first_beside(order: &Order, writes: &[usize], place: usize) -> Option<Crossing>
     requires { place < length writes.now }
     ensures { MatchOption result
-        ((k : ℕ) → k < place → IsTrue (is_before order.now (slice_index writes.now k) (slice_index writes.now place)))
+        ((k : ℕ) → k < place → IsTrue
+        (is_before order.now (slice_index writes.now k) (slice_index writes.now place)))
         (IsFirstBeside order.now writes.now place) }
 {
     for k in 0..place {
@@ -74,9 +79,9 @@ fn first_beside(order: &Order, writes: &[usize], place: usize) -> Option<Crossin
     None
 }
 
-/// Of the known writes the two that race with the least later one, and of those with it the least earlier one. None exactly
-/// where no two of them race. It takes two passes over the writes: up to the first that does not follow the one before it,
-/// all are in order.
+/// Returns the two known writes that race with the least later one, and among these the least earlier one. Returns none
+/// exactly if no two of them race. It takes two passes over the writes, because up to the first write that does not
+/// follow the one before it, all are in order.
 pub fn first_crossing(order: &Order, writes: &[usize]) -> Option<Crossing>
     ensures { (run : List Act) (position word : ℕ) → IsOrderOf run order.now
         → AreExactly (IsKnownWrite run position word) writes.now
@@ -93,7 +98,8 @@ pub fn first_crossing(order: &Order, writes: &[usize]) -> Option<Crossing>
 
 // Whether the write happens before one of these.
 fn is_followed(order: &Order, write: usize, others: &[usize]) -> bool
-    ensures { MatchBool result ((k : ℕ) × Contains others.now k × IsTrue (is_before order.now write k))
+    ensures { MatchBool result ((k : ℕ) × Contains others.now k
+        × IsTrue (is_before order.now write k))
         ((k : ℕ) → Contains others.now k → ¬ IsTrue (is_before order.now write k)) }
 {
     for k in 0..others.len() {
@@ -104,7 +110,8 @@ fn is_followed(order: &Order, write: usize, others: &[usize]) -> bool
     false
 }
 
-/// The known writes that happen before no other known write, ascending. There is one of each node at most.
+/// Returns the known writes that happen before no other known write, ascending. There is at most one of each node. It
+/// fails if memory runs out.
 pub fn unfollowed(alloc: Global, order: &Order, writes: &[usize]) -> Result<Vec<usize>, AllocError>
     ensures { (run : List Act) (position word : ℕ) → IsOrderOf run order.now
         → AreExactly (IsKnownWrite run position word) writes.now
@@ -119,8 +126,8 @@ pub fn unfollowed(alloc: Global, order: &Order, writes: &[usize]) -> Result<Vec<
     Ok(last)
 }
 
-/// The last write to the word before the position in the run, where it is not known there: where it does not happen before
-/// it. None where it is known, and where there is no write before.
+/// Returns the last write to the word before the position in the run, if it is not known there: if it does not happen
+/// before the position. Returns none if it is known, or if there is no write before.
 pub fn last_written(acts: &[Act], order: &Order, position: usize, word: u32) -> Option<usize>
     requires { IsOrderOf acts.now order.now }
     ensures { MatchOption result ((i : ℕ) → ¬ IsLastUnknownWrite acts.now position word i)

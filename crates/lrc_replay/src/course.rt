@@ -19,8 +19,8 @@ use lrc_private::Way;
 use lrc_trace::act::{Act, Deed};
 use std::alloc::{AllocError, Global};
 
-/// How many acts there were; of each node the interval that comes next; where each node is in the text, and what its private names are; and
-/// the last Write to each word.
+/// How far the acts have led: the number of acts so far, the next interval of each node, where each node is in the
+/// text, the values of its private names, and the last Write to each word.
 #[derive(Drop)]
 pub struct Course<'c> {
     acts: u64,
@@ -45,7 +45,8 @@ fn ways_at_start<'c>(
     nodes: u8,
 ) -> Result<Vec<Way<'c>>, AllocError>
     ensures on { IfOk result (λ ways. All IsOnWay ways.items) }
-    ensures ways { IfOk result (λ ways. map thread_of ways.items ≡ map (λ me. start_of code.now nodes me) (range_with_len 0 nodes)) }
+    ensures ways { IfOk result (λ ways. map thread_of ways.items
+        ≡ map (λ me. start_of code.now nodes me) (range_with_len 0 nodes)) }
 {
     let mut ways = Vec::new(alloc);
     for me in 0..nodes {
@@ -55,7 +56,7 @@ fn ways_at_start<'c>(
 }
 
 impl<'c> Course<'c> {
-    /// Before any act.
+    /// Creates a course before any act.
     pub fn start(alloc: Global, plan: Plan<'c>) -> Result<Course<'c>, AllocError>
         ensures on { IfOk result (λ course. All IsOnWay course.ways.items) }
         ensures course { IfOk result (IsCourse (plan_of plan.entry) []) }
@@ -69,16 +70,17 @@ impl<'c> Course<'c> {
         })
     }
 
-    /// How many acts there were.
+    /// Returns how many acts there were so far.
     pub fn acts(&self) -> u64
         ensures { result ≡ self.now.acts }
     {
         self.acts
     }
 
-    /// Where the node's next act stands.
+    /// Returns the spot of the node's next act.
     pub fn spot(&self, node: u8) -> Spot
-        ensures { (plan : AnyPlan) (acts : List AnyAct) → IsCourse plan acts self.now → result ≡ spot_behind plan acts node }
+        ensures { (plan : AnyPlan) (acts : List AnyAct) → IsCourse plan acts self.now
+            → result ≡ spot_behind plan acts node }
     {
         Spot {
             position: self.acts,
@@ -87,10 +89,11 @@ impl<'c> Course<'c> {
         }
     }
 
-    /// The values of the private names of a node, by their numbers; none where there is no such node.
+    /// Returns the values of the private names of a node, by their numbers, or none if there is no such node.
     pub fn privates(&self, node: u8) -> Option<&[u64; 32]>
         ensures { (plan : AnyPlan) (acts : List AnyAct) → IsCourse plan acts self.now
-            → IfSome result (λ values. values.now ≡ (walk_behind plan.program plan.nodes plan.lines acts node).thread.privates) }
+            → IfSome result (λ values. values.now
+            ≡ (walk_behind plan.program plan.nodes plan.lines acts node).thread.privates) }
     {
         let node = usize::from(node);
         if node < self.ways.len() {
@@ -100,16 +103,17 @@ impl<'c> Course<'c> {
         }
     }
 
-    /// The last Write to each word that was written, by word.
+    /// Returns the last Write to each word that was written, by word.
     #[tactic(auto, using(crate::proofs::Coursing::notes_are))]
     pub fn notes(&self, alloc: Global) -> Result<Vec<Note>, AllocError>
         ensures { (plan : AnyPlan) (acts : List AnyAct) → IsCourse plan acts self.now
-            → IfOk result (λ notes. notes.items ≡ last_notes plan.program.words (notes_behind plan [] acts)) }
+            → IfOk result (λ notes. notes.items
+            ≡ last_notes plan.program.words (notes_behind plan [] acts)) }
     {
         self.notes.all(alloc)
     }
 
-    /// The turn's act is done, if it makes one.
+    /// Adds the act of a turn, if it makes one.
     pub fn follow(&mut self, act: Option<Act>) -> Result<(), AllocError>
         requires { All IsOnWay self.old.ways.items }
         ensures on { All IsOnWay self.new.ways.items }
@@ -126,7 +130,8 @@ impl<'c> Course<'c> {
     fn pass(&mut self, act: Act) -> Result<(), AllocError>
         requires { All IsOnWay self.old.ways.items }
         ensures on { All IsOnWay self.new.ways.items }
-        ensures course { (plan : AnyPlan) (acts : List AnyAct) → IsCourse plan acts self.old → OnOk result (IsCourse plan (acts ++ act ∷ []) self.new) }
+        ensures course { (plan : AnyPlan) (acts : List AnyAct) → IsCourse plan acts self.old
+            → OnOk result (IsCourse plan (acts ++ act ∷ []) self.new) }
     {
         let spot = self.spot(act.node);
         self.acts = next(self.acts)?;
@@ -150,7 +155,8 @@ fn next(count: u64) -> Result<u64, AllocError>
 // The interval of the node's next act.
 #[tactic(auto, using(crate::proofs::Coursing::interval_is, crate::proofs::Coursing::none_past))]
 fn interval_after(closed: &[u64], node: u8) -> u64
-    ensures { (acts : List AnyAct) → AreClosed acts closed.now → result ≡ interval_at acts node (length acts) }
+    ensures { (acts : List AnyAct) → AreClosed acts closed.now
+        → result ≡ interval_at acts node (length acts) }
 {
     let node = usize::from(node);
     if node < closed.len() { closed[node] } else { 1 }
@@ -160,7 +166,8 @@ fn interval_after(closed: &[u64], node: u8) -> u64
 fn lead(ways: &mut Vec<Way<'_>>, act: Act)
     requires { All IsOnWay ways.old.items }
     ensures on { All IsOnWay ways.new.items }
-    ensures led { (plan : AnyPlan) (acts : List AnyAct) → AreWays plan acts ways.old.items → AreWays plan (acts ++ act ∷ []) ways.new.items }
+    ensures led { (plan : AnyPlan) (acts : List AnyAct) → AreWays plan acts ways.old.items
+        → AreWays plan (acts ++ act ∷ []) ways.new.items }
 {
     let node = usize::from(act.node);
     if node < ways.len() {
@@ -170,7 +177,8 @@ fn lead(ways: &mut Vec<Way<'_>>, act: Act)
 
 // Counts the act, if it closes an interval.
 fn close(closed: &mut Vec<u64>, act: Act) -> Result<(), AllocError>
-    ensures { (acts : List AnyAct) → AreClosed acts closed.old.items → OnOk result (AreClosed (acts ++ act ∷ []) closed.new.items) }
+    ensures { (acts : List AnyAct) → AreClosed acts closed.old.items
+        → OnOk result (AreClosed (acts ++ act ∷ []) closed.new.items) }
 {
     if closes(act.deed) {
         return open_next(closed, act.node);
@@ -181,7 +189,8 @@ fn close(closed: &mut Vec<u64>, act: Act) -> Result<(), AllocError>
 // The next interval of a node is one later.
 fn open_next(closed: &mut Vec<u64>, node: u8) -> Result<(), AllocError>
     ensures { length closed.old.items ≡ 256
-        → OnOk result (closed.new.items ≡ slice_set closed.old.items node (slice_index closed.old.items node + 1)) }
+        → OnOk result (closed.new.items
+        ≡ slice_set closed.old.items node (slice_index closed.old.items node + 1)) }
 {
     let node = usize::from(node);
     if node < closed.len() {

@@ -1,5 +1,6 @@
-//! A run that is played again, event by event: its nodes, the messages in flight, the turn that each event makes, and what the acts so far have
-//! led to.
+//! The replay of a run, event by event. It holds the nodes and the messages in flight, makes the turn of each event,
+//! and keeps what the acts so far have led to: the positions of the nodes in the text, their private names, and the
+//! last Writes.
 #![tactic(auto)]
 
 mod course;

@@ -10,7 +10,7 @@ ghost use Rattle.lrc_replay.specs.declared.notes.Note.{Note as AnyNote};
 use lrc_trace::act::Deed;
 use std::alloc::{AllocError, Global};
 
-/// Where an act stands: its position in the run, its line in the text, and its interval.
+/// The spot of an act: its position in the run, its line in the text, and its interval.
 #[derive(Clone, Copy)]
 pub struct Spot {
     pub position: u64,
@@ -18,7 +18,7 @@ pub struct Spot {
     pub interval: u64,
 }
 
-/// A Write: its word and value, its node, and where it stands.
+/// One Write: its word and value, its node, and its spot.
 #[derive(Clone, Copy)]
 pub struct Note {
     pub word: u32,
@@ -27,14 +27,14 @@ pub struct Note {
     pub spot: Spot,
 }
 
-/// Of each word the last Write to it.
+/// The last Write to each word.
 #[derive(Drop)]
 pub(crate) struct Notes {
     last: Vec<Option<Note>>,
 }
 
 impl Notes {
-    /// Nothing was written yet to so many words.
+    /// Creates notes for `words` words, none of which was written yet.
     pub(crate) fn none(alloc: Global, words: u32) -> Result<Notes, AllocError>
         ensures { IfOk result (AreNotes words []) }
     {
@@ -45,10 +45,11 @@ impl Notes {
         Ok(Notes { last })
     }
 
-    /// Notes what a deed writes, if it writes a word.
+    /// Notes the Write of a deed, if it writes a word.
     #[tactic(auto, using(crate::proofs::Coursing::nothing_noted))]
     pub(crate) fn note(&mut self, node: u8, deed: Deed, spot: Spot)
-        ensures { (words : ℕ) (all : List AnyNote) → AreNotes words all self.old → AreNotes words (all ++ note_of spot node deed) self.new }
+        ensures { (words : ℕ) (all : List AnyNote) → AreNotes words all self.old
+            → AreNotes words (all ++ note_of spot node deed) self.new }
     {
         if let Deed::Write(word, value) = deed {
             self.keep(Note {
@@ -62,7 +63,8 @@ impl Notes {
 
     // The word was written last by this.
     fn keep(&mut self, note: Note)
-        ensures { (words : ℕ) (all : List AnyNote) → AreNotes words all self.old → AreNotes words (all ++ note ∷ []) self.new }
+        ensures { (words : ℕ) (all : List AnyNote) → AreNotes words all self.old
+            → AreNotes words (all ++ note ∷ []) self.new }
     {
         let place = note.word as usize;
         if place < self.last.len() {
@@ -70,7 +72,7 @@ impl Notes {
         }
     }
 
-    /// The last Writes, by word.
+    /// Returns the last Writes, by word.
     pub(crate) fn all(&self, alloc: Global) -> Result<Vec<Note>, AllocError>
         ensures { IfOk result (λ notes. notes.items ≡ flat_map option_to_list self.now.last.items) }
     {

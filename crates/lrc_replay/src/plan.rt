@@ -2,7 +2,7 @@
 
 use lrc_exec::code::Code;
 
-/// A program's code, on how many nodes it runs, the lines of its statements, and its private names.
+/// What is to be replayed: a program's code, the number of nodes, the lines of its statements, and its private names.
 #[derive(Clone, Copy)]
 pub struct Plan<'c> {
     pub code: &'c Code<'c>,

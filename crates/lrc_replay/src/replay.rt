@@ -23,7 +23,7 @@ pub struct Replay<'c> {
 }
 
 impl<'c> Replay<'c> {
-    /// All nodes at the beginning of a program.
+    /// Creates all nodes at the start of a program, with no message in flight.
     pub fn start(
         alloc: Global,
         code: &'c Code<'_>,
@@ -43,10 +43,11 @@ impl<'c> Replay<'c> {
         })
     }
 
-    /// The state of a node, where it is there and has not failed.
+    /// Returns the state of a node, or none if it does not exist or has failed.
     pub fn state(&self, node: usize) -> Option<&NodeState<'c>>
         ensures { (world : World) → IsReplay self.now world
-            → option_map (λ state. state.now) result ≡ option_map (λ l. l.node) (slice_get world.nodes node) }
+            → option_map (λ state. state.now) result
+            ≡ option_map (λ l. l.node) (slice_get world.nodes node) }
     {
         if node < self.nodes.len() {
             self.nodes[node].state()
@@ -55,9 +56,10 @@ impl<'c> Replay<'c> {
         }
     }
 
-    /// The message that an event names, where it is in flight.
+    /// Returns the message that an event names, or none if it is not in flight.
     pub fn message(&self, event: Event) -> Option<&Envelope>
-        ensures { (world : World) → IsReplay self.now world → option_map (λ envelope. envelope.now) result ≡ message_of world event }
+        ensures { (world : World) → IsReplay self.now world
+            → option_map (λ envelope. envelope.now) result ≡ message_of world event }
     {
         match event {
             Event::Run(_) => None,
@@ -65,7 +67,7 @@ impl<'c> Replay<'c> {
         }
     }
 
-    /// The node that an event names, or the receiver of the message that it names.
+    /// Returns the node that an event names, or the receiver of the message that it names.
     pub fn turner(&self, event: Event) -> Option<usize>
         ensures { (world : World) → IsReplay self.now world → result ≡ turner_of world event }
     {
@@ -75,7 +77,8 @@ impl<'c> Replay<'c> {
         }
     }
 
-    /// The turn that an event makes, if it makes one. What it sends is not in flight yet.
+    /// Makes the turn of an event and returns it, or none if the event makes none. What the turn sends is not in flight
+    /// yet.
     pub fn make(&mut self, event: Event) -> Result<Option<Turn>, AllocError>
         ensures { (world next : World) → IsReplay self.old world → event_on world event ≡ Some next
             → IfOk result (λ turn. IsMade world event next turn self.new) }
@@ -87,7 +90,7 @@ impl<'c> Replay<'c> {
         }
     }
 
-    /// What a turn sends is in flight from now on.
+    /// Puts what a turn sends in flight.
     pub fn post(&mut self, out: Vec<Envelope>) -> Result<(), AllocError>
         ensures nodes { OnOk result (self.new.nodes ≡ self.old.nodes) }
         ensures flight { OnOk result (self.new.flight.items ≡ self.old.flight.items ++ out.items) }
@@ -100,8 +103,10 @@ impl<'c> Replay<'c> {
 
     // The node goes on, if it is there and ready.
     fn run(&mut self, node: usize) -> Result<Option<Turn>, AllocError>
-        ensures nodes { IfOk result (λ made. AnswersAt (nodes_played self.old.nodes.items) node log.run
-            (slice_get (nodes_played self.old.nodes.items) node) made (nodes_played self.new.nodes.items)) }
+        ensures nodes { IfOk result (λ made. AnswersAt
+            (nodes_played self.old.nodes.items) node log.run
+            (slice_get (nodes_played self.old.nodes.items) node) made
+            (nodes_played self.new.nodes.items)) }
         ensures flight { self.new.flight ≡ self.old.flight }
     {
         run_at(&mut self.nodes, node)
@@ -109,9 +114,11 @@ impl<'c> Replay<'c> {
 
     // The message at the place is taken, if it is there and expected. It is no more in flight then.
     fn deliver(&mut self, place: usize) -> Result<Option<Turn>, AllocError>
-        ensures nodes { IfOk result (λ made. TakesAt (nodes_played self.old.nodes.items) (slice_get self.old.flight.items place)
+        ensures nodes { IfOk result (λ made. TakesAt (nodes_played self.old.nodes.items)
+            (slice_get self.old.flight.items place)
             made (nodes_played self.new.nodes.items)) }
-        ensures flight { IfOk result (λ made. self.new.flight.items ≡ left_behind self.old.flight.items place made) }
+        ensures flight { IfOk result (λ made. self.new.flight.items
+            ≡ left_behind self.old.flight.items place made) }
     {
         let turn = self.take(place)?;
         forget(&mut self.flight, place, turn.is_some());
@@ -120,7 +127,8 @@ impl<'c> Replay<'c> {
 
     // The same, but the message stays in flight.
     fn take(&mut self, place: usize) -> Result<Option<Turn>, AllocError>
-        ensures nodes { IfOk result (λ made. TakesAt (nodes_played self.old.nodes.items) (slice_get self.old.flight.items place)
+        ensures nodes { IfOk result (λ made. TakesAt (nodes_played self.old.nodes.items)
+            (slice_get self.old.flight.items place)
             made (nodes_played self.new.nodes.items)) }
         ensures flight { self.new.flight ≡ self.old.flight }
     {
@@ -152,7 +160,8 @@ fn take_at(
     to: usize,
     envelope: &Envelope,
 ) -> Result<Option<Turn>, AllocError>
-    ensures { IfOk result (λ made. AnswersAt (nodes_played nodes.old.items) to (log.taken envelope.now)
+    ensures { IfOk result (λ made. AnswersAt (nodes_played nodes.old.items) to
+        (log.taken envelope.now)
         (slice_get (nodes_played nodes.old.items) to) made (nodes_played nodes.new.items)) }
 {
     if to < nodes.len() {
@@ -203,7 +212,8 @@ fn refused(fault: NodeFault) -> Result<(), AllocError>
 // Takes the message at the place out of flight, if it was taken.
 fn forget(flight: &mut VecDeque<Envelope>, place: usize, is_taken: bool)
     ensures kept { is_taken ≡ false → flight.new ≡ flight.old }
-    ensures removed { is_taken ≡ true → place < length flight.old.items → flight.new.items ≡ remove flight.old.items place }
+    ensures removed { is_taken ≡ true → place < length flight.old.items
+        → flight.new.items ≡ remove flight.old.items place }
 {
     if is_taken {
         let _taken = flight.remove(place);

@@ -1,4 +1,5 @@
-//! What a run prints, and how a text is written.
+//! Prints the report of a run: what each node printed, how it ended, and the races. It also writes a text to a writer
+//! and tells what a failed write leaves.
 #![tactic(auto)]
 
 pub mod output;

@@ -9,7 +9,7 @@ ghost use Rattle.lrc_text.specs.Parts.{whole_text};
 use std::io;
 use std::io::{ErrorKind, Write};
 
-/// A writer, and whether a write to it has failed. After that it may not be written to any more.
+/// A writer, and whether a write to it has failed. After a failure nothing more may be written to it.
 #[derive(Drop)]
 pub struct Output<'w, W> {
     writer: &'w mut W,
@@ -17,7 +17,7 @@ pub struct Output<'w, W> {
 }
 
 impl<'w, W: Write> Output<'w, W> {
-    /// A writer to which no write has failed.
+    /// Wraps a writer to which no write has failed.
     pub fn new(writer: &'w mut W) -> Output<'w, W>
         ensures same_writer { result.writer.ghost_name ≡ writer.entry.ghost_name }
         ensures held { result.writer.now ≡ writer.old }
@@ -34,7 +34,8 @@ impl<'w, W: Write> Output<'w, W> {
         requires { self.now.failed ≡ false }
         ensures same_writer { self.new.writer.ghost_name ≡ self.old.writer.ghost_name }
         ensures count { WritesAtMost result text.now }
-        ensures bytes { WriteAppends (W.contents self.old.writer.now) (W.contents self.new.writer.now) result text.now }
+        ensures bytes { WriteAppends (W.contents self.old.writer.now)
+            (W.contents self.new.writer.now) result text.now }
         ensures fine { OnOk result (self.new.failed ≡ false) }
         ensures failed { OnErr result (self.new.failed ≡ true) }
     {
@@ -57,12 +58,15 @@ impl<'w, W: Write> Output<'w, W> {
     }
 }
 
-/// Writes the parts of a text, each in as few writes as the writer takes.
+/// Writes the parts of a text in order, each in as few writes as the writer allows. A failed write leaves some bytes
+/// from the front of the text, but not all.
 pub fn put_parts<W: Write>(output: &mut Output<'_, W>, parts: &[Vec<u8>]) -> io::Result<()>
     requires { output.now.failed ≡ false }
     ensures same_writer { output.new.writer.ghost_name ≡ output.old.writer.ghost_name }
-    ensures ok { OnOk result (Appends (W.contents output.old.writer.now) (W.contents output.new.writer.now) (whole_text parts.now)) }
-    ensures err { OnErr result (AppendsFront (W.contents output.old.writer.now) (W.contents output.new.writer.now) (whole_text parts.now)) }
+    ensures ok { OnOk result (Appends (W.contents output.old.writer.now)
+        (W.contents output.new.writer.now) (whole_text parts.now)) }
+    ensures err { OnErr result (AppendsFront (W.contents output.old.writer.now)
+        (W.contents output.new.writer.now) (whole_text parts.now)) }
     ensures fine { OnOk result (output.new.failed ≡ false) }
     ensures failed { OnErr result (output.new.failed ≡ true) }
 {
@@ -72,12 +76,15 @@ pub fn put_parts<W: Write>(output: &mut Output<'_, W>, parts: &[Vec<u8>]) -> io:
     Ok(())
 }
 
-/// Writes a text. Unlike `write_all` it says what a failed write leaves: some bytes from the front of the text, not all.
+/// Writes a text. Unlike `write_all`, it promises what a failed write leaves: some bytes from the front of the text,
+/// but not all.
 pub fn put<W: Write>(output: &mut Output<'_, W>, text: &[u8]) -> io::Result<()>
     requires { output.now.failed ≡ false }
     ensures same_writer { output.new.writer.ghost_name ≡ output.old.writer.ghost_name }
-    ensures ok { OnOk result (Appends (W.contents output.old.writer.now) (W.contents output.new.writer.now) text.now) }
-    ensures err { OnErr result (AppendsFront (W.contents output.old.writer.now) (W.contents output.new.writer.now) text.now) }
+    ensures ok { OnOk result (Appends (W.contents output.old.writer.now)
+        (W.contents output.new.writer.now) text.now) }
+    ensures err { OnErr result (AppendsFront (W.contents output.old.writer.now)
+        (W.contents output.new.writer.now) text.now) }
     ensures fine { OnOk result (output.new.failed ≡ false) }
     ensures failed { OnErr result (output.new.failed ≡ true) }
 {

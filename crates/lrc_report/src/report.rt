@@ -11,8 +11,8 @@ use lrc_trace::end::End;
 use lrc_trace::race::Race;
 use std::alloc::{AllocError, Global};
 
-/// What a run prints: for each node a line for each value that it printed, in order, and one on how it ended. The text
-/// comes in parts, one for each node.
+/// Returns what a run prints: for each node one line for each value that it printed, in order, and a line on how it
+/// ended. The text has one part for each node.
 pub fn report_parts(alloc: Global, acts: &[Act], ends: &[End]) -> Result<Vec<Vec<u8>>, AllocError>
     ensures { IfOk result (λ parts. whole_text parts.items ≡ report_text acts.now ends.now) }
 {
@@ -41,8 +41,8 @@ fn empty_parts(alloc: Global, count: usize) -> Result<Vec<Vec<u8>>, AllocError>
     Ok(parts)
 }
 
-/// What is printed of a run: the lines of its nodes, those of its races, and the last line, which names the first act that
-/// races with an earlier one.
+/// Returns what is printed of a run: the lines of its nodes, the lines of its races, and a last line that names the
+/// first act that races with an earlier one.
 pub fn run_parts(
     alloc: Global,
     acts: &[Act],
@@ -50,7 +50,8 @@ pub fn run_parts(
     races: &[Race],
     first_race: Option<usize>,
 ) -> Result<Vec<Vec<u8>>, AllocError>
-    ensures { IfOk result (λ parts. whole_text parts.items ≡ run_text acts.now ends.now races.now first_race) }
+    ensures { IfOk result (λ parts. whole_text parts.items
+        ≡ run_text acts.now ends.now races.now first_race) }
 {
     let mut parts = report_parts(alloc, acts, ends)?;
     parts.push(races_part(alloc, races)?)?;
@@ -58,7 +59,7 @@ pub fn run_parts(
     Ok(parts)
 }
 
-/// The status with which the program ends after a run: 3 where there is a race.
+/// Returns the program's exit status after a run: 3 if there is a race, else as `status_after` says.
 pub fn status_after_run(ends: &[End], first_race: Option<usize>) -> u8
     ensures { result ≡ run_status_of first_race ends.now }
 {
@@ -68,7 +69,7 @@ pub fn status_after_run(ends: &[End], first_race: Option<usize>) -> u8
     }
 }
 
-/// The status with which the program ends where no race is looked for: 0 where every node came to the end of the text, else 4.
+/// Returns the program's exit status if no race is looked for: 0 if every node reached the end of the text, else 4.
 pub fn status_after(ends: &[End]) -> u8
     ensures { result ≡ status_of ends.now }
 {

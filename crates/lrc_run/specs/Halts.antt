@@ -1,5 +1,5 @@
 -- Where a run on threads stopped, and what its nodes had done by then.
-use Rattle.std.specs.Prelude.{◌≡◌, ◌<◌, ◌^◌, ◌⊎◌, ℕ, Option, Some, None, List, length, map, slice_get}
+use Rattle.std.specs.Prelude.{◌≡◌, ◌<◌, ◌^◌, ◌⊎◌, ℕ, Option, Some, None, List, length, slice_get}
 use Rattle.lrc_lang.specs.declared.program.Program.{Program}
 use Rattle.lrc_envelope.specs.declared.picker.Picker.{Picker}
 use Rattle.lrc_exec.specs.Nodes.{AreNodes}
@@ -7,7 +7,7 @@ use Rattle.lrc_post.specs.Mailbox.{MailboxRecord}
 use Rattle.lrc_post.specs.Post.{AreOf}
 use Rattle.lrc_protocol.specs.declared.event.Event.{Event}
 use Rattle.lrc_protocol.specs.Node.{Node, OptionsRecord, fresh_node}
-use Rattle.lrc_protocol.specs.Run.{Input, EntryRecord, World, Flying, run_of}
+use Rattle.lrc_protocol.specs.Run.{Input, EntryRecord, World, Flying, run_of, turns_of_logs}
 use Rattle.lrc_weave.specs.Logs.{AreLogs}
 use Rattle.lrc_weave.specs.Sent.{AreTakesSent}
 use Rattle.lrc_weave.specs.Further.{AreWovenWith, AreWovenWithout}
@@ -31,7 +31,7 @@ use Rattle.lrc_run.specs.Unfinished.{unfinished}
 
 -- the turns of each node, from node 0 up
 abbrev pub logs_left : Left → List (List EntryRecord)
-logs_left left = map (λ log. log.items) left.logs.items
+logs_left left = turns_of_logs left.logs.items
 
 -- What the log of a node says whose thread stopped so: where it went on until the post was closed, none of its messages was too long; where
 -- it wore out, the node's next turn is too large, or a message of its newest one too long.

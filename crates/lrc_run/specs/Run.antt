@@ -1,5 +1,5 @@
 -- What a run of nodes on threads answers.
-use Rattle.std.specs.Prelude.{◌≡◌, ℕ, ◌⊎◌, Bool, false, true, Some, List, All, Any, length, map}
+use Rattle.std.specs.Prelude.{◌≡◌, ℕ, ◌⊎◌, Bool, false, true, Some, List, All, Any, length}
 use Rattle.lrc_lang.specs.declared.program.Program.{Program}
 use Rattle.lrc_trace.specs.Trace.{TraceRecord}
 use Rattle.lrc_judge.specs.Races.{AreNamedRaces}
@@ -8,7 +8,7 @@ use Rattle.lrc_post.specs.Mailbox.{MailboxRecord, IsAllGiven}
 use Rattle.lrc_post.specs.Post.{AreOf, AreWires}
 use Rattle.lrc_protocol.specs.declared.event.Event.{Event}
 use Rattle.lrc_protocol.specs.Node.{OptionsRecord}
-use Rattle.lrc_protocol.specs.Run.{EntryRecord, Flying, World, run_of}
+use Rattle.lrc_protocol.specs.Run.{EntryRecord, Flying, World, run_of, turns_of_logs}
 use Rattle.lrc_weave.specs.Matched.{AreMatched}
 use Rattle.lrc_weave.specs.Woven.{AreWoven}
 use Rattle.lrc_world.specs.declared.keep.Keep.TheVariants.{All as Whole}
@@ -23,7 +23,7 @@ use Rattle.lrc_run.specs.declared.told.ToldRun.{ToldRun}
 
 -- the turns of each node of a report, from node 0 up
 abbrev pub turns_of_nodes : Report → List (List EntryRecord)
-turns_of_nodes report = map (λ log. log.items) report.logs.items
+turns_of_nodes report = turns_of_logs report.logs.items
 
 -- The report is that of these events, which make all turns of its logs, ordered by their stamps and, where those are the same, by
 -- their nodes. After them no node is ready, and no message is in flight. No turn of their run sends a message that is too long.

@@ -1,6 +1,7 @@
 // What is answered of a run in which a node wore out.
 
-ghost use Rattle.std.specs.Prelude.{◌≡◌, ◌≤◌, ◌<◌, ◌^◌, Err, IfOk, MatchOption, None, OnOk, Some, count_by, length, map};
+ghost use Rattle.std.specs.Prelude.{◌≡◌, ◌≤◌, ◌<◌, ◌^◌, Err, IfOk, MatchOption, None, OnOk, Some, count_by, length};
+ghost use Rattle.lrc_protocol.specs.Run.{turns_of_logs};
 ghost use Rattle.lrc_envelope.specs.declared.picker.Picker.{Picker as AnyPicker};
 ghost use Rattle.lrc_exec.specs.Nodes.{AreNodes};
 ghost use Rattle.lrc_node.specs.Logged.{seen_input};
@@ -28,13 +29,15 @@ use lrc_world::run::Order;
 use lrc_world::simulate::run_checked;
 use std::alloc::{AllocError, Global};
 
-/// Why a run has no report whose first failure is this one.
+/// Returns why a run with this first failure has no report.
 pub(crate) fn halt_at(alloc: Global, setting: &Setting<'_>, left: Left, failure: Failure) -> Halt
     requires range { AreNodes setting.now.nodes × AreSteps setting.now.options.steps }
     requires few { length left.logs.items ≤ 16 }
-    requires turns { AreLogs setting.now.program.now setting.now.nodes setting.now.options (logs_left left) }
+    requires turns { AreLogs setting.now.program.now setting.now.nodes setting.now.options
+        (logs_left left) }
     requires first { IsFirstFailure left.stops.items failure }
-    ensures { (picker : AnyPicker) → IsLeft setting.now.program.now setting.now.nodes setting.now.options picker left
+    ensures { (picker : AnyPicker) → IsLeft setting.now.program.now setting.now.nodes
+        setting.now.options picker left
         → IsHalt setting.now.program.now setting.now.nodes setting.now.options picker result }
 {
     match failure.stop {
@@ -49,9 +52,11 @@ pub(crate) fn halt_at(alloc: Global, setting: &Setting<'_>, left: Left, failure:
 fn worn_out(alloc: Global, setting: &Setting<'_>, left: Left, node: usize) -> Halt
     requires range { AreNodes setting.now.nodes × AreSteps setting.now.options.steps }
     requires few { length left.logs.items ≤ 16 }
-    requires turns { AreLogs setting.now.program.now setting.now.nodes setting.now.options (logs_left left) }
+    requires turns { AreLogs setting.now.program.now setting.now.nodes setting.now.options
+        (logs_left left) }
     requires first { IsFirstFailure left.stops.items (record { node = node; stop = stops.Worn }) }
-    ensures { (picker : AnyPicker) → IsLeft setting.now.program.now setting.now.nodes setting.now.options picker left
+    ensures { (picker : AnyPicker) → IsLeft setting.now.program.now setting.now.nodes
+        setting.now.options picker left
         → IsHalt setting.now.program.now setting.now.nodes setting.now.options picker result }
 {
     match wearing(
@@ -77,12 +82,15 @@ fn wearing(
     node: usize,
 ) -> Result<Vec<Event>, WeaveFault>
     requires few { length logs.now ≤ 16 }
-    requires turns { AreLogs setting.now.program.now setting.now.nodes setting.now.options (map (λ log. log.items) logs.now) }
+    requires turns { AreLogs setting.now.program.now setting.now.nodes setting.now.options
+        (turns_of_logs logs.now) }
     requires range { AreNodes setting.now.nodes × AreSteps setting.now.options.steps }
-    ensures worn { IfOk result (λ events. IsWearing setting.now.program.now setting.now.nodes setting.now.options
-        (map (λ log. log.items) logs.now) wires.now node events.items) }
-    ensures mismatch { result ≡ Err weaving.Mismatch → IsUntoldWearing setting.now.program.now setting.now.nodes setting.now.options
-        (map (λ log. log.items) logs.now) wires.now node }
+    ensures worn { IfOk result (λ events. IsWearing setting.now.program.now setting.now.nodes
+        setting.now.options
+        (turns_of_logs logs.now) wires.now node events.items) }
+    ensures mismatch { result ≡ Err weaving.Mismatch
+        → IsUntoldWearing setting.now.program.now setting.now.nodes setting.now.options
+        (turns_of_logs logs.now) wires.now node }
 {
     if !are_takes_sent(alloc, logs)? {
         return Err(WeaveFault::Mismatch);
@@ -95,7 +103,8 @@ fn wearing(
 // Whether a run of these events wears out: an error where it does not.
 fn wears_out(alloc: Global, setting: &Setting<'_>, events: &[Event]) -> Result<(), WeaveFault>
     requires range { AreNodes setting.now.nodes × AreSteps setting.now.options.steps }
-    ensures worn { OnOk result (IsWornBy setting.now.program.now setting.now.nodes setting.now.options events.now) }
+    ensures worn { OnOk result (IsWornBy setting.now.program.now setting.now.nodes
+        setting.now.options events.now) }
     ensures few { length events.now < 2 ^ 64 }
     ensures mismatch { result ≡ Err weaving.Mismatch
         → IsPlayedOut setting.now.program.now setting.now.nodes setting.now.options events.now }
@@ -135,10 +144,11 @@ fn events_until(
     node: usize,
 ) -> Result<Vec<Event>, WeaveFault>
     requires few { length logs.now ≤ 16 }
-    ensures events { IfOk result (λ events. AreEventsOf (map (λ log. log.items) logs.now) node
-        (unfinished (map (λ log. log.items) logs.now) wires.now node) events.items) }
-    ensures mismatch { result ≡ Err weaving.Mismatch → AreUnmatched (map (λ log. log.items) logs.now)
-        (unfinished (map (λ log. log.items) logs.now) wires.now node) }
+    ensures events { IfOk result (λ events. AreEventsOf (turns_of_logs logs.now) node
+        (unfinished (turns_of_logs logs.now) wires.now node) events.items) }
+    ensures mismatch { result ≡ Err weaving.Mismatch
+        → AreUnmatched (turns_of_logs logs.now)
+        (unfinished (turns_of_logs logs.now) wires.now node) }
 {
     let Some(mailbox) = wires.get(node) else {
         return events_of(alloc, logs);
@@ -208,7 +218,8 @@ fn is_take(entry: &Entry) -> bool
 
 // The bytes of what was put at a place of a history.
 fn bytes_at(history: &[Wire], place: usize) -> Option<&Bytes>
-    ensures { MatchOption result (put_at history.now place ≡ None) (λ bytes. put_at history.now place ≡ Some bytes.now) }
+    ensures { MatchOption result (put_at history.now place ≡ None)
+        (λ bytes. put_at history.now place ≡ Some bytes.now) }
 {
     match history.get(place) {
         Some(Wire::Put { bytes, .. }) => Some(bytes),

@@ -11,38 +11,38 @@ use lrc_protocol::Event;
 use lrc_threads::Stop;
 use std::alloc::AllocError;
 
-/// What the nodes of a run on threads left.
+/// What is left of the nodes of a run on threads.
 #[derive(Drop)]
 pub struct Left {
     /// The turns of each node with their stamps, from node 0 up.
     pub logs: Vec<Vec<Entry>>,
-    /// Why the thread of each node stopped, where it did not go on until the post was closed, from node 0 up.
+    /// Why each node's thread stopped, from node 0 up, or none if it went on until the post was closed.
     pub stops: Vec<Option<Stop>>,
-    /// What the post between them kept.
+    /// The mailboxes of the post between the nodes, with their histories.
     pub wires: Wires,
 }
 
-/// A run of which a node wore out, before any node with a lower number failed.
+/// A run in which a node wore out, before any node with a lower number failed.
 #[derive(Drop)]
 pub struct WornOut {
-    /// What the nodes left.
+    /// What is left of the nodes.
     pub left: Left,
-    /// The node.
+    /// The node that wore out.
     pub node: usize,
-    /// The events that make all turns of the nodes in one order, and behind them the one that the node did not finish.
+    /// The events that make all turns of the nodes in one order, followed by the event that the node did not finish.
     pub events: Vec<Event>,
 }
 
-/// Why a run on threads has no report, with what its nodes left.
+/// Why a run on threads has no report, with what is left of its nodes.
 #[derive(Drop)]
 pub enum Halt {
     /// A node wore out.
     Worn(WornOut),
-    /// There was no memory for a node's thread, the lowest one that failed.
+    /// The lowest node that failed had no memory, or there was none for its thread.
     Refused(Left),
-    /// What the nodes left does not tell of one run to its end.
+    /// What the nodes left is not one run to its end.
     Mismatch(Left),
-    /// There was no memory before the first thread, or after the last one.
+    /// Memory ran out before the first thread started, or after the last one ended.
     NoMemory,
 }
 

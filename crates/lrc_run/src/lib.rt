@@ -1,4 +1,6 @@
-//! Runs of a program whose nodes are on threads of their own, one for each node, with a post between them.
+//! Runs of a program on threads: each node on a separate thread, with a post between them. The turns of the threads are
+//! put into one order by their stamps, so that the parallel run becomes a run of the simulator, and its promises hold.
+//! This includes the sequential-consistency theorem for programs without races.
 #![tactic(auto)]
 
 mod failure;

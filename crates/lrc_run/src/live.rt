@@ -1,6 +1,7 @@
 // The run of a program whose nodes are on threads.
 
-ghost use Rattle.std.specs.Prelude.{◌≡◌, IfErr, IfOk, length, map, true};
+ghost use Rattle.std.specs.Prelude.{◌≡◌, IfErr, IfOk, length, true};
+ghost use Rattle.lrc_protocol.specs.Run.{turns_of_logs};
 ghost use Rattle.lrc_envelope.specs.declared.picker.Picker.{Picker as AnyPicker};
 ghost use Rattle.lrc_exec.specs.Nodes.{AreNodes};
 ghost use Rattle.lrc_post.specs.Post.{AreOf};
@@ -31,17 +32,18 @@ use std::thread::Threads;
 /// A run on threads.
 #[derive(Drop)]
 pub struct ThreadedRun {
-    /// The run that its nodes made: its events make their turns, put in one order by their stamps.
+    /// The run that the nodes made. Its events make their turns, put into one order by their stamps.
     pub made: Run,
-    /// What the post between the nodes kept.
+    /// The mailboxes of the post between the nodes, with their histories.
     pub wires: Wires,
 }
 
-/// A run in which each node lives on a thread of its own, with a post between them. `picker` says which of its messages a node is given
-/// next. Before each of its turns a node passes the gate.
+/// Runs a program with each node on a separate thread, and a post between them. `picker` chooses which of its messages
+/// a node is given next. Before each of its turns a node passes the gate.
 ///
-/// Where there is no report, what the nodes left is handed back, with why there is none: the lowest node that failed wore out, by these
-/// turns, or had no memory; or none failed, and the turns and what the post kept do not tell of one run to its end.
+/// If there is no report, the error hands back what is left of the nodes, and the reason. Either the lowest node that
+/// failed wore out, by the turns handed back, or had no memory. Or no node failed, and the turns and the mailboxes'
+/// histories are not one run to its end.
 pub fn run_on_threads<G: Gate + Sync, R: Threads + Wait + Sync>(
     rt: &R,
     alloc: Global,
@@ -72,9 +74,11 @@ fn lived<G: Gate + Sync, R: Threads + Wait + Sync>(
     gate: &G,
 ) -> Result<ThreadedRun, Halt>
     requires range { AreNodes setting.now.nodes × AreSteps setting.now.options.steps }
-    ensures run { IfOk result (λ run. IsThreadedRun setting.now.program.now setting.now.nodes setting.now.options picker
+    ensures run { IfOk result (λ run. IsThreadedRun setting.now.program.now setting.now.nodes
+        setting.now.options picker
         run.made run.wires) }
-    ensures halt { IfErr result (IsHalt setting.now.program.now setting.now.nodes setting.now.options picker) }
+    ensures halt { IfErr result (IsHalt setting.now.program.now setting.now.nodes
+        setting.now.options picker) }
 {
     let (parts, wires) = live(rt, alloc, setting, picker, gate)?;
     match first_failure(parts.stops.as_slice()) {
@@ -93,11 +97,12 @@ fn live<G: Gate + Sync, R: Threads + Wait + Sync>(
     gate: &G,
 ) -> Result<(Parts, Wires), AllocError>
     requires range { AreNodes setting.now.nodes × AreSteps setting.now.options.steps }
-    ensures left { IfOk result (λ lived. AreLeft setting.now.program.now setting.now.nodes setting.now.options picker
-        (map (λ log. log.items) lived.0.logs.items) lived.0.stops.items lived.1) }
+    ensures left { IfOk result (λ lived. AreLeft setting.now.program.now setting.now.nodes
+        setting.now.options picker
+        (turns_of_logs lived.0.logs.items) lived.0.stops.items lived.1) }
     ensures whole { IfOk result (λ lived. HaveNoFailure lived.0.stops.items
         → AreWhole setting.now.program.now setting.now.nodes setting.now.options
-        (map (λ log. log.items) lived.0.logs.items) lived.0.traces.items lived.0.is_any_ready) }
+        (turns_of_logs lived.0.logs.items) lived.0.traces.items lived.0.is_any_ready) }
 {
     let post = Post::new(alloc, setting.nodes, picker)?;
     let code = Code::new(alloc, setting.program)?;
@@ -115,17 +120,21 @@ fn finished(
     wires: Wires,
 ) -> Result<ThreadedRun, Halt>
     requires range { AreNodes setting.now.nodes × AreSteps setting.now.options.steps }
-    requires turns { AreLogs setting.now.program.now setting.now.nodes setting.now.options (map (λ log. log.items) parts.logs.items) }
+    requires turns { AreLogs setting.now.program.now setting.now.nodes setting.now.options
+        (turns_of_logs parts.logs.items) }
     requires mailboxes { length wires ≡ setting.now.nodes }
     requires unfailed { HaveNoFailure parts.stops.items }
     requires whole { AreWhole setting.now.program.now setting.now.nodes setting.now.options
-        (map (λ log. log.items) parts.logs.items) parts.traces.items parts.is_any_ready }
+        (turns_of_logs parts.logs.items) parts.traces.items parts.is_any_ready }
     ensures run { (picker : AnyPicker) → AreOf picker wires
-        → IfOk result (λ run. IsThreadedRun setting.now.program.now setting.now.nodes setting.now.options picker
+        → IfOk result (λ run. IsThreadedRun setting.now.program.now setting.now.nodes
+        setting.now.options picker
         run.made run.wires) }
-    ensures halt { (picker : AnyPicker) → AreLeft setting.now.program.now setting.now.nodes setting.now.options picker
-        (map (λ log. log.items) parts.logs.items) parts.stops.items wires
-        → IfErr result (IsHalt setting.now.program.now setting.now.nodes setting.now.options picker) }
+    ensures halt { (picker : AnyPicker) → AreLeft setting.now.program.now setting.now.nodes
+        setting.now.options picker
+        (turns_of_logs parts.logs.items) parts.stops.items wires
+        → IfErr result (IsHalt setting.now.program.now setting.now.nodes setting.now.options
+        picker) }
 {
     match told(alloc, setting, &parts, wires.mailboxes()) {
         Ok(told) => Ok(reported(parts, wires, told)),
@@ -136,7 +145,7 @@ fn finished(
 
 // The run whose nodes left these turns, with what is told beside them.
 fn reported(parts: Parts, wires: Wires, told: ToldRun) -> ThreadedRun
-    ensures report { Reports (map (λ log. log.items) parts.logs.items) told result.made.report }
+    ensures report { Reports (turns_of_logs parts.logs.items) told result.made.report }
     ensures events { result.made.events ≡ told.events }
     ensures over { result.made.is_over ≡ true }
     ensures wires { result.wires ≡ wires }

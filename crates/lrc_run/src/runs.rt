@@ -22,17 +22,18 @@ use std::alloc::Global;
 use std::sync::Wait;
 use std::thread::Threads;
 
-/// A run in which each node lives on a thread of its own, and what the post between them kept: [`run_on_threads`] by numbers that may be
-/// out of range. `picker` says which of its messages a node is given next. Where there is a report, each message was given: once, or with
-/// `Twice` two times.
+/// Runs a program with each node on a separate thread, and returns the report and the mailboxes of the post between
+/// them. It is [`run_on_threads`] with numbers that may be out of range. `picker` chooses which of its messages a node
+/// is given next. If there is a report, each message was given: once, or with `Twice` twice.
 ///
-/// The report is the one that `lrc_world` has for the events that make the turns of all nodes, put in one order by their stamps. So
-/// the sequential-consistency theorem holds of it, whatever the threads did: where no two conflicting accesses are unordered by
-/// program, lock and barrier order, the plain machine, led by the order of the acts, makes the same acts. Every run is plain up to
-/// its first race; and where no order gives the plain machine a race, no run has one.
+/// The report is the one of `lrc_world` for the events that make the turns of all nodes, put into one order by their
+/// stamps. So the sequential-consistency theorem holds of it, whatever the threads did. If program, lock and barrier
+/// order leave no two conflicting accesses unordered, the plain machine, led by the order of the acts, makes the same
+/// acts. Every run is plain up to its first race. If no order gives the plain machine a race, no run has one.
 ///
-/// Of several faults the one of the lowest node is answered; `Mismatch`, and want of memory after the threads have ended, only where
-/// no node had one.
+/// It fails with `BadNodes` first and `BadSteps` next, if a number is out of range. Of several faults of nodes, that of
+/// the lowest node is returned. `Mismatch`, and lack of memory after the threads have ended, come only if no node had a
+/// fault.
 pub fn run<R: Threads + Wait + Sync>(
     rt: &R,
     alloc: Global,
@@ -41,15 +42,17 @@ pub fn run<R: Threads + Wait + Sync>(
     options: &Options,
     picker: Picker,
 ) -> Result<(Report, Wires), RunFault>
-    ensures run { IfOk result (λ done. (made : AnyRun) × (done.0 ≡ made.report) × IsThreadedRun program.now nodes options.now picker made done.1) }
+    ensures run { IfOk result (λ done. (made : AnyRun) × (done.0 ≡ made.report)
+        × IsThreadedRun program.now nodes options.now picker made done.1) }
     ensures fault { IfErr result (IsRunFault program.now nodes options.now picker) }
     ensures bad_nodes { (result ≡ Err RunFault.BadNodes) ↔ (¬ AreNodes nodes) }
-    ensures bad_steps { (result ≡ Err RunFault.BadSteps) ↔ (AreNodes nodes × ¬ AreSteps options.now.steps) }
+    ensures bad_steps { (result ≡ Err RunFault.BadSteps)
+        ↔ (AreNodes nodes × ¬ AreSteps options.now.steps) }
 {
     run_gated(rt, alloc, program, nodes, options, picker, &OpenGate)
 }
 
-/// The same, where each node passes a gate before each of its turns, on its own thread.
+/// Runs a program as [`run`] does, but each node passes a gate before each of its turns, on its thread.
 pub fn run_gated<G: Gate + Sync, R: Threads + Wait + Sync>(
     rt: &R,
     alloc: Global,
@@ -59,10 +62,12 @@ pub fn run_gated<G: Gate + Sync, R: Threads + Wait + Sync>(
     picker: Picker,
     gate: &G,
 ) -> Result<(Report, Wires), RunFault>
-    ensures run { IfOk result (λ done. (made : AnyRun) × (done.0 ≡ made.report) × IsThreadedRun program.now nodes options.now picker made done.1) }
+    ensures run { IfOk result (λ done. (made : AnyRun) × (done.0 ≡ made.report)
+        × IsThreadedRun program.now nodes options.now picker made done.1) }
     ensures fault { IfErr result (IsRunFault program.now nodes options.now picker) }
     ensures bad_nodes { (result ≡ Err RunFault.BadNodes) ↔ (¬ AreNodes nodes) }
-    ensures bad_steps { (result ≡ Err RunFault.BadSteps) ↔ (AreNodes nodes × ¬ AreSteps options.now.steps) }
+    ensures bad_steps { (result ≡ Err RunFault.BadSteps)
+        ↔ (AreNodes nodes × ¬ AreSteps options.now.steps) }
 {
     let setting = check(nodes, options)?;
     match run_on_threads(rt, alloc, program, &setting, picker, gate) {

@@ -1,7 +1,7 @@
 // Whether the messages that the nodes took were sent.
 
-ghost use Rattle.std.specs.Prelude.{◌≡◌, ◌↔◌, IfOk, IsTrue, map};
-ghost use Rattle.lrc_protocol.specs.Run.{taken};
+ghost use Rattle.std.specs.Prelude.{◌≡◌, ◌↔◌, IfOk, IsTrue};
+ghost use Rattle.lrc_protocol.specs.Run.{taken, turns_of_logs};
 ghost use Rattle.lrc_wire.specs.declared.version.Version.TheVariants.{Two};
 ghost use Rattle.lrc_wire.specs.Spelling.{Spells};
 ghost use Rattle.lrc_weave.specs.Sent.{AreTakesSent};
@@ -12,9 +12,9 @@ use lrc_node::{Entry, Input};
 use lrc_wire::{EncodeFault, encode};
 use std::alloc::{AllocError, Global};
 
-/// Whether each message that a log takes was sent to its node by some turn of the logs.
+/// Returns whether each message that a log takes was sent to its node by some turn of the logs.
 pub(crate) fn are_takes_sent(alloc: Global, logs: &[Vec<Entry>]) -> Result<bool, AllocError>
-    ensures { IfOk result (λ are. IsTrue are ↔ AreTakesSent (map (λ log. log.items) logs.now)) }
+    ensures { IfOk result (λ are. IsTrue are ↔ AreTakesSent (turns_of_logs logs.now)) }
 {
     for node in 0..logs.len() {
         if !are_sent_to(alloc, logs, node, logs[node].as_slice())? {
@@ -31,7 +31,8 @@ fn are_sent_to(
     node: usize,
     log: &[Entry],
 ) -> Result<bool, AllocError>
-    ensures { IfOk result (λ are. IsTrue are ↔ AreSentTo (map (λ log. log.items) logs.now) node log.now) }
+    ensures { IfOk result (λ are. IsTrue are
+        ↔ AreSentTo (turns_of_logs logs.now) node log.now) }
 {
     let mut last = 0;
     for entry in log {
@@ -51,7 +52,8 @@ fn is_take_sent(
     last: u64,
     entry: &Entry,
 ) -> Result<bool, AllocError>
-    ensures { IfOk result (λ is. IsTrue is ↔ IsTakeSent (map (λ log. log.items) logs.now) node last entry.now) }
+    ensures { IfOk result (λ is. IsTrue is
+        ↔ IsTakeSent (turns_of_logs logs.now) node last entry.now) }
 {
     match &entry.input {
         Input::Run => Ok(true),
@@ -68,7 +70,8 @@ fn has_source(
     stamp: u64,
     envelope: &Envelope,
 ) -> Result<bool, AllocError>
-    ensures { IfOk result (λ is. IsTrue is ↔ HasSource (map (λ log. log.items) logs.now) node last stamp envelope.now) }
+    ensures { IfOk result (λ is. IsTrue is
+        ↔ HasSource (turns_of_logs logs.now) node last stamp envelope.now) }
 {
     if usize::from(envelope.to) != node {
         return Ok(false);

@@ -1,6 +1,7 @@
 // What is told of a run by what its nodes left.
 
-ghost use Rattle.std.specs.Prelude.{◌≡◌, ◌≤◌, ◌<◌, ◌↔◌, [], All, Any, Err, IfOk, IsTrue, MatchOption, OnOk, false, length, map};
+ghost use Rattle.std.specs.Prelude.{◌≡◌, ◌≤◌, ◌<◌, ◌↔◌, [], All, Any, Err, IfOk, IsTrue, MatchOption, OnOk, false, length};
+ghost use Rattle.lrc_protocol.specs.Run.{turns_of_logs};
 ghost use Rattle.lrc_trace.specs.Conflict.{IsFirstRace, IsRaceFree};
 ghost use Rattle.lrc_judge.specs.declared.TheConstants.{NODES};
 ghost use Rattle.lrc_race.specs.Races.{AreRacesOf, AreTracesOf};
@@ -24,7 +25,7 @@ use lrc_world::ends::ends;
 use lrc_world::first::first_of;
 use std::alloc::{AllocError, Global};
 
-/// What is told of a run beside the turns of its nodes.
+/// What is reported of a run, except the turns of its nodes.
 #[derive(Drop)]
 pub(crate) struct ToldRun {
     pub events: Vec<Event>,
@@ -42,9 +43,9 @@ struct Findings {
     first_race: Option<usize>,
 }
 
-/// What is told of the nodes' turns, and the events that make them. `Mismatch` only where what the post kept does not agree with them, or
-/// something was left to do or to be given. No event is played again: the acts are those of the turns, and the races those of the nodes'
-/// traces.
+/// Returns what is reported of the nodes' turns, and the events that make them. No event is played again: the acts are
+/// those of the turns, and the races those of the nodes' traces. It fails with `Mismatch` only if the mailboxes'
+/// histories do not agree with the turns, or something was left to do or to give.
 pub(crate) fn told(
     alloc: Global,
     setting: &Setting<'_>,
@@ -52,16 +53,20 @@ pub(crate) fn told(
     wires: &[Mailbox],
 ) -> Result<ToldRun, WeaveFault>
     requires few { setting.now.nodes ≤ 16 }
-    requires turns { AreLogs setting.now.program.now setting.now.nodes setting.now.options (map (λ log. log.items) parts.now.logs.items) }
+    requires turns { AreLogs setting.now.program.now setting.now.nodes setting.now.options
+        (turns_of_logs parts.now.logs.items) }
     requires whole { AreWhole setting.now.program.now setting.now.nodes setting.now.options
-        (map (λ log. log.items) parts.now.logs.items) parts.now.traces.items parts.now.is_any_ready }
+        (turns_of_logs parts.now.logs.items) parts.now.traces.items
+        parts.now.is_any_ready }
     requires wires { length wires.now ≡ setting.now.nodes }
     ensures told { IfOk result (IsTold setting.now.program.now setting.now.nodes setting.now.options
-        (map (λ log. log.items) parts.now.logs.items)) }
-    ensures matched { OnOk result (AreMatched (map (λ log. log.items) parts.now.logs.items) wires.now) }
+        (turns_of_logs parts.now.logs.items)) }
+    ensures matched { OnOk result (AreMatched (turns_of_logs parts.now.logs.items)
+        wires.now) }
     ensures taken { OnOk result (All IsAllGiven wires.now) }
-    ensures mismatch { result ≡ Err Mismatch → IsUntold setting.now.program.now setting.now.nodes setting.now.options
-        (map (λ log. log.items) parts.now.logs.items) wires.now }
+    ensures mismatch { result ≡ Err Mismatch → IsUntold setting.now.program.now setting.now.nodes
+        setting.now.options
+        (turns_of_logs parts.now.logs.items) wires.now }
 {
     let run = weave_run(alloc, parts.logs.as_slice(), wires)?;
     if parts.is_any_ready || run.in_flight > 0 || !are_all_given(wires) {
@@ -92,7 +97,8 @@ fn findings_of(
     requires raceless { AreRacesOf traces.now [] → IsRaceFree acts.now }
     ensures ends { IfOk result (λ found. found.ends.items ≡ ends_of nodes acts.now) }
     ensures races { IfOk result (λ found. AreRacesOf traces.now found.races.items) }
-    ensures first { IfOk result (λ found. MatchOption found.first_race (IsRaceFree acts.now) (IsFirstRace acts.now)) }
+    ensures first { IfOk result (λ found. MatchOption found.first_race (IsRaceFree acts.now)
+        (IsFirstRace acts.now)) }
 {
     let ends = ends(alloc, nodes, acts)?;
     let races = races(alloc, traces)?;

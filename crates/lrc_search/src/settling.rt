@@ -10,14 +10,14 @@ use lrc_exec::spot::{Flat, Spot};
 use lrc_trace::act::Deed;
 use std::alloc::{AllocError, Global};
 
-/// What comes of settling a thread.
+/// The result of settling a thread.
 #[derive(Drop)]
 pub enum Settling {
-    /// By these deeds it comes to where its next act is not free, or has stopped for good.
+    /// By these deeds the thread reaches a point where its next act is not free, or where it has stopped.
     Waits(Spot, Vec<Deed>),
-    /// By these deeds it comes to where it turns for ever.
+    /// By these deeds the thread reaches a point from which it turns for ever.
     Turns(Spot, Vec<Deed>),
-    /// As many acts came as were to be looked at.
+    /// The limit on the acts to look at was reached.
     Open,
 }
 
@@ -29,8 +29,9 @@ enum Ending {
     Open,
 }
 
-/// Settles a thread: it makes the free acts that come, until its next act is not free, or it turns for ever. At most so many are looked at.
-/// Of a thread that turns for ever no quiet act or print is made.
+/// Settles a thread. It makes the free acts that come, until the next act is not free or the thread turns for ever. It
+/// looks at no more than `most` acts. For a thread that turns for ever it makes no quiet act and no print. It fails if
+/// memory runs out.
 pub fn settle_thread(
     alloc: Global,
     flat: &Flat,
@@ -39,7 +40,8 @@ pub fn settle_thread(
 ) -> Result<Settling, AllocError>
     requires flat { IsFlat flat.now }
     requires within { spot.now.place ≤ length flat.now.code.now }
-    ensures { IfOk result (λ settling. IsSettling flat.now (spot_thread flat.now spot.now) most settling) }
+    ensures { IfOk result (λ settling.
+        IsSettling flat.now (spot_thread flat.now spot.now) most settling) }
 {
     let mut there = *spot;
     let mut deeds = Vec::new(alloc);
@@ -61,7 +63,9 @@ fn make_free_acts(
     requires flat { IsFlat flat.now }
     requires within { spot.old.place ≤ length flat.now.code.now }
     requires empty { deeds.old.items ≡ [] }
-    ensures ends { IfOk result (λ ending. EndsSo (spot_thread flat.now spot.old) most deeds.new.items (spot_thread flat.now spot.new) ending) }
+    ensures ends { IfOk result (λ ending. EndsSo
+        (spot_thread flat.now spot.old) most deeds.new.items
+        (spot_thread flat.now spot.new) ending) }
     ensures within { spot.new.place ≤ length flat.now.code.now }
 {
     let mut stops = false;

@@ -7,14 +7,15 @@ use indexmap::IndexSet;
 use lrc_exec::spot::Spot;
 use std::alloc::{AllocError, Global};
 
-/// Settled threads, each once, by numbers in the order in which they first came: 0, 1, 2 and so on.
+/// A table of settled threads. Each thread is in it once; the threads are numbered 0, 1, 2 and so on, in the order in
+/// which they first came.
 #[derive(Drop)]
 pub struct SettledThreads {
     spots: IndexSet<Spot>,
 }
 
 impl SettledThreads {
-    /// Before any thread.
+    /// Makes a table without threads.
     pub fn new(alloc: Global) -> SettledThreads
         ensures { threads_in result ≡ [] }
     {
@@ -23,23 +24,25 @@ impl SettledThreads {
         }
     }
 
-    /// How many threads there are.
+    /// Returns the number of threads.
     pub fn count(&self) -> usize
         ensures { result ≡ length (threads_in self.now) }
     {
         self.spots.len()
     }
 
-    /// The thread of this number; none, where no thread has it.
+    /// Returns the thread with this number, or none if no thread has it.
     pub fn thread(&self, number: usize) -> Option<&Spot>
         ensures { option_copied result ≡ slice_get (threads_in self.now) number }
     {
         self.spots.get_index(number)
     }
 
-    /// The number of a thread: its own, where it came before, and else the next. An error leaves the table as it was.
+    /// Returns the number of a thread: its number if it came before, otherwise the next one, with which the thread is
+    /// added. It fails if memory runs out; the table is then unchanged.
     pub fn number(&mut self, thread: &Spot) -> Result<usize, AllocError>
-        ensures numbered { IfOk result (λ number. IsNumbered (threads_in self.old) thread.now (threads_in self.new) number) }
+        ensures numbered { IfOk result (λ number. IsNumbered (threads_in self.old) thread.now
+            (threads_in self.new) number) }
         ensures distinct { OnOk result (AllPairs (λ x y. x ≢ y) (threads_in self.new)) }
         ensures unchanged { OnErr result (threads_in self.new ≡ threads_in self.old) }
     {

@@ -7,19 +7,20 @@ ghost use Rattle.lrc_search.specs.Turning.{is_quiet_ask, IsCourse};
 use lrc_exec::machine::Ask;
 use lrc_exec::spot::{Flat, Spot};
 
-/// What comes of the quiet acts and prints of a thread.
+/// What the quiet acts and prints of a thread lead to.
 #[derive(Clone, Copy, Debug, PartialEq, Eq)]
 pub enum Course {
     /// Another act comes after them.
     Stops,
-    /// They have no end: the thread comes round.
+    /// They have no end: the thread returns to where it was.
     Turns,
-    /// As many came as were to be looked at.
+    /// The limit on the acts to look at was reached.
     Open,
 }
 
-/// What comes of the quiet acts and prints of a thread at no barrier, of which so many are looked at. A thread that comes round is found
-/// by comparing it with one that it was before (Brent 1980): that one is taken anew each time that twice as many acts were looked at.
+/// Returns what the quiet acts and prints of a thread at no barrier lead to. It looks at no more than `most` acts. To
+/// see that a thread returns to where it was, it compares the thread with an earlier state of it (Brent 1980); it takes
+/// a new such state each time that twice as many acts were looked at.
 pub fn course_of(flat: &Flat, spot: &Spot, most: u64) -> Course
     requires flat { IsFlat flat.now }
     requires within { spot.now.place ≤ length flat.now.code.now }

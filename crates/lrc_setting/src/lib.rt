@@ -1,4 +1,5 @@
-//! What a run of the nodes is made with, as types that keep their ranges.
+//! The settings of a run: the number of nodes, the steps of each node, the page size, the threshold for collections,
+//! and the first message number. The types keep their ranges.
 #![tactic(auto)]
 
 pub mod setting;

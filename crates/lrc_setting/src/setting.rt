@@ -14,7 +14,8 @@ pub struct Nodes {
     pub ghost few: { count ≤ 16 },
 }
 
-/// How many statements each node may begin, 1 to 1,000,000.
+/// How many steps each node may take, 1 to 1,000,000. Each condition that it evaluates and each other statement that it
+/// begins is one step.
 #[derive(Clone, Copy)]
 pub struct Steps {
     pub count: u32,
@@ -22,23 +23,23 @@ pub struct Steps {
     pub ghost few: { count ≤ 1000000 },
 }
 
-/// What a run is made with, beside its program.
+/// The settings of a run, apart from its program.
 #[derive(Clone, Copy)]
 pub struct Setting {
     /// How many nodes run the program.
     pub nodes: Nodes,
-    /// How many statements each node may begin.
+    /// How many steps each node may take.
     pub steps: Steps,
-    /// From how many stored intervals on a node asks for a collection at a barrier; 0: never.
+    /// The number of stored intervals from which a node asks for a collection at a barrier, or 0 for never.
     pub collect: u32,
     /// The size of a page.
     pub size: Size,
-    /// The number of the first message from each node to each.
+    /// The number of the first message from each node to each node.
     pub first: u32,
 }
 
 impl Nodes {
-    /// So many nodes; none where that is not 1 to 16.
+    /// Returns a number of nodes, or none if it is not 1 to 16.
     pub fn new(count: u32) -> Option<Nodes>
         ensures { MatchOption result (¬ AreNodes count) (λ nodes. nodes.count ≡ count) }
     {
@@ -49,7 +50,7 @@ impl Nodes {
         }
     }
 
-    /// How many, as a number of 8 bits.
+    /// Returns the number, as 8 bits.
     pub fn number(self) -> u8
         ensures { result ≡ self.count }
     {
@@ -58,7 +59,7 @@ impl Nodes {
 }
 
 impl Steps {
-    /// So many steps; none where that is not 1 to 1,000,000.
+    /// Returns a number of steps, or none if it is not 1 to 1,000,000.
     pub fn new(count: u32) -> Option<Steps>
         ensures { MatchOption result (¬ AreSteps count) (λ steps. steps.count ≡ count) }
     {

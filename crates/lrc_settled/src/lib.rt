@@ -1,4 +1,5 @@
-//! Settled states: of every order of a program it is enough to look at those that part at reads, writes, acquires, and departs of all.
+//! Laws of settled states. To know every order of a program, it is enough to look at the orders that part at reads,
+//! writes, acquires, and departs of all nodes.
 #![tactic(auto)]
 
 pub mod laws;

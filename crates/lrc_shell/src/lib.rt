@@ -1,5 +1,5 @@
-//! The program `treadmarks` over its words, files and outputs: reads its words and the files that they name, does what they
-//! ask for, and gives the exit status.
+//! The program `treadmarks` as a function of its arguments, files and outputs. It reads the arguments and the files
+//! that they name, carries out the request, and returns the exit status.
 #![tactic(auto)]
 
 mod played;

@@ -27,23 +27,23 @@ use std::thread::Threads;
 use std::time::Clock;
 use std::{io, thread};
 
-/// One byte more than the longest text of a program has: a longer one is cut there, and is still too long.
+/// The most bytes read of a program's text: the limit plus one. A longer text is cut there, and is still too long.
 const TEXT_READ: u64 = lrc_lang::MOST_BYTES as u64 + 1;
 
 const _: () = prove!(TEXT_READ > lrc_lang::MOST_BYTES as u64);
 
-/// One byte more than the longest text of acts has: a longer one is cut there, and is still too long.
+/// The most bytes read of a text of acts: the limit plus one. A longer text is cut there, and is still too long.
 const ACTS_READ: u64 = lrc_acts::reading::MOST_BYTES as u64 + 1;
 
 const _: () = prove!(ACTS_READ > lrc_acts::reading::MOST_BYTES as u64);
 
-/// One byte more than the longest text of events has: a longer one is cut there, and is still too long.
+/// The most bytes read of a text of events: the limit plus one. A longer text is cut there, and is still too long.
 const EVENTS_READ: u64 = lrc_events::events::MOST_BYTES as u64 + 1;
 
 const _: () = prove!(EVENTS_READ > lrc_events::events::MOST_BYTES as u64);
 
-/// Does what the arguments of the program ask for, the first of which is its name, and gives the exit status. What it prints
-/// goes to `out`, and each fault to `err`. Where a run takes long, `late` says so, once.
+/// Carries out what the program's arguments ask for, and returns the exit status. The first argument is the program's
+/// name. The output goes to `out`, and each fault to `err`. If a run takes long, `late` says so once.
 pub fn play<R, S: AsStr, F: Sources, L, W: Write, E: Write>(
     rt: &R,
     arguments: &[S],
@@ -110,7 +110,8 @@ fn play_text<R, F: Sources, L, W: Write, E: Write>(
 where
     R: Threads + Wait + Sync + Clock + AllocGlobal,
     L: Late + Send + Drop,
-    ensures { IsTextRead (F.known sources.now) (most_read (reads_acts choice.now)) (file_of choice.now) text.now → IsPlayed (F.known sources.now) choice.now
+    ensures { IsTextRead (F.known sources.now) (most_read (reads_acts choice.now))
+        (file_of choice.now) text.now → IsPlayed (F.known sources.now) choice.now
         (W.contents out.old) (W.contents out.new) (E.contents err.old) (E.contents err.new) result }
 {
     match read_events(rt.alloc(), sources, choice) {
@@ -184,7 +185,8 @@ where
     };
     let answering = || -> Result<Answered, Fault>
         requires { is_some events ≡ names_events choice.now }
-        ensures { Answers choice.entry.now text.entry.now (option_map (λ e. e.now) events.entry) result }
+        ensures { Answers choice.entry.now text.entry.now
+            (option_map (λ e. e.now) events.entry) result }
     { answer_then_end(rt, shared, choice, text, events) };
     let (_told, answered) = thread::join(rt, watched, answering);
     answered
@@ -210,8 +212,10 @@ where
 
 // Reads the text of a program, or of acts. The path `-` is standard input.
 fn read_text<F: Sources>(alloc: Global, sources: &F, choice: &Choice<'_>) -> io::Result<Vec<u8>>
-    ensures ok { IfOk result (λ text. IsTextRead (F.known sources.now) (most_read (reads_acts choice.now)) (file_of choice.now) text.items) }
-    ensures err { IfErr result (λ error. IsTextCause (F.known sources.now) (file_of choice.now) (error_kind error)) }
+    ensures ok { IfOk result (λ text. IsTextRead (F.known sources.now)
+        (most_read (reads_acts choice.now)) (file_of choice.now) text.items) }
+    ensures err { IfErr result (λ error. IsTextCause (F.known sources.now) (file_of choice.now)
+        (error_kind error)) }
 {
     let path = choice.file();
     let most = most_read(choice);
@@ -240,8 +244,10 @@ fn read_events<F: Sources>(
     choice: &Choice<'_>,
 ) -> io::Result<Option<Vec<u8>>>
     ensures named { IfOk result (λ events. is_some events ≡ names_events choice.now) }
-    ensures ok { IfOk result (λ events. AreEventsRead (F.known sources.now) (events_of choice.now) (option_map (λ e. e.items) events)) }
-    ensures err { IfErr result (λ error. IsEventsCause (F.known sources.now) (events_of choice.now) (error_kind error)) }
+    ensures ok { IfOk result (λ events. AreEventsRead (F.known sources.now) (events_of choice.now)
+        (option_map (λ e. e.items) events)) }
+    ensures err { IfErr result (λ error. IsEventsCause (F.known sources.now) (events_of choice.now)
+        (error_kind error)) }
 {
     match choice.events() {
         Some(path) => Ok(Some(sources.file(alloc, path, EVENTS_READ)?)),

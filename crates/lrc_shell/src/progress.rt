@@ -4,13 +4,13 @@ use std::io::Eprint;
 use std::sync::{Condvar, CondvarTimeouts, Mutex, Wait};
 use std::time::{Clock, Duration};
 
-/// What says that a run still goes on. It is used up by that, so that this is said of no run twice.
+/// The notice that a run is still going on. Giving it consumes it, so no run gets it twice.
 pub trait Late {
-    /// Says that the run goes on.
+    /// Gives the notice.
     fn tell(self);
 }
 
-/// The line that says so on standard error.
+/// The notice as a line on standard error.
 #[derive(Drop)]
 pub struct LateLine<'r, R> {
     /// The handle of the system.
@@ -23,10 +23,10 @@ impl<'r, R: Eprint> Late for LateLine<'r, R> {
     }
 }
 
-/// How many seconds a run may take before it is said that it goes on.
+/// The seconds that a run may take before the notice.
 const SECONDS: u64 = 2;
 
-/// Whether what is watched is over.
+/// Whether the watched run is over.
 #[derive(Drop)]
 pub struct Watch {
     over: Mutex<bool>,
@@ -34,7 +34,7 @@ pub struct Watch {
 }
 
 impl Watch {
-    /// A watch of what is not over.
+    /// Returns a watch for a run that is not over.
     pub fn new() -> Watch {
         Watch {
             over: Mutex::new(false),
@@ -42,7 +42,7 @@ impl Watch {
         }
     }
 
-    /// Waits until it is over, but no more than two seconds, and answers whether it took so long.
+    /// Waits until the run is over, but at most two seconds, and returns whether the time ran out first.
     pub fn takes_long(&self, rt: &(impl Wait + Clock)) -> bool {
         let over = self.over.lock(rt);
         let (_over, timeout) = self
@@ -51,7 +51,7 @@ impl Watch {
         timeout.timed_out()
     }
 
-    /// It is over, and whoever waits for that goes on.
+    /// Marks the run as over, and wakes whoever waits for that.
     pub fn end(&self, rt: &impl Wait) {
         *self.over.lock(rt) = true;
         self.told.notify_one();

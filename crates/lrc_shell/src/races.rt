@@ -11,7 +11,7 @@ use lrc_sources::sources::Sources;
 use std::alloc::Global;
 use std::io::Write;
 
-/// Tells the races of a trace as it is read, and gives the exit status.
+/// Reports the races of a trace while it is read, and returns the exit status.
 pub(crate) fn tell_races<F: Sources, W: Write, E: Write>(
     alloc: Global,
     racing: &Racing<'_>,
@@ -19,7 +19,8 @@ pub(crate) fn tell_races<F: Sources, W: Write, E: Write>(
     out: &mut W,
     err: &mut E,
 ) -> u8
-    ensures { IsRacesPlayed (F.known sources.now) racing.now.file.now (form_of racing.now.form) racing.now.group
+    ensures { IsRacesPlayed (F.known sources.now) racing.now.file.now
+        (form_of racing.now.form) racing.now.group
         (W.contents out.old) (W.contents out.new) (E.contents err.old) (E.contents err.new) result }
 {
     play_races(

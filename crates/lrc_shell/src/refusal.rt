@@ -17,9 +17,10 @@ const BAD_NUMBER: &[u8] = b"treadmarks: number out of range\n";
 
 const BAD_ARGUMENT: &[u8] = b"error: invalid UTF-8 was detected in one or more arguments\n";
 
-/// Says why there are no words: memory ran out, or one of them is not UTF-8. Gives the exit status.
+/// Writes why the arguments are refused, and returns the exit status: memory ran out, or an argument is not UTF-8.
 pub(crate) fn refuse_arguments<E: Write>(error: &io::Error, err: &mut E) -> u8
-    ensures told { IsTold (E.contents err.old) (E.contents err.new) (argument_line (error_kind error.now)) }
+    ensures told { IsTold (E.contents err.old) (E.contents err.new)
+        (argument_line (error_kind error.now)) }
     ensures status { result ≡ argument_status (error_kind error.now) }
 {
     let kind = error.kind();
@@ -45,7 +46,7 @@ fn argument_status(kind: ErrorKind) -> u8
     }
 }
 
-/// Says why the words are no choice, and gives the exit status.
+/// Writes why the words are not a request, and returns the exit status.
 pub(crate) fn refuse<E: Write>(fault: &ChooseFault, err: &mut E) -> u8
     ensures { IsRefusal fault.now (E.contents err.old) (E.contents err.new) result }
 {

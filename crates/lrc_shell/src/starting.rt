@@ -16,8 +16,8 @@ use std::sync::Wait;
 use std::thread::Threads;
 use std::time::Clock;
 
-/// Does what the arguments of the program ask for, as [`play`] does, and gives the exit status. Where they cannot be read, a line
-/// on `err` says why, and nothing goes to `out`.
+/// Carries out what the program's arguments ask for, as [`play`] does, and returns the exit status. If the arguments
+/// cannot be read, a line on `err` says why, and nothing goes to `out`.
 pub fn start<R, F: Sources, L, W: Write, E: Write>(
     rt: &R,
     arguments: io::Result<Vec<String>>,
@@ -29,7 +29,8 @@ pub fn start<R, F: Sources, L, W: Write, E: Write>(
 where
     R: Threads + Wait + Sync + Clock + AllocGlobal,
     L: Late + Send + Drop,
-    ensures { Starts (F.known sources.now) (result_map_both (λ given. map string_bytes given.items) error_kind arguments)
+    ensures { Starts (F.known sources.now)
+        (result_map_both (λ given. map string_bytes given.items) error_kind arguments)
         (W.contents out.old) (W.contents out.new) (E.contents err.old) (E.contents err.new) result }
 {
     match arguments {

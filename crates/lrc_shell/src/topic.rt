@@ -10,15 +10,16 @@ use lrc_sources::refusal::refuse_memory;
 use std::alloc::{AllocError, Global};
 use std::io::Write;
 
-/// Writes what the program says of a topic, which is the text of clap's answer to the words that ask for it, and gives the exit
-/// status.
+/// Writes what the program says about a topic, and returns the exit status. The text is clap's answer to the words that
+/// ask for the topic.
 pub(crate) fn tell_topic<W: Write, E: Write>(
     alloc: Global,
     topic: &Topic<'_>,
     out: &mut W,
     err: &mut E,
 ) -> u8
-    ensures { IsTopicTold (W.contents out.old) (W.contents out.new) (E.contents err.old) (E.contents err.new) result }
+    ensures { IsTopicTold (W.contents out.old) (W.contents out.new) (E.contents err.old)
+        (E.contents err.new) result }
 {
     match text_of(alloc, topic) {
         Ok(text) => write_text(text.as_bytes(), out),

@@ -6,7 +6,7 @@ use Rattle.lrc_trace.specs.declared.act.Act.{Act}
 use Rattle.lrc_events.specs.EventsText.{ReadsEvents}
 use Rattle.lrc_protocol.specs.declared.event.Event.{Event}
 use Rattle.lrc_protocol.specs.Node.{OptionsRecord}
-use Rattle.lrc_timed.proofs.OfRuns.{acts_of_nodes}
+use Rattle.lrc_order_laws.proofs.TimesOfRuns.{acts_of_nodes}
 use Rattle.lrc_args.specs.declared.choice.RunOptions.{RunOptions}
 use Rattle.lrc_args.specs.declared.choice.Shape.{Shape}
 use Rattle.lrc_args.specs.declared.choice.Way.{Way}

@@ -13,7 +13,8 @@ use std::alloc::Global;
 use std::sync::Wait;
 use std::thread::Threads;
 
-/// Answers a choice of a run, on threads or not, with the text of its program, and that of its events where it names them.
+/// Answers a choice of a run, on threads or not, from the program's text, and from the text of events if the choice
+/// names one.
 pub fn show_any<R: Threads + Wait + Sync>(
     rt: &R,
     alloc: Global,

@@ -22,6 +22,7 @@ use lrc_chart_model::Picture;
 use lrc_chart_rows::turns_of;
 use lrc_chart_svg::document_of;
 use lrc_chart_text::sketch;
+use lrc_clock::times::times_of_acts;
 use lrc_exec::code::Code;
 use lrc_judge::first_pairs::first_pairs;
 use lrc_labels::read_labels;
@@ -30,14 +31,13 @@ use lrc_lang::program::Program;
 use lrc_lines::walks::follow_acts;
 use lrc_stuck::{stands_of, waits_of};
 use lrc_svg::document_part;
-use lrc_timed::times::times_of_acts;
 use lrc_title::title_of;
 use lrc_trace::act::Act;
 use lrc_world::run::Run;
 use lrc_world::turned::turned_events;
 use std::alloc::{AllocError, Global};
 
-/// A chart of a run of the program that this text is of.
+/// Returns a chart of a run of the program in this text.
 pub(crate) fn charted(
     alloc: Global,
     charting: Charting,
@@ -164,7 +164,7 @@ fn source_of(charting: Charting, text: &[u8]) -> Option<&[u8]>
     if charting.source { Some(text) } else { None }
 }
 
-/// Which part of a run, or of acts, a chart shows.
+/// Returns the part of a run, or of a list of acts, that a chart shows.
 pub fn part_of(charting: Charting) -> Part
     ensures { result ≡ part_of charting }
 {
@@ -184,7 +184,7 @@ fn position_of(number: Option<u64>) -> Option<usize>
     }
 }
 
-/// A picture for a terminal, or as an SVG document.
+/// Draws a picture for a terminal or as an SVG document.
 pub fn drawn(alloc: Global, terminal: bool, picture: &Picture) -> Result<Vec<u8>, AllocError>
     ensures { IfOk result (λ part. IsDrawn terminal picture.now part.items) }
 {

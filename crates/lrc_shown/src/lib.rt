@@ -1,4 +1,5 @@
-//! What is shown of a run: its report, also with reasons, a trace, a chart, its counts, or why acts of it are as they are.
+//! Runs a program and shows the run in the form that was chosen: as a report, a report with reasons, a trace, a chart,
+//! counts, or the reasons for certain acts.
 #![tactic(auto)]
 
 pub mod any;

@@ -14,7 +14,7 @@ use lrc_why_run::why_run;
 use lrc_why_text::asked::Asked;
 use std::alloc::Global;
 
-/// What is told of acts of a run that are asked of.
+/// Returns the reasons for the acts of a run that the question names.
 pub(crate) fn reasons_of_run(
     alloc: Global,
     text: &[u8],
@@ -35,7 +35,7 @@ pub(crate) fn reasons_of_run(
     Ok(parts)
 }
 
-/// What is asked, by places.
+/// Returns the question with its acts as places. If it names a second act, this differs from the first.
 pub fn asked_of(asking: &Asking) -> Asked
     ensures value { result ≡ asked_of asking.now }
     ensures apart { IfSome result.and (λ other. other ≢ result.act) }

@@ -17,8 +17,8 @@ use lrc_world::report::TurnFault;
 use lrc_world::run::{Order, Run, run_in};
 use std::alloc::Global;
 
-/// The run of a program that goes on without threads, by the text of its events where it names them. Of the turns of its nodes it has what
-/// is to be kept of them.
+/// Runs a program without threads, along the text of events if the choice names one. The run keeps those turns of its
+/// nodes that it was told to keep.
 pub(crate) fn run_of(
     alloc: Global,
     choice: &RunChoice<'_>,
@@ -81,7 +81,7 @@ fn in_order(
     }
 }
 
-/// What a run is made with.
+/// Returns the setting of a run: its nodes and its options.
 pub(crate) fn setting_of(options: &RunOptions<'_>) -> Setting
     ensures nodes { result.nodes.count ≡ options.now.nodes.count }
     ensures options { options_in result ≡ options_of options.now }

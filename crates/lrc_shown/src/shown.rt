@@ -32,7 +32,7 @@ use lrc_world::keep::Keep;
 use lrc_world::run::Run;
 use std::alloc::{AllocError, Global};
 
-/// Answers a choice of a run that goes on without threads, with its texts.
+/// Answers a choice of a run without threads, from its texts.
 pub fn show(
     alloc: Global,
     choice: &RunChoice<'_>,
@@ -62,7 +62,7 @@ fn keep_for(shape: Shape) -> Keep
     }
 }
 
-/// What is shown of a run of the program that this text is of. Where that tells of the turns of the nodes, the run has kept them all.
+/// Shows a run of the program in this text. If the form shows turns of the nodes, the run has kept all of them.
 pub(crate) fn shown(
     alloc: Global,
     shape: Shape,
@@ -126,7 +126,7 @@ fn parts_of(
     }
 }
 
-/// The report of a run with reasons, and with the labels of the text.
+/// Returns the report of a run with reasons, with the labels of the text.
 pub(crate) fn explained(
     alloc: Global,
     text: &[u8],

@@ -27,7 +27,7 @@ use lrc_world::run::Run;
 use lrc_world::setting::options_of;
 use std::alloc::{AllocError, Global};
 
-/// The turns of a part of a run with the states of its nodes, each line a part of its own.
+/// Returns the turns of a part of a run with the states of its nodes, one part for each line.
 pub(crate) fn stated(
     alloc: Global,
     part: Part,
@@ -137,7 +137,8 @@ fn explained_text(
 ) -> Result<Vec<u8>, AllocError>
     requires text { IsTextOf text.now program.now }
     requires ran { (keep : AnyKeep) × IsRunWith program.now options.now keep run.now }
-    ensures { IfOk result (λ told. IsExplained text.now program.now options.now run.now.report.acts.items
+    ensures { IfOk result (λ told. IsExplained text.now program.now options.now
+        run.now.report.acts.items
         run.now.report.first_race told.items) }
 {
     let acts = run.report.acts.as_slice();
@@ -160,7 +161,8 @@ fn races_text(
     requires order { IsOrderOf run.now.report.acts.items order.now }
     ensures { IfOk result (λ told. (lines : List ℕ)
         × AreLinesIn text.now program.now options.now.nodes.count run.now.report.acts.items lines
-        × TellsRaces run.now.report.acts.items lines (acts_shown part (length run.now.report.acts.items)) told.items) }
+        × TellsRaces run.now.report.acts.items lines
+        (acts_shown part (length run.now.report.acts.items)) told.items) }
 {
     let acts = run.report.acts.as_slice();
     let nodes = options.nodes.count as u8;
@@ -182,7 +184,8 @@ fn reasons_text(
     requires text { IsTextOf text.now program.now }
     requires ran { (keep : AnyKeep) × IsRunWith program.now options.now keep run.now }
     requires order { IsOrderOf run.now.report.acts.items order.now }
-    ensures { IfOk result (λ told. TellsWhys text.now program.now options.now.nodes.count options.now.size
+    ensures { IfOk result (λ told. TellsWhys text.now program.now options.now.nodes.count
+        options.now.size
         run.now.report.acts.items (acts_shown part (length run.now.report.acts.items)) told.items) }
 {
     let acts = run.report.acts.as_slice();
@@ -200,7 +203,7 @@ fn reasons_text(
     )
 }
 
-/// The document that shows the turns of a part of a run.
+/// Returns the document that shows the turns of a part of a run.
 pub(crate) fn stepped(
     alloc: Global,
     part: Part,
@@ -211,7 +214,8 @@ pub(crate) fn stepped(
 ) -> Result<Vec<Vec<u8>>, Fault>
     requires text { IsTextOf text.now program.now }
     requires ran { (keep : AnyKeep) × IsRunWith program.now options.now keep run.now }
-    ensures ok { IfOk result (λ parts. IsStepped (name_of options.now.file.now) part text.now program.now options.now run.now
+    ensures ok { IfOk result (λ parts. IsStepped
+        (name_of options.now.file.now) part text.now program.now options.now run.now
         (whole_text parts.items)) }
     ensures err { IfErr result (IsStatesFault part text.now program.now options.now run.now) }
 {

@@ -23,7 +23,8 @@ use std::mem;
 use std::sync::Wait;
 use std::thread::Threads;
 
-/// Answers a choice of a run whose nodes are on threads, with the text of its program. `order` says which message a mailbox gives next.
+/// Answers a choice of a run whose nodes are on threads, from the program's text. `order` determines which message a
+/// mailbox gives next.
 pub fn show_on_threads<R: Threads + Wait + Sync>(
     rt: &R,
     alloc: Global,

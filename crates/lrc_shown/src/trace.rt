@@ -1,6 +1,7 @@
 // Traces of a run.
 
 ghost use Rattle.std.specs.Prelude.{◌≡◌, ◌≢◌, ◌≤◌, ◌<◌, ℕ, All, IfErr, IfOk, List, length, map};
+ghost use Rattle.lrc_protocol.specs.Run.{turns_of_logs};
 ghost use Rattle.lrc_answer.specs.Texts.{IsTextOf};
 ghost use Rattle.lrc_answer.specs.Labels.{labels_in};
 ghost use Rattle.lrc_shown.specs.Lines.{AreLinesIn};
@@ -20,6 +21,7 @@ use lrc_acts_text::{acts_part, json_part, rapid_part};
 use lrc_answer::fault::Fault;
 use lrc_answer::printout::in_one;
 use lrc_args::choice::{Form, RunOptions};
+use lrc_clock::times::times_of_acts;
 use lrc_events::events_part;
 use lrc_exec::code::Code;
 use lrc_labels::read_labels;
@@ -28,14 +30,13 @@ use lrc_lang::program::Program;
 use lrc_lines::walks::lines_of_acts;
 use lrc_node::Entry;
 use lrc_protocol::Event;
-use lrc_timed::times::times_of_acts;
 use lrc_trace::act::Act;
 use lrc_turns_text::messages_part;
 use lrc_world::run::Run;
 use lrc_world::turned::{Turned, turned_events};
 use std::alloc::{AllocError, Global};
 
-/// A trace of a run of the program that this text is of, in any form.
+/// Returns a trace of a run of the program in this text, in the chosen form.
 pub(crate) fn traced(
     alloc: Global,
     form: Form,
@@ -124,7 +125,7 @@ fn messages_of(
     turns: &[Turned],
     lines: &[u32],
 ) -> Result<Vec<u8>, AllocError>
-    ensures { IfOk result (λ part. part.items ≡ messages_text (map (λ log. log.items) logs.now)
+    ensures { IfOk result (λ part. part.items ≡ messages_text (turns_of_logs logs.now)
         (map (λ turn. turn.node) turns.now) lines.now) }
 {
     let order: Vec<u8> = turns.iter().map(|turn| turn.node).collect(alloc)?;
@@ -163,7 +164,7 @@ fn json_of(
     json_part(alloc, &labels.said, acts, lines, &times)
 }
 
-/// Of each act the line of the text on which the statement stands that it is of.
+/// Returns, for each act, the line of the text that holds the act's statement.
 pub(crate) fn lines_in(
     alloc: Global,
     text: &[u8],

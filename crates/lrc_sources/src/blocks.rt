@@ -9,18 +9,21 @@ use std::io::{ErrorKind, Read};
 
 /// A file that is read block by block.
 pub trait Blocks {
-    /// What is known of what is left of it.
+    /// What is known about the bytes that are left in the file.
     ghost left: { Self → Held } = { λ _. unknown };
 
-    /// Reads bytes to the front of a block, and says how many: none where no more come.
+    /// Reads bytes to the front of a block and returns their number. If the block is not empty, 0 means the end of the
+    /// file. If the bytes left are known and readable, it can fail only because memory runs out.
     fn read(&mut self, block: &mut [u8]) -> io::Result<usize>
         ensures count { IfOk result (λ count. count ≤ length block.new) }
-        ensures ok { IfOk result (λ count. IsReadOff (left self.old) (take count block.new) (left self.new)) }
-        ensures end { IfOk result (λ count. count ≡ 0 → 0 < length block.new → IsAtEnd (left self.old)) }
+        ensures ok { IfOk result (λ count. IsReadOff (left self.old) (take count block.new)
+            (left self.new)) }
+        ensures end { IfOk result (λ count. count ≡ 0 → 0 < length block.new
+            → IsAtEnd (left self.old)) }
         ensures err { IfErr result (λ error. IsCause (left self.old) (error_kind error)) };
 }
 
-/// A reader of the system, of which no clause knows what it gives.
+/// A reader of the system. No contract says what it reads.
 #[derive(Drop)]
 pub struct Reading<R> {
     pub reader: R,

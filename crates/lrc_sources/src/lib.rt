@@ -1,4 +1,5 @@
-//! The files that the program reads, whole or block by block, what is known of them, and the lines where they cannot be read.
+//! The files that `treadmarks` reads, whole or block by block, and standard input. The contracts say what is known
+//! about the contents. The crate also writes the lines on standard error if a file cannot be read or memory runs out.
 #![tactic(auto)]
 
 pub mod blocks;

@@ -8,15 +8,15 @@ use lrc_report::output::{Output, put};
 use std::io;
 use std::io::{ErrorKind, Write};
 
-/// The status after a fault of a file or of memory.
+/// The exit status after a fault of a file or of memory.
 pub const FAULT: u8 = 1;
 
-/// The line that is written where memory ran out.
+/// The line that is written if memory runs out.
 pub const NO_MEMORY: &[u8] = b"treadmarks: out of memory\n";
 
 const CANNOT_READ: &[u8] = b"treadmarks: cannot read file\n";
 
-/// Says that memory ran out.
+/// Writes that memory ran out, and returns the exit status 1.
 pub fn refuse_memory<E: Write>(err: &mut E) -> u8
     ensures told { IsTold (E.contents err.old) (E.contents err.new) memory_line }
     ensures status { result ≡ 1 }
@@ -25,15 +25,16 @@ pub fn refuse_memory<E: Write>(err: &mut E) -> u8
     FAULT
 }
 
-/// Says why a file cannot be read.
+/// Writes why a file cannot be read, and returns the exit status 1.
 pub fn refuse_file<E: Write>(error: &io::Error, err: &mut E) -> u8
-    ensures told { IsTold (E.contents err.old) (E.contents err.new) (read_line (error_kind error.now)) }
+    ensures told { IsTold (E.contents err.old) (E.contents err.new)
+        (read_line (error_kind error.now)) }
     ensures status { result ≡ 1 }
 {
     refuse_read(error.kind(), err)
 }
 
-/// Says why a file can be read no further.
+/// Writes why a file can be read no further, and returns the exit status 1.
 pub fn refuse_read<E: Write>(kind: ErrorKind, err: &mut E) -> u8
     ensures told { IsTold (E.contents err.old) (E.contents err.new) (read_line kind) }
     ensures status { result ≡ 1 }
@@ -51,7 +52,7 @@ fn read_line(kind: ErrorKind) -> &'static [u8]
     }
 }
 
-/// Writes a line, or a front of it where a write fails.
+/// Writes a line, or only its beginning if a write fails.
 pub fn tell_line<E: Write>(line: &[u8], err: &mut E)
     ensures { IsTold (E.contents err.old) (E.contents err.new) line.now }
 {

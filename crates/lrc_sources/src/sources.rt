@@ -10,38 +10,44 @@ use std::fs::Files;
 use std::io::{Input, Read};
 use std::{fs, io};
 
-/// Where files are read from, each by its path, and standard input.
+/// The source of all input: files by their paths, and standard input.
 pub trait Sources {
     /// A file that is read block by block.
     type File: Blocks + Drop;
 
-    /// Standard input, read so.
+    /// Standard input, read block by block.
     type Input: Blocks + Drop;
 
-    /// What is known of what the files hold.
+    /// What is known about the contents of the files.
     ghost known: { Self → Known } = { λ _. nothing_known };
 
-    /// A file, to be read block by block.
+    /// Opens a file, to be read block by block. If the file is known to be readable, it can fail only because memory
+    /// runs out.
     fn open(&self, path: &str) -> io::Result<Self::File>
         ensures ok { IfOk result (λ file. Self.File.left file ≡ (known self.now).files path.now) }
-        ensures err { IfErr result (λ error. IsCause ((known self.now).files path.now) (error_kind error)) };
+        ensures err { IfErr result (λ error. IsCause ((known self.now).files path.now)
+            (error_kind error)) };
 
-    /// Standard input, to be read block by block.
+    /// Opens standard input, to be read block by block.
     fn open_input(&self) -> Self::Input
         ensures { Self.Input.left result ≡ (known self.now).input };
 
-    /// The bytes of a file, up to `most` of them.
+    /// Reads the first bytes of a file, at most `most`. If the file is known to be readable, it can fail only because
+    /// memory runs out.
     fn file(&self, alloc: Global, path: &str, most: u64) -> io::Result<Vec<u8>>
-        ensures ok { IfOk result (λ bytes. IsFront most ((known self.now).files path.now) bytes.items) }
-        ensures err { IfErr result (λ error. IsCause ((known self.now).files path.now) (error_kind error)) };
+        ensures ok { IfOk result (λ bytes. IsFront most
+            ((known self.now).files path.now) bytes.items) }
+        ensures err { IfErr result (λ error. IsCause ((known self.now).files path.now)
+            (error_kind error)) };
 
-    /// The bytes of standard input, up to `most` of them.
+    /// Reads the first bytes of standard input, at most `most`. If it is known to be readable, it can fail only because
+    /// memory runs out.
     fn input(&self, alloc: Global, most: u64) -> io::Result<Vec<u8>>
         ensures ok { IfOk result (λ bytes. IsFront most (known self.now).input bytes.items) }
         ensures err { IfErr result (λ error. IsCause (known self.now).input (error_kind error)) };
 }
 
-/// The files of the system, of which no clause knows what they hold.
+/// The files of the system. No contract says what they hold.
 #[derive(Drop)]
 pub struct System<'r, R> {
     /// The handle of the system.
@@ -74,9 +80,10 @@ impl<'r, R: Files + Input> Sources for System<'r, R> {
     }
 }
 
-/// The bytes that a reader has left, up to `most` of them.
+/// Reads the bytes that a reader has left, at most `most`.
 pub fn read_up_to<R: Read + Drop>(alloc: Global, reader: R, most: u64) -> io::Result<Vec<u8>>
-    ensures { IfOk result (λ bytes. IfSome (R.remaining reader) (λ left. bytes.items ≡ take most left)) }
+    ensures { IfOk result (λ bytes. IfSome (R.remaining reader)
+        (λ left. bytes.items ≡ take most left)) }
 {
     let mut bytes = Vec::new(alloc);
     reader.take(most).read_to_end(&mut bytes)?;

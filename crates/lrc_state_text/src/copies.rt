@@ -43,7 +43,8 @@ fn values_of<'c>(copy: SeenCopy<'c>) -> &'c [u64]
 
 #[tactic(auto, unfolding(crate::specs::Copies::twin_text))]
 fn push_twin(text: &mut Vec<u8>, first: u32, copy: SeenCopy<'_>) -> Result<(), AllocError>
-    ensures { OnOk result (text.new.items ≡ text.old.items ++ twin_text first (copy_shown copy.entry)) }
+    ensures { OnOk result (text.new.items
+        ≡ text.old.items ++ twin_text first (copy_shown copy.entry)) }
 {
     match copy {
         SeenCopy::Written(_values, twin) => push_values(text, first, twin),
@@ -68,7 +69,8 @@ fn push_since(text: &mut Vec<u8>, copy: SeenCopy<'_>) -> Result<(), AllocError>
 // Adds the copy of a page, which begins with this word.
 fn push_copy(text: &mut Vec<u8>, first: u32, memory: &Memory, page: u16) -> Result<(), AllocError>
     requires { page < length memory.now.memory.copies }
-    ensures { OnOk result (text.new.items ≡ text.old.items ++ copy_members first (copy_at memory.now.memory page)) }
+    ensures { OnOk result (text.new.items
+        ≡ text.old.items ++ copy_members first (copy_at memory.now.memory page)) }
 {
     text.extend_from_slice(b",\"copy\":\"")?;
     text.extend_from_slice(copy_name(memory.copy(page)))?;
@@ -97,7 +99,8 @@ fn lacking(alloc: Global, keys: &[Key]) -> Result<Vec<IntervalName>, AllocError>
 // Adds what the copy of a page lacks.
 fn push_lacking(text: &mut Vec<u8>, memory: &Memory, page: u16) -> Result<(), AllocError>
     requires { page < length memory.now.memory.copies }
-    ensures { OnOk result (text.new.items ≡ text.old.items ++ names_text (lacking (missing_at memory.now.memory page))) }
+    ensures { OnOk result (text.new.items
+        ≡ text.old.items ++ names_text (lacking (missing_at memory.now.memory page))) }
 {
     let keys = memory.lacking(page)?;
     let names = lacking(*text.allocator(), &keys)?;
@@ -107,7 +110,8 @@ fn push_lacking(text: &mut Vec<u8>, memory: &Memory, page: u16) -> Result<(), Al
 #[tactic(auto, unfolding(crate::specs::Copies::base_text))]
 fn push_base(text: &mut Vec<u8>, first: u32, memory: &Memory, page: u16) -> Result<(), AllocError>
     requires { page < length memory.now.memory.copies }
-    ensures { OnOk result (text.new.items ≡ text.old.items ++ base_text first (base_at memory.now.memory page)) }
+    ensures { OnOk result (text.new.items
+        ≡ text.old.items ++ base_text first (base_at memory.now.memory page)) }
 {
     match memory.base(page) {
         Some(base) => push_values(text, first, base.words()),
@@ -138,7 +142,8 @@ fn push_fetching(
 #[tactic(auto, unfolding(crate::specs::Copies::page_text))]
 fn push_page(text: &mut Vec<u8>, memory: &Memory, page: u16) -> Result<(), AllocError>
     requires { page < length memory.now.memory.copies }
-    ensures { OnOk result (text.new.items ≡ text.old.items ++ page_text memory.now.size memory.now.memory page) }
+    ensures { OnOk result (text.new.items
+        ≡ text.old.items ++ page_text memory.now.size memory.now.memory page) }
 {
     let first = first_word(memory.size(), page);
     push_number(text, b"{\"page\":", u64::from(page))?;
@@ -150,7 +155,8 @@ fn push_page(text: &mut Vec<u8>, memory: &Memory, page: u16) -> Result<(), Alloc
 // Adds a page behind others.
 fn push_next(text: &mut Vec<u8>, memory: &Memory, page: u16) -> Result<(), AllocError>
     requires { page < length memory.now.memory.copies }
-    ensures { OnOk result (text.new.items ≡ text.old.items ++ (codes "," ++ page_text memory.now.size memory.now.memory page)) }
+    ensures { OnOk result (text.new.items
+        ≡ text.old.items ++ (codes "," ++ page_text memory.now.size memory.now.memory page)) }
 {
     text.extend_from_slice(b",")?;
     push_page(text, memory, page)
@@ -158,7 +164,8 @@ fn push_next(text: &mut Vec<u8>, memory: &Memory, page: u16) -> Result<(), Alloc
 
 fn push_later(text: &mut Vec<u8>, memory: &Memory, pages: &[u16]) -> Result<(), AllocError>
     requires { All (λ page. page < length memory.now.memory.copies) pages.now }
-    ensures { OnOk result (text.new.items ≡ text.old.items ++ later (page_text memory.now.size memory.now.memory) pages.now) }
+    ensures { OnOk result (text.new.items
+        ≡ text.old.items ++ later (page_text memory.now.size memory.now.memory) pages.now) }
 {
     for page in pages {
         push_next(text, memory, *page)?;
@@ -169,7 +176,8 @@ fn push_later(text: &mut Vec<u8>, memory: &Memory, pages: &[u16]) -> Result<(), 
 #[tactic(auto, unfolding(crate::specs::Json::listed))]
 fn push_listed(text: &mut Vec<u8>, memory: &Memory, pages: &[u16]) -> Result<(), AllocError>
     requires { All (λ page. page < length memory.now.memory.copies) pages.now }
-    ensures { OnOk result (text.new.items ≡ text.old.items ++ listed (page_text memory.now.size memory.now.memory) pages.now) }
+    ensures { OnOk result (text.new.items
+        ≡ text.old.items ++ listed (page_text memory.now.size memory.now.memory) pages.now) }
 {
     match pages {
         [] => Ok(()),
@@ -219,10 +227,11 @@ fn pages_shown(alloc: Global, memory: &Memory, count: u16) -> Result<Vec<u16>, A
 }
 
 #[tactic(auto, unfolding(crate::specs::Copies::pages_member))]
-/// Adds the pages, of all, that are not as at the start.
+/// Adds the pages that differ from their state at the start. `count` is the number of all pages.
 pub(crate) fn push_pages(text: &mut Vec<u8>, memory: &Memory, count: u16) -> Result<(), AllocError>
     requires { count ≡ length memory.now.memory.copies }
-    ensures { OnOk result (text.new.items ≡ text.old.items ++ pages_member memory.now.size memory.now.memory) }
+    ensures { OnOk result (text.new.items
+        ≡ text.old.items ++ pages_member memory.now.size memory.now.memory) }
 {
     let shown = pages_shown(*text.allocator(), memory, count)?;
     text.extend_from_slice(b",\"pages\":[")?;

@@ -23,14 +23,16 @@ fn push_part(text: &mut Vec<u8>, size: Size, part: &PageChanges) -> Result<(), A
 
 // Adds the changes of a page behind others.
 fn push_next_part(text: &mut Vec<u8>, size: Size, part: &PageChanges) -> Result<(), AllocError>
-    ensures { OnOk result (text.new.items ≡ text.old.items ++ (codes "," ++ page_changes_text size part.now)) }
+    ensures { OnOk result (text.new.items
+        ≡ text.old.items ++ (codes "," ++ page_changes_text size part.now)) }
 {
     text.extend_from_slice(b",")?;
     push_part(text, size, part)
 }
 
 fn push_later_parts(text: &mut Vec<u8>, size: Size, parts: &[PageChanges]) -> Result<(), AllocError>
-    ensures { OnOk result (text.new.items ≡ text.old.items ++ later (page_changes_text size) parts.now) }
+    ensures { OnOk result (text.new.items
+        ≡ text.old.items ++ later (page_changes_text size) parts.now) }
 {
     for part in parts {
         push_next_part(text, size, part)?;
@@ -40,7 +42,8 @@ fn push_later_parts(text: &mut Vec<u8>, size: Size, parts: &[PageChanges]) -> Re
 
 #[tactic(auto, unfolding(crate::specs::Json::listed))]
 fn push_parts(text: &mut Vec<u8>, size: Size, parts: &[PageChanges]) -> Result<(), AllocError>
-    ensures { OnOk result (text.new.items ≡ text.old.items ++ listed (page_changes_text size) parts.now) }
+    ensures { OnOk result (text.new.items
+        ≡ text.old.items ++ listed (page_changes_text size) parts.now) }
 {
     match parts {
         [] => Ok(()),
@@ -107,14 +110,16 @@ fn push_interval(text: &mut Vec<u8>, size: Size, stored: &StoredInterval) -> Res
 
 // Adds an interval behind others.
 fn push_next(text: &mut Vec<u8>, size: Size, stored: &StoredInterval) -> Result<(), AllocError>
-    ensures { OnOk result (text.new.items ≡ text.old.items ++ (codes "," ++ interval_text size stored.now)) }
+    ensures { OnOk result (text.new.items
+        ≡ text.old.items ++ (codes "," ++ interval_text size stored.now)) }
 {
     text.extend_from_slice(b",")?;
     push_interval(text, size, stored)
 }
 
 fn push_later(text: &mut Vec<u8>, size: Size, stored: &[StoredInterval]) -> Result<(), AllocError>
-    ensures { OnOk result (text.new.items ≡ text.old.items ++ later (interval_text size) stored.now) }
+    ensures { OnOk result (text.new.items
+        ≡ text.old.items ++ later (interval_text size) stored.now) }
 {
     for one in stored {
         push_next(text, size, one)?;
@@ -124,7 +129,8 @@ fn push_later(text: &mut Vec<u8>, size: Size, stored: &[StoredInterval]) -> Resu
 
 #[tactic(auto, unfolding(crate::specs::Json::listed))]
 fn push_listed(text: &mut Vec<u8>, size: Size, stored: &[StoredInterval]) -> Result<(), AllocError>
-    ensures { OnOk result (text.new.items ≡ text.old.items ++ listed (interval_text size) stored.now) }
+    ensures { OnOk result (text.new.items
+        ≡ text.old.items ++ listed (interval_text size) stored.now) }
 {
     match stored {
         [] => Ok(()),
@@ -135,7 +141,7 @@ fn push_listed(text: &mut Vec<u8>, size: Size, stored: &[StoredInterval]) -> Res
     }
 }
 
-/// Adds these intervals, with pages of this size.
+/// Adds these intervals, for pages of this size.
 pub(crate) fn push_intervals(
     text: &mut Vec<u8>,
     size: Size,

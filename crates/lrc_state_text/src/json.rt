@@ -40,7 +40,7 @@ pub(crate) fn push_numbers(text: &mut Vec<u8>, numbers: &[u64]) -> Result<(), Al
 }
 
 #[tactic(auto, unfolding(crate::specs::Json::numbers_text))]
-/// Adds a time as a list.
+/// Adds a vector time as a list.
 pub(crate) fn push_time(text: &mut Vec<u8>, time: &Time) -> Result<(), AllocError>
     ensures { OnOk result (text.new.items ≡ text.old.items ++ numbers_text time.now) }
 {
@@ -50,7 +50,7 @@ pub(crate) fn push_time(text: &mut Vec<u8>, time: &Time) -> Result<(), AllocErro
 }
 
 #[tactic(auto, unfolding(crate::specs::Json::number_or_null))]
-/// Adds the number of a node, and null where there is none.
+/// Adds the number of a node, or `null` if there is none.
 pub(crate) fn push_or_null(text: &mut Vec<u8>, number: Option<u8>) -> Result<(), AllocError>
     ensures { OnOk result (text.new.items ≡ text.old.items ++ number_or_null number) }
 {
@@ -69,7 +69,7 @@ pub(crate) fn push_interval_name(text: &mut Vec<u8>, node: u8, index: u32) -> Re
     text.extend_from_slice(b"\"")
 }
 
-/// Puts an item behind others, where it is shown.
+/// Appends an item to a list if `is_shown` is true.
 pub(crate) fn put_if<T: Copy>(all: &mut Vec<T>, item: T, is_shown: bool) -> Result<(), AllocError>
     ensures { OnOk result (all.new.items ≡ all.old.items ++ cond is_shown (item ∷ []) []) }
 {

@@ -8,7 +8,7 @@ use lrc_node::NodeState;
 use std::alloc::{AllocError, Global};
 use std::marker::Model;
 
-/// The intervals of a node that were shown before, with the changes that were shown then.
+/// The intervals of a node that were shown before, with the changes that they had then.
 #[derive(Drop)]
 pub struct Known {
     list: Vec<StoredInterval>,
@@ -24,7 +24,7 @@ impl Model for Known {
 }
 
 impl Known {
-    /// No interval was shown.
+    /// Returns the value for a node of which no interval was shown.
     pub fn none(alloc: Global) -> Self
         ensures { result ≡ [] }
     {
@@ -33,7 +33,7 @@ impl Known {
         }
     }
 
-    /// Those were shown that are stored in this state.
+    /// Returns the value after every interval that this state stores was shown.
     pub fn of(alloc: Global, state: &NodeState<'_>) -> Result<Self, AllocError>
         ensures { IfOk result (λ known. known ≡ stored_in state.now.memory) }
     {
@@ -48,13 +48,14 @@ impl Known {
         self.list.iter().any(|known| stored.is_same(known))
     }
 
-    /// The intervals of a state that were not shown before, or have other changes now.
+    /// Returns the intervals of a state that were not shown before, or that have other changes now.
     pub(crate) fn new_in(
         &self,
         alloc: Global,
         state: &NodeState<'_>,
     ) -> Result<Vec<StoredInterval>, AllocError>
-        ensures { IfOk result (λ found. found.items ≡ not_known self.now (stored_in state.now.memory)) }
+        ensures { IfOk result (λ found. found.items
+            ≡ not_known self.now (stored_in state.now.memory)) }
     {
         let mut all = all_stored(alloc, state)?;
         all.retain(|stored| !self.has(stored));

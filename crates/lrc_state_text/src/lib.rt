@@ -1,5 +1,5 @@
-//! The state of a node as an object of JSON: its time, what it waits for, tokens, barriers, copies of pages, and the intervals that
-//! it stores, of which those can be left out that were shown before.
+//! Writes the state of a node as a JSON object: its time, what it waits for, tokens, barriers, page copies, and the
+//! intervals that it stores. Intervals that were shown before can be left out.
 #![tactic(auto)]
 
 mod copies;

@@ -38,7 +38,8 @@ fn push_released(text: &mut Vec<u8>, state: &LockState) -> Result<(), AllocError
 
 fn push_waiter(text: &mut Vec<u8>, waiter: &Waiter) -> Result<(), AllocError>
     ensures { OnOk result (text.new.items ≡ text.old.items
-        ++ (codes "{\"node\":" ++ decimal waiter.now.node ++ codes ",\"time\":" ++ numbers_text waiter.now.time ++ codes "}")) }
+        ++ (codes "{\"node\":" ++ decimal waiter.now.node ++ codes ",\"time\":"
+        ++ numbers_text waiter.now.time ++ codes "}")) }
 {
     push_number(text, b"{\"node\":", u64::from(waiter.node))?;
     text.extend_from_slice(b",\"time\":")?;
@@ -70,7 +71,8 @@ fn push_next(text: &mut Vec<u8>, state: &LockState) -> Result<(), AllocError>
 
 // Adds where the token of a lock is.
 fn push_token_name(text: &mut Vec<u8>, state: &LockState) -> Result<(), AllocError>
-    ensures { OnOk result (text.new.items ≡ text.old.items ++ (codes ",\"token\":\"" ++ token_name state.now)) }
+    ensures { OnOk result (text.new.items
+        ≡ text.old.items ++ (codes ",\"token\":\"" ++ token_name state.now)) }
 {
     text.extend_from_slice(b",\"token\":\"")?;
     text.extend_from_slice(token_name(state))
@@ -79,7 +81,8 @@ fn push_token_name(text: &mut Vec<u8>, state: &LockState) -> Result<(), AllocErr
 // Adds where the token of a lock is, and the time of the last release here.
 fn push_token(text: &mut Vec<u8>, state: &LockState) -> Result<(), AllocError>
     ensures { OnOk result (text.new.items ≡ text.old.items
-        ++ (codes ",\"token\":\"" ++ token_name state.now ++ codes "\",\"released\":" ++ released_text state.now)) }
+        ++ (codes ",\"token\":\"" ++ token_name state.now ++ codes "\",\"released\":"
+        ++ released_text state.now)) }
 {
     push_token_name(text, state)?;
     text.extend_from_slice(b"\",\"released\":")?;
@@ -89,7 +92,8 @@ fn push_token(text: &mut Vec<u8>, state: &LockState) -> Result<(), AllocError>
 // Adds the successor, and who asked last.
 fn push_askers(text: &mut Vec<u8>, state: &LockState, recent: Option<u8>) -> Result<(), AllocError>
     ensures { OnOk result (text.new.items ≡ text.old.items
-        ++ (codes ",\"next\":" ++ next_text state.now ++ codes ",\"recent\":" ++ number_or_null recent)) }
+        ++ (codes ",\"next\":" ++ next_text state.now ++ codes ",\"recent\":"
+        ++ number_or_null recent)) }
 {
     text.extend_from_slice(b",\"next\":")?;
     push_next(text, state)?;
@@ -121,7 +125,8 @@ fn push_lock(text: &mut Vec<u8>, clock: &Clock, lock: u8) -> Result<(), AllocErr
 // Adds a lock behind others.
 fn push_next_lock(text: &mut Vec<u8>, clock: &Clock, lock: u8) -> Result<(), AllocError>
     requires { lock < length clock.now.held.locks }
-    ensures { OnOk result (text.new.items ≡ text.old.items ++ (codes "," ++ lock_text clock.now lock)) }
+    ensures { OnOk result (text.new.items
+        ≡ text.old.items ++ (codes "," ++ lock_text clock.now lock)) }
 {
     text.extend_from_slice(b",")?;
     push_lock(text, clock, lock)
@@ -129,7 +134,8 @@ fn push_next_lock(text: &mut Vec<u8>, clock: &Clock, lock: u8) -> Result<(), All
 
 fn push_later(text: &mut Vec<u8>, clock: &Clock, locks: &[u8]) -> Result<(), AllocError>
     requires { All (λ l. l < length clock.now.held.locks) locks.now }
-    ensures { OnOk result (text.new.items ≡ text.old.items ++ later (lock_text clock.now) locks.now) }
+    ensures { OnOk result (text.new.items
+        ≡ text.old.items ++ later (lock_text clock.now) locks.now) }
 {
     for lock in locks {
         push_next_lock(text, clock, *lock)?;
@@ -140,7 +146,8 @@ fn push_later(text: &mut Vec<u8>, clock: &Clock, locks: &[u8]) -> Result<(), All
 #[tactic(auto, unfolding(crate::specs::Json::listed))]
 fn push_listed(text: &mut Vec<u8>, clock: &Clock, locks: &[u8]) -> Result<(), AllocError>
     requires { All (λ l. l < length clock.now.held.locks) locks.now }
-    ensures { OnOk result (text.new.items ≡ text.old.items ++ listed (lock_text clock.now) locks.now) }
+    ensures { OnOk result (text.new.items
+        ≡ text.old.items ++ listed (lock_text clock.now) locks.now) }
 {
     match locks {
         [] => Ok(()),
@@ -172,7 +179,7 @@ fn locks_shown(alloc: Global, clock: &Clock, count: u8) -> Result<Vec<u8>, Alloc
     Ok(shown)
 }
 
-/// Adds the locks of so many that are shown.
+/// Adds the locks, of the first `count`, whose token is here or was asked for, or which this node manages.
 pub(crate) fn push_locks(text: &mut Vec<u8>, clock: &Clock, count: u8) -> Result<(), AllocError>
     requires { count ≤ length clock.now.held.locks }
     ensures { OnOk result (text.new.items ≡ text.old.items ++ locks_member clock.now count) }

@@ -47,7 +47,8 @@ fn cleaned_nodes(alloc: Global, manager: &Manager, nodes: u8) -> Result<Vec<u64>
 fn push_clean(text: &mut Vec<u8>, manager: &Manager, nodes: u8) -> Result<(), AllocError>
     requires nodes { nodes ≡ length manager.now.last }
     requires some { 0 < nodes }
-    ensures { OnOk result (text.new.items ≡ text.old.items ++ clean_text manager.now.cleans (cleaned_nodes manager.now)) }
+    ensures { OnOk result (text.new.items
+        ≡ text.old.items ++ clean_text manager.now.cleans (cleaned_nodes manager.now)) }
 {
     if manager.has_cleaned(0).is_none() {
         return text.extend_from_slice(b"null");
@@ -82,7 +83,8 @@ fn push_manager_or_null(text: &mut Vec<u8>, barrier: &Barrier, nodes: u8) -> Res
     }
 }
 
-/// Adds how often the node has arrived, and the manager of the barrier of so many nodes, null where it is not here.
+/// Adds how often the node has arrived at a barrier, and the barrier manager's state: `null` if another node is the
+/// manager. There are `nodes` nodes.
 pub(crate) fn push_barrier(
     text: &mut Vec<u8>,
     barrier: &Barrier,

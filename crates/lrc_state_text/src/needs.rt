@@ -12,7 +12,7 @@ use lrc_need::{Asked, Base, Need};
 use lrc_text::push_number;
 use std::alloc::{AllocError, Global};
 
-/// The name of an interval: its node, and its number among those of that node.
+/// The name of an interval: its node, and its index among that node's intervals.
 #[derive(Clone, Copy)]
 pub struct IntervalName {
     pub node: u8,
@@ -55,7 +55,7 @@ fn push_listed_names(text: &mut Vec<u8>, names: &[IntervalName]) -> Result<(), A
     }
 }
 
-/// Adds a list of names of intervals.
+/// Adds a list of interval names.
 pub(crate) fn push_interval_names(
     text: &mut Vec<u8>,
     names: &[IntervalName],
@@ -110,7 +110,8 @@ fn base_name(base: &Base) -> &'static [u8]
 // Adds the page of a need, and what is known of its base copy.
 fn push_base(text: &mut Vec<u8>, need: &Need) -> Result<(), AllocError>
     ensures { OnOk result (text.new.items ≡ text.old.items
-        ++ (codes "{\"page\":" ++ decimal need.now.page ++ codes ",\"base\":\"" ++ base_name need.now.base)) }
+        ++ (codes "{\"page\":" ++ decimal need.now.page ++ codes ",\"base\":\""
+        ++ base_name need.now.base)) }
 {
     push_number(text, b"{\"page\":", u64::from(need.page()))?;
     text.extend_from_slice(b",\"base\":\"")?;
@@ -159,7 +160,7 @@ fn push_needs(text: &mut Vec<u8>, needs: &[Need]) -> Result<(), AllocError>
     }
 }
 
-/// Adds what pages need as a member.
+/// Adds the member that tells what pages need before they can be read.
 pub(crate) fn push_needs_member(text: &mut Vec<u8>, needs: &[Need]) -> Result<(), AllocError>
     ensures { OnOk result (text.new.items ≡ text.old.items ++ needs_member needs.now) }
 {

@@ -7,14 +7,14 @@ ghost use Rattle.lrc_state_text.specs.Place.{named_seen, named_text, place_membe
 use lrc_text::push_number;
 use std::alloc::AllocError;
 
-/// A private name, and its value.
+/// A private name with its value.
 #[derive(Clone, Copy)]
 pub struct NamedValue<'t> {
     pub name: &'t [u8],
     pub value: u64,
 }
 
-/// Where a node's text stands: the line of the statement that comes next, and the private names whose value is not 0, in the
+/// Where a node is in the text: the line of its next statement, and its private names whose value is not 0, in the
 /// order in which the text first names them.
 #[derive(Clone, Copy)]
 pub struct Place<'p> {
@@ -34,14 +34,16 @@ fn push_name(text: &mut Vec<u8>, named: NamedValue<'_>) -> Result<(), AllocError
 
 // Adds a name behind others.
 fn push_next(text: &mut Vec<u8>, named: NamedValue<'_>) -> Result<(), AllocError>
-    ensures { OnOk result (text.new.items ≡ text.old.items ++ (codes "," ++ named_text (named_seen named.entry))) }
+    ensures { OnOk result (text.new.items
+        ≡ text.old.items ++ (codes "," ++ named_text (named_seen named.entry))) }
 {
     text.extend_from_slice(b",")?;
     push_name(text, named)
 }
 
 fn push_later(text: &mut Vec<u8>, names: &[NamedValue<'_>]) -> Result<(), AllocError>
-    ensures { OnOk result (text.new.items ≡ text.old.items ++ later named_text (map named_seen names.now)) }
+    ensures { OnOk result (text.new.items
+        ≡ text.old.items ++ later named_text (map named_seen names.now)) }
 {
     for named in names {
         push_next(text, *named)?;
@@ -51,7 +53,8 @@ fn push_later(text: &mut Vec<u8>, names: &[NamedValue<'_>]) -> Result<(), AllocE
 
 #[tactic(auto, unfolding(crate::specs::Json::listed))]
 fn push_names(text: &mut Vec<u8>, names: &[NamedValue<'_>]) -> Result<(), AllocError>
-    ensures { OnOk result (text.new.items ≡ text.old.items ++ listed named_text (map named_seen names.now)) }
+    ensures { OnOk result (text.new.items
+        ≡ text.old.items ++ listed named_text (map named_seen names.now)) }
 {
     match names {
         [] => Ok(()),
@@ -62,13 +65,14 @@ fn push_names(text: &mut Vec<u8>, names: &[NamedValue<'_>]) -> Result<(), AllocE
     }
 }
 
-/// Adds the line of the statement that comes next, and names with their values.
+/// Adds the line of the next statement, and the private names with their values.
 pub(crate) fn push_place(
     text: &mut Vec<u8>,
     line: u32,
     names: &[NamedValue<'_>],
 ) -> Result<(), AllocError>
-    ensures { OnOk result (text.new.items ≡ text.old.items ++ place_members line (map named_seen names.now)) }
+    ensures { OnOk result (text.new.items
+        ≡ text.old.items ++ place_members line (map named_seen names.now)) }
 {
     push_number(text, b",\"at\":", u64::from(line))?;
     text.extend_from_slice(b",\"names\":{")?;

@@ -61,7 +61,8 @@ fn push_course(
     place: &Place<'_>,
 ) -> Result<(), AllocError>
     ensures { OnOk result (text.new.items
-        ≡ text.old.items ++ course_members state.now place.now.at (map named_seen place.now.names.now)) }
+        ≡ text.old.items ++ course_members state.now place.now.at
+        (map named_seen place.now.names.now)) }
 {
     push_clock(text, state)?;
     push_waits(text, state)?;
@@ -135,9 +136,9 @@ fn push_mail(text: &mut Vec<u8>, mail: &Mail, nodes: u8) -> Result<(), AllocErro
     push_numbers(text, &taken)
 }
 
-/// Adds a node's state as an object. What the state itself has not is given: the line of the statement that comes next, with the
-/// private names whose value is not 0. Of the intervals that the node stores those are shown that are not known, or have other
-/// changes than those known.
+/// Adds a node's state as an object. `place` gives what the state does not have: the line of the next statement, and
+/// the private names whose value is not 0. Of the intervals that the node stores, it shows those that are not in
+/// `known` or have other changes there.
 pub fn push_state(
     text: &mut Vec<u8>,
     state: &NodeState<'_>,
@@ -145,7 +146,8 @@ pub fn push_state(
     known: &Known,
 ) -> Result<(), AllocError>
     ensures { OnOk result (text.new.items
-        ≡ text.old.items ++ state_text state.now place.now.at (map named_seen place.now.names.now) known.now) }
+        ≡ text.old.items ++ state_text state.now place.now.at
+        (map named_seen place.now.names.now) known.now) }
 {
     text.extend_from_slice(b"{")?;
     push_course(text, state, place)?;

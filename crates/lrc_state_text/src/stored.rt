@@ -11,14 +11,14 @@ use lrc_time::Time;
 use std::alloc::{AllocError, Global};
 use std::marker::Model;
 
-/// What an interval changed in a page.
+/// The changes that an interval made to a page.
 #[derive(Drop)]
 pub struct PageChanges {
     pub page: u16,
     pub changes: Changes,
 }
 
-/// An interval that a node stores, with its changes that are stored too, by page.
+/// An interval that a node stores, with those of its changes that the node stores too, by page.
 #[derive(Drop)]
 pub(crate) struct StoredInterval {
     pub(crate) interval: Interval,
@@ -51,7 +51,7 @@ impl PartialEq for PageChanges {
 }
 
 impl StoredInterval {
-    /// Whether the other one is the same interval and has the same changes.
+    /// Returns whether the other one is the same interval with the same changes.
     pub(crate) fn is_same(&self, other: &StoredInterval) -> bool
         ensures { result ≡ is_same self.now other.now }
     {
@@ -94,7 +94,8 @@ fn changes_stored(
     page: u16,
 ) -> Result<Option<Changes>, AllocError>
     requires { count ≡ length memory.now.memory.copies }
-    ensures { IfOk result (λ changes. changes ≡ changes_stored memory.now.memory interval.now page) }
+    ensures { IfOk result (λ changes. changes
+        ≡ changes_stored memory.now.memory interval.now page) }
 {
     if page < count {
         memory.changes_known(interval.node, interval.index(), page)
@@ -112,7 +113,8 @@ fn put_changes(
     page: u16,
 ) -> Result<(), AllocError>
     requires { count ≡ length memory.now.memory.copies }
-    ensures { OnOk result (all.new.items ≡ all.old.items ++ option_to_list (page_changes memory.now.memory interval.now page)) }
+    ensures { OnOk result (all.new.items
+        ≡ all.old.items ++ option_to_list (page_changes memory.now.memory interval.now page)) }
 {
     if let Some(changes) = changes_stored(memory, count, interval, page)? {
         all.push(PageChanges { page, changes })?;
@@ -140,7 +142,7 @@ fn with_changes(
     })
 }
 
-/// All intervals that are stored at a node among so many, with so many pages.
+/// Returns all intervals that a node stores, of `nodes` nodes and `count` pages.
 pub(crate) fn stored_in(
     alloc: Global,
     memory: &Memory,

@@ -30,8 +30,8 @@ fn push_standing(text: &mut Vec<u8>, end: End, may_begin: bool) -> Result<(), Al
 }
 
 #[tactic(auto, unfolding(crate::specs::Waits::wait_text))]
-/// Adds what a node waits for, whose text ended so far like this, which may begin what comes next or not, and which has arrived
-/// so often.
+/// Adds what a node waits for. If it waits for nothing, it adds how its text ended so far (`end`), or else whether the
+/// node may begin its next statement. `episode` is how often the node has arrived at a barrier.
 pub(crate) fn push_wait(
     text: &mut Vec<u8>,
     end: End,
@@ -39,7 +39,8 @@ pub(crate) fn push_wait(
     episode: u32,
     wait: &Wait,
 ) -> Result<(), AllocError>
-    ensures { OnOk result (text.new.items ≡ text.old.items ++ wait_text end may_begin episode (seen_wait wait.now)) }
+    ensures { OnOk result (text.new.items
+        ≡ text.old.items ++ wait_text end may_begin episode (seen_wait wait.now)) }
 {
     match wait {
         Wait::Nothing => push_standing(text, end, may_begin),

@@ -9,14 +9,14 @@ use lrc_page::{Change, Changes, Size};
 use lrc_text::push_number;
 use std::alloc::{AllocError, Global};
 
-/// A word of the shared memory, with a value.
+/// A word of the shared memory, with its value.
 #[derive(Clone, Copy)]
 pub struct Word {
     pub number: u64,
     pub value: u64,
 }
 
-/// The number of the first word of a page.
+/// Returns the number of the first word of a page.
 pub(crate) fn first_word(size: Size, page: u16) -> u32
     ensures { result ≡ first_word size page }
 {
@@ -115,7 +115,7 @@ fn changed_words(alloc: Global, first: u32, changes: &Changes) -> Result<Vec<Wor
     Ok(words)
 }
 
-/// Adds the values of a page that begins with this word, but those that are 0.
+/// Adds the values of a page whose first word is `first`, without the values that are 0.
 pub(crate) fn push_values(text: &mut Vec<u8>, first: u32, values: &[u64]) -> Result<(), AllocError>
     ensures { OnOk result (text.new.items ≡ text.old.items ++ values_text first values.now) }
 {
@@ -123,7 +123,7 @@ pub(crate) fn push_values(text: &mut Vec<u8>, first: u32, values: &[u64]) -> Res
     push_words(text, &words)
 }
 
-/// Adds changes of a page that begins with this word.
+/// Adds the changes of a page whose first word is `first`.
 pub(crate) fn push_changes(
     text: &mut Vec<u8>,
     first: u32,

@@ -6,10 +6,10 @@ ghost use Rattle.lrc_states.specs.declared.fault.StatesFault.TheVariants.{NoMemo
 use std::alloc::{AllocError, AllocFailed};
 use thiserror::Error;
 
-/// Why the turns of a run are not shown.
+/// Why the turns of a run were not shown.
 #[derive(Clone, Copy, Debug, PartialEq, Eq, Error)]
 pub enum StatesFault {
-    /// More turns are to be shown than 2,000.
+    /// More than 2,000 turns would be shown.
     #[error("more than 2000 turns")]
     TooLong,
     /// Memory ran out.

@@ -16,10 +16,11 @@ use lrc_turn_objects::{push_comma, push_labels, push_listed, push_notes};
 use std::alloc::AllocError;
 
 impl Player<'_> {
-    /// The line of how all stands.
+    /// Returns the line for the state before the first turn that is shown.
     pub(crate) fn first_line(&self, size: Size, labels: &[Label<'_>]) -> Result<Vec<u8>, AllocError>
         ensures { (plan : AnyPlan) (world : World) (turns : ℕ) → IsPlayer plan world turns self.now
-            → IfOk result (λ line. line.items ≡ first_line plan size (map label_seen labels.now) world) }
+            → IfOk result (λ line. line.items
+            ≡ first_line plan size (map label_seen labels.now) world) }
     {
         let mut line = Vec::new(self.alloc);
         self.push_setting(&mut line, size)?;
@@ -71,7 +72,8 @@ impl Player<'_> {
 
     // Adds the state of the node at this place, of which nothing was told before.
     fn push_first(&self, line: &mut Vec<u8>, place: usize) -> Result<(), AllocError>
-        ensures { (plan : AnyPlan) (world : World) (turns : ℕ) (l : Logged) → IsPlayer plan world turns self.now → slice_get world.nodes place ≡ Some l
+        ensures { (plan : AnyPlan) (world : World) (turns : ℕ) (l : Logged)
+            → IsPlayer plan world turns self.now → slice_get world.nodes place ≡ Some l
             → OnOk result (line.new.items ≡ line.old.items ++ first_state plan world.acts place l) }
     {
         let Ok(node) = u8::try_from(place) else {

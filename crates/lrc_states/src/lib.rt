@@ -1,5 +1,5 @@
-//! The turns of a run with the states of its nodes: a line of JSON for how all stands before the first turn that is shown, and a line for
-//! each turn. The run is played again by its events.
+//! Shows the turns of a run with the states of its nodes: a line of JSON for the state before the first turn shown, and
+//! a line for each turn. The run is replayed from its events.
 #![tactic(auto)]
 
 mod fault;

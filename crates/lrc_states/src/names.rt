@@ -7,13 +7,14 @@ ghost use Rattle.lrc_states.specs.Names.{is_set, names_set};
 use lrc_state_text::NamedValue;
 use std::alloc::{AllocError, Global};
 
-/// The names whose value is not 0.
+/// Returns the private names whose value is not 0.
 pub(crate) fn names_set<'t>(
     alloc: Global,
     names: &[&'t [u8]],
     values: &[u64; 32],
 ) -> Result<Vec<NamedValue<'t>>, AllocError>
-    ensures { IfOk result (λ found. map named_seen found.items ≡ names_set (map (λ name. name.now) names.now) values.now) }
+    ensures { IfOk result (λ found. map named_seen found.items
+        ≡ names_set (map (λ name. name.now) names.now) values.now) }
 {
     let mut set = Vec::new(alloc);
     for number in 0..names.len() {

@@ -23,7 +23,7 @@ use lrc_text::push_number;
 use lrc_turn_objects::{push_act, push_envelope, push_envelopes, truth};
 use std::alloc::{AllocError, Global};
 
-/// How all stands, and how many turns were made.
+/// A run that is replayed: its state, and how many turns were made.
 #[derive(Drop)]
 pub(crate) struct Player<'c> {
     pub(crate) alloc: Global,
@@ -34,7 +34,7 @@ pub(crate) struct Player<'c> {
 }
 
 impl<'c> Player<'c> {
-    /// Before any turn.
+    /// Starts a replay, before any turn.
     pub(crate) fn start(
         alloc: Global,
         plan: Plan<'c>,
@@ -42,7 +42,8 @@ impl<'c> Player<'c> {
     ) -> Result<Player<'c>, AllocError>
         requires few { plan.nodes ≤ 16 }
         ensures on { IfOk result (λ player. All IsOnWay player.course.ways.items) }
-        ensures player { IfOk result (IsPlayer (plan_of plan.entry) (fresh_world plan.entry.code.now plan.entry.nodes options.now) 0) }
+        ensures player { IfOk result (IsPlayer (plan_of plan.entry)
+            (fresh_world plan.entry.code.now plan.entry.nodes options.now) 0) }
     {
         Ok(Player {
             alloc,
@@ -53,11 +54,12 @@ impl<'c> Player<'c> {
         })
     }
 
-    /// Plays an event, of which nothing is told.
+    /// Plays an event without telling its turn.
     pub(crate) fn pass(&mut self, event: Event) -> Result<(), AllocError>
         requires { All IsOnWay self.old.course.ways.items }
         ensures on { All IsOnWay self.new.course.ways.items }
-        ensures player { (plan : AnyPlan) (world next : World) (turns : ℕ) → IsPlayer plan world turns self.old → event_on world event ≡ Some next
+        ensures player { (plan : AnyPlan) (world next : World) (turns : ℕ)
+            → IsPlayer plan world turns self.old → event_on world event ≡ Some next
             → OnOk result (IsPlayer plan next (turns + length (turn_by world event)) self.new) }
     {
         match self.replay.make(event)? {
@@ -70,7 +72,8 @@ impl<'c> Player<'c> {
     fn follow(&mut self, turn: Turn) -> Result<(), AllocError>
         requires { All IsOnWay self.old.course.ways.items }
         ensures on { All IsOnWay self.new.course.ways.items }
-        ensures player { (plan : AnyPlan) (next : World) (acts : List Act) (turns : ℕ) → LeavesTurn plan acts turns next turn self.old
+        ensures player { (plan : AnyPlan) (next : World) (acts : List Act) (turns : ℕ)
+            → LeavesTurn plan acts turns next turn self.old
             → OnOk result (IsPlayer plan next (turns + 1) self.new) }
     {
         let Turn { act, out } = turn;
@@ -93,13 +96,15 @@ impl<'c> Player<'c> {
         Ok(())
     }
 
-    /// Plays an event, and tells its turn, if it makes one.
+    /// Plays an event, and returns the line of its turn, or none if it makes no turn.
     pub(crate) fn tell(&mut self, event: Event) -> Result<Option<Vec<u8>>, AllocError>
         requires { All IsOnWay self.old.course.ways.items }
         ensures on { All IsOnWay self.new.course.ways.items }
-        ensures player { (plan : AnyPlan) (world next : World) (turns : ℕ) → IsPlayer plan world turns self.old → event_on world event ≡ Some next
+        ensures player { (plan : AnyPlan) (world next : World) (turns : ℕ)
+            → IsPlayer plan world turns self.old → event_on world event ≡ Some next
             → OnOk result (IsPlayer plan next (turns + length (turn_by world event)) self.new) }
-        ensures told { (plan : AnyPlan) (world next : World) (turns : ℕ) → IsPlayer plan world turns self.old → event_on world event ≡ Some next
+        ensures told { (plan : AnyPlan) (world next : World) (turns : ℕ)
+            → IsPlayer plan world turns self.old → event_on world event ≡ Some next
             → IfOk result (TellsTurn plan world turns (turn_by world event)) }
     {
         let place = self.place_of(event);
@@ -120,7 +125,8 @@ impl<'c> Player<'c> {
 
     // The node that an event names, or the receiver of the message that it names; 0, where it names none.
     fn place_of(&self, event: Event) -> usize
-        ensures { (world : World) (node : ℕ) → IsReplay self.now.replay world → turner_of world event ≡ Some node → result ≡ node }
+        ensures { (world : World) (node : ℕ) → IsReplay self.now.replay world
+            → turner_of world event ≡ Some node → result ≡ node }
     {
         match self.replay.turner(event) {
             Some(place) => place,
@@ -141,8 +147,11 @@ impl<'c> Player<'c> {
 
     // Adds the state of a node behind its turn, and the end of the line.
     fn push_end(&self, line: &mut Vec<u8>, node: u8, known: &Known) -> Result<(), AllocError>
-        ensures { (plan : AnyPlan) (world : World) (turns : ℕ) (l : Logged) → IsPlayer plan world turns self.now → slice_get world.nodes node ≡ Some l
-            → OnOk result (line.new.items ≡ line.old.items ++ (codes ",\"state\":" ++ state_behind plan world.acts node known.now l.node ++ codes "}\n")) }
+        ensures { (plan : AnyPlan) (world : World) (turns : ℕ) (l : Logged)
+            → IsPlayer plan world turns self.now → slice_get world.nodes node ≡ Some l
+            → OnOk result (line.new.items
+            ≡ line.old.items ++ (codes ",\"state\":"
+            ++ state_behind plan world.acts node known.now l.node ++ codes "}\n")) }
     {
         line.extend_from_slice(b",\"state\":")?;
         self.push_state(line, node, known)?;
@@ -151,9 +160,11 @@ impl<'c> Player<'c> {
 
     // Adds what is known of a turn before it is made.
     fn push_head(&self, line: &mut Vec<u8>, event: Event, node: usize) -> Result<(), AllocError>
-        ensures { (world : World) → IsReplay self.now.replay world → OnOk result (line.new.items ≡ line.old.items
+        ensures { (world : World) → IsReplay self.now.replay world
+            → OnOk result (line.new.items ≡ line.old.items
             ++ (event_members self.now.turns event node
-            ++ take_members (message_of world event) (was_taken (slice_get world.nodes node) (message_of world event)))) }
+            ++ take_members (message_of world event)
+            (was_taken (slice_get world.nodes node) (message_of world event)))) }
     {
         push_which(line, self.turns, event, node)?;
         self.push_take(line, event, node)
@@ -161,8 +172,10 @@ impl<'c> Player<'c> {
 
     // Adds the message that an event names, and whether it was taken before.
     fn push_take(&self, line: &mut Vec<u8>, event: Event, node: usize) -> Result<(), AllocError>
-        ensures { (world : World) → IsReplay self.now.replay world → OnOk result (line.new.items ≡ line.old.items
-            ++ take_members (message_of world event) (was_taken (slice_get world.nodes node) (message_of world event))) }
+        ensures { (world : World) → IsReplay self.now.replay world
+            → OnOk result (line.new.items ≡ line.old.items
+            ++ take_members (message_of world event)
+            (was_taken (slice_get world.nodes node) (message_of world event))) }
     {
         line.extend_from_slice(b",\"take\":")?;
         self.push_taken(line, event)?;
@@ -173,7 +186,8 @@ impl<'c> Player<'c> {
     // Adds the message that an event names.
     fn push_taken(&self, line: &mut Vec<u8>, event: Event) -> Result<(), AllocError>
         ensures { (world : World) → IsReplay self.now.replay world
-            → OnOk result (line.new.items ≡ line.old.items ++ message_or_null (message_of world event)) }
+            → OnOk result (line.new.items
+            ≡ line.old.items ++ message_or_null (message_of world event)) }
     {
         match self.replay.message(event) {
             Some(envelope) => push_envelope(self.alloc, line, envelope),
@@ -206,7 +220,8 @@ impl<'c> Player<'c> {
     // Adds the act of a turn, and what it sends.
     fn push_turn(&self, line: &mut Vec<u8>, node: u8, turn: &Turn) -> Result<(), AllocError>
         ensures { (plan : AnyPlan) (acts : List Act) → IsCourse plan acts self.now.course
-            → OnOk result (line.new.items ≡ line.old.items ++ made_members plan acts node turn.now) }
+            → OnOk result (line.new.items
+            ≡ line.old.items ++ made_members plan acts node turn.now) }
     {
         line.extend_from_slice(b",\"act\":")?;
         push_act(line, self.course.spot(node), turn.act)?;
@@ -215,15 +230,17 @@ impl<'c> Player<'c> {
         line.extend_from_slice(b"]")
     }
 
-    /// Adds the state of a node, where these intervals were told.
+    /// Adds the state of a node whose intervals in `known` were told before.
     pub(crate) fn push_state(
         &self,
         line: &mut Vec<u8>,
         node: u8,
         known: &Known,
     ) -> Result<(), AllocError>
-        ensures { (plan : AnyPlan) (world : World) (turns : ℕ) (l : Logged) → IsPlayer plan world turns self.now → slice_get world.nodes node ≡ Some l
-            → OnOk result (line.new.items ≡ line.old.items ++ state_behind plan world.acts node known.now l.node) }
+        ensures { (plan : AnyPlan) (world : World) (turns : ℕ) (l : Logged)
+            → IsPlayer plan world turns self.now → slice_get world.nodes node ≡ Some l
+            → OnOk result (line.new.items
+            ≡ line.old.items ++ state_behind plan world.acts node known.now l.node) }
     {
         let Some(state) = self.replay.state(usize::from(node)) else {
             return Err(AllocError);

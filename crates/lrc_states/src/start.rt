@@ -27,8 +27,10 @@ fn events_before(
 ) -> Result<usize, AllocError>
     requires few { told.now.nodes ≤ 16 }
     ensures within { IfOk result (λ count. count ≤ length told.now.events.now) }
-    ensures start { (made : World) → run_of code.now told.now.nodes told.now.options told.now.events.now ≡ Some made
-        → IfOk result (IsStart code.now told.now.nodes told.now.options (Some position) told.now.events.now) }
+    ensures start { (made : World) → run_of code.now told.now.nodes told.now.options
+        told.now.events.now ≡ Some made
+        → IfOk result (IsStart code.now told.now.nodes told.now.options
+        (Some position) told.now.events.now) }
 {
     let mut replay = Replay::start(alloc, code, told.nodes, &told.options)?;
     let mut left = position;
@@ -46,7 +48,7 @@ fn events_before(
     Ok(told.events.len())
 }
 
-/// How many events of a run come before those whose turns are shown.
+/// Returns how many events of a run come before those whose turns are shown.
 pub(crate) fn events_skipped(
     alloc: Global,
     code: &Code<'_>,
@@ -55,7 +57,8 @@ pub(crate) fn events_skipped(
 ) -> Result<usize, AllocError>
     requires few { told.now.nodes ≤ 16 }
     ensures within { IfOk result (λ count. count ≤ length told.now.events.now) }
-    ensures start { (made : World) → run_of code.now told.now.nodes told.now.options told.now.events.now ≡ Some made
+    ensures start { (made : World) → run_of code.now told.now.nodes told.now.options
+        told.now.events.now ≡ Some made
         → IfOk result (IsStart code.now told.now.nodes told.now.options from told.now.events.now) }
 {
     match from {

@@ -27,10 +27,11 @@ use lrc_protocol::Event;
 use lrc_replay::Plan;
 use std::alloc::{AllocError, Global};
 
-/// The most turns that are shown.
+/// The largest number of turns that are shown.
 pub const MOST_TURNS: usize = 2_000;
 
-/// The turns of a run with the states of its nodes, each line a part of its own.
+/// Returns the turns of a run with the states of its nodes, one part for each line. Fails if more than 2,000 turns
+/// would be shown, or if memory runs out.
 pub fn states_parts(
     alloc: Global,
     told: &Told<'_>,
@@ -38,9 +39,11 @@ pub fn states_parts(
 ) -> Result<Vec<Vec<u8>>, StatesFault>
     requires text { IsText told.now.text.now (program_of told.now.program.now) }
     requires few { told.now.nodes ≤ 16 }
-    ensures states { (made : World) → run_of told.now.program.now told.now.nodes told.now.options told.now.events.now ≡ Some made
+    ensures states { (made : World) → run_of told.now.program.now told.now.nodes told.now.options
+        told.now.events.now ≡ Some made
         → IfOk result (λ parts. AreStates (told_seen told.now) range (whole_text parts.items)) }
-    ensures fault { (made : World) → run_of told.now.program.now told.now.nodes told.now.options told.now.events.now ≡ Some made
+    ensures fault { (made : World) → run_of told.now.program.now told.now.nodes told.now.options
+        told.now.events.now ≡ Some made
         → IfErr result (IsUnshown (told_seen told.now) range) }
 {
     let code = Code::new(alloc, told.program)?;
@@ -61,11 +64,14 @@ fn parts_of(
     labels: &[Label<'_>],
 ) -> Result<Vec<Vec<u8>>, StatesFault>
     requires few { told.now.nodes ≤ 16 }
-    requires setting { IsSetting (told_seen told.now) (plan_with code.now told.now.nodes lines.now (map (λ name. name.now) names.now))
+    requires setting { IsSetting (told_seen told.now)
+        (plan_with code.now told.now.nodes lines.now (map (λ name. name.now) names.now))
         (map label_seen labels.now) }
-    ensures states { (made : World) → run_of told.now.program.now told.now.nodes told.now.options told.now.events.now ≡ Some made
+    ensures states { (made : World) → run_of told.now.program.now told.now.nodes told.now.options
+        told.now.events.now ≡ Some made
         → IfOk result (λ parts. AreStates (told_seen told.now) range (whole_text parts.items)) }
-    ensures fault { (made : World) → run_of told.now.program.now told.now.nodes told.now.options told.now.events.now ≡ Some made
+    ensures fault { (made : World) → run_of told.now.program.now told.now.nodes told.now.options
+        told.now.events.now ≡ Some made
         → IfErr result (IsUnshown (told_seen told.now) range) }
 {
     let skipped = events_skipped(alloc, code, told, range.from)?;
@@ -85,8 +91,10 @@ impl Player<'_> {
     fn pass_all(&mut self, events: &[Event]) -> Result<(), AllocError>
         requires { All IsOnWay self.old.course.ways.items }
         ensures on { All IsOnWay self.new.course.ways.items }
-        ensures player { (plan : AnyPlan) (world end : World) (turns : ℕ) → IsPlayer plan world turns self.old → played world events.now ≡ Some end
-            → OnOk result (IsPlayer plan end (turns + length (turns_from (Some world) events.now)) self.new) }
+        ensures player { (plan : AnyPlan) (world end : World) (turns : ℕ)
+            → IsPlayer plan world turns self.old → played world events.now ≡ Some end
+            → OnOk result (IsPlayer plan end
+            (turns + length (turns_from (Some world) events.now)) self.new) }
     {
         for event in events {
             self.pass(*event)?;
@@ -103,11 +111,14 @@ impl Player<'_> {
         to: Option<u64>,
     ) -> Result<Vec<Vec<u8>>, StatesFault>
         requires { All IsOnWay self.old.course.ways.items }
-        ensures told { (plan : AnyPlan) (world end : World) (turns : ℕ) → IsPlayer plan world turns self.old → played world events.now ≡ Some end
+        ensures told { (plan : AnyPlan) (world end : World) (turns : ℕ)
+            → IsPlayer plan world turns self.old → played world events.now ≡ Some end
             → IfOk result (λ parts. (whole_text parts.items
-            ≡ first_line plan size (map label_seen labels.now) world ++ turn_lines plan (turns_shown to turns world events.now))
+            ≡ first_line plan size (map label_seen labels.now) world
+            ++ turn_lines plan (turns_shown to turns world events.now))
             × (length (turns_shown to turns world events.now) ≤ most_turns)) }
-        ensures fault { (plan : AnyPlan) (world end : World) (turns : ℕ) → IsPlayer plan world turns self.old → played world events.now ≡ Some end
+        ensures fault { (plan : AnyPlan) (world end : World) (turns : ℕ)
+            → IsPlayer plan world turns self.old → played world events.now ≡ Some end
             → result ≡ Err TooLong → most_turns < length (turns_shown to turns world events.now) }
     {
         let first = self.first_line(size, labels)?;
@@ -126,10 +137,14 @@ impl Player<'_> {
     ) -> Result<(), StatesFault>
         requires on { All IsOnWay self.old.course.ways.items }
         requires first { length parts.old.items ≡ 1 }
-        ensures told { (plan : AnyPlan) (world end : World) (turns : ℕ) → IsPlayer plan world turns self.old → played world events.now ≡ Some end
-            → OnOk result ((whole_text parts.new.items ≡ whole_text parts.old.items ++ turn_lines plan (turns_shown to turns world events.now))
+        ensures told { (plan : AnyPlan) (world end : World) (turns : ℕ)
+            → IsPlayer plan world turns self.old → played world events.now ≡ Some end
+            → OnOk result ((whole_text parts.new.items
+            ≡ whole_text parts.old.items
+            ++ turn_lines plan (turns_shown to turns world events.now))
             × (length (turns_shown to turns world events.now) ≤ most_turns)) }
-        ensures fault { (plan : AnyPlan) (world end : World) (turns : ℕ) → IsPlayer plan world turns self.old → played world events.now ≡ Some end
+        ensures fault { (plan : AnyPlan) (world end : World) (turns : ℕ)
+            → IsPlayer plan world turns self.old → played world events.now ≡ Some end
             → result ≡ Err TooLong → most_turns < length (turns_shown to turns world events.now) }
     {
         for event in events {
@@ -148,13 +163,18 @@ impl Player<'_> {
         requires on { All IsOnWay self.old.course.ways.items }
         requires few { length parts.old.items ≤ most_turns + 1 }
         ensures on { All IsOnWay self.new.course.ways.items }
-        ensures player { (plan : AnyPlan) (world next : World) (turns : ℕ) → IsPlayer plan world turns self.old → event_on world event ≡ Some next
+        ensures player { (plan : AnyPlan) (world next : World) (turns : ℕ)
+            → IsPlayer plan world turns self.old → event_on world event ≡ Some next
             → OnOk result (IsPlayer plan next (turns + length (turn_by world event)) self.new) }
-        ensures told { (plan : AnyPlan) (world next : World) (turns : ℕ) → IsPlayer plan world turns self.old → event_on world event ≡ Some next
-            → OnOk result (AddsLines plan (shown_now to turns (turn_by world event)) parts.old.items parts.new.items) }
+        ensures told { (plan : AnyPlan) (world next : World) (turns : ℕ)
+            → IsPlayer plan world turns self.old → event_on world event ≡ Some next
+            → OnOk result (AddsLines plan
+            (shown_now to turns (turn_by world event)) parts.old.items parts.new.items) }
         ensures few { OnOk result (length parts.new.items ≤ most_turns + 1) }
-        ensures fault { (plan : AnyPlan) (world next : World) (turns : ℕ) → IsPlayer plan world turns self.old → event_on world event ≡ Some next
-            → result ≡ Err TooLong → (most_turns < length parts.old.items) × (length (shown_now to turns (turn_by world event)) ≡ 1) }
+        ensures fault { (plan : AnyPlan) (world next : World) (turns : ℕ)
+            → IsPlayer plan world turns self.old → event_on world event ≡ Some next
+            → result ≡ Err TooLong → (most_turns < length parts.old.items)
+            × (length (shown_now to turns (turn_by world event)) ≡ 1) }
     {
         if !is_within(to, self.course.acts()) {
             self.pass(event)?;

@@ -4,7 +4,8 @@ use lrc_lang::program::Program;
 use lrc_node::Options;
 use lrc_protocol::Event;
 
-/// A run that was made: the text of its program, the program, how many nodes run it and how they go, and the events of the run.
+/// A run that was made: the text of its program, the program, how many nodes run it with which options, and the events
+/// of the run.
 #[derive(Clone, Copy)]
 pub struct Told<'a> {
     pub text: &'a [u8],
@@ -14,8 +15,8 @@ pub struct Told<'a> {
     pub events: &'a [Event],
 }
 
-/// Which turns are shown: from the one that makes the act at a position, up to the one that makes another. Without them all are shown, from
-/// the beginning and to the end.
+/// The turns that are shown: from the turn that makes the act at position `from`, to the turn that makes the act at
+/// `to`. Without them, from the beginning, and to the end.
 #[derive(Clone, Copy)]
 pub struct Range {
     pub from: Option<u64>,

@@ -1,7 +1,7 @@
 // What messages brought, each counted once.
 
-ghost use Rattle.std.specs.Prelude.{◌≡◌, IfOk, List, length, map, sum_by};
-ghost use Rattle.lrc_protocol.specs.Run.{EntryRecord};
+ghost use Rattle.std.specs.Prelude.{◌≡◌, IfOk, List, length, sum_by};
+ghost use Rattle.lrc_protocol.specs.Run.{EntryRecord, turns_of_logs};
 ghost use Rattle.lrc_stats.specs.Learned.{IsLearned, brought, brought_after, collections, discards, intervals_told, is_discard};
 ghost use Rattle.lrc_stats.specs.Learned.{learned_intervals, learned_notices, repeats, told, with_entry};
 ghost use Rattle.lrc_stats.specs.Seen.{HasSeen};
@@ -13,16 +13,16 @@ use lrc_node::{Entry, Input};
 use lrc_store::Interval;
 use std::alloc::{AllocError, Global};
 
-/// What the messages brought that nodes took, without the repeats.
+/// What the messages that nodes took brought, each message counted once.
 #[derive(Clone, Copy)]
 pub(crate) struct Learned {
-    /// How many of the turns were repeats.
+    /// The number of turns that were repeats.
     pub repeats: u64,
-    /// How many intervals were learned of,
+    /// The number of intervals that were learned.
     pub intervals: u64,
-    /// and how many pages these name.
+    /// The number of pages that these intervals name, their write notices.
     pub notices: u64,
-    /// How often the word to discard came.
+    /// The number of discard messages taken.
     pub discards: u64,
 }
 
@@ -77,7 +77,8 @@ fn told(entry: &Entry) -> &[Interval]
 
 // How many pages intervals name.
 fn pages_in(intervals: &[Interval]) -> Result<u64, AllocError>
-    ensures { IfOk result (λ count. count ≡ sum_by (λ interval. length interval.pages) intervals.now) }
+    ensures { IfOk result (λ count. count
+        ≡ sum_by (λ interval. length interval.pages) intervals.now) }
 {
     let mut count = 0;
     for interval in intervals {
@@ -118,7 +119,8 @@ fn brought(entry: &Entry) -> Result<Learned, AllocError>
 // What a turn brought, where these messages were taken before it.
 fn brought_after(seen: &mut Seen, entry: &Entry) -> Result<Learned, AllocError>
     ensures { (before : List EntryRecord) → HasSeen before seen.old
-        → IfOk result (λ learned. (learned ≡ brought_after before entry.now) × HasSeen (with_entry before entry.now) seen.new) }
+        → IfOk result (λ learned. (learned ≡ brought_after before entry.now)
+        × HasSeen (with_entry before entry.now) seen.new) }
 {
     if seen.has(entry) {
         return Ok(Learned {
@@ -144,12 +146,15 @@ fn learned_in(alloc: Global, log: &[Entry]) -> Result<Learned, AllocError>
     Ok(learned)
 }
 
-/// What all nodes' messages brought.
+/// Returns what the messages of all nodes brought. Fails if memory runs out, or if a count does not fit into 64 bits.
 #[tactic(auto, using(crate::proofs::Logs::sum_more))]
 pub(crate) fn learned_by_all(alloc: Global, logs: &[Vec<Entry>]) -> Result<Learned, AllocError>
-    ensures repeats { IfOk result (λ learned. learned.repeats ≡ repeats (map (λ log. log.items) logs.now)) }
-    ensures intervals { IfOk result (λ learned. learned.intervals ≡ learned_intervals (map (λ log. log.items) logs.now)) }
-    ensures notices { IfOk result (λ learned. learned.notices ≡ learned_notices (map (λ log. log.items) logs.now)) }
+    ensures repeats { IfOk result (λ learned. learned.repeats
+        ≡ repeats (turns_of_logs logs.now)) }
+    ensures intervals { IfOk result (λ learned. learned.intervals
+        ≡ learned_intervals (turns_of_logs logs.now)) }
+    ensures notices { IfOk result (λ learned. learned.notices
+        ≡ learned_notices (turns_of_logs logs.now)) }
 {
     let mut all = Learned::nothing();
     for log in logs {
@@ -158,9 +163,9 @@ pub(crate) fn learned_by_all(alloc: Global, logs: &[Vec<Entry>]) -> Result<Learn
     Ok(all)
 }
 
-/// How many episodes collected: node 0 took the word to discard as often.
+/// Returns how many barrier episodes collected: node 0 took as many discard messages.
 pub(crate) fn collections(alloc: Global, logs: &[Vec<Entry>]) -> Result<u64, AllocError>
-    ensures { IfOk result (λ count. count ≡ collections (map (λ log. log.items) logs.now)) }
+    ensures { IfOk result (λ count. count ≡ collections (turns_of_logs logs.now)) }
 {
     match logs.first() {
         Some(log) => Ok(learned_in(alloc, log)?.discards),

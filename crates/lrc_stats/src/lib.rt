@@ -1,5 +1,5 @@
-//! Counts of a run, as the nodes' logs have them: turns, acts, misses, what was learned, and messages with their bytes. (TreadMarks
-//! printed such counts at exit: Keleher, Cox, Dwarkadas and Zwaenepoel 1994.)
+//! Counts what happened in a run, from the logs of the nodes: turns, acts, misses, what was learned, and messages with
+//! their bytes. TreadMarks printed such counts at exit (Keleher, Cox, Dwarkadas and Zwaenepoel 1994).
 #![tactic(auto)]
 
 mod learned;

@@ -8,7 +8,7 @@ use lrc_mail::Numbers;
 use lrc_node::{Entry, Input};
 use std::alloc::{AllocError, Global};
 
-/// The messages that a node has taken: the numbers of each sender's.
+/// The messages that a node has taken: for each sender, their numbers.
 #[derive(Drop)]
 pub(crate) struct Seen {
     numbers: Vec<Numbers>,
@@ -19,7 +19,7 @@ impl Seen {
     ghost use Rattle.lrc_protocol.specs.Run.{EntryRecord};
     ghost use Rattle.lrc_stats.specs.Seen.{HasSeen, has_seen};
 
-    /// None.
+    /// Returns the set for a node that has taken no message.
     pub(crate) fn new(alloc: Global) -> Result<Seen, AllocError>
         ensures { IfOk result (HasSeen []) }
     {
@@ -30,7 +30,7 @@ impl Seen {
         Ok(Seen { numbers })
     }
 
-    /// Whether the message is among them that makes a turn.
+    /// Returns whether a message makes this turn and is in the set.
     pub(crate) fn has(&self, entry: &Entry) -> bool
         ensures { result ≡ has_seen self.now entry.now.input }
     {
@@ -43,10 +43,11 @@ impl Seen {
         }
     }
 
-    /// Adds the message that makes a turn, if one does, and is not among them.
+    /// Adds the message that makes this turn, if a message makes it. The message must not be in the set yet.
     pub(crate) fn add(&mut self, entry: &Entry) -> Result<(), AllocError>
         requires { has_seen self.old entry.now.input ≡ false }
-        ensures { (before : List EntryRecord) → HasSeen before self.old → OnOk result (HasSeen (before ++ entry.now ∷ []) self.new) }
+        ensures { (before : List EntryRecord) → HasSeen before self.old
+            → OnOk result (HasSeen (before ++ entry.now ∷ []) self.new) }
     {
         match &entry.input {
             Input::Run => Ok(()),

@@ -2,6 +2,7 @@
 
 ghost use Rattle.std.specs.Prelude.{◌≡◌, ◌++◌, IfOk, OnOk, map};
 ghost use Rattle.std.specs.List.{flat_map};
+ghost use Rattle.lrc_protocol.specs.Run.{turns_of_logs};
 ghost use Rattle.lrc_wire.specs.Spelling as spelling;
 ghost use Rattle.lrc_stats.specs.Sent.{bytes_in, is_wanted, sent_by_turn, sent_messages, sent_of, size_of, wanted_count};
 
@@ -14,7 +15,7 @@ use std::alloc::{AllocError, Global};
 /// What is counted of a message.
 #[derive(Clone, Copy)]
 pub(crate) struct Sent {
-    /// The number of its kind, from 1.
+    /// The number of its kind, counted from 1.
     pub kind: u8,
     /// Whether its sender is its receiver.
     pub to_itself: bool,
@@ -26,13 +27,13 @@ pub(crate) struct Sent {
 pub(crate) enum Wanted {
     /// Those of the kind with this number.
     Kind(u8),
-    /// Each.
+    /// All messages.
     Each,
     /// Those whose sender is their receiver.
     ToItself,
 }
 
-/// How many messages were sent, and their bytes.
+/// The number of messages that were sent, and their bytes.
 #[derive(Clone, Copy)]
 pub(crate) struct Total {
     pub count: u64,
@@ -81,10 +82,10 @@ fn sent_of(alloc: Global, envelope: &Envelope) -> Result<Sent, AllocError>
     })
 }
 
-/// All messages that the nodes sent.
+/// Returns all messages that the nodes sent.
 #[tactic(auto, using(crate::proofs::Logs::flat_more))]
 pub(crate) fn sent_messages(alloc: Global, logs: &[Vec<Entry>]) -> Result<Vec<Sent>, AllocError>
-    ensures { IfOk result (λ sent. sent.items ≡ sent_messages (map (λ log. log.items) logs.now)) }
+    ensures { IfOk result (λ sent. sent.items ≡ sent_messages (turns_of_logs logs.now)) }
 {
     let mut sent = Vec::new(alloc);
     for log in logs {
@@ -121,7 +122,7 @@ fn is_wanted(wanted: Wanted, sent: Sent) -> bool
     }
 }
 
-/// How many of the messages are wanted, and their bytes.
+/// Counts the messages that are wanted, and their bytes.
 pub(crate) fn total_of(wanted: Wanted, sent: &[Sent]) -> Result<Total, AllocError>
     ensures count { IfOk result (λ total. total.count ≡ wanted_count wanted sent.now) }
     ensures bytes { IfOk result (λ total. total.bytes ≡ bytes_in wanted sent.now) }

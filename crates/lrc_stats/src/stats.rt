@@ -1,6 +1,7 @@
 // The counts of a run in words.
 
-ghost use Rattle.std.specs.Prelude.{◌≡◌, ◌++◌, IfOk, OnOk, map};
+ghost use Rattle.std.specs.Prelude.{◌≡◌, ◌++◌, IfOk, OnOk};
+ghost use Rattle.lrc_protocol.specs.Run.{turns_of_logs};
 ghost use Rattle.lrc_stats.specs.Learned.{learned_intervals, learned_notices, repeats};
 ghost use Rattle.lrc_stats.specs.Sent.{sent_messages};
 ghost use Rattle.lrc_stats.specs.StatsText.{act_counts_text, acts_line, collections_line, count_line, deed_kind_words, kind_line, kinds_text, message_kind_words};
@@ -14,10 +15,12 @@ use lrc_node::Entry;
 use lrc_text::push_number;
 use std::alloc::{AllocError, Global};
 
-/// The counts of a run of so many events, by the logs of its nodes from node 0 up, a line each: events, those that made no turn, and
-/// turns; acts by their deeds; misses, repeats, what was learned, collections; and messages by their kinds, with their bytes.
+/// Returns the counts of a run, one on each line. `events` is the number of its events, and `logs` are the logs of its
+/// nodes, from node 0 up. The lines tell events, events that made no turn, and turns; acts by their deeds; misses,
+/// repeats, what was learned, and collections; and messages by their kinds, with their bytes.
 pub fn stats_part(alloc: Global, events: u64, logs: &[Vec<Entry>]) -> Result<Vec<u8>, AllocError>
-    ensures { IfOk result (λ part. part.items ≡ stats_text events (map (λ log. log.items) logs.now)) }
+    ensures { IfOk result (λ part. part.items
+        ≡ stats_text events (turns_of_logs logs.now)) }
 {
     let mut text = Vec::new(alloc);
     push_turns(&mut text, events, logs)?;
@@ -38,7 +41,8 @@ fn push_count(text: &mut Vec<u8>, words: &[u8], count: u64) -> Result<(), AllocE
 }
 
 fn push_turns(text: &mut Vec<u8>, events: u64, logs: &[Vec<Entry>]) -> Result<(), AllocError>
-    ensures { OnOk result (text.new.items ≡ text.old.items ++ turns_lines events (turn_count (map (λ log. log.items) logs.now))) }
+    ensures { OnOk result (text.new.items
+        ≡ text.old.items ++ turns_lines events (turn_count (turns_of_logs logs.now))) }
 {
     let turns = turns_made(logs)?;
     push_turn_counts(text, events, turns)
@@ -71,7 +75,8 @@ fn deed_kind_words(kind: u8) -> &'static [u8]
 }
 
 fn push_acts(text: &mut Vec<u8>, logs: &[Vec<Entry>]) -> Result<(), AllocError>
-    ensures { OnOk result (text.new.items ≡ text.old.items ++ act_counts_text (map (λ log. log.items) logs.now)) }
+    ensures { OnOk result (text.new.items
+        ≡ text.old.items ++ act_counts_text (turns_of_logs logs.now)) }
 {
     for kind in 0..10 {
         push_acts_of(text, kind, logs)?;
@@ -81,7 +86,8 @@ fn push_acts(text: &mut Vec<u8>, logs: &[Vec<Entry>]) -> Result<(), AllocError>
 
 #[tactic(auto, unfolding(crate::specs::StatsText::acts_line))]
 fn push_acts_of(text: &mut Vec<u8>, kind: u8, logs: &[Vec<Entry>]) -> Result<(), AllocError>
-    ensures { OnOk result (text.new.items ≡ text.old.items ++ acts_line (map (λ log. log.items) logs.now) kind) }
+    ensures { OnOk result (text.new.items
+        ≡ text.old.items ++ acts_line (turns_of_logs logs.now) kind) }
 {
     text.extend_from_slice(b"acts ")?;
     push_count(text, deed_kind_words(kind), turns_making(kind, logs)?)
@@ -89,22 +95,26 @@ fn push_acts_of(text: &mut Vec<u8>, kind: u8, logs: &[Vec<Entry>]) -> Result<(),
 
 #[tactic(auto, unfolding(crate::specs::StatsText::misses_line))]
 fn push_misses(text: &mut Vec<u8>, logs: &[Vec<Entry>]) -> Result<(), AllocError>
-    ensures { OnOk result (text.new.items ≡ text.old.items ++ misses_line (map (λ log. log.items) logs.now)) }
+    ensures { OnOk result (text.new.items
+        ≡ text.old.items ++ misses_line (turns_of_logs logs.now)) }
 {
     push_count(text, b"misses", misses(logs)?)
 }
 
 #[tactic(auto, unfolding(crate::specs::StatsText::learned_text))]
 fn push_learned(alloc: Global, text: &mut Vec<u8>, logs: &[Vec<Entry>]) -> Result<(), AllocError>
-    ensures { OnOk result (text.new.items ≡ text.old.items ++ learned_text (map (λ log. log.items) logs.now)) }
+    ensures { OnOk result (text.new.items
+        ≡ text.old.items ++ learned_text (turns_of_logs logs.now)) }
 {
     push_told(alloc, text, logs)?;
     push_collections(alloc, text, logs)
 }
 
 fn push_told(alloc: Global, text: &mut Vec<u8>, logs: &[Vec<Entry>]) -> Result<(), AllocError>
-    ensures { let all = map (λ log. log.items) logs.now in
-        OnOk result (text.new.items ≡ text.old.items ++ learned_lines (repeats all) (learned_intervals all) (learned_notices all)) }
+    ensures { let all = turns_of_logs logs.now in
+        OnOk result (text.new.items
+        ≡ text.old.items ++ learned_lines (repeats all) (learned_intervals all)
+        (learned_notices all)) }
 {
     let learned = learned_by_all(alloc, logs)?;
     push_learned_counts(text, learned)
@@ -112,7 +122,8 @@ fn push_told(alloc: Global, text: &mut Vec<u8>, logs: &[Vec<Entry>]) -> Result<(
 
 #[tactic(auto, unfolding(crate::specs::StatsText::learned_lines))]
 fn push_learned_counts(text: &mut Vec<u8>, learned: Learned) -> Result<(), AllocError>
-    ensures { OnOk result (text.new.items ≡ text.old.items ++ learned_lines learned.repeats learned.intervals learned.notices) }
+    ensures { OnOk result (text.new.items
+        ≡ text.old.items ++ learned_lines learned.repeats learned.intervals learned.notices) }
 {
     push_count(text, b"repeats", learned.repeats)?;
     push_count(text, b"intervals learned", learned.intervals)?;
@@ -125,7 +136,8 @@ fn push_collections(
     text: &mut Vec<u8>,
     logs: &[Vec<Entry>],
 ) -> Result<(), AllocError>
-    ensures { OnOk result (text.new.items ≡ text.old.items ++ collections_line (map (λ log. log.items) logs.now)) }
+    ensures { OnOk result (text.new.items
+        ≡ text.old.items ++ collections_line (turns_of_logs logs.now)) }
 {
     push_count(text, b"collections", collections(alloc, logs)?)
 }
@@ -149,7 +161,8 @@ fn message_kind_words(kind: u8) -> &'static [u8]
 }
 
 fn push_all_sent(alloc: Global, text: &mut Vec<u8>, logs: &[Vec<Entry>]) -> Result<(), AllocError>
-    ensures { OnOk result (text.new.items ≡ text.old.items ++ message_counts_text (sent_messages (map (λ log. log.items) logs.now))) }
+    ensures { OnOk result (text.new.items
+        ≡ text.old.items ++ message_counts_text (sent_messages (turns_of_logs logs.now))) }
 {
     let sent = sent_messages(alloc, logs)?;
     push_messages(text, &sent)

@@ -1,7 +1,8 @@
 // How many turns there are of which kind.
 
-ghost use Rattle.std.specs.Prelude.{◌≡◌, ◌+◌, IfOk, count_by, length, map};
+ghost use Rattle.std.specs.Prelude.{◌≡◌, ◌+◌, IfOk, count_by, length};
 ghost use Rattle.std.specs.List.{list_any};
+ghost use Rattle.lrc_protocol.specs.Run.{turns_of_logs};
 ghost use Rattle.lrc_stats.specs.Turns.{asks_for_page, deed_number, is_miss, makes_of_kind, turn_count, turns_with};
 
 use lrc_envelope::{Envelope, Message};
@@ -9,17 +10,17 @@ use lrc_node::{Entry, Input};
 use lrc_trace::act::Deed;
 use std::alloc::AllocError;
 
-/// The sum of two counts. There is no memory for what a greater number counts.
+/// Adds two counts. Fails if the sum does not fit into 64 bits: there is no memory for that many things.
 pub(crate) fn add(a: u64, b: u64) -> Result<u64, AllocError>
     ensures { IfOk result (λ sum. sum ≡ a + b) }
 {
     a.checked_add(b).ok_or(AllocError)
 }
 
-/// How many turns the nodes made.
+/// Returns how many turns the nodes made.
 #[tactic(auto, using(crate::proofs::Logs::sum_more))]
 pub fn turns_made(logs: &[Vec<Entry>]) -> Result<u64, AllocError>
-    ensures { IfOk result (λ count. count ≡ turn_count (map (λ log. log.items) logs.now)) }
+    ensures { IfOk result (λ count. count ≡ turn_count (turns_of_logs logs.now)) }
 {
     let mut count = 0;
     for log in logs {
@@ -56,10 +57,11 @@ fn makes_of_kind(kind: u8, entry: &Entry) -> bool
     }
 }
 
-/// How many turns make an act of this kind.
+/// Returns how many turns make an act of this kind.
 #[tactic(auto, using(crate::proofs::Logs::sum_more))]
 pub(crate) fn turns_making(kind: u8, logs: &[Vec<Entry>]) -> Result<u64, AllocError>
-    ensures { IfOk result (λ count. count ≡ turns_with (makes_of_kind kind) (map (λ log. log.items) logs.now)) }
+    ensures { IfOk result (λ count. count
+        ≡ turns_with (makes_of_kind kind) (turns_of_logs logs.now)) }
 {
     let mut count = 0;
     for log in logs {
@@ -104,10 +106,10 @@ fn is_miss(entry: &Entry) -> bool
     }
 }
 
-/// How many turns are misses: a node goes on by itself, and asks for what a page needs.
+/// Returns how many turns are misses: the node runs by itself, and requests what a page needs.
 #[tactic(auto, using(crate::proofs::Logs::sum_more))]
 pub(crate) fn misses(logs: &[Vec<Entry>]) -> Result<u64, AllocError>
-    ensures { IfOk result (λ count. count ≡ turns_with is_miss (map (λ log. log.items) logs.now)) }
+    ensures { IfOk result (λ count. count ≡ turns_with is_miss (turns_of_logs logs.now)) }
 {
     let mut count = 0;
     for log in logs {

@@ -1,27 +1,27 @@
 // Events of a trace, and the pairs of them that are told.
 
-/// What a thread does in one event. Variables, locks, threads and barriers are numbers, each kind by itself.
+/// What a thread does in one event. Variables, locks, threads and barriers are numbered, each kind separately.
 #[derive(Clone, Copy, PartialEq, Eq)]
 pub enum Operation {
     /// Reads a variable.
     Read(u32),
     /// Writes a variable.
     Write(u32),
-    /// Gets a lock, behind all that was done before it was released or posted.
+    /// Acquires a lock. What was done before the lock was released or posted earlier happens before this event.
     Acquire(u32),
-    /// Gives a lock back.
+    /// Releases a lock.
     Release(u32),
-    /// Orders as a release does, and holds nothing.
+    /// Orders events as a release does, but releases nothing.
     Post(u32),
-    /// Orders as an acquire does, and holds nothing.
+    /// Orders events as an acquire does, but acquires nothing.
     Wait(u32),
     /// Starts a thread.
     Fork(u32),
     /// Waits for the end of a thread.
     Join(u32),
-    /// Comes to a barrier.
+    /// Arrives at a barrier.
     Arrive(u32),
-    /// Goes on from a barrier.
+    /// Departs from a barrier.
     Depart(u32),
     /// Does nothing.
     Idle,
@@ -32,9 +32,9 @@ pub enum Operation {
 pub struct Event {
     /// The thread.
     pub thread: u32,
-    /// What it does.
+    /// What the thread does.
     pub operation: Operation,
-    /// The line of the file on which the event stands.
+    /// The line of the file with the event.
     pub line: u64,
     /// Where in its program the thread does it, if that is known.
     pub location: Option<u32>,
@@ -43,7 +43,7 @@ pub struct Event {
 /// An event with its position.
 #[derive(Clone, Copy, PartialEq, Eq)]
 pub struct Placed {
-    /// How many events stand before it.
+    /// The number of events before it.
     pub position: u64,
     /// The event.
     pub event: Event,
@@ -52,8 +52,8 @@ pub struct Placed {
 /// Two accesses.
 #[derive(Clone, Copy, PartialEq, Eq)]
 pub struct Pair {
-    /// The one that stands first.
+    /// The earlier one.
     pub earlier: Placed,
-    /// The one that stands later.
+    /// The later one.
     pub later: Placed,
 }

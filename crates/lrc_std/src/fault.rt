@@ -2,20 +2,21 @@
 
 use crate::event::Event;
 
-/// Why no program would give an event, the first that holds. A line is that of the event that is to blame.
+/// Why no program would give an event. If several reasons apply, the first in this order is given. A line is that of
+/// the event to blame.
 #[derive(Clone, Copy, PartialEq, Eq)]
 pub enum Reason {
     /// Its thread was joined on this line.
     Joined { line: u64 },
-    /// Its thread waits at this barrier since this line.
+    /// Its thread has been waiting at this barrier since this line.
     Waits { barrier: u32, line: u64 },
     /// It departs from this barrier, at which its thread has not arrived.
     NotArrived { barrier: u32 },
-    /// It acquires this lock, which this other thread holds since this line.
+    /// It acquires this lock, which this other thread has held since this line.
     Held { lock: u32, thread: u32, line: u64 },
     /// It releases this lock, which its thread does not hold.
     NotHeld { lock: u32 },
-    /// It forks this thread, which is known since this line.
+    /// It forks this thread, which has been known since this line.
     Known { thread: u32, line: u64 },
 }
 
@@ -28,13 +29,13 @@ pub struct Fault {
     pub reason: Reason,
 }
 
-/// Who holds a lock.
+/// The holder of a lock.
 #[derive(Clone, Copy, PartialEq, Eq)]
 pub struct Holder {
     /// The thread.
     pub thread: u32,
-    /// How many of its acquires want a release.
+    /// How many of its acquires have not been released yet.
     pub depth: u64,
-    /// The line of the acquire by which it came to hold the lock.
+    /// The line of the acquire by which it got the lock.
     pub line: u64,
 }

@@ -2,11 +2,12 @@
 
 use crate::event::Pair;
 
-/// The pairs told whose accesses are of the locations and kinds of those of the first of them.
+/// A group of reported pairs: those whose accesses have the same locations and kinds (read or write) as the accesses of
+/// the first of them.
 #[derive(Clone, Copy, PartialEq, Eq)]
 pub struct Group {
-    /// The first pair told of the group.
+    /// The first reported pair of the group.
     pub first: Pair,
-    /// How many pairs are of the group.
+    /// The number of pairs in the group.
     pub count: u64,
 }

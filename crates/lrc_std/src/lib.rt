@@ -1,7 +1,8 @@
-//! What a writer of a race detector has to meet: the events of a trace, the order that they have, the races, and the
-//! pairs of accesses that are told.
+//! The definitions that a race detector has to meet: the events of a trace, their happens-before order, the races, and
+//! the pairs of accesses that are reported. A pair joins an access with another thread's last earlier access that races
+//! with it.
 //!
-//! The definitions stand in `specs/`. They hold for every list of events, whoever wrote it.
+//! The definitions are in `specs/`. They hold for every list of events.
 #![tactic(auto)]
 
 pub mod event;

@@ -23,7 +23,7 @@ fn closing() -> &'static [u8]
     CLOSING
 }
 
-/// The document with these lines in its frame.
+/// Returns the document: its frame with these lines in it.
 pub fn document_parts(alloc: Global, mut lines: Vec<Vec<u8>>) -> Result<Vec<Vec<u8>>, AllocError>
     ensures { IfOk result (λ parts. whole_text parts.items ≡ document (whole_text lines.items)) }
 {
@@ -50,8 +50,8 @@ fn explain_part(alloc: Global, explained: &[u8]) -> Result<Vec<u8>, AllocError>
     Ok(part)
 }
 
-/// The document that shows a run of the program in a file of this name: its frame, and in it the program, these lines of states, what
-/// `explain` prints of the run, and these lines of races and of reasons.
+/// Returns the document that shows a run of the program in the file with this name. In its frame are the program, these
+/// lines about states, the output of `explain` for the run, and these lines about races and reasons.
 pub fn step_document(
     alloc: Global,
     name: &[u8],
@@ -62,7 +62,8 @@ pub fn step_document(
     reasons: Vec<u8>,
 ) -> Result<Vec<Vec<u8>>, AllocError>
     ensures { IfOk result (λ parts. whole_text parts.items
-        ≡ document (run_lines name.now text.now (whole_text states.items) explained.now races.items reasons.items)) }
+        ≡ document (run_lines name.now text.now
+        (whole_text states.items) explained.now races.items reasons.items)) }
 {
     let mut lines = Vec::new(alloc);
     lines.push(program_part(alloc, name, text)?)?;

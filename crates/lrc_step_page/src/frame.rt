@@ -1,7 +1,7 @@
 // The frame of the document: what stands before the run's lines, and behind them.
 
-/// What stands before the lines: style and markup, up to the place of the lines in the element `<script type="application/json" ..>`. Its
-/// head forbids the page to fetch anything.
+/// The document before its lines: style and markup, up to the start of the element
+/// `<script type="application/json" ..>` that holds the lines. Its head forbids the page to fetch anything.
 pub const OPENING: &[u8] = br##"<!doctype html>
 <html lang="en">
 <head>

@@ -6,16 +6,19 @@ ghost use Rattle.lrc_step_page.specs.Lines.{HasNoMarkup, IsPairOfWords, explain_
 ghost use Rattle.lrc_step_page.specs.Reading.{ended, plain, reads};
 ghost use Rattle.lrc_step_page.specs.Spelling.{spelled};
 
-/// Whatever bytes a text has, a reader of JSON reads just this text where it is spelled, and ends at the quotation mark behind it.
+/// A reader of JSON reads back exactly the text that was spelled, whatever its bytes, and stops at the quotation mark
+/// after it.
 pub fn spelled_texts_are_read_back()
     ensures { (text : List ℕ) → reads (plain []) (spelled text ++ codes "\"") ≡ ended text }
 {}
 
-/// No text can end the element that the data stands in: no line has a sign of markup.
+/// No line contains a markup sign, so no text can end the element that holds the data.
 pub fn lines_have_no_markup()
     ensures program { (name text : List ℕ) → HasNoMarkup (program_line name text) }
     ensures explain { (lines : List (List ℕ)) → HasNoMarkup (explain_line lines) }
-    ensures why { (position : ℕ) (lines : List (List ℕ)) → position < 2 ^ 64 → HasNoMarkup (why_line position lines) }
-    ensures race { (group : Option ℕ) (pairs : List Pair) → IfSome group (λ number. number < 2 ^ 64) → All IsPairOfWords pairs
+    ensures why { (position : ℕ) (lines : List (List ℕ)) → position < 2 ^ 64
+        → HasNoMarkup (why_line position lines) }
+    ensures race { (group : Option ℕ) (pairs : List Pair) → IfSome group (λ number. number < 2 ^ 64)
+        → All IsPairOfWords pairs
         → HasNoMarkup (race_line group pairs) }
 {}

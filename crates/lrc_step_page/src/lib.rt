@@ -1,5 +1,6 @@
-//! The document that shows a run turn by turn in a browser: its frame, a constant, and in the one place for them the run's lines, of which each
-//! is an object of JSON. What the lines say of states stands elsewhere; here are the others, and how a text is spelled in any of them.
+//! The document that shows a run turn by turn in a browser. It is a constant frame with one place for the run's lines,
+//! each of which is a JSON object. This crate builds the frame, the lines about the program, its reasons and its races,
+//! and spells any text within a line. The lines about states come from another crate.
 #![tactic(auto)]
 
 mod document;

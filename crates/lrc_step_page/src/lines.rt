@@ -27,7 +27,7 @@ fn push_text_part(text: &mut Vec<u8>, program: &[u8]) -> Result<(), AllocError>
     text.extend_from_slice(b"}\n")
 }
 
-/// Adds the line of the program: the name of its file, and its text.
+/// Adds the line about the program: the name of its file, and its text.
 pub fn push_program_line(text: &mut Vec<u8>, name: &[u8], program: &[u8]) -> Result<(), AllocError>
     ensures { OnOk result (text.new.items ≡ text.old.items ++ program_line name.now program.now) }
 {
@@ -45,7 +45,7 @@ fn push_lines_part(alloc: Global, text: &mut Vec<u8>, printed: &[u8]) -> Result<
     text.extend_from_slice(b"]}\n")
 }
 
-/// Adds the line of the run with reasons, by what `explain` prints.
+/// Adds the line about the run with reasons, from the output of `explain`.
 pub fn push_explain_line(
     alloc: Global,
     text: &mut Vec<u8>,
@@ -57,21 +57,22 @@ pub fn push_explain_line(
     push_lines_part(alloc, text, printed)
 }
 
-/// Adds the line that says why the act at a position is as it is, by what `why` prints.
+/// Adds the line that says why the act at a position is as it is, from the output of `why`.
 pub fn push_why_line(
     alloc: Global,
     text: &mut Vec<u8>,
     position: usize,
     printed: &[u8],
 ) -> Result<(), AllocError>
-    ensures { OnOk result (text.new.items ≡ text.old.items ++ why_line position (lines_in printed.now)) }
+    ensures { OnOk result (text.new.items
+        ≡ text.old.items ++ why_line position (lines_in printed.now)) }
 {
     push_number(text, b"{\"why\":", position as u64)?;
     text.extend_from_slice(b",\"lines\":[")?;
     push_lines_part(alloc, text, printed)
 }
 
-/// Adds the line of a group of races, or of the races of none, with the pairs of acts that are of it.
+/// Adds the line about a group of races, with its pairs of acts, or about the races that are in no group.
 pub fn push_race_line(
     text: &mut Vec<u8>,
     group: Option<usize>,
@@ -115,7 +116,8 @@ fn push_pair(text: &mut Vec<u8>, place: usize, pair: Pair) -> Result<(), AllocEr
 
 // Adds texts between their quotation marks, with commas between them.
 fn push_quoted_each(text: &mut Vec<u8>, lines: &[&[u8]]) -> Result<(), AllocError>
-    ensures { OnOk result (text.new.items ≡ text.old.items ++ quoted_each (map (λ line. line.now) lines.now)) }
+    ensures { OnOk result (text.new.items
+        ≡ text.old.items ++ quoted_each (map (λ line. line.now) lines.now)) }
 {
     for (place, line) in lines.iter().enumerate() {
         push_quoted_at(text, place, line)?;

@@ -1,6 +1,6 @@
 // The script of the document.
 
-/// What stands behind the lines.
+/// The document after its lines: the rest of the markup, and the script.
 pub const CLOSING: &[u8] = br##"</script>
 <script>
 "use strict";

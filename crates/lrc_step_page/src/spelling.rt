@@ -51,7 +51,7 @@ fn push_byte(text: &mut Vec<u8>, byte: u8) -> Result<(), AllocError>
     }
 }
 
-/// Adds a text as it stands between quotation marks.
+/// Adds a text as JSON spells it between quotation marks, without the marks.
 pub fn push_spelled(text: &mut Vec<u8>, of: &[u8]) -> Result<(), AllocError>
     ensures { OnOk result (text.new.items ≡ text.old.items ++ spelled of.now) }
 {
@@ -61,7 +61,7 @@ pub fn push_spelled(text: &mut Vec<u8>, of: &[u8]) -> Result<(), AllocError>
     Ok(())
 }
 
-/// Adds a text between its quotation marks.
+/// Adds a text as JSON spells it, with its quotation marks.
 #[tactic(auto, unfolding(crate::specs::Lines::quoted))]
 pub(crate) fn push_quoted(text: &mut Vec<u8>, of: &[u8]) -> Result<(), AllocError>
     ensures { OnOk result (text.new.items ≡ text.old.items ++ quoted of.now) }

@@ -28,7 +28,7 @@ fn is_among(acts: &[Act], lines: &[u32], one: Pair, pairs: &[Pair]) -> bool
     false
 }
 
-/// Of the first pairs of races the first one of each group, in the order of the groups.
+/// Returns, from the first pairs of races, the first pair of each group, in the order of the groups.
 pub(crate) fn leaders_of(
     alloc: Global,
     acts: &[Act],
@@ -47,7 +47,7 @@ pub(crate) fn leaders_of(
     Ok(leaders)
 }
 
-/// Those of the pairs that are of the group of a first pair.
+/// Returns the pairs that belong to the group of a first pair.
 pub(crate) fn of_group(
     alloc: Global,
     acts: &[Act],
@@ -55,7 +55,8 @@ pub(crate) fn of_group(
     leader: Pair,
     pairs: &[Pair],
 ) -> Result<Vec<Pair>, AllocError>
-    ensures { IfOk result (λ found. found.items ≡ filter (is_beside acts.now lines.now leader) pairs.now) }
+    ensures { IfOk result (λ found. found.items
+        ≡ filter (is_beside acts.now lines.now leader) pairs.now) }
 {
     let mut found = Vec::new(alloc);
     for pair in pairs {
@@ -78,7 +79,7 @@ fn is_alone(acts: &[Act], lines: &[u32], leaders: &[Pair], pair: Pair) -> bool
     true
 }
 
-/// Those of the pairs that are of no group.
+/// Returns the pairs that belong to no group.
 pub(crate) fn alone(
     alloc: Global,
     acts: &[Act],
@@ -86,7 +87,8 @@ pub(crate) fn alone(
     leaders: &[Pair],
     pairs: &[Pair],
 ) -> Result<Vec<Pair>, AllocError>
-    ensures { IfOk result (λ found. found.items ≡ filter (is_alone acts.now lines.now leaders.now) pairs.now) }
+    ensures { IfOk result (λ found. found.items
+        ≡ filter (is_alone acts.now lines.now leaders.now) pairs.now) }
 {
     let mut found = Vec::new(alloc);
     for pair in pairs {

@@ -1,5 +1,5 @@
-//! The races of a part of a run, for the document that shows it turn by turn: of each access that is shown and each other node the least access
-//! that races with it, by the groups of the run with reasons.
+//! The races of a part of a run, for the document that shows it turn by turn. For each shown access and each other
+//! node, it finds that node's least access that races with it. The pairs come by the groups of the run with reasons.
 #![tactic(auto)]
 
 mod groups;

@@ -12,14 +12,14 @@ use lrc_trace::act::Act;
 use lrc_why::least::least_racing;
 use std::alloc::{AllocError, Global};
 
-/// The acts of a run that are shown: those from a position on, up to before another.
+/// The acts of a run that are shown: from one position up to, but not including, another.
 #[derive(Clone, Copy)]
 pub struct Part {
     pub from: usize,
     pub until: usize,
 }
 
-/// Whether the act at the position is shown.
+/// Returns whether the act at the position is shown.
 pub fn is_shown(part: Part, position: usize) -> bool
     ensures { MatchBool result (IsShown part position) (¬ IsShown part position) }
 {
@@ -37,7 +37,8 @@ fn add_pair_of_node(
 ) -> Result<(), AllocError>
     requires order { IsOrderOf acts.now order.now }
     requires within { position < length acts.now }
-    ensures { OnOk result (Adds pairs.old.items pairs.new.items (StandsForNode acts.now part position node)) }
+    ensures { OnOk result (Adds pairs.old.items pairs.new.items
+        (StandsForNode acts.now part position node)) }
 {
     let Some(least) = least_racing(acts, order, node, position) else {
         return Ok(());
@@ -64,7 +65,8 @@ fn add_pairs_of(
     requires order { IsOrderOf acts.now order.now }
     requires nodes { All (λ act. act.node < nodes) acts.now }
     requires within { position < length acts.now }
-    ensures { OnOk result (Adds pairs.old.items pairs.new.items (λ pair. (node : ℕ) × StandsForNode acts.now part position node pair)) }
+    ensures { OnOk result (Adds pairs.old.items pairs.new.items
+        (λ pair. (node : ℕ) × StandsForNode acts.now part position node pair)) }
 {
     for node in 0..nodes {
         add_pair_of_node(pairs, acts, order, part, node, position)?;
@@ -72,8 +74,10 @@ fn add_pairs_of(
     Ok(())
 }
 
-/// The pairs of accesses that race and are shown: of each access that is shown and each other node the access and the least of the node's
-/// accesses that race with it, where that is shown too; by the later, then by the earlier, each once.
+/// Returns the pairs of shown accesses that race.
+///
+/// For each shown access and each other node, a pair joins the access with that node's least access that races with it,
+/// if this is shown too. The pairs are ordered by the later access, then by the earlier, without repeats.
 pub fn shown_pairs(
     alloc: Global,
     acts: &[Act],

@@ -26,7 +26,8 @@ fn push_group(
     leader: Pair,
 ) -> Result<(), AllocError>
     requires { place < 18446744073709551615 }
-    ensures { OnOk result (text.new.items ≡ text.old.items ++ group_line acts.now lines.now pairs.now place leader) }
+    ensures { OnOk result (text.new.items
+        ≡ text.old.items ++ group_line acts.now lines.now pairs.now place leader) }
 {
     let found = of_group(alloc, acts, lines, leader, pairs)?;
     push_race_line(text, Some(place + 1), &found)
@@ -40,7 +41,8 @@ fn push_groups(
     pairs: &[Pair],
     leaders: &[Pair],
 ) -> Result<(), AllocError>
-    ensures { OnOk result (text.new.items ≡ text.old.items ++ each (group_line acts.now lines.now pairs.now) leaders.now) }
+    ensures { OnOk result (text.new.items
+        ≡ text.old.items ++ each (group_line acts.now lines.now pairs.now) leaders.now) }
 {
     for place in 0..leaders.len() {
         push_group(alloc, text, acts, lines, pairs, place, leaders[place])?;
@@ -64,7 +66,8 @@ fn races_of(
     leaders: &[Pair],
     pairs: &[Pair],
 ) -> Result<Vec<u8>, AllocError>
-    ensures { IfOk result (λ part. part.items ≡ races_text acts.now lines.now leaders.now pairs.now) }
+    ensures { IfOk result (λ part. part.items
+        ≡ races_text acts.now lines.now leaders.now pairs.now) }
 {
     let mut text = Vec::new(alloc);
     push_groups(alloc, &mut text, acts, lines, pairs, leaders)?;
@@ -73,8 +76,8 @@ fn races_of(
     Ok(text)
 }
 
-/// The lines of the races of a part of a run whose acts have these lines: a line for each group of the run with reasons, and one for the
-/// pairs of no group, if there are some.
+/// Returns the lines about the races of a part of a run, whose acts have these program lines. Each group of the run
+/// with reasons has a line. The pairs in no group have one more line, if there are any.
 pub fn races_part(
     alloc: Global,
     acts: &[Act],

@@ -1,5 +1,5 @@
-//! Why acts of a part of a run are as they are, for the document that shows it turn by turn: of each read that is shown, and of each write that
-//! is shown and races, what `why` prints.
+//! The reasons for acts of a part of a run, for the document that shows it turn by turn. They are the output of `why`
+//! for each shown read, and for each shown write that races.
 #![tactic(auto)]
 
 mod lines;

@@ -8,7 +8,7 @@ use lrc_step_page::push_why_line;
 use lrc_why_text::asked::Asked;
 use std::alloc::{AllocError, Global};
 
-/// What is asked of the act at each position.
+/// Returns the question about the act at each position.
 pub(crate) fn asked_of(alloc: Global, positions: &[usize]) -> Result<Vec<Asked>, AllocError>
     ensures { IfOk result (λ asked. asked.items ≡ map asked_alone positions.now) }
 {
@@ -22,7 +22,7 @@ pub(crate) fn asked_of(alloc: Global, positions: &[usize]) -> Result<Vec<Asked>,
     Ok(asked)
 }
 
-/// Adds the lines of what is printed of the act at each position.
+/// Adds the lines with the output for the act at each position.
 pub(crate) fn push_whys(
     alloc: Global,
     text: &mut Vec<u8>,
@@ -30,7 +30,8 @@ pub(crate) fn push_whys(
     printed: &[Vec<u8>],
 ) -> Result<(), AllocError>
     requires { length printed.now ≡ length positions.now }
-    ensures { OnOk result (text.new.items ≡ text.old.items ++ whys_text positions.now (texts_of printed.now)) }
+    ensures { OnOk result (text.new.items
+        ≡ text.old.items ++ whys_text positions.now (texts_of printed.now)) }
 {
     for place in 0..positions.len() {
         push_why_line(alloc, text, positions[place], &printed[place])?;

@@ -56,7 +56,8 @@ fn is_told(acts: &[Act], order: &Order, nodes: u8, part: Part, position: usize) 
     is_write(acts, position) && is_racer(acts, order, nodes, position)
 }
 
-/// The positions of the acts of which it is told why they are as they are, ascending.
+/// Returns the positions of the acts that get reasons, in ascending order: each shown read, and each shown write that
+/// races.
 pub(crate) fn positions_told(
     alloc: Global,
     acts: &[Act],

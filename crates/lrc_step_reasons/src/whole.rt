@@ -17,7 +17,8 @@ use lrc_trace::act::Act;
 use lrc_why_run::why_each;
 use std::alloc::{AllocError, Global};
 
-/// The lines of reasons of a part of a run of the program that this text is of, on so many nodes and on pages of this size.
+/// Returns the lines of reasons for a part of a run of the program in this text, on so many nodes and with this page
+/// size.
 pub fn reasons_part(
     alloc: Global,
     text: &[u8],
@@ -32,7 +33,8 @@ pub fn reasons_part(
     requires few { nodes ≤ NODES }
     requires nodes { All (λ act. act.node < nodes) acts.now }
     requires order { IsOrderOf acts.now order.now }
-    ensures { IfOk result (λ told. TellsWhys text.now program.now nodes page acts.now part told.items) }
+    ensures { IfOk result (λ told. TellsWhys text.now program.now nodes page acts.now part
+        told.items) }
 {
     let positions = positions_told(alloc, acts, order, nodes, part)?;
     let asked = asked_of(alloc, &positions)?;

@@ -21,8 +21,9 @@ struct Settled {
     deeds: Vec<Deed>,
 }
 
-/// Settles the nodes from one on and below another, where the others are settled: puts the acts that they make behind those that are
-/// there. Says no, where one of them makes as many free acts as are to be looked at.
+/// Settles the nodes from `first` on and below `last`; the other nodes must be settled. It appends the acts of the
+/// nodes to `acts`. It returns false if a node makes so many free acts that the limit `most` is reached. It fails if
+/// memory runs out.
 pub fn settle(
     alloc: Global,
     flat: &Flat,
@@ -35,10 +36,13 @@ pub fn settle(
     requires flat { IsFlat flat.now }
     requires state { IsStateOf flat.now state.old }
     requires within { last ≤ length state.old.spots.items }
-    requires others { (node : ℕ) → (node < first) ⊎ (last ≤ node) → IsSettledAt (plain_at flat.now state.old) node }
+    requires others { (node : ℕ) → (node < first) ⊎ (last ≤ node)
+        → IsSettledAt (plain_at flat.now state.old) node }
     ensures state { OnOk result (IsStateOf flat.now state.new) }
-    ensures settled { IfOk result (λ done. done ≡ true → HasSettled flat.now state.old state.new acts.old.items acts.new.items) }
-    ensures open { IfOk result (λ done. done ≡ false → (node : ℕ) × MakesFree most (thread_in (plain_at flat.now state.old) node)) }
+    ensures settled { IfOk result (λ done. done ≡ true
+        → HasSettled flat.now state.old state.new acts.old.items acts.new.items) }
+    ensures open { IfOk result (λ done. done ≡ false
+        → (node : ℕ) × MakesFree most (thread_in (plain_at flat.now state.old) node)) }
 {
     for node in first..last {
         if !settle_node(alloc, flat, state, node, most, acts)? {
@@ -61,8 +65,10 @@ fn settle_node(
     requires state { IsStateOf flat.now state.old }
     requires within { node < length state.old.spots.items }
     ensures state { OnOk result (IsStateOf flat.now state.new) }
-    ensures settled { IfOk result (λ done. done ≡ true → NodeSettles flat.now state.old node state.new acts.old.items acts.new.items) }
-    ensures open { IfOk result (λ done. done ≡ false → MakesFree most (thread_in (plain_at flat.now state.old) node)) }
+    ensures settled { IfOk result (λ done. done ≡ true
+        → NodeSettles flat.now state.old node state.new acts.old.items acts.new.items) }
+    ensures open { IfOk result (λ done. done ≡ false
+        → MakesFree most (thread_in (plain_at flat.now state.old) node)) }
 {
     let Some(settled) = settled_spot(alloc, flat, &state.spots[node], most)? else {
         return Ok(false);
@@ -83,7 +89,8 @@ fn settled_spot(
 ) -> Result<Option<Settled>, AllocError>
     requires flat { IsFlat flat.now }
     requires within { spot.now.place ≤ length flat.now.code.now }
-    ensures { IfOk result (λ settled. MatchOption settled (MakesFree most (spot_thread flat.now spot.now)) (IsSettledSpot flat.now spot.now)) }
+    ensures { IfOk result (λ settled. MatchOption settled
+        (MakesFree most (spot_thread flat.now spot.now)) (IsSettledSpot flat.now spot.now)) }
 {
     match settle_thread(alloc, flat, spot, most)? {
         Settling::Waits(there, deeds) => Ok(Some(Settled { spot: there, deeds })),
@@ -97,9 +104,11 @@ fn put_spot(flat: &Flat, state: &mut State, node: usize, spot: Spot)
     requires state { IsStateOf flat.now state.old }
     requires within { node < length state.old.spots.items }
     requires placed { spot.place ≤ length flat.now.code.now }
-    requires number { spot.stopped ≡ false → spot.me ≡ (slice_index_or state.old.spots.items node spot).me }
+    requires number { spot.stopped ≡ false → spot.me
+        ≡ (slice_index_or state.old.spots.items node spot).me }
     ensures state { IsStateOf flat.now state.new }
-    ensures put { plain_at flat.now state.new ≡ with_thread (plain_at flat.now state.old) node (spot_thread flat.now spot) }
+    ensures put { plain_at flat.now state.new
+        ≡ with_thread (plain_at flat.now state.old) node (spot_thread flat.now spot) }
 {
     let _flat = flat;
     let me = state.spots[node].me;

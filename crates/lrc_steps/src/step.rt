@@ -26,13 +26,17 @@ pub enum Step {
     Together,
 }
 
-/// The read, the write or the acquire that a node can make now.
+/// Returns the read, the write or the acquire that a node can make now, or none.
 pub fn contended_deed(flat: &Flat, state: &State, node: usize) -> Option<Deed>
     requires flat { IsFlat flat.now }
     requires state { IsStateOf flat.now state.now }
     ensures { MatchOption result
-        ((deed : DeedType) (after : Plain) → plain_step (plain_at flat.now state.now) node ≡ Some (deed, after) → is_contended deed ≡ false)
-        (λ deed. (is_contended deed ≡ true) × (option_map (λ step. step.0) (plain_step (plain_at flat.now state.now) node) ≡ Some deed)) }
+        ((deed : DeedType) (after : Plain)
+        → plain_step (plain_at flat.now state.now) node ≡ Some (deed, after)
+        → is_contended deed ≡ false)
+        (λ deed. (is_contended deed ≡ true)
+        × (option_map (λ step. step.0) (plain_step (plain_at flat.now state.now) node)
+        ≡ Some deed)) }
 {
     let deed = state.next_deed(flat, node)?;
     if is_contended(deed) { Some(deed) } else { None }
@@ -45,7 +49,7 @@ fn is_contended(deed: Deed) -> bool
     matches!(deed, Deed::Read(..) | Deed::Write(..) | Deed::Acquire(_))
 }
 
-/// Whether every node has arrived and none departed.
+/// Returns whether every node has arrived and none has departed.
 pub fn all_wait(flat: &Flat, state: &State) -> bool
     ensures { IsTrue result ↔ AllWait (plain_at flat.now state.now) }
 {
@@ -65,8 +69,8 @@ fn waits(spot: &Spot) -> bool
     !spot.stopped && spot.arrived
 }
 
-/// Takes the step of one node, whose deed is this: puts the acts behind those that are there. Says no, where the node then makes as many
-/// free acts as are to be looked at.
+/// Takes the step of one node with this deed, and appends its acts to `acts`. It returns false if the node then makes
+/// so many free acts that the limit `most` is reached. It fails if memory runs out.
 pub fn take_alone(
     alloc: Global,
     flat: &Flat,
@@ -81,10 +85,13 @@ pub fn take_alone(
     requires counted { IsCounted state.old }
     requires settled { IsSettled (plain_at flat.now state.old) }
     requires contended { is_contended deed ≡ true }
-    requires can { option_map (λ step. step.0) (plain_step (plain_at flat.now state.old) node) ≡ Some deed }
+    requires can { option_map (λ step. step.0) (plain_step (plain_at flat.now state.old) node)
+        ≡ Some deed }
     ensures state { OnOk result (IsStateOf flat.now state.new) }
-    ensures taken { IfOk result (λ done. done ≡ true → HasTaken flat.now state.old (Step.Alone node) state.new acts.old.items acts.new.items) }
-    ensures open { IfOk result (λ done. done ≡ false → ComputesLong (plain_at flat.now state.old) most) }
+    ensures taken { IfOk result (λ done. done ≡ true
+        → HasTaken flat.now state.old (Step.Alone node) state.new acts.old.items acts.new.items) }
+    ensures open { IfOk result (λ done. done ≡ false
+        → ComputesLong (plain_at flat.now state.old) most) }
 {
     let _nodes = flat.nodes;
     acts.push(Act {
@@ -95,8 +102,8 @@ pub fn take_alone(
     settle(alloc, flat, state, node, node + 1, most, acts)
 }
 
-/// Takes the step of all nodes, where all have arrived: puts the acts behind those that are there. Says no, where one of them then makes
-/// as many free acts as are to be looked at.
+/// Takes the step of all nodes; all must have arrived. It appends the acts to `acts`. It returns false if a node then
+/// makes so many free acts that the limit `most` is reached. It fails if memory runs out.
 pub fn take_together(
     alloc: Global,
     flat: &Flat,
@@ -109,8 +116,10 @@ pub fn take_together(
     requires counted { IsCounted state.old }
     requires wait { AllWait (plain_at flat.now state.old) }
     ensures state { OnOk result (IsStateOf flat.now state.new) }
-    ensures taken { IfOk result (λ done. done ≡ true → HasTaken flat.now state.old Step.Together state.new acts.old.items acts.new.items) }
-    ensures open { IfOk result (λ done. done ≡ false → ComputesLong (plain_at flat.now state.old) most) }
+    ensures taken { IfOk result (λ done. done ≡ true
+        → HasTaken flat.now state.old Step.Together state.new acts.old.items acts.new.items) }
+    ensures open { IfOk result (λ done. done ≡ false
+        → ComputesLong (plain_at flat.now state.old) most) }
 {
     depart(flat, state, acts)?;
     let nodes = state.spots.len();
@@ -124,7 +133,8 @@ fn depart(flat: &Flat, state: &mut State, acts: &mut Vec<Act>) -> Result<(), All
     requires counted { IsCounted state.old }
     requires wait { AllWait (plain_at flat.now state.old) }
     ensures state { OnOk result (IsStateOf flat.now state.new) }
-    ensures departed { OnOk result (HaveDeparted flat.now state.old state.new acts.old.items acts.new.items) }
+    ensures departed { OnOk result (HaveDeparted flat.now state.old state.new acts.old.items
+        acts.new.items) }
 {
     let _nodes = flat.nodes;
     for node in 0..state.spots.len() {
@@ -137,12 +147,14 @@ fn depart(flat: &Flat, state: &mut State, acts: &mut Vec<Act>) -> Result<(), All
     Ok(())
 }
 
-/// Counts anew how often the nodes of a state have arrived: once where they wait, and else never. So states that go on alike are one.
+/// Resets how often the nodes of a state have arrived: 1 for a node that waits at a barrier, 0 for any other. So states
+/// that go on alike become equal. It fails if memory runs out.
 pub fn count(flat: &Flat, state: &mut State) -> Result<(), AllocError>
     requires { IsStateOf flat.now state.old }
     ensures state { OnOk result (IsStateOf flat.now state.new) }
     ensures counted { OnOk result (IsCounted state.new) }
-    ensures alike { OnOk result (AreAlike (plain_at flat.now state.new) (plain_at flat.now state.old)) }
+    ensures alike { OnOk result (AreAlike (plain_at flat.now state.new)
+        (plain_at flat.now state.old)) }
 {
     let _flat = flat;
     count_spots(&mut state.arrivals, &state.spots)

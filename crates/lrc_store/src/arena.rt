@@ -18,7 +18,7 @@ use lrc_time::Time;
 use std::alloc::{AllocError, Global};
 use std::marker::Model;
 
-/// A notice with the weight of its interval's stamp, and with the changes of its page once they are known.
+/// A notice, with the weight of its interval's stamp, and with the changes of its page once they have arrived.
 #[derive(Drop)]
 struct Noted {
     weight: u64,
@@ -43,8 +43,8 @@ impl Noted {
     }
 }
 
-/// The intervals in the order of adding, and their notices, in the same order and of each interval by page. The changes
-/// stand in the notice.
+/// The intervals in the order of adding, and their notices. The notices have the same order, and those of one interval
+/// are ordered by page. Each notice holds its changes.
 #[derive(Drop)]
 pub(crate) struct Arena {
     intervals: Vec<Interval>,
@@ -67,7 +67,7 @@ impl Model for Arena {
 }
 
 impl Arena {
-    /// No intervals and no notices.
+    /// Returns an arena without intervals and notices.
     pub(crate) fn new(alloc: Global) -> Self
         ensures { result ≡ record { entries = []; notices = [] } }
     {
@@ -77,29 +77,31 @@ impl Arena {
         }
     }
 
-    /// Where the memory comes from.
+    /// Returns the allocator that the memory comes from.
     pub(crate) fn allocator(&self) -> Global {
         *self.intervals.allocator()
     }
 
-    /// How many intervals there are.
+    /// Returns the number of intervals.
     pub(crate) fn len(&self) -> usize
         ensures { result ≡ length self.now.entries }
     {
         self.intervals.len()
     }
 
-    /// How many notices there are.
+    /// Returns the number of notices.
     pub(crate) fn noted(&self) -> usize
         ensures { result ≡ length self.now.notices }
     {
         self.notices.len()
     }
 
-    /// Adds an interval, of which no changes are known yet. An error changes nothing.
+    /// Adds an interval without changes. It fails if memory runs out, and then nothing changes.
     pub(crate) fn push(&mut self, interval: &Interval) -> Result<(), AllocError>
-        ensures entries { OnOk result (self.new.entries ≡ self.old.entries ++ without_changes interval.now ∷ []) }
-        ensures notices { OnOk result (self.new.notices ≡ self.old.notices ++ ranked_pages interval.now) }
+        ensures entries { OnOk result (self.new.entries
+            ≡ self.old.entries ++ without_changes interval.now ∷ []) }
+        ensures notices { OnOk result (self.new.notices
+            ≡ self.old.notices ++ ranked_pages interval.now) }
         ensures err { OnErr result (self.new ≡ self.old) }
     {
         self.notices.reserve(interval.pages.len())?;
@@ -109,15 +111,16 @@ impl Arena {
         Ok(())
     }
 
-    /// The interval at a place in the order of adding.
+    /// Returns the interval at a place, in the order of adding.
     pub(crate) fn interval(&self, at: usize) -> &Interval
         requires { at < length self.now.entries }
-        ensures { (d : StoredRecord) → result.now ≡ interval_of (slice_index_or self.now.entries at d) }
+        ensures { (d : StoredRecord) → result.now
+            ≡ interval_of (slice_index_or self.now.entries at d) }
     {
         &self.intervals[at]
     }
 
-    /// The weight and the key of the notice at a place in the order of adding.
+    /// Returns the weight and the key of the notice at a place, in the order of adding.
     pub(crate) fn notice(&self, at: usize) -> (u64, Key)
         requires { at < length self.now.notices }
         ensures { (d : ℕ × Key) → result ≡ slice_index_or self.now.notices at d }
@@ -126,33 +129,39 @@ impl Arena {
         (noted.weight, noted.key)
     }
 
-    /// The changes of a page, if they are known, in an interval whose notices begin at this place.
+    /// Returns the changes of a page in the interval at a place, if they are known. The interval's notices begin at
+    /// `start`.
     pub(crate) fn changes(&self, at: usize, start: usize, page: u16) -> Option<&Changes>
         requires within { at < length self.now.entries }
-        requires start { start ≡ length (flat_map keys_of (take at (map interval_of self.now.entries))) }
+        requires start { start ≡ length (flat_map keys_of
+            (take at (map interval_of self.now.entries))) }
         ensures { (d : StoredRecord) → option_copied result
-            ≡ option_and_then (λ notice. notice.changes) (notice_of page (slice_index_or self.now.entries at d)) }
+            ≡ option_and_then (λ notice. notice.changes)
+            (notice_of page (slice_index_or self.now.entries at d)) }
     {
         let offset = place_of(self.intervals[at].pages.as_slice(), page)?;
         let noted = &self.notices[start + offset];
         noted.changes.as_ref()
     }
 
-    /// Whether an interval names this page.
+    /// Returns whether the interval at a place names the page.
     pub(crate) fn has_notice(&self, at: usize, page: u16) -> bool
         requires { at < length self.now.entries }
-        ensures { (d : StoredRecord) → result ≡ is_some (notice_of page (slice_index_or self.now.entries at d)) }
+        ensures { (d : StoredRecord) → result
+            ≡ is_some (notice_of page (slice_index_or self.now.entries at d)) }
     {
         place_of(self.intervals[at].pages.as_slice(), page).is_some()
     }
 
-    /// Keeps the changes of a page, in an interval whose notices begin at this place.
+    /// Keeps the changes of a page in the interval at a place. The interval's notices begin at `start`.
     pub(crate) fn attach(&mut self, at: usize, start: usize, page: u16, changes: Changes)
         requires within { at < length self.old.entries }
-        requires start { start ≡ length (flat_map keys_of (take at (map interval_of self.old.entries))) }
+        requires start { start ≡ length (flat_map keys_of
+            (take at (map interval_of self.old.entries))) }
         ensures entries { (d : StoredRecord) → self.new.entries ≡ slice_set self.old.entries at
             (record (slice_index_or self.old.entries at d) {
-              notices = map (notice_with page changes) (slice_index_or self.old.entries at d).notices;
+              notices = map (notice_with page changes)
+                  (slice_index_or self.old.entries at d).notices;
             }) }
         ensures notices { self.new.notices ≡ self.old.notices }
     {
@@ -161,10 +170,12 @@ impl Arena {
         }
     }
 
-    /// Takes out the intervals that this time knows, with their notices. The others move to the front.
+    /// Removes the intervals that the time knows, with their notices. The others move to the front.
     pub(crate) fn discard(&mut self, time: &Time)
-        ensures entries { self.new.entries ≡ filter (λ stored. not (is_covered time.now (interval_of stored))) self.old.entries }
-        ensures notices { self.new.notices ≡ filter (λ notice. not (knows time.now notice.1.node notice.1.index)) self.old.notices }
+        ensures entries { self.new.entries ≡ filter
+            (λ stored. not (is_covered time.now (interval_of stored))) self.old.entries }
+        ensures notices { self.new.notices ≡ filter
+            (λ notice. not (knows time.now notice.1.node notice.1.index)) self.old.notices }
     {
         self.intervals.retain(|interval| !interval.is_known(time));
         self.notices
@@ -175,7 +186,8 @@ impl Arena {
 // Adds the interval's notices, for which there is room, without changes.
 fn add_notices(notices: &mut Vec<Noted>, interval: &Interval)
     requires room { vec_len notices.old + length interval.now.pages ≤ vec_capacity notices.old }
-    ensures { notices.new.items ≡ notices.old.items ++ map (fresh_in interval.now) interval.now.pages }
+    ensures { notices.new.items ≡ notices.old.items
+        ++ map (fresh_in interval.now) interval.now.pages }
 {
     let weight = interval.stamp.weight();
     let node = interval.node;

@@ -9,14 +9,14 @@ use std::marker::Model;
 /// The largest number of entries of an arena.
 pub(crate) const MOST_ENTRIES: usize = 4_294_967_295;
 
-/// An entry's key, and the entry before it that has the same key.
+/// An entry's key, and the place of the entry before it with the same key.
 #[derive(Clone, Copy)]
 struct Entry {
     key: u16,
     next: Option<u32>,
 }
 
-/// For each key the list of the entries that have it, newest first. Entries are counted in the order of adding.
+/// For each key, the list of the entries that have it, newest first. Entries are counted in the order of adding.
 #[derive(Drop)]
 pub(crate) struct Chains {
     newest: Vec<Option<u32>>,
@@ -41,7 +41,7 @@ impl Model for Chains {
 }
 
 impl Chains {
-    /// No entries, for this many keys.
+    /// Returns an arena's lists without entries, for keys below `lists`. It fails if memory runs out.
     pub(crate) fn new(alloc: Global, lists: usize) -> Result<Self, AllocError>
         ensures lists { IfOk result (λ chains. chains.lists ≡ lists) }
         ensures keys { IfOk result (λ chains. chains.keys ≡ []) }
@@ -54,7 +54,7 @@ impl Chains {
         })
     }
 
-    /// How many entries there are.
+    /// Returns the number of entries.
     pub(crate) fn len(&self) -> usize
         ensures count { result ≡ length self.now.keys }
         ensures room { length self.now.keys ≤ self.now.room }
@@ -63,7 +63,8 @@ impl Chains {
         self.entries.len()
     }
 
-    /// Makes room for some more entries. An error, also where there would be too many, changes nothing.
+    /// Makes room for `more` entries. It fails if memory runs out, or if there would be more than `MOST_ENTRIES`
+    /// entries. Then nothing changes.
     pub(crate) fn reserve(&mut self, more: usize) -> Result<(), AllocError>
         ensures same { self.new ≡ record self.old { room = self.new.room } }
         ensures ok { OnOk result (length self.old.keys + more ≤ self.new.room) }
@@ -75,7 +76,7 @@ impl Chains {
         self.entries.reserve(more)
     }
 
-    /// Adds an entry, for which there is room.
+    /// Adds an entry with the given key. There is room for it.
     pub(crate) fn push(&mut self, key: u16)
         requires in_range { key < self.old.lists }
         requires room { length self.old.keys < self.old.room }
@@ -92,7 +93,7 @@ impl Chains {
         self.newest[usize::from(key)] = Some(at);
     }
 
-    /// Takes out all entries and keeps their room.
+    /// Removes all entries, but keeps their room.
     pub(crate) fn clear(&mut self)
         ensures { self.new ≡ record self.old { keys = [] } }
     {
@@ -100,7 +101,7 @@ impl Chains {
         self.newest.as_mut_slice().fill(None);
     }
 
-    /// The key of an entry.
+    /// Returns the key of an entry.
     pub(crate) fn key(&self, at: u32) -> u16
         requires { at < length self.now.keys }
         ensures { result ≡ slice_index self.now.keys at }
@@ -108,7 +109,7 @@ impl Chains {
         self.entries[at as usize].key
     }
 
-    /// The newest entry that has the key.
+    /// Returns the newest entry with the given key, or none if there is none.
     pub(crate) fn first(&self, key: u16) -> Option<u32>
         ensures { result ≡ last_at (λ other. other == key) self.now.keys }
     {
@@ -119,10 +120,11 @@ impl Chains {
         }
     }
 
-    /// The newest entry before this one that has the same key.
+    /// Returns the newest entry before the given one that has the same key, or none if there is none.
     pub(crate) fn next(&self, at: u32) -> Option<u32>
         requires { at < length self.now.keys }
-        ensures { result ≡ last_at (λ other. other == slice_index self.now.keys at) (take at self.now.keys) }
+        ensures { result ≡ last_at (λ other. other == slice_index self.now.keys at)
+            (take at self.now.keys) }
     {
         self.entries[at as usize].next
     }

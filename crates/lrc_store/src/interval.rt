@@ -8,9 +8,9 @@ use lrc_time::Time;
 use std::alloc::AllocError;
 use std::marker::Model;
 
-/// One interval of a node, as other nodes learn of it: the node (below the number of the stamp's entries), its time
-/// just after it closed the interval (its own entry is the interval's index, at least 1), and the pages that it wrote
-/// in it.
+/// One interval of a node, as other nodes learn of it. It has the node, which is below the number of the stamp's
+/// entries, and the pages that the node wrote in the interval. The stamp is the node's time just after it closed the
+/// interval: its own entry there is the interval's index, at least 1.
 #[derive(Drop)]
 pub struct Interval {
     pub node: u8,
@@ -59,7 +59,7 @@ impl Interval {
     ghost use Rattle.lrc_store.specs.Arena.{is_interval_at};
     ghost use Rattle.lrc_store.specs.Store.{is_covered};
 
-    /// The interval with this node, stamp and pages.
+    /// Returns the interval with the given node, stamp and pages.
     pub fn new(node: u8, stamp: Time, pages: Pages) -> Self
         requires counted { node < length stamp }
         requires begun { 1 ≤ entry stamp node }
@@ -70,7 +70,7 @@ impl Interval {
         Interval { node, stamp, pages }
     }
 
-    /// The interval's number among those of its node, from 1.
+    /// Returns the interval's index: its number among those of its node, from 1.
     pub fn index(&self) -> u32
         ensures index { result ≡ index_of self.now }
         ensures interval { IsInterval self.now }
@@ -78,28 +78,28 @@ impl Interval {
         self.stamp.at(self.node)
     }
 
-    /// The interval's node.
+    /// Returns the interval's node.
     pub(crate) fn node(&self) -> u8
         ensures { result ≡ self.now.node }
     {
         self.node
     }
 
-    /// Whether this is the interval of this node and index.
+    /// Returns whether this is the given node's interval with the given index.
     pub(crate) fn is_at(&self, node: u8, index: u32) -> bool
         ensures { result ≡ is_interval_at node index self.now }
     {
         self.node == node && self.index() == index
     }
 
-    /// Whether the interval is one of those that this time knows. A node that the time does not count has none.
+    /// Returns whether the time knows the interval. It knows no interval of a node that it has no entry for.
     pub(crate) fn is_known(&self, time: &Time) -> bool
         ensures { result ≡ is_covered time.now self.now }
     {
         self.node < time.nodes() && self.index() <= time.at(self.node)
     }
 
-    /// An equal interval of its own.
+    /// Returns a copy of the interval. It fails if memory runs out.
     pub fn duplicate(&self) -> Result<Interval, AllocError>
         ensures { IfOk result (λ interval. interval ≡ self.now) }
     {

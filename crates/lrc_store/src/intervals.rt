@@ -10,7 +10,7 @@ use crate::interval::Interval;
 use std::alloc::{AllocError, Global};
 use std::marker::Model;
 
-/// Intervals strictly ascending by node and index, so that none is there twice: as one node sends them to another.
+/// A list of intervals as one node sends it to another: strictly ascending by node, then index, so none occurs twice.
 #[derive(Drop)]
 pub struct Intervals {
     list: Vec<Interval>,
@@ -45,7 +45,7 @@ impl Eq for Intervals {
 }
 
 impl Intervals {
-    /// No intervals.
+    /// Returns an empty list of intervals.
     pub fn empty(alloc: Global) -> Self
         ensures { result ≡ [] }
     {
@@ -54,7 +54,7 @@ impl Intervals {
         }
     }
 
-    /// These intervals, which ascend by node and index.
+    /// Returns a list of the given intervals, which ascend strictly by node, then index.
     pub fn from_ascending(list: Vec<Interval>) -> Self
         requires { AllPairs (λ a b. IsTrue (by_node a b)) list.items }
         ensures { result ≡ list.items }
@@ -62,7 +62,8 @@ impl Intervals {
         Intervals { list }
     }
 
-    /// Adds an interval that comes after all others by node and index. An error leaves the intervals as they were.
+    /// Adds an interval that comes after all others by node, then index. It fails if memory runs out, and then nothing
+    /// changes.
     pub fn push(&mut self, interval: Interval) -> Result<(), AllocError>
         requires above { ForSome (last_interval self.old) (λ last. IsTrue (by_node last interval)) }
         ensures ok { OnOk result (self.new ≡ self.old ++ interval ∷ []) }
@@ -72,7 +73,7 @@ impl Intervals {
         Ok(())
     }
 
-    /// How many intervals there are.
+    /// Returns the number of intervals.
     pub fn len(&self) -> usize
         ensures count { result ≡ length self.now }
         ensures ascending { AllPairs (λ a b. IsTrue (by_node a b)) self.now }
@@ -80,14 +81,14 @@ impl Intervals {
         self.list.len()
     }
 
-    /// Whether there is no interval.
+    /// Returns whether there is no interval.
     pub fn is_empty(&self) -> bool
         ensures { IsTrue result ↔ (self.now ≡ []) }
     {
         self.list.is_empty()
     }
 
-    /// The interval at a place, counted from 0 in the order of nodes and indices.
+    /// Returns the interval at a place, counted from 0 in the order of nodes and indices.
     pub fn at(&self, place: usize) -> &Interval
         requires { place < length self.now }
         ensures { slice_get self.now place ≡ Some result.now }
@@ -95,7 +96,7 @@ impl Intervals {
         &self.list[place]
     }
 
-    /// The intervals in order.
+    /// Returns the intervals in order.
     pub fn as_slice(&self) -> &[Interval]
         ensures all { result.now ≡ self.now }
         ensures ascending { AllPairs (λ a b. IsTrue (by_node a b)) self.now }
@@ -103,7 +104,7 @@ impl Intervals {
         self.list.as_slice()
     }
 
-    /// The intervals in order, as a vector of their own.
+    /// Turns the list into a vector of the intervals, in order.
     pub fn into_vec(self) -> Vec<Interval>
         ensures all { result.items ≡ self }
         ensures ascending { AllPairs (λ a b. IsTrue (by_node a b)) self }
@@ -112,7 +113,7 @@ impl Intervals {
         list
     }
 
-    /// Equal intervals of their own.
+    /// Returns a copy of the list, with copies of its intervals. It fails if memory runs out.
     pub fn duplicate(&self) -> Result<Self, AllocError>
         ensures { IfOk result (λ intervals. intervals ≡ self.now) }
     {

@@ -3,7 +3,7 @@
 ghost use Rattle.std.specs.Prelude.{◌≡◌};
 ghost use Rattle.lrc_store.specs.Lists.{is_of_one};
 
-/// A write notice: in the interval of this index, this node wrote this page.
+/// The key of a write notice. The notice says that the node wrote the page in its interval with this index.
 #[derive(Clone, Copy, Debug, PartialEq, Eq, PartialOrd, Ord, Hash)]
 pub struct Key {
     pub node: u8,
@@ -12,7 +12,7 @@ pub struct Key {
 }
 
 impl Key {
-    /// Whether the other notice is of the same interval.
+    /// Returns whether the two notices are of the same interval.
     pub(crate) fn is_of_one_with(self, other: Key) -> bool
         ensures { result ≡ is_of_one self other }
     {

@@ -1,5 +1,6 @@
-//! What a node knows of the intervals of all nodes: write notices, and the changes that came with them (Keleher, Cox
-//! and Zwaenepoel 1992; Amza et al. 1996).
+//! The store of one node: every interval that the node has heard of, with its write notices and the changes (diffs)
+//! that have arrived for them (Keleher, Cox and Zwaenepoel 1992; Amza et al. 1996). It finds what another node lacks,
+//! and the changes that a page lacks, in the order in which they are applied. A collection discards old intervals.
 #![tactic(auto)]
 
 mod arena;

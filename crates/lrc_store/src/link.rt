@@ -2,8 +2,8 @@
 
 use std::marker::Model;
 
-/// An interval in a store, as a link: its place in the order of adding, of those that are there. A `discard` moves the
-/// intervals that stay to the front, so a link is used until then.
+/// A link to an interval in a store: its place among those there, in the order of adding. A link is valid until the
+/// next `discard`, which moves the remaining intervals to the front.
 #[derive(Clone, Copy)]
 pub struct IntervalAt {
     pub(crate) place: u32,
@@ -19,8 +19,8 @@ impl Model for IntervalAt {
     ghost inverse = { λ place. record { place = place } };
 }
 
-/// A write notice in a store, as a link: its place in the order of adding, of those that are there, the notices of one
-/// interval by page. A `discard` moves the notices that stay to the front, so a link is used until then.
+/// A link to a write notice in a store: its place among those there, in the order of adding, the notices of one
+/// interval by page. A link is valid until the next `discard`, which moves the remaining notices to the front.
 #[derive(Clone, Copy)]
 pub struct NoticeAt {
     pub(crate) place: u32,

@@ -17,8 +17,8 @@ use crate::nodes::Nodes;
 use lrc_time::Time;
 use std::alloc::{AllocError, Global};
 
-/// What links the intervals of an arena and their notices: each interval to the one before it of its node, each notice to
-/// the one before it of its page. Both are counted in the order of adding.
+/// The links between the intervals of an arena, and between their notices. Each interval is linked to the one before it
+/// of its node, and each notice to the one before it of its page. Both are counted in the order of adding.
 #[derive(Drop)]
 pub(crate) struct Links {
     /// The intervals by node.
@@ -28,7 +28,7 @@ pub(crate) struct Links {
 }
 
 impl Links {
-    /// No links, for this many nodes and pages.
+    /// Returns no links, for the given numbers of nodes and pages. It fails if memory runs out.
     pub(crate) fn new(alloc: Global, nodes: usize, pages: usize) -> Result<Self, AllocError>
         ensures node_lists { IfOk result (λ links. links.by_node.lists ≡ nodes) }
         ensures node_keys { IfOk result (λ links. links.by_node.keys ≡ []) }
@@ -42,7 +42,8 @@ impl Links {
         })
     }
 
-    /// Makes room for the links of an interval of a node with this many notices. An error changes no link.
+    /// Makes room for the links of one interval of the node, with `more` notices. It fails if memory runs out, or if
+    /// there would be more than `MOST_ENTRIES` intervals or notices. Then no link changes.
     pub(crate) fn make_room(&mut self, node: u16, more: usize) -> Result<(), AllocError>
         requires { node < self.old.by_node.lists }
         ensures node_keys { self.new.by_node.keys ≡ self.old.by_node.keys }
@@ -53,25 +54,28 @@ impl Links {
         ensures node_room { OnOk result (length self.old.by_node.keys < self.new.by_node.room) }
         ensures node_few { OnOk result (length self.old.by_node.keys < MOST_ENTRIES) }
         ensures node_row { OnOk result (HasRoom self.new.by_node.rows self.old.by_node.keys node) }
-        ensures page_room { OnOk result (length self.old.by_page.keys + more ≤ self.new.by_page.room) }
+        ensures page_room { OnOk result (length self.old.by_page.keys + more
+            ≤ self.new.by_page.room) }
         ensures page_few { OnOk result (length self.old.by_page.keys + more ≤ MOST_ENTRIES) }
     {
         self.by_node.reserve(node)?;
         self.by_page.reserve(more)
     }
 
-    /// Links an interval of a node, and its notices of these pages. There is room for both.
+    /// Links an interval of the node, and its notices of the given pages. There is room for both.
     pub(crate) fn push(&mut self, node: u16, pages: &[u16])
         requires node_in_range { node < self.old.by_node.lists }
         requires node_room { length self.old.by_node.keys < self.old.by_node.room }
         requires node_few { length self.old.by_node.keys < MOST_ENTRIES }
         requires node_row { HasRoom self.old.by_node.rows self.old.by_node.keys node }
         requires pages_in_range { All (λ page. page < self.old.by_page.lists) pages.now }
-        requires page_room { length self.old.by_page.keys + length pages.now ≤ self.old.by_page.room }
+        requires page_room { length self.old.by_page.keys + length pages.now
+            ≤ self.old.by_page.room }
         requires page_few { length self.old.by_page.keys + length pages.now ≤ MOST_ENTRIES }
         ensures node_keys { self.new.by_node.keys ≡ self.old.by_node.keys ++ node ∷ [] }
         ensures node_lists { self.new.by_node.lists ≡ self.old.by_node.lists }
-        ensures node_starts { self.new.by_node.starts ≡ self.old.by_node.starts ++ length self.old.by_page.keys ∷ [] }
+        ensures node_starts { self.new.by_node.starts ≡ self.old.by_node.starts
+            ++ length self.old.by_page.keys ∷ [] }
         ensures page_keys { self.new.by_page.keys ≡ self.old.by_page.keys ++ pages.now }
         ensures page_lists { self.new.by_page.lists ≡ self.old.by_page.lists }
     {
@@ -80,17 +84,22 @@ impl Links {
         add_pages(&mut self.by_page, pages);
     }
 
-    /// Links the intervals and the notices again, fewer than there were.
+    /// Links the intervals and notices of the arena anew. There are no more of them than before.
     pub(crate) fn renew(&mut self, arena: &Arena)
-        requires nodes_in_range { All (λ stored. stored.node < self.old.by_node.lists) arena.now.entries }
+        requires nodes_in_range { All (λ stored. stored.node < self.old.by_node.lists)
+            arena.now.entries }
         requires fewer_nodes { length arena.now.entries ≤ length self.old.by_node.keys }
-        requires fewer_of_each { (node : ℕ) → length (places_from node 0 (map (λ stored. stored.node) arena.now.entries))
+        requires fewer_of_each { (node : ℕ) → length (places_from node 0
+            (map (λ stored. stored.node) arena.now.entries))
             ≤ length (places_from node 0 self.old.by_node.keys) }
-        requires pages_in_range { All (λ notice. notice.1.page < self.old.by_page.lists) arena.now.notices }
+        requires pages_in_range { All (λ notice. notice.1.page < self.old.by_page.lists)
+            arena.now.notices }
         requires fewer_pages { length arena.now.notices ≤ length self.old.by_page.keys }
-        requires noted { length (flat_map keys_of (map interval_of arena.now.entries)) ≡ length arena.now.notices }
+        requires noted { length (flat_map keys_of (map interval_of arena.now.entries))
+            ≡ length arena.now.notices }
         ensures node_keys { self.new.by_node.keys ≡ map (λ stored. stored.node) arena.now.entries }
-        ensures node_starts { AreStarts self.new.by_node.starts (map interval_of arena.now.entries) }
+        ensures node_starts { AreStarts self.new.by_node.starts
+            (map interval_of arena.now.entries) }
         ensures node_lists { self.new.by_node.lists ≡ self.old.by_node.lists }
         ensures page_keys { self.new.by_page.keys ≡ map page_named arena.now.notices }
         ensures page_lists { self.new.by_page.lists ≡ self.old.by_page.lists }
@@ -99,7 +108,8 @@ impl Links {
         link_nodes(&mut self.by_node, arena);
     }
 
-    /// The notices of a page that the time does not know, oldest first, found along the page's list.
+    /// Returns the notices of a page that the time does not know, oldest first. It walks along the whole list of the
+    /// page. It fails if memory runs out.
     pub(crate) fn unknown_on(
         &self,
         arena: &Arena,
@@ -107,7 +117,8 @@ impl Links {
         since: &Time,
     ) -> Result<Vec<(u64, Key)>, AllocError>
         requires linked { self.now.by_page.keys ≡ map page_named arena.now.notices }
-        ensures { IfOk result (λ found. found.items ≡ filter (is_unknown_on page since.now) arena.now.notices) }
+        ensures { IfOk result (λ found. found.items
+            ≡ filter (is_unknown_on page since.now) arena.now.notices) }
     {
         // Mostly there is one of each node.
         let most = usize::from(since.nodes());
@@ -124,7 +135,8 @@ impl Links {
         Ok(found)
     }
 
-    /// The same where the time knows what was added first: the walk ends at the first notice that it knows.
+    /// Returns the same as `unknown_on`, if the time knows the first notices of the page in the order of adding. The
+    /// walk ends at the first notice that it knows. It fails if memory runs out.
     pub(crate) fn unknown_until_known(
         &self,
         arena: &Arena,
@@ -132,9 +144,12 @@ impl Links {
         since: &Time,
     ) -> Result<Vec<(u64, Key)>, AllocError>
         requires linked { self.now.by_page.keys ≡ map page_named arena.now.notices }
-        requires first { AllPairs (λ earlier later. page_named earlier ≡ page → page_named later ≡ page
-            → IsTrue (knows_notice since.now later.1) → IsTrue (knows_notice since.now earlier.1)) arena.now.notices }
-        ensures { IfOk result (λ found. found.items ≡ filter (is_unknown_on page since.now) arena.now.notices) }
+        requires first { AllPairs (λ earlier later. page_named earlier ≡ page
+            → page_named later ≡ page
+            → IsTrue (knows_notice since.now later.1)
+            → IsTrue (knows_notice since.now earlier.1)) arena.now.notices }
+        ensures { IfOk result (λ found. found.items
+            ≡ filter (is_unknown_on page since.now) arena.now.notices) }
     {
         // Mostly there is one of each node.
         let most = usize::from(since.nodes());
@@ -153,8 +168,8 @@ impl Links {
         Ok(found)
     }
 
-    /// Puts the intervals of a node that `upto` knows and `since` does not behind others, oldest first, found along the node's
-    /// list. The walk ends at the first that `since` knows.
+    /// Adds the node's intervals that `upto` knows and `since` does not to `found`, oldest first. The walk along the
+    /// node's list ends at the first interval that `since` knows. It fails if memory runs out.
     pub(crate) fn put_newer_of_node(
         &self,
         arena: &Arena,
@@ -163,10 +178,13 @@ impl Links {
         upto: &Time,
         found: &mut Vec<Interval>,
     ) -> Result<(), AllocError>
-        requires linked { self.now.by_node.keys ≡ map (λ interval. interval.node) (map interval_of arena.now.entries) }
-        requires ascending { AllPairs (λ a b. a.node ≡ b.node → index_of a < index_of b) (map interval_of arena.now.entries) }
+        requires linked { self.now.by_node.keys ≡ map (λ interval. interval.node)
+            (map interval_of arena.now.entries) }
+        requires ascending { AllPairs (λ a b. a.node ≡ b.node → index_of a < index_of b)
+            (map interval_of arena.now.entries) }
         ensures { OnOk result (found.new.items
-            ≡ found.old.items ++ filter (is_newer_of node since.now upto.now) (map interval_of arena.now.entries)) }
+            ≡ found.old.items ++ filter (is_newer_of node since.now upto.now)
+            (map interval_of arena.now.entries)) }
     {
         let before = found.len();
         let mut next = self.by_node.first(u16::from(node));
@@ -185,12 +203,15 @@ impl Links {
         Ok(())
     }
 
-    /// Where the interval of this key's node and index stands, counted back from the last of its node.
+    /// Returns the place of the interval with the key's node and index, or none if it is not there. It counts back from
+    /// the node's last interval.
     pub(crate) fn place_of(&self, arena: &Arena, last: &Time, key: Key) -> Option<u32>
-        requires linked { self.now.by_node.keys ≡ map (λ interval. interval.node) (map interval_of arena.now.entries) }
+        requires linked { self.now.by_node.keys ≡ map (λ interval. interval.node)
+            (map interval_of arena.now.entries) }
         requires nodes { self.now.by_node.lists ≡ length last.now }
         requires in_range { All (λ stored. stored.node < length last.now) arena.now.entries }
-        requires ascending { AllPairs (λ a b. a.node ≡ b.node → index_of a < index_of b) (map interval_of arena.now.entries) }
+        requires ascending { AllPairs (λ a b. a.node ≡ b.node → index_of a < index_of b)
+            (map interval_of arena.now.entries) }
         requires gapless { HasNoGaps last.now (map interval_of arena.now.entries) }
         ensures { result ≡ position (is_at key.node key.index) arena.now.entries }
     {
@@ -228,7 +249,8 @@ fn add_pages(by_page: &mut Chains, pages: &[u16])
 fn link_nodes(by_node: &mut Nodes, arena: &Arena)
     requires in_range { All (λ stored. stored.node < by_node.old.lists) arena.now.entries }
     requires fewer { length arena.now.entries ≤ length by_node.old.keys }
-    requires fewer_of_each { (node : ℕ) → length (places_from node 0 (map (λ stored. stored.node) arena.now.entries))
+    requires fewer_of_each { (node : ℕ) → length (places_from node 0
+        (map (λ stored. stored.node) arena.now.entries))
         ≤ length (places_from node 0 by_node.old.keys) }
     requires few { length (flat_map keys_of (map interval_of arena.now.entries)) ≤ MOST_ENTRIES }
     ensures keys { by_node.new.keys ≡ map (λ stored. stored.node) arena.now.entries }
@@ -263,7 +285,8 @@ fn link_pages(by_page: &mut Chains, arena: &Arena)
     }
 }
 
-/// Whether the time knows the interval of this node and index. Of a node that it does not count it knows none.
+/// Returns whether the time knows the node's interval with the given index. If the time has no entry for the node, it
+/// knows none, but index 0 counts as known.
 pub(crate) fn is_known(time: &Time, node: u8, index: u32) -> bool
     ensures { result ≡ knows time.now node index }
 {

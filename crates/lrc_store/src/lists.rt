@@ -13,7 +13,7 @@ use crate::store::Store;
 use lrc_page::Changes;
 
 impl Store {
-    /// The interval of a node that was added last.
+    /// Returns the newest interval of a node, or none if there is none.
     pub fn newest(&self, node: u8) -> Option<IntervalAt>
         ensures newest { result ≡ newest_of self.now node }
         ensures in_use { ForSome result (λ at. at < length (intervals_of self.now)) }
@@ -22,7 +22,7 @@ impl Store {
         Some(IntervalAt { place })
     }
 
-    /// The interval of the same node that was added before this one.
+    /// Returns the interval of the same node that was added before the given one, or none if there is none.
     pub fn before(&self, at: IntervalAt) -> Option<IntervalAt>
         requires { at < length (intervals_of self.now) }
         ensures before { result ≡ before_of self.now at }
@@ -32,12 +32,13 @@ impl Store {
         Some(IntervalAt { place })
     }
 
-    /// The first notice of an interval, in the order of pages.
+    /// Returns the first notice of an interval in the order of pages, or none if it wrote no page.
     pub fn first_notice(&self, at: IntervalAt) -> Option<NoticeAt>
         requires { at < length (intervals_of self.now) }
         ensures first { result ≡ first_notice_of self.now at }
         ensures in_use { ForSome result (λ notice. notice < length (notices_of self.now)) }
-        ensures ascending { ForSome (slice_get (intervals_of self.now) at) (λ interval. IsRising interval.pages) }
+        ensures ascending { ForSome (slice_get (intervals_of self.now) at)
+            (λ interval. IsRising interval.pages) }
     {
         if self.arena.interval(at.place as usize).pages.is_empty() {
             return None;
@@ -46,7 +47,7 @@ impl Store {
         Some(NoticeAt { place })
     }
 
-    /// The notice of the same interval that comes after this one, in the order of pages.
+    /// Returns the next notice of the same interval in the order of pages, or none after the last.
     pub fn next_in_interval(&self, at: NoticeAt) -> Option<NoticeAt>
         requires { at < length (notices_of self.now) }
         ensures next { result ≡ next_in_interval_of self.now at }
@@ -66,7 +67,7 @@ impl Store {
         }
     }
 
-    /// The notice of a page that was added last.
+    /// Returns the newest notice of a page, or none if there is none.
     pub fn first_on_page(&self, page: u16) -> Option<NoticeAt>
         ensures first { result ≡ first_on_page_of self.now page }
         ensures in_use { ForSome result (λ at. at < length (notices_of self.now)) }
@@ -75,7 +76,7 @@ impl Store {
         Some(NoticeAt { place })
     }
 
-    /// The notice of the same page that was added before this one.
+    /// Returns the notice of the same page that was added before the given one, or none if there is none.
     pub fn next_on_page(&self, at: NoticeAt) -> Option<NoticeAt>
         requires { at < length (notices_of self.now) }
         ensures next { result ≡ next_on_page_of self.now at }
@@ -85,7 +86,7 @@ impl Store {
         Some(NoticeAt { place })
     }
 
-    /// The node and the index of an interval, or nothing where the link is not in use.
+    /// Returns the node and the index of an interval, or none if there is nothing at the link's place.
     pub fn interval(&self, at: IntervalAt) -> Option<(u8, u32)>
         ensures { result ≡ interval_at self.now at }
     {
@@ -98,7 +99,7 @@ impl Store {
         }
     }
 
-    /// The key of a notice, or nothing where the link is not in use.
+    /// Returns the key of a notice, or none if there is nothing at the link's place.
     pub fn key(&self, at: NoticeAt) -> Option<Key>
         ensures { result ≡ key_at self.now at }
     {
@@ -110,9 +111,10 @@ impl Store {
         }
     }
 
-    /// The changes of a notice, if they are known. Nothing where the link is not in use.
+    /// Returns the changes of a notice, or none if they are not known or there is nothing at the link's place.
     pub fn changes_at(&self, at: NoticeAt) -> Option<&Changes>
-        ensures { option_copied result ≡ option_and_then (changes_at self.now) (key_at self.now at) }
+        ensures { option_copied result ≡ option_and_then (changes_at self.now)
+            (key_at self.now at) }
     {
         let key = self.key(at)?;
         self.changes(key)

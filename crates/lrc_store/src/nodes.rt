@@ -11,8 +11,8 @@ use crate::row::NodePlaces;
 use std::alloc::{AllocError, Global};
 use std::marker::Model;
 
-/// For each node the list of its intervals, newest first, and the same as a row of places, where an interval is found by
-/// its index. For each interval the place of its first notice.
+/// For each node, the list of its intervals, newest first, and a row of their places in which an interval is found by
+/// its index. For each interval, the place of its first notice.
 #[derive(Drop)]
 pub(crate) struct Nodes {
     chains: Chains,
@@ -40,7 +40,7 @@ impl Model for Nodes {
 }
 
 impl Nodes {
-    /// No intervals, for this many nodes.
+    /// Returns lists without intervals, for the given number of nodes. It fails if memory runs out.
     pub(crate) fn new(alloc: Global, nodes: usize) -> Result<Self, AllocError>
         ensures lists { IfOk result (λ by_node. by_node.lists ≡ nodes) }
         ensures keys { IfOk result (λ by_node. by_node.keys ≡ []) }
@@ -54,7 +54,7 @@ impl Nodes {
         })
     }
 
-    /// How many intervals there are.
+    /// Returns the number of intervals.
     pub(crate) fn len(&self) -> usize
         ensures count { result ≡ length self.now.keys }
         ensures room { length self.now.keys ≤ self.now.room }
@@ -65,7 +65,8 @@ impl Nodes {
         self.chains.len()
     }
 
-    /// Makes room for one more interval of a node. An error, also where there would be too many, changes nothing.
+    /// Makes room for one more interval of the node. It fails if memory runs out, or if there would be more than
+    /// `MOST_ENTRIES` intervals. Then no interval changes.
     pub(crate) fn reserve(&mut self, node: u16) -> Result<(), AllocError>
         requires { node < self.old.lists }
         ensures lists { self.new.lists ≡ self.old.lists }
@@ -80,7 +81,7 @@ impl Nodes {
         self.rows[usize::from(node)].reserve()
     }
 
-    /// Adds an interval, for which there is room, of a node. Its notices begin at this place.
+    /// Adds an interval of the node, whose notices begin at `start`. There is room for it.
     pub(crate) fn push(&mut self, node: u16, start: u32)
         requires in_range { node < self.old.lists }
         requires room { length self.old.keys < self.old.room }
@@ -90,7 +91,8 @@ impl Nodes {
         ensures keys { self.new.keys ≡ self.old.keys ++ node ∷ [] }
         ensures starts { self.new.starts ≡ self.old.starts ++ start ∷ [] }
         ensures room { self.old.room ≤ self.new.room }
-        ensures rows { (keys : List ℕ) → HaveRoom self.old.lists self.old.rows keys → HaveRoom self.old.lists self.new.rows keys }
+        ensures rows { (keys : List ℕ) → HaveRoom self.old.lists self.old.rows keys
+            → HaveRoom self.old.lists self.new.rows keys }
     {
         let at = self.chains.len() as u32;
         self.chains.push(node);
@@ -100,7 +102,7 @@ impl Nodes {
         self.rows[usize::from(node)].push(at);
     }
 
-    /// Takes out all intervals and keeps their room.
+    /// Removes all intervals, but keeps their room.
     pub(crate) fn clear(&mut self)
         ensures lists { self.new.lists ≡ self.old.lists }
         ensures keys { self.new.keys ≡ [] }
@@ -113,7 +115,7 @@ impl Nodes {
         clear_rows(&mut self.rows);
     }
 
-    /// The interval of a node behind which so many of that node were added.
+    /// Returns the interval of the node after which `back` more of that node were added, or none if there is none.
     pub(crate) fn from_newest(&self, node: u16, back: u32) -> Option<u32>
         requires { node < self.now.lists }
         ensures { result ≡ slice_get (list_of self.now.keys node) back }
@@ -121,22 +123,23 @@ impl Nodes {
         self.rows[usize::from(node)].from_last(back)
     }
 
-    /// The newest interval of a node.
+    /// Returns the newest interval of a node, or none if there is none.
     pub(crate) fn first(&self, node: u16) -> Option<u32>
         ensures { result ≡ last_at (λ other. other == node) self.now.keys }
     {
         self.chains.first(node)
     }
 
-    /// The newest interval before this one that is of the same node.
+    /// Returns the newest interval of the same node before the given one, or none if there is none.
     pub(crate) fn next(&self, at: u32) -> Option<u32>
         requires { at < length self.now.keys }
-        ensures { result ≡ last_at (λ other. other == slice_index self.now.keys at) (take at self.now.keys) }
+        ensures { result ≡ last_at (λ other. other == slice_index self.now.keys at)
+            (take at self.now.keys) }
     {
         self.chains.next(at)
     }
 
-    /// Where an interval's notices begin.
+    /// Returns the place at which the interval's notices begin.
     pub(crate) fn start(&self, at: u32) -> u32
         requires { at < length self.now.keys }
         ensures { result ≡ slice_index self.now.starts at }

@@ -21,7 +21,7 @@ impl Model for NodePlaces {
 }
 
 impl NodePlaces {
-    /// No places.
+    /// Returns an empty row.
     pub(crate) fn new(alloc: Global) -> Self
         ensures { result.places ≡ [] }
     {
@@ -30,7 +30,7 @@ impl NodePlaces {
         }
     }
 
-    /// Makes room for one more place. An error changes no place.
+    /// Makes room for one more place. It fails if memory runs out, and then no place changes.
     pub(crate) fn reserve(&mut self) -> Result<(), AllocError>
         ensures places { self.new.places ≡ self.old.places }
         ensures ok { OnOk result (length self.old.places < self.new.room) }
@@ -38,7 +38,7 @@ impl NodePlaces {
         self.places.reserve(1)
     }
 
-    /// Adds a place, for which there is room.
+    /// Adds a place. There is room for it.
     pub(crate) fn push(&mut self, place: u32)
         requires { length self.old.places < self.old.room }
         ensures places { self.new.places ≡ self.old.places ++ place ∷ [] }
@@ -49,7 +49,7 @@ impl NodePlaces {
         };
     }
 
-    /// Takes out all places and keeps their room.
+    /// Removes all places, but keeps their room.
     pub(crate) fn clear(&mut self)
         ensures places { self.new.places ≡ [] }
         ensures room { self.old.room ≤ self.new.room }
@@ -60,7 +60,7 @@ impl NodePlaces {
         self.places.clear();
     }
 
-    /// The place behind which there are this many.
+    /// Returns the place that `back` more places follow, or none if there is none.
     pub(crate) fn from_last(&self, back: u32) -> Option<u32>
         ensures { result ≡ slice_get (reverse self.now.places) back }
     {

@@ -16,13 +16,14 @@ use lrc_time::Time;
 use std::alloc::{AllocError, Global};
 use std::marker::Model;
 
-/// The intervals that a node knows, each with its write notices, and the changes that came for some of these.
+/// The intervals that a node knows, each with its write notices, and the changes that have arrived for some of the
+/// notices.
 ///
-/// Intervals and notices stand in the order of adding, the changes in their notice. Each interval is linked to the one
-/// before it of its node, each notice to the one before it of its page. What is newer or missing is found along these
-/// lists. An interval is found by its node and its index at once, since no index is left out between a node's oldest
-/// interval and its newest; its notice of a page by halving. `add` and `attach` cost what they add, and `discard` costs
-/// what there is.
+/// Intervals and notices are kept in the order of adding, and the changes in their notice. Each interval is linked to
+/// the one before it of its node, and each notice to the one before it of its page. What is newer or missing is found
+/// along these lists. An interval is found at once by its node and index, because no index is left out between a node's
+/// oldest interval and its newest. Its notice of a page is found by halving. `add` and `attach` cost what they add, and
+/// `discard` costs as much as the whole store.
 #[derive(Drop)]
 pub struct Store {
     pages: u16,
@@ -50,7 +51,8 @@ impl Store {
     ghost use Rattle.lrc_store.specs.Store.{IsMissing, IsNewer, missing_of, newer_of};
     ghost use Rattle.lrc_store.specs.Lists.{KnowsTheFirst};
 
-    /// A store that knows no interval, for this many nodes, 1 to 16, and pages, at most `MOST_PAGES`.
+    /// Returns a store that knows no interval, for 1 to 16 nodes and at most `MOST_PAGES` pages. It fails if memory
+    /// runs out.
     pub fn new(alloc: Global, nodes: u8, pages: u16) -> Result<Self, AllocError>
         requires some { 1 ≤ nodes }
         requires few { nodes ≤ 16 }
@@ -65,8 +67,8 @@ impl Store {
         })
     }
 
-    /// Adds the interval that follows the last one added of its node. An error leaves the store as it was; it also comes
-    /// where there would be more than 4,294,967,295 intervals or notices.
+    /// Adds the interval that follows the last one added of its node. It fails if memory runs out, or if there would be
+    /// more than 4,294,967,295 intervals or notices. Then nothing changes.
     pub fn add(&mut self, interval: &Interval) -> Result<(), AllocError>
         requires stamp { length interval.now.stamp ≡ length self.old.last }
         requires pages { All (λ page. page < self.old.pages) interval.now.pages }
@@ -83,7 +85,7 @@ impl Store {
         Ok(())
     }
 
-    /// The greatest index ever added of this node, 0 before any.
+    /// Returns the greatest index ever added of the node, or 0 if there was none. A `discard` does not lower it.
     pub fn last(&self, node: u8) -> u32
         requires { node < length self.now.last }
         ensures index { result ≡ entry self.now.last node }
@@ -92,21 +94,21 @@ impl Store {
         self.last.at(node)
     }
 
-    /// How many intervals there are.
+    /// Returns the number of intervals.
     pub fn len(&self) -> usize
         ensures { result ≡ length self.now.entries }
     {
         self.arena.len()
     }
 
-    /// Whether there is no interval.
+    /// Returns whether there is no interval.
     pub fn is_empty(&self) -> bool
         ensures { IsTrue result ↔ (self.now.entries ≡ []) }
     {
         self.arena.len() == 0
     }
 
-    /// The changes of a key, if they are known.
+    /// Returns the changes of the notice with the given key, or none if they are not known.
     pub fn changes(&self, key: Key) -> Option<&Changes>
         ensures { option_copied result ≡ changes_at self.now key }
     {
@@ -115,7 +117,7 @@ impl Store {
         self.arena.changes(place as usize, start, key.page)
     }
 
-    /// Whether the interval of a key's node and index is in the store and names the key's page.
+    /// Returns whether the store has the notice with the given key: the interval is there and names the page.
     pub fn has_notice(&self, key: Key) -> bool
         ensures { result ≡ is_some (notice_at self.now key) }
     {
@@ -126,7 +128,7 @@ impl Store {
         }
     }
 
-    /// Keeps the changes of a key that is in the store and has none yet.
+    /// Keeps the changes of the notice with the given key. The store has the notice, still without changes.
     pub fn attach(&mut self, key: Key, changes: Changes)
         requires { notice_at self.old key ≡ Some (record { page = key.page; changes = None }) }
         ensures { self.new ≡ attached self.old key changes }
@@ -137,8 +139,8 @@ impl Store {
         }
     }
 
-    /// Takes out the intervals that this time knows, with their notices. The others move to the front and are linked
-    /// again, so links from before are no longer used. The greatest index added of each node stays known.
+    /// Removes the intervals that the time knows, with their notices. The others move to the front and are linked anew,
+    /// so earlier links are no longer valid. The greatest index added of each node is kept.
     pub fn discard(&mut self, time: &Time)
         requires { length time.now ≡ length self.old.last }
         ensures { self.new ≡ discarded self.old time.now }
@@ -153,7 +155,8 @@ impl Store {
         self.arena.len().min(counted as usize)
     }
 
-    /// The intervals that `upto` knows and `since` does not, ascending by node and index.
+    /// Returns the intervals that `upto` knows and `since` does not, ascending by node, then index. It fails if memory
+    /// runs out.
     pub fn newer_than(&self, since: &Time, upto: &Time) -> Result<Intervals, AllocError>
         requires since { length since.now ≡ length self.now.last }
         requires upto { length upto.now ≡ length self.now.last }
@@ -169,8 +172,8 @@ impl Store {
         Ok(Intervals::from_ascending(found))
     }
 
-    /// The notices of a page that `since` does not know, ascending by the weight of their interval's stamp, then by
-    /// node and index: the order in which their changes are to be applied.
+    /// Returns the notices of a page that `since` does not know, in the order in which their changes are applied:
+    /// ascending by the weight of the interval's stamp, then by node, then by index. It fails if memory runs out.
     pub fn missing(&self, page: u16, since: &Time) -> Result<Vec<Key>, AllocError>
         requires { length since.now ≡ length self.now.last }
         ensures missing { IfOk result (λ found. IsMissing self.now page since.now found.items) }
@@ -180,8 +183,9 @@ impl Store {
         keys_in_order(self.arena.allocator(), found)
     }
 
-    /// The same as `missing`, where `since` knows the first notices of the page in the order of adding. The walk along the
-    /// page's list ends at the newest notice that it knows. So it costs what is missing, however long the list is.
+    /// Returns the same as `missing`, if `since` knows the first notices of the page in the order of adding. The walk
+    /// along the page's list ends at the newest notice that `since` knows. So the cost is that of what is missing,
+    /// however long the list is. It fails if memory runs out.
     pub fn missing_until_known(&self, page: u16, since: &Time) -> Result<Vec<Key>, AllocError>
         requires since { length since.now ≡ length self.now.last }
         requires first { KnowsTheFirst self.now page since.now }

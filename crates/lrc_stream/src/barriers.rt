@@ -6,16 +6,16 @@ use crate::clocks::Clocks;
 use crate::vectors::join;
 use std::alloc::{AllocError, Global};
 
-/// A barrier. What it keeps grows with its threads, and not with its cycles.
+/// One barrier. Its memory grows with its threads, and not with its cycles.
 #[derive(Drop)]
 pub struct Barrier {
     /// The number of the open cycle.
     pub current: usize,
     /// What the arrives of the open cycle know.
     pub arrived: Vec<u64>,
-    /// Of each thread the cycle of its last arrive.
+    /// For each thread, the cycle of its last arrive.
     pub of: Vec<Option<usize>>,
-    /// Of each thread what the arrives of that cycle know, where it is closed.
+    /// For each thread, what the arrives of that cycle know, if the cycle is closed.
     pub closed: Clocks,
 }
 
@@ -46,7 +46,8 @@ fn keep(
     current: usize,
     known: &[u64],
 ) -> Result<(), AllocError>
-    ensures { OnOk result (IsKeptBelow (length of.now) closed.old closed.new of.now current known.now) }
+    ensures { OnOk result (IsKeptBelow
+        (length of.now) closed.old closed.new of.now current known.now) }
 {
     for (thread, cycle) in of.iter().enumerate() {
         if is_of(*cycle, current) {
@@ -57,7 +58,7 @@ fn keep(
 }
 
 impl Barrier {
-    /// Before any event.
+    /// Returns a barrier before any event.
     pub fn new(alloc: Global) -> Barrier
         ensures { SameBarrier (Option.Some result) Option.None }
     {
@@ -69,7 +70,7 @@ impl Barrier {
         }
     }
 
-    /// What a depart of the thread comes to know.
+    /// Returns what a depart of the thread learns.
     pub fn known(&self, thread: usize) -> &[u64]
         ensures { result.now ≡ known_of (Option.Some self.now) thread }
     {
@@ -85,9 +86,10 @@ impl Barrier {
         }
     }
 
-    /// A thread that knows so much arrives.
+    /// Records that a thread with this knowledge arrives. It fails if memory runs out.
     pub fn arrive(&mut self, thread: usize, known: &[u64]) -> Result<(), AllocError>
-        ensures { OnOk result (IsArrived (Option.Some self.old) (Option.Some self.new) thread known.now) }
+        ensures { OnOk result (IsArrived (Option.Some self.old)
+            (Option.Some self.new) thread known.now) }
     {
         join(&mut self.arrived, known)?;
         set_cycle(&mut self.of, thread, self.current)?;
@@ -96,7 +98,8 @@ impl Barrier {
 
     // Closes the open cycle, and opens the next.
     fn close(&mut self) -> Result<(), AllocError>
-        ensures { OnOk result (self.old.current + 1 < 2 ^ 64 → IsClosed (Option.Some self.old) (Option.Some self.new)) }
+        ensures { OnOk result (self.old.current + 1 < 2 ^ 64
+            → IsClosed (Option.Some self.old) (Option.Some self.new)) }
     {
         keep(
             &mut self.closed,
@@ -109,9 +112,11 @@ impl Barrier {
         Ok(())
     }
 
-    /// A thread departs.
+    /// Records that a thread departs. If its cycle is the open one, this closes the cycle and opens the next. It fails
+    /// if memory runs out.
     pub fn depart(&mut self, thread: usize) -> Result<(), AllocError>
-        ensures { OnOk result (self.old.current + 1 < 2 ^ 64 → IsDeparted (Option.Some self.old) (Option.Some self.new) thread) }
+        ensures { OnOk result (self.old.current + 1 < 2 ^ 64
+            → IsDeparted (Option.Some self.old) (Option.Some self.new) thread) }
     {
         let cycle = match self.of.get(thread) {
             Some(cycle) => *cycle,
@@ -131,7 +136,7 @@ pub struct Barriers {
 }
 
 impl Barriers {
-    /// Before any event.
+    /// Returns the barriers before any event.
     pub fn new(alloc: Global) -> Barriers
         ensures { result.barriers.items ≡ [] }
     {
@@ -140,7 +145,7 @@ impl Barriers {
         }
     }
 
-    /// What a depart of the thread at the barrier comes to know.
+    /// Returns what a depart of the thread at the barrier learns.
     pub fn known(&self, barrier: usize, thread: usize) -> &[u64]
         ensures { result.now ≡ known_of (slice_get self.now.barriers.items barrier) thread }
     {
@@ -153,7 +158,8 @@ impl Barriers {
     // Makes the barrier, where it is not yet kept.
     fn reach(&mut self, barrier: usize) -> Result<(), AllocError>
         ensures { OnOk result ((barrier < vec_len self.new.barriers)
-            × ((other : ℕ) → SameBarrier (slice_get self.new.barriers.items other) (slice_get self.old.barriers.items other))) }
+            × ((other : ℕ) → SameBarrier (slice_get self.new.barriers.items other)
+            (slice_get self.old.barriers.items other))) }
     {
         let alloc = *self.barriers.allocator();
         while self.barriers.len() <= barrier {
@@ -162,21 +168,25 @@ impl Barriers {
         Ok(())
     }
 
-    /// A thread that knows so much arrives at the barrier.
+    /// Records that a thread with this knowledge arrives at the barrier. It fails if memory runs out.
     pub fn arrive(&mut self, barrier: usize, thread: usize, known: &[u64]) -> Result<(), AllocError>
-        ensures here { OnOk result (IsArrived (slice_get self.old.barriers.items barrier) (slice_get self.new.barriers.items barrier) thread known.now) }
+        ensures here { OnOk result (IsArrived (slice_get self.old.barriers.items barrier)
+            (slice_get self.new.barriers.items barrier) thread known.now) }
         ensures others { OnOk result ((other : ℕ) → other ≢ barrier
-            → SameBarrier (slice_get self.new.barriers.items other) (slice_get self.old.barriers.items other)) }
+            → SameBarrier (slice_get self.new.barriers.items other)
+            (slice_get self.old.barriers.items other)) }
     {
         self.reach(barrier)?;
         self.barriers[barrier].arrive(thread, known)?;
         Ok(())
     }
 
-    /// A thread departs from the barrier.
+    /// Records that a thread departs from the barrier. It fails if memory runs out.
     pub fn depart(&mut self, barrier: usize, thread: usize) -> Result<(), AllocError>
-        ensures here { OnOk result (current_of (slice_get self.old.barriers.items barrier) + 1 < 2 ^ 64
-            → IsDeparted (slice_get self.old.barriers.items barrier) (slice_get self.new.barriers.items barrier) thread) }
+        ensures here { OnOk result (current_of (slice_get self.old.barriers.items barrier) + 1
+            < 2 ^ 64
+            → IsDeparted (slice_get self.old.barriers.items barrier)
+            (slice_get self.new.barriers.items barrier) thread) }
         ensures others { OnOk result ((other : ℕ) → other ≢ barrier
             → slice_get self.new.barriers.items other ≡ slice_get self.old.barriers.items other) }
     {

@@ -5,15 +5,15 @@ ghost use Rattle.lrc_stream.specs.Clocks.{row, IsGained, IsReplaced, IsMarked};
 use crate::vectors::{join, put};
 use std::alloc::{AllocError, Global};
 
-/// A row of numbers for each index: for each thread, one more than the last of its positions that is known there, or 0
-/// where none is. What is not kept is 0.
+/// A row of numbers for each index: for each thread, the last of its positions that is known there plus one, or 0 if
+/// none is. Numbers that are not stored are 0.
 #[derive(Drop)]
 pub struct Clocks {
     rows: Vec<Vec<u64>>,
 }
 
 impl Clocks {
-    /// Nothing is known.
+    /// Returns the clocks that know nothing.
     pub fn new(alloc: Global) -> Clocks
         ensures { result.rows.items ≡ [] }
     {
@@ -22,7 +22,7 @@ impl Clocks {
         }
     }
 
-    /// What is known at this index.
+    /// Returns what is known at this index.
     pub fn row(&self, index: usize) -> &[u64]
         ensures { result.now ≡ row self.now index }
     {
@@ -34,7 +34,8 @@ impl Clocks {
 
     // Makes a row for this index, where there is none.
     fn reach(&mut self, index: usize) -> Result<(), AllocError>
-        ensures { OnOk result ((index < vec_len self.new.rows) × ((other : ℕ) → row self.new other ≡ row self.old other)) }
+        ensures { OnOk result ((index < vec_len self.new.rows)
+            × ((other : ℕ) → row self.new other ≡ row self.old other)) }
     {
         let alloc = *self.rows.allocator();
         while self.rows.len() <= index {
@@ -43,7 +44,7 @@ impl Clocks {
         Ok(())
     }
 
-    /// Adds to what is known at this index.
+    /// Adds to what is known at this index: each entry becomes the greater of the two. It fails if memory runs out.
     pub fn gain(&mut self, index: usize, known: &[u64]) -> Result<(), AllocError>
         ensures { OnOk result (IsGained self.old self.new index known.now) }
     {
@@ -52,7 +53,7 @@ impl Clocks {
         Ok(())
     }
 
-    /// Sets what is known at this index.
+    /// Sets what is known at this index. It fails if memory runs out.
     pub fn set(&mut self, index: usize, known: &[u64]) -> Result<(), AllocError>
         ensures { OnOk result (IsReplaced self.old self.new index known.now) }
     {
@@ -63,7 +64,7 @@ impl Clocks {
         Ok(())
     }
 
-    /// Adds what is known at one index to what is known at another.
+    /// Adds what is known at one index to what is known at another. It fails if memory runs out.
     pub fn hand(&mut self, from: usize, to: usize) -> Result<(), AllocError>
         ensures { OnOk result (IsGained self.old self.new to (row self.old from)) }
     {
@@ -73,7 +74,7 @@ impl Clocks {
         Ok(())
     }
 
-    /// Sets what a thread knows of itself.
+    /// Sets what a thread knows of itself. It fails if memory runs out.
     pub fn mark(&mut self, thread: u32, value: u64) -> Result<(), AllocError>
         ensures { OnOk result (IsMarked self.old self.new thread value) }
     {

@@ -14,16 +14,16 @@ use crate::variables::{Variables, tell};
 use lrc_std::event::{Event, Operation, Pair, Placed};
 use std::alloc::{AllocError, Global};
 
-/// What is kept of the events so far.
+/// The race detector: what it stores of the events so far.
 #[derive(Drop)]
 pub struct Detector {
-    /// How many they are.
+    /// The number of events so far.
     pub position: u64,
     /// What each thread knows.
     pub threads: Clocks,
-    /// What those knew that released or posted a lock.
+    /// For each lock, what the threads knew that released or posted it.
     pub locks: Clocks,
-    /// What those knew that arrived at a barrier.
+    /// What the threads knew that arrived at each barrier.
     pub barriers: Barriers,
     /// The last accesses of each variable.
     pub variables: Variables,
@@ -36,7 +36,8 @@ fn receive(
     barriers: &Barriers,
     event: Event,
 ) -> Result<(), AllocError>
-    ensures { OnOk result (IsGained threads.old threads.new event.thread (handed threads.old locks.now barriers.now event.thread event.operation)) }
+    ensures { OnOk result (IsGained threads.old threads.new event.thread
+        (handed threads.old locks.now barriers.now event.thread event.operation)) }
 {
     let thread = event.thread as usize;
     match event.operation {
@@ -58,7 +59,8 @@ fn receive(
 
 // A thread that is forked comes to know what the thread knows that forks it.
 fn give_thread(threads: &mut Clocks, event: Event) -> Result<(), AllocError>
-    ensures { OnOk result ((events : List Event) (n : ℕ) → At events n event → IsReached events n event.thread threads.old
+    ensures { OnOk result ((events : List Event) (n : ℕ) → At events n event
+        → IsReached events n event.thread threads.old
         → AreThreads events (n + 1) threads.new) }
 {
     match event.operation {
@@ -72,7 +74,8 @@ fn give_thread(threads: &mut Clocks, event: Event) -> Result<(), AllocError>
 
 // A lock that is released or posted keeps what the thread knows.
 fn give_lock(locks: &mut Clocks, known: &[u64], event: Event) -> Result<(), AllocError>
-    ensures { OnOk result ((events : List Event) (n : ℕ) → At events n event → Gathers events (λ k. k ≡ n) known.now
+    ensures { OnOk result ((events : List Event) (n : ℕ) → At events n event
+        → Gathers events (λ k. k ≡ n) known.now
         → AreLocks events n locks.old → AreLocks events (n + 1) locks.new) }
 {
     match event.operation {
@@ -86,7 +89,8 @@ fn give_lock(locks: &mut Clocks, known: &[u64], event: Event) -> Result<(), Allo
 
 // A barrier at which the thread arrives keeps what it knows; where it departs, a cycle may be closed.
 fn give_barrier(barriers: &mut Barriers, known: &[u64], event: Event) -> Result<(), AllocError>
-    ensures { OnOk result ((events : List Event) (n : ℕ) → n + 1 < 2 ^ 64 → At events n event → Gathers events (λ k. k ≡ n) known.now
+    ensures { OnOk result ((events : List Event) (n : ℕ) → n + 1 < 2 ^ 64 → At events n event
+        → Gathers events (λ k. k ≡ n) known.now
         → AreBarriers events n barriers.old → AreBarriers events (n + 1) barriers.new) }
 {
     let thread = event.thread as usize;
@@ -113,7 +117,8 @@ fn access(
     told: &mut Vec<Pair>,
 ) -> Result<(), AllocError>
     ensures told { OnOk result (told.new.items ≡ told.old.items
-        ++ told_below (lasts_of variables.old variable) known.now placed is_write (length (lasts_of variables.old variable))) }
+        ++ told_below (lasts_of variables.old variable) known.now placed is_write
+        (length (lasts_of variables.old variable))) }
     ensures noted { OnOk result (IsNoted variables.old variables.new variable placed is_write) }
 {
     tell(variables.lasts(variable), known, placed, is_write, told)?;
@@ -129,9 +134,11 @@ fn judge(
     told: &mut Vec<Pair>,
 ) -> Result<(), AllocError>
     ensures { OnOk result ((events : List Event) → At events placed.position placed.event
-        → Gathers events (λ k. k ≡ placed.position) known.now → AreVariables events placed.position variables.old
+        → Gathers events (λ k. k ≡ placed.position) known.now
+        → AreVariables events placed.position variables.old
         → told.old.items ≡ []
-        → AreVariables events (placed.position + 1) variables.new × AreToldAt events placed.position told.new.items) }
+        → AreVariables events (placed.position + 1) variables.new
+        × AreToldAt events placed.position told.new.items) }
 {
     match placed.event.operation {
         Operation::Read(variable) => {
@@ -147,7 +154,7 @@ fn judge(
 }
 
 impl Detector {
-    /// Before any event.
+    /// Returns a detector before any event.
     pub fn new(alloc: Global) -> Detector
         ensures { (events : List Event) → HasTaken events 0 result }
     {
@@ -163,7 +170,8 @@ impl Detector {
     // The thread of the event comes to know of it.
     fn reach(&mut self, event: Event) -> Result<(), AllocError>
         requires { self.old.position + 1 < 2 ^ 64 }
-        ensures reached { OnOk result ((events : List Event) (n : ℕ) → At events n event → HasTaken events n self.old
+        ensures reached { OnOk result ((events : List Event) (n : ℕ) → At events n event
+            → HasTaken events n self.old
             → IsReached events n event.thread self.new.threads) }
         ensures position { self.new.position ≡ self.old.position }
         ensures locks { self.new.locks ≡ self.old.locks }
@@ -175,11 +183,13 @@ impl Detector {
         Ok(())
     }
 
-    /// Takes the next event of a trace, and answers in `told` exactly the pairs that are told of it, in their order. An
-    /// error leaves nothing that is of use.
+    /// Takes the next event of a trace, and sets `told` to exactly the pairs that are reported of it, in order. A
+    /// detector takes fewer than 2^64 events. It fails if memory runs out, and then the detector and `told` are of no
+    /// use.
     pub fn take(&mut self, event: Event, told: &mut Vec<Pair>) -> Result<(), AllocError>
         requires { self.old.position + 1 < 2 ^ 64 }
-        ensures { OnOk result ((events : List Event) (n : ℕ) → At events n event → HasTaken events n self.old
+        ensures { OnOk result ((events : List Event) (n : ℕ) → At events n event
+            → HasTaken events n self.old
             → HasTaken events (n + 1) self.new × AreToldAt events n told.new.items) }
     {
         told.clear();

@@ -12,14 +12,14 @@ use lrc_std::event::Event;
 use lrc_std::fault::{Fault, Reason};
 use std::alloc::{AllocError, Global};
 
-/// What is kept of events with which nothing is wrong.
+/// What is stored of events that have no fault.
 #[derive(Drop)]
 pub struct Kept {
-    /// Which threads are joined, and which are known.
+    /// Which threads were joined, and which are known.
     pub threads: Threads,
     /// Which threads wait at a barrier.
     pub waits: Waits,
-    /// Who holds each lock.
+    /// The holder of each lock.
     pub holders: Holders,
 }
 
@@ -43,7 +43,8 @@ impl Kept {
 
     // Takes the next event, with which nothing is wrong.
     fn take(&mut self, event: Event) -> Result<(), AllocError>
-        ensures { OnOk result ((events : List Event) (n : ℕ) → n + 1 < 2 ^ 64 → At events n event → HasNoFault events n event
+        ensures { OnOk result ((events : List Event) (n : ℕ) → n + 1 < 2 ^ 64 → At events n event
+            → HasNoFault events n event
             → IsKept events n self.old → IsKept events (n + 1) self.new) }
     {
         self.threads.take(event)?;
@@ -53,7 +54,7 @@ impl Kept {
     }
 }
 
-/// Looks for the first event of a trace that no program would give.
+/// A finder of the first event of a trace that no program would give.
 #[derive(Drop)]
 pub struct FaultFinder {
     found: Option<Fault>,
@@ -61,7 +62,7 @@ pub struct FaultFinder {
 }
 
 impl FaultFinder {
-    /// Before any event.
+    /// Returns a finder before any event.
     pub fn new(alloc: Global) -> FaultFinder
         ensures { (events : List Event) → HasLooked events 0 result }
     {
@@ -75,16 +76,18 @@ impl FaultFinder {
         }
     }
 
-    /// The first event so far that no program would give, and why.
+    /// Returns the first event so far that no program would give, and why.
     pub fn fault(&self) -> Option<Fault>
-        ensures { (events : List Event) (n : ℕ) → HasLooked events n self.now → IsFirstFault events n result }
+        ensures { (events : List Event) (n : ℕ) → HasLooked events n self.now
+            → IsFirstFault events n result }
     {
         self.found
     }
 
-    /// Takes the next event of a trace. An error leaves nothing that is of use.
+    /// Takes the next event of a trace. It fails if memory runs out, and then the finder is of no use.
     pub fn take(&mut self, event: Event) -> Result<(), AllocError>
-        ensures { OnOk result ((events : List Event) (n : ℕ) → n + 1 < 2 ^ 64 → At events n event → HasLooked events n self.old
+        ensures { OnOk result ((events : List Event) (n : ℕ) → n + 1 < 2 ^ 64 → At events n event
+            → HasLooked events n self.old
             → HasLooked events (n + 1) self.new) }
     {
         if self.found.is_some() {

@@ -9,7 +9,7 @@ use lrc_std::event::{Event, Operation, Pair};
 use lrc_std::group::Group;
 use std::alloc::{AllocError, Global};
 
-/// Where an access stands, and of which kind it is.
+/// The location of an access, and whether it is a write.
 #[derive(Clone, Copy, PartialEq, Eq, Hash)]
 pub struct Side {
     pub location: Option<u32>,
@@ -23,7 +23,7 @@ pub struct Sides {
     pub later: Side,
 }
 
-/// The groups of the pairs that are told so far.
+/// The groups of the pairs reported so far.
 #[derive(Drop)]
 pub struct Groups {
     // What each group has in common, in the order of the groups.
@@ -45,7 +45,7 @@ fn side_of(event: Event) -> Side
 }
 
 impl Groups {
-    /// Before any pair.
+    /// Returns the groups before any pair.
     pub fn new(alloc: Global) -> Groups
         ensures { AreGrouped [] result }
     {
@@ -55,16 +55,18 @@ impl Groups {
         }
     }
 
-    /// The groups so far, in the order in which they were first told.
+    /// Returns the groups so far, in the order in which they were first reported. It holds for fewer than 2^64 pairs.
     pub fn list(&self) -> &[Group]
-        ensures { (pairs : List Pair) → length pairs < 2 ^ 64 → AreGrouped pairs self.now → AreGroups pairs result.now }
+        ensures { (pairs : List Pair) → length pairs < 2 ^ 64 → AreGrouped pairs self.now
+            → AreGroups pairs result.now }
     {
         self.groups.as_slice()
     }
 
     // Takes one pair.
     fn count(&mut self, pair: Pair) -> Result<(), AllocError>
-        ensures { OnOk result ((before : List Pair) → AreGrouped before self.old → AreGrouped (before ++ pair ∷ []) self.new) }
+        ensures { OnOk result ((before : List Pair) → AreGrouped before self.old
+            → AreGrouped (before ++ pair ∷ []) self.new) }
     {
         let sides = Sides {
             earlier: side_of(pair.earlier.event),
@@ -84,9 +86,10 @@ impl Groups {
         Ok(())
     }
 
-    /// Takes the pairs that are told next. An error leaves nothing that is of use.
+    /// Takes the pairs that are reported next. It fails if memory runs out, and then the groups are of no use.
     pub fn take(&mut self, pairs: &[Pair]) -> Result<(), AllocError>
-        ensures { OnOk result ((before : List Pair) → AreGrouped before self.old → AreGrouped (before ++ pairs.now) self.new) }
+        ensures { OnOk result ((before : List Pair) → AreGrouped before self.old
+            → AreGrouped (before ++ pairs.now) self.new) }
     {
         for pair in pairs {
             self.count(*pair)?;

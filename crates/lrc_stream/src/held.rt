@@ -9,7 +9,7 @@ use lrc_std::event::{Event, Operation};
 use lrc_std::fault::{Holder, Reason};
 use std::alloc::{AllocError, Global};
 
-/// Who holds each lock.
+/// The holder of each lock.
 #[derive(Drop)]
 pub struct Holders {
     holders: Vec<Option<Holder>>,
@@ -17,7 +17,8 @@ pub struct Holders {
 
 // An acquire of a lock with this holder.
 fn after_acquire(holder: Option<Holder>, event: Event) -> Option<Holder>
-    ensures { IfSome holder (λ holder. holder.depth + 1 < 2 ^ 64) → result ≡ after_acquire event holder }
+    ensures { IfSome holder (λ holder. holder.depth + 1 < 2 ^ 64)
+        → result ≡ after_acquire event holder }
 {
     match holder {
         None => Some(Holder {
@@ -68,7 +69,7 @@ fn is_held_by(holder: Option<Holder>, thread: u32) -> bool
 }
 
 impl Holders {
-    /// Before any event.
+    /// Returns the holders before any event.
     pub fn new(alloc: Global) -> Holders
         ensures { (events : List Event) → AreHolders events 0 result }
     {
@@ -77,7 +78,7 @@ impl Holders {
         }
     }
 
-    /// Who holds the lock.
+    /// Returns the holder of the lock, or none if it is free.
     pub fn holder(&self, lock: usize) -> Option<Holder>
         ensures { result ≡ holder_of self.now lock }
     {
@@ -97,11 +98,12 @@ impl Holders {
         Ok(())
     }
 
-    /// What is wrong with the next event at the lock that it acquires or releases, if anything is: the lock is held by another
-    /// thread, or is not held by its own.
+    /// Returns what is wrong with the next event at the lock that it acquires or releases: another thread holds the
+    /// lock, or its own thread does not. Returns none if nothing is wrong.
     pub fn fault(&self, event: Event) -> Option<Reason>
         ensures { (events : List Event) (n : ℕ) → AreHolders events n self.now
-            → MatchOption result (HasNoLockFault events n event) (λ reason. IsOfLock reason × Holds events n event reason) }
+            → MatchOption result (HasNoLockFault events n event)
+            (λ reason. IsOfLock reason × Holds events n event reason) }
     {
         match event.operation {
             Operation::Acquire(lock) => {
@@ -125,9 +127,10 @@ impl Holders {
         }
     }
 
-    /// Takes the next event of a trace. An error leaves nothing that is of use.
+    /// Takes the next event of a trace. It fails if memory runs out, and then the holders are of no use.
     pub fn take(&mut self, event: Event) -> Result<(), AllocError>
-        ensures { OnOk result ((events : List Event) (n : ℕ) → n + 1 < 2 ^ 64 → At events n event → AreHolders events n self.old
+        ensures { OnOk result ((events : List Event) (n : ℕ) → n + 1 < 2 ^ 64 → At events n event
+            → AreHolders events n self.old
             → AreHolders events (n + 1) self.new) }
     {
         match event.operation {

@@ -1,13 +1,13 @@
-//! The race detector: a state that takes one event and answers which pairs are told of it, in one pass over a trace of
-//! any length.
+//! The race detector for traces: it takes one event at a time and reports its pairs, in one pass over a trace of any
+//! length.
 //!
-//! The method is the plain one: a vector of each thread, of each lock, and of each barrier's open cycle, with one for each
-//! thread that is of a closed one; of each variable, for each thread that accesses it, the last access and the last write,
-//! ascending by thread. So memory grows with threads, locks and barriers, and with the threads of each variable, and not with
-//! the length of the trace.
+//! It uses vectors that say what is known of each thread. It has one for each thread, for each lock, and for the open
+//! cycle of each barrier, and one for each thread of a closed cycle. For each variable and each thread that accesses
+//! it, it stores the last access and the last write, ascending by thread. So memory grows with threads, locks and
+//! barriers, and with the threads of each variable, but not with the length of the trace.
 //!
-//! Beside it, `fault_finder` finds the first event that no program would give: `held` says who holds each lock, `waits` who
-//! waits at a barrier, `threads` which threads were joined and which are known.
+//! Beside it, `fault_finder` finds the first event that no program would give: `held` has the holder of each lock,
+//! `waits` the threads that wait at a barrier, and `threads` those that were joined and those that are known.
 #![tactic(auto)]
 
 mod barriers;

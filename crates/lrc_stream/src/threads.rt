@@ -10,7 +10,7 @@ use lrc_std::event::{Event, Operation};
 use lrc_std::fault::Reason;
 use std::alloc::{AllocError, Global};
 
-/// A line of each thread that has one.
+/// A line for each thread that has one.
 #[derive(Drop)]
 pub struct Lines {
     lines: Vec<Option<u64>>,
@@ -56,7 +56,8 @@ impl Lines {
 
     // Keeps the line, where the thread has none.
     fn note(&mut self, thread: usize, line: u64) -> Result<(), AllocError>
-        ensures { OnOk result (IsLineSet self.old self.new thread (first_line (line_of self.old thread) line)) }
+        ensures { OnOk result (IsLineSet self.old self.new thread
+            (first_line (line_of self.old thread) line)) }
     {
         let first = self.line(thread);
         self.set(thread, first_line(first, line))?;
@@ -64,18 +65,19 @@ impl Lines {
     }
 }
 
-/// Which threads are joined, and which are known.
+/// Which threads were joined, and which are known.
 #[derive(Drop)]
 pub struct Threads {
-    /// The line of the first join of each thread.
+    /// For each thread, the line of its first join.
     pub joined: Lines,
-    /// The line of the first event that is of each thread or forks it.
+    /// For each thread, the line of the first event that is of it or forks it.
     pub known: Lines,
 }
 
 // A thread that is joined has a line.
 fn note_joined(joined: &mut Lines, event: Event) -> Result<(), AllocError>
-    ensures { OnOk result ((events : List Event) (n : ℕ) → At events n event → AreJoined events n joined.old
+    ensures { OnOk result ((events : List Event) (n : ℕ) → At events n event
+        → AreJoined events n joined.old
         → AreJoined events (n + 1) joined.new) }
 {
     match event.operation {
@@ -89,7 +91,8 @@ fn note_joined(joined: &mut Lines, event: Event) -> Result<(), AllocError>
 
 // So has a thread that is forked, and the thread of the event.
 fn note_known(known: &mut Lines, event: Event) -> Result<(), AllocError>
-    ensures { OnOk result ((events : List Event) (n : ℕ) → At events n event → AreKnown events n known.old
+    ensures { OnOk result ((events : List Event) (n : ℕ) → At events n event
+        → AreKnown events n known.old
         → AreKnown events (n + 1) known.new) }
 {
     known.note(event.thread as usize, event.line)?;
@@ -103,7 +106,7 @@ fn note_known(known: &mut Lines, event: Event) -> Result<(), AllocError>
 }
 
 impl Threads {
-    /// Before any event.
+    /// Returns the threads before any event.
     pub fn new(alloc: Global) -> Threads
         ensures { (events : List Event) → HasThreads events 0 result }
     {
@@ -113,16 +116,17 @@ impl Threads {
         }
     }
 
-    /// Whether the thread of the next event was joined, and since which line.
+    /// Returns a reason if the next event's thread was joined, with the line of its first join.
     pub fn joined_fault(&self, event: Event) -> Option<Reason>
         ensures { (events : List Event) (n : ℕ) → HasThreads events n self.now
-            → MatchOption result ((line : ℕ) → ¬ Holds events n event (Joined line)) (λ reason. IsJoined reason × Holds events n event reason) }
+            → MatchOption result ((line : ℕ) → ¬ Holds events n event (Joined line))
+            (λ reason. IsJoined reason × Holds events n event reason) }
     {
         let line = self.joined.line(event.thread as usize)?;
         Some(Reason::Joined { line })
     }
 
-    /// Whether the next event forks a thread that is known, and since which line.
+    /// Returns a reason if the next event forks a thread that is known, with the line since which it is known.
     pub fn known_fault(&self, event: Event) -> Option<Reason>
         ensures { (events : List Event) (n : ℕ) → HasThreads events n self.now
             → MatchOption result ((thread line : ℕ) → ¬ Holds events n event (Known thread line))
@@ -145,9 +149,10 @@ impl Threads {
         }
     }
 
-    /// Takes the next event of a trace. An error leaves nothing that is of use.
+    /// Takes the next event of a trace. It fails if memory runs out, and then the threads are of no use.
     pub fn take(&mut self, event: Event) -> Result<(), AllocError>
-        ensures { OnOk result ((events : List Event) (n : ℕ) → At events n event → HasThreads events n self.old
+        ensures { OnOk result ((events : List Event) (n : ℕ) → At events n event
+            → HasThreads events n self.old
             → HasThreads events (n + 1) self.new) }
     {
         note_joined(&mut self.joined, event)?;

@@ -25,7 +25,7 @@ fn take_all(
     Ok(())
 }
 
-/// The pairs that are told of a trace, in their order.
+/// Returns the pairs that are reported of a trace, in order. It fails if memory runs out.
 pub fn told_of(alloc: Global, events: &[Event]) -> Result<Vec<Pair>, AllocError>
     ensures { IfOk result (λ told. AreTold events.now told.items) }
 {

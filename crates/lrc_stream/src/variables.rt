@@ -5,7 +5,7 @@ ghost use Rattle.lrc_stream.specs.Variables.{lasts_of, noted, told_one, told_bel
 use lrc_std::event::{Pair, Placed};
 use std::alloc::{AllocError, Global};
 
-/// The last access of a variable by a thread that accesses it, and its last write.
+/// The last access of a variable by one thread, and that thread's last write.
 #[derive(Clone, Copy)]
 pub struct Last {
     pub access: Placed,
@@ -36,7 +36,8 @@ fn told_one(last: &Last, known: &[u64], later: Placed, is_write: bool) -> Option
     Some(Pair { earlier, later })
 }
 
-/// Tells the pairs of an access, by a thread that knows so much, with the last accesses of the variable.
+/// Adds to `told` the pairs of an access with the last accesses of the variable, if `known` is what the access's thread
+/// knows. It fails if memory runs out.
 pub fn tell(
     lasts: &[Last],
     known: &[u64],
@@ -44,7 +45,8 @@ pub fn tell(
     is_write: bool,
     told: &mut Vec<Pair>,
 ) -> Result<(), AllocError>
-    ensures { OnOk result (told.new.items ≡ told.old.items ++ told_below lasts.now known.now later is_write (length lasts.now)) }
+    ensures { OnOk result (told.new.items
+        ≡ told.old.items ++ told_below lasts.now known.now later is_write (length lasts.now)) }
 {
     for last in lasts {
         if let Some(pair) = told_one(last, known, later, is_write) {
@@ -104,7 +106,7 @@ pub struct Variables {
 }
 
 impl Variables {
-    /// Before any access.
+    /// Returns the variables before any access.
     pub fn new(alloc: Global) -> Variables
         ensures { result.rows.items ≡ [] }
     {
@@ -113,7 +115,7 @@ impl Variables {
         }
     }
 
-    /// The last accesses of the variable, by thread.
+    /// Returns the last accesses of the variable, ascending by thread.
     pub fn lasts(&self, variable: usize) -> &[Last]
         ensures { result.now ≡ lasts_of self.now variable }
     {
@@ -125,7 +127,8 @@ impl Variables {
 
     // Makes a row for the variable, where there is none.
     fn reach(&mut self, variable: usize) -> Result<(), AllocError>
-        ensures { OnOk result ((variable < length self.new.rows.items) × ((other : ℕ) → lasts_of self.new other ≡ lasts_of self.old other)) }
+        ensures { OnOk result ((variable < length self.new.rows.items)
+            × ((other : ℕ) → lasts_of self.new other ≡ lasts_of self.old other)) }
     {
         let alloc = *self.rows.allocator();
         while self.rows.len() <= variable {
@@ -134,7 +137,7 @@ impl Variables {
         Ok(())
     }
 
-    /// Notes an access.
+    /// Records an access of the variable. It fails if memory runs out.
     pub fn note(
         &mut self,
         variable: usize,

@@ -4,9 +4,11 @@ ghost use Rattle.lrc_stream.specs.Vectors.{IsPut};
 
 use std::alloc::AllocError;
 
-/// Adds to a vector what another one knows.
+/// Adds to a vector what another one knows: each entry becomes the greater of the two. It fails if memory runs out.
 pub fn join(known: &mut Vec<u64>, more: &[u64]) -> Result<(), AllocError>
-    ensures { OnOk result ((thread : ℕ) → slice_index known.new.items thread ≡ max (slice_index known.old.items thread) (slice_index more.now thread)) }
+    ensures { OnOk result ((thread : ℕ)
+        → slice_index known.new.items thread
+        ≡ max (slice_index known.old.items thread) (slice_index more.now thread)) }
 {
     for (thread, value) in more.iter().enumerate() {
         if thread < known.len() {
@@ -20,7 +22,7 @@ pub fn join(known: &mut Vec<u64>, more: &[u64]) -> Result<(), AllocError>
     Ok(())
 }
 
-/// Sets the entry of a thread.
+/// Sets the entry of a thread. It fails if memory runs out.
 pub fn put(known: &mut Vec<u64>, thread: u32, value: u64) -> Result<(), AllocError>
     ensures { OnOk result (IsPut known.old.items known.new.items thread value) }
 {

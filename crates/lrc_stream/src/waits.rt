@@ -31,7 +31,7 @@ fn is_depart(operation: Operation, barrier: u32) -> bool
 }
 
 impl Waits {
-    /// Before any event.
+    /// Returns the waits before any event.
     pub fn new(alloc: Global) -> Waits
         ensures { (events : List Event) → AreWaits events 0 result }
     {
@@ -59,11 +59,12 @@ impl Waits {
         Ok(())
     }
 
-    /// What is wrong with the next event by the barriers, if anything is: its thread waits at one, or has not arrived at the
-    /// one from which it departs.
+    /// Returns what barriers say is wrong with the next event: its thread waits at one, or has not arrived at the one
+    /// from which it departs. Returns none if nothing is wrong.
     pub fn fault(&self, event: Event) -> Option<Reason>
         ensures { (events : List Event) (n : ℕ) → AreWaits events n self.now
-            → MatchOption result (HasNoBarrierFault events n event) (λ reason. IsBarrierFault events n event reason) }
+            → MatchOption result (HasNoBarrierFault events n event)
+            (λ reason. IsBarrierFault events n event reason) }
     {
         if let Some(waiting) = self.waiting(event.thread as usize) {
             if is_depart(event.operation, waiting.barrier) {
@@ -80,9 +81,11 @@ impl Waits {
         }
     }
 
-    /// Takes the next event of a trace, with which nothing is wrong by the barriers. An error leaves nothing that is of use.
+    /// Takes the next event of a trace, with which barriers find nothing wrong. It fails if memory runs out, and then
+    /// the waits are of no use.
     pub fn take(&mut self, event: Event) -> Result<(), AllocError>
-        ensures { OnOk result ((events : List Event) (n : ℕ) → At events n event → HasNoBarrierFault events n event
+        ensures { OnOk result ((events : List Event) (n : ℕ) → At events n event
+            → HasNoBarrierFault events n event
             → AreWaits events n self.old → AreWaits events (n + 1) self.new) }
     {
         match event.operation {

@@ -46,7 +46,7 @@ fn waits_next(
     }
 }
 
-/// For whom each node waits.
+/// Returns the node for which each node waits, or none.
 pub fn waits_of(alloc: Global, stands: &[Stand]) -> Result<Vec<Option<usize>>, AllocError>
     ensures { IfOk result (λ waits. waits.items ≡ waits_of stands.now) }
 {
@@ -69,13 +69,15 @@ fn waits_at(waits: &[Option<usize>], node: usize) -> Option<usize>
     }
 }
 
-/// The nodes behind the first along which waiting leads from it back to it, where it is the lowest of them.
+/// Returns the other nodes of the circle of waiting through `first`, in order, or none if there is no such circle or
+/// `first` is not its lowest node.
 pub fn circle_of(
     alloc: Global,
     waits: &[Option<usize>],
     first: usize,
 ) -> Result<Option<Vec<usize>>, AllocError>
-    ensures { IfOk result (λ circle. option_map (λ way. way.items) circle ≡ circle_of waits.now first) }
+    ensures { IfOk result (λ circle. option_map (λ way. way.items) circle
+        ≡ circle_of waits.now first) }
 {
     let mut way = Vec::new(alloc);
     let mut at = first;
@@ -119,7 +121,7 @@ fn push_first(text: &mut Vec<u8>, first: usize) -> Result<(), AllocError>
     push_number(text, b"deadlock: node ", first as u64)
 }
 
-/// Adds a circle in words: the first node, and those behind it.
+/// Adds a circle in words: the first node, and the nodes behind it. On error `text` still begins with its old bytes.
 pub fn push_circle(text: &mut Vec<u8>, first: usize, way: &[usize]) -> Result<(), AllocError>
     ensures ok { OnOk result (text.new.items ≡ text.old.items ++ circle_words first way.now) }
     ensures err { OnErr result (BeginsWith text.new.items text.old.items) }
@@ -144,7 +146,8 @@ fn push_circle_if(
     first: usize,
     circle: &Option<Vec<usize>>,
 ) -> Result<(), AllocError>
-    ensures ok { OnOk result (text.new.items ≡ text.old.items ++ circle_if first (option_map (λ way. way.items) circle.now)) }
+    ensures ok { OnOk result (text.new.items
+        ≡ text.old.items ++ circle_if first (option_map (λ way. way.items) circle.now)) }
     ensures err { OnErr result (BeginsWith text.new.items text.old.items) }
 {
     match circle {
@@ -169,7 +172,7 @@ fn push_circles(
     Ok(())
 }
 
-/// Adds a line for each circle of waiting, by the lowest of its nodes.
+/// Adds a line for each circle of waiting, ordered by its lowest node. On error `text` still begins with its old bytes.
 pub fn push_deadlocks(alloc: Global, text: &mut Vec<u8>, stands: &[Stand]) -> Result<(), AllocError>
     ensures ok { OnOk result (text.new.items ≡ text.old.items ++ deadlocks_text stands.now) }
     ensures err { OnErr result (BeginsWith text.new.items text.old.items) }

@@ -5,7 +5,7 @@ ghost use Rattle.lrc_stuck.specs.Holder.{held_by, holder_of};
 
 use lrc_trace::act::{Act, Deed};
 
-/// The node that holds a lock, and the line of the acquire by which it does.
+/// The node that holds a lock, and the line of the acquire that took it.
 #[derive(Clone, Copy)]
 pub struct Holder {
     pub node: u8,

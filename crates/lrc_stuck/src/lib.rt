@@ -1,4 +1,5 @@
-//! What keeps the nodes of a run from going on: what comes next of each, and circles of waiting.
+//! Tells what keeps the nodes of a run from going on. It finds what comes next at each node, which node holds the lock
+//! or has not reached the barrier that comes next, and which nodes wait for each other in a circle.
 #![tactic(auto)]
 
 mod circles;

@@ -6,7 +6,7 @@ ghost use Rattle.lrc_stuck.specs.Missing.{first_of, has_not_come, missing_nodes}
 use crate::stand::{Fate, Stand};
 use std::alloc::{AllocError, Global};
 
-/// A node that has not come to a barrier.
+/// A node that has not reached a barrier.
 #[derive(Clone, Copy)]
 pub struct Missing {
     pub node: usize,

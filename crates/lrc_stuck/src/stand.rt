@@ -12,27 +12,27 @@ use lrc_lines::walks::Followed;
 use lrc_trace::act::{Act, Cause, Deed};
 use std::alloc::{AllocError, Global};
 
-/// How a node ended, as its acts say.
+/// How a node ended, according to its acts.
 #[derive(Clone, Copy)]
 pub enum Fate {
-    /// It came to the end of the text.
+    /// It reached the end of the text.
     Ended,
     /// It trapped.
     Trapped(Cause),
-    /// It has neither trapped nor come to the end of the text.
+    /// It has neither trapped nor reached the end of the text.
     Unfinished,
 }
 
-/// What comes next of a node.
+/// What comes next at a node.
 #[derive(Clone, Copy)]
 pub enum Coming {
     /// Nothing: its steps are used up.
     StepsUsedUp,
     /// A statement that traps.
     Trap(Cause),
-    /// An acquire of a lock, and who holds it.
+    /// An acquire of a lock, and the node that holds it.
     Acquire(u8, Option<Holder>),
-    /// A barrier, with its number among those of the node, from 1.
+    /// A barrier, with its number among those of the node, counted from 1.
     Barrier(usize),
     /// A read of a word.
     Read(u32),
@@ -48,14 +48,14 @@ pub enum Coming {
     End,
 }
 
-/// Where a node stands.
+/// Where a node is after its acts.
 #[derive(Clone, Copy)]
 pub struct Stand {
     /// How it ended.
     pub fate: Fate,
-    /// How often it has come to a barrier.
+    /// How often it has reached a barrier.
     pub arrives: usize,
-    /// The line of what comes next; of a node that trapped, that of the statement that did.
+    /// The line of what comes next, or of the statement that trapped.
     pub line: u32,
     /// What comes next.
     pub coming: Coming,
@@ -138,7 +138,8 @@ fn coming_of(steps: Option<u32>, acts: &[Act], lines: &[u32], node: u8, ask: Ask
 
 // Where a node stands once acts were followed.
 fn stand_of(followed: &Followed<'_>, steps: Option<u32>, acts: &[Act], node: u8) -> Stand
-    ensures { (program : Program) (nodes : ℕ) (lines : List ℕ) → node < nodes → AreFollowed program nodes lines acts.now followed.now
+    ensures { (program : Program) (nodes : ℕ) (lines : List ℕ) → node < nodes
+        → AreFollowed program nodes lines acts.now followed.now
         → result ≡ stand_of program nodes lines steps acts.now node }
 {
     Stand {
@@ -149,7 +150,8 @@ fn stand_of(followed: &Followed<'_>, steps: Option<u32>, acts: &[Act], node: u8)
     }
 }
 
-/// Where nodes 0, 1, .. stand once these acts were followed. A node has so many steps, where that is given.
+/// Returns where nodes 0, 1, .. are once these acts were followed. `steps` is the number of steps that a node has, if
+/// it is limited.
 pub fn stands_of(
     alloc: Global,
     followed: &Followed<'_>,
@@ -157,7 +159,8 @@ pub fn stands_of(
     steps: Option<u32>,
     acts: &[Act],
 ) -> Result<Vec<Stand>, AllocError>
-    ensures { IfOk result (λ stands. (program : Program) (lines : List ℕ) → AreFollowed program nodes lines acts.now followed.now
+    ensures { IfOk result (λ stands. (program : Program) (lines : List ℕ)
+        → AreFollowed program nodes lines acts.now followed.now
         → stands.items ≡ stands_of program nodes lines steps acts.now) }
 {
     let mut stands = Vec::new(alloc);

@@ -34,7 +34,8 @@ fn push_fate(text: &mut Vec<u8>, fate: Fate) -> Result<(), AllocError>
 
 // Adds the line at which a node stands, behind a word.
 fn push_line(text: &mut Vec<u8>, word: &[u8], line: u32) -> Result<(), AllocError>
-    ensures ok { OnOk result (text.new.items ≡ text.old.items ++ (word.now ++ decimal line ++ codes ": ")) }
+    ensures ok { OnOk result (text.new.items
+        ≡ text.old.items ++ (word.now ++ decimal line ++ codes ": ")) }
     ensures err { OnErr result (BeginsWith text.new.items text.old.items) }
 {
     push_number(text, word, u64::from(line))?;
@@ -44,7 +45,8 @@ fn push_line(text: &mut Vec<u8>, word: &[u8], line: u32) -> Result<(), AllocErro
 // Adds where a node trapped, and why.
 fn push_trapped(text: &mut Vec<u8>, line: u32, cause: Cause) -> Result<(), AllocError>
     ensures ok { OnOk result (text.new.items
-        ≡ text.old.items ++ (codes "  line " ++ decimal line ++ codes ": " ++ cause_words cause ++ codes "\n")) }
+        ≡ text.old.items ++ (codes "  line " ++ decimal line ++ codes ": " ++ cause_words cause
+        ++ codes "\n")) }
     ensures err { OnErr result (BeginsWith text.new.items text.old.items) }
 {
     push_line(text, b"  line ", line)?;
@@ -62,7 +64,8 @@ fn push_next(
     stand: Stand,
 ) -> Result<(), AllocError>
     ensures ok { OnOk result (text.new.items ≡ text.old.items
-        ++ (codes "  next, line " ++ decimal stand.line ++ codes ": " ++ coming_words (map label_seen labels.now) stands.now me stand.coming ++ codes "\n")) }
+        ++ (codes "  next, line " ++ decimal stand.line ++ codes ": "
+        ++ coming_words (map label_seen labels.now) stands.now me stand.coming ++ codes "\n")) }
     ensures err { OnErr result (BeginsWith text.new.items text.old.items) }
 {
     push_line(text, b"  next, line ", stand.line)?;
@@ -79,7 +82,8 @@ fn push_reason(
     me: usize,
     stand: Stand,
 ) -> Result<(), AllocError>
-    ensures ok { OnOk result (text.new.items ≡ text.old.items ++ reason_text (map label_seen labels.now) stands.now me stand) }
+    ensures ok { OnOk result (text.new.items
+        ≡ text.old.items ++ reason_text (map label_seen labels.now) stands.now me stand) }
     ensures err { OnErr result (BeginsWith text.new.items text.old.items) }
 {
     match stand.fate {
@@ -89,7 +93,8 @@ fn push_reason(
     }
 }
 
-/// Adds how node `me` ended, and why, with the labels of words and of locks.
+/// Adds how node `me` ended and why, with the labels of words and locks. On error `text` still begins with its old
+/// bytes.
 pub fn push_end(
     alloc: Global,
     text: &mut Vec<u8>,
@@ -98,7 +103,8 @@ pub fn push_end(
     me: usize,
     stand: Stand,
 ) -> Result<(), AllocError>
-    ensures ok { OnOk result (text.new.items ≡ text.old.items ++ end_text (map label_seen labels.now) stands.now me stand) }
+    ensures ok { OnOk result (text.new.items
+        ≡ text.old.items ++ end_text (map label_seen labels.now) stands.now me stand) }
     ensures err { OnErr result (BeginsWith text.new.items text.old.items) }
 {
     push_number(text, b"node ", me as u64)?;
@@ -115,7 +121,8 @@ fn push_stuck(
     me: usize,
     stand: Stand,
 ) -> Result<(), AllocError>
-    ensures { OnOk result (text.new.items ≡ text.old.items ++ stuck_line (map label_seen labels.now) stands.now me stand) }
+    ensures { OnOk result (text.new.items
+        ≡ text.old.items ++ stuck_line (map label_seen labels.now) stands.now me stand) }
 {
     match stand.fate {
         Fate::Unfinished => push_end(alloc, text, labels, stands, me, stand),
@@ -124,7 +131,8 @@ fn push_stuck(
 }
 
 fn stuck_lines(alloc: Global, labels: &[Label<'_>], stands: &[Stand]) -> Result<Vec<u8>, AllocError>
-    ensures { IfOk result (λ part. part.items ≡ stuck_lines (map label_seen labels.now) stands.now) }
+    ensures { IfOk result (λ part. part.items
+        ≡ stuck_lines (map label_seen labels.now) stands.now) }
 {
     let mut text = Vec::new(alloc);
     for me in 0..stands.len() {
@@ -133,9 +141,9 @@ fn stuck_lines(alloc: Global, labels: &[Label<'_>], stands: &[Stand]) -> Result<
     Ok(text)
 }
 
-/// What is printed of the nodes that are unfinished after acts: of each two lines, and then a line for each circle of waiting. The
-/// program's statements, and the text's end behind them, have these lines; a node has so many steps, where that is given. The labels of
-/// words and of locks stand behind their numbers.
+/// Returns what is printed of the nodes that are unfinished after acts: two lines for each, and then a line for each
+/// circle of waiting. `lines` has the lines of the program's statements, and of the text's end behind them. `steps` is
+/// the number of steps that a node has, if it is limited. The labels of words and locks follow their numbers.
 pub fn stuck_part(
     alloc: Global,
     labels: &[Label<'_>],
@@ -145,7 +153,9 @@ pub fn stuck_part(
     steps: Option<u32>,
     acts: &[Act],
 ) -> Result<Vec<u8>, AllocError>
-    ensures { IfOk result (λ part. part.items ≡ stuck_text (map label_seen labels.now) (stands_of code.now nodes lines.now steps acts.now)) }
+    ensures { IfOk result (λ part. part.items
+        ≡ stuck_text (map label_seen labels.now)
+        (stands_of code.now nodes lines.now steps acts.now)) }
 {
     let followed = follow_acts(alloc, code, lines, nodes, acts)?;
     let stands = stands_of(alloc, &followed, nodes, steps, acts)?;

@@ -14,7 +14,7 @@ use lrc_text::push_number;
 use lrc_trace::act::Cause;
 use std::alloc::{AllocError, Global};
 
-/// The words of why a statement traps.
+/// Returns the words that tell why a statement traps.
 pub(crate) fn words_of(cause: Cause) -> &'static [u8]
     ensures { result.now ≡ cause_words cause }
 {
@@ -81,7 +81,8 @@ fn push_acquire(
     lock: u8,
     holder: Option<Holder>,
 ) -> Result<(), AllocError>
-    ensures ok { OnOk result (text.new.items ≡ text.old.items ++ acquire_words (map label_seen labels.now) lock holder) }
+    ensures ok { OnOk result (text.new.items
+        ≡ text.old.items ++ acquire_words (map label_seen labels.now) lock holder) }
     ensures err { OnErr result (BeginsWith text.new.items text.old.items) }
 {
     push_numbered_lock(text, labels, b"acquire ", lock)?;
@@ -118,7 +119,8 @@ fn push_others(text: &mut Vec<u8>, others: &[Missing]) -> Result<(), AllocError>
 }
 
 fn push_without(text: &mut Vec<u8>, first: Missing, others: &[Missing]) -> Result<(), AllocError>
-    ensures ok { OnOk result (text.new.items ≡ text.old.items ++ barrier_words (first ∷ others.now)) }
+    ensures ok { OnOk result (text.new.items
+        ≡ text.old.items ++ barrier_words (first ∷ others.now)) }
     ensures err { OnErr result (BeginsWith text.new.items text.old.items) }
 {
     text.extend_from_slice(b", without ")?;
@@ -136,7 +138,7 @@ fn push_barrier(text: &mut Vec<u8>, missing: &[Missing]) -> Result<(), AllocErro
     }
 }
 
-/// Adds what comes next of node `me`.
+/// Adds what comes next at node `me`.
 pub(crate) fn push_coming(
     alloc: Global,
     text: &mut Vec<u8>,
@@ -145,7 +147,8 @@ pub(crate) fn push_coming(
     me: usize,
     coming: Coming,
 ) -> Result<(), AllocError>
-    ensures ok { OnOk result (text.new.items ≡ text.old.items ++ coming_words (map label_seen labels.now) stands.now me coming) }
+    ensures ok { OnOk result (text.new.items
+        ≡ text.old.items ++ coming_words (map label_seen labels.now) stands.now me coming) }
     ensures err { OnErr result (BeginsWith text.new.items text.old.items) }
 {
     match coming {

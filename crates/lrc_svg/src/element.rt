@@ -9,16 +9,16 @@ pub struct Attribute {
     pub value: Vec<u8>,
 }
 
-/// What stands in an element.
+/// What is inside an element.
 #[derive(Drop)]
 pub enum Content {
-    /// Words. Bytes other than those of printable ASCII are written as `?`.
+    /// Text. A byte that is not printable ASCII is written as `?`.
     Text(Vec<u8>),
-    /// An element, with its attributes, each of another name, and what stands in it.
+    /// An element, with its attributes, all of different names, and what is inside it.
     Element(Tag, Vec<Attribute>, Vec<Content>),
 }
 
-/// A picture: the attributes of its root element, each of another name, and what stands in it.
+/// A picture: the attributes of its root element, all of different names, and what is inside it.
 #[derive(Drop)]
 pub struct Document {
     pub attributes: Vec<Attribute>,

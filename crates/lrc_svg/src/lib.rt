@@ -1,5 +1,5 @@
-//! Pictures as documents of scalable vector graphics (SVG 1.1, W3C 2011): a tree of elements, and its text. Whatever tree there is
-//! in which no element names an attribute twice, its text is well-formed: the law is `laws::documents_are_well_formed`.
+//! Represents pictures as documents of scalable vector graphics (SVG 1.1, W3C 2011): a tree of elements, and its text.
+//! If no element names an attribute twice, the text is well-formed, by the law `laws::documents_are_well_formed`.
 #![tactic(auto)]
 
 mod element;

@@ -3,12 +3,12 @@
 ghost use Rattle.std.specs.Prelude.{◌≡◌};
 ghost use Rattle.lrc_svg.specs.Names.{key_word, tag_word};
 
-/// The elements that a picture has.
+/// The elements that a picture can have.
 #[derive(Clone, Copy)]
 pub enum Tag {
     /// A whole picture.
     Picture,
-    /// What a reader is shown who points at the element around it.
+    /// What a reader sees when the pointer is on the element around it.
     Hint,
     /// Elements that share their attributes.
     Group,
@@ -22,7 +22,7 @@ pub enum Tag {
     Label,
 }
 
-/// The attributes that elements have; lengths are in pixels.
+/// The attributes that elements can have. Lengths are in pixels.
 #[derive(Clone, Copy)]
 pub enum Key {
     /// The name space of the elements.
@@ -31,9 +31,9 @@ pub enum Key {
     View,
     Width,
     Height,
-    /// The place from the left, of a box or a label.
+    /// The distance of a box or a label from the left.
     X,
-    /// The place from the top, of a box or a label's foot.
+    /// The distance of a box, or of a label's foot, from the top.
     Y,
     /// Where a line begins and ends.
     FromX,
@@ -57,7 +57,7 @@ pub enum Key {
 }
 
 impl Tag {
-    /// The name as it stands in the text.
+    /// Returns the name as the text has it.
     #[tactic(auto, unfolding(crate::specs::Names::tag_word))]
     pub(crate) fn word(self) -> &'static [u8]
         ensures { result.now ≡ tag_word self }
@@ -75,7 +75,7 @@ impl Tag {
 }
 
 impl Key {
-    /// The name as it stands in the text.
+    /// Returns the name as the text has it.
     #[tactic(auto, unfolding(crate::specs::Names::key_word))]
     pub(crate) fn word(self) -> &'static [u8]
         ensures { result.now ≡ key_word self }

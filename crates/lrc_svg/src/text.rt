@@ -96,7 +96,7 @@ fn push_contents(text: &mut Vec<u8>, contents: &[Content]) -> Result<(), AllocEr
     Ok(())
 }
 
-/// The text of a picture. It nests as deep as the picture does.
+/// Returns the text of a picture. The recursion is as deep as the picture's elements nest.
 pub fn document_part(alloc: Global, document: &Document) -> Result<Vec<u8>, AllocError>
     ensures { IfOk result (λ part. part.items ≡ document_text document.now) }
 {

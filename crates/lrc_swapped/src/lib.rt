@@ -1,5 +1,6 @@
-//! Runs of which two neighbouring acts of different nodes change places: what happens before what, what reads may give, and what may come
-//! next stay the same.
+//! The theorems on swapping two neighbouring acts of different nodes in a run. If the second is no acquire and was
+//! possible where the first was, the swap keeps the happens-before order, the values that reads may give, and the acts
+//! that may come next.
 #![tactic(auto)]
 
 pub mod laws;

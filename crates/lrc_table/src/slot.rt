@@ -11,17 +11,17 @@ use std::marker::Model;
 /// What a node may do with its copy of a page.
 #[derive(Clone, Copy, Debug, PartialEq, Eq)]
 pub enum State {
-    /// It may read the copy. A write makes it `Written`.
+    /// The node may read the copy. A write makes it `Written`.
     Valid,
-    /// It may read and write the copy, and has written it since the last close.
+    /// The node may read and write the copy, and has written it since the last close.
     Written,
     /// Other nodes have written the page, and this node lacks their changes.
     Invalid,
-    /// The node has no copy, and fetches one whole before it may read the page.
+    /// The node has no copy. It must fetch a whole one before it can read the page.
     Absent,
 }
 
-/// A copy of a page.
+/// One copy of a page, with its state, its twin and its base copy.
 #[derive(Drop)]
 pub(crate) struct Slot {
     state: State,
@@ -48,7 +48,7 @@ impl Slot {
     ghost use Rattle.lrc_page.specs.Page.{zero_page};
     ghost use Rattle.lrc_table.specs.PageCopy.{fresh};
 
-    /// A valid copy of a page of zeros.
+    /// Returns a valid copy of a page of zeros.
     pub(crate) fn zero(alloc: Global, size: Size) -> Result<Self, AllocError>
         ensures { IfOk result (λ slot. slot ≡ fresh (zero_page size)) }
     {
@@ -66,14 +66,14 @@ impl Slot {
         self.state
     }
 
-    /// Whether a twin is kept past a close.
+    /// Returns whether a twin is kept past a close.
     pub(crate) fn is_pending(&self) -> bool
         ensures { result ≡ is_pending self.now }
     {
         self.state == State::Valid && self.twin.is_some()
     }
 
-    /// The value at an offset, if the copy may be read.
+    /// Returns the value at an offset, or `None` if the copy may not be read.
     pub(crate) fn read(&self, offset: u8) -> Option<u64>
         requires { offset < length self.now.values }
         ensures { result ≡ read_at self.now offset }
@@ -84,16 +84,17 @@ impl Slot {
         }
     }
 
-    /// The present values, whether or not they may be read.
+    /// Returns the present values, whether or not they may be read.
     pub(crate) fn words(&self) -> &[u64]
         ensures { result.now ≡ self.now.values }
     {
         self.words.as_slice()
     }
 
-    /// The twin, if one is kept.
+    /// Returns the twin, if one is kept.
     pub(crate) fn twin(&self) -> Option<&[u64]>
-        ensures { MatchOption result (self.now.twin ≡ None) (λ twin. self.now.twin ≡ Some twin.now) }
+        ensures { MatchOption result (self.now.twin ≡ None)
+            (λ twin. self.now.twin ≡ Some twin.now) }
     {
         match &self.twin {
             Some(twin) => Some(twin.as_slice()),
@@ -101,7 +102,7 @@ impl Slot {
         }
     }
 
-    /// The pending changes, if there are any.
+    /// Returns the pending changes, if there are any.
     pub(crate) fn pending_changes(&self, alloc: Global) -> Result<Option<Changes>, AllocError>
         requires same { ForSome self.now.twin (λ twin. length twin ≡ length self.now.values) }
         requires few { length self.now.values ≤ MOST_PAGE_WORDS }
@@ -120,7 +121,7 @@ impl Slot {
         }
     }
 
-    /// A list of the present values, in place of a spare one where there is one.
+    /// Returns a list of the present values. It reuses the memory of the spare list, if there is one.
     pub(crate) fn values(&self, spare: Option<Vec<u64>>) -> Result<Vec<u64>, AllocError>
         ensures { IfOk result (λ values. values.items ≡ self.now.values) }
     {
@@ -132,7 +133,7 @@ impl Slot {
         Ok(values)
     }
 
-    /// Begins to be written, with the present values as the twin.
+    /// Opens the copy for writing, with the present values as its twin.
     pub(crate) fn open(&mut self, twin: Vec<u64>)
         requires { twin.items ≡ self.old.values }
         ensures { self.new ≡ opened self.old }
@@ -157,8 +158,8 @@ impl Slot {
         }
     }
 
-    /// Makes the pending changes, if there are any, and lets go of their twin, which is put with the spare ones. An error leaves
-    /// the copy as it was.
+    /// Makes the pending changes, if there are any, and moves their twin to the spare lists. On error the copy does not
+    /// change.
     pub(crate) fn settle(
         &mut self,
         alloc: Global,
@@ -194,7 +195,7 @@ impl Slot {
         }
     }
 
-    /// Writes changes of another node into the copy.
+    /// Writes another node's changes into the copy.
     pub(crate) fn patch(&mut self, changes: &Changes)
         requires { All (λ c. c.offset < length self.old.values) changes.now }
         ensures { self.new ≡ patched self.old changes.now }
@@ -213,7 +214,7 @@ impl Slot {
         self.state = State::Valid;
     }
 
-    /// Takes a copy that was fetched whole.
+    /// Installs a copy that was fetched whole.
     pub(crate) fn install(&mut self, page: &Page)
         requires { length page.now ≡ length self.old.values }
         ensures { self.new ≡ installed self.old page.now }
@@ -222,7 +223,7 @@ impl Slot {
         self.state = State::Invalid;
     }
 
-    /// Keeps the present values as the base copy. An error leaves the copy as it was.
+    /// Keeps the present values as the base copy. On error the copy does not change.
     pub(crate) fn keep_base(&mut self, alloc: Global, size: Size) -> Result<(), AllocError>
         requires { length self.old.values ≡ words_of size }
         ensures ok { OnOk result (self.new ≡ with_base self.old) }
@@ -234,7 +235,8 @@ impl Slot {
     }
 
     pub(crate) fn base(&self) -> Option<&Page>
-        ensures { MatchOption result (self.now.base ≡ None) (λ page. self.now.base ≡ Some page.now) }
+        ensures { MatchOption result (self.now.base ≡ None)
+            (λ page. self.now.base ≡ Some page.now) }
     {
         match &self.base {
             Some(page) => Some(page),

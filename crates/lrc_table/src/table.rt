@@ -32,7 +32,7 @@ impl Model for PageTable {
 }
 
 impl PageTable {
-    /// A table for this many words, 1 to 65,536, on pages of this size, all zero, with every copy valid.
+    /// Creates a table for 1 to 65,536 words, on pages of the given size. Every word is zero, and every copy is valid.
     pub fn new(alloc: Global, words: u32, size: Size) -> Result<Self, AllocError>
         requires some { 1 ≤ words }
         requires few { words ≤ MOST_WORDS }
@@ -51,8 +51,8 @@ impl PageTable {
         })
     }
 
-    /// The size of the pages. Every copy has as many values, and so has each twin and each base copy. A written copy
-    /// has a twin, and one that may not be read has none.
+    /// Returns the size of the pages. Every copy, every twin and every base copy has that many values. A written copy
+    /// has a twin, and a copy that may not be read has none.
     pub fn size(&self) -> Size
         ensures size { result ≡ self.now.size }
         ensures whole { All (IsWhole self.now.size) self.now.copies }
@@ -61,7 +61,7 @@ impl PageTable {
         self.size
     }
 
-    /// The state of the copy of a page.
+    /// Returns the state of a page's copy.
     pub fn state(&self, page: u16) -> State
         requires { page < length self.now.copies }
         ensures { result ≡ (copy_at self.now page).state }
@@ -69,25 +69,29 @@ impl PageTable {
         self.slots[usize::from(page)].state()
     }
 
-    /// The value of a word, or `None` if the copy of its page may not be read.
+    /// Returns the value of a word, or `None` if the copy of its page may not be read.
     pub fn read(&self, word: u32) -> Option<u64>
         requires in_range { word < MOST_WORDS }
         requires on_a_page { page_of word self.now.size < length self.now.copies }
-        ensures { result ≡ read_at (copy_at self.now (page_of word self.now.size)) (offset_of word self.now.size) }
+        ensures { result ≡ read_at (copy_at self.now (page_of word self.now.size))
+            (offset_of word self.now.size) }
     {
         let page = usize::from(page_of(word, self.size));
         self.slots[page].read(offset_of(word, self.size))
     }
 
-    /// Gives a word a value and answers `true`, or `false` if the copy of its page may not be written, which changes
-    /// nothing. The first write to a valid copy keeps its values as a twin. An error leaves the table as it was.
+    /// Sets a word, and returns `true`. If the copy of its page may not be written, it returns `false` and changes
+    /// nothing. The page must not be pending. The first write to a valid copy keeps its values as a twin. On error the
+    /// table does not change.
     pub fn write(&mut self, word: u32, value: u64) -> Result<bool, AllocError>
         requires in_range { word < MOST_WORDS }
         requires on_a_page { page_of word self.old.size < length self.old.copies }
         requires settled { is_pending (copy_at self.old (page_of word self.old.size)) ≡ false }
-        ensures done { IfOk result (λ done. done ≡ is_readable (copy_at self.old (page_of word self.old.size)).state) }
+        ensures done { IfOk result (λ done. done
+            ≡ is_readable (copy_at self.old (page_of word self.old.size)).state) }
         ensures ok { OnOk result (self.new ≡ with_copy self.old (page_of word self.old.size)
-            (after_write (copy_at self.old (page_of word self.old.size)) (offset_of word self.old.size) value)) }
+            (after_write (copy_at self.old (page_of word self.old.size))
+            (offset_of word self.old.size) value)) }
         ensures err { OnErr result (self.new ≡ self.old) }
     {
         let page = page_of(word, self.size);
@@ -105,7 +109,8 @@ impl PageTable {
     fn open(&mut self, page: u16) -> Result<(), AllocError>
         requires in_range { page < length self.old.copies }
         requires valid { (copy_at self.old page).state ≡ State.Valid }
-        ensures ok { OnOk result (self.new ≡ with_copy self.old page (opened (copy_at self.old page))) }
+        ensures ok { OnOk result (self.new ≡ with_copy self.old page
+            (opened (copy_at self.old page))) }
         ensures err { OnErr result (self.new ≡ self.old) }
     {
         let place = usize::from(page);
@@ -115,8 +120,9 @@ impl PageTable {
         Ok(())
     }
 
-    /// The pages written since the last close, ascending, also those whose values are the same again. All of them
-    /// become valid, and their twins stay: their changes are pending. An error leaves the table as it was.
+    /// Ends the writing of all pages, and returns those written since the last close, ascending. A page counts as
+    /// written even if its values are the same again. All of them become valid and keep their twins: their changes are
+    /// pending. On error the table does not change.
     pub fn close(&mut self) -> Result<Pages, AllocError>
         ensures pages { IfOk result (λ pages. pages ≡ written_pages self.old) }
         ensures ok { OnOk result (self.new ≡ with_each self.old closed) }
@@ -130,7 +136,7 @@ impl PageTable {
         Ok(pages)
     }
 
-    /// The values of the copy of a page, whether or not they may be read.
+    /// Returns the values of a page's copy, whether or not they may be read.
     pub fn values(&self, page: u16) -> &[u64]
         requires { page < length self.now.copies }
         ensures { result.now ≡ (copy_at self.now page).values }
@@ -138,15 +144,16 @@ impl PageTable {
         self.slots[usize::from(page)].words()
     }
 
-    /// The twin of a page, if one is kept: of a written copy, or of a pending one.
+    /// Returns the twin of a page, if one is kept. Written copies and pending copies have one.
     pub fn twin(&self, page: u16) -> Option<&[u64]>
         requires { page < length self.now.copies }
-        ensures { MatchOption result ((copy_at self.now page).twin ≡ None) (λ twin. (copy_at self.now page).twin ≡ Some twin.now) }
+        ensures { MatchOption result ((copy_at self.now page).twin ≡ None)
+            (λ twin. (copy_at self.now page).twin ≡ Some twin.now) }
     {
         self.slots[usize::from(page)].twin()
     }
 
-    /// The changes of a pending page, as `settle` would make them, and `None` if the page is not pending.
+    /// Returns the changes of a pending page, as `settle` would make them, or `None` if the page is not pending.
     pub fn pending_changes(&self, page: u16) -> Result<Option<Changes>, AllocError>
         requires { page < length self.now.copies }
         ensures { IfOk result (λ changes. changes ≡ pending_changes (copy_at self.now page)) }
@@ -154,7 +161,7 @@ impl PageTable {
         self.slots[usize::from(page)].pending_changes(*self.slots.allocator())
     }
 
-    /// Whether a page was written before the last close and its changes are not made yet.
+    /// Returns whether a page was written before the last close and its changes have not been made yet.
     pub fn pending(&self, page: u16) -> bool
         requires { page < length self.now.copies }
         ensures { result ≡ is_pending (copy_at self.now page) }
@@ -162,20 +169,23 @@ impl PageTable {
         self.slots[usize::from(page)].is_pending()
     }
 
-    /// The changes of a pending page, from its values before it was written to its values at the close that named it
-    /// last, which it still has. Its twin is dropped. `None` if the page is not pending. An error leaves the table as
-    /// it was.
+    /// Makes the changes of a pending page, and drops its twin. The changes lead from the values before the page was
+    /// written to those at the close that named it last, which the page still has. It returns `None` if the page is not
+    /// pending. On error the table does not change.
     pub fn settle(&mut self, page: u16) -> Result<Option<Changes>, AllocError>
         requires { page < length self.old.copies }
-        ensures changes { IfOk result (λ changes. changes ≡ pending_changes (copy_at self.old page)) }
-        ensures ok { OnOk result (self.new ≡ with_copy self.old page (settled (copy_at self.old page))) }
+        ensures changes { IfOk result (λ changes. changes
+            ≡ pending_changes (copy_at self.old page)) }
+        ensures ok { OnOk result (self.new ≡ with_copy self.old page
+            (settled (copy_at self.old page))) }
         ensures err { OnErr result (self.new ≡ self.old) }
     {
         let alloc = *self.slots.allocator();
         self.slots[usize::from(page)].settle(alloc, &mut self.spare)
     }
 
-    /// Drops the twins of all pending pages: nobody will ask for their changes. No page is written then.
+    /// Drops the twins of all pending pages, because no node will ask for their changes. No page may be written at that
+    /// time.
     pub fn drop_twins(&mut self)
         requires { All (λ copy. copy.state ≢ State.Written) self.old.copies }
         ensures { self.new ≡ with_each self.old without_twin }
@@ -185,8 +195,8 @@ impl PageTable {
         }
     }
 
-    /// Makes a valid copy of a page invalid. An invalid one and an absent one stay so. The copy is neither written nor
-    /// pending.
+    /// Makes a valid copy of a page invalid. An invalid copy stays invalid, and an absent one absent. The copy must be
+    /// neither written nor pending.
     pub fn invalidate(&mut self, page: u16)
         requires in_range { page < length self.old.copies }
         requires closed { (copy_at self.old page).state ≢ State.Written }
@@ -196,7 +206,7 @@ impl PageTable {
         self.slots[usize::from(page)].invalidate();
     }
 
-    /// Writes changes that an invalid copy of a page lacks into it. It stays invalid, until `repair`.
+    /// Writes changes that an invalid copy of a page lacks into it. The copy stays invalid until `repair`.
     pub fn patch(&mut self, page: u16, changes: &Changes)
         requires in_range { page < length self.old.copies }
         requires invalid { (copy_at self.old page).state ≡ State.Invalid }
@@ -206,18 +216,19 @@ impl PageTable {
         self.slots[usize::from(page)].patch(changes);
     }
 
-    /// Applies the changes that an invalid copy of a page lacks, in the order in which they are given, and makes the
-    /// copy valid.
+    /// Applies the changes that an invalid copy of a page lacks, in the given order, and makes the copy valid.
     pub fn repair(&mut self, page: u16, changes: &[Changes])
         requires in_range { page < length self.old.copies }
         requires invalid { (copy_at self.old page).state ≡ State.Invalid }
-        requires sized { All (λ list. All (λ c. c.offset < words_of self.old.size) list) changes.now }
-        ensures { self.new ≡ with_copy self.old page (repaired (copy_at self.old page) changes.now) }
+        requires sized { All (λ list. All (λ c. c.offset < words_of self.old.size) list)
+            changes.now }
+        ensures { self.new ≡ with_copy self.old page
+            (repaired (copy_at self.old page) changes.now) }
     {
         self.slots[usize::from(page)].repair(changes);
     }
 
-    /// Gives an absent page a copy that was fetched whole. It is invalid: it lacks what was written since.
+    /// Gives an absent page a copy that was fetched whole. The copy is invalid, because it lacks later writes.
     pub fn install(&mut self, page: u16, copy: Page)
         requires in_range { page < length self.old.copies }
         requires absent { (copy_at self.old page).state ≡ State.Absent }
@@ -227,12 +238,13 @@ impl PageTable {
         self.slots[usize::from(page)].install(&copy);
     }
 
-    /// Keeps the values of a valid copy as the base copy of its page, in place of one that was kept before. Later
-    /// writes leave it as it is. An error leaves the table as it was.
+    /// Keeps the values of a valid copy as the base copy of its page, and replaces any earlier one. Later writes do not
+    /// change the base copy. On error the table does not change.
     pub fn keep_base(&mut self, page: u16) -> Result<(), AllocError>
         requires in_range { page < length self.old.copies }
         requires valid { (copy_at self.old page).state ≡ State.Valid }
-        ensures ok { OnOk result (self.new ≡ with_copy self.old page (with_base (copy_at self.old page))) }
+        ensures ok { OnOk result (self.new ≡ with_copy self.old page
+            (with_base (copy_at self.old page))) }
         ensures err { OnErr result (self.new ≡ self.old) }
     {
         let alloc = *self.slots.allocator();
@@ -240,10 +252,11 @@ impl PageTable {
         self.slots[usize::from(page)].keep_base(alloc, size)
     }
 
-    /// The base copy of a page, if one is kept.
+    /// Returns the base copy of a page, if one is kept.
     pub fn base(&self, page: u16) -> Option<&Page>
         requires { page < length self.now.copies }
-        ensures { MatchOption result ((copy_at self.now page).base ≡ None) (λ base. (copy_at self.now page).base ≡ Some base.now) }
+        ensures { MatchOption result ((copy_at self.now page).base ≡ None)
+            (λ base. (copy_at self.now page).base ≡ Some base.now) }
     {
         self.slots[usize::from(page)].base()
     }

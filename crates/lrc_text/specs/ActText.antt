@@ -14,6 +14,19 @@ cause_number LockOutOfRange = 3
 cause_number LockHeld = 4
 cause_number LockNotHeld = 5
 
+-- the name of a deed
+abbrev pub deed_name : Deed → List ℕ
+deed_name Quiet = codes "quiet"
+deed_name (Print value) = codes "print"
+deed_name (Read w value) = codes "read"
+deed_name (Write w value) = codes "write"
+deed_name (Acquire l) = codes "acquire"
+deed_name (Release l) = codes "release"
+deed_name Arrive = codes "arrive"
+deed_name Depart = codes "depart"
+deed_name (Trap cause) = codes "trap"
+deed_name End = codes "end"
+
 -- the words of a deed
 abbrev pub deed_text : Deed → List ℕ
 deed_text Quiet = codes "quiet"

@@ -7,7 +7,8 @@ ghost use Rattle.lrc_text.specs.Front.{BeginsWith};
 use itoa::Buffer;
 use std::alloc::AllocError;
 
-/// Adds a word to a text, and behind it a number in decimal digits.
+/// Adds a word to a text, then a number in decimal digits. It fails if memory runs out. The text then keeps what it
+/// had, perhaps with some of the new characters behind it.
 pub fn push_number(text: &mut Vec<u8>, word: &[u8], number: u64) -> Result<(), AllocError>
     ensures ok { OnOk result (text.new.items ≡ text.old.items ++ word.now ++ decimal number) }
     ensures err { OnErr result (BeginsWith text.new.items text.old.items) }
@@ -17,10 +18,22 @@ pub fn push_number(text: &mut Vec<u8>, word: &[u8], number: u64) -> Result<(), A
     text.extend_from_slice(digits.format(number).as_bytes())
 }
 
+/// The same of a number of up to 128 bits.
+pub fn push_wide_number(text: &mut Vec<u8>, word: &[u8], number: u128) -> Result<(), AllocError>
+    ensures ok { OnOk result (text.new.items ≡ text.old.items ++ word.now ++ decimal number) }
+    ensures err { OnErr result (BeginsWith text.new.items text.old.items) }
+{
+    let mut digits = Buffer::new();
+    text.extend_from_slice(word)?;
+    text.extend_from_slice(digits.format(number).as_bytes())
+}
+
 #[tactic(auto, using(crate::proofs::Numbers::no_greater, crate::proofs::Numbers::too_great, crate::proofs::Numbers::no_number))]
-/// The number that decimal digits write, any of them leading zeros, where it is no greater than the greatest of its kind.
+/// Returns the number that decimal digits write; leading zeros are allowed. Returns none if there is no digit, if a
+/// character is not a digit, or if the number is greater than `greatest`.
 pub fn read_number(digits: &[u8], greatest: u64) -> Option<u64>
-    ensures { MatchOption result ((number : ℕ) → ¬ IsNumber digits.now greatest number) (λ number. IsNumber digits.now greatest number) }
+    ensures { MatchOption result ((number : ℕ) → ¬ IsNumber digits.now greatest number)
+        (λ number. IsNumber digits.now greatest number) }
 {
     let number = value_of(digits)?;
     if number <= greatest {

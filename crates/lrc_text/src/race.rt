@@ -8,7 +8,7 @@ use crate::number::push_number;
 use lrc_trace::race::Race;
 use std::alloc::{AllocError, Global};
 
-/// The lines of races, one for each.
+/// Returns the lines of races, one for each race. It fails if memory runs out.
 pub fn races_part(alloc: Global, races: &[Race]) -> Result<Vec<u8>, AllocError>
     ensures { IfOk result (λ part. part.items ≡ races_text races.now) }
 {
@@ -19,7 +19,8 @@ pub fn races_part(alloc: Global, races: &[Race]) -> Result<Vec<u8>, AllocError>
     Ok(text)
 }
 
-/// Adds the line of a race.
+/// Adds the line of a race to a text. It fails if memory runs out. The text then keeps what it had, perhaps with some
+/// of the line behind it.
 pub fn push_race(text: &mut Vec<u8>, race: Race) -> Result<(), AllocError>
     ensures ok { OnOk result (text.new.items ≡ text.old.items ++ race_line race) }
     ensures err { OnErr result (BeginsWith text.new.items text.old.items) }
@@ -32,7 +33,8 @@ pub fn push_race(text: &mut Vec<u8>, race: Race) -> Result<(), AllocError>
     text.extend_from_slice(b"\n")
 }
 
-/// The line of the first act that races with an earlier one, where there is one.
+/// Returns the line of the first act that races with an earlier one, given by its position, or an empty text if there
+/// is none. It fails if memory runs out.
 pub fn first_race_part(alloc: Global, first: Option<usize>) -> Result<Vec<u8>, AllocError>
     ensures { IfOk result (λ part. part.items ≡ first_race_text first) }
 {

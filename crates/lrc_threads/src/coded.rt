@@ -5,13 +5,13 @@ ghost use Rattle.lrc_lang.specs.declared.program.Program.{Program as AnyProgram}
 
 use lrc_exec::code::Code;
 
-/// What has the flat code of a program. Threads borrow it as a value of a type parameter: of a scope whose closure has a type that
-/// names a lifetime, as that of a code does, the toolchain gives no clause.
+/// A value that holds the flat code of a program. Threads borrow it as a value of a type parameter, because the
+/// toolchain gives no clause about a scope whose closure has a type that names a lifetime, as the type of a code does.
 pub trait Coded {
-    /// Which program it is.
+    /// The program of this code.
     ghost program_of: { Self → AnyProgram };
 
-    /// Its flat code.
+    /// Returns the flat code.
     fn code(&self) -> &Code<'_>
         ensures { result.now ≡ program_of self.now };
 }

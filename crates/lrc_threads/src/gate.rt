@@ -1,12 +1,13 @@
 // What a thread passes before each of its turns.
 
-/// What a node's thread passes before each of its turns. Whether it waits there decides nothing but when the turn is made.
+/// What a node's thread passes before each of its turns. A wait there changes only when the turn is made.
 pub trait Gate {
-    /// The node is about to make a turn; its turns are counted from 0, and the count stays at 4,294,967,295 once it is there.
+    /// Lets a node pass that is about to make a turn. Its turns are counted from 0. The count stays at 4,294,967,295
+    /// once it reaches that.
     fn pass(&self, node: usize, turn: u32);
 }
 
-/// A gate at which nobody waits.
+/// A gate that never makes a node wait.
 pub struct OpenGate;
 
 impl Gate for OpenGate {

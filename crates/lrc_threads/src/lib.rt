@@ -1,4 +1,5 @@
-//! The nodes of a run, each on a thread of its own, with a post between them.
+//! The nodes of a run on threads: each node lives on a separate thread, and a post carries the messages between them. A
+//! thread makes the turns of its node and takes its messages, until nothing is left to do.
 #![tactic(auto)]
 
 mod coded;

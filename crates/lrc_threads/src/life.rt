@@ -2,6 +2,7 @@
 
 ghost use Rattle.std.specs.Prelude.{◌≡◌, IfOk, MatchOption, map};
 ghost use Rattle.std.specs.List.{list_any};
+ghost use Rattle.lrc_protocol.specs.Run.{turns_of_logs};
 ghost use Rattle.lrc_threads.specs.Threads.{HaveNoFailure, IsFirstFailure};
 
 use crate::stop::Stop;
@@ -9,20 +10,20 @@ use lrc_node::Entry;
 use lrc_trace::trace::Trace;
 use std::alloc::{AllocError, Global};
 
-/// What a node did on its thread, whether it would go on, and why its thread stopped.
+/// What is left of a node after its thread ended.
 #[derive(Drop)]
 pub struct Past {
-    /// Its turns with their stamps.
+    /// The turns of the node, with their stamps.
     pub log: Vec<Entry>,
-    /// The accesses that it made, by interval.
+    /// The accesses of the node, by interval.
     pub trace: Trace,
-    /// Whether it would go on if it were named.
+    /// Whether the node would go on if an event named it.
     pub is_ready: bool,
-    /// Why its thread stopped, where it did not go on until the post was closed.
+    /// Why the thread stopped, or none if it went on until the post was closed.
     pub stop: Option<Stop>,
 }
 
-/// A node whose thread failed, or could not be started, and why.
+/// A node whose thread failed or could not be started, and the reason.
 #[derive(Clone, Copy)]
 pub struct Failure {
     /// The node's number.
@@ -31,24 +32,27 @@ pub struct Failure {
     pub stop: Stop,
 }
 
-/// The turns of all nodes, their traces, whether any of them would go on, and why their threads stopped.
+/// What is left of all nodes, as one list for each kind of data.
 #[derive(Drop)]
 pub struct Parts {
     /// The turns of each node with their stamps, from node 0 up.
     pub logs: Vec<Vec<Entry>>,
     /// The accesses of each node by interval, from node 0 up.
     pub traces: Vec<Trace>,
-    /// Whether a node would go on if it were named.
+    /// Whether some node would go on if an event named it.
     pub is_any_ready: bool,
-    /// Why the thread of each node stopped, where it did not go on until the post was closed, from node 0 up.
+    /// Why each node's thread stopped, from node 0 up, or none if it went on until the post was closed.
     pub stops: Vec<Option<Stop>>,
 }
 
-/// What the nodes did, taken apart. An error where there is no memory for the lists.
+/// Takes apart what is left of the nodes. It fails if there is no memory for the lists.
 pub fn parts_of(alloc: Global, pasts: Vec<Past>) -> Result<Parts, AllocError>
-    ensures logs { IfOk result (λ parts. map (λ log. log.items) parts.logs.items ≡ map (λ past. past.log.items) pasts.items) }
-    ensures traces { IfOk result (λ parts. parts.traces.items ≡ map (λ past. past.trace) pasts.items) }
-    ensures ready { IfOk result (λ parts. parts.is_any_ready ≡ list_any (λ past. past.is_ready) pasts.items) }
+    ensures logs { IfOk result (λ parts. turns_of_logs parts.logs.items
+        ≡ map (λ past. past.log.items) pasts.items) }
+    ensures traces { IfOk result (λ parts. parts.traces.items
+        ≡ map (λ past. past.trace) pasts.items) }
+    ensures ready { IfOk result (λ parts. parts.is_any_ready
+        ≡ list_any (λ past. past.is_ready) pasts.items) }
     ensures stops { IfOk result (λ parts. parts.stops.items ≡ map (λ past. past.stop) pasts.items) }
 {
     let is_any_ready = pasts.iter().any(|past| past.is_ready);
@@ -68,7 +72,7 @@ pub fn parts_of(alloc: Global, pasts: Vec<Past>) -> Result<Parts, AllocError>
     })
 }
 
-/// The lowest node whose thread failed, or could not be started.
+/// Returns the lowest node whose thread failed or could not be started, or none if no thread did.
 pub fn first_failure(stops: &[Option<Stop>]) -> Option<Failure>
     ensures { MatchOption result (HaveNoFailure stops.now) (IsFirstFailure stops.now) }
 {

@@ -8,8 +8,8 @@ use lrc_post::{Parcel, Post, PostFault};
 use std::sync::Wait;
 use std::thread;
 
-/// What a node's thread needs of the post. Its ghost members say what was put and taken between two states, and of one state whether
-/// a parcel is still to come and whether the post is closed.
+/// What a node's thread needs of the post. Its ghost members tell what was put and taken between two states. Of one
+/// state they tell whether a parcel is still to come and whether the post is closed.
 pub trait Mail {
     /// These parcels were put, in order.
     ghost puts: { Self → List AnyParcel → Self → Type 0 };
@@ -17,24 +17,24 @@ pub trait Mail {
     /// This parcel was taken.
     ghost takes: { Self → AnyParcel → Self → Type 0 };
 
-    /// There will be no parcel any more.
+    /// No parcel will come any more.
     ghost over: { Self → Type 0 };
 
     /// The post is closed.
     ghost shut: { Self → Type 0 };
 
-    /// Puts parcels, in order.
+    /// Puts parcels, in order. It fails with `Closed` only if the post is closed.
     fn put_all(&mut self, parcels: Vec<Parcel>) -> Result<(), PostFault>
         ensures put { OnOk result (puts self.old parcels.items self.new) }
         ensures closed { IfErr result (λ fault. fault ≡ Closed → shut self.new) };
 
-    /// The next parcel, where one is there. That there is none now does not say that there will be none.
+    /// Returns the next parcel, or none if there is none now. One may still come later.
     fn poll(&mut self) -> Result<Option<Parcel>, PostFault>
         ensures some { IfOk result (λ parcel. IfSome parcel (λ p. takes self.old p self.new)) }
         ensures none { IfOk result (λ parcel. IfNone parcel (self.new ≡ self.old)) }
         ensures closed { IfErr result (λ fault. fault ≡ Closed → shut self.new) };
 
-    /// The next parcel, once one is there; none if there will be none.
+    /// Waits for the next parcel and returns it, or none if no parcel will come any more.
     fn take(&mut self) -> Result<Option<Parcel>, PostFault>
         ensures some { IfOk result (λ parcel. IfSome parcel (λ p. takes self.old p self.new)) }
         ensures none { IfOk result (λ parcel. IfNone parcel (self.new ≡ self.old)) }
@@ -42,7 +42,8 @@ pub trait Mail {
         ensures closed { IfErr result (λ fault. fault ≡ Closed → shut self.new) };
 }
 
-/// A node's line to the post. Its ghost members say nothing, since nothing is known of a post that other threads use too.
+/// The connection of one node to the post. Its ghost members say nothing, because other threads use the post too, so
+/// nothing is known of it.
 #[derive(Drop)]
 pub struct Line<'p, R> {
     pub rt: &'p R,

@@ -27,8 +27,10 @@ impl<'p> Promise<Past> for PastOf<'p> {
     ghost kept_by = { λ p r. IsPast (fresh_node p.program.now p.member.nodes p.member.options p.member.me) r };
 }
 
-/// What is left of all nodes of a program, from node 0 up: each lives on a thread of its own, over the one code of the program, until the
-/// post is closed. Where one fails, or there is no memory for a thread, the post is closed at once; a node that has no thread makes no turn.
+/// Runs all nodes of a program and returns what is left of them, from node 0 up. Each node lives on a separate thread
+/// until the post is closed, and all share one code. If a node fails, or there is no memory for a thread, the post is
+/// closed at once. A node without a thread makes no turn. The call fails if there is no memory for the lists, before
+/// any thread starts.
 pub fn pasts_of<C: Coded + Sync, G: Gate + Sync, R: Threads + Wait + Sync>(
     rt: &R,
     alloc: Global,
@@ -39,7 +41,8 @@ pub fn pasts_of<C: Coded + Sync, G: Gate + Sync, R: Threads + Wait + Sync>(
 ) -> Result<Vec<Past>, AllocError>
     requires code { C.program_of code.now ≡ setting.now.program.now }
     requires few { setting.now.nodes ≤ 16 }
-    ensures { IfOk result (λ pasts. ArePastsOf setting.now.program.now setting.now.nodes setting.now.options pasts.items) }
+    ensures { IfOk result (λ pasts. ArePastsOf setting.now.program.now setting.now.nodes
+        setting.now.options pasts.items) }
 {
     // The scope's closure captures these, and not the setting, whose type names a lifetime.
     let (program, nodes, options) = (setting.program, setting.nodes, &setting.options);
@@ -48,14 +51,16 @@ pub fn pasts_of<C: Coded + Sync, G: Gate + Sync, R: Threads + Wait + Sync>(
         rt,
         |scope| -> Result<Vec<Past>, AllocError>
             requires { (C.program_of code.now ≡ program.now) × (nodes ≤ 16) }
-            ensures { IfOk result (λ pasts. ArePastsOf program.entry.now nodes options.entry.now pasts.items) }
+            ensures { IfOk result (λ pasts. ArePastsOf program.entry.now nodes options.entry.now
+                pasts.items) }
         {
             let room = Vec::with_capacity(alloc, usize::from(nodes))?;
             let mut threads = Vec::with_capacity(alloc, usize::from(nodes))?;
             for me in 0..nodes {
                 let body = move || -> Past
                     requires { (me < nodes) × (nodes ≤ 16) }
-                    ensures { IsPast (fresh_node (C.program_of code.entry.now) nodes options.entry.now me) result }
+                    ensures { IsPast (fresh_node (C.program_of code.entry.now) nodes
+                        options.entry.now me) result }
                 {
                     let member = Member::new(nodes, options, me);
                     on_thread(rt, alloc, code.code(), member, post, gate)
@@ -93,7 +98,8 @@ fn joined<R: Threads>(
     requires few { length threads.items ≤ setting.now.nodes }
     requires owed { AreOwedFrom setting.now.program.now setting.now.nodes setting.now.options 0
         (map (λ handle. handle.promise) threads.items) }
-    ensures pasts { AreFirstPasts setting.now.program.now setting.now.nodes setting.now.options result.items }
+    ensures pasts { AreFirstPasts setting.now.program.now setting.now.nodes setting.now.options
+        result.items }
     ensures few { length result.items ≤ setting.now.nodes }
     ensures room { setting.now.nodes ≤ vec_capacity result }
 {
@@ -108,8 +114,10 @@ fn joined<R: Threads>(
 fn filled(alloc: Global, setting: &Setting<'_>, before: Vec<Past>) -> Vec<Past>
     requires few { length before.items ≤ setting.now.nodes }
     requires room { setting.now.nodes ≤ vec_capacity before }
-    requires pasts { AreFirstPasts setting.now.program.now setting.now.nodes setting.now.options before.items }
-    ensures { ArePastsOf setting.now.program.now setting.now.nodes setting.now.options result.items }
+    requires pasts { AreFirstPasts setting.now.program.now setting.now.nodes setting.now.options
+        before.items }
+    ensures { ArePastsOf setting.now.program.now setting.now.nodes setting.now.options
+        result.items }
 {
     let mut pasts = before;
     let nodes = setting.nodes;

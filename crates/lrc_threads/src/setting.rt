@@ -5,18 +5,18 @@ ghost use Rattle.std.specs.Prelude.{◌≡◌};
 use lrc_lang::program::Program;
 use lrc_node::Options;
 
-/// What a run is made with: the program, how many nodes run it, and how they go.
+/// The setting of a run: the program, the number of its nodes, and their options.
 #[derive(Clone, Copy)]
 pub struct Setting<'p> {
     /// The program.
     pub program: &'p Program,
-    /// How many nodes run it, 1 to 16.
+    /// The number of nodes that run it, 1 to 16.
     pub nodes: u8,
-    /// How they go.
+    /// The options of the nodes.
     pub options: Options,
 }
 
-/// One node of a run: how many nodes there are, how they go, and its own number.
+/// One node of a run: the number of nodes, their options, and the node's number.
 #[derive(Clone, Copy)]
 pub(crate) struct Member {
     pub nodes: u8,
@@ -25,7 +25,7 @@ pub(crate) struct Member {
 }
 
 impl Member {
-    /// Node `me` of so many nodes that go so.
+    /// Returns node `me` of `nodes` nodes with these options.
     pub(crate) fn new(nodes: u8, options: &Options, me: u8) -> Member
         ensures { result ≡ record { nodes = nodes; options = options.now; me = me } }
     {

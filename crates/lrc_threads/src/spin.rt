@@ -2,25 +2,25 @@
 
 use lrc_trace::act::Deed;
 
-/// How often a node that only looks stands aside, at most, before it looks again.
+/// The most times that a node's thread yields after one look.
 const MOST_RESTS: u32 = 64;
 
-/// How a node's thread stands aside. A node only looks where it releases a lock and has neither written anything since its release
-/// before nor taken a message: it looks for what another node has to do first, of which it learns by a message alone. So it stands
-/// aside then, once behind its first look, once more behind each further one, up to a bound, and until a message comes. This decides
-/// when a turn is made, and nothing else.
+/// When a node's thread yields to other threads. A node only looks if it releases a lock and has neither written
+/// anything since its release before nor taken a message. Then it looks for what another node must do first, and only a
+/// message can tell it of that. So its thread yields: once after its first look, and once more after each further one,
+/// up to a bound, or until a message comes. This decides when a turn is made, and nothing else.
 #[derive(Clone, Copy)]
 pub(crate) struct Spin {
-    /// How many looks there were in a row.
+    /// How many looks came in a row, at most [`MOST_RESTS`].
     looks: u32,
     /// Whether the node has written something or taken a message since its last release.
     went_on: bool,
-    /// How often it is still to stand aside.
+    /// How many times the thread must still yield.
     rests: u32,
 }
 
 impl Spin {
-    /// That of a node which has not looked yet.
+    /// Returns the state of a node that has not looked yet.
     pub(crate) fn new() -> Spin {
         Spin {
             looks: 0,
@@ -29,7 +29,7 @@ impl Spin {
         }
     }
 
-    /// Whether the thread is to stand aside once, which is counted.
+    /// Returns whether the thread must yield once, and counts it.
     pub(crate) fn rest(&mut self) -> bool {
         if self.rests == 0 {
             return false;
@@ -38,13 +38,13 @@ impl Spin {
         true
     }
 
-    /// The node took a message.
+    /// Notes that the node took a message.
     pub(crate) fn note_message(&mut self) {
         *self = Spin::new();
     }
 
-    /// The node made a turn by itself, with this deed if it made an act. Whether it is to see now if there is a message: behind each
-    /// release, for the lock may be asked for.
+    /// Notes that the node made a turn by itself, with this deed if it made an act. Returns whether the node must look
+    /// for a message now: after each release, because another node may ask for the lock.
     pub(crate) fn note_turn(&mut self, deed: Option<Deed>) -> bool {
         match deed {
             Some(Deed::Write(_, _)) => {

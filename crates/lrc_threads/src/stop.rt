@@ -6,7 +6,7 @@ ghost use Rattle.lrc_threads.specs.declared.stop.Stop.TheVariants.{NoMemory};
 use std::alloc::{AllocError, AllocFailed};
 use thiserror::Error;
 
-/// Why a node's thread stops before there is nothing more to do.
+/// Why a node's thread stopped early.
 #[derive(Clone, Copy, Debug, PartialEq, Eq, Error)]
 pub enum Stop {
     /// The post was closed while the node had messages to send.
@@ -15,7 +15,7 @@ pub enum Stop {
     /// A message number, an interval's index, a stamp or the length of a message would pass its limit.
     #[error("message numbers used up")]
     Worn,
-    /// No memory was left.
+    /// Memory ran out.
     #[error("out of memory")]
     NoMemory,
 }

@@ -22,7 +22,8 @@ use lrc_trace::trace::Trace;
 use std::alloc::{AllocError, Global};
 use std::sync::Wait;
 
-/// What a node of a program does, from its first turn until the post is closed or the node fails. A node that fails closes the post.
+/// Runs a node of a program, from its first turn until the post is closed or the node fails. A node that fails closes
+/// the post.
 pub(crate) fn on_thread<G: Gate, R: Wait>(
     rt: &R,
     alloc: Global,
@@ -71,7 +72,8 @@ fn past_of<G: Gate, R: Wait>(
 fn ended(node: Logged<'_>, stop: Option<Stop>) -> Past
     ensures log { result.log.items ≡ node.entry.logged.log }
     ensures trace { result.trace ≡ node.entry.trace }
-    ensures ready { (l : LogRecord) → node.entry.logged ≡ sound l → result.is_ready ≡ is_ready l.node }
+    ensures ready { (l : LogRecord) → node.entry.logged ≡ sound l
+        → result.is_ready ≡ is_ready l.node }
     ensures stop { result.stop ≡ stop }
 {
     let is_ready = node.ready();
@@ -84,7 +86,7 @@ fn ended(node: Logged<'_>, stop: Option<Stop>) -> Past
     }
 }
 
-/// What is left of a node for which there was no memory.
+/// Returns what is left of a node for which there was no memory.
 pub(crate) fn unborn(alloc: Global, member: &Member) -> Past
     ensures log { result.log.items ≡ [] }
     ensures stop { result.stop ≡ Some NoMemory }
@@ -101,8 +103,10 @@ pub(crate) fn unborn(alloc: Global, member: &Member) -> Past
 fn fresh<'c>(alloc: Global, code: &'c Code<'_>, member: Member) -> Result<Logged<'c>, AllocError>
     requires here { member.me < member.nodes }
     requires few { member.nodes ≤ 16 }
-    ensures fresh { IfOk result (λ node. node.logged ≡ sound (no_turn_yet (fresh_node code.now member.nodes member.options member.me))) }
-    ensures leads { IfOk result (λ node. LeadsFrom (fresh_node code.now member.nodes member.options member.me)
+    ensures fresh { IfOk result (λ node. node.logged
+        ≡ sound (no_turn_yet (fresh_node code.now member.nodes member.options member.me))) }
+    ensures leads { IfOk result (λ node. LeadsFrom
+        (fresh_node code.now member.nodes member.options member.me)
         (no_turn_yet (fresh_node code.now member.nodes member.options member.me)) node) }
 {
     let node = Node::new(alloc, code, member.me, member.nodes, &member.options)?;

@@ -21,16 +21,19 @@ use std::alloc::Global;
 use std::sync::Wait;
 use std::thread;
 
-/// How many turns a node makes by itself, at most, before it looks whether there is a message for it.
+/// The most turns that a node makes by itself before it looks for a message.
 const TURNS: u32 = 64;
 
-/// A node's turns, until there will be no message for it any more and it waits: it goes on while it is ready, and takes its messages,
-/// which it waits for where it is not ready. A node that is ready looks for messages after each release of a lock, and after each 64 turns; one
-/// that spins under a lock lets other threads go on meanwhile. What a turn sends is put before the next one. A message that cannot
-/// be read, or that the node does not expect, is taken and makes no turn. It ends well only where the node waits and its mail, asked for
-/// the next message, says that there will be none; it answers `Closed` only where its mail says that the post is closed. What its mail
-/// means by either is up to the mail: a `Line`, whose post other threads use too, means nothing. `Worn` comes only of a turn that is too
-/// large, or that has a message which is too long to be sent.
+/// Makes a node's turns until it waits and no message will come any more. The node goes on while it is ready. When it
+/// is not ready, it waits for messages and takes them. A ready node looks for messages after each release of a lock,
+/// and after every 64 turns. A node that spins under a lock lets other threads go on meanwhile. The messages of a turn
+/// are put before the next turn. A message that cannot be read, or that the node does not expect, is taken and makes no
+/// turn.
+///
+/// It ends well only if the node waits and its mail, asked for the next message, says that there will be none. It fails
+/// with `Closed` only if its mail says that the post is closed. What either means is up to the mail: a `Line`, whose
+/// post other threads use too, means nothing by it. `Worn` comes only of a turn that is too large, or that has a
+/// message which is too long to be sent.
 pub fn work<M: Mail, G: Gate, R: Wait>(
     rt: &R,
     alloc: Global,
@@ -39,8 +42,10 @@ pub fn work<M: Mail, G: Gate, R: Wait>(
     node: &mut Logged<'_>,
     me: u8,
 ) -> Result<(), Stop>
-    ensures goes { (l : log.Logged) → node.old.logged ≡ sound l → GoesTo M.puts M.takes mail.old l mail.new node.new.logged result }
-    ensures over { (l : log.Logged) → node.old.logged ≡ sound l → OnOk result (IsIdle node.new.logged) }
+    ensures goes { (l : log.Logged) → node.old.logged ≡ sound l
+        → GoesTo M.puts M.takes mail.old l mail.new node.new.logged result }
+    ensures over { (l : log.Logged) → node.old.logged ≡ sound l
+        → OnOk result (IsIdle node.new.logged) }
     ensures ended { OnOk result (M.over mail.new) }
     ensures closed { IfErr result (λ stop. stop ≡ Closed → M.shut mail.new) }
     ensures traced { TracesTo node.old node.new result }
@@ -64,7 +69,8 @@ fn go_on<M: Mail, G: Gate>(
     me: u8,
     spin: &mut Spin,
 ) -> Result<(), Stop>
-    ensures goes { (l : log.Logged) → node.old.logged ≡ sound l → GoesTo M.puts M.takes mail.old l mail.new node.new.logged result }
+    ensures goes { (l : log.Logged) → node.old.logged ≡ sound l
+        → GoesTo M.puts M.takes mail.old l mail.new node.new.logged result }
     ensures closed { IfErr result (λ stop. stop ≡ Closed → M.shut mail.new) }
     ensures traced { TracesTo node.old node.new result }
 {
@@ -84,7 +90,8 @@ fn run_on<M: Mail, G: Gate>(
     me: u8,
     spin: &mut Spin,
 ) -> Result<(), Stop>
-    ensures goes { (l : log.Logged) → node.old.logged ≡ sound l → GoesTo M.puts M.takes mail.old l mail.new node.new.logged result }
+    ensures goes { (l : log.Logged) → node.old.logged ≡ sound l
+        → GoesTo M.puts M.takes mail.old l mail.new node.new.logged result }
     ensures closed { IfErr result (λ stop. stop ≡ Closed → M.shut mail.new) }
     ensures traced { TracesTo node.old node.new result }
 {
@@ -114,7 +121,8 @@ fn run_once<M: Mail, G: Gate>(
     node: &mut Logged<'_>,
     me: u8,
 ) -> Result<(), Stop>
-    ensures goes { (l : log.Logged) → node.old.logged ≡ sound l → GoesTo M.puts M.takes mail.old l mail.new node.new.logged result }
+    ensures goes { (l : log.Logged) → node.old.logged ≡ sound l
+        → GoesTo M.puts M.takes mail.old l mail.new node.new.logged result }
     ensures closed { IfErr result (λ stop. stop ≡ Closed → M.shut mail.new) }
     ensures traced { TracesTo node.old node.new result }
 {
@@ -136,8 +144,10 @@ fn receive<M: Mail, G: Gate>(
     me: u8,
     spin: &mut Spin,
 ) -> Result<bool, Stop>
-    ensures goes { (l : log.Logged) → node.old.logged ≡ sound l → GoesTo M.puts M.takes mail.old l mail.new node.new.logged result }
-    ensures over { (l : log.Logged) → node.old.logged ≡ sound l → IfOk result (λ goes. goes ≡ false → IsIdle node.new.logged) }
+    ensures goes { (l : log.Logged) → node.old.logged ≡ sound l
+        → GoesTo M.puts M.takes mail.old l mail.new node.new.logged result }
+    ensures over { (l : log.Logged) → node.old.logged ≡ sound l
+        → IfOk result (λ goes. goes ≡ false → IsIdle node.new.logged) }
     ensures ended { IfOk result (λ goes. goes ≡ false → M.over mail.new) }
     ensures closed { IfErr result (λ stop. stop ≡ Closed → M.shut mail.new) }
     ensures traced { TracesTo node.old node.new result }
@@ -173,7 +183,8 @@ fn take_in<M: Mail>(
     node: &mut Logged<'_>,
     parcel: &Parcel,
 ) -> Result<(), Stop>
-    ensures goes { (l : log.Logged) → node.old.logged ≡ sound l → TakesIn M.puts M.takes mail.old parcel.now l mail.new node.new.logged result }
+    ensures goes { (l : log.Logged) → node.old.logged ≡ sound l
+        → TakesIn M.puts M.takes mail.old parcel.now l mail.new node.new.logged result }
     ensures closed { IfErr result (λ stop. stop ≡ Closed → M.shut mail.new) }
     ensures traced { TracesTo node.old node.new result }
 {
@@ -189,7 +200,8 @@ fn take_in<M: Mail>(
 
 // Puts the messages of the node's newest turn.
 fn send_last<M: Mail>(alloc: Global, mail: &mut M, node: &Logged<'_>) -> Result<(), Stop>
-    ensures sent { (entry : EntryRecord) → LogsLast node.now.logged entry → SendsTo M.puts mail.old entry mail.new result }
+    ensures sent { (entry : EntryRecord) → LogsLast node.now.logged entry
+        → SendsTo M.puts mail.old entry mail.new result }
     ensures closed { IfErr result (λ stop. stop ≡ Closed → M.shut mail.new) }
 {
     let Some(entry) = node.log().last() else {
@@ -204,7 +216,8 @@ fn send_last<M: Mail>(alloc: Global, mail: &mut M, node: &Logged<'_>) -> Result<
 
 // The parcels of messages that are sent in one turn.
 fn parcels_of(alloc: Global, out: &[Envelope], stamp: u64) -> Result<Vec<Parcel>, Stop>
-    ensures shown { IfOk result (λ parcels. map shown parcels.items ≡ map (shown_sent stamp) out.now) }
+    ensures shown { IfOk result (λ parcels. map shown parcels.items
+        ≡ map (shown_sent stamp) out.now) }
     ensures short { OnOk result (All IsShort out.now) }
     ensures worn { IfErr result (λ stop. stop ≡ Worn → Any IsTooLong out.now) }
     ensures open { IfErr result (λ stop. stop ≢ Closed) }

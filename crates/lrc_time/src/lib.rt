@@ -1,5 +1,5 @@
-//! Vector times: for each node how many of its intervals are known (Keleher, Cox and Zwaenepoel 1992). No call
-//! here allocates.
+//! Vector times (Keleher, Cox and Zwaenepoel 1992). A vector time says for each node how many of its intervals are
+//! known. No call here allocates memory.
 #![tactic(auto)]
 
 ghost use Rattle.std.specs.Prelude.{◌≡◌, ◌<◌, ◌≤◌, ◌↔◌, IsTrue, length, slice_index, slice_set};
@@ -13,7 +13,7 @@ use std::marker::Model;
 /// The largest number of nodes.
 pub const MOST_NODES: usize = 16;
 
-/// A vector time: entry q counts the intervals of node q that are known. It has 1 to 16 entries, one for each node.
+/// A vector time. Entry q counts the known intervals of node q. There are 1 to 16 entries, one for each node.
 #[derive(Debug, PartialEq, Eq, Drop)]
 pub struct Time {
     entries: ArrayVec<u32, MOST_NODES>,
@@ -32,7 +32,7 @@ impl Model for Time {
 }
 
 impl Time {
-    /// The time of a node that knows no interval: `nodes` entries, 1 to 16, each 0.
+    /// Returns the time of a node that knows no interval: `nodes` entries, 1 to 16, each 0.
     pub fn new(nodes: u8) -> Self
         requires some { 1 ≤ nodes }
         requires few { nodes ≤ 16 }
@@ -45,7 +45,7 @@ impl Time {
         Time { entries }
     }
 
-    /// How many entries there are, 1 to 16.
+    /// Returns the number of entries, 1 to 16.
     pub fn nodes(&self) -> u8
         ensures all { result ≡ length self.now }
         ensures some { 1 ≤ result }
@@ -54,7 +54,7 @@ impl Time {
         self.entries.len() as u8
     }
 
-    /// How many intervals of this node are known.
+    /// Returns how many intervals of the given node are known.
     pub fn at(&self, node: u8) -> u32
         requires { node < length self.now }
         ensures { result ≡ entry self.now node }
@@ -62,7 +62,7 @@ impl Time {
         self.entries[usize::from(node)]
     }
 
-    /// Sets the entry of this node to `index`, which is greater than what stood there.
+    /// Sets the given node's entry to `index`, which is greater than the entry before.
     pub fn raise(&mut self, node: u8, index: u32)
         requires in_range { node < length self.old }
         requires greater { entry self.old node < index }
@@ -71,7 +71,7 @@ impl Time {
         self.set(node, index);
     }
 
-    /// Sets the entry of this node to `index`, whatever stood there.
+    /// Sets the given node's entry to `index`, greater or not.
     pub fn set(&mut self, node: u8, index: u32)
         requires { node < length self.old }
         ensures { self.new ≡ slice_set self.old node index }
@@ -80,7 +80,7 @@ impl Time {
         self.entries[place] = index;
     }
 
-    /// Takes the greater of each two entries. Both times have equally many.
+    /// Raises each entry to that of `other` where that one is greater. Both times have equally many entries.
     pub fn join(&mut self, other: &Time)
         requires { length self.old ≡ length other.now }
         ensures { self.new ≡ joined self.old other.now }
@@ -91,7 +91,7 @@ impl Time {
         }
     }
 
-    /// Whether every entry is at least as large as that of `other`. Both times have equally many.
+    /// Returns whether every entry is at least as large as that of `other`. Both times have equally many entries.
     pub fn covers(&self, other: &Time) -> bool
         requires { length self.now ≡ length other.now }
         ensures { IsTrue result ↔ Covers self.now other.now }
@@ -102,14 +102,14 @@ impl Time {
             .all(|(mine, theirs)| *theirs <= *mine)
     }
 
-    /// The sum of the entries, by which intervals that precede one another can be put in order.
+    /// Returns the sum of the entries. It serves to order intervals: a stamp that covers a different one weighs more.
     pub fn weight(&self) -> u64
         ensures { result ≡ weight_of self.now }
     {
         self.entries.iter().map(|entry| u64::from(*entry)).sum()
     }
 
-    /// A time with the same entries.
+    /// Returns a time with the same entries.
     pub fn copy(&self) -> Self
         ensures { result ≡ self.now }
     {

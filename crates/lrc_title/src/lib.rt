@@ -1,4 +1,4 @@
-//! The title of a chart: a command line that makes it.
+//! The title of a chart: a shell command line that makes the same chart.
 #![tactic(auto)]
 
 mod title;

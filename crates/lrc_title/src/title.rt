@@ -19,8 +19,8 @@ const DEFAULT_COLLECT: u64 = 0;
 
 const DEFAULT_SEED: u64 = 0;
 
-/// The title of a chart of a run: a command line for a shell that makes it, where its file's name begins with no `-`. A chart for a
-/// terminal has the same title as the document.
+/// Returns the title for a chart of a run: a shell command line that makes it, if the file's name does not begin with
+/// `-`. A chart for a terminal has the same title as the SVG document.
 pub fn title_of(
     alloc: Global,
     run: &RunChoice<'_>,
@@ -36,7 +36,8 @@ pub fn title_of(
     Ok(title)
 }
 
-/// The title of a chart of acts from anywhere: a command line for a shell that makes it, where its file's name begins with no `-`.
+/// Returns the title for a chart of acts from a file: a shell command line that makes it, if the file's name does not
+/// begin with `-`.
 pub fn title_of_acts(
     alloc: Global,
     acts: &ChartedActs<'_>,
@@ -75,7 +76,8 @@ fn push_charting(text: &mut Vec<u8>, charting: &Charting) -> Result<(), AllocErr
 
 // Adds an option, where it is asked for.
 fn push_if(text: &mut Vec<u8>, option: &[u8], is_asked: bool) -> Result<(), AllocError>
-    ensures { OnOk result (text.new.items ≡ text.old.items ++ (if is_asked then option.now else [])) }
+    ensures { OnOk result (text.new.items
+        ≡ text.old.items ++ (if is_asked then option.now else [])) }
 {
     if is_asked {
         text.extend_from_slice(option)?;
@@ -160,7 +162,8 @@ fn push_unless(
     default: u64,
     number: u64,
 ) -> Result<(), AllocError>
-    ensures { OnOk result (text.new.items ≡ text.old.items ++ option_text option.now default number) }
+    ensures { OnOk result (text.new.items
+        ≡ text.old.items ++ option_text option.now default number) }
 {
     if number == default {
         return Ok(());

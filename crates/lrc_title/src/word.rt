@@ -58,7 +58,7 @@ fn push_quoted(text: &mut Vec<u8>, word: &[u8]) -> Result<(), AllocError>
     text.extend_from_slice(b"'")
 }
 
-/// Adds a word, between single quotes where it needs them.
+/// Adds a word, in single quotes if it needs them.
 pub(crate) fn push_word(text: &mut Vec<u8>, word: &[u8]) -> Result<(), AllocError>
     ensures { OnOk result (text.new.items ≡ text.old.items ++ shell_word word.now) }
 {

@@ -1,4 +1,5 @@
-//! The lines that are told of acts in a text: those that the comments behind them name, or else their own.
+//! The line numbers to report for the acts of a text: the line that the comment behind an act names, as in `# line L`,
+//! or else the act's line.
 #![tactic(auto)]
 
 mod named;

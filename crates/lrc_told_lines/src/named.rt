@@ -99,9 +99,11 @@ fn told_at(lines: &[&[u8]], number: u32) -> u32
     line_told(line_at(lines, place), number)
 }
 
-/// The line that is told of each act, of acts on these lines of the text.
+/// Returns the line to report for each act, given the numbers of the lines on which the acts are. It is the line that
+/// the comment of that line names, if any, or else the line itself.
 pub fn act_lines(alloc: Global, text: &[u8], numbers: &[u32]) -> Result<Vec<u32>, AllocError>
-    ensures { IfOk result (λ told. AreLinesTold (cut (divides LineFeed) text.now) numbers.now told.items) }
+    ensures { IfOk result (λ told. AreLinesTold
+        (cut (divides LineFeed) text.now) numbers.now told.items) }
 {
     let lines = cut(alloc, Divider::LineFeed, text)?;
     let mut told = Vec::new(alloc);

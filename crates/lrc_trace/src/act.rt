@@ -5,9 +5,9 @@
 pub enum Cause {
     /// A division or a remainder by zero.
     DivisionByZero = 1,
-    /// A word that is not below the program's number of words.
+    /// A word number that is not below the program's number of words.
     WordOutOfRange = 2,
-    /// A lock that is not below the program's number of locks.
+    /// A lock number that is not below the program's number of locks.
     LockOutOfRange = 3,
     /// An acquire of a lock that this node holds.
     LockHeld = 4,
@@ -18,7 +18,7 @@ pub enum Cause {
 /// What a node does in one act.
 #[derive(Clone, Copy, PartialEq, Eq, Hash)]
 pub enum Deed {
-    /// A step that only this node sees: an assignment, or a condition.
+    /// Takes a step that only this node sees: an assignment, or a condition.
     Quiet,
     /// Prints a value.
     Print(u64),
@@ -26,21 +26,21 @@ pub enum Deed {
     Read(u32, u64),
     /// Writes this value to a word of the shared memory.
     Write(u32, u64),
-    /// Gets a lock.
+    /// Acquires a lock.
     Acquire(u8),
-    /// Gives a lock back.
+    /// Releases a lock.
     Release(u8),
-    /// Comes to a barrier.
+    /// Arrives at a barrier.
     Arrive,
-    /// Goes on from a barrier, once every node has come to it.
+    /// Departs from a barrier, once every node has arrived at it.
     Depart,
-    /// Stops for good, in place of a statement that cannot be done.
+    /// Stops forever, in place of a statement that cannot be carried out.
     Trap(Cause),
-    /// Stops for good, at the end of the text.
+    /// Stops forever, at the end of the text.
     End,
 }
 
-/// One act of one node. A run is a list of acts, and positions in it count from 0.
+/// One act of one node. A run is a list of acts, and positions in it are counted from 0.
 #[derive(Clone, Copy, PartialEq, Eq, Hash)]
 pub struct Act {
     /// The node, 0 to 15.

@@ -5,10 +5,10 @@ use crate::act::Cause;
 /// How a node ended.
 #[derive(Clone, Copy, Debug, PartialEq, Eq)]
 pub enum End {
-    /// It came to the end of the text.
+    /// It reached the end of the text.
     Ended,
     /// It trapped.
     Trapped(Cause),
-    /// It has neither trapped nor come to the end of the text.
+    /// It has neither trapped nor reached the end of the text.
     Unfinished,
 }

@@ -1,5 +1,6 @@
-//! What the nodes of a run do: acts, the definitions on lists of acts that the theorems speak of, and traces of the
-//! accesses of one node.
+//! What the nodes of a run do. A run is a list of acts, each of one node. On such lists the crate defines the terms of
+//! the theorems: happens before, races, intervals, and the values that a read may give. It also keeps traces: which
+//! words a node read and wrote in each of its intervals.
 #![tactic(auto)]
 
 pub mod act;

@@ -1,7 +1,7 @@
 // Races as a report names them.
 
-/// Two accesses to one word, in no order, named by their nodes and intervals. The order of races is that of the
-/// fields.
+/// Two accesses of different nodes to one word, at least one of them a write, that are not ordered. They are named by
+/// their nodes and intervals. Races are ordered by their fields, in the order given here.
 #[derive(Clone, Copy, PartialEq, Eq, PartialOrd, Ord)]
 pub struct Race {
     /// The word of shared memory.

@@ -9,15 +9,15 @@ use lrc_page::Mask;
 use std::alloc::{AllocError, Global};
 use std::marker::Model;
 
-/// A page, and those of its words that were touched, by their offsets.
+/// A page, and the offsets of its words that were touched.
 #[derive(Clone, Copy)]
 pub struct TouchedPage {
     pub page: u16,
     pub mask: Mask,
 }
 
-/// The words that a node touched: their pages, ascending, each once, with the offsets on it. The race detectors for such
-/// memories keep one bit for each word (Perkovic and Keleher 1996).
+/// The words that a node touched: their pages, ascending, each once, with the offsets of the words. One bit is kept for
+/// each word of a page, as in the race detectors for such memories (Perkovic and Keleher 1996).
 #[derive(Drop)]
 pub struct Touched {
     pages: Vec<TouchedPage>,
@@ -37,7 +37,7 @@ impl Model for Touched {
 }
 
 impl Touched {
-    /// No words.
+    /// Returns an empty set of words.
     pub fn none(alloc: Global) -> Self
         ensures { result ≡ [] }
     {
@@ -46,8 +46,8 @@ impl Touched {
         }
     }
 
-    /// Adds the word at an offset of a page. An error leaves the words as they were. A page that is there already costs
-    /// no memory.
+    /// Adds the word at an offset of a page. It needs no memory if the page is already there. It fails if memory runs
+    /// out, and then nothing changes.
     pub fn add(&mut self, page: u16, offset: u8) -> Result<(), AllocError>
         ensures ok { OnOk result (self.new ≡ with_word page offset self.old) }
         ensures err { OnErr result (self.new ≡ self.old) }
@@ -63,7 +63,7 @@ impl Touched {
         Ok(())
     }
 
-    /// The pages, ascending, each with its words.
+    /// Returns the pages, ascending, each with its words.
     pub fn as_slice(&self) -> &[TouchedPage]
         ensures all { result.now ≡ self.now }
         ensures touched { IsTouched self.now }
@@ -76,7 +76,8 @@ impl Touched {
 fn place_of(pages: &[TouchedPage], page: u16) -> usize
     requires { IsRising (numbers_of pages.now) }
     ensures within { result ≤ length pages.now }
-    ensures before { (k : ℕ) (d : TouchedPage) → k < result → (slice_index_or pages.now k d).page < page }
+    ensures before { (k : ℕ) (d : TouchedPage) → k < result
+        → (slice_index_or pages.now k d).page < page }
     ensures after { (k : ℕ) (d : TouchedPage) → result ≤ k → k < length pages.now
         → page ≤ (slice_index_or pages.now k d).page }
 {

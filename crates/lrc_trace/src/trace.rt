@@ -13,9 +13,9 @@ use std::marker::Model;
 /// The accesses that a node made in one interval.
 #[derive(Drop)]
 pub struct Segment {
-    /// How often the node had gone on from a barrier before.
+    /// How many times the node had departed from a barrier before.
     pub epoch: u32,
-    /// The interval's number among those of its node, from 1.
+    /// The number of the interval among those of its node, from 1.
     pub interval: u32,
     /// The stamp that the interval has, or would have.
     pub time: Time,
@@ -63,8 +63,7 @@ impl Segment {
     }
 }
 
-/// What a node read and wrote, interval by interval: a segment for each interval with an access, the intervals
-/// ascending.
+/// What a node read and wrote: one segment for each interval with an access, with ascending intervals.
 #[derive(Drop)]
 pub struct Trace {
     node: u8,
@@ -87,7 +86,7 @@ impl Trace {
     ghost use Rattle.lrc_trace.specs.Segments.{AreSegments};
     ghost use Rattle.lrc_trace.specs.Trace.{MayNote, noted};
 
-    /// The trace of a node that has made no access, over pages of this size.
+    /// Returns the trace of a node that has made no access, for pages of the given size.
     pub fn new(alloc: Global, node: u8, size: Size) -> Self
         ensures { result ≡ record { node = node; size = size; segments = [] } }
     {
@@ -98,8 +97,8 @@ impl Trace {
         }
     }
 
-    /// Whether an access of this interval may be noted: one after the last one noted, or that one, with its epoch and its
-    /// time.
+    /// Returns whether an access of the given interval may be noted. The interval must come after the last one noted,
+    /// or be that one, with the same epoch and time.
     pub fn may_note(&self, epoch: u32, interval: u32, time: &Time) -> bool
         ensures { IsTrue result ↔ MayNote self.now.segments epoch interval time.now }
     {
@@ -109,8 +108,8 @@ impl Trace {
         }
     }
 
-    /// Notes an access of the interval, which is the last one noted or one after it. Each interval has one epoch and one
-    /// time. An error leaves the trace as it was.
+    /// Notes an access of an interval. The interval is the last one noted, with the same epoch and time, or a later
+    /// one. It fails if memory runs out, and then nothing changes.
     pub fn note(
         &mut self,
         epoch: u32,
@@ -138,21 +137,21 @@ impl Trace {
         Ok(())
     }
 
-    /// The node whose accesses these are.
+    /// Returns the node that made the accesses.
     pub fn node(&self) -> u8
         ensures { result ≡ self.now.node }
     {
         self.node
     }
 
-    /// The size of the pages.
+    /// Returns the size of the pages.
     pub fn size(&self) -> Size
         ensures { result ≡ self.now.size }
     {
         self.size
     }
 
-    /// The segments, their intervals ascending.
+    /// Returns the segments, with ascending intervals.
     pub fn segments(&self) -> &[Segment]
         ensures all { result.now ≡ self.now.segments }
         ensures kept { AreSegments self.now.segments }

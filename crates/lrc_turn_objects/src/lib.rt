@@ -1,4 +1,4 @@
-//! Objects of JSON: messages, labels, acts, and the last Write to a word.
+//! Writes the JSON objects that lines about turns contain: messages, labels, acts, and the last write to a word.
 #![tactic(auto)]
 
 mod objects;

@@ -13,7 +13,7 @@ use lrc_text::{push_deed, push_number};
 use lrc_trace::act::{Act, Deed};
 use std::alloc::{AllocError, Global};
 
-/// Adds a comma before an item of a list, but before the first nothing.
+/// Adds a comma before the list item at this place, or nothing before the first item.
 pub fn push_comma(text: &mut Vec<u8>, place: usize) -> Result<(), AllocError>
     ensures { OnOk result (text.new.items ≡ text.old.items ++ before place (codes ",")) }
 {
@@ -57,13 +57,14 @@ pub fn push_listed(
     place: usize,
     envelope: &Envelope,
 ) -> Result<(), AllocError>
-    ensures { OnOk result (text.new.items ≡ text.old.items ++ before place (codes ",") ++ message_object envelope.now) }
+    ensures { OnOk result (text.new.items
+        ≡ text.old.items ++ before place (codes ",") ++ message_object envelope.now) }
 {
     push_comma(text, place)?;
     push_envelope(alloc, text, envelope)
 }
 
-/// Adds messages, with commas between them.
+/// Adds messages, separated by commas.
 pub fn push_envelopes(
     alloc: Global,
     text: &mut Vec<u8>,
@@ -110,7 +111,8 @@ fn last_of(target: Target) -> u32
 
 // Adds a label at this place of a list.
 fn push_label(text: &mut Vec<u8>, place: usize, label: Label<'_>) -> Result<(), AllocError>
-    ensures { OnOk result (text.new.items ≡ text.old.items ++ before place (codes ",") ++ label_object (label_seen label.entry)) }
+    ensures { OnOk result (text.new.items
+        ≡ text.old.items ++ before place (codes ",") ++ label_object (label_seen label.entry)) }
 {
     push_comma(text, place)?;
     text.extend_from_slice(b"{\"of\":\"")?;
@@ -122,9 +124,10 @@ fn push_label(text: &mut Vec<u8>, place: usize, label: Label<'_>) -> Result<(), 
     text.extend_from_slice(b"\"}")
 }
 
-/// Adds labels, with commas between them.
+/// Adds labels, separated by commas.
 pub fn push_labels(text: &mut Vec<u8>, labels: &[Label<'_>]) -> Result<(), AllocError>
-    ensures { OnOk result (text.new.items ≡ text.old.items ++ labels_list (map label_seen labels.now)) }
+    ensures { OnOk result (text.new.items
+        ≡ text.old.items ++ labels_list (map label_seen labels.now)) }
 {
     for (place, label) in labels.iter().enumerate() {
         push_label(text, place, *label)?;
@@ -152,7 +155,7 @@ fn push_done(text: &mut Vec<u8>, spot: Spot, deed: Deed) -> Result<(), AllocErro
     text.extend_from_slice(b"}")
 }
 
-/// Adds the act that is made at this spot, if one is.
+/// Adds the act that is made at this spot, or `null` if none is.
 pub fn push_act(text: &mut Vec<u8>, spot: Spot, act: Option<Act>) -> Result<(), AllocError>
     ensures { OnOk result (text.new.items ≡ text.old.items ++ act_or_null spot act) }
 {
@@ -185,13 +188,14 @@ fn push_write(text: &mut Vec<u8>, note: Note) -> Result<(), AllocError>
 
 // Adds the last Write to a word at this place of a list.
 fn push_note(text: &mut Vec<u8>, place: usize, note: Note) -> Result<(), AllocError>
-    ensures { OnOk result (text.new.items ≡ text.old.items ++ before place (codes ",") ++ note_object note) }
+    ensures { OnOk result (text.new.items
+        ≡ text.old.items ++ before place (codes ",") ++ note_object note) }
 {
     push_comma(text, place)?;
     push_write(text, note)
 }
 
-/// Adds the last Writes to words, with commas between them.
+/// Adds the last writes to words, separated by commas.
 pub fn push_notes(text: &mut Vec<u8>, notes: &[Note]) -> Result<(), AllocError>
     ensures { OnOk result (text.new.items ≡ text.old.items ++ notes_list notes.now) }
 {
@@ -201,7 +205,7 @@ pub fn push_notes(text: &mut Vec<u8>, notes: &[Note]) -> Result<(), AllocError>
     Ok(())
 }
 
-/// Adds whether something is so.
+/// Returns the JSON word for a truth value.
 #[tactic(auto, unfolding(crate::specs::Objects::truth_text))]
 pub fn truth(is_so: bool) -> &'static [u8]
     ensures { result.now ≡ truth_text is_so }

@@ -1,4 +1,5 @@
-//! The turns of a run in words: its acts, with the messages among them that were taken and sent.
+//! Writes the turns of a run in words. The acts come in order, and among them the messages that the turns take and
+//! send.
 #![tactic(auto)]
 
 mod part;

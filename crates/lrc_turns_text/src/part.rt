@@ -1,6 +1,7 @@
 // The turns of a run in words.
 
-ghost use Rattle.std.specs.Prelude.{◌≡◌, ◌+◌, ◌<◌, ◌≤◌, [], ◌∷◌, ◌++◌, IfOk, List, MatchOption, None, OnOk, OnSome, Some, map, slice_index};
+ghost use Rattle.std.specs.Prelude.{◌≡◌, ◌+◌, ◌<◌, ◌≤◌, [], ◌∷◌, ◌++◌, IfOk, List, MatchOption, None, OnOk, OnSome, Some, slice_index};
+ghost use Rattle.lrc_protocol.specs.Run.{turns_of_logs};
 ghost use Rattle.lrc_turns_text.specs.Told.{Tells};
 ghost use Rattle.lrc_turns_text.specs.Turns.{Made, log_entry, next};
 ghost use Rattle.lrc_turns_text.specs.TurnsText.{messages_text, text_behind, texts_behind};
@@ -10,10 +11,11 @@ use crate::turn::push_turn;
 use lrc_node::Entry;
 use std::alloc::{AllocError, Global};
 
-/// The turn at a place of a node's log.
+/// Returns the turn at a place of a node's log, or none if the log has no such turn.
 pub fn entry_of(logs: &[Vec<Entry>], node: u8, place: usize) -> Option<&Entry>
-    ensures there { MatchOption result (log_entry (map (λ log. log.items) logs.now) node place ≡ None)
-        (λ entry. log_entry (map (λ log. log.items) logs.now) node place ≡ Some entry.now) }
+    ensures there { MatchOption result (log_entry (turns_of_logs logs.now) node place
+        ≡ None)
+        (λ entry. log_entry (turns_of_logs logs.now) node place ≡ Some entry.now) }
     ensures bound { OnSome result (place < 18446744073709551615) }
 {
     logs.get(usize::from(node))?.get(place)
@@ -38,7 +40,8 @@ fn tell(
     requires made { slice_index told.old.made node < 18446744073709551615 }
     requires acts { told.old.acts < 18446744073709551615 }
     ensures text { OnOk result ((turns : List Made) → Tells turns told.old
-        → text.new.items ≡ text.old.items ++ text_behind lines.now turns (record { node = node; entry = entry.now })) }
+        → text.new.items ≡ text.old.items ++ text_behind lines.now turns
+        (record { node = node; entry = entry.now })) }
     ensures tells { OnOk result ((turns : List Made) → Tells turns told.old
         → Tells (turns ++ record { node = node; entry = entry.now } ∷ []) told.new) }
     ensures acts { told.new.acts ≤ told.old.acts + 1 }
@@ -59,9 +62,10 @@ fn tell_next(
 ) -> Result<(), AllocError>
     requires { told.old.acts < 18446744073709551615 }
     ensures text { OnOk result ((turns : List Made) → Tells turns told.old
-        → text.new.items ≡ text.old.items ++ texts_behind lines.now turns (next (map (λ log. log.items) logs.now) turns node)) }
+        → text.new.items ≡ text.old.items
+        ++ texts_behind lines.now turns (next (turns_of_logs logs.now) turns node)) }
     ensures tells { OnOk result ((turns : List Made) → Tells turns told.old
-        → Tells (turns ++ next (map (λ log. log.items) logs.now) turns node) told.new) }
+        → Tells (turns ++ next (turns_of_logs logs.now) turns node) told.new) }
     ensures acts { told.new.acts ≤ told.old.acts + 1 }
 {
     match entry_of(logs, node, told.made_by(node)) {
@@ -70,16 +74,17 @@ fn tell_next(
     }
 }
 
-/// The turns that nodes made, one after another: each is the next one of its node's log. A turn that takes a message begins with
-/// that message; then stands its act, with the line of the program's text that it is of, where `lines` are those of the run's acts;
-/// then the messages that it sends.
+/// Returns the text of the turns that nodes made, in the order of `order`: each is the next one of its node's log. A
+/// turn that takes a message begins with that message. Then comes its act, with its line of the program's text, where
+/// `lines` are the lines of the run's acts. The messages that the turn sends come last.
 pub fn messages_part(
     alloc: Global,
     logs: &[Vec<Entry>],
     order: &[u8],
     lines: &[u32],
 ) -> Result<Vec<u8>, AllocError>
-    ensures { IfOk result (λ part. part.items ≡ messages_text (map (λ log. log.items) logs.now) order.now lines.now) }
+    ensures { IfOk result (λ part. part.items
+        ≡ messages_text (turns_of_logs logs.now) order.now lines.now) }
 {
     let mut text = Vec::new(alloc);
     let mut told = Told::new(alloc);

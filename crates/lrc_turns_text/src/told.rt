@@ -11,8 +11,8 @@ use lrc_node::{Entry, Input};
 use std::alloc::{AllocError, Global};
 use std::collections::HashSet;
 
-/// How many turns each node made, how many turns made an act, and the messages that were taken, each by its receiver, its sender
-/// and its number.
+/// What was told so far: how many turns each node made, how many turns made an act, and which messages were taken, each
+/// by its receiver, its sender and its number.
 #[derive(Drop)]
 pub(crate) struct Told {
     made: [usize; 256],
@@ -26,9 +26,11 @@ fn note_taken(
     node: u8,
     input: &Input,
 ) -> Result<bool, AllocError>
-    ensures noted { IfOk result (λ again. again ≡ holds_input taken.old.keys node (seen_input input.now)) }
+    ensures noted { IfOk result (λ again. again
+        ≡ holds_input taken.old.keys node (seen_input input.now)) }
     ensures more { OnOk result ((other from number : ℕ) → holds_key taken.new.keys other from number
-        ≡ (takes_numbered other from number node (seen_input input.now) || holds_key taken.old.keys other from number)) }
+        ≡ (takes_numbered other from number node
+        (seen_input input.now) || holds_key taken.old.keys other from number)) }
 {
     match input {
         Input::Run => Ok(false),
@@ -48,7 +50,7 @@ fn acts_of(entry: &Entry) -> usize
 }
 
 impl Told {
-    /// No turn was told.
+    /// Returns the state in which no turn was told.
     pub(crate) fn new(alloc: Global) -> Told
         ensures tells { Tells [] result }
         ensures acts { result.acts ≡ 0 }
@@ -60,7 +62,7 @@ impl Told {
         }
     }
 
-    /// How many turns the node made.
+    /// Returns how many turns the node made.
     pub(crate) fn made_by(&self, node: u8) -> usize
         ensures made { result ≡ slice_index self.now.made node }
         ensures in_range { node < 256 }
@@ -68,19 +70,20 @@ impl Told {
         self.made[usize::from(node)]
     }
 
-    /// How many turns made an act.
+    /// Returns how many turns made an act.
     pub(crate) fn acts(&self) -> usize
         ensures { result ≡ self.now.acts }
     {
         self.acts
     }
 
-    /// Notes a turn of a node, and says whether it takes a message that the node took before. After an error nothing is promised of
-    /// what is known.
+    /// Notes a turn of a node, and returns whether it takes a message that the node took before. After an error nothing
+    /// is promised about what was noted.
     pub(crate) fn note(&mut self, node: u8, entry: &Entry) -> Result<bool, AllocError>
         requires made { slice_index self.old.made node < 18446744073709551615 }
         requires acts { self.old.acts < 18446744073709551615 }
-        ensures again { IfOk result (λ again. (turns : List Made) → Tells turns self.old → again ≡ took_before turns node entry.now.input) }
+        ensures again { IfOk result (λ again. (turns : List Made) → Tells turns self.old
+            → again ≡ took_before turns node entry.now.input) }
         ensures tells { OnOk result ((turns : List Made) → Tells turns self.old
             → Tells (turns ++ record { node = node; entry = entry.now } ∷ []) self.new) }
         ensures acts { self.new.acts ≤ self.old.acts + 1 }

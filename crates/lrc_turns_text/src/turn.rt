@@ -18,7 +18,8 @@ fn push_input(
     input: &Input,
     again: bool,
 ) -> Result<(), AllocError>
-    ensures { OnOk result (text.new.items ≡ text.old.items ++ input_text node (seen_input input.now) again) }
+    ensures { OnOk result (text.new.items
+        ≡ text.old.items ++ input_text node (seen_input input.now) again) }
 {
     match input {
         Input::Run => Ok(()),
@@ -36,7 +37,8 @@ fn push_act(text: &mut Vec<u8>, act: Option<Act>, line: u32) -> Result<(), Alloc
     }
 }
 
-/// Adds a turn: the message that it takes, its act, which is of this line of the program's text, and the messages that it sends.
+/// Adds a turn: the message that it takes, its act with this line of the program's text, and the messages that it
+/// sends.
 pub(crate) fn push_turn(
     alloc: Global,
     text: &mut Vec<u8>,

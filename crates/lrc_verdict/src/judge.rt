@@ -16,18 +16,20 @@ use lrc_text::first_race_part;
 use lrc_trace::act::Act;
 use std::alloc::{AllocError, Global};
 
-/// What is printed, and the status with which the program ends after it.
+/// The text to print, and the program's exit status.
 #[derive(Drop)]
 pub struct Printout {
-    /// The parts of the text.
+    /// The parts of the text, in order.
     pub parts: Vec<Vec<u8>>,
     pub status: u8,
 }
 
-/// What a judge says of the acts of a text, of so many nodes where that is given, with their named races; or the first line that is bad.
+/// Judges the acts of a text, with the number of nodes if that is given, and names their races. It fails if the text is
+/// too long, if a line is bad (the error names the first one), or if memory runs out.
 pub fn judge(alloc: Global, text: &[u8], nodes: Option<u32>) -> Result<Printout, ActsFault>
     requires nodes { IfSome nodes (λ count. count ≤ NODES) }
-    ensures ok { IfOk result (λ printout. Judges nodes false text.now (whole_text printout.parts.items) printout.status) }
+    ensures ok { IfOk result (λ printout.
+        Judges nodes false text.now (whole_text printout.parts.items) printout.status) }
     ensures err { IfErr result (λ fault. ReadsActs nodes text.now (Err fault)) }
     ensures memory { IfErr result (λ fault. fault ≡ NoMemory → MayRunOut nodes text.now) }
 {
@@ -41,7 +43,7 @@ pub fn judge(alloc: Global, text: &[u8], nodes: Option<u32>) -> Result<Printout,
     Ok(printout)
 }
 
-/// As many nodes as are given, or else as act.
+/// Returns the given number of nodes, or else the least number (at least 1) above every node that acts.
 pub fn nodes_of(nodes: Option<u32>, acts: &[Act]) -> u8
     requires nodes { IfSome nodes (λ count. count ≤ NODES) }
     requires acts { All (λ act. act.node < NODES) acts.now }
@@ -90,7 +92,7 @@ fn judgement(alloc: Global, acts: &[Act], lines: &[u32], nodes: u8) -> Result<Pr
     Ok(Printout { parts, status })
 }
 
-/// The first three lines, and what the first two say.
+/// The first three lines of a judgement, and the answers of the first two.
 #[derive(Drop)]
 pub(crate) struct Head {
     pub(crate) text: Vec<u8>,
@@ -98,7 +100,7 @@ pub(crate) struct Head {
     pub(crate) lazy: bool,
 }
 
-/// The first three lines of a judgement.
+/// Returns the first three lines of a judgement.
 pub(crate) fn head_of(
     alloc: Global,
     acts: &[Act],
@@ -108,7 +110,8 @@ pub(crate) fn head_of(
     requires nodes { nodes ≤ NODES }
     requires acts { All (λ act. act.node < NODES) acts.now }
     requires lines { length acts.now ≡ length lines.now }
-    ensures { IfOk result (λ head. IsHead nodes acts.now lines.now head.synchronized head.lazy head.text.items) }
+    ensures { IfOk result (λ head. IsHead nodes acts.now lines.now head.synchronized head.lazy
+        head.text.items) }
 {
     let mut text = Vec::new(alloc);
     let synchronized = tell_synchronization(&mut text, acts, lines, nodes)?;
@@ -127,7 +130,8 @@ fn parts_of(
     races: Vec<u8>,
     first: Option<usize>,
 ) -> Result<Vec<Vec<u8>>, AllocError>
-    ensures { IfOk result (λ parts. whole_text parts.items ≡ head.items ++ races.items ++ first_race_text first) }
+    ensures { IfOk result (λ parts. whole_text parts.items
+        ≡ head.items ++ races.items ++ first_race_text first) }
 {
     let mut parts = Vec::new(alloc);
     parts.push(head)?;
@@ -136,7 +140,7 @@ fn parts_of(
     Ok(parts)
 }
 
-/// The status with which the program ends after a judgement.
+/// Returns the program's exit status for a judgement.
 pub(crate) fn status_of(synchronized: bool, lazy: bool, first: Option<usize>) -> u8
     ensures { result ≡ judge_status synchronized lazy first }
 {

@@ -1,4 +1,5 @@
-//! What a judge prints of a text of acts: whether they are well synchronized, read lazily and read in order, their races and the first.
+//! The text that a judge prints of a list of acts: whether they are well synchronized, read lazily, and read in order,
+//! and which of them race, with the first race.
 #![tactic(auto)]
 
 pub mod broken_off;

@@ -29,19 +29,20 @@ use std::io::Write;
 // How many bytes of lines are gathered before they are written.
 const BLOCK: usize = 65_536;
 
-/// A judgement of acts, ready to be written with all its racing pairs. It takes little more memory than the acts, however many pairs
-/// there are: these are found while they are written.
+/// A judgement of acts, ready to be written with all its racing pairs. It takes little more memory than the acts,
+/// however many pairs there are, because the pairs are found while they are written.
 #[derive(Drop)]
 pub struct PairsJudgement {
     head: Vec<u8>,
     acts: Vec<Act>,
     conflicts: Conflicts,
     first: Option<usize>,
-    /// The status with which the program ends after it.
+    /// The program's exit status after the judgement.
     pub status: u8,
 }
 
-/// Judges the acts of a text, of so many nodes where that is given; or says the first line that is bad.
+/// Judges the acts of a text, with the number of nodes if that is given, for a report with all racing pairs. It fails
+/// as `judge` does.
 pub fn judge_pairs(
     alloc: Global,
     text: &[u8],
@@ -49,7 +50,8 @@ pub fn judge_pairs(
 ) -> Result<PairsJudgement, ActsFault>
     requires nodes { IfSome nodes (λ count. count ≤ NODES) }
     ensures ok { IfOk result (IsPairsJudgement nodes text.now) }
-    ensures judges { IfOk result (λ judgement. Judges nodes true text.now (told_text judgement) judgement.status) }
+    ensures judges { IfOk result (λ judgement.
+        Judges nodes true text.now (told_text judgement) judgement.status) }
     ensures err { IfErr result (λ fault. ReadsActs nodes text.now (Err fault)) }
     ensures memory { IfErr result (λ fault. fault ≡ NoMemory → MayRunOut nodes text.now) }
 {
@@ -78,8 +80,8 @@ fn judgement_of(alloc: Global, lined: LinedActs, nodes: u8) -> Result<PairsJudge
     })
 }
 
-/// Writes a judgement: its first lines, then those of the racing pairs of each later position as soon as they are found, and last
-/// that of the first race. It ends with the first write that fails.
+/// Writes a judgement: its first lines, then the racing pairs of each later position as soon as they are found, and
+/// last the line of the first race. It stops at the first write that fails.
 pub fn put_pairs<W: Write>(
     alloc: Global,
     output: &mut Output<'_, W>,
@@ -88,8 +90,10 @@ pub fn put_pairs<W: Write>(
     requires fine { output.now.failed ≡ false }
     requires races { HasItsRaces judgement.now }
     ensures same_writer { output.new.writer.ghost_name ≡ output.old.writer.ghost_name }
-    ensures ok { OnOk result (Appends (W.contents output.old.writer.now) (W.contents output.new.writer.now) (told_text judgement.now)) }
-    ensures err { OnErr result (AppendsFront (W.contents output.old.writer.now) (W.contents output.new.writer.now) (told_text judgement.now)) }
+    ensures ok { OnOk result (Appends (W.contents output.old.writer.now)
+        (W.contents output.new.writer.now) (told_text judgement.now)) }
+    ensures err { OnErr result (AppendsFront (W.contents output.old.writer.now)
+        (W.contents output.new.writer.now) (told_text judgement.now)) }
     ensures fine { OnOk result (output.new.failed ≡ false) }
     ensures failed { IfErr result (λ broken. output.new.failed ≡ is_unwritten broken) }
 {
@@ -110,10 +114,14 @@ fn put_races<W: Write>(
     requires fine { output.now.failed ≡ false }
     requires races { HasItsRaces judgement.now }
     ensures same_writer { output.new.writer.ghost_name ≡ output.old.writer.ghost_name }
-    ensures ok { OnOk result (Appends (W.contents output.old.writer.now) (W.contents output.new.writer.now)
-        (lines_from judgement.now.conflicts.order judgement.now.acts.items 0 (length judgement.now.acts.items) ++ first_race_text (Some first))) }
-    ensures err { OnErr result (AppendsFront (W.contents output.old.writer.now) (W.contents output.new.writer.now)
-        (lines_from judgement.now.conflicts.order judgement.now.acts.items 0 (length judgement.now.acts.items) ++ first_race_text (Some first))) }
+    ensures ok { OnOk result (Appends (W.contents output.old.writer.now)
+        (W.contents output.new.writer.now)
+        (lines_from judgement.now.conflicts.order judgement.now.acts.items 0
+        (length judgement.now.acts.items) ++ first_race_text (Some first))) }
+    ensures err { OnErr result (AppendsFront (W.contents output.old.writer.now)
+        (W.contents output.new.writer.now)
+        (lines_from judgement.now.conflicts.order judgement.now.acts.items 0
+        (length judgement.now.acts.items) ++ first_race_text (Some first))) }
     ensures fine { OnOk result (output.new.failed ≡ false) }
     ensures failed { IfErr result (λ broken. output.new.failed ≡ is_unwritten broken) }
 {
@@ -135,10 +143,13 @@ fn put_lines<W: Write>(
     pairs: &[Pair],
 ) -> Result<(), BrokenOff>
     requires fine { output.now.failed ≡ false }
-    requires pairs { All (λ pair. (pair.earlier < length acts.now) × (pair.later < length acts.now)) pairs.now }
+    requires pairs { All (λ pair. (pair.earlier < length acts.now)
+        × (pair.later < length acts.now)) pairs.now }
     ensures same_writer { output.new.writer.ghost_name ≡ output.old.writer.ghost_name }
-    ensures ok { OnOk result (Appends (W.contents output.old.writer.now) (W.contents output.new.writer.now) (pair_lines acts.now pairs.now)) }
-    ensures err { OnErr result (AppendsFront (W.contents output.old.writer.now) (W.contents output.new.writer.now) (pair_lines acts.now pairs.now)) }
+    ensures ok { OnOk result (Appends (W.contents output.old.writer.now)
+        (W.contents output.new.writer.now) (pair_lines acts.now pairs.now)) }
+    ensures err { OnErr result (AppendsFront (W.contents output.old.writer.now)
+        (W.contents output.new.writer.now) (pair_lines acts.now pairs.now)) }
     ensures fine { OnOk result (output.new.failed ≡ false) }
     ensures failed { IfErr result (λ broken. output.new.failed ≡ is_unwritten broken) }
 {

@@ -28,7 +28,7 @@ fn place_at(lines: &[u32], position: usize) -> Place
     }
 }
 
-/// Adds the line on well-synchronization, and answers whether the acts are.
+/// Adds the line on well-synchronization, and returns whether the acts are well synchronized.
 pub(crate) fn tell_synchronization(
     text: &mut Vec<u8>,
     acts: &[Act],
@@ -38,7 +38,8 @@ pub(crate) fn tell_synchronization(
     requires nodes { nodes ≤ NODES }
     requires acts { All (λ act. act.node < NODES) acts.now }
     requires lines { length acts.now ≡ length lines.now }
-    ensures { IfOk result (λ holds. AddsText text.old.items text.new.items (TellsSynchronization nodes acts.now lines.now holds)) }
+    ensures { IfOk result (λ holds. AddsText text.old.items text.new.items
+        (TellsSynchronization nodes acts.now lines.now holds)) }
 {
     match first_fault_of_synchronization(acts, nodes) {
         Some(position) => {
@@ -52,7 +53,7 @@ pub(crate) fn tell_synchronization(
     }
 }
 
-/// A read: its word, and the value that it gives.
+/// One read: its word, and its value.
 #[derive(Clone, Copy)]
 struct ReadValue {
     word: u32,
@@ -70,7 +71,7 @@ fn read_at(acts: &[Act], position: usize) -> Option<ReadValue>
     }
 }
 
-/// Adds the line on lazy reading, and answers whether the acts read lazily.
+/// Adds the line on lazy reading, and returns whether the acts read lazily.
 pub(crate) fn tell_lazy_reading(
     alloc: Global,
     text: &mut Vec<u8>,
@@ -79,7 +80,8 @@ pub(crate) fn tell_lazy_reading(
 ) -> Result<bool, AllocError>
     requires acts { All (λ act. act.node < NODES) acts.now }
     requires lines { length acts.now ≡ length lines.now }
-    ensures { IfOk result (λ holds. AddsText text.old.items text.new.items (TellsLazyReading acts.now lines.now holds)) }
+    ensures { IfOk result (λ holds. AddsText text.old.items text.new.items
+        (TellsLazyReading acts.now lines.now holds)) }
 {
     let first = first_fault_of_reading(alloc, acts)?;
     match first {
@@ -104,7 +106,8 @@ fn tell_unlazy(
     requires acts { All (λ act. act.node < NODES) acts.now }
     requires lines { length acts.now ≡ length lines.now }
     requires first { IsFirstMisread acts.now position }
-    ensures { OnOk result (AddsText text.old.items text.new.items (TellsLazyReading acts.now lines.now false)) }
+    ensures { OnOk result (AddsText text.old.items text.new.items
+        (TellsLazyReading acts.now lines.now false)) }
 {
     let Some(read) = read_at(acts, position) else {
         unreachable!()
@@ -154,7 +157,7 @@ fn tell_disorder(
     Ok(())
 }
 
-/// The lines of the races.
+/// Returns the lines of the races.
 pub(crate) fn races_told(alloc: Global, acts: &[Act]) -> Result<Vec<u8>, AllocError>
     requires { All (λ act. act.node < NODES) acts.now }
     ensures { IfOk result (λ part. TellsRaces acts.now false part.items) }

@@ -10,13 +10,14 @@ use crate::found::{Found, Kind, StatementAt, push_found};
 use lrc_lang::program::Statement;
 use std::alloc::AllocError;
 
-/// Adds the shared accesses of constants that are not below the number of words.
+/// Adds the shared accesses whose constant is not below the number of words.
 pub fn no_such_word(
     out: &mut Vec<Found>,
     statements: &[StatementAt<'_>],
     words: u32,
 ) -> Result<(), AllocError>
-    ensures { OnOk result (out.new.items ≡ out.old.items ++ no_such_word words (map statement_seen statements.now)) }
+    ensures { OnOk result (out.new.items
+        ≡ out.old.items ++ no_such_word words (map statement_seen statements.now)) }
 {
     for s in statements {
         no_such_word_at(out, s.at, s.statement, words)?;
@@ -30,7 +31,8 @@ fn no_such_word_at(
     statement: &Statement,
     words: u32,
 ) -> Result<(), AllocError>
-    ensures { OnOk result (out.new.items ≡ out.old.items ++ no_such_word_at words at (statement_of statement.now)) }
+    ensures { OnOk result (out.new.items
+        ≡ out.old.items ++ no_such_word_at words at (statement_of statement.now)) }
 {
     match statement {
         Statement::Read(_, word) => {
@@ -58,13 +60,14 @@ fn word_beyond(word: Option<u64>, words: u32) -> Option<Kind>
     }
 }
 
-/// Adds the acquires and releases of constants that are not below the number of locks.
+/// Adds the acquires and releases whose constant is not below the number of locks.
 pub fn no_such_lock(
     out: &mut Vec<Found>,
     statements: &[StatementAt<'_>],
     locks: u8,
 ) -> Result<(), AllocError>
-    ensures { OnOk result (out.new.items ≡ out.old.items ++ no_such_lock locks (map statement_seen statements.now)) }
+    ensures { OnOk result (out.new.items
+        ≡ out.old.items ++ no_such_lock locks (map statement_seen statements.now)) }
 {
     for s in statements {
         no_such_lock_at(out, s.at, s.statement, locks)?;
@@ -78,7 +81,8 @@ fn no_such_lock_at(
     statement: &Statement,
     locks: u8,
 ) -> Result<(), AllocError>
-    ensures { OnOk result (out.new.items ≡ out.old.items ++ no_such_lock_at locks at (statement_of statement.now)) }
+    ensures { OnOk result (out.new.items
+        ≡ out.old.items ++ no_such_lock_at locks at (statement_of statement.now)) }
 {
     match statement {
         Statement::Acquire(lock) | Statement::Release(lock) => {

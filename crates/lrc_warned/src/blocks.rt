@@ -19,13 +19,14 @@ use crate::operations::kind_if;
 use lrc_lang::program::{Expression, Statement};
 use std::alloc::{AllocError, Global};
 
-/// Adds the choices on `me` whose blocks have not as many barriers.
+/// Adds the choices on `me` whose blocks do not have equally many barriers.
 pub fn uneven_barriers(
     out: &mut Vec<Found>,
     alloc: Global,
     statements: &[StatementAt<'_>],
 ) -> Result<(), AllocError>
-    ensures { OnOk result (out.new.items ≡ out.old.items ++ uneven_barriers (map statement_seen statements.now)) }
+    ensures { OnOk result (out.new.items
+        ≡ out.old.items ++ uneven_barriers (map statement_seen statements.now)) }
 {
     for s in statements {
         let kind = uneven_kind(alloc, s.statement)?;
@@ -50,7 +51,8 @@ fn uneven_of(
     second: &[Statement],
 ) -> Result<Option<Kind>, AllocError>
     ensures { IfOk result (λ kind. kind
-        ≡ uneven_kind (if_else (expression_of condition.now) (block_of first.now) (block_of second.now))) }
+        ≡ uneven_kind (if_else (expression_of condition.now) (block_of first.now)
+        (block_of second.now))) }
 {
     let on_me = has_me(alloc, condition)?;
     let one = barriers_in(alloc, first)?;
@@ -64,7 +66,8 @@ pub fn uncertain_rounds(
     alloc: Global,
     statements: &[StatementAt<'_>],
 ) -> Result<(), AllocError>
-    ensures { OnOk result (out.new.items ≡ out.old.items ++ uncertain_rounds (map statement_seen statements.now)) }
+    ensures { OnOk result (out.new.items
+        ≡ out.old.items ++ uncertain_rounds (map statement_seen statements.now)) }
 {
     for s in statements {
         let kind = rounds_kind(alloc, s.statement)?;
@@ -87,7 +90,8 @@ fn rounds_of(
     condition: &Expression,
     block: &[Statement],
 ) -> Result<Option<Kind>, AllocError>
-    ensures { IfOk result (λ kind. kind ≡ rounds_kind (while_do (expression_of condition.now) (block_of block.now))) }
+    ensures { IfOk result (λ kind. kind
+        ≡ rounds_kind (while_do (expression_of condition.now) (block_of block.now))) }
 {
     let on_me = has_me(alloc, condition)?;
     let inside = statements_in(alloc, block)?;
@@ -100,7 +104,8 @@ pub fn unchanged_conditions(
     alloc: Global,
     statements: &[StatementAt<'_>],
 ) -> Result<(), AllocError>
-    ensures { OnOk result (out.new.items ≡ out.old.items ++ unchanged_conditions (map statement_seen statements.now)) }
+    ensures { OnOk result (out.new.items
+        ≡ out.old.items ++ unchanged_conditions (map statement_seen statements.now)) }
 {
     for s in statements {
         let kind = unchanged_kind(alloc, s.statement)?;
@@ -123,7 +128,8 @@ fn unchanged_of(
     condition: &Expression,
     block: &[Statement],
 ) -> Result<Option<Kind>, AllocError>
-    ensures { IfOk result (λ kind. kind ≡ unchanged_kind (while_do (expression_of condition.now) (block_of block.now))) }
+    ensures { IfOk result (λ kind. kind
+        ≡ unchanged_kind (while_do (expression_of condition.now) (block_of block.now))) }
 {
     let inside = statements_in(alloc, block)?;
     let changes = has_set(alloc, &inside, condition)?;
@@ -137,7 +143,8 @@ pub fn learning_nothing(
     alloc: Global,
     statements: &[StatementAt<'_>],
 ) -> Result<(), AllocError>
-    ensures { OnOk result (out.new.items ≡ out.old.items ++ learning_nothing (map statement_seen statements.now)) }
+    ensures { OnOk result (out.new.items
+        ≡ out.old.items ++ learning_nothing (map statement_seen statements.now)) }
 {
     for s in statements {
         let kind = learns_kind(alloc, s.statement)?;
@@ -160,7 +167,8 @@ fn learns_of(
     condition: &Expression,
     block: &[Statement],
 ) -> Result<Option<Kind>, AllocError>
-    ensures { IfOk result (λ kind. kind ≡ learns_kind (while_do (expression_of condition.now) (block_of block.now))) }
+    ensures { IfOk result (λ kind. kind
+        ≡ learns_kind (while_do (expression_of condition.now) (block_of block.now))) }
 {
     let inside = statements_in(alloc, block)?;
     let learns = learns_nothing(alloc, condition, &inside)?;
@@ -179,7 +187,9 @@ fn learns_nothing(
     condition: &Expression,
     statements: &[&Statement],
 ) -> Result<bool, AllocError>
-    ensures { IfOk result (λ holds. holds ≡ learns_nothing (expression_of condition.now) (map (λ s. statement_of s.now) statements.now)) }
+    ensures { IfOk result (λ holds. holds
+        ≡ learns_nothing (expression_of condition.now)
+        (map (λ s. statement_of s.now) statements.now)) }
 {
     if some_learns(statements) {
         return Ok(false);
@@ -201,7 +211,8 @@ fn all_still(
     statements: &[&Statement],
 ) -> Result<bool, AllocError>
     ensures { IfOk result (λ holds. holds
-        ≡ list_all (is_still_by set.now of_condition.now) (map (λ s. statement_of s.now) statements.now)) }
+        ≡ list_all (is_still_by set.now of_condition.now)
+        (map (λ s. statement_of s.now) statements.now)) }
 {
     for s in statements {
         if !is_still(alloc, set, of_condition, s)? {
@@ -218,7 +229,8 @@ fn is_still(
     of_condition: &[bool; 256],
     statement: &Statement,
 ) -> Result<bool, AllocError>
-    ensures { IfOk result (λ holds. holds ≡ is_still_by set.now of_condition.now (statement_of statement.now)) }
+    ensures { IfOk result (λ holds. holds
+        ≡ is_still_by set.now of_condition.now (statement_of statement.now)) }
 {
     match statement {
         Statement::Assign(k, _) => Ok(!of_condition[*k as usize]),
@@ -233,7 +245,8 @@ fn is_still(
 
 // Which names these statements set.
 fn names_set(statements: &[&Statement]) -> [bool; 256]
-    ensures { (k : ℕ) → slice_index_or result k false ≡ list_any (sets k) (map (λ s. statement_of s.now) statements.now) }
+    ensures { (k : ℕ) → slice_index_or result k false
+        ≡ list_any (sets k) (map (λ s. statement_of s.now) statements.now) }
 {
     let mut marked = [false; 256];
     for s in statements {
@@ -244,7 +257,8 @@ fn names_set(statements: &[&Statement]) -> [bool; 256]
 
 // Which names these parts of an expression read.
 fn names_read(nodes: &[&Expression]) -> [bool; 256]
-    ensures { (k : ℕ) → slice_index_or result k false ≡ list_any (is_name k) (map (λ n. expression_of n.now) nodes.now) }
+    ensures { (k : ℕ) → slice_index_or result k false
+        ≡ list_any (is_name k) (map (λ n. expression_of n.now) nodes.now) }
 {
     let mut marked = [false; 256];
     for n in nodes {
@@ -255,7 +269,8 @@ fn names_read(nodes: &[&Expression]) -> [bool; 256]
 
 // Marks a name, if there is one.
 fn mark(marked: &mut [bool; 256], name: Option<u8>)
-    ensures { (k : ℕ) → slice_index_or marked.new k false ≡ (slice_index_or marked.old k false || is_value name k) }
+    ensures { (k : ℕ) → slice_index_or marked.new k false
+        ≡ (slice_index_or marked.old k false || is_value name k) }
 {
     if let Some(k) = name {
         marked[k as usize] = true;
@@ -284,7 +299,8 @@ fn has_set(
     statements: &[&Statement],
     expression: &Expression,
 ) -> Result<bool, AllocError>
-    ensures { IfOk result (λ holds. holds ≡ has_set (map (λ s. statement_of s.now) statements.now) (expression_of expression.now)) }
+    ensures { IfOk result (λ holds. holds
+        ≡ has_set (map (λ s. statement_of s.now) statements.now) (expression_of expression.now)) }
 {
     let nodes = nodes_in(alloc, expression)?;
     let set = names_set(statements);
@@ -336,7 +352,7 @@ fn some_learns(statements: &[&Statement]) -> bool
     statements.iter().any(|s| is_acquire(s) || is_barrier(s))
 }
 
-/// Whether a statement is a barrier.
+/// Returns whether a statement is a barrier.
 pub(crate) fn is_barrier(statement: &Statement) -> bool
     ensures { result ≡ is_barrier (statement_of statement.now) }
 {

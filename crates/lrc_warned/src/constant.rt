@@ -7,7 +7,8 @@ ghost use Rattle.lrc_warned.specs.Constant.{constant_of, is_constant};
 
 use lrc_lang::program::{Expression, Operator};
 
-/// The value of an expression that is a constant: one without a name, `me` and `nodes` that does not divide by zero.
+/// Returns the value of a constant expression, or none if the expression is not constant. A constant expression has no
+/// name, no `me` and no `nodes`, and does not divide by zero.
 pub fn constant_of(expression: &Expression) -> Option<u64>
     ensures { result ≡ constant_of (expression_of expression.now) }
 {
@@ -41,7 +42,7 @@ fn apply(operator: Operator, x: u64, y: u64) -> Option<u64>
     }
 }
 
-/// Whether an expression is this constant.
+/// Returns whether an expression is this constant.
 pub fn is_constant(expression: &Expression, value: u64) -> bool
     ensures { result ≡ is_constant (expression_of expression.now) value }
 {

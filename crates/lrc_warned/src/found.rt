@@ -6,32 +6,33 @@ ghost use Rattle.lrc_warned.specs.Found.{found_at};
 use lrc_lang::program::{Expression, Statement};
 use std::alloc::AllocError;
 
-/// What is warned of. Words and locks are told by number, names by the number that they have in the program.
+/// The kind of a warning. Words and locks are given by number, names by their number in the program.
 #[derive(Clone, Copy)]
 pub enum Kind {
     /// A name that some expression reads and no statement sets.
     NeverSet(u8),
     /// A name that some statement sets and no expression reads.
     NeverRead(u8),
-    /// A shared access of a constant that is not below the number of words.
+    /// A shared access whose constant is not below the number of words.
     NoSuchWord(u64),
-    /// An acquire or a release of a constant that is not below the number of locks.
+    /// An acquire or a release whose constant is not below the number of locks.
     NoSuchLock(u64),
     /// A division by the constant 0.
     DivisionByZero,
-    /// A comparison that says of a value whether it is below 0: whether it always holds.
+    /// A comparison that only tests whether a value is below 0. The flag says whether it always holds; if not, it never
+    /// holds.
     BelowZero(bool),
-    /// A word that is read and that no statement writes.
+    /// A word that is read but that no statement writes.
     NeverWritten(u32),
     /// An acquire of a lock that is held there.
     HeldAlready(u8),
     /// A release of a lock that is not held there.
     NotHeld(u8),
-    /// A barrier where a lock is held, the least.
+    /// A barrier at which a lock is held: the least such lock.
     HeldAtBarrier(u8),
-    /// A lock that is acquired and that no statement releases.
+    /// A lock that is acquired but that no statement releases.
     NeverReleased(u8),
-    /// An `if` on `me` whose blocks have not as many barriers.
+    /// An `if` on `me` whose blocks do not have equally many barriers.
     UnevenBarriers,
     /// A `while` on `me` with a barrier in it.
     UncertainRounds,
@@ -41,7 +42,7 @@ pub enum Kind {
     LearnsNothing,
 }
 
-/// A warning, and the token at which it stands, by its place among the tokens of the text, from 0.
+/// A warning, and the token that it is about: its place among the tokens of the text, counted from 0.
 #[derive(Clone, Copy)]
 pub struct Found {
     pub at: usize,
@@ -55,7 +56,8 @@ pub struct StatementAt<'p> {
     pub statement: &'p Statement,
 }
 
-/// A part of an expression, and the place of its token: of a part that joins two operands, of the sign between them.
+/// A part of an expression, and the place of its token. For a part that joins two operands the token is the sign
+/// between them.
 #[derive(Clone, Copy)]
 pub struct NodeAt<'p> {
     pub at: u32,

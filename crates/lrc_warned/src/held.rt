@@ -18,14 +18,14 @@ use crate::locks::{acquires, may_acquire, may_release, releases};
 use lrc_lang::program::Statement;
 use std::alloc::{AllocError, Global};
 
-/// What a statement stands under.
+/// What a statement is under: an acquire or a release.
 #[derive(Clone, Copy)]
 pub enum Side {
     Acquired,
     Released,
 }
 
-/// Adds the acquires of a lock under an acquire of it.
+/// Adds the acquires of a lock under an acquire of the same lock.
 pub fn held_already(
     out: &mut Vec<Found>,
     alloc: Global,
@@ -34,7 +34,8 @@ pub fn held_already(
     locks: u8,
 ) -> Result<(), AllocError>
     ensures { OnOk result (out.new.items
-        ≡ out.old.items ++ held_already locks (map statement_seen statements.now) (paths [] (block_of block.now))) }
+        ≡ out.old.items ++ held_already locks (map statement_seen statements.now)
+        (paths [] (block_of block.now))) }
 {
     for lock in 0..locks {
         held_already_of(out, alloc, statements, block, lock)?;
@@ -50,7 +51,8 @@ fn held_already_of(
     lock: u8,
 ) -> Result<(), AllocError>
     ensures { OnOk result (out.new.items
-        ≡ out.old.items ++ with_path (held_already_at lock) (map statement_seen statements.now) (paths [] (block_of block.now))) }
+        ≡ out.old.items ++ with_path (held_already_at lock) (map statement_seen statements.now)
+        (paths [] (block_of block.now))) }
 {
     let under = all_under(alloc, block, Side::Acquired, lock)?;
     put_acquires(out, statements, &under, lock)
@@ -62,7 +64,8 @@ fn put_acquires(
     under: &[bool],
     lock: u8,
 ) -> Result<(), AllocError>
-    ensures { OnOk result (out.new.items ≡ out.old.items ++ each (acquire_by lock under.now) (map statement_seen statements.now)) }
+    ensures { OnOk result (out.new.items
+        ≡ out.old.items ++ each (acquire_by lock under.now) (map statement_seen statements.now)) }
 {
     for (i, s) in statements.iter().enumerate() {
         put_acquire(out, i, s.at, s.statement, under, lock)?;
@@ -85,7 +88,7 @@ fn put_acquire(
     push_if(out, holds, at, Kind::HeldAlready(lock))
 }
 
-/// Adds the releases of a lock under a release of it.
+/// Adds the releases of a lock under a release of the same lock.
 pub fn not_held(
     out: &mut Vec<Found>,
     alloc: Global,
@@ -94,7 +97,8 @@ pub fn not_held(
     locks: u8,
 ) -> Result<(), AllocError>
     ensures { OnOk result (out.new.items
-        ≡ out.old.items ++ not_held locks (map statement_seen statements.now) (paths [] (block_of block.now))) }
+        ≡ out.old.items ++ not_held locks (map statement_seen statements.now)
+        (paths [] (block_of block.now))) }
 {
     for lock in 0..locks {
         not_held_of(out, alloc, statements, block, lock)?;
@@ -110,7 +114,8 @@ fn not_held_of(
     lock: u8,
 ) -> Result<(), AllocError>
     ensures { OnOk result (out.new.items
-        ≡ out.old.items ++ with_path (not_held_at lock) (map statement_seen statements.now) (paths [] (block_of block.now))) }
+        ≡ out.old.items ++ with_path (not_held_at lock) (map statement_seen statements.now)
+        (paths [] (block_of block.now))) }
 {
     let under = all_under(alloc, block, Side::Released, lock)?;
     put_releases(out, statements, &under, lock)
@@ -122,7 +127,8 @@ fn put_releases(
     under: &[bool],
     lock: u8,
 ) -> Result<(), AllocError>
-    ensures { OnOk result (out.new.items ≡ out.old.items ++ each (release_by lock under.now) (map statement_seen statements.now)) }
+    ensures { OnOk result (out.new.items
+        ≡ out.old.items ++ each (release_by lock under.now) (map statement_seen statements.now)) }
 {
     for (i, s) in statements.iter().enumerate() {
         put_release(out, i, s.at, s.statement, under, lock)?;
@@ -145,7 +151,7 @@ fn put_release(
     push_if(out, holds, at, Kind::NotHeld(lock))
 }
 
-/// Adds the barriers under an acquire of some lock, with the least of these.
+/// Adds the barriers under an acquire of a lock, with the least such lock.
 pub fn held_at_barrier(
     out: &mut Vec<Found>,
     alloc: Global,
@@ -154,7 +160,8 @@ pub fn held_at_barrier(
     locks: u8,
 ) -> Result<(), AllocError>
     ensures { OnOk result (out.new.items
-        ≡ out.old.items ++ held_at_barrier locks (map statement_seen statements.now) (paths [] (block_of block.now))) }
+        ≡ out.old.items ++ held_at_barrier locks (map statement_seen statements.now)
+        (paths [] (block_of block.now))) }
 {
     let tables = all_tables(alloc, block, locks)?;
     put_barriers(out, statements, &tables)
@@ -162,7 +169,8 @@ pub fn held_at_barrier(
 
 fn all_tables(alloc: Global, block: &[Statement], locks: u8) -> Result<Vec<Vec<bool>>, AllocError>
     ensures { IfOk result (λ tables. map (λ t. t.items) tables.items
-        ≡ map (λ lock. map (is_under Acquired lock) (paths [] (block_of block.now))) (range_with_len 0 locks)) }
+        ≡ map (λ lock. map (is_under Acquired lock) (paths [] (block_of block.now)))
+        (range_with_len 0 locks)) }
 {
     let mut tables = Vec::new(alloc);
     for lock in 0..locks {
@@ -179,7 +187,8 @@ fn put_barriers(
 ) -> Result<(), AllocError>
     requires { length tables.now < 256 }
     ensures { OnOk result (out.new.items
-        ≡ out.old.items ++ each (barrier_by (map (λ t. t.items) tables.now)) (map statement_seen statements.now)) }
+        ≡ out.old.items ++ each (barrier_by (map (λ t. t.items) tables.now))
+        (map statement_seen statements.now)) }
 {
     for (i, s) in statements.iter().enumerate() {
         put_barrier(out, i, s.at, s.statement, tables)?;
@@ -216,7 +225,8 @@ fn barrier_kind(lock: Option<u8>) -> Option<Kind>
 // The first of these tables that has `true` at this place.
 fn first_held(tables: &[Vec<bool>], i: usize) -> Option<u8>
     requires { length tables.now < 256 }
-    ensures { result ≡ position (λ under. slice_index_or under i false) (map (λ t. t.items) tables.now) }
+    ensures { result ≡ position (λ under. slice_index_or under i false)
+        (map (λ t. t.items) tables.now) }
 {
     for lock in 0..tables.len() {
         if table_at(&tables[lock], i, false) {
@@ -252,7 +262,8 @@ fn all_under(
     side: Side,
     lock: u8,
 ) -> Result<Vec<bool>, AllocError>
-    ensures { IfOk result (λ under. under.items ≡ map (is_under side lock) (paths [] (block_of block.now))) }
+    ensures { IfOk result (λ under. under.items
+        ≡ map (is_under side lock) (paths [] (block_of block.now))) }
 {
     let mut out = Vec::new(alloc);
     put_block(&mut out, alloc, block, side, lock, at_start(side))?;
@@ -279,7 +290,8 @@ fn put_block(
     start: bool,
 ) -> Result<(), AllocError>
     ensures { (path : Path) → start ≡ is_under side lock path →
-        OnOk result (out.new.items ≡ out.old.items ++ map (is_under side lock) (paths path (block_of block.now))) }
+        OnOk result (out.new.items
+        ≡ out.old.items ++ map (is_under side lock) (paths path (block_of block.now))) }
 {
     let mut under = start;
     for s in block {
@@ -299,7 +311,8 @@ fn put_paths_of(
     under: bool,
 ) -> Result<(), AllocError>
     ensures { (path : Path) → under ≡ is_under side lock path → OnOk result (out.new.items
-        ≡ out.old.items ++ map (is_under side lock) (path ∷ paths_within path (statement_of statement.now))) }
+        ≡ out.old.items ++ map (is_under side lock)
+        (path ∷ paths_within path (statement_of statement.now))) }
 {
     out.push(under)?;
     match statement {
@@ -326,7 +339,8 @@ fn behind(
 ) -> Result<bool, AllocError>
     ensures { let s = statement_of statement.now in
         IfOk result (λ holds. holds
-        ≡ (if takes side lock s then true else (if list_any (undoes side lock) (s ∷ within s) then false else under))) }
+        ≡ (if takes side lock s then true else
+        (if list_any (undoes side lock) (s ∷ within s) then false else under))) }
 {
     if takes(statement, side, lock) {
         return Ok(true);
@@ -345,14 +359,16 @@ fn kept(
     under: bool,
 ) -> Result<bool, AllocError>
     ensures { IfOk result (λ holds. holds
-        ≡ (if list_any (undoes side lock) (statements_in (block_of block.now)) then false else under)) }
+        ≡ (if list_any (undoes side lock)
+        (statements_in (block_of block.now)) then false else under)) }
 {
     let all = statements_in(alloc, block)?;
     Ok(unless_undone(&all, side, lock, under))
 }
 
 fn unless_undone(statements: &[&Statement], side: Side, lock: u8, under: bool) -> bool
-    ensures { result ≡ (if list_any (undoes side lock) (map (λ s. statement_of s.now) statements.now) then false else under) }
+    ensures { result ≡ (if list_any (undoes side lock)
+        (map (λ s. statement_of s.now) statements.now) then false else under) }
 {
     if some_undoes(statements, side, lock) {
         false

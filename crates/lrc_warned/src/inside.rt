@@ -7,12 +7,13 @@ ghost use Rattle.lrc_warned.specs.Inside.{nodes_in, nodes_of, statements_in, wit
 use lrc_lang::program::{Expression, Statement};
 use std::alloc::{AllocError, Global};
 
-/// The parts of an expression, in the order of their tokens.
+/// Returns the parts of an expression, in the order of their tokens. It fails if memory runs out.
 pub fn nodes_in<'p>(
     alloc: Global,
     expression: &'p Expression,
 ) -> Result<Vec<&'p Expression>, AllocError>
-    ensures { IfOk result (λ nodes. map (λ n. expression_of n.now) nodes.items ≡ nodes_in (expression_of expression.entry.now)) }
+    ensures { IfOk result (λ nodes. map (λ n. expression_of n.now) nodes.items
+        ≡ nodes_in (expression_of expression.entry.now)) }
 {
     let mut nodes = Vec::new(alloc);
     put_nodes(&mut nodes, expression)?;
@@ -24,7 +25,8 @@ fn put_nodes<'p>(
     expression: &'p Expression,
 ) -> Result<(), AllocError>
     ensures { OnOk result (map (λ n. expression_of n.now) out.new.items
-        ≡ map (λ n. expression_of n.now) out.old.items ++ nodes_in (expression_of expression.entry.now)) }
+        ≡ map (λ n. expression_of n.now) out.old.items
+        ++ nodes_in (expression_of expression.entry.now)) }
 {
     match expression {
         Expression::Binary(left, _, right) => {
@@ -45,7 +47,8 @@ pub fn put_nodes_of<'p>(
     statement: &'p Statement,
 ) -> Result<(), AllocError>
     ensures { OnOk result (map (λ n. expression_of n.now) out.new.items
-        ≡ map (λ n. expression_of n.now) out.old.items ++ nodes_of (statement_of statement.entry.now)) }
+        ≡ map (λ n. expression_of n.now) out.old.items
+        ++ nodes_of (statement_of statement.entry.now)) }
 {
     match statement {
         Statement::Assign(_, one)
@@ -63,12 +66,14 @@ pub fn put_nodes_of<'p>(
     }
 }
 
-/// The statements of a block, those of their blocks among them, in the order of the text.
+/// Returns the statements of a block, with those of their blocks, in the order of the text. It fails if memory runs
+/// out.
 pub fn statements_in<'p>(
     alloc: Global,
     block: &'p [Statement],
 ) -> Result<Vec<&'p Statement>, AllocError>
-    ensures { IfOk result (λ all. map (λ s. statement_of s.now) all.items ≡ statements_in (block_of block.entry.now)) }
+    ensures { IfOk result (λ all. map (λ s. statement_of s.now) all.items
+        ≡ statements_in (block_of block.entry.now)) }
 {
     let mut all = Vec::new(alloc);
     put_block(&mut all, block)?;
@@ -86,14 +91,15 @@ fn put_block<'p>(out: &mut Vec<&'p Statement>, block: &'p [Statement]) -> Result
     Ok(())
 }
 
-/// Adds a statement, and those of its blocks.
+/// Adds a statement, and the statements of its blocks.
 #[cycle(inside)]
 pub fn put_statement<'p>(
     out: &mut Vec<&'p Statement>,
     statement: &'p Statement,
 ) -> Result<(), AllocError>
     ensures { OnOk result (map (λ s. statement_of s.now) out.new.items
-        ≡ map (λ s. statement_of s.now) out.old.items ++ (statement_of statement.entry.now ∷ within (statement_of statement.entry.now))) }
+        ≡ map (λ s. statement_of s.now) out.old.items
+        ++ (statement_of statement.entry.now ∷ within (statement_of statement.entry.now))) }
 {
     out.push(statement)?;
     match statement {

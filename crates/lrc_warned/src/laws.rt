@@ -13,7 +13,7 @@ ghost use Rattle.lrc_warned.specs.Held.{Path, is_under};
 ghost use Rattle.lrc_warned.specs.Places.{places_in};
 ghost use Rattle.lrc_warned.specs.Under.{IsUnder};
 
-/// The places of the statements are those at which the grammar has them begin.
+/// The places of the statements are those at which the grammar lets them begin.
 pub fn statements_stand_where_they_begin()
     ensures { (p : ProgramTree) (tokens : List Token) (d : IsProgram p tokens) →
         places_in Statements tokens ≡ map (place_in (symbols tokens)) (begins_in d) }
@@ -25,8 +25,10 @@ pub fn parts_stand_at_their_tokens()
         places_in Nodes tokens ≡ map (place_in (symbols tokens)) (nodes_begin_in d) }
 {}
 
-/// A statement is said to stand under an acquire, or a release, of a lock exactly where one stands before it in its list of statements
-/// or in a list around it, and nothing that may undo it stands in the text between the two, or in a loop around the statement alone.
+/// A statement counts as under an acquire (or a release) of a lock exactly if three conditions hold. The acquire (or
+/// release) is before the statement in its list of statements, or in a list around it. Nothing that may undo it is in
+/// the text between the two. Nothing that may undo it is in a loop around the statement alone.
 pub fn under_an_acquire_or_a_release()
-    ensures { (side : Side) (lock : ℕ) (path : Path) → (is_under side lock path ≡ true) ↔ IsUnder side lock path }
+    ensures { (side : Side) (lock : ℕ) (path : Path) → (is_under side lock path ≡ true)
+        ↔ IsUnder side lock path }
 {}

@@ -1,4 +1,5 @@
-//! What is likely to be wrong with a program that is well formed, kind by kind.
+//! Finds what is likely to be wrong with a well-formed program, one function for each kind of warning. The laws of
+//! lrc_warned_laws and lrc_warned_run_laws say what each warning means for the runs.
 #![tactic(auto)]
 
 pub mod access;

@@ -13,13 +13,15 @@ use crate::names::push_where;
 use lrc_lang::program::Statement;
 use std::alloc::AllocError;
 
-/// Adds the locks that are acquired as constants where all releases are of other constants, each at its first acquire.
+/// Adds the locks that an acquire names as a constant while all releases are of other constants, each at its first
+/// acquire.
 pub fn never_released(
     out: &mut Vec<Found>,
     statements: &[StatementAt<'_>],
     locks: u8,
 ) -> Result<(), AllocError>
-    ensures { OnOk result (out.new.items ≡ out.old.items ++ never_released locks (map statement_seen statements.now)) }
+    ensures { OnOk result (out.new.items
+        ≡ out.old.items ++ never_released locks (map statement_seen statements.now)) }
 {
     for lock in 0..locks {
         never_released_of(out, statements, lock)?;
@@ -32,7 +34,8 @@ fn never_released_of(
     statements: &[StatementAt<'_>],
     lock: u8,
 ) -> Result<(), AllocError>
-    ensures { OnOk result (out.new.items ≡ out.old.items ++ never_released_of (map statement_seen statements.now) lock) }
+    ensures { OnOk result (out.new.items
+        ≡ out.old.items ++ never_released_of (map statement_seen statements.now) lock) }
 {
     if some_release(statements, lock) {
         return Ok(());
@@ -45,13 +48,15 @@ fn never_released_of(
 }
 
 fn some_release(statements: &[StatementAt<'_>], lock: u8) -> bool
-    ensures { result ≡ list_any (λ s. may_release lock s.statement) (map statement_seen statements.now) }
+    ensures { result ≡ list_any (λ s. may_release lock s.statement)
+        (map statement_seen statements.now) }
 {
     statements.iter().any(|s| may_release(s.statement, lock))
 }
 
 fn first_acquire(statements: &[StatementAt<'_>], lock: u8) -> Option<u32>
-    ensures { result ≡ option_map (λ s. s.at) (find (λ s. acquires lock s.statement) (map statement_seen statements.now)) }
+    ensures { result ≡ option_map (λ s. s.at)
+        (find (λ s. acquires lock s.statement) (map statement_seen statements.now)) }
 {
     for s in statements {
         if acquires(s.statement, lock) {
@@ -61,7 +66,7 @@ fn first_acquire(statements: &[StatementAt<'_>], lock: u8) -> Option<u32>
     None
 }
 
-/// Whether this is an acquire of this lock as a constant.
+/// Returns whether a statement acquires this lock as a constant.
 pub(crate) fn acquires(statement: &Statement, lock: u8) -> bool
     ensures { result ≡ acquires lock (statement_of statement.now) }
 {
@@ -71,7 +76,7 @@ pub(crate) fn acquires(statement: &Statement, lock: u8) -> bool
     }
 }
 
-/// Whether this is a release of this lock as a constant.
+/// Returns whether a statement releases this lock as a constant.
 pub(crate) fn releases(statement: &Statement, lock: u8) -> bool
     ensures { result ≡ releases lock (statement_of statement.now) }
 {
@@ -81,7 +86,7 @@ pub(crate) fn releases(statement: &Statement, lock: u8) -> bool
     }
 }
 
-/// Whether this is an acquire of this lock, or of what is no constant.
+/// Returns whether a statement acquires this lock, or acquires by an expression that is no constant.
 pub(crate) fn may_acquire(statement: &Statement, lock: u8) -> bool
     ensures { result ≡ may_acquire lock (statement_of statement.now) }
 {
@@ -91,7 +96,7 @@ pub(crate) fn may_acquire(statement: &Statement, lock: u8) -> bool
     }
 }
 
-/// Whether this is a release of this lock, or of what is no constant.
+/// Returns whether a statement releases this lock, or releases by an expression that is no constant.
 pub(crate) fn may_release(statement: &Statement, lock: u8) -> bool
     ensures { result ≡ may_release lock (statement_of statement.now) }
 {
@@ -101,7 +106,7 @@ pub(crate) fn may_release(statement: &Statement, lock: u8) -> bool
     }
 }
 
-/// Whether a value is this one, or none is known.
+/// Returns whether a value is `number`, or is not known.
 pub(crate) fn may_be(value: Option<u64>, number: u64) -> bool
     ensures { result ≡ may_be value number }
 {

@@ -11,7 +11,7 @@ use crate::found::{Found, Kind, NodeAt, StatementAt};
 use lrc_lang::program::{Expression, Statement};
 use std::alloc::AllocError;
 
-/// How many names a text may have.
+/// The number of names that a text may have.
 const MOST_NAMES: u8 = 32;
 
 /// Adds the names that some expression reads and no statement sets, each at its first reading.
@@ -20,7 +20,9 @@ pub fn never_set(
     nodes: &[NodeAt<'_>],
     statements: &[StatementAt<'_>],
 ) -> Result<(), AllocError>
-    ensures { OnOk result (out.new.items ≡ out.old.items ++ never_set (map node_seen nodes.now) (map statement_seen statements.now)) }
+    ensures { OnOk result (out.new.items
+        ≡ out.old.items ++ never_set (map node_seen nodes.now)
+        (map statement_seen statements.now)) }
 {
     never_set_below(out, nodes, statements, MOST_NAMES)
 }
@@ -33,7 +35,8 @@ fn never_set_below(
     count: u8,
 ) -> Result<(), AllocError>
     ensures { OnOk result (out.new.items ≡ out.old.items
-        ++ flat_map (never_set_of (map node_seen nodes.now) (map statement_seen statements.now)) (range_with_len 0 count)) }
+        ++ flat_map (never_set_of (map node_seen nodes.now) (map statement_seen statements.now))
+        (range_with_len 0 count)) }
 {
     for name in 0..count {
         never_set_of(out, nodes, statements, name)?;
@@ -47,7 +50,9 @@ fn never_set_of(
     statements: &[StatementAt<'_>],
     name: u8,
 ) -> Result<(), AllocError>
-    ensures { OnOk result (out.new.items ≡ out.old.items ++ never_set_of (map node_seen nodes.now) (map statement_seen statements.now) name) }
+    ensures { OnOk result (out.new.items
+        ≡ out.old.items ++ never_set_of (map node_seen nodes.now)
+        (map statement_seen statements.now) name) }
 {
     if some_set(statements, name) {
         return Ok(());
@@ -61,7 +66,9 @@ pub fn never_read(
     nodes: &[NodeAt<'_>],
     statements: &[StatementAt<'_>],
 ) -> Result<(), AllocError>
-    ensures { OnOk result (out.new.items ≡ out.old.items ++ never_read (map node_seen nodes.now) (map statement_seen statements.now)) }
+    ensures { OnOk result (out.new.items
+        ≡ out.old.items ++ never_read (map node_seen nodes.now)
+        (map statement_seen statements.now)) }
 {
     never_read_below(out, nodes, statements, MOST_NAMES)
 }
@@ -74,7 +81,8 @@ fn never_read_below(
     count: u8,
 ) -> Result<(), AllocError>
     ensures { OnOk result (out.new.items ≡ out.old.items
-        ++ flat_map (never_read_of (map node_seen nodes.now) (map statement_seen statements.now)) (range_with_len 0 count)) }
+        ++ flat_map (never_read_of (map node_seen nodes.now) (map statement_seen statements.now))
+        (range_with_len 0 count)) }
 {
     for name in 0..count {
         never_read_of(out, nodes, statements, name)?;
@@ -88,7 +96,9 @@ fn never_read_of(
     statements: &[StatementAt<'_>],
     name: u8,
 ) -> Result<(), AllocError>
-    ensures { OnOk result (out.new.items ≡ out.old.items ++ never_read_of (map node_seen nodes.now) (map statement_seen statements.now) name) }
+    ensures { OnOk result (out.new.items
+        ≡ out.old.items ++ never_read_of (map node_seen nodes.now)
+        (map statement_seen statements.now) name) }
 {
     if some_read(nodes, name) {
         return Ok(());
@@ -96,7 +106,7 @@ fn never_read_of(
     push_where(out, first_set(statements, name), Kind::NeverRead(name))
 }
 
-/// Adds a warning where there is a place of it.
+/// Adds a warning if it has a place.
 pub(crate) fn push_where(
     out: &mut Vec<Found>,
     at: Option<u32>,
@@ -127,7 +137,8 @@ fn some_read(nodes: &[NodeAt<'_>], name: u8) -> bool
 
 // The place of the first reading of a name.
 fn first_read(nodes: &[NodeAt<'_>], name: u8) -> Option<u32>
-    ensures { result ≡ option_map (λ n. n.at) (find (λ n. is_name name n.node) (map node_seen nodes.now)) }
+    ensures { result ≡ option_map (λ n. n.at)
+        (find (λ n. is_name name n.node) (map node_seen nodes.now)) }
 {
     for n in nodes {
         if is_name(n.node, name) {
@@ -139,7 +150,8 @@ fn first_read(nodes: &[NodeAt<'_>], name: u8) -> Option<u32>
 
 // The place of the first setting of a name.
 fn first_set(statements: &[StatementAt<'_>], name: u8) -> Option<u32>
-    ensures { result ≡ option_map (λ s. s.at) (find (λ s. sets name s.statement) (map statement_seen statements.now)) }
+    ensures { result ≡ option_map (λ s. s.at)
+        (find (λ s. sets name s.statement) (map statement_seen statements.now)) }
 {
     for s in statements {
         if sets(s.statement, name) {
@@ -149,14 +161,14 @@ fn first_set(statements: &[StatementAt<'_>], name: u8) -> Option<u32>
     None
 }
 
-/// Whether a part of an expression is the reading of this name.
+/// Returns whether a part of an expression reads this name.
 pub(crate) fn is_name(node: &Expression, name: u8) -> bool
     ensures { result ≡ is_name name (expression_of node.now) }
 {
     is_value(name_of(node), name)
 }
 
-/// Whether a statement sets this name.
+/// Returns whether a statement sets this name.
 pub(crate) fn sets(statement: &Statement, name: u8) -> bool
     ensures { result ≡ sets name (statement_of statement.now) }
 {
@@ -172,7 +184,7 @@ fn is_value(value: Option<u8>, name: u8) -> bool
     }
 }
 
-/// The name that a part of an expression reads.
+/// Returns the name that a part of an expression reads, or none.
 pub(crate) fn name_of(node: &Expression) -> Option<u8>
     ensures { result ≡ name_of (expression_of node.now) }
 {
@@ -182,7 +194,7 @@ pub(crate) fn name_of(node: &Expression) -> Option<u8>
     }
 }
 
-/// The name that a statement sets.
+/// Returns the name that a statement sets, or none.
 pub(crate) fn set_by(statement: &Statement) -> Option<u8>
     ensures { result ≡ set_by (statement_of statement.now) }
 {

@@ -12,7 +12,8 @@ use std::alloc::AllocError;
 
 /// Adds the divisions whose right operand is the constant 0.
 pub fn division_by_zero(out: &mut Vec<Found>, nodes: &[NodeAt<'_>]) -> Result<(), AllocError>
-    ensures { OnOk result (out.new.items ≡ out.old.items ++ division_by_zero (map node_seen nodes.now)) }
+    ensures { OnOk result (out.new.items
+        ≡ out.old.items ++ division_by_zero (map node_seen nodes.now)) }
 {
     for n in nodes {
         push_found(out, n.at as usize, division_kind(n.node))?;
@@ -61,7 +62,7 @@ fn below_zero_kind(node: &Expression) -> Option<Kind>
     }
 }
 
-/// A kind of warning, where this holds.
+/// Returns the kind of warning if this holds, or none.
 pub(crate) fn kind_if(holds: bool, kind: Kind) -> Option<Kind>
     ensures { result ≡ kind_if holds kind }
 {

@@ -15,26 +15,28 @@ use lrc_lang::program::{Expression, Statement};
 use lrc_lang::token::{Keyword, Sign, Token};
 use std::alloc::{AllocError, Global};
 
-/// How many tokens stand in front of a program's statements: `words N; locks N;`.
+/// The number of tokens before a program's statements: `words N; locks N;`.
 const HEADER: usize = 6;
 
-/// What is looked for among tokens.
+/// What a scan looks for among the tokens.
 #[derive(Clone, Copy)]
 pub enum Scan {
-    /// Those that begin statements.
+    /// The tokens that begin statements.
     Statements,
-    /// Operands, and the signs between them.
+    /// The operands, and the signs between them.
     Nodes,
 }
 
-/// The statements of a program with the places of their first tokens, in the order of the text.
+/// Returns the statements of a program with the places of their first tokens, in the order of the text. It fails if
+/// memory runs out.
 pub fn statements_at<'p>(
     alloc: Global,
     block: &'p [Statement],
     tokens: &[Token<'_>],
 ) -> Result<Vec<StatementAt<'p>>, AllocError>
     requires { length tokens.now < 2 ^ 31 }
-    ensures { IfOk result (λ all. map statement_seen all.items ≡ statements_at (map token_of tokens.now) (block_of block.entry.now)) }
+    ensures { IfOk result (λ all. map statement_seen all.items
+        ≡ statements_at (map token_of tokens.now) (block_of block.entry.now)) }
 {
     let all = statements_in(alloc, block)?;
     let places = places_in(alloc, tokens, Scan::Statements)?;
@@ -59,14 +61,16 @@ fn zip_statements<'p>(
     Ok(found)
 }
 
-/// The parts of the expressions of a program with the places of their tokens, in the order of the text.
+/// Returns the parts of the expressions of a program with the places of their tokens, in the order of the text. It
+/// fails if memory runs out.
 pub fn nodes_at<'p>(
     alloc: Global,
     block: &'p [Statement],
     tokens: &[Token<'_>],
 ) -> Result<Vec<NodeAt<'p>>, AllocError>
     requires { length tokens.now < 2 ^ 31 }
-    ensures { IfOk result (λ all. map node_seen all.items ≡ nodes_at (map token_of tokens.now) (block_of block.entry.now)) }
+    ensures { IfOk result (λ all. map node_seen all.items
+        ≡ nodes_at (map token_of tokens.now) (block_of block.entry.now)) }
 {
     let statements = statements_in(alloc, block)?;
     let nodes = nodes_of_all(alloc, &statements)?;
@@ -119,7 +123,8 @@ fn places_in(alloc: Global, tokens: &[Token<'_>], scan: Scan) -> Result<Vec<u32>
 
 fn places_from(alloc: Global, tokens: &[Token<'_>], scan: Scan) -> Result<Vec<u32>, AllocError>
     requires { length tokens.now < 2 ^ 31 }
-    ensures { IfOk result (λ places. places.items ≡ places_from scan 6 true (map token_of tokens.now)) }
+    ensures { IfOk result (λ places. places.items
+        ≡ places_from scan 6 true (map token_of tokens.now)) }
 {
     let mut places = Vec::new(alloc);
     let mut behind_seam = true;
@@ -135,7 +140,8 @@ fn places_from(alloc: Global, tokens: &[Token<'_>], scan: Scan) -> Result<Vec<u3
 }
 
 fn put_place(places: &mut Vec<u32>, at: u32, wanted: bool) -> Result<(), AllocError>
-    ensures { OnOk result (places.new.items ≡ places.old.items ++ (if wanted then at ∷ [] else [])) }
+    ensures { OnOk result (places.new.items
+        ≡ places.old.items ++ (if wanted then at ∷ [] else [])) }
 {
     if wanted {
         places.push(at)?;

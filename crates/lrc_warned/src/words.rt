@@ -12,15 +12,16 @@ use crate::found::{Found, Kind, StatementAt};
 use lrc_lang::program::Statement;
 use std::alloc::{AllocError, Global};
 
-/// Adds the words that a shared read names as a constant where all shared writes are of other constants, each at the first of these
-/// constants.
+/// Adds the words that a shared read names as a constant while all shared writes are of other constants, each at the
+/// first such constant.
 pub fn never_written(
     out: &mut Vec<Found>,
     alloc: Global,
     statements: &[StatementAt<'_>],
     words: u32,
 ) -> Result<(), AllocError>
-    ensures { OnOk result (out.new.items ≡ out.old.items ++ never_written words (map statement_seen statements.now)) }
+    ensures { OnOk result (out.new.items
+        ≡ out.old.items ++ never_written words (map statement_seen statements.now)) }
 {
     if some_writes_some(statements) {
         return Ok(());
@@ -37,8 +38,10 @@ fn never_written_by(
 ) -> Result<(), AllocError>
     requires few { length known.old < 2 ^ 32 }
     requires unmarked { (k : ℕ) → k < length known.old → slice_index_or known.old k false ≡ false }
-    requires constants { list_any (λ s. writes_some s.statement) (map statement_seen statements.now) ≡ false }
-    ensures { OnOk result (out.new.items ≡ out.old.items ++ never_written (length known.old) (map statement_seen statements.now)) }
+    requires constants { list_any (λ s. writes_some s.statement) (map statement_seen statements.now)
+        ≡ false }
+    ensures { OnOk result (out.new.items
+        ≡ out.old.items ++ never_written (length known.old) (map statement_seen statements.now)) }
 {
     mark_writes(known, statements);
     push_unknown_reads(out, known, statements)
@@ -83,7 +86,8 @@ fn word_read(statement: &Statement) -> Option<u64>
 // Marks the words that are written as constants.
 fn mark_writes(known: &mut [bool], statements: &[StatementAt<'_>])
     ensures { (k : ℕ) → k < length known.old → slice_index_or known.new k false
-        ≡ (slice_index_or known.old k false || list_any (λ s. is_value (word_written s.statement) k) (map statement_seen statements.now)) }
+        ≡ (slice_index_or known.old k false || list_any (λ s. is_value (word_written s.statement) k)
+        (map statement_seen statements.now)) }
 {
     for s in statements {
         mark(known, word_written(s.statement));
@@ -92,7 +96,8 @@ fn mark_writes(known: &mut [bool], statements: &[StatementAt<'_>])
 
 // Marks a word, if there is one and the table has it.
 fn mark(known: &mut [bool], word: Option<u64>)
-    ensures { (k : ℕ) → k < length known.old → slice_index_or known.new k false ≡ (slice_index_or known.old k false || is_value word k) }
+    ensures { (k : ℕ) → k < length known.old
+        → slice_index_or known.new k false ≡ (slice_index_or known.old k false || is_value word k) }
 {
     if let Some(word) = word {
         if word < known.len() as u64 {
@@ -109,8 +114,10 @@ fn push_unknown_reads(
 ) -> Result<(), AllocError>
     requires few { length known.old < 2 ^ 32 }
     requires written { (k : ℕ) → k < length known.old →
-        slice_index_or known.old k false ≡ list_any (λ s. may_write k s.statement) (map statement_seen statements.now) }
-    ensures { OnOk result (out.new.items ≡ out.old.items ++ never_written (length known.old) (map statement_seen statements.now)) }
+        slice_index_or known.old k false
+        ≡ list_any (λ s. may_write k s.statement) (map statement_seen statements.now) }
+    ensures { OnOk result (out.new.items
+        ≡ out.old.items ++ never_written (length known.old) (map statement_seen statements.now)) }
 {
     for s in statements {
         let word = word_read(s.statement);

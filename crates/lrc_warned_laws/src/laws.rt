@@ -35,139 +35,190 @@ ghost use Rattle.lrc_warned_laws.specs.Comes.{IsAt, TrapsAt, nodes_of_text, path
 ghost use Rattle.lrc_warned_laws.specs.Loops.{GoesRound, IsInLoop, Learns, condition_value};
 ghost use Rattle.lrc_warned_laws.specs.Traps.{IsPartAt, TrapsBehind, trap_of_access};
 
-/// A name of which it is said that it is read and never set has the value 0 in every thread, wherever acts lead it.
+/// If a warning says that a name is read and never set, the name has the value 0 in every thread, wherever acts lead
+/// the thread.
 pub fn a_name_that_is_never_set_is_zero()
-    ensures { (program : Program) (tokens : List Token) (at name : ℕ) → IsProgram (program_of program) tokens
-        → Contains (never_set (nodes_of_text program tokens) (statements_of_text program tokens)) (record { at = at; kind = NeverSet name })
-        → (nodes : ℕ) (acts : List Act) (node : ℕ) → slice_index (thread_to program tokens nodes acts node).privates name ≡ 0 }
+    ensures { (program : Program) (tokens : List Token) (at name : ℕ)
+        → IsProgram (program_of program) tokens
+        → Contains (never_set (nodes_of_text program tokens) (statements_of_text program tokens))
+        (record { at = at; kind = NeverSet name })
+        → (nodes : ℕ) (acts : List Act) (node : ℕ)
+        → slice_index (thread_to program tokens nodes acts node).privates name ≡ 0 }
 {}
 
-/// A node that comes to a shared access of a word that is said not to be there traps. Of a write the value is evaluated before: where it
-/// divides by zero, that is the trap.
+/// If a warning says that a word does not exist, a node that reaches the shared access traps. For a write the value is
+/// evaluated before: if it divides by zero, that is the trap.
 pub fn an_access_of_no_word_traps()
     ensures { (program : Program) (tokens : List Token) (at word : ℕ)
-        → Contains (no_such_word program.words (statements_of_text program tokens)) (record { at = at; kind = NoSuchWord word })
+        → Contains (no_such_word program.words (statements_of_text program tokens))
+        (record { at = at; kind = NoSuchWord word })
         → TrapsBehind program tokens at trap_of_access }
 {}
 
-/// A node that comes to an acquire or a release of a lock that is said not to be there traps.
+/// If a warning says that a lock does not exist, a node that reaches the acquire or release traps.
 pub fn an_acquire_or_a_release_of_no_lock_traps()
     ensures { (program : Program) (tokens : List Token) (at lock : ℕ)
-        → Contains (no_such_lock program.locks (statements_of_text program tokens)) (record { at = at; kind = NoSuchLock lock })
+        → Contains (no_such_lock program.locks (statements_of_text program tokens))
+        (record { at = at; kind = NoSuchLock lock })
         → TrapsBehind program tokens at (λ walk. causes.LockOutOfRange) }
 {}
 
-/// A sign at which a division by zero is told is that of a part of a statement, and each node that comes to that statement traps there.
+/// A warning of a division by zero is at the sign of a part of a statement, and each node that reaches that statement
+/// traps there.
 pub fn a_division_by_the_constant_zero_traps()
-    ensures { (program : Program) (tokens : List Token) (at : ℕ) → IsProgram (program_of program) tokens
-        → Contains (division_by_zero (nodes_of_text program tokens)) (record { at = at; kind = DivisionByZero })
+    ensures { (program : Program) (tokens : List Token) (at : ℕ)
+        → IsProgram (program_of program) tokens
+        → Contains (division_by_zero (nodes_of_text program tokens))
+        (record { at = at; kind = DivisionByZero })
         → (part : Expression) × (from : ℕ) × IsPartAt program tokens at part from
         × ((nodes : ℕ) → TrapsAt program tokens nodes from (λ walk. causes.DivisionByZero)) }
 {}
 
-/// A comparison of which it is said that it is always 0, or always 1, has no other value in any thread.
+/// If a warning says that a comparison is always 0, or always 1, it has no other value in any thread.
 pub fn a_comparison_with_zero_says_nothing()
-    ensures { (program : Program) (tokens : List Token) (at : ℕ) (always : Bool) → IsProgram (program_of program) tokens
-        → Contains (below_zero (nodes_of_text program tokens)) (record { at = at; kind = BelowZero always })
+    ensures { (program : Program) (tokens : List Token) (at : ℕ) (always : Bool)
+        → IsProgram (program_of program) tokens
+        → Contains (below_zero (nodes_of_text program tokens))
+        (record { at = at; kind = BelowZero always })
         → (part : Expression) × (from : ℕ) × IsPartAt program tokens at part from
-        × ((thread : Thread) (e : code.Expression) (value : ℕ) → expression_of e ≡ part → value_in thread e ≡ Some value → value ≡ one_if always) }
+        × ((thread : Thread) (e : code.Expression) (value : ℕ) → expression_of e ≡ part
+        → value_in thread e ≡ Some value → value ≡ one_if always) }
 {}
 
-/// Where it is said that a lock is held already, each node that comes there holds it, and traps.
+/// If a warning says that a lock is held already, each node that reaches the place holds it, and traps.
 pub fn a_lock_that_is_held_already_is_held()
     ensures { (program : Program) (tokens : List Token) (at lock : ℕ)
-        → Contains (held_already program.locks (statements_of_text program tokens) (paths_of_text program)) (record { at = at; kind = HeldAlready lock })
+        → Contains (held_already program.locks (statements_of_text program tokens) (paths_of_text program))
+        (record { at = at; kind = HeldAlready lock })
         → (nodes : ℕ)
-        → ((acts : List Act) (node : ℕ) → IsAt (walk_to program tokens nodes acts node) at → holds (thread_to program tokens nodes acts node) lock ≡ true)
+        → ((acts : List Act) (node : ℕ) → IsAt (walk_to program tokens nodes acts node) at
+        → holds (thread_to program tokens nodes acts node) lock ≡ true)
         × TrapsAt program tokens nodes at (λ walk. causes.LockHeld) }
 {}
 
-/// Where it is said that a lock is not held, no node that comes there holds it, and each traps.
+/// If a warning says that a lock is not held, no node that reaches the place holds it, and each traps.
 pub fn a_lock_that_is_not_held_is_not_held()
     ensures { (program : Program) (tokens : List Token) (at lock : ℕ)
-        → Contains (not_held program.locks (statements_of_text program tokens) (paths_of_text program)) (record { at = at; kind = NotHeld lock })
+        → Contains (not_held program.locks (statements_of_text program tokens) (paths_of_text program))
+        (record { at = at; kind = NotHeld lock })
         → (nodes : ℕ)
-        → ((acts : List Act) (node : ℕ) → IsAt (walk_to program tokens nodes acts node) at → holds (thread_to program tokens nodes acts node) lock ≡ false)
+        → ((acts : List Act) (node : ℕ) → IsAt (walk_to program tokens nodes acts node) at
+        → holds (thread_to program tokens nodes acts node) lock ≡ false)
         × TrapsAt program tokens nodes at (λ walk. causes.LockNotHeld) }
 {}
 
-/// At a barrier at which it is said that a lock is held, each node that comes there holds it.
+/// If a warning says that a lock is held at a barrier, each node that reaches the barrier holds it.
 pub fn a_lock_that_is_held_at_a_barrier_is_held()
     ensures { (program : Program) (tokens : List Token) (at lock : ℕ)
-        → Contains (held_at_barrier program.locks (statements_of_text program tokens) (paths_of_text program)) (record { at = at; kind = HeldAtBarrier lock })
-        → (nodes : ℕ) (acts : List Act) (node : ℕ) → IsAt (walk_to program tokens nodes acts node) at
+        → Contains (held_at_barrier program.locks (statements_of_text program tokens) (paths_of_text program))
+        (record { at = at; kind = HeldAtBarrier lock })
+        → (nodes : ℕ) (acts : List Act) (node : ℕ)
+        → IsAt (walk_to program tokens nodes acts node) at
         → holds (thread_to program tokens nodes acts node) lock ≡ true }
 {}
 
-/// A word of which it is said that it is read and never written is not written by any act that follows the text. So each read of it gives
-/// 0 in every run of the plain machine, and in every run that reads lazily, as those of the nodes do.
+/// If a warning says that a word is read and never written, no act that follows the text writes it. So each read of the
+/// word gives 0 in every run of the plain machine, and in every run that reads lazily, as the runs of the nodes do.
 pub fn a_word_that_is_never_written_is_zero()
-    ensures unwritten { (program : Program) (tokens : List Token) (at word : ℕ) → IsProgram (program_of program) tokens
-        → Contains (never_written program.words (statements_of_text program tokens)) (record { at = at; kind = NeverWritten word })
-        → (nodes : ℕ) (acts : List Act) (i node value : ℕ) → FollowsText program nodes acts → ¬ Does acts i node (Write word value) }
-    ensures plainly { (program : Program) (tokens : List Token) (at word : ℕ) → IsProgram (program_of program) tokens
-        → Contains (never_written program.words (statements_of_text program tokens)) (record { at = at; kind = NeverWritten word })
-        → (nodes : ℕ) (order : List ℕ) (run : List Act) (j value : ℕ) → plain program nodes order ≡ Some run
+    ensures unwritten { (program : Program) (tokens : List Token) (at word : ℕ)
+        → IsProgram (program_of program) tokens
+        → Contains (never_written program.words (statements_of_text program tokens))
+        (record { at = at; kind = NeverWritten word })
+        → (nodes : ℕ) (acts : List Act) (i node value : ℕ) → FollowsText program nodes acts
+        → ¬ Does acts i node (Write word value) }
+    ensures plainly { (program : Program) (tokens : List Token) (at word : ℕ)
+        → IsProgram (program_of program) tokens
+        → Contains (never_written program.words (statements_of_text program tokens))
+        (record { at = at; kind = NeverWritten word })
+        → (nodes : ℕ) (order : List ℕ) (run : List Act) (j value : ℕ)
+        → plain program nodes order ≡ Some run
         → IsDone run j (Read word value) → value ≡ 0 }
-    ensures lazily { (program : Program) (tokens : List Token) (at word : ℕ) → IsProgram (program_of program) tokens
-        → Contains (never_written program.words (statements_of_text program tokens)) (record { at = at; kind = NeverWritten word })
-        → (nodes : ℕ) (run : List Act) (j value : ℕ) → FollowsText program nodes run → ReadsLazily run
+    ensures lazily { (program : Program) (tokens : List Token) (at word : ℕ)
+        → IsProgram (program_of program) tokens
+        → Contains (never_written program.words (statements_of_text program tokens))
+        (record { at = at; kind = NeverWritten word })
+        → (nodes : ℕ) (run : List Act) (j value : ℕ) → FollowsText program nodes run
+        → ReadsLazily run
         → IsDone run j (Read word value) → value ≡ 0 }
 {}
 
-/// A lock of which it is said that it is never released is not released by any act that follows the text.
+/// If a warning says that a lock is never released, no act that follows the text releases it.
 pub fn a_lock_that_is_never_released_stays_held()
-    ensures { (program : Program) (tokens : List Token) (at lock : ℕ) → IsProgram (program_of program) tokens
-        → Contains (never_released program.locks (statements_of_text program tokens)) (record { at = at; kind = NeverReleased lock })
-        → (nodes : ℕ) (acts : List Act) (i node : ℕ) → FollowsText program nodes acts → ¬ Does acts i node (Release lock) }
+    ensures { (program : Program) (tokens : List Token) (at lock : ℕ)
+        → IsProgram (program_of program) tokens
+        → Contains (never_released program.locks (statements_of_text program tokens))
+        (record { at = at; kind = NeverReleased lock })
+        → (nodes : ℕ) (acts : List Act) (i node : ℕ) → FollowsText program nodes acts
+        → ¬ Does acts i node (Release lock) }
 {}
 
-/// Where it is said that nothing in a loop changes its condition: once the condition holds when a node comes to the loop, the node never
-/// leaves it, whatever it does from then on, and the condition has the same value ever after.
+/// If a warning says that nothing in a loop changes its condition, and the condition holds when a node reaches the
+/// loop, the node never leaves the loop, whatever it does from then on, and the condition keeps its value.
 pub fn a_condition_that_nothing_changes_holds_for_ever()
     ensures { (program : Program) (tokens : List Token) (at : ℕ)
-        → Contains (unchanged_conditions (statements_of_text program tokens)) (record { at = at; kind = UnchangedCondition })
-        → (nodes : ℕ) (acts : List Act) (node : ℕ) (here : IsAt (walk_to program tokens nodes acts node) at)
+        → Contains (unchanged_conditions (statements_of_text program tokens))
+        (record { at = at; kind = UnchangedCondition })
+        → (nodes : ℕ) (acts : List Act) (node : ℕ)
+        (here : IsAt (walk_to program tokens nodes acts node) at)
         → condition_holds (thread_to program tokens nodes acts node) ≡ true → (later : List Act)
         → IsInLoop (walk_to program tokens nodes (acts ++ later) node) here.task here.more
         × (condition_value (thread_to program tokens nodes (acts ++ later) node) here.task.statement
         ≡ condition_value (thread_to program tokens nodes acts node) here.task.statement) }
 {}
 
-/// Where it is said that a loop learns of no write of another node: from its coming to the loop at position i to an act of it at position
-/// j, where it has not left the loop, a node acquires, arrives and departs at no position.
-/// So what happens before the one act, of another node, happened before the other: the node knows no more of others than when it came.
-/// And in a run that reads lazily, as those of the nodes do, what its read at j gives is 0, or its own, or a write that happens before i.
-/// It is what an earlier read of the word in the loop gave, where the writes that happen before that one are ordered and the node itself
-/// wrote none in between.
+/// Let a warning say that a loop learns of no write of another node. Let a node reach the loop at position i and make
+/// an act of it at position j, without leaving the loop between. Then the node acquires, arrives and departs at no
+/// position from i to j. So an act of another node that happens before the act at j already happens before the act at
+/// i: the node knows no more of others than when it came.
+///
+/// In a run that reads lazily, as the runs of the nodes do, a read at j gives 0, or the value of a write of the node
+/// itself, or of a write that happens before i. If the writes that happen before an earlier read of the word in the
+/// loop are ordered, and the node itself wrote none in between, the read at j gives what that earlier read gave.
 pub fn a_loop_that_learns_nothing_knows_no_more()
     ensures quiet { (program : Program) (tokens : List Token) (at : ℕ)
-        → Contains (learning_nothing (statements_of_text program tokens)) (record { at = at; kind = LearnsNothing })
-        → (nodes node : ℕ) (acts : List Act) → FollowsText program nodes acts → node < nodes → (i j : ℕ) → GoesRound program tokens nodes acts node at i j
+        → Contains (learning_nothing (statements_of_text program tokens))
+        (record { at = at; kind = LearnsNothing })
+        → (nodes node : ℕ) (acts : List Act) → FollowsText program nodes acts → node < nodes
+        → (i j : ℕ) → GoesRound program tokens nodes acts node at i j
         → (k : ℕ) (deed : Deed) → i ≤ k → k ≤ j → Does acts k node deed → ¬ Learns deed }
     ensures known { (program : Program) (tokens : List Token) (at : ℕ)
-        → Contains (learning_nothing (statements_of_text program tokens)) (record { at = at; kind = LearnsNothing })
-        → (nodes node : ℕ) (acts : List Act) → FollowsText program nodes acts → node < nodes → (i j : ℕ) → GoesRound program tokens nodes acts node at i j
-        → (k other : ℕ) (before deed : Deed) → Does acts k other before → other ≢ node → Does acts j node deed → HappensBefore acts k j
+        → Contains (learning_nothing (statements_of_text program tokens))
+        (record { at = at; kind = LearnsNothing })
+        → (nodes node : ℕ) (acts : List Act) → FollowsText program nodes acts → node < nodes
+        → (i j : ℕ) → GoesRound program tokens nodes acts node at i j
+        → (k other : ℕ) (before deed : Deed) → Does acts k other before → other ≢ node
+        → Does acts j node deed → HappensBefore acts k j
         → HappensBefore acts k i }
     ensures read { (program : Program) (tokens : List Token) (at : ℕ)
-        → Contains (learning_nothing (statements_of_text program tokens)) (record { at = at; kind = LearnsNothing })
-        → (nodes node : ℕ) (acts : List Act) → FollowsText program nodes acts → node < nodes → (i j : ℕ) → GoesRound program tokens nodes acts node at i j
+        → Contains (learning_nothing (statements_of_text program tokens))
+        (record { at = at; kind = LearnsNothing })
+        → (nodes node : ℕ) (acts : List Act) → FollowsText program nodes acts → node < nodes
+        → (i j : ℕ) → GoesRound program tokens nodes acts node at i j
         → ReadsLazily acts → (word value : ℕ) → Does acts j node (Read word value)
-        → (value ≡ 0) ⊎ ((k : ℕ) × WrittenBefore acts j word k value × (Does acts k node (Write word value) ⊎ HappensBefore acts k i)) }
+        → (value ≡ 0) ⊎ ((k : ℕ) × WrittenBefore acts j word k value
+        × (Does acts k node (Write word value) ⊎ HappensBefore acts k i)) }
     ensures same_value { (program : Program) (tokens : List Token) (at : ℕ)
-        → Contains (learning_nothing (statements_of_text program tokens)) (record { at = at; kind = LearnsNothing })
-        → (nodes node : ℕ) (acts : List Act) → FollowsText program nodes acts → node < nodes → (i j : ℕ) → GoesRound program tokens nodes acts node at i j
-        → ReadsLazily acts → (k word earlier value : ℕ) → i ≤ k → k ≤ j → Does acts k node (Read word earlier) → Does acts j node (Read word value)
-        → ((l own : ℕ) → k ≤ l → l ≤ j → ¬ Does acts l node (Write word own)) → AreOrdered acts k word → earlier ≡ value }
+        → Contains (learning_nothing (statements_of_text program tokens))
+        (record { at = at; kind = LearnsNothing })
+        → (nodes node : ℕ) (acts : List Act) → FollowsText program nodes acts → node < nodes
+        → (i j : ℕ) → GoesRound program tokens nodes acts node at i j
+        → ReadsLazily acts → (k word earlier value : ℕ) → i ≤ k → k ≤ j
+        → Does acts k node (Read word earlier) → Does acts j node (Read word value)
+        → ((l own : ℕ) → k ≤ l → l ≤ j → ¬ Does acts l node (Write word own))
+        → AreOrdered acts k word → earlier ≡ value }
 {}
 
-/// The value of a name of which it is said that it is set and never read changes nothing: wherever acts lead a node, its thread makes the
-/// same deeds from there on, whatever the name has as its value.
+/// If a warning says that a name is set and never read, its value changes nothing: wherever acts lead a node, its
+/// thread makes the same deeds from there on, whatever the name's value.
 pub fn a_name_that_is_never_read_changes_nothing()
-    ensures { (program : Program) (tokens : List Token) (at name : ℕ) → IsProgram (program_of program) tokens
-        → Contains (never_read (nodes_of_text program tokens) (statements_of_text program tokens)) (record { at = at; kind = NeverRead name })
+    ensures { (program : Program) (tokens : List Token) (at name : ℕ)
+        → IsProgram (program_of program) tokens
+        → Contains (never_read (nodes_of_text program tokens) (statements_of_text program tokens))
+        (record { at = at; kind = NeverRead name })
         → (nodes : ℕ) (acts : List Act) (node value : ℕ) (deeds : List Deed)
         → let thread = thread_to program tokens nodes acts node in
-        Makes (Some thread) deeds ↔ Makes (Some (record thread { privates = slice_set thread.privates name value })) deeds }
+        Makes (Some thread) deeds ↔ Makes (Some (record thread {
+          privates = slice_set
+              thread.privates name value;
+        })) deeds }
 {}

@@ -1,4 +1,4 @@
-//! What is warned of in a text is so in every run: laws of warnings.
+//! Laws that what a warning says of a text is true in every run. Each law is about one kind of warning.
 #![tactic(auto)]
 
 pub mod laws;

@@ -30,92 +30,121 @@ ghost use Rattle.lrc_warned_laws.specs.Loops.{GoesRound, Learns};
 ghost use Rattle.lrc_warned_laws.specs.Traps.{IsPartAt, trap_of_access};
 ghost use Rattle.lrc_warned_run_laws.specs.Trapping.{TrapsInRuns, TrapsInRunsBehind};
 
-/// A word of which it is said that it is read and never written: in no run a node writes it, and each read of it gives 0.
+/// If a warning says that a word is read and never written, no node writes it in any run, and each read of it gives 0.
 pub fn runs_give_zero_for_a_word_that_is_never_written()
-    ensures unwritten { (program : Program) (tokens : List Token) (at word : ℕ) → IsProgram (program_of program) tokens
-        → Contains (never_written program.words (statements_of_text program tokens)) (record { at = at; kind = NeverWritten word })
-        → (nodes : ℕ) (options : OptionsRecord) (events : List Event) (world : World) → run_of program nodes options events ≡ Some world
+    ensures unwritten { (program : Program) (tokens : List Token) (at word : ℕ)
+        → IsProgram (program_of program) tokens
+        → Contains (never_written program.words (statements_of_text program tokens))
+        (record { at = at; kind = NeverWritten word })
+        → (nodes : ℕ) (options : OptionsRecord) (events : List Event) (world : World)
+        → run_of program nodes options events ≡ Some world
         → (i value : ℕ) → ¬ IsDone world.acts i (Write word value) }
-    ensures zero { (program : Program) (tokens : List Token) (at word : ℕ) → IsProgram (program_of program) tokens
-        → Contains (never_written program.words (statements_of_text program tokens)) (record { at = at; kind = NeverWritten word })
-        → (nodes : ℕ) (options : OptionsRecord) (events : List Event) (world : World) → run_of program nodes options events ≡ Some world
+    ensures zero { (program : Program) (tokens : List Token) (at word : ℕ)
+        → IsProgram (program_of program) tokens
+        → Contains (never_written program.words (statements_of_text program tokens))
+        (record { at = at; kind = NeverWritten word })
+        → (nodes : ℕ) (options : OptionsRecord) (events : List Event) (world : World)
+        → run_of program nodes options events ≡ Some world
         → (j value : ℕ) → IsDone world.acts j (Read word value) → value ≡ 0 }
 {}
 
-/// A lock of which it is said that it is never released: in no run a node releases it.
+/// If a warning says that a lock is never released, no node releases it in any run.
 pub fn runs_release_no_lock_that_is_never_released()
-    ensures { (program : Program) (tokens : List Token) (at lock : ℕ) → IsProgram (program_of program) tokens
-        → Contains (never_released program.locks (statements_of_text program tokens)) (record { at = at; kind = NeverReleased lock })
-        → (nodes : ℕ) (options : OptionsRecord) (events : List Event) (world : World) → run_of program nodes options events ≡ Some world
+    ensures { (program : Program) (tokens : List Token) (at lock : ℕ)
+        → IsProgram (program_of program) tokens
+        → Contains (never_released program.locks (statements_of_text program tokens))
+        (record { at = at; kind = NeverReleased lock })
+        → (nodes : ℕ) (options : OptionsRecord) (events : List Event) (world : World)
+        → run_of program nodes options events ≡ Some world
         → (i : ℕ) → ¬ IsDone world.acts i (Release lock) }
 {}
 
-/// Where it is said that a loop learns of no write of another node: in every run, from its coming to the loop at position i to an act of
-/// it at position j, where it has not left the loop, a node acquires, arrives and departs at no position. So what happens before the one
-/// act, of another node, happened before the other. What its read at j gives is 0, or its own, or a write that happens before i; and it
-/// is what an earlier read of the word in the loop gave, where the writes that happen before that one are ordered and the node itself
-/// wrote none in between.
+/// Let a warning say that a loop learns of no write of another node. In any run, let a node reach the loop at position
+/// i and make an act of it at position j, without leaving the loop between. Then the node acquires, arrives and departs
+/// at no position from i to j. So an act of another node that happens before the act at j already happens before the
+/// act at i.
+///
+/// A read at j gives 0, or the value of a write of the node itself, or of a write that happens before i. If the writes
+/// that happen before an earlier read of the word in the loop are ordered, and the node itself wrote none in between,
+/// the read at j gives what that earlier read gave.
 pub fn runs_know_no_more_by_a_loop_that_learns_nothing()
     ensures quiet { (program : Program) (tokens : List Token) (at : ℕ)
-        → Contains (learning_nothing (statements_of_text program tokens)) (record { at = at; kind = LearnsNothing })
-        → (nodes : ℕ) (options : OptionsRecord) (events : List Event) (world : World) → run_of program nodes options events ≡ Some world
+        → Contains (learning_nothing (statements_of_text program tokens))
+        (record { at = at; kind = LearnsNothing })
+        → (nodes : ℕ) (options : OptionsRecord) (events : List Event) (world : World)
+        → run_of program nodes options events ≡ Some world
         → (node i j : ℕ) → GoesRound program tokens nodes world.acts node at i j
         → (k : ℕ) (deed : Deed) → i ≤ k → k ≤ j → Does world.acts k node deed → ¬ Learns deed }
     ensures known { (program : Program) (tokens : List Token) (at : ℕ)
-        → Contains (learning_nothing (statements_of_text program tokens)) (record { at = at; kind = LearnsNothing })
-        → (nodes : ℕ) (options : OptionsRecord) (events : List Event) (world : World) → run_of program nodes options events ≡ Some world
+        → Contains (learning_nothing (statements_of_text program tokens))
+        (record { at = at; kind = LearnsNothing })
+        → (nodes : ℕ) (options : OptionsRecord) (events : List Event) (world : World)
+        → run_of program nodes options events ≡ Some world
         → (node i j : ℕ) → GoesRound program tokens nodes world.acts node at i j
-        → (k other : ℕ) (before deed : Deed) → Does world.acts k other before → other ≢ node → Does world.acts j node deed
+        → (k other : ℕ) (before deed : Deed) → Does world.acts k other before → other ≢ node
+        → Does world.acts j node deed
         → HappensBefore world.acts k j → HappensBefore world.acts k i }
     ensures read { (program : Program) (tokens : List Token) (at : ℕ)
-        → Contains (learning_nothing (statements_of_text program tokens)) (record { at = at; kind = LearnsNothing })
-        → (nodes : ℕ) (options : OptionsRecord) (events : List Event) (world : World) → run_of program nodes options events ≡ Some world
+        → Contains (learning_nothing (statements_of_text program tokens))
+        (record { at = at; kind = LearnsNothing })
+        → (nodes : ℕ) (options : OptionsRecord) (events : List Event) (world : World)
+        → run_of program nodes options events ≡ Some world
         → (node i j : ℕ) → GoesRound program tokens nodes world.acts node at i j
         → (word value : ℕ) → Does world.acts j node (Read word value)
         → (value ≡ 0) ⊎ ((k : ℕ) × WrittenBefore world.acts j word k value
         × (Does world.acts k node (Write word value) ⊎ HappensBefore world.acts k i)) }
     ensures same_value { (program : Program) (tokens : List Token) (at : ℕ)
-        → Contains (learning_nothing (statements_of_text program tokens)) (record { at = at; kind = LearnsNothing })
-        → (nodes : ℕ) (options : OptionsRecord) (events : List Event) (world : World) → run_of program nodes options events ≡ Some world
+        → Contains (learning_nothing (statements_of_text program tokens))
+        (record { at = at; kind = LearnsNothing })
+        → (nodes : ℕ) (options : OptionsRecord) (events : List Event) (world : World)
+        → run_of program nodes options events ≡ Some world
         → (node i j : ℕ) → GoesRound program tokens nodes world.acts node at i j
-        → (k word earlier value : ℕ) → i ≤ k → k ≤ j → Does world.acts k node (Read word earlier) → Does world.acts j node (Read word value)
-        → ((l own : ℕ) → k ≤ l → l ≤ j → ¬ Does world.acts l node (Write word own)) → AreOrdered world.acts k word → earlier ≡ value }
+        → (k word earlier value : ℕ) → i ≤ k → k ≤ j → Does world.acts k node (Read word earlier)
+        → Does world.acts j node (Read word value)
+        → ((l own : ℕ) → k ≤ l → l ≤ j → ¬ Does world.acts l node (Write word own))
+        → AreOrdered world.acts k word → earlier ≡ value }
 {}
 
-/// In every run a node that comes to a shared access of a word that is said not to be there traps: that is its next deed. Of a write the
-/// value is evaluated before: where it divides by zero, that is the trap.
+/// If a warning says that a word does not exist, in every run a node that reaches the shared access traps: that is its
+/// next deed. For a write the value is evaluated before: if it divides by zero, that is the trap.
 pub fn runs_trap_at_an_access_of_no_word()
     ensures { (program : Program) (tokens : List Token) (at word : ℕ)
-        → Contains (no_such_word program.words (statements_of_text program tokens)) (record { at = at; kind = NoSuchWord word })
+        → Contains (no_such_word program.words (statements_of_text program tokens))
+        (record { at = at; kind = NoSuchWord word })
         → TrapsInRunsBehind program tokens at trap_of_access }
 {}
 
-/// In every run a node that comes to an acquire or a release of a lock that is said not to be there traps.
+/// If a warning says that a lock does not exist, in every run a node that reaches the acquire or release traps.
 pub fn runs_trap_at_an_acquire_or_a_release_of_no_lock()
     ensures { (program : Program) (tokens : List Token) (at lock : ℕ)
-        → Contains (no_such_lock program.locks (statements_of_text program tokens)) (record { at = at; kind = NoSuchLock lock })
+        → Contains (no_such_lock program.locks (statements_of_text program tokens))
+        (record { at = at; kind = NoSuchLock lock })
         → TrapsInRunsBehind program tokens at (λ walk. causes.LockOutOfRange) }
 {}
 
-/// A sign at which a division by zero is told is that of a part of a statement, and in every run each node that comes to that statement
-/// traps there.
+/// A warning of a division by zero is at the sign of a part of a statement, and in every run each node that reaches
+/// that statement traps there.
 pub fn runs_trap_at_a_division_by_the_constant_zero()
-    ensures { (program : Program) (tokens : List Token) (at : ℕ) → IsProgram (program_of program) tokens
-        → Contains (division_by_zero (nodes_of_text program tokens)) (record { at = at; kind = DivisionByZero })
+    ensures { (program : Program) (tokens : List Token) (at : ℕ)
+        → IsProgram (program_of program) tokens
+        → Contains (division_by_zero (nodes_of_text program tokens))
+        (record { at = at; kind = DivisionByZero })
         → (part : Expression) × (from : ℕ) × IsPartAt program tokens at part from
         × TrapsInRuns program tokens from (λ walk. causes.DivisionByZero) }
 {}
 
-/// In every run a node that comes to an acquire where it is said that the lock is held already traps.
+/// If a warning says that a lock is held already, in every run a node that reaches this acquire traps.
 pub fn runs_trap_at_an_acquire_of_a_lock_that_is_held_already()
     ensures { (program : Program) (tokens : List Token) (at lock : ℕ)
-        → Contains (held_already program.locks (statements_of_text program tokens) (paths_of_text program)) (record { at = at; kind = HeldAlready lock })
+        → Contains (held_already program.locks (statements_of_text program tokens) (paths_of_text program))
+        (record { at = at; kind = HeldAlready lock })
         → TrapsInRuns program tokens at (λ walk. causes.LockHeld) }
 {}
 
-/// In every run a node that comes to a release where it is said that the lock is not held traps.
+/// If a warning says that a lock is not held, in every run a node that reaches this release traps.
 pub fn runs_trap_at_a_release_of_a_lock_that_is_not_held()
     ensures { (program : Program) (tokens : List Token) (at lock : ℕ)
-        → Contains (not_held program.locks (statements_of_text program tokens) (paths_of_text program)) (record { at = at; kind = NotHeld lock })
+        → Contains (not_held program.locks (statements_of_text program tokens) (paths_of_text program))
+        (record { at = at; kind = NotHeld lock })
         → TrapsInRuns program tokens at (λ walk. causes.LockNotHeld) }
 {}

@@ -1,4 +1,4 @@
-//! What is warned of in a text is so in every run of the shared memory: laws of warnings and runs.
+//! Laws that what a warning says of a text is true in every run of the shared memory.
 #![tactic(auto)]
 
 pub mod laws;

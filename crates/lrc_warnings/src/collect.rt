@@ -14,14 +14,15 @@ use lrc_warned::found::{Found, NodeAt, StatementAt};
 use lrc_warned::{access, blocks, held, locks, names, operations, places, words};
 use std::alloc::{AllocError, Global};
 
-/// All that is warned of in a program, by the places of tokens.
+/// Returns all warnings of a program, each with the place of its token. It fails if memory runs out.
 pub fn found_in(
     alloc: Global,
     program: &Program,
     tokens: &[Token<'_>],
 ) -> Result<Vec<Found>, AllocError>
     requires { length tokens.now < 2 ^ 31 }
-    ensures { IfOk result (λ found. found.items ≡ found_in (program_of program.now) (map token_of tokens.now)) }
+    ensures { IfOk result (λ found. found.items
+        ≡ found_in (program_of program.now) (map token_of tokens.now)) }
 {
     let statements = places::statements_at(alloc, &program.statements, tokens)?;
     let nodes = places::nodes_at(alloc, &program.statements, tokens)?;
@@ -44,7 +45,8 @@ fn all_of(
     locks: u8,
 ) -> Result<Vec<Found>, AllocError>
     ensures { IfOk result (λ found. found.items
-        ≡ all_of (map node_seen nodes.now) (map statement_seen statements.now) (block_of block.now) words locks) }
+        ≡ all_of (map node_seen nodes.now) (map statement_seen statements.now)
+        (block_of block.now) words locks) }
 {
     let mut out = Vec::new(alloc);
     put_of_nodes(&mut out, nodes, statements)?;
@@ -59,7 +61,8 @@ fn put_of_nodes(
     nodes: &[NodeAt<'_>],
     statements: &[StatementAt<'_>],
 ) -> Result<(), AllocError>
-    ensures { OnOk result (out.new.items ≡ with_nodes out.old.items (map node_seen nodes.now) (map statement_seen statements.now)) }
+    ensures { OnOk result (out.new.items
+        ≡ with_nodes out.old.items (map node_seen nodes.now) (map statement_seen statements.now)) }
 {
     names::never_set(out, nodes, statements)?;
     names::never_read(out, nodes, statements)?;
@@ -74,7 +77,8 @@ fn put_of_statements(
     words: u32,
     locks: u8,
 ) -> Result<(), AllocError>
-    ensures { OnOk result (out.new.items ≡ with_statements out.old.items (map statement_seen statements.now) words locks) }
+    ensures { OnOk result (out.new.items
+        ≡ with_statements out.old.items (map statement_seen statements.now) words locks) }
 {
     access::no_such_word(out, statements, words)?;
     access::no_such_lock(out, statements, locks)?;
@@ -90,7 +94,8 @@ fn put_of_held(
     locks: u8,
 ) -> Result<(), AllocError>
     ensures { OnOk result (out.new.items
-        ≡ with_held out.old.items (map statement_seen statements.now) (paths [] (block_of block.now)) locks) }
+        ≡ with_held out.old.items (map statement_seen statements.now)
+        (paths [] (block_of block.now)) locks) }
 {
     held::held_already(out, alloc, statements, block, locks)?;
     held::not_held(out, alloc, statements, block, locks)?;
@@ -102,7 +107,8 @@ fn put_of_blocks(
     alloc: Global,
     statements: &[StatementAt<'_>],
 ) -> Result<(), AllocError>
-    ensures { OnOk result (out.new.items ≡ with_blocks out.old.items (map statement_seen statements.now)) }
+    ensures { OnOk result (out.new.items
+        ≡ with_blocks out.old.items (map statement_seen statements.now)) }
 {
     blocks::uneven_barriers(out, alloc, statements)?;
     blocks::uncertain_rounds(out, alloc, statements)?;

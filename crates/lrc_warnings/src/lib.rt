@@ -1,4 +1,4 @@
-//! The warnings of a program: all kinds together, in the order in which they are told, and their words.
+//! Collects the warnings of a program: all kinds together, in the order in which they are told, with their words.
 #![tactic(auto)]
 
 mod collect;

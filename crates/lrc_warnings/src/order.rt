@@ -14,8 +14,8 @@ use lrc_lang::token::Token;
 use lrc_warned::found::Found;
 use std::alloc::{AllocError, Global};
 
-/// The warnings of a program of these tokens, whose lines and columns these are, and of these label lines that say nothing: by line,
-/// column, and then kind by kind.
+/// Returns the warnings of a program, sorted by line, then column, then kind. `tokens` are the program's tokens,
+/// `spots` their lines and columns, and `idle` the label lines that say nothing. It fails if memory runs out.
 pub fn warnings(
     alloc: Global,
     program: &Program,
@@ -25,7 +25,8 @@ pub fn warnings(
 ) -> Result<Vec<Warning>, AllocError>
     requires { length tokens.now < 2 ^ 31 }
     ensures these { IfOk result (λ all. IsPermutation
-        (all_warnings spots.now (found_in (program_of program.now) (map token_of tokens.now)) idle.now) all.items) }
+        (all_warnings spots.now (found_in (program_of program.now) (map token_of tokens.now))
+        idle.now) all.items) }
     ensures sorted { IfOk result (λ all. IsSortedByKey key_of key_order all.items) }
 {
     let found = found_in(alloc, program, tokens)?;

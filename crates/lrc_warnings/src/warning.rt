@@ -9,9 +9,9 @@ use lrc_warned::found::Kind;
 /// What a warning says.
 #[derive(Clone, Copy)]
 pub enum Says {
-    /// Of the program.
+    /// A warning about the program.
     OfText(Kind),
-    /// Of a label line that says nothing, and why it does not.
+    /// A label line that says nothing, and why.
     OfLabel(Reason),
 }
 
@@ -22,7 +22,7 @@ pub struct Spot {
     pub column: u32,
 }
 
-/// A warning, and the line and the column of the token that it is of.
+/// A warning, and the line and the column of the token that it is about.
 #[derive(Clone, Copy)]
 pub struct Warning {
     pub line: usize,
@@ -30,7 +30,7 @@ pub struct Warning {
     pub says: Says,
 }
 
-/// The place of a kind of warning among those of one token.
+/// Returns the rank of a kind of warning among those at one token.
 pub fn rank(says: Says) -> u8
     ensures { result ≡ rank says }
 {

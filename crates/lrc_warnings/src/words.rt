@@ -13,7 +13,7 @@ use lrc_text::push_number;
 use lrc_warned::found::Kind;
 use std::alloc::AllocError;
 
-/// Adds the words of a warning. `names` has the names of the text by number, `labels` what its label lines say.
+/// Adds the words of a warning. `names` are the names of the text by number, and `labels` what its label lines say.
 pub fn push_words(
     out: &mut Vec<u8>,
     says: Says,
@@ -48,7 +48,9 @@ fn push_kind(
     names: &[&[u8]],
     labels: &[Label<'_>],
 ) -> Result<(), AllocError>
-    ensures { OnOk result (out.new.items ≡ out.old.items ++ kind_text kind (map (λ name. name.now) names.now) (map label_seen labels.now)) }
+    ensures { OnOk result (out.new.items
+        ≡ out.old.items ++ kind_text kind (map (λ name. name.now) names.now)
+        (map label_seen labels.now)) }
 {
     match kind {
         Kind::NeverSet(name) => push_named(
@@ -109,7 +111,8 @@ fn below_zero_words(always: bool) -> &'static [u8]
 }
 
 fn push_unwritten(out: &mut Vec<u8>, word: u32, labels: &[Label<'_>]) -> Result<(), AllocError>
-    ensures { OnOk result (out.new.items ≡ out.old.items ++ kind_text (NeverWritten word) [] (map label_seen labels.now)) }
+    ensures { OnOk result (out.new.items
+        ≡ out.old.items ++ kind_text (NeverWritten word) [] (map label_seen labels.now)) }
 {
     push_worded(out, word, b" is read and never written, so it is 0", labels)
 }
@@ -120,7 +123,8 @@ fn push_worded(
     words: &[u8],
     labels: &[Label<'_>],
 ) -> Result<(), AllocError>
-    ensures { OnOk result (out.new.items ≡ out.old.items ++ worded_text word words.now (map label_seen labels.now)) }
+    ensures { OnOk result (out.new.items
+        ≡ out.old.items ++ worded_text word words.now (map label_seen labels.now)) }
 {
     push_number(out, b"word ", u64::from(word))?;
     push_word_label(out, labels, word)?;
@@ -143,7 +147,8 @@ fn push_named(
     words: &[u8],
     labels: &[Label<'_>],
 ) -> Result<(), AllocError>
-    ensures { OnOk result (out.new.items ≡ out.old.items ++ named_text name.now words.now (map label_seen labels.now)) }
+    ensures { OnOk result (out.new.items
+        ≡ out.old.items ++ named_text name.now words.now (map label_seen labels.now)) }
 {
     out.extend_from_slice(name)?;
     out.extend_from_slice(words)?;
@@ -151,7 +156,8 @@ fn push_named(
 }
 
 fn label_words(labelled: bool) -> &'static [u8]
-    ensures { result.now ≡ (if labelled then codes " (a label stands for nothing in the text)" else []) }
+    ensures { result.now ≡ (if labelled then codes " (a label stands for nothing in the text)" else
+        []) }
 {
     if labelled {
         b" (a label stands for nothing in the text)"
@@ -166,7 +172,8 @@ fn push_numbered(
     number: u64,
     words: &[u8],
 ) -> Result<(), AllocError>
-    ensures { OnOk result (out.new.items ≡ out.old.items ++ (front.now ++ decimal number ++ words.now)) }
+    ensures { OnOk result (out.new.items
+        ≡ out.old.items ++ (front.now ++ decimal number ++ words.now)) }
 {
     push_number(out, front, number)?;
     out.extend_from_slice(words)
@@ -178,7 +185,8 @@ fn push_locked(
     words: &[u8],
     labels: &[Label<'_>],
 ) -> Result<(), AllocError>
-    ensures { OnOk result (out.new.items ≡ out.old.items ++ lock_text lock words.now (map label_seen labels.now)) }
+    ensures { OnOk result (out.new.items
+        ≡ out.old.items ++ lock_text lock words.now (map label_seen labels.now)) }
 {
     push_number(out, b"lock ", u64::from(lock))?;
     push_lock_label(out, labels, lock)?;

@@ -9,13 +9,15 @@ ghost use Rattle.lrc_lang.specs.Tree.{ProgramTree};
 ghost use Rattle.lrc_warnings.specs.Collected.{found_in};
 ghost use Rattle.lrc_warnings_laws.specs.Once.{IsOnce};
 
-/// No warning is found twice: any two of all that is found differ in their token or in what they say.
+/// No warning is found twice: any two warnings differ in their token or in what they say.
 pub fn no_warning_is_found_twice()
-    ensures { (program : ProgramTree) (tokens : List Token) → IsProgram program tokens → IsOnce (found_in program tokens) }
+    ensures { (program : ProgramTree) (tokens : List Token) → IsProgram program tokens
+        → IsOnce (found_in program tokens) }
 {}
 
-/// No line is told twice as a label line that says nothing: two of them are on different lines.
+/// No label line is found twice as one that says nothing: two of them are on different lines.
 pub fn label_lines_that_say_nothing_are_on_lines_of_their_own()
-    ensures { (words locks : ℕ) (lines : List (List ℕ)) (i j : ℕ) (one other : IdleLabel) → slice_get (idle_of words locks lines) i ≡ Some one
+    ensures { (words locks : ℕ) (lines : List (List ℕ)) (i j : ℕ) (one other : IdleLabel)
+        → slice_get (idle_of words locks lines) i ≡ Some one
         → slice_get (idle_of words locks lines) j ≡ Some other → one.line ≡ other.line → i ≡ j }
 {}

@@ -1,4 +1,4 @@
-//! No warning is found twice: a law of the list of all that is warned of in a program.
+//! Laws that no warning of a program is found twice.
 #![tactic(auto)]
 
 pub mod laws;

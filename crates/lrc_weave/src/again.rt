@@ -1,6 +1,7 @@
 // Which turns take a message that a later turn takes again.
 
 ghost use Rattle.std.specs.Prelude.{◌≡◌, ◌||◌, IfOk, OnOk, map};
+ghost use Rattle.lrc_protocol.specs.Run.{turns_of_logs};
 ghost use Rattle.lrc_node.specs.Logged.{seen_input};
 ghost use Rattle.lrc_envelope.specs.Envelope.{EnvelopeRecord};
 ghost use Rattle.lrc_weave.specs.Again.{AreAgain, AreAllAgain, has_key, is_noted};
@@ -11,9 +12,10 @@ use lrc_node::{Entry, Input};
 use std::alloc::{AllocError, Global};
 use std::collections::HashSet;
 
-/// For each turn of each log, whether a later turn of that log takes the same message.
+/// Returns for each turn of each log whether a later turn of that log takes the same message.
 pub(crate) fn all_again(alloc: Global, logs: &[Vec<Entry>]) -> Result<Vec<Vec<bool>>, AllocError>
-    ensures { IfOk result (λ again. AreAllAgain (map (λ log. log.items) logs.now) (map (λ bits. bits.items) again.items)) }
+    ensures { IfOk result (λ again. AreAllAgain (turns_of_logs logs.now)
+        (map (λ bits. bits.items) again.items)) }
 {
     let mut all = Vec::new(alloc);
     for log in logs {
@@ -41,7 +43,8 @@ fn again_of(alloc: Global, log: &[Entry]) -> Result<Vec<bool>, AllocError>
 fn note(seen: &mut HashSet<(u8, u32)>, input: &Input) -> Result<bool, AllocError>
     ensures noted { IfOk result (λ again. again ≡ is_noted seen.old.keys (seen_input input.now)) }
     ensures more { OnOk result ((message : EnvelopeRecord)
-        → has_key seen.new.keys message ≡ (takes_same message (seen_input input.now) || has_key seen.old.keys message)) }
+        → has_key seen.new.keys message
+        ≡ (takes_same message (seen_input input.now) || has_key seen.old.keys message)) }
 {
     match input {
         Input::Run => Ok(false),

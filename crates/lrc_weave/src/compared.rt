@@ -3,7 +3,7 @@
 ghost use Rattle.std.specs.Prelude.{◌≡◌, ◌==◌, ◌∷◌, ◌↔◌, [], IfOk, IsTrue, length, map};
 ghost use Rattle.std.specs.List.{list_all};
 ghost use Rattle.lrc_node.specs.Logged.{seen_input};
-ghost use Rattle.lrc_protocol.specs.Run.{taken};
+ghost use Rattle.lrc_protocol.specs.Run.{taken, turns_of_logs};
 ghost use Rattle.lrc_weave.specs.Compared.{AreAllNext, AreSent, IsLeft, is_by_node, sent_as, taken_in};
 ghost use Rattle.lrc_weave.specs.Matched.{AreAlike, Takes, message_of, takes_in};
 
@@ -15,14 +15,15 @@ use lrc_post::{Mailbox, Wire};
 use std::alloc::{AllocError, Global};
 use std::marker::Model;
 
-/// Whether logs and mailboxes, one for each node, tell of the same messages, in each node's order.
+/// Returns whether logs and mailboxes, one of each for each node, record the same messages, in each node's order.
 pub(crate) fn are_alike(
     alloc: Global,
     logs: &[Vec<Entry>],
     wires: &[Mailbox],
 ) -> Result<bool, AllocError>
     requires each { length wires.now ≡ length logs.now }
-    ensures { IfOk result (λ are. IsTrue are ↔ AreAlike (map (λ log. log.items) logs.now) wires.now) }
+    ensures { IfOk result (λ are. IsTrue are
+        ↔ AreAlike (turns_of_logs logs.now) wires.now) }
 {
     if !are_all_by_nodes(wires, logs.len()) {
         return Ok(false);
@@ -67,7 +68,8 @@ fn is_alike(
     history: &[Wire],
 ) -> Result<bool, AllocError>
     ensures { IfOk result (λ is. IsTrue is
-        ↔ (AreSent log.now (map (λ line. map (λ wire. message_of wire.now) line.now) lines.old) × Takes [] log.now (takes_in history.now))) }
+        ↔ (AreSent log.now (map (λ line. map (λ wire. message_of wire.now) line.now) lines.old)
+        × Takes [] log.now (takes_in history.now))) }
 {
     if !are_sent(spare, lines, log)? {
         return Ok(false);
@@ -77,7 +79,8 @@ fn is_alike(
 
 // Whether the lines are what a log sends to each node, in order.
 fn are_sent(spare: &mut Vec<u8>, lines: &mut [&[&Wire]], log: &[Entry]) -> Result<bool, AllocError>
-    ensures { IfOk result (λ are. IsTrue are ↔ AreSent log.now (map (λ line. map (λ wire. message_of wire.now) line.now) lines.old)) }
+    ensures { IfOk result (λ are. IsTrue are
+        ↔ AreSent log.now (map (λ line. map (λ wire. message_of wire.now) line.now) lines.old)) }
 {
     for entry in log {
         if !take_turn(spare, lines, entry.stamp, entry.turn.out.as_slice())? {
@@ -101,7 +104,8 @@ fn take_turn(
     stamp: u64,
     out: &[Envelope],
 ) -> Result<bool, AllocError>
-    ensures { IfOk result (λ are. AreAllNext (map (sent_as stamp) out.now) (map (λ line. map (λ wire. message_of wire.now) line.now) lines.old)
+    ensures { IfOk result (λ are. AreAllNext (map (sent_as stamp) out.now)
+        (map (λ line. map (λ wire. message_of wire.now) line.now) lines.old)
         (map (λ line. map (λ wire. message_of wire.now) line.now) lines.new) are) }
 {
     for envelope in out {
@@ -119,7 +123,8 @@ fn take_sent(
     stamp: u64,
     envelope: &Envelope,
 ) -> Result<bool, AllocError>
-    ensures { IfOk result (λ is. AreAllNext (sent_as stamp envelope.now ∷ []) (map (λ line. map (λ wire. message_of wire.now) line.now) lines.old)
+    ensures { IfOk result (λ is. AreAllNext (sent_as stamp envelope.now ∷ [])
+        (map (λ line. map (λ wire. message_of wire.now) line.now) lines.old)
         (map (λ line. map (λ wire. message_of wire.now) line.now) lines.new) is) }
 {
     let to = usize::from(envelope.to);
@@ -154,7 +159,8 @@ fn take_input(
     history: &[Wire],
     rest: &mut &[Wire],
 ) -> Result<bool, AllocError>
-    ensures { IfOk result (λ is. IsLeft before stamp (seen_input input.now) (taken_in history.now rest.old.now)
+    ensures { IfOk result (λ is. IsLeft before stamp (seen_input input.now)
+        (taken_in history.now rest.old.now)
         (taken_in history.now rest.new.now) is) }
 {
     match input {
@@ -172,7 +178,8 @@ fn take_message(
     history: &[Wire],
     rest: &mut &[Wire],
 ) -> Result<bool, AllocError>
-    ensures { IfOk result (λ is. IsLeft before stamp (taken envelope.now) (taken_in history.now rest.old.now)
+    ensures { IfOk result (λ is. IsLeft before stamp (taken envelope.now)
+        (taken_in history.now rest.old.now)
         (taken_in history.now rest.new.now) is) }
 {
     let Some(place) = next_take(rest) else {

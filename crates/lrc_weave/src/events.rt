@@ -13,19 +13,20 @@ use lrc_node::{Entry, Input};
 use lrc_protocol::Event;
 use std::alloc::AllocError;
 
-/// A message in flight, by what it is known.
+/// A message in flight, by its sender, receiver and number.
 #[derive(Clone, Copy)]
 pub(crate) struct MessageName {
     /// Its sender.
     pub from: u8,
     /// Its receiver.
     pub to: u8,
-    /// Its number among those from the one to the other.
+    /// Its number among the messages from this sender to this receiver.
     pub number: u32,
 }
 
-/// The event that makes the turn at a place of a node's log, with what is in flight before it and after it. `Mismatch` where what
-/// the turn takes is not in flight. For each turn of the log it is given whether a later one takes the same message.
+/// Returns the event that makes the turn at a place of a node's log, and updates the messages in flight. `again` says
+/// for each turn of the log whether a later turn takes the same message. It fails with `Mismatch` if the turn takes a
+/// message that is not in flight.
 pub(crate) fn turn(
     flight: &mut Vec<MessageName>,
     node: u8,
@@ -35,7 +36,8 @@ pub(crate) fn turn(
 ) -> Result<Event, WeaveFault>
     requires there { place < length log.now.items }
     requires bits { AreAgain log.now.items again.now.items }
-    ensures turn { IfOk result (λ event. IsTurnOf node log.now.items place flight.old.items flight.new.items event) }
+    ensures turn { IfOk result (λ event. IsTurnOf node log.now.items place flight.old.items
+        flight.new.items event) }
     ensures unsent { result ≡ Err Mismatch → IsUnsent log.now.items place flight.old.items }
 {
     let entry = &log[place];
@@ -44,14 +46,16 @@ pub(crate) fn turn(
     Ok(event)
 }
 
-/// The event of an input. `Mismatch` where a message is taken that is not in flight.
+/// Returns the event of an input, and updates the messages in flight. It fails with `Mismatch` if the input is a
+/// message that is not in flight.
 pub(crate) fn event_of(
     flight: &mut Vec<MessageName>,
     node: u8,
     input: &Input,
     again: bool,
 ) -> Result<Event, WeaveFault>
-    ensures made { IfOk result (λ event. IsMadeByEvent node again flight.old.items (seen_input input.now) flight.new.items event) }
+    ensures made { IfOk result (λ event. IsMadeByEvent node again flight.old.items
+        (seen_input input.now) flight.new.items event) }
     ensures unsent { result ≡ Err Mismatch → LacksMessage flight.old.items (seen_input input.now) }
 {
     match input {
@@ -66,7 +70,8 @@ fn take(
     envelope: &Envelope,
     again: bool,
 ) -> Result<Event, WeaveFault>
-    ensures takes { IfOk result (λ event. IsTakenFrom flight.old.items envelope.now again flight.new.items event) }
+    ensures takes { IfOk result (λ event. IsTakenFrom flight.old.items envelope.now again
+        flight.new.items event) }
     ensures unsent { result ≡ Err Mismatch → LacksMessage flight.old.items (taken envelope.now) }
 {
     let Some(place) = place_in(flight.as_slice(), envelope) else {

@@ -9,10 +9,10 @@ use thiserror::Error;
 /// Why logs and mailboxes cannot be woven.
 #[derive(Clone, Copy, Debug, PartialEq, Eq, Error)]
 pub enum WeaveFault {
-    /// The mailboxes tell of other messages than the logs, or of another order of what a node sent or took.
+    /// The mailboxes record other messages than the logs, or another order of what a node sent or took.
     #[error("logs and mailboxes differ")]
     Mismatch,
-    /// No memory was left.
+    /// Memory ran out.
     #[error("out of memory")]
     NoMemory,
 }

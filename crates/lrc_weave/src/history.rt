@@ -9,14 +9,15 @@ use lrc_envelope::Envelope;
 use lrc_post::Wire;
 use std::alloc::AllocError;
 
-/// Whether the next put of a line is this message with this stamp. What stands behind that put is left.
+/// Returns whether the next put of a line is this message with this stamp, and moves the line past that put.
 pub(crate) fn take_put(
     spare: &mut Vec<u8>,
     stamp: u64,
     envelope: &Envelope,
     line: &mut &[&Wire],
 ) -> Result<bool, AllocError>
-    ensures { IfOk result (λ is. AreNext (sent_as stamp envelope.now ∷ []) (map (λ wire. matched.message_of wire.now) line.old.now)
+    ensures { IfOk result (λ is. AreNext (sent_as stamp envelope.now ∷ [])
+        (map (λ wire. matched.message_of wire.now) line.old.now)
         (map (λ wire. matched.message_of wire.now) line.new.now) is) }
 {
     if line.is_empty() {
@@ -27,7 +28,7 @@ pub(crate) fn take_put(
     Ok(is)
 }
 
-/// Whether an entry is no put by a node that is none of so many.
+/// Returns whether an entry is a take, or a put by one of the `nodes` nodes.
 pub(crate) fn is_by_node(wire: &Wire, nodes: usize) -> bool
     ensures { result ≡ is_by_node nodes wire.now }
 {
@@ -44,7 +45,8 @@ fn is_message(
     stamp: u64,
     envelope: &Envelope,
 ) -> Result<bool, AllocError>
-    ensures { IfOk result (λ is. IsTrue is ↔ (matched.message_of wire.now ≡ Some (sent_as stamp envelope.now))) }
+    ensures { IfOk result (λ is. IsTrue is
+        ↔ (matched.message_of wire.now ≡ Some (sent_as stamp envelope.now))) }
 {
     match wire {
         Wire::Put {
@@ -56,7 +58,7 @@ fn is_message(
     }
 }
 
-/// The place that the next take names. What stands behind that take is left.
+/// Returns the place that the next take names, and moves the history past that take.
 pub(crate) fn next_take(history: &mut &[Wire]) -> Option<usize>
     ensures { IsNextTake history.old.now history.new.now result }
 {
@@ -90,7 +92,8 @@ fn place_taken(wire: &Wire) -> Option<usize>
     }
 }
 
-/// Whether an entry is the put of a message that is taken with this stamp by a node whose turn before had that stamp.
+/// Returns whether an entry is the put of this message, and its taker, whose turn before has the stamp `before`, takes
+/// it at `stamp`: the greater of `before` and the put's stamp, plus one.
 pub(crate) fn is_taken_from(
     spare: &mut Vec<u8>,
     wire: &Wire,
@@ -98,7 +101,8 @@ pub(crate) fn is_taken_from(
     before: u64,
     stamp: u64,
 ) -> Result<bool, AllocError>
-    ensures { IfOk result (λ is. IsTrue is ↔ IsTakenAs (matched.message_of wire.now) envelope.now before stamp) }
+    ensures { IfOk result (λ is. IsTrue is
+        ↔ IsTakenAs (matched.message_of wire.now) envelope.now before stamp) }
 {
     match wire {
         Wire::Put {

@@ -10,17 +10,20 @@ ghost use Rattle.lrc_weave.specs.Logs.{AreLogs};
 ghost use Rattle.lrc_weave.specs.Matched.{AreAlike};
 ghost use Rattle.lrc_weave.specs.Woven.{AreWoven};
 
-/// Of logs of a program's nodes, events that make all turns of the logs make a run with just these logs.
+/// Events that make all turns of the logs of a program's nodes make a run with exactly these logs.
 pub fn woven_events_make_the_run_of_the_logs()
-    ensures { (program : Program) (nodes : ℕ) (options : OptionsRecord) (logs : List (List EntryRecord)) (events : List Event) (flight : List Flying)
+    ensures { (program : Program) (nodes : ℕ) (options : OptionsRecord)
+        (logs : List (List EntryRecord)) (events : List Event) (flight : List Flying)
         → AreLogs program nodes options logs → AreWoven logs events flight
-        → (world : World) × (run_of program nodes options events ≡ Some world) × (map (λ l. l.log) world.nodes ≡ logs) × (world.flight ≡ flight) }
+        → (world : World) × (run_of program nodes options events ≡ Some world)
+        × (map (λ l. l.log) world.nodes ≡ logs) × (world.flight ≡ flight) }
 {}
 
-/// Logs of a program's nodes and mailboxes that tell of the same messages: there are events that make all turns of the logs, each
-/// in its place. So they make a run with just these logs.
+/// If the logs of a program's nodes and their mailboxes record the same messages, there are events that make all turns
+/// of the logs, each in its place. So these events make a run with exactly these logs.
 pub fn logs_that_match_their_mailboxes_can_be_woven()
-    ensures { (program : Program) (nodes : ℕ) (options : OptionsRecord) (logs : List (List EntryRecord)) (wires : List MailboxRecord)
+    ensures { (program : Program) (nodes : ℕ) (options : OptionsRecord)
+        (logs : List (List EntryRecord)) (wires : List MailboxRecord)
         → AreLogs program nodes options logs → AreAlike logs wires → length wires ≡ length logs
         → (events : List Event) × (flight : List Flying) × AreWoven logs events flight }
 {}

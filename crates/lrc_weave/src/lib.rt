@@ -1,5 +1,6 @@
-//! The order in which the turns of nodes that ran side by side can stand in one run, found from the nodes' logs and from
-//! what their mailboxes kept.
+//! The weaver: it puts the turns of nodes that ran in parallel into one order, so that they make one run of the
+//! simulator. Its input is the log of each node and the history of each mailbox. It orders turns by their stamps, which
+//! count as logical clocks do (Lamport 1978), and then by node.
 #![tactic(auto)]
 
 mod again;

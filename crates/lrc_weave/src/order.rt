@@ -7,7 +7,7 @@ use lrc_node::Entry;
 use std::alloc::{AllocError, Global};
 use std::marker::Model;
 
-/// A node's next turn.
+/// The next turn of a node.
 #[derive(Clone, Copy)]
 pub(crate) struct Head {
     /// Its stamp.
@@ -16,12 +16,13 @@ pub(crate) struct Head {
     pub node: usize,
 }
 
-/// The stamps of the first turns of logs. None where a log has no turn.
+/// Returns the stamp of the first turn of each log, or none for a log without turns.
 pub(crate) fn first_stamps(
     alloc: Global,
     logs: &[Vec<Entry>],
 ) -> Result<Vec<Option<u64>>, AllocError>
-    ensures { IfOk result (λ stamps. stamps.items ≡ map (λ log. option_map (λ entry. entry.stamp) (slice_get log.items 0)) logs.now) }
+    ensures { IfOk result (λ stamps. stamps.items
+        ≡ map (λ log. option_map (λ entry. entry.stamp) (slice_get log.items 0)) logs.now) }
 {
     let mut stamps = Vec::new(alloc);
     for log in logs {
@@ -30,7 +31,7 @@ pub(crate) fn first_stamps(
     Ok(stamps)
 }
 
-/// The stamp of a turn of a log.
+/// Returns the stamp of the turn at a place of a log, or none if there is no such turn.
 pub(crate) fn stamp_at(log: &Vec<Entry>, place: usize) -> Option<u64>
     ensures { result ≡ option_map (λ entry. entry.stamp) (slice_get log.now.items place) }
 {
@@ -40,8 +41,8 @@ pub(crate) fn stamp_at(log: &Vec<Entry>, place: usize) -> Option<u64>
     }
 }
 
-/// The node whose next turn is to stand before those of all others, where the nodes' next turns have these stamps: the one with
-/// the least stamp, and of several the lowest. None where no turn is left.
+/// Returns the node whose next turn comes before those of all other nodes, given the stamps of the next turns. It is
+/// the node with the least stamp, and among equals the lowest. Returns none if no turn is left.
 pub(crate) fn next_turn(stamps: &[Option<u64>]) -> Option<usize>
     ensures { IsFirst (stamp_of stamps.now) result }
 {

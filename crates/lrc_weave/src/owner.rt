@@ -1,6 +1,7 @@
 // What a node does to its own mailbox, turn by turn.
 
-ghost use Rattle.std.specs.Prelude.{◌≡◌, ◌++◌, ◌∷◌, ◌↔◌, [], IsTrue, length, map, position};
+ghost use Rattle.std.specs.Prelude.{◌≡◌, ◌++◌, ◌∷◌, ◌↔◌, [], IsTrue, length, position};
+ghost use Rattle.lrc_protocol.specs.Run.{turns_of_logs};
 ghost use Rattle.lrc_node.specs.Logged.{seen_input};
 ghost use Rattle.lrc_weave.specs.Compared.{AreAllOwn, AreOwn, AreOwnNext, IsNextOwn};
 ghost use Rattle.lrc_weave.specs.Matched.{is_own, is_put, own_in, own_puts, own_takes};
@@ -9,10 +10,11 @@ use lrc_envelope::Envelope;
 use lrc_node::{Entry, Input};
 use lrc_post::{Mailbox, Wire};
 
-/// Whether in each mailbox, of which there is one for each node, the owner's takes and its puts stand as its turns made them.
+/// Returns whether each mailbox holds the owner's takes and its puts to itself in the order in which its turns made
+/// them. There is one mailbox for each node.
 pub(crate) fn are_all_own(logs: &[Vec<Entry>], wires: &[Mailbox]) -> bool
     requires each { length wires.now ≡ length logs.now }
-    ensures { IsTrue result ↔ AreAllOwn (map (λ log. log.items) logs.now) wires.now }
+    ensures { IsTrue result ↔ AreAllOwn (turns_of_logs logs.now) wires.now }
 {
     for node in 0..logs.len() {
         if !are_own(node, logs[node].as_slice(), wires[node].history()) {
@@ -38,7 +40,8 @@ fn are_own(owner: usize, log: &[Entry], history: &[Wire]) -> bool
 
 // Whether the owner's next entries are those of a turn with this input, which sends these messages. What stands behind them is left.
 fn is_turn_next(owner: usize, input: &Input, out: &[Envelope], rest: &mut &[Wire]) -> bool
-    ensures { AreOwnNext (own_takes (seen_input input.now) ++ own_puts owner out.now) (own_in owner rest.old.now)
+    ensures { AreOwnNext (own_takes (seen_input input.now) ++ own_puts owner out.now)
+        (own_in owner rest.old.now)
         (own_in owner rest.new.now) result }
 {
     if !is_input_next(owner, input, rest) {
@@ -49,7 +52,8 @@ fn is_turn_next(owner: usize, input: &Input, out: &[Envelope], rest: &mut &[Wire
 
 // Whether the owner's next entry is a take, if the input is a message. What stands behind it is left.
 fn is_input_next(owner: usize, input: &Input, rest: &mut &[Wire]) -> bool
-    ensures { AreOwnNext (own_takes (seen_input input.now)) (own_in owner rest.old.now) (own_in owner rest.new.now) result }
+    ensures { AreOwnNext (own_takes (seen_input input.now)) (own_in owner rest.old.now)
+        (own_in owner rest.new.now) result }
 {
     match input {
         Input::Run => true,
@@ -59,7 +63,8 @@ fn is_input_next(owner: usize, input: &Input, rest: &mut &[Wire]) -> bool
 
 // Whether the owner's next entries are puts, one for each of these messages that is for the owner. What stands behind them is left.
 fn are_puts_next(owner: usize, out: &[Envelope], rest: &mut &[Wire]) -> bool
-    ensures { AreOwnNext (own_puts owner out.now) (own_in owner rest.old.now) (own_in owner rest.new.now) result }
+    ensures { AreOwnNext (own_puts owner out.now) (own_in owner rest.old.now)
+        (own_in owner rest.new.now) result }
 {
     for envelope in out {
         if !is_put_next(owner, envelope, rest) {
@@ -71,7 +76,8 @@ fn are_puts_next(owner: usize, out: &[Envelope], rest: &mut &[Wire]) -> bool
 
 // Whether the owner's next entry is a put, if a message is for the owner. What stands behind it is left.
 fn is_put_next(owner: usize, envelope: &Envelope, rest: &mut &[Wire]) -> bool
-    ensures { AreOwnNext (own_puts owner (envelope.now ∷ [])) (own_in owner rest.old.now) (own_in owner rest.new.now) result }
+    ensures { AreOwnNext (own_puts owner (envelope.now ∷ [])) (own_in owner rest.old.now)
+        (own_in owner rest.new.now) result }
 {
     if usize::from(envelope.to) == owner {
         is_next(owner, true, rest)

@@ -6,13 +6,14 @@ ghost use Rattle.lrc_weave.specs.Compared.{puts_by_each, with_put};
 use lrc_post::{Mailbox, Wire};
 use std::alloc::{AllocError, Global};
 
-/// The puts of each mailbox, for each of so many nodes those that are its own, in order.
+/// Returns for each mailbox the puts of each of the `nodes` nodes, in order.
 pub(crate) fn all_puts(
     alloc: Global,
     nodes: usize,
     wires: &[Mailbox],
 ) -> Result<Vec<Vec<Vec<&Wire>>>, AllocError>
-    ensures { IfOk result (λ all. map (λ lines. map (λ line. map (λ wire. wire.now) line.items) lines.items) all.items
+    ensures { IfOk result (λ all. map (λ lines.
+        map (λ line. map (λ wire. wire.now) line.items) lines.items) all.items
         ≡ map (λ mailbox. puts_by_each nodes mailbox.history) wires.now) }
 {
     let mut all = Vec::new(alloc);
@@ -22,7 +23,7 @@ pub(crate) fn all_puts(
     Ok(all)
 }
 
-/// A node's own lines: what it put into each mailbox.
+/// Returns the lines of one node: what it put into each mailbox.
 pub(crate) fn lines_of<'p, 'w>(
     alloc: Global,
     puts: &'p [Vec<Vec<&'w Wire>>],
@@ -30,7 +31,8 @@ pub(crate) fn lines_of<'p, 'w>(
 ) -> Result<Vec<&'p [&'w Wire]>, AllocError>
     requires { All (λ own. node < length own.items) puts.now }
     ensures { IfOk result (λ lines. map (λ line. map (λ wire. wire.now) line.now) lines.items
-        ≡ map (λ own. slice_index_or (map (λ line. map (λ wire. wire.now) line.items) own.items) node []) puts.now) }
+        ≡ map (λ own. slice_index_or
+        (map (λ line. map (λ wire. wire.now) line.items) own.items) node []) puts.now) }
 {
     let mut lines = Vec::new(alloc);
     for own in puts {
@@ -41,7 +43,8 @@ pub(crate) fn lines_of<'p, 'w>(
 
 // The puts of one mailbox.
 fn puts_of(alloc: Global, nodes: usize, history: &[Wire]) -> Result<Vec<Vec<&Wire>>, AllocError>
-    ensures { IfOk result (λ lines. map (λ line. map (λ wire. wire.now) line.items) lines.items ≡ puts_by_each nodes history.now) }
+    ensures { IfOk result (λ lines. map (λ line. map (λ wire. wire.now) line.items) lines.items
+        ≡ puts_by_each nodes history.now) }
 {
     let mut lines = empty_lines(alloc, nodes)?;
     for wire in history {
@@ -52,7 +55,8 @@ fn puts_of(alloc: Global, nodes: usize, history: &[Wire]) -> Result<Vec<Vec<&Wir
 
 // So many lines with nothing in them.
 fn empty_lines<'w>(alloc: Global, nodes: usize) -> Result<Vec<Vec<&'w Wire>>, AllocError>
-    ensures { IfOk result (λ lines. map (λ line. map (λ wire. wire.now) line.items) lines.items ≡ replicate nodes []) }
+    ensures { IfOk result (λ lines. map (λ line. map (λ wire. wire.now) line.items) lines.items
+        ≡ replicate nodes []) }
 {
     let mut lines = Vec::with_capacity(alloc, nodes)?;
     for _node in 0..nodes {

@@ -13,7 +13,8 @@ use lrc_wire::{EncodeFault, WireFault, decode, encode, spell_over};
 use std::alloc::{AllocError, Global};
 use std::mem;
 
-/// Whether bytes spell a message, in either version of the format. The message is written in place of the spare bytes.
+/// Returns whether bytes encode a message, in either version of the format. It overwrites the spare bytes with the
+/// encoded message.
 pub(crate) fn is_spelled(
     spare: &mut Vec<u8>,
     bytes: &[u8],
@@ -35,7 +36,8 @@ pub(crate) fn is_spelled(
 // Writes a message in place of spare bytes, whose memory it takes.
 fn write_over(spare: &mut Vec<u8>, envelope: &Envelope) -> Result<(), EncodeFault>
     ensures written { OnOk result (Spells Two envelope.now spare.new.items) }
-    ensures too_long { IsErrOf result EncodeFault.TooLong ↔ (MOST_BODY_BYTES < length (body Two runs_of envelope.now.message)) }
+    ensures too_long { IsErrOf result EncodeFault.TooLong
+        ↔ (MOST_BODY_BYTES < length (body Two runs_of envelope.now.message)) }
 {
     let nothing = Vec::new(*spare.allocator());
     *spare = spell_over(mem::replace(spare, nothing), envelope)?;
@@ -46,7 +48,8 @@ fn write_over(spare: &mut Vec<u8>, envelope: &Envelope) -> Result<(), EncodeFaul
 // puts it, that is answered as want of memory.
 fn is_long(alloc: Global, bytes: &[u8]) -> Result<bool, AllocError>
     ensures { IfOk result (λ is. (is ≡ false) × ((envelope : EnvelopeRecord)
-        → MOST_BODY_BYTES < length (body Two runs_of envelope.message) → envelope_of bytes.now ≡ Ok envelope → ⊥)) }
+        → MOST_BODY_BYTES < length (body Two runs_of envelope.message)
+        → envelope_of bytes.now ≡ Ok envelope → ⊥)) }
 {
     match decode(alloc, bytes) {
         Ok(envelope) => is_too_long(alloc, &envelope),
@@ -57,7 +60,8 @@ fn is_long(alloc: Global, bytes: &[u8]) -> Result<bool, AllocError>
 
 // That a message is not too long to be written.
 fn is_too_long(alloc: Global, envelope: &Envelope) -> Result<bool, AllocError>
-    ensures { IfOk result (λ is. (is ≡ false) × ¬ (MOST_BODY_BYTES < length (body Two runs_of envelope.now.message))) }
+    ensures { IfOk result (λ is. (is ≡ false)
+        × ¬ (MOST_BODY_BYTES < length (body Two runs_of envelope.now.message))) }
 {
     match encode(alloc, envelope) {
         Ok(_) => Ok(false),
@@ -79,7 +83,8 @@ fn is_read_as(alloc: Global, bytes: &[u8], written: &[u8]) -> Result<bool, Alloc
 
 // Whether a message is written so.
 fn is_written_as(alloc: Global, envelope: &Envelope, written: &[u8]) -> Result<bool, AllocError>
-    ensures { IfOk result (λ is. (other : EnvelopeRecord) → Spells Two other written.now → IsTrue is ↔ (envelope.now ≡ other)) }
+    ensures { IfOk result (λ is. (other : EnvelopeRecord) → Spells Two other written.now → IsTrue is
+        ↔ (envelope.now ≡ other)) }
 {
     match encode(alloc, envelope) {
         Ok(bytes) => Ok(*bytes == *written),

@@ -4,7 +4,7 @@ ghost use Rattle.std.specs.Prelude.{◌≡◌, ◌≤◌, ◌<◌, ◌+◌, ℕ,
 ghost use Rattle.lrc_lang.specs.declared.program.Program.{Program};
 ghost use Rattle.lrc_node.specs.Logged.{seen_input};
 ghost use Rattle.lrc_protocol.specs.Node.{OptionsRecord};
-ghost use Rattle.lrc_protocol.specs.Run.{Flying};
+ghost use Rattle.lrc_protocol.specs.Run.{Flying, turns_of_logs};
 ghost use Rattle.lrc_weave.specs.declared.fault.WeaveFault.TheVariants.{Mismatch};
 ghost use Rattle.lrc_weave.specs.Events.{message_name, NotesTurn};
 ghost use Rattle.lrc_weave.specs.Further.{AreWovenWith, AreWovenWithout};
@@ -26,7 +26,7 @@ use lrc_protocol::Event;
 use lrc_trace::act::Act;
 use std::alloc::{AllocError, Global};
 
-/// A run that logs make.
+/// The run that logs make.
 #[derive(Drop)]
 pub struct WovenRun {
     /// Its events.
@@ -37,10 +37,12 @@ pub struct WovenRun {
     pub in_flight: usize,
 }
 
-/// The events that make all turns of the logs of a program's nodes, ordered by their stamps, and where those are the same by their
-/// nodes. A message's last take is delivered, and each one before it repeated. `Mismatch` exactly where, for some mailbox, of which there
-/// is one for each node, a sender's puts are not those of its log, or the takes are not those of the owner's log, with their stamps, in
-/// their order; so it is where a log has a message that is too long to be written.
+/// Returns the events that make all turns of the logs of a program's nodes, ordered by stamp, and among equal stamps by
+/// node. The last take of a message is a delivery, and each take before it a repetition.
+///
+/// It fails with `Mismatch` exactly if, for some mailbox, the puts of a sender are not those of its log, or the takes
+/// are not those of the owner's log, with their stamps and in their order. This includes every log with a message that
+/// is too long to be encoded. There is one mailbox for each node.
 pub fn weave(
     alloc: Global,
     logs: &[Vec<Entry>],
@@ -48,11 +50,12 @@ pub fn weave(
 ) -> Result<Vec<Event>, WeaveFault>
     requires few { length logs.now ≤ 16 }
     requires each { length wires.now ≡ length logs.now }
-    ensures alike { IfOk result (λ events. AreAlike (map (λ log. log.items) logs.now) wires.now) }
+    ensures alike { IfOk result (λ events. AreAlike (turns_of_logs logs.now) wires.now) }
     ensures woven { IfOk result (λ events. (program : Program) (nodes : ℕ) (options : OptionsRecord)
-        → AreLogs program nodes options (map (λ log. log.items) logs.now)
-        → (flight : List Flying) × AreWoven (map (λ log. log.items) logs.now) events.items flight) }
-    ensures mismatch { result ≡ Err Mismatch → AreAlike (map (λ log. log.items) logs.now) wires.now → ⊥ }
+        → AreLogs program nodes options (turns_of_logs logs.now)
+        → (flight : List Flying) × AreWoven (turns_of_logs logs.now) events.items flight) }
+    ensures mismatch { result ≡ Err Mismatch → AreAlike (turns_of_logs logs.now) wires.now
+        → ⊥ }
 {
     match woven_run(alloc, logs, wires) {
         Ok(run) => Ok(run.events),
@@ -60,8 +63,9 @@ pub fn weave(
     }
 }
 
-/// The run of the events that [`weave`] has for these logs, as the logs tell of it: nothing is played. `Mismatch` exactly where `weave`
-/// answers it, and where a node's takes and its puts to itself do not stand in its mailbox as its turns made them.
+/// Returns the run of the events that [`weave`] gives for these logs, read from the logs without playing an event. It
+/// fails with `Mismatch` exactly if `weave` does, or if a mailbox does not hold its owner's takes and puts to itself in
+/// the order in which its turns made them.
 pub fn weave_run(
     alloc: Global,
     logs: &[Vec<Entry>],
@@ -69,14 +73,17 @@ pub fn weave_run(
 ) -> Result<WovenRun, WeaveFault>
     requires few { length logs.now ≤ 16 }
     requires each { length wires.now ≡ length logs.now }
-    ensures matched { IfOk result (λ run. AreMatched (map (λ log. log.items) logs.now) wires.now) }
+    ensures matched { IfOk result (λ run. AreMatched (turns_of_logs logs.now) wires.now) }
     ensures woven { IfOk result (λ run. (program : Program) (nodes : ℕ) (options : OptionsRecord)
-        → AreLogs program nodes options (map (λ log. log.items) logs.now)
-        → (flight : List Flying) × AreWoven (map (λ log. log.items) logs.now) run.events.items flight) }
+        → AreLogs program nodes options (turns_of_logs logs.now)
+        → (flight : List Flying) × AreWoven
+        (turns_of_logs logs.now) run.events.items flight) }
     ensures makes { IfOk result (λ run. (program : Program) (nodes : ℕ) (options : OptionsRecord)
-        → AreLogs program nodes options (map (λ log. log.items) logs.now)
-        → MakesRun program nodes options (map (λ log. log.items) logs.now) run.events.items run.acts.items run.in_flight) }
-    ensures mismatch { result ≡ Err Mismatch → AreMatched (map (λ log. log.items) logs.now) wires.now → ⊥ }
+        → AreLogs program nodes options (turns_of_logs logs.now)
+        → MakesRun program nodes options
+        (turns_of_logs logs.now) run.events.items run.acts.items run.in_flight) }
+    ensures mismatch { result ≡ Err Mismatch → AreMatched
+        (turns_of_logs logs.now) wires.now → ⊥ }
 {
     if !are_all_own(logs, wires) {
         return Err(WeaveFault::Mismatch);
@@ -88,14 +95,17 @@ pub fn weave_run(
 fn woven_run(alloc: Global, logs: &[Vec<Entry>], wires: &[Mailbox]) -> Result<WovenRun, WeaveFault>
     requires few { length logs.now ≤ 16 }
     requires each { length wires.now ≡ length logs.now }
-    ensures alike { IfOk result (λ run. AreAlike (map (λ log. log.items) logs.now) wires.now) }
+    ensures alike { IfOk result (λ run. AreAlike (turns_of_logs logs.now) wires.now) }
     ensures woven { IfOk result (λ run. (program : Program) (nodes : ℕ) (options : OptionsRecord)
-        → AreLogs program nodes options (map (λ log. log.items) logs.now)
-        → (flight : List Flying) × AreWoven (map (λ log. log.items) logs.now) run.events.items flight) }
+        → AreLogs program nodes options (turns_of_logs logs.now)
+        → (flight : List Flying) × AreWoven
+        (turns_of_logs logs.now) run.events.items flight) }
     ensures makes { IfOk result (λ run. (program : Program) (nodes : ℕ) (options : OptionsRecord)
-        → AreLogs program nodes options (map (λ log. log.items) logs.now)
-        → MakesRun program nodes options (map (λ log. log.items) logs.now) run.events.items run.acts.items run.in_flight) }
-    ensures mismatch { result ≡ Err Mismatch → AreAlike (map (λ log. log.items) logs.now) wires.now → ⊥ }
+        → AreLogs program nodes options (turns_of_logs logs.now)
+        → MakesRun program nodes options
+        (turns_of_logs logs.now) run.events.items run.acts.items run.in_flight) }
+    ensures mismatch { result ≡ Err Mismatch → AreAlike (turns_of_logs logs.now) wires.now
+        → ⊥ }
 {
     if !are_alike(alloc, logs, wires)? {
         return Err(WeaveFault::Mismatch);
@@ -107,15 +117,18 @@ fn woven_run(alloc: Global, logs: &[Vec<Entry>], wires: &[Mailbox]) -> Result<Wo
     }
 }
 
-/// The events that make all turns of the logs of a program's nodes, in the order of [`weave`], where each message that is taken was
-/// sent. `Mismatch` only where one was not: none of the logs sent it before.
+/// Returns the events that make all turns of the logs of a program's nodes, in the order of [`weave`], if each message
+/// that is taken was sent. It fails with `Mismatch` only if one was not: none of the logs sent it before.
 pub fn events_of(alloc: Global, logs: &[Vec<Entry>]) -> Result<Vec<Event>, WeaveFault>
     requires few { length logs.now ≤ 16 }
     ensures woven { IfOk result (λ events. (program : Program) (nodes : ℕ) (options : OptionsRecord)
-        → AreLogs program nodes options (map (λ log. log.items) logs.now) → AreTakesSent (map (λ log. log.items) logs.now)
-        → (flight : List Flying) × AreWoven (map (λ log. log.items) logs.now) events.items flight) }
-    ensures mismatch { result ≡ Err Mismatch → (program : Program) (nodes : ℕ) (options : OptionsRecord)
-        → AreLogs program nodes options (map (λ log. log.items) logs.now) → AreTakesSent (map (λ log. log.items) logs.now)
+        → AreLogs program nodes options (turns_of_logs logs.now)
+        → AreTakesSent (turns_of_logs logs.now)
+        → (flight : List Flying) × AreWoven (turns_of_logs logs.now) events.items flight) }
+    ensures mismatch { result ≡ Err Mismatch → (program : Program) (nodes : ℕ)
+        (options : OptionsRecord)
+        → AreLogs program nodes options (turns_of_logs logs.now)
+        → AreTakesSent (turns_of_logs logs.now)
         → ⊥ }
 {
     match run_of_logs(alloc, logs) {
@@ -124,9 +137,10 @@ pub fn events_of(alloc: Global, logs: &[Vec<Entry>]) -> Result<Vec<Event>, Weave
     }
 }
 
-/// The events that make all turns of the logs, as [`events_of`] has them, and behind them the one at which this node makes one turn
-/// more by this input. A message is delivered for the last time. `Mismatch` only where a message was taken that none of the logs
-/// sent before, or the input is a message that is not in flight after all turns.
+/// Returns the events that make all turns of the logs, as [`events_of`] does, followed by the event with which this
+/// node makes one more turn, from this input. If the input is a message, this is its last delivery. It fails with
+/// `Mismatch` only if a message was taken that none of the logs sent before, or if the input is a message that is not
+/// in flight after all turns.
 pub fn events_with(
     alloc: Global,
     logs: &[Vec<Entry>],
@@ -135,11 +149,14 @@ pub fn events_with(
 ) -> Result<Vec<Event>, WeaveFault>
     requires few { length logs.now ≤ 16 }
     ensures woven { IfOk result (λ events. (program : Program) (nodes : ℕ) (options : OptionsRecord)
-        → AreLogs program nodes options (map (λ log. log.items) logs.now) → AreTakesSent (map (λ log. log.items) logs.now)
-        → AreWovenWith (map (λ log. log.items) logs.now) node (seen_input input.now) events.items) }
-    ensures mismatch { result ≡ Err Mismatch → (program : Program) (nodes : ℕ) (options : OptionsRecord)
-        → AreLogs program nodes options (map (λ log. log.items) logs.now) → AreTakesSent (map (λ log. log.items) logs.now)
-        → AreWovenWithout (map (λ log. log.items) logs.now) (seen_input input.now) }
+        → AreLogs program nodes options (turns_of_logs logs.now)
+        → AreTakesSent (turns_of_logs logs.now)
+        → AreWovenWith (turns_of_logs logs.now) node (seen_input input.now) events.items) }
+    ensures mismatch { result ≡ Err Mismatch → (program : Program) (nodes : ℕ)
+        (options : OptionsRecord)
+        → AreLogs program nodes options (turns_of_logs logs.now)
+        → AreTakesSent (turns_of_logs logs.now)
+        → AreWovenWithout (turns_of_logs logs.now) (seen_input input.now) }
 {
     let mut run = run_of_logs(alloc, logs)?;
     let event = event_of(&mut run.flight, node, input, false)?;
@@ -172,14 +189,21 @@ fn whole(run: LogRun) -> WovenRun
 fn run_of_logs(alloc: Global, logs: &[Vec<Entry>]) -> Result<LogRun, WeaveFault>
     requires few { length logs.now ≤ 16 }
     ensures woven { IfOk result (λ run. (program : Program) (nodes : ℕ) (options : OptionsRecord)
-        → AreLogs program nodes options (map (λ log. log.items) logs.now) → AreTakesSent (map (λ log. log.items) logs.now)
-        → (flight : List Flying) × AreWoven (map (λ log. log.items) logs.now) run.events.items flight
+        → AreLogs program nodes options (turns_of_logs logs.now)
+        → AreTakesSent (turns_of_logs logs.now)
+        → (flight : List Flying) × AreWoven
+        (turns_of_logs logs.now) run.events.items flight
         × (map (λ flying. message_name flying.envelope) flight ≡ run.flight.items)) }
     ensures makes { IfOk result (λ run. (program : Program) (nodes : ℕ) (options : OptionsRecord)
-        → AreLogs program nodes options (map (λ log. log.items) logs.now) → AreTakesSent (map (λ log. log.items) logs.now)
-        → MakesRun program nodes options (map (λ log. log.items) logs.now) run.events.items run.acts.items (length run.flight.items)) }
-    ensures mismatch { result ≡ Err Mismatch → (program : Program) (nodes : ℕ) (options : OptionsRecord)
-        → AreLogs program nodes options (map (λ log. log.items) logs.now) → AreTakesSent (map (λ log. log.items) logs.now)
+        → AreLogs program nodes options (turns_of_logs logs.now)
+        → AreTakesSent (turns_of_logs logs.now)
+        → MakesRun program nodes options
+        (turns_of_logs logs.now) run.events.items run.acts.items
+        (length run.flight.items)) }
+    ensures mismatch { result ≡ Err Mismatch → (program : Program) (nodes : ℕ)
+        (options : OptionsRecord)
+        → AreLogs program nodes options (turns_of_logs logs.now)
+        → AreTakesSent (turns_of_logs logs.now)
         → ⊥ }
 {
     let again = all_again(alloc, logs)?;

@@ -27,7 +27,8 @@ use std::alloc::{AllocError, Global};
 // Whether the act at the position releases the lock.
 fn is_release(acts: &[Act], lock: u8, k: usize) -> bool
     requires { k < length acts.now }
-    ensures { MatchBool result (IsDone acts.now k (Release lock)) (¬ IsDone acts.now k (Release lock)) }
+    ensures { MatchBool result (IsDone acts.now k (Release lock))
+        (¬ IsDone acts.now k (Release lock)) }
 {
     match acts[k].deed {
         Deed::Release(other) => other == lock,
@@ -38,7 +39,8 @@ fn is_release(acts: &[Act], lock: u8, k: usize) -> bool
 // The last release of the lock before the position.
 fn last_release(acts: &[Act], lock: u8, position: usize) -> Option<usize>
     requires { position ≤ length acts.now }
-    ensures { MatchOption result ((k : ℕ) → ¬ IsEarlierRelease acts.now lock position k) (IsLastRelease acts.now lock position) }
+    ensures { MatchOption result ((k : ℕ) → ¬ IsEarlierRelease acts.now lock position k)
+        (IsLastRelease acts.now lock position) }
 {
     for k in (0..position).rev() {
         if is_release(acts, lock, k) {
@@ -56,7 +58,8 @@ fn several(
     crossing: Crossing,
 ) -> Result<Source, AllocError>
     ensures { (run : List AnyAct) (node position word : ℕ) → IsOrderOf run order.now
-        → AreExactly (IsKnownWrite run position word) writes.now → AreAllowed run position word values.items
+        → AreExactly (IsKnownWrite run position word) writes.now
+        → AreAllowed run position word values.items
         → IsFirstCrossing run position word crossing.earlier crossing.later
         → IfOk result (IsSource run node position word) }
 {
@@ -78,7 +81,8 @@ fn last_source(
     writes: &[usize],
 ) -> Result<Source, AllocError>
     requires { IsOrderOf acts.now order.now }
-    ensures { (position word : ℕ) → IsActOf acts.now node position → AreExactly (IsKnownWrite acts.now position word) writes.now
+    ensures { (position word : ℕ) → IsActOf acts.now node position
+        → AreExactly (IsKnownWrite acts.now position word) writes.now
         → ((i j : ℕ) → ¬ IsCrossing acts.now position word i j)
         → IfOk result (IsSource acts.now node position word) }
 {
@@ -131,7 +135,7 @@ fn gift(
     })
 }
 
-/// What the act at the position, this deed of this node, is about.
+/// Returns what the act at the position, which is this deed of this node, is about. It fails if memory runs out.
 pub(crate) fn about(
     alloc: Global,
     acts: &[Act],

@@ -21,7 +21,8 @@ use std::alloc::{AllocError, Global};
 // The last act of the node before the position.
 fn act_before(acts: &[Act], node: u8, position: usize) -> Option<usize>
     requires { position ≤ length acts.now }
-    ensures { MatchOption result ((k : ℕ) → k < position → ¬ IsActOf acts.now node k) (IsActBefore acts.now node position) }
+    ensures { MatchOption result ((k : ℕ) → k < position → ¬ IsActOf acts.now node k)
+        (IsActBefore acts.now node position) }
 {
     for k in (0..position).rev() {
         if is_act_of(acts, node, k) {
@@ -96,7 +97,7 @@ fn news(
     }))
 }
 
-/// For each node what is known of it at the position, where it is another one and something is known.
+/// Returns for each other node what is known of it at the position, or none if nothing is. It fails if memory runs out.
 pub(crate) fn all_news(
     alloc: Global,
     acts: &[Act],
@@ -110,7 +111,8 @@ pub(crate) fn all_news(
     requires intervals { AreIntervals acts.now (length acts.now) intervals.now }
     requires within { position < length acts.now }
     requires acting { IsActOf acts.now acting position }
-    ensures { IfOk result (λ all. OfEach nodes (λ other found. IsNewsIfKnown acts.now acting other position found) all.items) }
+    ensures { IfOk result (λ all. OfEach nodes
+        (λ other found. IsNewsIfKnown acts.now acting other position found) all.items) }
 {
     let mut all = Vec::new(alloc);
     for node in 0..nodes {
@@ -123,13 +125,14 @@ pub(crate) fn all_news(
 // Whether the node is another one than that which acts at the position, and nothing of it is known there.
 fn is_unknown(acts: &[Act], order: &Order, node: u8, position: usize) -> bool
     requires { IsOrderOf acts.now order.now }
-    ensures { MatchBool result ((¬ IsActOf acts.now node position) × IsUnknown acts.now node position)
+    ensures { MatchBool result ((¬ IsActOf acts.now node position)
+        × IsUnknown acts.now node position)
         (IsActOf acts.now node position ⊎ (¬ IsUnknown acts.now node position)) }
 {
     !is_act_of(acts, node, position) && last_known(acts, order, node, position).is_none()
 }
 
-/// The other nodes of which nothing is known at the position, ascending.
+/// Returns the other nodes of which nothing is known at the position, ascending. It fails if memory runs out.
 pub(crate) fn unknown_nodes(
     alloc: Global,
     acts: &[Act],
@@ -141,7 +144,8 @@ pub(crate) fn unknown_nodes(
     requires order { IsOrderOf acts.now order.now }
     requires within { position < length acts.now }
     requires acting { IsActOf acts.now acting position }
-    ensures { IfOk result (λ unknown. AreExactly (IsUnknownNode acts.now nodes acting position) unknown.items) }
+    ensures { IfOk result (λ unknown. AreExactly
+        (IsUnknownNode acts.now nodes acting position) unknown.items) }
 {
     let mut unknown = Vec::new(alloc);
     for node in 0..nodes {
@@ -175,7 +179,8 @@ fn count_closed(
     Ok(closed.len())
 }
 
-/// For each node how many of the acts that close its intervals are known at the position, or stand there.
+/// Returns for each node how many of the acts that close its intervals are known at the position or are the act there.
+/// It fails if memory runs out.
 pub(crate) fn time_of(
     alloc: Global,
     acts: &[Act],
@@ -186,7 +191,8 @@ pub(crate) fn time_of(
 ) -> Result<Vec<usize>, AllocError>
     requires order { IsOrderOf acts.now order.now }
     requires intervals { AreIntervals acts.now (length acts.now) intervals.now }
-    ensures { IfOk result (λ time. OfEach nodes (λ other count. CountsClosed acts.now other position count) time.items) }
+    ensures { IfOk result (λ time. OfEach nodes
+        (λ other count. CountsClosed acts.now other position count) time.items) }
 {
     let mut time = Vec::new(alloc);
     for node in 0..nodes {
@@ -196,7 +202,8 @@ pub(crate) fn time_of(
     Ok(time)
 }
 
-/// The words that the acts in the interval of the act at the position write, where it closes the interval.
+/// Returns the words written in the interval of the act at the position, ascending, if the act closes that interval,
+/// and otherwise none. It fails if memory runs out.
 pub(crate) fn words_closed(
     alloc: Global,
     acts: &[Act],

@@ -8,11 +8,12 @@ use crate::positions::is_racing;
 use lrc_judge::order::Order;
 use lrc_trace::act::Act;
 
-/// The first act of the node that races with the act at the position, if one does.
+/// Returns the node's first act that races with the act at the position, or none.
 pub fn least_racing(acts: &[Act], order: &Order, node: u8, position: usize) -> Option<usize>
     requires order { IsOrderOf acts.now order.now }
     requires within { position < length acts.now }
-    ensures { MatchOption result ((k : ℕ) → ¬ IsRacing acts.now node position k) (IsLeastRacing acts.now node position) }
+    ensures { MatchOption result ((k : ℕ) → ¬ IsRacing acts.now node position k)
+        (IsLeastRacing acts.now node position) }
 {
     for k in 0..acts.len() {
         if is_racing(acts, order, node, position, k) {

@@ -1,4 +1,5 @@
-//! Why an act is as it is, and how two acts are ordered: the answer as data, by the definitions on acts alone, for any list of acts.
+//! The reasons of an act as data: what the act is about, which acts race with it, what is known at it, and who learns
+//! of it; and how two acts are ordered. All of it follows from the definitions on acts alone, for any list of acts.
 #![tactic(auto)]
 
 mod about;

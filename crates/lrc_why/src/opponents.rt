@@ -57,7 +57,8 @@ fn opponent(
     }))
 }
 
-/// For each node the acts that race with the act at the position, if there are some.
+/// Returns for each node its acts that race with the act at the position, or none if there are none. It fails if memory
+/// runs out.
 pub(crate) fn opponents(
     alloc: Global,
     acts: &[Act],
@@ -69,7 +70,8 @@ pub(crate) fn opponents(
     requires order { IsOrderOf acts.now order.now }
     requires intervals { AreIntervals acts.now (length acts.now) intervals.now }
     requires within { position < length acts.now }
-    ensures { IfOk result (λ all. OfEach nodes (λ other found. IsOpponentIfAny acts.now other position found) all.items) }
+    ensures { IfOk result (λ all. OfEach nodes
+        (λ other found. IsOpponentIfAny acts.now other position found) all.items) }
 {
     let mut all = Vec::new(alloc);
     for node in 0..nodes {

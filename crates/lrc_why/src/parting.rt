@@ -19,7 +19,8 @@ const LOCKS: usize = 256;
 // The locks that the node holds at the position, ascending.
 fn locks_at(alloc: Global, acts: &[Act], node: u8, position: usize) -> Result<Vec<u8>, AllocError>
     requires { position ≤ length acts.now }
-    ensures { IfOk result (λ locks. AreExactly (λ l. (l < 256) × Holds acts.now position node l) locks.items) }
+    ensures { IfOk result (λ locks. AreExactly
+        (λ l. (l < 256) × Holds acts.now position node l) locks.items) }
 {
     let held = held_at(alloc, acts, node, position)?;
     let mut locks = Vec::new(alloc);
@@ -32,7 +33,8 @@ fn locks_at(alloc: Global, acts: &[Act], node: u8, position: usize) -> Result<Ve
     Ok(locks)
 }
 
-/// What the node of the act at the position holds there, and how often it has departed.
+/// Returns which locks the node of the act at the position holds there, and how often it has departed. It fails if
+/// memory runs out.
 pub(crate) fn standing(alloc: Global, acts: &[Act], position: usize) -> Result<Standing, AllocError>
     requires { position < length acts.now }
     ensures { IfOk result (IsStanding acts.now position) }
@@ -43,7 +45,7 @@ pub(crate) fn standing(alloc: Global, acts: &[Act], position: usize) -> Result<S
     Ok(Standing { locks, departs })
 }
 
-/// What the later act knows of the node of the earlier one.
+/// Returns what the later act knows of the earlier one's node.
 pub(crate) fn parting(acts: &[Act], order: &Order, earlier: usize, later: usize) -> Parting
     requires order { IsOrderOf acts.now order.now }
     requires within { earlier < length acts.now }

@@ -18,13 +18,13 @@ use std::alloc::{AllocError, Global};
 /// Which acts are asked for.
 #[derive(Clone, Copy)]
 pub(crate) enum Which {
-    /// Those of the node that race with the act at the position.
+    /// The node's acts that race with the act at the position.
     RacingOf(u8, usize),
-    /// Those that close an interval of the node, and are the act at the position or known at it.
+    /// The acts that close an interval of the node, and are the act at the position or known at it.
     ClosingOf(u8, usize),
-    /// Those of the node that acts at the position in the interval of the position.
+    /// The acts in the interval of the act at the position, of the same node.
     BesideIn(usize),
-    /// Those of the node that are known at the position, and not at this earlier one.
+    /// The node's acts that are known at the position, but not at this earlier one.
     NewOf(u8, usize, Option<usize>),
 }
 
@@ -51,7 +51,7 @@ pub(crate) fn closes(deed: Deed) -> bool
     matches!(deed, Deed::Acquire(_) | Deed::Release(_) | Deed::Arrive)
 }
 
-/// Whether the node acts at the position.
+/// Returns whether the node acts at the position.
 pub(crate) fn is_act_of(acts: &[Act], node: u8, k: usize) -> bool
     ensures { MatchBool result (IsActOf acts.now node k) (¬ IsActOf acts.now node k) }
 {
@@ -80,7 +80,7 @@ fn conflict_at(acts: &[Act], first: usize, second: usize) -> bool
     conflict(acts[first], acts[second])
 }
 
-/// Whether the acts at two positions race, the earlier first.
+/// Returns whether the acts at two positions race, the earlier first.
 pub(crate) fn races(acts: &[Act], order: &Order, earlier: usize, later: usize) -> bool
     requires order { IsOrderOf acts.now order.now }
     requires earlier { earlier < length acts.now }
@@ -93,12 +93,13 @@ pub(crate) fn races(acts: &[Act], order: &Order, earlier: usize, later: usize) -
     conflict_at(acts, earlier, later)
 }
 
-/// Whether the act is of the node, and races with the one at the position.
+/// Returns whether an act is of the node and races with the act at the position.
 pub(crate) fn is_racing(acts: &[Act], order: &Order, node: u8, position: usize, k: usize) -> bool
     requires order { IsOrderOf acts.now order.now }
     requires position { position < length acts.now }
     requires within { k < length acts.now }
-    ensures { MatchBool result (IsRacing acts.now node position k) (¬ IsRacing acts.now node position k) }
+    ensures { MatchBool result (IsRacing acts.now node position k)
+        (¬ IsRacing acts.now node position k) }
 {
     if !is_act_of(acts, node, k) {
         return false;
@@ -113,7 +114,8 @@ pub(crate) fn is_racing(acts: &[Act], order: &Order, node: u8, position: usize, 
 fn is_closed(acts: &[Act], order: &Order, node: u8, position: usize, k: usize) -> bool
     requires order { IsOrderOf acts.now order.now }
     requires within { k < length acts.now }
-    ensures { MatchBool result (IsClosed acts.now node position k) (¬ IsClosed acts.now node position k) }
+    ensures { MatchBool result (IsClosed acts.now node position k)
+        (¬ IsClosed acts.now node position k) }
 {
     if acts[k].node != node || !closes(acts[k].deed) {
         return false;
@@ -144,7 +146,8 @@ fn is_new(
     k: usize,
 ) -> bool
     requires { IsOrderOf acts.now order.now }
-    ensures { MatchBool result (IsNewBehind acts.now node position before k) (¬ IsNewBehind acts.now node position before k) }
+    ensures { MatchBool result (IsNewBehind acts.now node position before k)
+        (¬ IsNewBehind acts.now node position before k) }
 {
     if !is_act_of(acts, node, k) || !order.is_before(k, position) {
         return false;
@@ -170,7 +173,7 @@ fn is_asked(acts: &[Act], order: &Order, intervals: &[u64], which: Which, k: usi
     }
 }
 
-/// The positions of the acts that are asked for, ascending.
+/// Returns the positions of the acts that are asked for, ascending. It fails if memory runs out.
 pub(crate) fn positions(
     alloc: Global,
     acts: &[Act],
@@ -194,7 +197,8 @@ pub(crate) fn positions(
 
 // The word that is written at the position.
 fn word_written(acts: &[Act], k: usize) -> Option<u32>
-    ensures { MatchOption result ((word : ℕ) → ¬ IsWrite acts.now word k) (λ word. IsWrite acts.now word k) }
+    ensures { MatchOption result ((word : ℕ) → ¬ IsWrite acts.now word k)
+        (λ word. IsWrite acts.now word k) }
 {
     match acts.get(k)?.deed {
         Deed::Write(word, _) => Some(word),
@@ -217,7 +221,8 @@ fn add_word(words: &mut Vec<u32>, acts: &[Act], k: usize) -> Result<(), AllocErr
 
 // Adds the words that are written at these positions.
 fn add_words(words: &mut Vec<u32>, acts: &[Act], positions: &[usize]) -> Result<(), AllocError>
-    ensures { OnOk result (Adds words.old.items words.new.items (IsOfSome positions.now (λ k word. IsWrite acts.now word k))) }
+    ensures { OnOk result (Adds words.old.items words.new.items
+        (IsOfSome positions.now (λ k word. IsWrite acts.now word k))) }
 {
     for k in positions {
         add_word(words, acts, *k)?;
@@ -225,7 +230,7 @@ fn add_words(words: &mut Vec<u32>, acts: &[Act], positions: &[usize]) -> Result<
     Ok(())
 }
 
-/// The words that are written at these positions, ascending, each once.
+/// Returns the words written at these positions, ascending, each once. It fails if memory runs out.
 pub(crate) fn words_written(
     alloc: Global,
     acts: &[Act],

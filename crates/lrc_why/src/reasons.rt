@@ -2,19 +2,19 @@
 
 use lrc_trace::act::Cause;
 
-/// Since when a position is known to a node.
+/// Since when a node knows a position.
 #[derive(Drop)]
 pub struct Since {
-    /// The first act of the node at which it is known.
+    /// The node's first act that knows it.
     pub first: usize,
-    /// The chain that is told from the position to that act.
+    /// The least of the shortest chains from the position to that act.
     pub chain: Vec<usize>,
 }
 
 /// Known writes of which two race.
 #[derive(Drop)]
 pub struct Several {
-    /// The two that race with the least later one, and of those with it the least earlier one.
+    /// The two that race with the least later one, and among these the least earlier one.
     pub earlier: usize,
     pub later: usize,
     /// What the read may give, ascending.
@@ -23,12 +23,13 @@ pub struct Several {
     pub last: Vec<usize>,
 }
 
-/// By which writes a read may give what it may.
+/// The writes that determine what a read may give.
 #[derive(Drop)]
 pub enum Source {
-    /// No write of the word is known.
+    /// No write to the word is known.
     Nothing,
-    /// The known writes are in order, and this is the last of them; where another node made it, since when it is known.
+    /// The known writes are in order, and this is the last of them. If another node made it, also since when it is
+    /// known.
     Last(usize, Option<Since>),
     /// Two of the known writes race.
     Racing(Several),
@@ -37,29 +38,29 @@ pub enum Source {
 /// What a read gives.
 #[derive(Drop)]
 pub struct Gift {
-    /// Whether it may give the value that it gives.
+    /// Whether the read may give the value that it gives.
     pub allowed: bool,
     pub source: Source,
-    /// The last write to the word before the read, where it is not known there.
+    /// The last write to the word before the read, if it is not known there.
     pub unknown: Option<usize>,
 }
 
 /// What an act is about.
 #[derive(Drop)]
 pub enum About {
-    /// A deed of which nothing more is said.
+    /// A deed about which nothing more is said.
     Nothing,
     Trapped(Cause),
     Gives(Gift),
-    /// The last release of the lock before the acquire.
+    /// The last release of the lock before the acquire, if there is one.
     Follows(Option<usize>),
-    /// The number of the barrier to which the node comes, counted from 1.
+    /// The number of the barrier at which the node arrives, counted from 1.
     Comes(usize),
-    /// The number of the barrier from which it goes on, counted from 1.
+    /// The number of the barrier from which the node departs, counted from 1.
     GoesOn(usize),
 }
 
-/// What an act's node holds at it, and how often it has departed from a barrier.
+/// Which locks an act's node holds at it, and how often the node has departed from a barrier.
 #[derive(Drop)]
 pub struct Standing {
     /// The locks, ascending.
@@ -67,21 +68,21 @@ pub struct Standing {
     pub departs: usize,
 }
 
-/// Two acts of two nodes of which the earlier does not happen before the later: why.
+/// Why the earlier of two acts of two nodes does not happen before the later.
 #[derive(Drop)]
 pub struct Parting {
     pub earlier: usize,
     pub later: usize,
-    /// The last act of the earlier act's node that the later one knows.
+    /// The last act of the earlier act's node that the later act knows, if there is one.
     pub known: Option<usize>,
 }
 
-/// Of another node the acts that race with an act.
+/// The acts of another node that race with an act.
 #[derive(Drop)]
 pub struct Opponent {
-    /// The acts, ascending. There is one at least.
+    /// The acts, ascending. There is at least one.
     pub racing: Vec<usize>,
-    /// The first of them and the act.
+    /// Why the act and the first of these are not ordered.
     pub parting: Parting,
     pub first: Standing,
     pub second: Standing,
@@ -90,7 +91,7 @@ pub struct Opponent {
 /// What an act brings of a node.
 #[derive(Drop)]
 pub struct Brought {
-    /// The acts of the node that are known at it and not at an act of its node before, ascending.
+    /// The node's acts that are known at this act, but at no earlier act of this act's node, ascending.
     pub acts: Vec<usize>,
     /// The words that they write, ascending.
     pub words: Vec<u32>,
@@ -101,29 +102,29 @@ pub struct Brought {
 pub struct News {
     /// The last act of the node that is known.
     pub last: usize,
-    /// Since when it is known to the acting node.
+    /// Since when the acting node knows it.
     pub since: Since,
-    /// What is new, where the act is the first that knows of it.
+    /// What is new, if this act is the first that knows it.
     pub brought: Option<Brought>,
 }
 
-/// Who can learn of an act.
+/// Which nodes learn of an act.
 #[derive(Drop)]
 pub struct Spread {
-    /// The first release or arrive of its node from it on.
+    /// The first release or arrive of the act's node, from the act on.
     pub from: usize,
-    /// For each node, where it is another one that comes to know of the act, its first act that does.
+    /// For each other node that gets to know the act, its first act that knows it.
     pub learners: Vec<Option<Since>>,
-    /// The other nodes that never do.
+    /// The other nodes that never do, ascending.
     pub never: Vec<u8>,
 }
 
 /// Who learns of an act.
 #[derive(Drop)]
 pub enum Forward {
-    /// Of other deeds, and where there is no other node, nothing is said.
+    /// Nothing is said: the deed is no write, release or arrive, or there is no other node.
     Unsaid,
-    /// Its node releases no lock and comes to no barrier from it on.
+    /// Nobody learns of it: from it on, its node releases no lock and arrives at no barrier.
     Nobody,
     Others(Spread),
 }
@@ -132,13 +133,13 @@ pub enum Forward {
 #[derive(Drop)]
 pub struct Reasons {
     pub about: About,
-    /// For each node, where it is another one with acts that race with this one, these.
+    /// For each other node with acts that race with this one, these acts.
     pub opponents: Vec<Option<Opponent>>,
-    /// For each node how many of the acts that close its intervals are known at this one, or are this one.
+    /// For each node, how many of the acts that close its intervals are known at this one or are this one.
     pub time: Vec<usize>,
-    /// The words that the node writes in the interval that this act closes, ascending; none where it closes none.
+    /// The words that the node writes in the interval that this act closes, ascending; none if it closes none.
     pub words: Vec<u32>,
-    /// For each node, where it is another one of which something is known, this.
+    /// For each other node of which something is known, what is known.
     pub news: Vec<Option<News>>,
     /// The other nodes of which nothing is known, ascending.
     pub unknown: Vec<u8>,
@@ -148,12 +149,12 @@ pub struct Reasons {
 /// How two acts are ordered.
 #[derive(Drop)]
 pub enum Relation {
-    /// They are of one node.
+    /// Both are of one node.
     SameNode,
     /// The earlier happens before the later, by this chain.
     Before(Vec<usize>),
-    /// Neither happens before the other.
+    /// Neither happens before the other, and they do not race.
     Apart(Parting),
-    /// They race.
+    /// They race. Also what each one's node holds at it, the earlier first.
     Race(Parting, Standing, Standing),
 }

@@ -11,7 +11,7 @@ use lrc_reasons::known::first_knowing;
 use lrc_trace::act::Act;
 use std::alloc::{AllocError, Global};
 
-/// Since when the position is known to the node. None where it never knows of it.
+/// Returns since when the node knows the position, or none if it never does. It fails if memory runs out.
 pub(crate) fn since_of(
     alloc: Global,
     acts: &[Act],

@@ -33,7 +33,8 @@ fn is_told_of(deed: Deed) -> bool
 fn is_telling(acts: &[Act], node: u8, position: usize, k: usize) -> bool
     requires from { position ≤ k }
     requires within { k < length acts.now }
-    ensures { MatchBool result (IsTelling acts.now node position k) (¬ IsTelling acts.now node position k) }
+    ensures { MatchBool result (IsTelling acts.now node position k)
+        (¬ IsTelling acts.now node position k) }
 {
     if acts[k].node != node {
         return false;
@@ -43,7 +44,8 @@ fn is_telling(acts: &[Act], node: u8, position: usize, k: usize) -> bool
 
 // The first release or arrive of the node from the position on.
 fn first_telling(acts: &[Act], node: u8, position: usize) -> Option<usize>
-    ensures { MatchOption result ((k : ℕ) → ¬ IsTelling acts.now node position k) (IsFirstTelling acts.now node position) }
+    ensures { MatchOption result ((k : ℕ) → ¬ IsTelling acts.now node position k)
+        (IsFirstTelling acts.now node position) }
 {
     for k in position..acts.len() {
         if is_telling(acts, node, position, k) {
@@ -96,7 +98,8 @@ fn learners(
 // Whether the node is another one than that which acts at the position, and never knows of it.
 fn is_never_knowing(acts: &[Act], order: &Order, node: u8, position: usize) -> bool
     requires { IsOrderOf acts.now order.now }
-    ensures { MatchBool result ((¬ IsActOf acts.now node position) × IsNeverKnown acts.now node position)
+    ensures { MatchBool result ((¬ IsActOf acts.now node position)
+        × IsNeverKnown acts.now node position)
         (IsActOf acts.now node position ⊎ (¬ IsNeverKnown acts.now node position)) }
 {
     !is_act_of(acts, node, position) && first_knowing(acts, order, node, position).is_none()
@@ -114,7 +117,8 @@ fn never_knowing(
     requires order { IsOrderOf acts.now order.now }
     requires within { position < length acts.now }
     requires acting { IsActOf acts.now acting position }
-    ensures { IfOk result (λ never. AreExactly (IsNeverKnowing acts.now nodes acting position) never.items) }
+    ensures { IfOk result (λ never. AreExactly
+        (IsNeverKnowing acts.now nodes acting position) never.items) }
 {
     let mut never = Vec::new(alloc);
     for node in 0..nodes {
@@ -125,7 +129,8 @@ fn never_knowing(
     Ok(never)
 }
 
-/// Who learns of the act at the position, this deed of this node, and from where on.
+/// Returns who learns of the act at the position, which is this deed of this node, and from which act on. It fails if
+/// memory runs out.
 pub(crate) fn forward(
     alloc: Global,
     acts: &[Act],

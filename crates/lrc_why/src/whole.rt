@@ -19,7 +19,7 @@ use lrc_reasons::chains::chain_told;
 use lrc_trace::act::Act;
 use std::alloc::{AllocError, Global};
 
-/// The reasons of the act at the position, among so many nodes.
+/// Returns the reasons of the act at the position, among this number of nodes. It fails if memory runs out.
 pub fn reasons(
     alloc: Global,
     acts: &[Act],
@@ -76,7 +76,7 @@ fn apart(
     Ok(Relation::Race(parting, first, second))
 }
 
-/// How the acts at two positions are ordered.
+/// Returns how the acts at two positions are ordered. It fails if memory runs out.
 pub fn relation(
     alloc: Global,
     acts: &[Act],

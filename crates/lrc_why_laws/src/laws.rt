@@ -24,40 +24,54 @@ ghost use Rattle.lrc_why.specs.Spread.{IsFirstTelling, IsTelling};
 ghost use Rattle.lrc_why.specs.Whole.{AreReasons, IsRelation};
 ghost use Rattle.lrc_why_laws.specs.Apart.{AreApart};
 
-/// Another node can know of an act only by a release or an arrive of the act's node from there on, and whoever knows of the act knows of
-/// the first of them. Of any list of acts.
+/// Another node can know of an act only through a release or an arrive that the act's node makes there or later. Every
+/// node that knows of the act also knows the first of these. This holds of any list of acts.
 pub fn who_knows_of_an_act_knows_where_it_is_told()
-    ensures told { (run : List Act) (i j p q : ℕ) (a b : Deed) → Does run i p a → Does run j q b → p ≢ q → HappensBefore run i j
+    ensures told { (run : List Act) (i j p q : ℕ) (a b : Deed) → Does run i p a → Does run j q b
+        → p ≢ q → HappensBefore run i j
         → (k : ℕ) × IsTelling run p i k }
-    ensures first { (run : List Act) (i j k p q : ℕ) (a b : Deed) → Does run i p a → Does run j q b → p ≢ q → HappensBefore run i j
+    ensures first { (run : List Act) (i j k p q : ℕ) (a b : Deed) → Does run i p a → Does run j q b
+        → p ≢ q → HappensBefore run i j
         → IsFirstTelling run p i k → HappensBefore run k j }
 {}
 
-/// The time that is told of an act is its node's time just after it: of well-synchronized acts by the rule of vector times, and of every
-/// run, whatever its events, the time that the node has there.
+/// The time told of an act is its node's vector time just after it. For well-synchronized acts this is the time by the
+/// rule of vector times. For every run, whatever its events, it is the time that the node has there.
 pub fn the_time_told_is_that_of_the_node()
-    ensures acts { (nodes : ℕ) (run : List Act) (times : List (List ℕ)) (position : ℕ) (reasons : Reasons)
-        → KeepsTime nodes run times → IsWellSynchronized nodes run → AreReasons run nodes position reasons
+    ensures acts { (nodes : ℕ) (run : List Act) (times : List (List ℕ)) (position : ℕ)
+        (reasons : Reasons)
+        → KeepsTime nodes run times → IsWellSynchronized nodes run
+        → AreReasons run nodes position reasons
         → reasons.time.items ≡ time_at times position }
-    ensures runs { (program : Program) (nodes : ℕ) (options : OptionsRecord) (events : List Event) (world : World) (position : ℕ)
-        (reasons : Reasons) → run_of program nodes options events ≡ Some world → AreReasons world.acts nodes position reasons
+    ensures runs { (program : Program) (nodes : ℕ) (options : OptionsRecord) (events : List Event)
+        (world : World) (position : ℕ)
+        (reasons : Reasons) → run_of program nodes options events ≡ Some world
+        → AreReasons world.acts nodes position reasons
         → reasons.time.items ≡ time_at world.times position }
 {}
 
-/// In every run a read gives what it may.
+/// In every run, a read gives a value that it may give.
 pub fn reads_of_runs_give_what_they_may()
-    ensures { (program : Program) (nodes : ℕ) (options : OptionsRecord) (events : List Event) (world : World) (position : ℕ)
+    ensures { (program : Program) (nodes : ℕ) (options : OptionsRecord) (events : List Event)
+        (world : World) (position : ℕ)
         (reasons : Reasons) (gift : Gift) → run_of program nodes options events ≡ Some world
-        → AreReasons world.acts nodes position reasons → reasons.about ≡ Gives gift → IsTrue gift.allowed }
+        → AreReasons world.acts nodes position reasons → reasons.about ≡ Gives gift
+        → IsTrue gift.allowed }
 {}
 
-/// In every run what is told of two acts that race is why they are not ordered: they hold no lock in common, are behind the same barrier,
-/// and the interval of the earlier one is past what the later one knows of its node.
+/// In every run, what is told of two racing acts is why they are not ordered: they hold no common lock, their nodes
+/// have left equally many barriers, and the interval of the earlier act is later than what the later one knows of its
+/// node.
 pub fn what_is_told_of_a_race_is_why_it_is_one()
-    ensures opponents { (program : Program) (nodes : ℕ) (options : OptionsRecord) (events : List Event) (world : World) (node position : ℕ)
-        (opponent : Opponent) → run_of program nodes options events ≡ Some world → IsOpponent world.acts node position opponent
+    ensures opponents { (program : Program) (nodes : ℕ) (options : OptionsRecord)
+        (events : List Event) (world : World) (node position : ℕ)
+        (opponent : Opponent) → run_of program nodes options events ≡ Some world
+        → IsOpponent world.acts node position opponent
         → AreApart world.acts opponent.parting opponent.first opponent.second }
-    ensures two { (program : Program) (nodes : ℕ) (options : OptionsRecord) (events : List Event) (world : World) (earlier later : ℕ)
-        (parting : Parting) (first second : Standing) → run_of program nodes options events ≡ Some world
-        → IsRelation world.acts earlier later (Race parting first second) → AreApart world.acts parting first second }
+    ensures two { (program : Program) (nodes : ℕ) (options : OptionsRecord) (events : List Event)
+        (world : World) (earlier later : ℕ)
+        (parting : Parting) (first second : Standing)
+        → run_of program nodes options events ≡ Some world
+        → IsRelation world.acts earlier later (Race parting first second)
+        → AreApart world.acts parting first second }
 {}

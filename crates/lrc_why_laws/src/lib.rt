@@ -1,4 +1,5 @@
-//! That what is told of the acts of a run is why they are so: laws of every list of acts, and of every run of the protocol.
+//! Laws of reasons: what `why` tells of an act is really the reason. They hold of every list of acts, and of every run
+//! of the protocol.
 #![tactic(auto)]
 
 pub mod laws;

@@ -17,7 +17,8 @@ pub fn push_word(
     name: &[u8],
     word: u32,
 ) -> Result<(), AllocError>
-    ensures { OnOk result (text.new.items ≡ text.old.items ++ word_text (map label_seen labels.now) name.now word) }
+    ensures { OnOk result (text.new.items
+        ≡ text.old.items ++ word_text (map label_seen labels.now) name.now word) }
 {
     push_number(text, name, u64::from(word))?;
     push_word_label(text, labels, word)
@@ -30,7 +31,8 @@ pub fn push_lock(
     name: &[u8],
     lock: u8,
 ) -> Result<(), AllocError>
-    ensures { OnOk result (text.new.items ≡ text.old.items ++ lock_text (map label_seen labels.now) name.now lock) }
+    ensures { OnOk result (text.new.items
+        ≡ text.old.items ++ lock_text (map label_seen labels.now) name.now lock) }
 {
     push_number(text, name, u64::from(lock))?;
     push_lock_label(text, labels, lock)
@@ -44,20 +46,22 @@ fn push_access(
     word: u32,
     value: u64,
 ) -> Result<(), AllocError>
-    ensures { OnOk result (text.new.items ≡ text.old.items ++ access_text (map label_seen labels.now) name.now word value) }
+    ensures { OnOk result (text.new.items
+        ≡ text.old.items ++ access_text (map label_seen labels.now) name.now word value) }
 {
     push_word(text, labels, name, word)?;
     push_number(text, b": ", value)
 }
 
 #[tactic(auto, unfolding(crate::specs::Deeds::shown_deed))]
-/// Adds what an act does, words and locks with their labels.
+/// Adds what an act does, with the labels of its word or lock.
 pub(crate) fn push_shown_deed(
     text: &mut Vec<u8>,
     labels: &[Label<'_>],
     deed: Deed,
 ) -> Result<(), AllocError>
-    ensures { OnOk result (text.new.items ≡ text.old.items ++ shown_deed (map label_seen labels.now) deed) }
+    ensures { OnOk result (text.new.items
+        ≡ text.old.items ++ shown_deed (map label_seen labels.now) deed) }
 {
     match deed {
         Deed::Read(word, value) => push_access(text, labels, b"read ", word, value),

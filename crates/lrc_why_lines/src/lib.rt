@@ -1,4 +1,6 @@
-//! The lines of `why` on acts where they stand, on words by their pages, on acts that race, and on how two acts are ordered.
+//! Writes the lines of the command `why`. They describe acts with their source lines, the words that an interval
+//! writes, page by page, the acts that race with an act, and how two acts are ordered. The crate `lrc_why` finds these
+//! reasons; this crate puts them into words.
 #![tactic(auto)]
 
 pub mod deed;

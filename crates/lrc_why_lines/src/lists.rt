@@ -6,7 +6,7 @@ ghost use Rattle.lrc_why_lines.specs.Lists.{joined_text, later_text, node_word, 
 use lrc_text::push_number;
 use std::alloc::AllocError;
 
-/// How many words of a page, and how many values, are told at most.
+/// The most words of one page, and the most values, that a line lists.
 pub(crate) const MOST_TOLD: usize = 8;
 
 fn push_later(text: &mut Vec<u8>, comma: &[u8], numbers: &[usize]) -> Result<(), AllocError>
@@ -19,7 +19,7 @@ fn push_later(text: &mut Vec<u8>, comma: &[u8], numbers: &[usize]) -> Result<(),
 }
 
 #[tactic(auto, unfolding(crate::specs::Lists::joined_text))]
-/// Adds numbers, parted by this.
+/// Adds numbers, with this separator between them.
 pub fn push_joined(text: &mut Vec<u8>, comma: &[u8], numbers: &[usize]) -> Result<(), AllocError>
     ensures { OnOk result (text.new.items ≡ text.old.items ++ joined_text comma.now numbers.now) }
 {
@@ -55,7 +55,7 @@ fn push_values(text: &mut Vec<u8>, values: &[u64]) -> Result<(), AllocError>
 }
 
 #[tactic(auto, unfolding(crate::specs::Lists::some_text))]
-/// Adds values, 8 at most.
+/// Adds values, separated by commas. If there are more than 8, it adds the first 8 and `..`.
 pub fn push_some(text: &mut Vec<u8>, numbers: &[u64]) -> Result<(), AllocError>
     ensures { OnOk result (text.new.items ≡ text.old.items ++ some_text numbers.now) }
 {
@@ -77,14 +77,15 @@ fn push_later_nodes(text: &mut Vec<u8>, nodes: &[u8]) -> Result<(), AllocError>
 
 #[tactic(auto, unfolding(crate::specs::Lists::joined_text))]
 fn push_nodes(text: &mut Vec<u8>, first: u8, rest: &[u8]) -> Result<(), AllocError>
-    ensures { OnOk result (text.new.items ≡ text.old.items ++ joined_text (codes ", ") (first ∷ rest.now)) }
+    ensures { OnOk result (text.new.items
+        ≡ text.old.items ++ joined_text (codes ", ") (first ∷ rest.now)) }
 {
     push_number(text, b"", u64::from(first))?;
     push_later_nodes(text, rest)
 }
 
 #[tactic(auto, unfolding(crate::specs::Lists::nodes_line))]
-/// Adds a line on nodes, if there are some: what is said of them, and their numbers.
+/// Adds a line about nodes: what is said of them, then their numbers. Adds nothing if there are no nodes.
 pub fn push_nodes_line(text: &mut Vec<u8>, said: &[u8], nodes: &[u8]) -> Result<(), AllocError>
     ensures { OnOk result (text.new.items ≡ text.old.items ++ nodes_line said.now nodes.now) }
 {

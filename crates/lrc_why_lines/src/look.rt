@@ -6,7 +6,7 @@ ghost use Rattle.lrc_why_lines.specs.Places.{act_shown, interval_shown, line_sho
 use crate::shown::Shown;
 use lrc_trace::act::{Act, Deed};
 
-/// The act at a position; past the last one an act that does nothing.
+/// Returns the act at a position, or an act of node 0 that does nothing if the position is past the last act.
 pub fn act_at(shown: Shown<'_>, position: usize) -> Act
     ensures { result ≡ act_shown shown.entry position }
 {
@@ -20,7 +20,7 @@ pub fn act_at(shown: Shown<'_>, position: usize) -> Act
     }
 }
 
-/// Its line, or 0.
+/// Returns the source line of the act at a position, or 0 if the position is past the last act.
 pub(crate) fn line_at(shown: Shown<'_>, position: usize) -> u64
     ensures { result ≡ line_shown shown.entry position }
 {
@@ -31,7 +31,7 @@ pub(crate) fn line_at(shown: Shown<'_>, position: usize) -> u64
     }
 }
 
-/// Its interval, or 0.
+/// Returns the interval of the act at a position, or 0 if the position is past the last act.
 pub fn interval_at(shown: Shown<'_>, position: usize) -> u64
     ensures { result ≡ interval_shown shown.entry position }
 {
@@ -42,7 +42,7 @@ pub fn interval_at(shown: Shown<'_>, position: usize) -> u64
     }
 }
 
-/// The node of the act at a position, or 0.
+/// Returns the node of the act at a position, or 0 if the position is past the last act.
 pub fn node_at(shown: Shown<'_>, position: usize) -> u64
     ensures { result ≡ (act_shown shown.entry position).node }
 {

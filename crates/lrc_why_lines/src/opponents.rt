@@ -42,13 +42,14 @@ fn push_place(text: &mut Vec<u8>, shown: Shown<'_>, position: usize) -> Result<(
 }
 
 #[tactic(auto, unfolding(crate::specs::Racing::parting_line))]
-/// Adds the line on what the later of two acts knows of the node of the earlier.
+/// Adds the line that tells what the later of two acts knows of the earlier act's node.
 pub(crate) fn push_parting(
     text: &mut Vec<u8>,
     shown: Shown<'_>,
     parting: &Parting,
 ) -> Result<(), AllocError>
-    ensures { OnOk result (text.new.items ≡ text.old.items ++ parting_line shown.entry parting.now) }
+    ensures { OnOk result (text.new.items
+        ≡ text.old.items ++ parting_line shown.entry parting.now) }
 {
     push_place(text, shown, parting.earlier)?;
     push_number(text, b", and act ", parting.later as u64)?;
@@ -61,7 +62,8 @@ fn push_later_locks(
     labels: &[Label<'_>],
     locks: &[u8],
 ) -> Result<(), AllocError>
-    ensures { OnOk result (text.new.items ≡ text.old.items ++ later_locks (map label_seen labels.now) locks.now) }
+    ensures { OnOk result (text.new.items
+        ≡ text.old.items ++ later_locks (map label_seen labels.now) locks.now) }
 {
     for lock in locks {
         push_lock(text, labels, b", ", *lock)?;
@@ -71,7 +73,8 @@ fn push_later_locks(
 
 #[tactic(auto, unfolding(crate::specs::Racing::locks_text))]
 fn push_locks(text: &mut Vec<u8>, labels: &[Label<'_>], locks: &[u8]) -> Result<(), AllocError>
-    ensures { OnOk result (text.new.items ≡ text.old.items ++ locks_text (map label_seen labels.now) locks.now) }
+    ensures { OnOk result (text.new.items
+        ≡ text.old.items ++ locks_text (map label_seen labels.now) locks.now) }
 {
     match locks {
         [] => text.extend_from_slice(b": no lock"),
@@ -113,7 +116,7 @@ fn push_where(
 }
 
 #[tactic(auto, unfolding(crate::specs::Racing::held_line))]
-/// Adds the line on the locks held at two acts, and their barriers.
+/// Adds the line that tells the locks held at two acts, and the last barrier before each.
 pub(crate) fn push_held(
     text: &mut Vec<u8>,
     labels: &[Label<'_>],
@@ -121,7 +124,9 @@ pub(crate) fn push_held(
     first: &Standing,
     second: &Standing,
 ) -> Result<(), AllocError>
-    ensures { OnOk result (text.new.items ≡ text.old.items ++ held_line (map label_seen labels.now) parting.now first.now second.now) }
+    ensures { OnOk result (text.new.items
+        ≡ text.old.items ++ held_line
+        (map label_seen labels.now) parting.now first.now second.now) }
 {
     push_number(text, b"    held at act ", parting.earlier as u64)?;
     push_locks(text, labels, &first.locks)?;
@@ -139,14 +144,15 @@ fn push_after(
     does: &[u8],
     position: usize,
 ) -> Result<(), AllocError>
-    ensures { OnOk result (text.new.items ≡ text.old.items ++ after_text words.now node does.now position) }
+    ensures { OnOk result (text.new.items
+        ≡ text.old.items ++ after_text words.now node does.now position) }
 {
     push_number(text, words, node)?;
     push_number(text, does, position as u64)
 }
 
 #[tactic(auto, unfolding(crate::specs::Racing::remedy_line))]
-/// Adds the line on what would order two acts.
+/// Adds the line that tells what would order two acts.
 pub(crate) fn push_remedy(
     text: &mut Vec<u8>,
     shown: Shown<'_>,
@@ -218,7 +224,8 @@ fn push_opponent(
     shown: Shown<'_>,
     opponent: &Opponent,
 ) -> Result<(), AllocError>
-    ensures { OnOk result (text.new.items ≡ text.old.items ++ opponent_lines shown.entry opponent.now) }
+    ensures { OnOk result (text.new.items
+        ≡ text.old.items ++ opponent_lines shown.entry opponent.now) }
 {
     push_racing(text, shown, &opponent.racing)?;
     push_parting(text, shown, &opponent.parting)?;
@@ -237,7 +244,8 @@ fn push_opponent_if(
     shown: Shown<'_>,
     opponent: &Option<Opponent>,
 ) -> Result<(), AllocError>
-    ensures { OnOk result (text.new.items ≡ text.old.items ++ opponent_text shown.entry opponent.now) }
+    ensures { OnOk result (text.new.items
+        ≡ text.old.items ++ opponent_text shown.entry opponent.now) }
 {
     match opponent {
         Some(opponent) => push_opponent(text, shown, opponent),
@@ -251,7 +259,8 @@ fn push_first_remedy(
     shown: Shown<'_>,
     opponents: &[Option<Opponent>],
 ) -> Result<(), AllocError>
-    ensures { OnOk result (text.new.items ≡ text.old.items ++ first_remedy shown.entry opponents.now) }
+    ensures { OnOk result (text.new.items
+        ≡ text.old.items ++ first_remedy shown.entry opponents.now) }
 {
     for at in 0..opponents.len() {
         if let Some(opponent) = &opponents[at] {
@@ -266,7 +275,8 @@ fn push_all_opponents(
     shown: Shown<'_>,
     opponents: &[Option<Opponent>],
 ) -> Result<(), AllocError>
-    ensures { OnOk result (text.new.items ≡ text.old.items ++ flat_map (opponent_text shown.entry) opponents.now) }
+    ensures { OnOk result (text.new.items
+        ≡ text.old.items ++ flat_map (opponent_text shown.entry) opponents.now) }
 {
     for opponent in opponents {
         push_opponent_if(text, shown, opponent)?;
@@ -275,13 +285,15 @@ fn push_all_opponents(
 }
 
 #[tactic(auto, unfolding(crate::specs::Racing::opponents_text))]
-/// Adds the lines on the acts that race with an act.
+/// Adds the lines about the acts that race with an act, node by node, and then what would order the first of them and
+/// the act.
 pub fn push_opponents(
     text: &mut Vec<u8>,
     shown: Shown<'_>,
     opponents: &[Option<Opponent>],
 ) -> Result<(), AllocError>
-    ensures { OnOk result (text.new.items ≡ text.old.items ++ opponents_text shown.entry opponents.now) }
+    ensures { OnOk result (text.new.items
+        ≡ text.old.items ++ opponents_text shown.entry opponents.now) }
 {
     push_all_opponents(text, shown, opponents)?;
     push_first_remedy(text, shown, opponents)

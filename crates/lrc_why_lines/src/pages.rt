@@ -15,7 +15,8 @@ fn push_later_words(
     labels: &[Label<'_>],
     words: &[u32],
 ) -> Result<(), AllocError>
-    ensures { OnOk result (text.new.items ≡ text.old.items ++ later_words (map label_seen labels.now) words.now) }
+    ensures { OnOk result (text.new.items
+        ≡ text.old.items ++ later_words (map label_seen labels.now) words.now) }
 {
     for word in words {
         push_word(text, labels, b", ", *word)?;
@@ -30,7 +31,8 @@ fn push_told_words(
     first: u32,
     rest: &[u32],
 ) -> Result<(), AllocError>
-    ensures { OnOk result (text.new.items ≡ text.old.items ++ told_words (map label_seen labels.now) first rest.now) }
+    ensures { OnOk result (text.new.items
+        ≡ text.old.items ++ told_words (map label_seen labels.now) first rest.now) }
 {
     match rest {
         [] => push_word(text, labels, b": word ", first),
@@ -44,7 +46,8 @@ fn push_told_words(
 #[tactic(auto, unfolding(crate::specs::Pages::other_words))]
 // Adds the words of a page behind the first, 7 at most.
 fn push_others(text: &mut Vec<u8>, labels: &[Label<'_>], rest: &[u32]) -> Result<(), AllocError>
-    ensures { OnOk result (text.new.items ≡ text.old.items ++ other_words (map label_seen labels.now) rest.now) }
+    ensures { OnOk result (text.new.items
+        ≡ text.old.items ++ other_words (map label_seen labels.now) rest.now) }
 {
     if rest.len() < MOST_TOLD {
         return push_later_words(text, labels, rest);
@@ -62,7 +65,8 @@ fn push_page(
     words: &[u32],
 ) -> Result<(), AllocError>
     requires { 0 < size }
-    ensures { OnOk result (text.new.items ≡ text.old.items ++ page_line (map label_seen labels.now) size words.now) }
+    ensures { OnOk result (text.new.items
+        ≡ text.old.items ++ page_line (map label_seen labels.now) size words.now) }
 {
     match words {
         [] => Ok(()),
@@ -80,8 +84,10 @@ fn end_of_page(words: &[u32], size: u32, start: usize) -> usize
     requires start { start < length words.now }
     ensures more { start < result }
     ensures within { result ≤ length words.now }
-    ensures same { (k : ℕ) → start ≤ k → k < result → slice_index words.now k / size ≡ slice_index words.now start / size }
-    ensures end { result < length words.now → ¬ (slice_index words.now result / size ≡ slice_index words.now start / size) }
+    ensures same { (k : ℕ) → start ≤ k → k < result
+        → slice_index words.now k / size ≡ slice_index words.now start / size }
+    ensures end { result < length words.now
+        → ¬ (slice_index words.now result / size ≡ slice_index words.now start / size) }
 {
     let page = words[start] / size;
     for end in start..words.len() {
@@ -93,7 +99,7 @@ fn end_of_page(words: &[u32], size: u32, start: usize) -> usize
 }
 
 #[tactic(auto, unfolding(crate::specs::Pages::pages_text))]
-/// Adds a line for each page of these words, which ascend.
+/// Adds a line for each page of these words, which must be in ascending order.
 pub fn push_pages(
     text: &mut Vec<u8>,
     labels: &[Label<'_>],
@@ -101,7 +107,8 @@ pub fn push_pages(
     words: &[u32],
 ) -> Result<(), AllocError>
     requires { 0 < size }
-    ensures { OnOk result (text.new.items ≡ text.old.items ++ pages_text (map label_seen labels.now) size words.now) }
+    ensures { OnOk result (text.new.items
+        ≡ text.old.items ++ pages_text (map label_seen labels.now) size words.now) }
 {
     let mut start = 0;
     while start < words.len() {

@@ -21,7 +21,7 @@ fn push_line(text: &mut Vec<u8>, shown: Shown<'_>, position: usize) -> Result<()
 }
 
 #[tactic(auto, unfolding(crate::specs::Places::act_text))]
-/// Adds the act at the position, with its node and line.
+/// Adds the act at a position, with its node and source line.
 pub fn push_act(text: &mut Vec<u8>, shown: Shown<'_>, position: usize) -> Result<(), AllocError>
     ensures { OnOk result (text.new.items ≡ text.old.items ++ act_text shown.entry position) }
 {
@@ -31,7 +31,7 @@ pub fn push_act(text: &mut Vec<u8>, shown: Shown<'_>, position: usize) -> Result
 }
 
 #[tactic(auto, unfolding(crate::specs::Places::there_text))]
-/// Adds the act at the position, with its line, where its node is clear.
+/// Adds the act at a position with its source line, but without its node, which the context tells.
 pub fn push_there(text: &mut Vec<u8>, shown: Shown<'_>, position: usize) -> Result<(), AllocError>
     ensures { OnOk result (text.new.items ≡ text.old.items ++ there_text shown.entry position) }
 {
@@ -40,7 +40,7 @@ pub fn push_there(text: &mut Vec<u8>, shown: Shown<'_>, position: usize) -> Resu
 }
 
 #[tactic(auto, unfolding(crate::specs::Places::chain_text))]
-/// Adds a chain of acts.
+/// Adds the positions of a chain of acts.
 pub fn push_chain(text: &mut Vec<u8>, chain: &[usize]) -> Result<(), AllocError>
     ensures { OnOk result (text.new.items ≡ text.old.items ++ chain_text chain.now) }
 {
@@ -49,7 +49,7 @@ pub fn push_chain(text: &mut Vec<u8>, chain: &[usize]) -> Result<(), AllocError>
 }
 
 #[tactic(auto, unfolding(crate::specs::Places::since_text))]
-/// Adds since when a position is known.
+/// Adds since when a node knows a position: its first act that knows it, and the chain of acts that leads there.
 pub fn push_since(text: &mut Vec<u8>, shown: Shown<'_>, since: &Since) -> Result<(), AllocError>
     ensures { OnOk result (text.new.items ≡ text.old.items ++ since_text shown.entry since.now) }
 {

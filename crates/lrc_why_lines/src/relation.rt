@@ -47,7 +47,8 @@ fn push_by(
     deed: Deed,
     number: usize,
 ) -> Result<(), AllocError>
-    ensures { OnOk result (text.new.items ≡ text.old.items ++ by_text (map label_seen labels.now) deed number) }
+    ensures { OnOk result (text.new.items
+        ≡ text.old.items ++ by_text (map label_seen labels.now) deed number) }
 {
     match deed {
         Deed::Acquire(lock) => push_lock(text, labels, b"    by lock ", lock),
@@ -129,7 +130,8 @@ fn push_before(
     later: usize,
     chain: &[usize],
 ) -> Result<(), AllocError>
-    ensures { OnOk result (text.new.items ≡ text.old.items ++ before_text shown.entry earlier later chain.now) }
+    ensures { OnOk result (text.new.items
+        ≡ text.old.items ++ before_text shown.entry earlier later chain.now) }
 {
     push_two(text, earlier, b" happens before act ", later)?;
     text.extend_from_slice(b":\n")?;
@@ -153,7 +155,8 @@ fn push_race(
     first: &Standing,
     second: &Standing,
 ) -> Result<(), AllocError>
-    ensures { OnOk result (text.new.items ≡ text.old.items ++ race_text shown.entry parting.now first.now second.now) }
+    ensures { OnOk result (text.new.items
+        ≡ text.old.items ++ race_text shown.entry parting.now first.now second.now) }
 {
     push_race_line(text, shown, parting)?;
     push_parting(text, shown, parting)?;
@@ -170,7 +173,7 @@ fn push_apart(text: &mut Vec<u8>, shown: Shown<'_>, parting: &Parting) -> Result
 }
 
 #[tactic(auto, unfolding(crate::specs::Ordered::relation_text))]
-/// Adds the lines on how the acts at two positions are ordered.
+/// Adds the lines that tell how the acts at two positions are ordered.
 pub fn push_relation(
     text: &mut Vec<u8>,
     shown: Shown<'_>,
@@ -178,7 +181,8 @@ pub fn push_relation(
     later: usize,
     relation: &Relation,
 ) -> Result<(), AllocError>
-    ensures { OnOk result (text.new.items ≡ text.old.items ++ relation_text shown.entry earlier later relation.now) }
+    ensures { OnOk result (text.new.items
+        ≡ text.old.items ++ relation_text shown.entry earlier later relation.now) }
 {
     match relation {
         Relation::SameNode => push_same(text, shown, earlier, later),

@@ -3,7 +3,7 @@
 use lrc_labels::label::Label;
 use lrc_trace::act::Act;
 
-/// Acts, the line and the interval of each, and names of words and locks.
+/// The acts that the lines describe: the source line and the interval of each, and the labels of words and locks.
 #[derive(Clone, Copy)]
 pub struct Shown<'a> {
     pub acts: &'a [Act],

@@ -1,4 +1,5 @@
-//! What `why` prints of an act of a run, and of two: the reasons of its acts, with the lines, the names and the labels of the text.
+//! Answers the command `why` about one act or two acts of a run, in words. The answer has the source lines, private
+//! names and labels of the program's text.
 #![tactic(auto)]
 
 mod private;

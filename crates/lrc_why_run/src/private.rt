@@ -49,7 +49,8 @@ fn push_name(
     value: u64,
     last: Option<usize>,
 ) -> Result<(), AllocError>
-    ensures { OnOk result (text.new.items ≡ text.old.items ++ name_line shown.entry name.now value last) }
+    ensures { OnOk result (text.new.items
+        ≡ text.old.items ++ name_line shown.entry name.now value last) }
 {
     push_is(text, name, value)?;
     push_set(text, shown, last)
@@ -68,7 +69,8 @@ fn push_read_name(
 ) -> Result<(), AllocError>
     requires { name < 32 }
     ensures { OnOk result (text.new.items ≡ text.old.items
-        ++ name_text shown.entry (map (λ name. name.now) names.now) privates.now statement.now name last) }
+        ++ name_text shown.entry (map (λ name. name.now) names.now) privates.now statement.now name
+        last) }
 {
     if reads_name(statement, name as u8) {
         return push_name(text, shown, spelling(names, name), privates[name], last);
@@ -87,7 +89,8 @@ fn push_names(
 ) -> Result<(), AllocError>
     requires { length lasts.now ≤ 32 }
     ensures { OnOk result (text.new.items ≡ text.old.items
-        ++ names_text shown.entry (map (λ name. name.now) names.now) privates.now statement.now lasts.now) }
+        ++ names_text shown.entry
+        (map (λ name. name.now) names.now) privates.now statement.now lasts.now) }
 {
     for name in 0..lasts.len() {
         push_read_name(text, shown, names, privates, statement, name, lasts[name])?;
@@ -203,13 +206,14 @@ fn push_statement(
     requires on { IsOnWay way.now }
     requires names { names_in_statement (statement_of statement.now) ≤ 32 }
     ensures { OnOk result (text.new.items ≡ text.old.items
-        ++ statement_text shown.entry (map (λ name. name.now) names.now) (thread_of way.now) way.now.set.items deed statement.now) }
+        ++ statement_text shown.entry (map (λ name. name.now) names.now)
+        (thread_of way.now) way.now.set.items deed statement.now) }
 {
     push_names(text, shown, names, &way.spot.privates, statement, &way.set)?;
     push_quiet(way, text, names, deed, statement)
 }
 
-/// Adds what is told from the text of the node's next deed.
+/// Adds what the program's text tells about the node's next deed.
 pub(crate) fn push_private(
     way: &Way<'_>,
     text: &mut Vec<u8>,
@@ -219,7 +223,8 @@ pub(crate) fn push_private(
 ) -> Result<(), AllocError>
     requires { IsOnWay way.now }
     ensures { OnOk result (text.new.items ≡ text.old.items
-        ++ private_text shown.entry (map (λ name. name.now) names.now) (thread_of way.now) way.now.set.items deed) }
+        ++ private_text shown.entry (map (λ name. name.now) names.now)
+        (thread_of way.now) way.now.set.items deed) }
 {
     match way.statement() {
         Some(statement) => push_statement(way, text, shown, names, deed, statement),

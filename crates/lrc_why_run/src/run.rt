@@ -42,7 +42,8 @@ fn private_part(
 ) -> Result<Vec<u8>, AllocError>
     requires { position ≤ length shown.acts.now }
     ensures { IfOk result (λ part. (lines : List ℕ)
-        → TellsPrivate shown.entry (map (λ name. name.now) names.now) code.now nodes lines position part.items) }
+        → TellsPrivate shown.entry
+        (map (λ name. name.now) names.now) code.now nodes lines position part.items) }
 {
     let act = act_at(shown, position);
     let way = Way::to(alloc, code, nodes, shown.acts, act.node, position)?;
@@ -62,7 +63,9 @@ fn behind(
 ) -> Result<Vec<u8>, AllocError>
     requires { IsThere asked.act asked.and (length shown.acts.now) }
     ensures { IfOk result (λ part. (lines : List ℕ)
-        → TellsBehind shown.entry (map (λ name. name.now) names.now) code.now nodes lines asked.act asked.and part.items) }
+        → TellsBehind shown.entry
+        (map (λ name. name.now) names.now) code.now nodes lines asked.act asked.and
+        part.items) }
 {
     match asked.and {
         None => private_part(alloc, code, nodes, shown, names, asked.act),
@@ -85,7 +88,8 @@ fn told(
     requires order { IsOrderOf shown.acts.now order.now }
     requires intervals { AreIntervals shown.acts.now (length shown.acts.now) shown.intervals.now }
     requires asked { IsAnswerable (length shown.acts.now) asked }
-    ensures { IfOk result (λ part. Tells shown.entry (map (λ name. name.now) names.now) code.now nodes page asked part.items) }
+    ensures { IfOk result (λ part. Tells shown.entry
+        (map (λ name. name.now) names.now) code.now nodes page asked part.items) }
 {
     let behind = behind(alloc, code, nodes, shown, names, asked)?;
     let size = u32::from(page.words());
@@ -106,8 +110,10 @@ fn told_each(
     requires nodes { All (λ act. act.node < NODES) shown.acts.now }
     requires intervals { AreIntervals shown.acts.now (length shown.acts.now) shown.intervals.now }
     requires asked { All (IsAnswerable (length shown.acts.now)) asked.now }
-    ensures { IfOk result (λ parts. OfEach (length asked.now) (λ place part. (one : AskedRecord) → slice_get asked.now place ≡ Some one
-        → Tells shown.entry (map (λ name. name.now) names.now) code.now nodes page one part.items) parts.items) }
+    ensures { IfOk result (λ parts. OfEach (length asked.now)
+        (λ place part. (one : AskedRecord) → slice_get asked.now place ≡ Some one
+        → Tells shown.entry (map (λ name. name.now) names.now) code.now nodes page one part.items)
+        parts.items) }
 {
     let order = happens_before(alloc, shown.acts)?;
     let mut parts = Vec::new(alloc);
@@ -118,8 +124,8 @@ fn told_each(
     Ok(parts)
 }
 
-/// What `why` prints of each of these of a run of the program that this text is of, on so many nodes and on pages of this size. What is
-/// the same for all of them is made once.
+/// Returns what `why` prints for each question about a run of the program with this text, on `nodes` nodes and pages of
+/// this size. The work that all questions share is done once.
 pub fn why_each(
     alloc: Global,
     text: &[u8],
@@ -132,7 +138,8 @@ pub fn why_each(
     requires text { IsText text.now (program_of program.now) }
     requires nodes { All (λ act. act.node < NODES) acts.now }
     requires asked { All (IsAnswerable (length acts.now)) asked.now }
-    ensures { IfOk result (λ parts. OfEach (length asked.now) (λ place part. (one : AskedRecord) → slice_get asked.now place ≡ Some one
+    ensures { IfOk result (λ parts. OfEach (length asked.now)
+        (λ place part. (one : AskedRecord) → slice_get asked.now place ≡ Some one
         → AnswersRun text.now program.now nodes page acts.now one part.items) parts.items) }
 {
     let places = lines_of(alloc, text)?;
@@ -164,14 +171,15 @@ fn told_alone(
     requires text { IsText text.now (program_of program.now) }
     requires nodes { All (λ act. act.node < NODES) acts.now }
     requires asked { IsAnswerable (length acts.now) asked }
-    ensures { IfOk result (λ parts. AnswersRun text.now program.now nodes page acts.now asked (whole_text parts.items)) }
+    ensures { IfOk result (λ parts. AnswersRun text.now program.now nodes page acts.now asked
+        (whole_text parts.items)) }
 {
     let parts = why_each(alloc, text, program, nodes, page, acts, &[asked])?;
     Ok(parts)
 }
 
-/// What `why` prints of the acts of a run of the program that this text is of, on so many nodes and on pages of this size; or that there is
-/// no act at a position that is asked of.
+/// Returns what `why` prints about the acts of a run of the program with this text, on `nodes` nodes and pages of this
+/// size. Fails if there is no act at an asked position, or if memory runs out.
 pub fn why_run(
     alloc: Global,
     text: &[u8],
@@ -184,7 +192,8 @@ pub fn why_run(
     requires text { IsText text.now (program_of program.now) }
     requires nodes { All (λ act. act.node < NODES) acts.now }
     requires apart { IfSome asked.and (λ other. other ≢ asked.act) }
-    ensures ok { IfOk result (λ parts. AnswersRun text.now program.now nodes page acts.now asked (whole_text parts.items)) }
+    ensures ok { IfOk result (λ parts. AnswersRun text.now program.now nodes page acts.now asked
+        (whole_text parts.items)) }
     ensures err { IfErr result (RefusesRun asked (length acts.now)) }
 {
     if let Some(position) = missing(asked, acts.len()) {

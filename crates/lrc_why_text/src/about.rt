@@ -51,7 +51,8 @@ fn push_known_since(
     shown: Shown<'_>,
     since: &Option<Since>,
 ) -> Result<(), AllocError>
-    ensures { OnOk result (text.new.items ≡ text.old.items ++ known_since_text shown.entry since.now) }
+    ensures { OnOk result (text.new.items
+        ≡ text.old.items ++ known_since_text shown.entry since.now) }
 {
     match since {
         Some(since) => {
@@ -69,7 +70,8 @@ fn push_last(
     write: usize,
     since: &Option<Since>,
 ) -> Result<(), AllocError>
-    ensures { OnOk result (text.new.items ≡ text.old.items ++ last_text shown.entry write since.now) }
+    ensures { OnOk result (text.new.items
+        ≡ text.old.items ++ last_text shown.entry write since.now) }
 {
     push_number(text, b"", value_of(act_at(shown, write).deed))?;
     text.extend_from_slice(b", of ")?;
@@ -104,7 +106,8 @@ fn push_several(
     allowed: bool,
     several: &Several,
 ) -> Result<(), AllocError>
-    ensures { OnOk result (text.new.items ≡ text.old.items ++ several_text value allowed several.now) }
+    ensures { OnOk result (text.new.items
+        ≡ text.old.items ++ several_text value allowed several.now) }
 {
     push_given(text, value, allowed)?;
     text.extend_from_slice(b"one of ")?;
@@ -142,7 +145,8 @@ fn push_source(
     allowed: bool,
     source: &Source,
 ) -> Result<(), AllocError>
-    ensures { OnOk result (text.new.items ≡ text.old.items ++ source_text shown.entry deed allowed source.now) }
+    ensures { OnOk result (text.new.items
+        ≡ text.old.items ++ source_text shown.entry deed allowed source.now) }
 {
     match source {
         Source::Nothing => push_unwritten(text, shown, word_of(deed)),
@@ -229,7 +233,8 @@ fn push_follows(
     deed: Deed,
     release: Option<usize>,
 ) -> Result<(), AllocError>
-    ensures { OnOk result (text.new.items ≡ text.old.items ++ follows_text shown.entry deed release) }
+    ensures { OnOk result (text.new.items
+        ≡ text.old.items ++ follows_text shown.entry deed release) }
 {
     match release {
         Some(release) => {
@@ -268,14 +273,16 @@ fn push_barrier(text: &mut Vec<u8>, words: &[u8], number: usize) -> Result<(), A
 }
 
 #[tactic(auto, unfolding(crate::specs::Told::about_text))]
-/// Adds what an act with this deed is about.
+/// Adds the lines on what an act with this deed is about: why it trapped, why a read gives its value, the release that
+/// an acquire follows, or the number of its barrier.
 pub(crate) fn push_about(
     text: &mut Vec<u8>,
     shown: Shown<'_>,
     deed: Deed,
     about: &About,
 ) -> Result<(), AllocError>
-    ensures { OnOk result (text.new.items ≡ text.old.items ++ about_text shown.entry deed about.now) }
+    ensures { OnOk result (text.new.items
+        ≡ text.old.items ++ about_text shown.entry deed about.now) }
 {
     match about {
         About::Nothing => Ok(()),

@@ -21,9 +21,10 @@ use lrc_verdict::judge::nodes_of;
 use lrc_why_lines::shown::Shown;
 use std::alloc::{AllocError, Global};
 
-/// The first position that is asked of and past the last act.
+/// Returns the first of the asked positions that is past the last of `count` acts, or none if both acts exist.
 pub fn missing(asked: Asked, count: usize) -> Option<usize>
-    ensures { MatchOption result (IsThere asked.act asked.and count) (IsMissing asked.act asked.and count) }
+    ensures { MatchOption result (IsThere asked.act asked.and count)
+        (IsMissing asked.act asked.and count) }
 {
     if asked.act >= count {
         return Some(asked.act);
@@ -72,7 +73,8 @@ fn told(
     Ok(parts)
 }
 
-/// What `why` prints of the acts of a text, of so many nodes where that is given, on pages of this size; or why not.
+/// Returns what `why` prints for a text of acts, or why it refuses the text. `nodes` is the number of nodes, if it is
+/// given; `page` is the page size.
 pub fn why_acts(
     alloc: Global,
     text: &[u8],
@@ -82,7 +84,8 @@ pub fn why_acts(
 ) -> Result<Vec<Vec<u8>>, WhyFault>
     requires nodes { IfSome nodes (λ count. count ≤ NODES) }
     requires apart { IfSome asked.and (λ other. other ≢ asked.act) }
-    ensures ok { IfOk result (λ parts. AnswersActs nodes page asked text.now (whole_text parts.items)) }
+    ensures ok { IfOk result (λ parts. AnswersActs nodes page asked text.now
+        (whole_text parts.items)) }
     ensures err { IfErr result (RefusesActs nodes asked text.now) }
 {
     let lined = acts_of(alloc, text, nodes)?;

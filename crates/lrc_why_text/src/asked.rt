@@ -1,6 +1,6 @@
 // What is asked.
 
-/// The acts that are asked of: one, or two of which it is asked how they are ordered. Positions count from 0.
+/// The act that is asked about, or the two acts whose order is asked for. Positions count from 0.
 #[derive(Clone, Copy)]
 pub struct Asked {
     pub act: usize,

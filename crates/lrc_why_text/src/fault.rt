@@ -7,12 +7,12 @@ ghost use Rattle.lrc_why_text.specs.Faults.{of_acts_fault};
 use lrc_acts::reading::ActsFault;
 use std::alloc::AllocError;
 
-/// Why a text of acts is not answered.
+/// Why a text of acts was not answered.
 #[derive(Clone, Copy, Debug, PartialEq, Eq)]
 pub enum WhyFault {
-    /// The text is longer than any text of acts.
+    /// The text is longer than a text of acts may be.
     TooLong,
-    /// The line of this number, counted from 1, says no act.
+    /// The line with this number, counted from 1, is not an act.
     BadAct(u32),
     /// There is no act at this position.
     NoAct(usize),

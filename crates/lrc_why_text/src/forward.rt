@@ -50,7 +50,8 @@ fn push_learner_line(
     node: usize,
     since: &Since,
 ) -> Result<(), AllocError>
-    ensures { OnOk result (text.new.items ≡ text.old.items ++ learner_line shown.entry node since.now) }
+    ensures { OnOk result (text.new.items
+        ≡ text.old.items ++ learner_line shown.entry node since.now) }
 {
     push_number(text, b"  node ", node as u64)?;
     text.extend_from_slice(b" learns of it at ")?;
@@ -66,7 +67,8 @@ fn push_learner(
     node: usize,
     since: &Option<Since>,
 ) -> Result<(), AllocError>
-    ensures { OnOk result (text.new.items ≡ text.old.items ++ learner_text shown.entry node since.now) }
+    ensures { OnOk result (text.new.items
+        ≡ text.old.items ++ learner_text shown.entry node since.now) }
 {
     match since {
         Some(since) => push_learner_line(text, shown, node, since),
@@ -79,7 +81,8 @@ fn push_learners(
     shown: Shown<'_>,
     learners: &[Option<Since>],
 ) -> Result<(), AllocError>
-    ensures { OnOk result (text.new.items ≡ text.old.items ++ learners_text shown.entry learners.now) }
+    ensures { OnOk result (text.new.items
+        ≡ text.old.items ++ learners_text shown.entry learners.now) }
 {
     for node in 0..learners.len() {
         push_learner(text, shown, node, &learners[node])?;
@@ -94,7 +97,8 @@ fn push_spread(
     position: usize,
     spread: &Spread,
 ) -> Result<(), AllocError>
-    ensures { OnOk result (text.new.items ≡ text.old.items ++ spread_text shown.entry position spread.now) }
+    ensures { OnOk result (text.new.items
+        ≡ text.old.items ++ spread_text shown.entry position spread.now) }
 {
     push_from(text, shown, position, spread.from)?;
     push_learners(text, shown, &spread.learners)?;
@@ -102,14 +106,15 @@ fn push_spread(
 }
 
 #[tactic(auto, unfolding(crate::specs::Learning::forward_text))]
-/// Adds the lines on who learns of the act at the position.
+/// Adds the lines that tell which nodes learn of the act at a position.
 pub(crate) fn push_forward(
     text: &mut Vec<u8>,
     shown: Shown<'_>,
     position: usize,
     forward: &Forward,
 ) -> Result<(), AllocError>
-    ensures { OnOk result (text.new.items ≡ text.old.items ++ forward_text shown.entry position forward.now) }
+    ensures { OnOk result (text.new.items
+        ≡ text.old.items ++ forward_text shown.entry position forward.now) }
 {
     match forward {
         Forward::Unsaid => Ok(()),

@@ -39,7 +39,8 @@ fn push_interval_line(
     position: usize,
     time: &[usize],
 ) -> Result<(), AllocError>
-    ensures { OnOk result (text.new.items ≡ text.old.items ++ interval_line shown.entry position time.now) }
+    ensures { OnOk result (text.new.items
+        ≡ text.old.items ++ interval_line shown.entry position time.now) }
 {
     push_number(text, b"  interval ", interval_at(shown, position))?;
     push_number(text, b" of node ", node_at(shown, position))?;
@@ -49,7 +50,8 @@ fn push_interval_line(
 }
 
 #[tactic(auto, unfolding(crate::specs::Knowing::interval_text))]
-/// Adds the line on the interval of the act at the position, and the pages that it writes where the act closes it.
+/// Adds the line on the interval of the act at a position. If the act closes the interval, the pages that the interval
+/// writes follow.
 pub(crate) fn push_interval(
     text: &mut Vec<u8>,
     shown: Shown<'_>,
@@ -59,7 +61,8 @@ pub(crate) fn push_interval(
     words: &[u32],
 ) -> Result<(), AllocError>
     requires { 0 < size }
-    ensures { OnOk result (text.new.items ≡ text.old.items ++ interval_text shown.entry size position time.now words.now) }
+    ensures { OnOk result (text.new.items
+        ≡ text.old.items ++ interval_text shown.entry size position time.now words.now) }
 {
     push_interval_line(text, shown, position, time)?;
     push_pages(text, shown.labels, size, words)
@@ -72,7 +75,8 @@ fn push_already(
     node: usize,
     news: &News,
 ) -> Result<(), AllocError>
-    ensures { OnOk result (text.new.items ≡ text.old.items ++ already_line shown.entry node news.now) }
+    ensures { OnOk result (text.new.items
+        ≡ text.old.items ++ already_line shown.entry node news.now) }
 {
     push_number(text, b"  knows node ", node as u64)?;
     push_number(text, b" up to interval ", interval_at(shown, news.last))?;
@@ -110,7 +114,8 @@ fn push_learned_line(
     news: &News,
     brought: &Brought,
 ) -> Result<(), AllocError>
-    ensures { OnOk result (text.new.items ≡ text.old.items ++ learned_line shown.entry node news.now brought.now) }
+    ensures { OnOk result (text.new.items
+        ≡ text.old.items ++ learned_line shown.entry node news.now brought.now) }
 {
     push_span(
         text,
@@ -132,7 +137,8 @@ fn push_learned(
     brought: &Brought,
 ) -> Result<(), AllocError>
     requires { 0 < size }
-    ensures { OnOk result (text.new.items ≡ text.old.items ++ learned_text shown.entry size node news.now brought.now) }
+    ensures { OnOk result (text.new.items
+        ≡ text.old.items ++ learned_text shown.entry size node news.now brought.now) }
 {
     push_learned_line(text, shown, node, news, brought)?;
     push_pages(text, shown.labels, size, &brought.words)
@@ -147,7 +153,8 @@ fn push_told(
     news: &News,
 ) -> Result<(), AllocError>
     requires { 0 < size }
-    ensures { OnOk result (text.new.items ≡ text.old.items ++ told_text shown.entry size node news.now news.now.brought) }
+    ensures { OnOk result (text.new.items
+        ≡ text.old.items ++ told_text shown.entry size node news.now news.now.brought) }
 {
     match &news.brought {
         Some(brought) => push_learned(text, shown, size, node, news, brought),
@@ -164,7 +171,8 @@ fn push_news(
     news: &Option<News>,
 ) -> Result<(), AllocError>
     requires { 0 < size }
-    ensures { OnOk result (text.new.items ≡ text.old.items ++ news_text shown.entry size node news.now) }
+    ensures { OnOk result (text.new.items
+        ≡ text.old.items ++ news_text shown.entry size node news.now) }
 {
     match news {
         Some(news) => push_told(text, shown, size, node, news),
@@ -179,7 +187,8 @@ fn push_news_lines(
     news: &[Option<News>],
 ) -> Result<(), AllocError>
     requires { 0 < size }
-    ensures { OnOk result (text.new.items ≡ text.old.items ++ news_lines shown.entry size news.now) }
+    ensures { OnOk result (text.new.items
+        ≡ text.old.items ++ news_lines shown.entry size news.now) }
 {
     for node in 0..news.len() {
         push_news(text, shown, size, node, &news[node])?;
@@ -221,7 +230,7 @@ fn push_nothing(text: &mut Vec<u8>, deed: Deed, news: &[Option<News>]) -> Result
 }
 
 #[tactic(auto, unfolding(crate::specs::Knowing::all_news_text))]
-/// Adds the lines on what an act with this deed knows of other nodes.
+/// Adds the lines that tell what an act with this deed knows of the other nodes.
 pub(crate) fn push_all_news(
     text: &mut Vec<u8>,
     shown: Shown<'_>,
@@ -231,7 +240,8 @@ pub(crate) fn push_all_news(
     unknown: &[u8],
 ) -> Result<(), AllocError>
     requires { 0 < size }
-    ensures { OnOk result (text.new.items ≡ text.old.items ++ all_news_text shown.entry size deed news.now unknown.now) }
+    ensures { OnOk result (text.new.items
+        ≡ text.old.items ++ all_news_text shown.entry size deed news.now unknown.now) }
 {
     push_news_lines(text, shown, size, news)?;
     push_nodes_line(text, b"  knows nothing of ", unknown)?;

@@ -1,4 +1,5 @@
-//! What `why` prints of an act, and of two: the lines of its reasons, and the calls over a text of acts.
+//! Answers the command `why` in words. About one act it tells the reasons, about two acts it tells how they are
+//! ordered. `why_acts` answers for a text of acts.
 #![tactic(auto)]
 
 mod about;

@@ -38,7 +38,8 @@ fn push_reasons(
     told: &Reasons,
 ) -> Result<(), AllocError>
     requires { 0 < size }
-    ensures { OnOk result (text.new.items ≡ text.old.items ++ reasons_text shown.entry size position told.now) }
+    ensures { OnOk result (text.new.items
+        ≡ text.old.items ++ reasons_text shown.entry size position told.now) }
 {
     let deed = act_at(shown, position).deed;
     push_about(text, shown, deed, &told.about)?;
@@ -48,7 +49,7 @@ fn push_reasons(
     push_forward(text, shown, position, &told.forward)
 }
 
-/// The lines of the reasons of the act at the position; behind the first these lines stand.
+/// Returns the lines with the reasons of the act at a position. The lines in `private` follow the first of them.
 pub(crate) fn reasons_part(
     alloc: Global,
     shown: Shown<'_>,
@@ -63,7 +64,8 @@ pub(crate) fn reasons_part(
     requires order { IsOrderOf shown.acts.now order.now }
     requires intervals { AreIntervals shown.acts.now (length shown.acts.now) shown.intervals.now }
     requires within { position < length shown.acts.now }
-    ensures { IfOk result (λ text. TellsReasons shown.entry nodes size position private.now text.items) }
+    ensures { IfOk result (λ text. TellsReasons shown.entry nodes size position private.now
+        text.items) }
 {
     let told = reasons(alloc, shown.acts, order, shown.intervals, nodes, position)?;
     let mut text = Vec::new(alloc);
@@ -73,7 +75,7 @@ pub(crate) fn reasons_part(
     Ok(text)
 }
 
-/// The lines on how the acts at two positions are ordered.
+/// Returns the lines that tell how the acts at two positions are ordered.
 pub(crate) fn relation_part(
     alloc: Global,
     shown: Shown<'_>,
@@ -94,7 +96,8 @@ pub(crate) fn relation_part(
     Ok(text)
 }
 
-/// What is printed of the acts that are asked of.
+/// Returns what is printed about the asked acts: the reasons of one act, with the lines in `private`; or how two acts
+/// are ordered, without those lines.
 pub fn why_part(
     alloc: Global,
     shown: Shown<'_>,
@@ -110,7 +113,8 @@ pub fn why_part(
     requires intervals { AreIntervals shown.acts.now (length shown.acts.now) shown.intervals.now }
     requires there { IsThere asked.act asked.and (length shown.acts.now) }
     requires apart { IfSome asked.and (λ other. other ≢ asked.act) }
-    ensures { IfOk result (λ text. TellsOf shown.entry nodes size asked.act asked.and private.now text.items) }
+    ensures { IfOk result (λ text. TellsOf shown.entry nodes size asked.act asked.and private.now
+        text.items) }
 {
     match asked.and {
         None => reasons_part(alloc, shown, order, nodes, size, asked.act, private),

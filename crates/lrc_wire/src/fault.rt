@@ -7,13 +7,13 @@ ghost use Rattle.lrc_wire.specs.declared.fault.WireFault.TheVariants.{NoMemory};
 use std::alloc::{AllocError, AllocFailed};
 use thiserror::Error;
 
-/// Why bytes could not be read: the first thing that is wrong with them, from left to right.
+/// Why bytes could not be read: the first fault from the left.
 #[derive(Clone, Copy, Debug, PartialEq, Eq, Error)]
 pub enum WireFault {
-    /// A field passes the end.
+    /// A field runs past the end of the bytes.
     #[error("the message is cut short")]
     Short,
-    /// Bytes stand after the message.
+    /// Bytes follow the message.
     #[error("bytes stand after the message")]
     Long,
     /// The version is neither 1 nor 2.

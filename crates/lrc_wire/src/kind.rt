@@ -1,9 +1,9 @@
-//! The kinds of messages by number.
+//! The kinds of messages, by number.
 
 ghost use Rattle.std.specs.Prelude.{◌≡◌};
 ghost use Rattle.lrc_wire.specs.Reading.{kind_of};
 
-/// What kind of message a body is, the second byte of a message: 1 to 11 in this order.
+/// The kind of a message, which is its second byte: 1 to 11 in this order.
 #[derive(Clone, Copy)]
 pub enum Kind {
     LockRequest,
@@ -19,7 +19,7 @@ pub enum Kind {
     PageReply,
 }
 
-/// The kind of this number.
+/// Returns the kind with the given number, or `None` if there is none.
 pub(crate) fn numbered(number: u8) -> Option<Kind>
     ensures { result ≡ kind_of number }
 {

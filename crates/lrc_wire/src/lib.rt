@@ -1,8 +1,8 @@
-//! The bytes of an envelope. They are this project's own and stand in `docs/messages.md`.
+//! The bytes of an envelope. The format is this project's own, and `docs/messages.md` describes it.
 //!
-//! The grammar is a relation between envelopes and lists of bytes, `Spells`, one for each version, apart from both
-//! directions. `encode`, `spell` and `spell_over` give bytes of version 2, `decode` accepts exactly the bytes of either version, and says of
-//! others the first thing that is wrong.
+//! The grammar is `Spells`, a relation between envelopes and lists of bytes, one for each version. It is defined apart
+//! from both the writer and the reader. `encode`, `spell` and `spell_over` write version 2. `decode` accepts exactly
+//! the bytes of either version, and otherwise names the first fault.
 #![tactic(auto)]
 
 mod fault;

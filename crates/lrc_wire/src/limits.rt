@@ -1,6 +1,7 @@
-//! How long a message may be.
+//! The limits on the length of a message.
 
-/// The largest number of runs that the changes of a page are cut into. Between two of them at least one word is as it was.
+/// The largest number of runs into which the changes of a page are cut. Between two runs at least one word is
+/// unchanged.
 pub const MOST_RUNS: u16 = (lrc_page::MOST_PAGE_WORDS / 2) as u16;
 
 /// The largest number of bytes of a message's body.

@@ -79,13 +79,17 @@ fn read_envelope(alloc: Global, mut bytes: &[u8]) -> Result<Envelope, WireFault>
     })
 }
 
-/// The envelope that the bytes spell, all of them, in either version. Otherwise the first fault from the left;
-/// `NoMemory` may come in place of either. No memory is taken for what a count promises and the bytes do not have.
+/// Reads the envelope that the bytes spell, in either version. The envelope must use all the bytes.
+///
+/// Otherwise it returns the first fault from the left. `NoMemory` may come in place of an envelope or of another fault.
+/// No memory is taken for elements that a count promises but the bytes do not contain.
 pub fn decode(alloc: Global, bytes: &[u8]) -> Result<Envelope, WireFault>
     // What is read is spelled so, in one of the versions.
-    ensures found { IfOk result (λ envelope. (version : Version) × Spells version envelope bytes.now) }
+    ensures found { IfOk result (λ envelope. (version : Version)
+        × Spells version envelope bytes.now) }
     // What is spelled so is read.
-    ensures only { (version : Version) (envelope : EnvelopeRecord) → Spells version envelope bytes.now → Gives (λ read. read) result (Ok envelope) }
+    ensures only { (version : Version) (envelope : EnvelopeRecord)
+        → Spells version envelope bytes.now → Gives (λ read. read) result (Ok envelope) }
     // Which fault it is.
     ensures exact { Gives (λ read. read) result (envelope_of bytes.now) }
 {

@@ -45,7 +45,8 @@ fn kind(message: &Message) -> u8
 fn put_header(out: &mut Vec<u8>, envelope: &Envelope, body_len: usize) -> Result<(), AllocError>
     requires exact { body_len ≡ length (body Two runs_of envelope.now.message) }
     requires short { body_len ≤ MOST_BODY_BYTES }
-    ensures written { OnOk result (out.new.items ≡ out.old.items ++ header Two runs_of envelope.now) }
+    ensures written { OnOk result (out.new.items
+        ≡ out.old.items ++ header Two runs_of envelope.now) }
     ensures number_bits { OnOk result (HasBits 32 envelope.now.number) }
 {
     let [n0, n1, n2, n3] = envelope.number.to_be_bytes();
@@ -67,19 +68,21 @@ fn put_envelope(out: &mut Vec<u8>, envelope: &Envelope, body_len: usize) -> Resu
     Ok(())
 }
 
-/// The bytes of an envelope, in version 2, for who keeps them alone. `TooLong` exactly where the body would have more
-/// than `MOST_BODY_BYTES` bytes.
+/// Returns the bytes of an envelope in version 2, as a list that only the caller holds. It fails with `TooLong` exactly
+/// if the body would have more than `MOST_BODY_BYTES` bytes.
 pub fn spell(alloc: Global, envelope: &Envelope) -> Result<Vec<u8>, EncodeFault>
     ensures written { IfOk result (λ bytes. Spells Two envelope.now bytes.items) }
-    ensures too_long { IsErrOf result EncodeFault.TooLong ↔ (MOST_BODY_BYTES < length (body Two runs_of envelope.now.message)) }
+    ensures too_long { IsErrOf result EncodeFault.TooLong
+        ↔ (MOST_BODY_BYTES < length (body Two runs_of envelope.now.message)) }
 {
     spell_over(Vec::new(alloc), envelope)
 }
 
-/// The same in place of bytes that are of no use any more, whose memory the new ones take.
+/// Does the same as `spell`, but reuses the memory of a list that is no longer needed.
 pub fn spell_over(mut out: Vec<u8>, envelope: &Envelope) -> Result<Vec<u8>, EncodeFault>
     ensures written { IfOk result (λ bytes. Spells Two envelope.now bytes.items) }
-    ensures too_long { IsErrOf result EncodeFault.TooLong ↔ (MOST_BODY_BYTES < length (body Two runs_of envelope.now.message)) }
+    ensures too_long { IsErrOf result EncodeFault.TooLong
+        ↔ (MOST_BODY_BYTES < length (body Two runs_of envelope.now.message)) }
 {
     let Some(body_len) = body_len(&envelope.message) else {
         return Err(EncodeFault::TooLong);
@@ -90,11 +93,12 @@ pub fn spell_over(mut out: Vec<u8>, envelope: &Envelope) -> Result<Vec<u8>, Enco
     Ok(out)
 }
 
-/// The bytes of an envelope, in version 2. `TooLong` exactly where the body would have more than `MOST_BODY_BYTES`
-/// bytes.
+/// Returns the bytes of an envelope in version 2. It fails with `TooLong` exactly if the body would have more than
+/// `MOST_BODY_BYTES` bytes.
 pub fn encode(alloc: Global, envelope: &Envelope) -> Result<Bytes, EncodeFault>
     ensures written { IfOk result (λ bytes. Spells Two envelope.now bytes) }
-    ensures too_long { IsErrOf result EncodeFault.TooLong ↔ (MOST_BODY_BYTES < length (body Two runs_of envelope.now.message)) }
+    ensures too_long { IsErrOf result EncodeFault.TooLong
+        ↔ (MOST_BODY_BYTES < length (body Two runs_of envelope.now.message)) }
 {
     let bytes = spell(alloc, envelope)?;
     Ok(Bytes::from_vec(bytes)?)

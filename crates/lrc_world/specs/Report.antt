@@ -6,7 +6,7 @@ use Rattle.lrc_trace.specs.Conflict.{IsFirstRace, IsRaceFree}
 use Rattle.lrc_protocol.specs.declared.event.Event.{Event}
 use Rattle.lrc_protocol.specs.Node.{OptionsRecord}
 use Rattle.lrc_protocol.specs.Turn.{is_ready}
-use Rattle.lrc_protocol.specs.Run.{World as Run, event_on, fresh_world, played, run_of, Logged}
+use Rattle.lrc_protocol.specs.Run.{World as Run, event_on, fresh_world, played, run_of, Logged, turns_of_logs}
 use Rattle.lrc_trace.specs.declared.end.End.{End}
 use Rattle.lrc_control.specs.Text.{end_of}
 use Rattle.lrc_world.specs.declared.keep.Keep.{Keep}
@@ -25,14 +25,14 @@ end_of_logged l = end_of l.node.course
 pub record IsReport (report : Report) (run : Run) : Type 0 where
   pub acts : report.acts.items ≡ run.acts
   pub ends : report.ends.items ≡ map end_of_logged run.nodes
-  pub logs : map (λ log. log.items) report.logs.items ≡ map (λ l. l.log) run.nodes
+  pub logs : turns_of_logs report.logs.items ≡ map (λ l. l.log) run.nodes
   pub first : MatchOption report.first_race (IsRaceFree run.acts) (IsFirstRace run.acts)
 
 -- a report in which the logs are what is kept of them
 pub record IsKeptReport (keep : Keep) (report : Report) (run : Run) : Type 0 where
   pub acts : report.acts.items ≡ run.acts
   pub ends : report.ends.items ≡ map end_of_logged run.nodes
-  pub logs : map (λ log. log.items) report.logs.items ≡ map (λ l. kept_log keep l.log) run.nodes
+  pub logs : turns_of_logs report.logs.items ≡ map (λ l. kept_log keep l.log) run.nodes
   pub first : MatchOption report.first_race (IsRaceFree run.acts) (IsFirstRace run.acts)
 
 -- At some event from a world on, a number, an interval's index or a stamp would be too large, or a message is longer than may

@@ -8,7 +8,8 @@ use lrc_node::End;
 use lrc_trace::act::{Act, Deed};
 use std::alloc::{AllocError, Global};
 
-/// How each node ended, from node 0 up, as its last act says. Acts of nodes that are not below `nodes` say nothing.
+/// Returns how each node ended, from node 0 up, as its last act says. Acts of nodes that are not below `nodes` are
+/// ignored.
 pub fn ends(alloc: Global, nodes: u8, acts: &[Act]) -> Result<Vec<End>, AllocError>
     ensures { IfOk result (λ ends. ends.items ≡ ends_of nodes acts.now) }
 {

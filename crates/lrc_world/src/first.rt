@@ -9,11 +9,13 @@ use lrc_trace::act::Act;
 use lrc_trace::race::Race;
 use std::alloc::{AllocError, Global};
 
-/// The least position of an act that races with an earlier one, of a run with these races. It is looked for only where there are any.
+/// Returns the least position of an act that races with an earlier act, in a run with these races. It searches only if
+/// there are any races.
 pub fn first_of(alloc: Global, races: &[Race], acts: &[Act]) -> Result<Option<usize>, AllocError>
     requires acts { All (λ act. act.node < NODES) acts.now }
     requires raceless { races.now ≡ [] → IsRaceFree acts.now }
-    ensures { IfOk result (λ first. MatchOption first (IsRaceFree acts.now) (IsFirstRace acts.now)) }
+    ensures { IfOk result (λ first. MatchOption first (IsRaceFree acts.now)
+        (IsFirstRace acts.now)) }
 {
     if races.is_empty() {
         return Ok(None);

@@ -8,10 +8,10 @@ ghost use Rattle.lrc_wire.specs.Reading.{envelope_of};
 pub(crate) struct Flying {
     /// The bytes of its envelope.
     pub bytes: Vec<u8>,
-    /// The stamp of the turn that sent it.
+    /// The stamp of the turn that sent the message.
     pub stamp: u64,
-    /// Whether it was delivered already.
+    /// Whether the message was delivered already.
     pub delivered: bool,
-    /// The bytes are those of an envelope.
+    /// The bytes decode to an envelope.
     pub ghost spelled: { IsOk (envelope_of bytes.items) },
 }

@@ -1,10 +1,10 @@
 // What the nodes of a run keep of their logs.
 
-/// What each node keeps of its log.
+/// Which turns each node keeps in its log.
 #[derive(Clone, Copy)]
 pub enum Keep {
     /// All turns.
     All,
-    /// The newest turn.
+    /// Only the newest turn.
     Newest,
 }

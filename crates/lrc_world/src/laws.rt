@@ -10,15 +10,21 @@ ghost use Rattle.lrc_protocol.specs.Run.{Logged, World as Run, run_of};
 ghost use Rattle.lrc_protocol.specs.Traced.{trace_of};
 ghost use Rattle.lrc_world.specs.Epochs.{IsOfAccess};
 
-/// The epoch of a segment of a node's trace is the number of departs that the node has made before the accesses of the segment.
+/// The epoch of a segment in a node's trace is the number of departs that the node made before the segment's accesses.
 pub fn epochs_count_departs()
-    ensures of_segment { (program : Program) (nodes : ℕ) (options : OptionsRecord) (events : List Event) (run : Run) (n : ℕ) (l : Logged)
-        (segment : Segment) → run_of program nodes options events ≡ Some run → slice_get run.nodes n ≡ Some l
+    ensures of_segment { (program : Program) (nodes : ℕ) (options : OptionsRecord)
+        (events : List Event) (run : Run) (n : ℕ) (l : Logged)
+        (segment : Segment) → run_of program nodes options events ≡ Some run
+        → slice_get run.nodes n ≡ Some l
         → Contains (trace_of (fresh_node program nodes options n) l.log).segments segment
-        → (position : ℕ) × (word : ℕ) × Accesses run.acts position n word × IsOfAccess run.acts n position segment }
-    ensures of_access { (program : Program) (nodes : ℕ) (options : OptionsRecord) (events : List Event) (run : Run) (n : ℕ) (l : Logged)
-        (position word : ℕ) → run_of program nodes options events ≡ Some run → slice_get run.nodes n ≡ Some l
+        → (position : ℕ) × (word : ℕ) × Accesses run.acts position n word
+        × IsOfAccess run.acts n position segment }
+    ensures of_access { (program : Program) (nodes : ℕ) (options : OptionsRecord)
+        (events : List Event) (run : Run) (n : ℕ) (l : Logged)
+        (position word : ℕ) → run_of program nodes options events ≡ Some run
+        → slice_get run.nodes n ≡ Some l
         → Accesses run.acts position n word
-        → (segment : Segment) × Contains (trace_of (fresh_node program nodes options n) l.log).segments segment
+        → (segment : Segment) × Contains
+        (trace_of (fresh_node program nodes options n) l.log).segments segment
         × IsOfAccess run.acts n position segment }
 {}

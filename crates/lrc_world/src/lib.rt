@@ -1,5 +1,6 @@
-//! Runs of a program on lazy-release-consistent shared memory: nodes that take their turns in any order, and messages that
-//! are delivered in any order, any number of times, or never.
+//! The simulator: it runs a program on lazy-release-consistent shared memory (Keleher, Cox and Zwaenepoel 1992), one
+//! event at a time. The nodes take their turns in any order. Messages are delivered in any order, any number of times,
+//! or never. The events are given, or come in rounds, or come in a random order from a seed.
 #![tactic(auto)]
 
 pub mod ends;

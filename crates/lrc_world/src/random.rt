@@ -3,21 +3,21 @@
 ghost use Rattle.std.specs.Prelude.{◌≡◌};
 ghost use Rattle.lrc_world.specs.Random.{next_state, drawn_number};
 
-/// The generator SplitMix64.
+/// The random number generator SplitMix64.
 #[derive(Drop)]
 pub(crate) struct Random {
     state: u64,
 }
 
 impl Random {
-    /// The generator in this state.
+    /// Creates the generator in this state.
     pub(crate) fn new(seed: u64) -> Random
         ensures { result.state ≡ seed }
     {
         Random { state: seed }
     }
 
-    /// The next number.
+    /// Returns the next number.
     pub(crate) fn next(&mut self) -> u64
         ensures state { self.new.state ≡ next_state self.old.state }
         ensures number { result ≡ drawn_number self.new.state }

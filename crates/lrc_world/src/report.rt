@@ -11,31 +11,31 @@ use lrc_trace::race::Race;
 use std::alloc::{AllocError, AllocFailed};
 use thiserror::Error;
 
-/// How many events a driven run has at most.
+/// The most events that a run in rounds or in a random order has.
 pub const MOST_EVENTS: usize = 100_000_000;
 
-/// What came of a run.
+/// The result of a run.
 #[derive(Drop)]
 pub struct Report {
-    /// What the nodes did, in order.
+    /// The acts of all nodes, in order.
     pub acts: Vec<Act>,
     /// How each node ended, from node 0 up.
     pub ends: Vec<End>,
-    /// The races, by words, nodes and intervals, each once.
+    /// The races, each once, by word, nodes and intervals.
     pub races: Vec<Race>,
     /// The turns of each node with their stamps, from node 0 up.
     pub logs: Vec<Vec<Entry>>,
-    /// The least position of an act that races with an earlier one, where there is one.
+    /// The least position of an act that races with an earlier act, or none if the run has no race.
     pub first_race: Option<usize>,
 }
 
 /// Why there is no report.
 #[derive(Clone, Copy, Debug, PartialEq, Eq, Error)]
 pub enum SimFault {
-    /// The number of nodes is not 1 to 16.
+    /// The number of nodes is not within 1 to 16.
     #[error("number of nodes out of range")]
     BadNodes,
-    /// The number of steps is not 1 to 1,000,000.
+    /// The number of steps is not within 1 to 1,000,000.
     #[error("number of steps out of range")]
     BadSteps,
     /// A message number, an interval's index, a stamp or the length of a message would pass its limit.
@@ -73,7 +73,7 @@ impl From<TurnFault> for SimFault {
     }
 }
 
-/// Why turns are not made.
+/// Why a turn cannot be made.
 #[derive(Clone, Copy, Debug, PartialEq, Eq, Error)]
 pub enum TurnFault {
     /// A message number, an interval's index, a stamp or the length of a message would pass its limit.

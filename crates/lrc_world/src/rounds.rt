@@ -13,16 +13,16 @@ use lrc_envelope::Picker;
 use lrc_protocol::Event;
 use std::alloc::Global;
 
-/// What leads a run whose events are not given.
+/// What chooses the events of a run, if they are not given.
 #[derive(Clone, Copy)]
 pub(crate) enum Lead {
-    /// In rounds, in which the messages are delivered that the picker says.
+    /// The run goes in rounds. The picker chooses the messages to deliver.
     Rounds(Picker),
-    /// At random, from this seed.
+    /// The run goes in a random order, from this seed.
     Random(u64),
 }
 
-/// All nodes with the messages in flight, and the events so far.
+/// The world (all nodes and the messages in flight), and the events so far.
 #[derive(Drop)]
 pub(crate) struct Driver<'c> {
     pub(crate) world: World<'c>,
@@ -30,7 +30,7 @@ pub(crate) struct Driver<'c> {
 }
 
 impl<'c> Driver<'c> {
-    /// A world before any event.
+    /// Creates a driver for this world, before any event.
     pub(crate) fn new(alloc: Global, world: World<'c>) -> Driver<'c>
         ensures world { result.world ≡ world.entry }
         ensures events { result.events.items ≡ [] }
@@ -41,11 +41,12 @@ impl<'c> Driver<'c> {
         }
     }
 
-    /// Goes on in this order, until nothing is left to do or there are as many events as there may be.
+    /// Goes on in this order, until nothing is left to do or the limit of [`MOST_EVENTS`] is reached.
     pub(crate) fn lead(&mut self, nodes: u8, lead: Lead) -> Result<(), TurnFault>
         requires { self.old.events.items ≡ [] }
         ensures goes { IsDrivenBy (schedule_of nodes lead) self.old self.new result }
-        ensures over { OnOk result (length self.new.events.items < MOST_EVENTS → IsRunOver nodes self.new.world) }
+        ensures over { OnOk result (length self.new.events.items < MOST_EVENTS
+            → IsRunOver nodes self.new.world) }
     {
         match lead {
             Lead::Rounds(picker) => self.drive(nodes, picker),
@@ -56,7 +57,8 @@ impl<'c> Driver<'c> {
     // Goes on round by round, until one has no event or there are as many events as there may be.
     fn drive(&mut self, nodes: u8, picker: Picker) -> Result<(), TurnFault>
         requires { length self.old.events.items ≤ MOST_EVENTS }
-        ensures goes { DrivesTo (schedule_of_rounds picker nodes) (at_node 0) (at_node 0) self.old self.new result }
+        ensures goes { DrivesTo (schedule_of_rounds picker nodes) (at_node 0)
+            (at_node 0) self.old self.new result }
         ensures over { OnOk result (length self.new.events.items < MOST_EVENTS
             → NoneReady nodes self.new.world × (self.new.world.flight.items ≡ [])) }
     {
@@ -74,7 +76,8 @@ impl<'c> Driver<'c> {
     fn wander(&mut self, nodes: u8, seed: u64) -> Result<(), TurnFault>
         requires { self.old.events.items ≡ [] }
         ensures goes { IsDrivenBy (wandering nodes seed) self.old self.new result }
-        ensures over { OnOk result (length self.new.events.items < MOST_EVENTS → IsRunOver nodes self.new.world) }
+        ensures over { OnOk result (length self.new.events.items < MOST_EVENTS
+            → IsRunOver nodes self.new.world) }
     {
         let mut random = Random::new(seed);
         for _event in 0..MOST_EVENTS {
@@ -88,8 +91,10 @@ impl<'c> Driver<'c> {
 
     // Each ready node goes on, and then as many messages are delivered as are in flight.
     fn round(&mut self, nodes: u8, picker: Picker) -> Result<(), TurnFault>
-        ensures goes { DrivesTo (schedule_of_rounds picker nodes) (at_node 0) (at_node 0) self.old self.new result }
-        ensures over { OnOk result (IsStill self.old self.new → NoneReady nodes self.new.world × (self.new.world.flight.items ≡ [])) }
+        ensures goes { DrivesTo (schedule_of_rounds picker nodes) (at_node 0)
+            (at_node 0) self.old self.new result }
+        ensures over { OnOk result (IsStill self.old self.new
+            → NoneReady nodes self.new.world × (self.new.world.flight.items ≡ [])) }
     {
         self.run_each(nodes)?;
         self.deliver_each(picker)
@@ -97,8 +102,10 @@ impl<'c> Driver<'c> {
 
     // Each ready node goes on once, from node 0 up, as far as there is room for events.
     fn run_each(&mut self, nodes: u8) -> Result<(), TurnFault>
-        ensures goes { (picker : AnyPicker) → DrivesTo (schedule_of_rounds picker nodes) (at_node 0) (at_node nodes) self.old self.new result }
-        ensures still { OnOk result (IsStill self.old self.new → (self.new.world ≡ self.old.world) × NoneReady nodes self.old.world) }
+        ensures goes { (picker : AnyPicker) → DrivesTo (schedule_of_rounds picker nodes) (at_node 0)
+            (at_node nodes) self.old self.new result }
+        ensures still { OnOk result (IsStill self.old self.new
+            → (self.new.world ≡ self.old.world) × NoneReady nodes self.old.world) }
     {
         for node in 0..nodes {
             self.run_if_ready(node)?;
@@ -109,8 +116,10 @@ impl<'c> Driver<'c> {
     // The node goes on, if it is ready and there is room for an event.
     fn run_if_ready(&mut self, node: u8) -> Result<(), TurnFault>
         ensures goes { (picker : AnyPicker) (nodes : ℕ) → node < nodes
-            → DrivesTo (schedule_of_rounds picker nodes) (at_node node) (at_node (node + 1)) self.old self.new result }
-        ensures still { OnOk result (IsStill self.old self.new → (self.new.world ≡ self.old.world) × IsAsleep node self.old.world) }
+            → DrivesTo (schedule_of_rounds picker nodes) (at_node node)
+            (at_node (node + 1)) self.old self.new result }
+        ensures still { OnOk result (IsStill self.old self.new
+            → (self.new.world ≡ self.old.world) × IsAsleep node self.old.world) }
     {
         if !self.world.is_ready(node as usize) {
             return Ok(());
@@ -121,8 +130,10 @@ impl<'c> Driver<'c> {
     // As many messages are delivered as are in flight, each of them the one that the picker says, as far as there is room for
     // events.
     fn deliver_each(&mut self, picker: Picker) -> Result<(), TurnFault>
-        ensures goes { (nodes : ℕ) → DrivesTo (schedule_of_rounds picker nodes) (at_node nodes) (delivering 0) self.old self.new result }
-        ensures still { OnOk result (IsStill self.old self.new → (self.new.world ≡ self.old.world) × (self.old.world.flight.items ≡ [])) }
+        ensures goes { (nodes : ℕ) → DrivesTo (schedule_of_rounds picker nodes) (at_node nodes)
+            (delivering 0) self.old self.new result }
+        ensures still { OnOk result (IsStill self.old self.new
+            → (self.new.world ≡ self.old.world) × (self.old.world.flight.items ≡ [])) }
     {
         let count = self.world.in_flight();
         for _message in 0..count {

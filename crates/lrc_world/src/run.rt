@@ -25,33 +25,37 @@ use lrc_protocol::Event;
 use lrc_setting::setting::Setting;
 use std::alloc::{AllocError, Global};
 
-/// In which order a run goes on.
+/// The order in which a run goes on.
 #[derive(Clone, Copy)]
 pub enum Order<'e> {
-    /// By these events. One that names no ready node, and no message in flight that its receiver expects, is skipped.
+    /// The order of these events. An event that names no ready node, and no message in flight that its receiver
+    /// expects, is skipped.
     Events(&'e [Event]),
-    /// In rounds: in each, every ready node from 0 up goes on once, and then as many messages are delivered as are in flight, each of
-    /// them the one that the picker says; with `Twice` a message stays in flight the first time that it is delivered.
+    /// The order in rounds. In each round every ready node, from 0 up, goes on once. Then as many messages are
+    /// delivered as are in flight. The picker chooses each of them; with `Twice` a message stays in flight after its
+    /// first delivery.
     Rounds(Picker),
-    /// At random, from this seed: the next event is one of the turns of the ready nodes, ascending, and the deliveries of the messages
-    /// in flight, oldest first. Which of them, the next number of SplitMix64 says, by its remainder.
+    /// A random order, from this seed. The candidates for the next event are the turns of the ready nodes, ascending,
+    /// and then the deliveries of the messages in flight, oldest first. The next SplitMix64 number, modulo the number
+    /// of candidates, chooses one.
     Random(u64),
 }
 
-/// A run.
+/// A run of a program: its events and their result.
 #[derive(Drop)]
 pub struct Run {
-    /// The events that it was made of, also those that were skipped.
+    /// The events of the run, including skipped ones.
     pub events: Vec<Event>,
-    /// Whether nothing is left to do after them: no node is ready, and no message is in flight.
+    /// Whether nothing is left to do after the events: no node is ready, and no message is in flight.
     pub is_over: bool,
-    /// What came of it.
+    /// The result of the run.
     pub report: Report,
 }
 
-/// The run of a program in an order. Of the turns of the nodes it has what is to be kept of them.
+/// Runs a program in the given order. The logs in the result hold the turns that `keep` says.
 ///
-/// In rounds and at random it goes on as long as a node is ready or a message in flight, and there are fewer than 100,000,000 events.
+/// In rounds and at random the run goes on while a node is ready or a message is in flight, and there are fewer than
+/// 100,000,000 events.
 pub fn run_in(
     alloc: Global,
     program: &Program,
@@ -81,7 +85,8 @@ fn by_events(
     keep: Keep,
 ) -> Result<Run, TurnFault>
     requires { AreNodes nodes }
-    ensures run { IfOk result (IsRunBy (λ played. played ≡ events.now) program.now nodes options.now keep) }
+    ensures run { IfOk result (IsRunBy (λ played. played ≡ events.now) program.now nodes options.now
+        keep) }
     ensures fault { IfErr result (IsWornFault (IsWornBy program.now nodes options.now events.now)) }
 {
     let code = Code::new(alloc, program)?;
@@ -104,7 +109,8 @@ fn led(
     keep: Keep,
 ) -> Result<Run, TurnFault>
     requires { AreNodes nodes }
-    ensures run { IfOk result (IsRunBy (AreLedToEnd (schedule_of nodes lead) program.now nodes options.now)
+    ensures run { IfOk result (IsRunBy (AreLedToEnd
+        (schedule_of nodes lead) program.now nodes options.now)
         program.now nodes options.now keep) }
     ensures fault { IfErr result (IsWornFault (WearsOut (schedule_of nodes lead)
         (fresh_world program.now nodes options.now))) }
@@ -122,11 +128,14 @@ fn led(
 fn run_after(world: World<'_>, events: Vec<Event>) -> Result<Run, AllocError>
     requires acts { All (λ act. act.node < NODES) world.acts.items }
     requires traces { (nodes : ℕ) × AreTracesOf nodes (map (λ node. node.trace) world.nodes.items) }
-    requires raceless { AreRacesOf (map (λ node. node.trace) world.nodes.items) [] → IsRaceFree world.acts.items }
+    requires raceless { AreRacesOf (map (λ node. node.trace) world.nodes.items) []
+        → IsRaceFree world.acts.items }
     ensures events { IfOk result (λ run. run.events ≡ events) }
-    ensures over { IfOk result (λ run. (starts : Starts) (made : AnyRun) → Shows starts world.entry made
+    ensures over { IfOk result (λ run. (starts : Starts) (made : AnyRun)
+        → Shows starts world.entry made
         → (run.is_over ≡ true) ↔ IsOver made) }
-    ensures report { IfOk result (λ run. (starts : Starts) (made : AnyRun) → Shows starts world.entry made
+    ensures report { IfOk result (λ run. (starts : Starts) (made : AnyRun)
+        → Shows starts world.entry made
         → IsKeptReport starts.keep run.report made) }
     ensures races { IfOk result (λ run.
         AreRacesOf (map (λ node. node.trace) world.entry.nodes.items) run.report.races.items) }

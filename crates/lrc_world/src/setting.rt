@@ -9,7 +9,8 @@ use crate::report::SimFault;
 use lrc_node::Options;
 use lrc_setting::setting::{Nodes, Setting, Steps};
 
-/// The setting of so many nodes with these options, where all is in range.
+/// Returns the setting with this number of nodes and these options. It fails with `BadNodes` unless there are 1 to 16
+/// nodes, and otherwise with `BadSteps` unless there are 1 to 1,000,000 steps.
 pub fn setting_of(nodes: u32, options: &Options) -> Result<Setting, SimFault>
     ensures { MatchResult result
         (λ setting. (setting.nodes.count ≡ nodes) × (options_of setting ≡ options.now))
@@ -31,7 +32,7 @@ pub fn setting_of(nodes: u32, options: &Options) -> Result<Setting, SimFault>
     })
 }
 
-/// How the nodes go in this setting.
+/// Returns the options of the nodes in this setting.
 pub fn options_of(setting: &Setting) -> Options
     ensures { result ≡ options_of setting.now }
 {

@@ -6,7 +6,7 @@ ghost use Rattle.lrc_node.specs.Logged.{seen_input};
 ghost use Rattle.lrc_protocol.specs.declared.event.Event.{Event as AnyEvent};
 ghost use Rattle.lrc_protocol.specs.declared.event.Event.TheVariants as events;
 ghost use Rattle.lrc_protocol.specs.Node.{OptionsRecord};
-ghost use Rattle.lrc_protocol.specs.Run.{EntryRecord, World as Run, run_of};
+ghost use Rattle.lrc_protocol.specs.Run.{EntryRecord, World as Run, run_of, turns_of_logs};
 ghost use Rattle.lrc_world.specs.declared.report.Report.{Report as AnyReport};
 ghost use Rattle.lrc_world.specs.Report.{IsReportOf};
 ghost use Rattle.lrc_world.specs.Turned.{AreAllTurned, HaveLogs, events_in, turned_by, turned_of};
@@ -20,22 +20,23 @@ use std::alloc::{AllocError, Global};
 use std::collections::VecDeque;
 use std::marker::Model;
 
-/// An event of a run that was not skipped, and the node whose turn it made.
+/// An event of a run that was not skipped, with the node that made the turn.
 #[derive(Clone, Copy, Debug, PartialEq, Eq)]
 pub struct Turned {
     pub event: Event,
     pub node: u8,
 }
 
-/// The events of a run that were not skipped, in order, each with the node whose turn it made. The logs are those of the run of
-/// these events: the turns of each node, from node 0 up.
+/// Returns the events of a run that were not skipped, in order, each with the node that made the turn. `logs` must be
+/// those of the run of these events: the turns of each node, from node 0 up.
 pub fn turned_events(
     alloc: Global,
     logs: &[Vec<Entry>],
     events: &[Event],
 ) -> Result<Vec<Turned>, AllocError>
-    ensures { IfOk result (λ turned. (program : Program) (nodes : ℕ) (options : OptionsRecord) → nodes ≤ 256
-        → HaveLogs program nodes options events.now (map (λ log. log.items) logs.now)
+    ensures { IfOk result (λ turned. (program : Program) (nodes : ℕ) (options : OptionsRecord)
+        → nodes ≤ 256
+        → HaveLogs program nodes options events.now (turns_of_logs logs.now)
         → turned.items ≡ turned_of program nodes options events.now) }
 {
     let mut walk = Walk::new(alloc, logs.len())?;
@@ -47,23 +48,29 @@ pub fn turned_events(
     Ok(turned)
 }
 
-/// Events that are skipped may be left out: the events of a run that are not make the same run, with the same report, and none of
-/// them is skipped.
+/// Skipped events may be left out: the other events of a run make the same run, with the same report, and none of them
+/// is skipped.
 pub fn skipped_events_may_be_left_out()
-    ensures run { (program : Program) (nodes : ℕ) (options : OptionsRecord) (events : List AnyEvent) (run : Run)
+    ensures run { (program : Program) (nodes : ℕ) (options : OptionsRecord) (events : List AnyEvent)
+        (run : Run)
         → run_of program nodes options events ≡ Some run
-        → run_of program nodes options (events_in (turned_of program nodes options events)) ≡ Some run }
-    ensures report { (program : Program) (nodes : ℕ) (options : OptionsRecord) (events : List AnyEvent) (report : AnyReport)
+        → run_of program nodes options (events_in (turned_of program nodes options events))
+        ≡ Some run }
+    ensures report { (program : Program) (nodes : ℕ) (options : OptionsRecord)
+        (events : List AnyEvent) (report : AnyReport)
         → IsReportOf program nodes options events report
-        → IsReportOf program nodes options (events_in (turned_of program nodes options events)) report }
-    ensures unskipped { (program : Program) (nodes : ℕ) (options : OptionsRecord) (events : List AnyEvent)
+        → IsReportOf program nodes options
+        (events_in (turned_of program nodes options events)) report }
+    ensures unskipped { (program : Program) (nodes : ℕ) (options : OptionsRecord)
+        (events : List AnyEvent)
         → AreAllTurned program nodes options (events_in (turned_of program nodes options events)) }
 {}
 
-/// The turns of a run lead through its logs: the first turn of each node that is among them is the first of its log, and so on, up to
-/// the last of each log.
+/// The turns of a run lead through its logs: the first turn of a node in the run is the first entry of its log, and so
+/// on, up to the last entry of each log.
 pub fn turns_lead_through_the_logs()
-    ensures { (program : Program) (nodes : ℕ) (options : OptionsRecord) (events : List AnyEvent) (logs : List (List EntryRecord))
+    ensures { (program : Program) (nodes : ℕ) (options : OptionsRecord) (events : List AnyEvent)
+        (logs : List (List EntryRecord))
         → HaveLogs program nodes options events logs
         → Leads logs (replicate (length logs) 0) (turned_of program nodes options events) }
 {}
@@ -92,10 +99,14 @@ impl Walk {
     // The node whose turn an event makes, past which the walk goes on; none where the event is skipped.
     fn step(&mut self, logs: &[Vec<Entry>], event: Event) -> Result<Option<u8>, AllocError>
         requires { length self.old.come.items ≡ length logs.now }
-        ensures node { IfOk result (λ node. node ≡ next_turner (map (λ log. log.items) logs.now) self.old.come.items self.old.flight.items event) }
-        ensures come { IfOk result (λ node. self.new.come.items ≡ come_with (map (λ log. log.items) logs.now) self.old.come.items node) }
+        ensures node { IfOk result (λ node. node
+            ≡ next_turner (turns_of_logs logs.now) self.old.come.items
+            self.old.flight.items event) }
+        ensures come { IfOk result (λ node. self.new.come.items
+            ≡ come_with (turns_of_logs logs.now) self.old.come.items node) }
         ensures flight { IfOk result (λ node. self.new.flight.items
-            ≡ flight_with (map (λ log. log.items) logs.now) self.old.come.items (flight_after self.old.flight.items event node) node) }
+            ≡ flight_with (turns_of_logs logs.now) self.old.come.items
+            (flight_after self.old.flight.items event node) node) }
     {
         let turner = self.turner(logs, event);
         if let Some(node) = turner {
@@ -107,7 +118,8 @@ impl Walk {
     // The node whose turn an event makes. What it takes is no more in flight, if it is not repeated.
     fn turner(&mut self, logs: &[Vec<Entry>], event: Event) -> Option<u8>
         requires { length self.old.come.items ≡ length logs.now }
-        ensures node { result ≡ next_turner (map (λ log. log.items) logs.now) self.old.come.items self.old.flight.items event }
+        ensures node { result ≡ next_turner (turns_of_logs logs.now) self.old.come.items
+            self.old.flight.items event }
         ensures come { self.new.come ≡ self.old.come }
         ensures flight { self.new.flight.items ≡ flight_after self.old.flight.items event result }
     {
@@ -122,9 +134,11 @@ impl Walk {
     fn pass(&mut self, logs: &[Vec<Entry>], node: usize) -> Result<(), AllocError>
         requires { length self.old.come.items ≡ length logs.now }
         ensures come { OnOk result (self.new.come.items
-            ≡ come_after self.old.come.items node (next_entry (map (λ log. log.items) logs.now) self.old.come.items node)) }
+            ≡ come_after self.old.come.items node
+            (next_entry (turns_of_logs logs.now) self.old.come.items node)) }
         ensures flight { OnOk result (self.new.flight.items
-            ≡ self.old.flight.items ++ receivers_of (next_entry (map (λ log. log.items) logs.now) self.old.come.items node)) }
+            ≡ self.old.flight.items ++ receivers_of
+            (next_entry (turns_of_logs logs.now) self.old.come.items node)) }
     {
         let Some(entry) = next_entry(logs, self.come.as_slice(), node) else {
             return Ok(());
@@ -152,7 +166,8 @@ fn note(turned: &mut Vec<Turned>, event: Event, node: Option<u8>) -> Result<(), 
 // The next turn of a node, where so many of each node have come.
 fn next_entry<'l>(logs: &'l [Vec<Entry>], come: &[usize], node: usize) -> Option<&'l Entry>
     requires { length come.now ≡ length logs.now }
-    ensures { option_map (λ entry. entry.now) result ≡ next_entry (map (λ log. log.items) logs.now) come.now node }
+    ensures { option_map (λ entry. entry.now) result
+        ≡ next_entry (turns_of_logs logs.now) come.now node }
 {
     if node < logs.len() {
         logs[node].get(come[node])
@@ -164,7 +179,7 @@ fn next_entry<'l>(logs: &'l [Vec<Entry>], come: &[usize], node: usize) -> Option
 // The node of this number, where its next turn is one that it makes by itself.
 fn runner(logs: &[Vec<Entry>], come: &[usize], node: u32) -> Option<u8>
     requires { length come.now ≡ length logs.now }
-    ensures { result ≡ next_turner (map (λ log. log.items) logs.now) come.now [] (events.Run node) }
+    ensures { result ≡ next_turner (turns_of_logs logs.now) come.now [] (events.Run node) }
 {
     let Ok(number) = u8::try_from(node) else {
         return None;
@@ -187,7 +202,8 @@ fn is_run(input: &Input) -> bool
 
 // Puts messages in flight.
 fn send(flight: &mut VecDeque<u8>, out: &[Envelope]) -> Result<(), AllocError>
-    ensures { OnOk result (flight.new.items ≡ flight.old.items ++ map (λ envelope. envelope.to) out.now) }
+    ensures { OnOk result (flight.new.items
+        ≡ flight.old.items ++ map (λ envelope. envelope.to) out.now) }
 {
     for envelope in out {
         flight.push_back(envelope.to)?;

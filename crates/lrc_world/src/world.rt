@@ -5,6 +5,7 @@ ghost use Rattle.std.specs.Prelude.{◌≡◌, ℕ, ◌≤◌, ◌<◌, ◌^◌,
 ghost use Rattle.std.specs.Prelude.{List, Some, filter, length, map, remove, slice_get, slice_set};
 ghost use Rattle.std.specs.List.{list_any, range_with_len};
 ghost use Rattle.std.specs.Option.{option_to_list};
+ghost use Rattle.lrc_protocol.specs.Run.{turns_of_logs};
 ghost use Rattle.lrc_judge.specs.declared.TheConstants.{NODES};
 ghost use Rattle.lrc_wire.specs.Reading.{envelope_of};
 ghost use Rattle.lrc_protocol.specs.Run.{World as Run, Flying as Sent, fresh_world, event_on, with_mark, EntryRecord};
@@ -34,7 +35,7 @@ use lrc_wire::{EncodeFault, WireFault, decode, spell_over};
 use std::alloc::{AllocError, Global};
 use std::collections::VecDeque;
 
-/// All nodes with what is kept of their logs, the messages in flight, oldest first, and the acts so far.
+/// All nodes with the turns kept of their logs, the messages in flight (oldest first), and the acts so far.
 #[derive(Drop)]
 pub(crate) struct World<'c> {
     alloc: Global,
@@ -47,7 +48,7 @@ pub(crate) struct World<'c> {
 }
 
 impl<'c> World<'c> {
-    /// All nodes at the beginning of a program.
+    /// Creates all nodes at the start of a program, with no message in flight.
     pub(crate) fn new(
         alloc: Global,
         code: &'c Code<'_>,
@@ -56,7 +57,8 @@ impl<'c> World<'c> {
         keep: Keep,
     ) -> Result<World<'c>, AllocError>
         requires few { nodes ≤ 16 }
-        ensures { IfOk result (λ world. Shows (starts_of code.now nodes options.now keep) world (fresh_world code.now nodes options.now)) }
+        ensures { IfOk result (λ world. Shows (starts_of code.now nodes options.now keep) world
+            (fresh_world code.now nodes options.now)) }
     {
         let mut made = Vec::with_capacity(alloc, nodes as usize)?;
         for me in 0..nodes {
@@ -73,9 +75,10 @@ impl<'c> World<'c> {
         })
     }
 
-    /// Plays an event, which is skipped where it names no ready node and no message that its receiver takes.
+    /// Plays an event. It is skipped if it names no ready node and no message that its receiver takes.
     pub(crate) fn play(&mut self, event: Event) -> Result<(), TurnFault>
-        ensures { (starts : Starts) (run : Run) → Shows starts self.old run → PlaysTo starts self.new (event_on run event) result }
+        ensures { (starts : Starts) (run : Run) → Shows starts self.old run
+            → PlaysTo starts self.new (event_on run event) result }
     {
         match event {
             Event::Run(node) => self.go_on(node as usize),
@@ -84,9 +87,10 @@ impl<'c> World<'c> {
         }
     }
 
-    /// Whether the node is there and ready.
+    /// Returns whether the node exists and is ready.
     pub(crate) fn is_ready(&self, node: usize) -> bool
-        ensures { (starts : Starts) (run : Run) → Shows starts self.now run → result ≡ ready_at run node }
+        ensures { (starts : Starts) (run : Run) → Shows starts self.now run
+            → result ≡ ready_at run node }
     {
         match self.nodes.get(node) {
             Some(logged) => logged.ready(),
@@ -94,23 +98,25 @@ impl<'c> World<'c> {
         }
     }
 
-    /// How many messages are in flight.
+    /// Returns how many messages are in flight.
     pub(crate) fn in_flight(&self) -> usize
         ensures { result ≡ length self.now.flight.items }
     {
         self.flight.len()
     }
 
-    /// Whether nothing is left to do: no node is ready, and no message is in flight.
+    /// Returns whether nothing is left to do: no node is ready, and no message is in flight.
     pub(crate) fn is_over(&self) -> bool
-        ensures { (starts : Starts) (run : Run) → Shows starts self.now run → (result ≡ true) ↔ IsOver run }
+        ensures { (starts : Starts) (run : Run) → Shows starts self.now run → (result ≡ true)
+            ↔ IsOver run }
     {
         self.flight.is_empty() && !is_any_ready(&self.nodes)
     }
 
-    /// The delivery that comes next.
+    /// Returns the delivery that the picker chooses next.
     pub(crate) fn next_delivery(&self, picker: Picker) -> Event
-        ensures { (starts : Starts) (run : Run) → Shows starts self.now run → result ≡ delivery_of picker run.flight }
+        ensures { (starts : Starts) (run : Run) → Shows starts self.now run
+            → result ≡ delivery_of picker run.flight }
     {
         match picker {
             Picker::Oldest => Event::Deliver(0),
@@ -125,9 +131,10 @@ impl<'c> World<'c> {
         }
     }
 
-    /// What a random number says of all that may happen next, if anything may.
+    /// Returns the event that a random number chooses among all that can happen next, or none if nothing can happen.
     pub(crate) fn choice(&self, nodes: u8, number: u64) -> Result<Option<Event>, AllocError>
-        ensures { (starts : Starts) (run : Run) → Shows starts self.now run → IfOk result (λ event. event ≡ drawn_event nodes number run) }
+        ensures { (starts : Starts) (run : Run) → Shows starts self.now run
+            → IfOk result (λ event. event ≡ drawn_event nodes number run) }
     {
         let ready = self.ready_nodes(nodes)?;
         let deliveries = self.flight.len().min(1 << 32);
@@ -151,7 +158,8 @@ impl<'c> World<'c> {
 
     // Whether the oldest message was delivered already.
     fn is_oldest_delivered(&self) -> bool
-        ensures { (starts : Starts) (run : Run) → Shows starts self.now run → result ≡ is_delivered (slice_get run.flight 0) }
+        ensures { (starts : Starts) (run : Run) → Shows starts self.now run
+            → result ≡ is_delivered (slice_get run.flight 0) }
     {
         match self.flight.get(0) {
             Some(flying) => flying.delivered,
@@ -161,7 +169,8 @@ impl<'c> World<'c> {
 
     // The node goes on, if it is there and ready.
     fn go_on(&mut self, node: usize) -> Result<(), TurnFault>
-        ensures { (starts : Starts) (run : Run) → Shows starts self.old run → PlaysTo starts self.new (event_on run (events.Run node)) result }
+        ensures { (starts : Starts) (run : Run) → Shows starts self.old run
+            → PlaysTo starts self.new (event_on run (events.Run node)) result }
     {
         let outcome = run_at(&mut self.nodes, node);
         if is_made(outcome)? {
@@ -173,7 +182,8 @@ impl<'c> World<'c> {
 
     // The message at the place is delivered, if it is there and its receiver takes it.
     fn deliver(&mut self, place: usize) -> Result<(), TurnFault>
-        ensures { (starts : Starts) (run : Run) → Shows starts self.old run → PlaysTo starts self.new (event_on run (events.Deliver place)) result }
+        ensures { (starts : Starts) (run : Run) → Shows starts self.old run
+            → PlaysTo starts self.new (event_on run (events.Deliver place)) result }
     {
         match self.receive(place)? {
             Some(to) => {
@@ -186,7 +196,8 @@ impl<'c> World<'c> {
 
     // The same, but the message stays in flight.
     fn repeat(&mut self, place: usize) -> Result<(), TurnFault>
-        ensures { (starts : Starts) (run : Run) → Shows starts self.old run → PlaysTo starts self.new (event_on run (events.Repeat place)) result }
+        ensures { (starts : Starts) (run : Run) → Shows starts self.old run
+            → PlaysTo starts self.new (event_on run (events.Repeat place)) result }
     {
         match self.receive(place)? {
             Some(to) => {
@@ -199,7 +210,8 @@ impl<'c> World<'c> {
 
     // The receiver of the message at the place takes it, if both are there and the receiver expects it. Which node that was.
     fn receive(&mut self, place: usize) -> Result<Option<usize>, TurnFault>
-        ensures { (starts : Starts) (run : Run) → Shows starts self.old run → ReceivesTo starts self.old self.new run place result }
+        ensures { (starts : Starts) (run : Run) → Shows starts self.old run
+            → ReceivesTo starts self.old self.new run place result }
     {
         let Some(flying) = self.flight.get(place) else {
             return Ok(None);
@@ -214,14 +226,18 @@ impl<'c> World<'c> {
         }
     }
 
-    /// What is reported of the run, with what is kept of the logs. The races are those of the traces that the nodes keep, and the first
-    /// one is looked for only where there are any.
+    /// Returns the report of the run, with the kept part of the logs. The races come from the traces that the nodes
+    /// keep. The first race is searched only if there are any.
     pub(crate) fn report(self) -> Result<Report, AllocError>
         requires acts { All (λ act. act.node < NODES) self.acts.items }
-        requires traces { (nodes : ℕ) × AreTracesOf nodes (map (λ node. node.trace) self.nodes.items) }
-        requires raceless { AreRacesOf (map (λ node. node.trace) self.nodes.items) [] → IsRaceFree self.acts.items }
-        ensures report { (starts : Starts) (run : Run) → Shows starts self.entry run → IfOk result (λ report. IsKeptReport starts.keep report run) }
-        ensures races { IfOk result (λ report. AreRacesOf (map (λ node. node.trace) self.entry.nodes.items) report.races.items) }
+        requires traces { (nodes : ℕ) × AreTracesOf nodes
+            (map (λ node. node.trace) self.nodes.items) }
+        requires raceless { AreRacesOf (map (λ node. node.trace) self.nodes.items) []
+            → IsRaceFree self.acts.items }
+        ensures report { (starts : Starts) (run : Run) → Shows starts self.entry run
+            → IfOk result (λ report. IsKeptReport starts.keep report run) }
+        ensures races { IfOk result (λ report. AreRacesOf
+            (map (λ node. node.trace) self.entry.nodes.items) report.races.items) }
     {
         let World {
             alloc,
@@ -246,7 +262,8 @@ impl<'c> World<'c> {
 
     // Adds what the node's newest turn did: its act, and its messages in flight. Of the node's log is left what is to be kept.
     fn follow(&mut self, node: usize) -> Result<(), TurnFault>
-        ensures { (entry : EntryRecord) → NodeLogsLast self.old node entry → AddsTo self.old self.new node entry result }
+        ensures { (entry : EntryRecord) → NodeLogsLast self.old node entry
+            → AddsTo self.old self.new node entry result }
     {
         let Some(logged) = self.nodes.get(node) else {
             return Ok(());
@@ -270,7 +287,8 @@ impl<'c> World<'c> {
 fn event_at(ready: &[u32], deliveries: usize, number: u64) -> Option<Event>
     requires ready { length ready.now ≤ 255 }
     requires deliveries { deliveries ≤ 2 ^ 32 }
-    ensures { result ≡ picked number (map events.Run ready.now ++ map events.Deliver (range_with_len 0 deliveries)) }
+    ensures { result ≡ picked number (map events.Run ready.now
+        ++ map events.Deliver (range_with_len 0 deliveries)) }
 {
     let count = ready.len() + deliveries;
     if count == 0 {
@@ -309,7 +327,8 @@ fn send(
     stamp: u64,
     flight: &mut VecDeque<Flying>,
 ) -> Result<(), TurnFault>
-    ensures flight { OnOk result (map seen_flying flight.new.items ≡ map seen_flying flight.old.items ++ map (shown_new stamp) out.now) }
+    ensures flight { OnOk result (map seen_flying flight.new.items
+        ≡ map seen_flying flight.old.items ++ map (shown_new stamp) out.now) }
     ensures short { OnOk result (list_any is_long out.now ≡ false) }
     ensures err { IfErr result (IsSendFault out.now) }
 {
@@ -327,7 +346,8 @@ fn send_each(
     stamp: u64,
     flight: &mut VecDeque<Flying>,
 ) -> Result<(), TurnFault>
-    ensures flight { OnOk result (map seen_flying flight.new.items ≡ map seen_flying flight.old.items ++ map (shown_new stamp) out.now) }
+    ensures flight { OnOk result (map seen_flying flight.new.items
+        ≡ map seen_flying flight.old.items ++ map (shown_new stamp) out.now) }
     ensures short { OnOk result (list_any is_long out.now ≡ false) }
     ensures err { IfErr result (IsSendFault out.now) }
 {
@@ -413,7 +433,8 @@ fn take_at(
 
 // The node at the place forgets what is not kept of its log, if it is there.
 fn trim(keep: Keep, nodes: &mut Vec<Logged<'_>>, node: usize)
-    ensures { (l : TracedLog) → slice_get nodes.old.items node ≡ Some l → nodes.new.items ≡ slice_set nodes.old.items node (trimmed keep l) }
+    ensures { (l : TracedLog) → slice_get nodes.old.items node ≡ Some l
+        → nodes.new.items ≡ slice_set nodes.old.items node (trimmed keep l) }
 {
     match keep {
         Keep::All => {}
@@ -427,7 +448,8 @@ fn trim(keep: Keep, nodes: &mut Vec<Logged<'_>>, node: usize)
 
 // Marks the message at the place as delivered, if it is there.
 fn mark(flight: &mut VecDeque<Flying>, place: usize)
-    ensures { (sent : List Sent) → map seen_flying flight.old.items ≡ map seen_sent sent → map seen_flying flight.new.items ≡ map seen_sent (with_mark sent place) }
+    ensures { (sent : List Sent) → map seen_flying flight.old.items ≡ map seen_sent sent
+        → map seen_flying flight.new.items ≡ map seen_sent (with_mark sent place) }
 {
     if place < flight.len() {
         flight[place].delivered = true;
@@ -446,7 +468,8 @@ fn forget(flight: &mut VecDeque<Flying>, spare: &mut Vec<Vec<u8>>, place: usize)
 
 // Whether one of the nodes is ready.
 fn is_any_ready(nodes: &[Logged<'_>]) -> bool
-    ensures { (all : List log.Logged) → map (λ node. node.logged) nodes.now ≡ map sound all → result ≡ list_any (λ l. is_ready l.node) all }
+    ensures { (all : List log.Logged) → map (λ node. node.logged) nodes.now ≡ map sound all
+        → result ≡ list_any (λ l. is_ready l.node) all }
 {
     for node in nodes {
         if node.ready() {
@@ -458,7 +481,8 @@ fn is_any_ready(nodes: &[Logged<'_>]) -> bool
 
 // How each node ended.
 fn ends_of(alloc: Global, nodes: &[Logged<'_>]) -> Result<Vec<End>, AllocError>
-    ensures { (all : List log.Logged) → map (λ node. node.logged) nodes.now ≡ map sound all → IfOk result (λ ends. ends.items ≡ map end_of_logged all) }
+    ensures { (all : List log.Logged) → map (λ node. node.logged) nodes.now ≡ map sound all
+        → IfOk result (λ ends. ends.items ≡ map end_of_logged all) }
 {
     let mut ends = Vec::with_capacity(alloc, nodes.len())?;
     for node in nodes {
@@ -472,8 +496,10 @@ fn parts_of(
     alloc: Global,
     nodes: Vec<Logged<'_>>,
 ) -> Result<(Vec<Vec<Entry>>, Vec<Trace>), AllocError>
-    ensures logs { IfOk result (λ parts. map (λ log. log.items) parts.0.items ≡ map (λ node. node.logged.log) nodes.entry.items) }
-    ensures traces { IfOk result (λ parts. parts.1.items ≡ map (λ node. node.trace) nodes.entry.items) }
+    ensures logs { IfOk result (λ parts. turns_of_logs parts.0.items
+        ≡ map (λ node. node.logged.log) nodes.entry.items) }
+    ensures traces { IfOk result (λ parts. parts.1.items
+        ≡ map (λ node. node.trace) nodes.entry.items) }
 {
     let mut logs = Vec::with_capacity(alloc, nodes.len())?;
     let mut traces = Vec::with_capacity(alloc, nodes.len())?;

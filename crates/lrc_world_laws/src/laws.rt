@@ -24,53 +24,70 @@ ghost use Rattle.lrc_world.specs.World.{sends_long};
 ghost use Rattle.lrc_world_laws.specs.Ended.{IsEnded};
 ghost use Rattle.lrc_world_laws.specs.Same.{SaysTheSame};
 
-/// A program, a number of nodes, options and a picker determine the events of a run in rounds that goes on until nothing is left to do
-/// or there are 100,000,000 events. So `drive` of `lrc_world` makes the same events, each time, whatever is kept of the turns.
+/// A program, a number of nodes, options and a picker determine the events of a run in rounds that goes on until
+/// nothing is left to do or there are 100,000,000 events. So `drive` of `lrc_world` makes the same events each time,
+/// whatever it keeps of the turns.
 pub fn rounds_are_determined()
-    ensures { (program : Program) (nodes : ℕ) (options : OptionsRecord) (picker : Picker) (events others : List Event)
+    ensures { (program : Program) (nodes : ℕ) (options : OptionsRecord) (picker : Picker)
+        (events others : List Event)
         → AreRounds program nodes options picker events → IsEnded program nodes options events
-        → AreRounds program nodes options picker others → IsEnded program nodes options others → events ≡ others }
+        → AreRounds program nodes options picker others → IsEnded program nodes options others
+        → events ≡ others }
 {}
 
-/// A program, a number of nodes, options and a seed determine the events of a run in a random order that goes on until nothing is left
-/// to do or there are 100,000,000 events. So `wander` of `lrc_world` makes the same events, each time, whatever is kept of the turns.
+/// A program, a number of nodes, options and a seed determine the events of a run in a random order that goes on until
+/// nothing is left to do or there are 100,000,000 events. So `wander` of `lrc_world` makes the same events each time,
+/// whatever it keeps of the turns.
 pub fn wandering_is_determined()
-    ensures { (program : Program) (nodes : ℕ) (options : OptionsRecord) (seed : ℕ) (events others : List Event)
+    ensures { (program : Program) (nodes : ℕ) (options : OptionsRecord) (seed : ℕ)
+        (events others : List Event)
         → IsWandering program nodes options seed events → IsEnded program nodes options events
-        → IsWandering program nodes options seed others → IsEnded program nodes options others → events ≡ others }
+        → IsWandering program nodes options seed others → IsEnded program nodes options others
+        → events ≡ others }
 {}
 
-/// A run in rounds or in a random order that has ended so, and none of whose turns sends a message that is too long, does not wear
-/// out. So what `drive` or `wander` once answers with a run it never answers with `Worn`.
+/// A run in rounds or in a random order does not wear out if it has ended so and no turn of it sends a message that is
+/// too long. So once `drive` or `wander` returns a run, it never fails with `Worn` on the same input.
 pub fn runs_that_end_never_wear_out()
-    ensures rounds { (program : Program) (nodes : ℕ) (options : OptionsRecord) (picker : Picker) (events : List Event) (run : Run)
+    ensures rounds { (program : Program) (nodes : ℕ) (options : OptionsRecord) (picker : Picker)
+        (events : List Event) (run : Run)
         → AreRounds program nodes options picker events → IsEnded program nodes options events
-        → run_of program nodes options events ≡ Some run → sends_long run ≡ false → ¬ RoundsWearOut program nodes options picker }
-    ensures wandering { (program : Program) (nodes : ℕ) (options : OptionsRecord) (seed : ℕ) (events : List Event) (run : Run)
+        → run_of program nodes options events ≡ Some run → sends_long run ≡ false
+        → ¬ RoundsWearOut program nodes options picker }
+    ensures wandering { (program : Program) (nodes : ℕ) (options : OptionsRecord) (seed : ℕ)
+        (events : List Event) (run : Run)
         → IsWandering program nodes options seed events → IsEnded program nodes options events
-        → run_of program nodes options events ≡ Some run → sends_long run ≡ false → ¬ WanderingWearsOut program nodes options seed }
+        → run_of program nodes options events ≡ Some run → sends_long run ≡ false
+        → ¬ WanderingWearsOut program nodes options seed }
 {}
 
-/// Two runs of the same events say the same but for the turns, whatever each keeps of these; and acts determine the list of their races.
-/// So a run that keeps the newest turns alone answers what one does that keeps all of them.
+/// Two runs of the same events differ at most in their turns, whatever each keeps of them. Acts determine the list of
+/// their races. So a run that keeps only the newest turns returns what a run that keeps all of them returns.
 pub fn what_is_kept_changes_the_turns_alone()
-    ensures same { (program : Program) (nodes : ℕ) (options : OptionsRecord) (order another : Order) (keep other : Keep) (run again : MadeRun)
-        → IsRunIn order program nodes options keep run → IsRunIn another program nodes options other again
+    ensures same { (program : Program) (nodes : ℕ) (options : OptionsRecord) (order another : Order)
+        (keep other : Keep) (run again : MadeRun)
+        → IsRunIn order program nodes options keep run
+        → IsRunIn another program nodes options other again
         → again.events.items ≡ run.events.items → SaysTheSame run again }
-    ensures races { (acts : List Act) (races others : List Race) → AreNamedRaces acts races → AreNamedRaces acts others
+    ensures races { (acts : List Act) (races others : List Race) → AreNamedRaces acts races
+        → AreNamedRaces acts others
         → races ≡ others }
 {}
 
-/// The epoch of a segment of a node's trace is the number of departs that the node has made before each of its accesses in the
-/// segment's interval; and no two segments of a trace are of one interval.
+/// The epoch of a segment in a node's trace is the number of departs that the node made before each of its accesses in
+/// the segment's interval. No two segments of a trace have the same interval.
 pub fn epoch_counts_departs_before_each_access()
-    ensures epoch { (program : Program) (nodes : ℕ) (options : OptionsRecord) (events : List Event) (run : Run) (n : ℕ) (l : Logged)
-        (segment : Segment) (position word : ℕ) → run_of program nodes options events ≡ Some run → slice_get run.nodes n ≡ Some l
+    ensures epoch { (program : Program) (nodes : ℕ) (options : OptionsRecord) (events : List Event)
+        (run : Run) (n : ℕ) (l : Logged)
+        (segment : Segment) (position word : ℕ) → run_of program nodes options events ≡ Some run
+        → slice_get run.nodes n ≡ Some l
         → Contains (trace_of (fresh_node program nodes options n) l.log).segments segment
         → Accesses run.acts position n word → segment.interval ≡ interval_at run.acts n position
         → segment.epoch ≡ departs_before run.acts n position }
-    ensures one { (program : Program) (nodes : ℕ) (options : OptionsRecord) (events : List Event) (run : Run) (n : ℕ) (l : Logged)
-        (segment other : Segment) → run_of program nodes options events ≡ Some run → slice_get run.nodes n ≡ Some l
+    ensures one { (program : Program) (nodes : ℕ) (options : OptionsRecord) (events : List Event)
+        (run : Run) (n : ℕ) (l : Logged)
+        (segment other : Segment) → run_of program nodes options events ≡ Some run
+        → slice_get run.nodes n ≡ Some l
         → Contains (trace_of (fresh_node program nodes options n) l.log).segments segment
         → Contains (trace_of (fresh_node program nodes options n) l.log).segments other
         → segment.interval ≡ other.interval → segment ≡ other }

@@ -1,4 +1,4 @@
-//! Tests alone: texts of acts, and what is read of them. What a judge prints of them is played by `test_examples`.
+//! Tests of reading texts of acts. The crate `test_examples` tests what `judge` prints for them.
 #![tactic(auto)]
 
 #[cfg(test)]

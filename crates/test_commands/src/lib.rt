@@ -1,5 +1,5 @@
-//! Tests alone: the choice that words make, writers that refuse, faults, and what no file of `test_examples` can show: texts too
-//! large for a file, and runs on threads that are played again.
+//! Tests of the command line and its outputs: the choices that words make, writers that refuse, and faults. They also
+//! cover what no file of `test_examples` can show: texts too large for a file, and runs on threads that are replayed.
 #![tactic(auto)]
 
 #[cfg(test)]

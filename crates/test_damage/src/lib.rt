@@ -1,4 +1,5 @@
-//! Tests alone: random and damaged input, from fixed seeds. What is answered is a named refusal, or means what was answered.
+//! Tests with random and damaged input, from fixed seeds. Each answer is a named refusal, or agrees with what the input
+//! says.
 #![tactic(auto)]
 
 #[cfg(test)]

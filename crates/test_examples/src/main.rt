@@ -1,5 +1,5 @@
-//! Plays the examples that its words name. The file NAME.expected shows command lines, `$ ./run WORDS`, each with what it
-//! prints and then its exit status, `status N`; a line says whether that is what the program does.
+//! Plays the examples that its arguments name. The file NAME.expected lists command lines as `$ ./run WORDS`, each with
+//! its output and then its exit status as `status N`. For each example a line says whether the program behaves so.
 #![tactic(auto)]
 
 use lrc_shell::{LateLine, System, play};

@@ -1,4 +1,5 @@
-//! Tests alone: what is told of runs that raced, got stuck, trapped or stopped, by acts that are written down.
+//! Tests of what `explain` says about runs that raced, got stuck, trapped or stopped. The runs are given as lists of
+//! acts.
 #![tactic(auto)]
 
 #[cfg(test)]

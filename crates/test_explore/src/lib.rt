@@ -1,4 +1,5 @@
-//! Tests alone: what is found of programs where every order is looked at. What is printed of them is played by `test_examples`.
+//! Tests of what the search through every order finds for programs. The crate `test_examples` tests what is printed
+//! about it.
 #![tactic(auto)]
 
 #[cfg(test)]

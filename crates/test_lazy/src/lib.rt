@@ -1,4 +1,4 @@
-//! Tests alone: the outcomes of the lazy runs of programs.
+//! Tests of the outcomes of the lazy runs of programs.
 #![tactic(auto)]
 
 #[cfg(test)]

@@ -1,4 +1,4 @@
-//! Tests alone: labels, and the words of `lint`.
+//! Tests of labels, and of the words of `lint`.
 #![tactic(auto)]
 
 #[cfg(test)]

@@ -1,5 +1,5 @@
-//! Tests alone: runs for which memory is refused. Each holds with ample memory, and also where one growth is refused, whichever it is.
-//! `tests/refused-memory --tests` refuses each in turn.
+//! Runs that are refused memory. Each test passes with ample memory, and also if any one growth is refused.
+//! `tests/refused-memory --tests` refuses each growth in turn.
 #![tactic(auto)]
 
 #[cfg(test)]

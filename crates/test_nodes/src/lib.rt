@@ -1,4 +1,4 @@
-//! Tests alone: nodes by themselves, what they wait for, and runs of several nodes by lists of events.
+//! Tests of single nodes, of what they wait for, and of runs of several nodes along lists of events.
 #![tactic(auto)]
 
 #[cfg(test)]

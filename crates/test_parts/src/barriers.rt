@@ -59,7 +59,8 @@ fn pages_of(alloc: Global, named: bool) -> Result<Pages, AllocError> {
 fn newest(alloc: Global, from: u8, time: &Time, writes: bool) -> Result<Intervals, AllocError>
     requires { from < length time.now }
     ensures own { IfOk result (λ intervals. All (λ interval. interval.node ≡ from) intervals) }
-    ensures stamps { IfOk result (λ intervals. All (λ interval. length interval.stamp ≡ length time.now) intervals) }
+    ensures stamps { IfOk result (λ intervals.
+        All (λ interval. length interval.stamp ≡ length time.now) intervals) }
 {
     let mut intervals = Intervals::empty(alloc);
     if time.at(from) >= 1 {

@@ -57,7 +57,8 @@ fn repairs_a_page()
     ensures sound { IsPageSound four_page 2 four }
     ensures since { IsCut four_stamps four (0 ∷ 0 ∷ 1 ∷ []) }
     ensures upto { IsCut four_stamps four (4 ∷ 2 ∷ 1 ∷ []) }
-    ensures lacking { AreLacking four_stamps four_wrote 2 four (0 ∷ 0 ∷ 1 ∷ []) (4 ∷ 2 ∷ 1 ∷ []) (0 ∷ 2 ∷ 3 ∷ []) }
+    ensures lacking { AreLacking four_stamps four_wrote 2 four (0 ∷ 0 ∷ 1 ∷ []) (4 ∷ 2 ∷ 1 ∷ [])
+        (0 ∷ 2 ∷ 3 ∷ []) }
     ensures before { PageFits four_page (0 ∷ 7 ∷ []) (covered four_stamps (0 ∷ 0 ∷ 1 ∷ []) four) }
     ensures changes { fold applied (0 ∷ 7 ∷ []) (map four_changes (0 ∷ 2 ∷ 3 ∷ [])) ≡ 9 ∷ 7 ∷ [] }
     ensures after { PageFits four_page (9 ∷ 7 ∷ []) (covered four_stamps (4 ∷ 2 ∷ 1 ∷ []) four) }
@@ -65,6 +66,7 @@ fn repairs_a_page()
 
 // A read of a run with these intervals: what the laws ask for can be met, and the read may give what the repair made.
 fn reads_a_repaired_page()
-    ensures lists { ListsWrites four_run 11 2 0 four_stamps (λ a. four_wrote a 0) (4 ∷ 2 ∷ 1 ∷ []) four }
+    ensures lists { ListsWrites four_run 11 2 0 four_stamps (λ a. four_wrote a 0)
+        (4 ∷ 2 ∷ 1 ∷ []) four }
     ensures may_read { MayRead four_run 11 0 9 }
 {}

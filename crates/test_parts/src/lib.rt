@@ -1,4 +1,4 @@
-//! Tests alone: the parts from vector times to messages, by worked values.
+//! Tests of the parts of the protocol, from vector times to messages, with worked values.
 #![tactic(auto)]
 
 #[cfg(test)]

@@ -55,7 +55,8 @@ fn are_between(
 
 /// The changes of `written_twice`, by hand.
 fn two_changes(alloc: Global) -> Result<Changes, AllocError>
-    ensures { IfOk result (λ changes. changes ≡ record { offset = 2; value = 3 } ∷ record { offset = 63; value = 1 } ∷ []) }
+    ensures { IfOk result (λ changes. changes
+        ≡ record { offset = 2; value = 3 } ∷ record { offset = 63; value = 1 } ∷ []) }
 {
     let mut changes = Changes::empty(alloc);
     changes.push(2, 3)?;

@@ -10,7 +10,8 @@ ghost use Rattle.test_parts.specs.Protocol.{uncollected_run, late_repeat_run, wo
 
 /// After a barrier each node reads what was written before it. The departure brings a node what its arrival lacked.
 fn a_barrier_brings_what_was_written()
-    ensures reads { deeds_by 2 barrier_run ≡ Some (Quiet ∷ Arrive ∷ Depart ∷ Read 0 7 ∷ Print 7 ∷ End ∷ []) }
+    ensures reads { deeds_by 2 barrier_run ≡ Some
+        (Quiet ∷ Arrive ∷ Depart ∷ Read 0 7 ∷ Print 7 ∷ End ∷ []) }
     ensures messages { sent 0 1 barrier_run ≡ Some (
         message.Depart (record {
           episode = 1;
@@ -39,14 +40,17 @@ fn a_late_grant_carries_the_time_of_the_release()
 /// A message delivered twice makes the same run.
 fn repeats_make_the_same_run()
     ensures { deeds repeated_run ≡ Some (
-        (0, Quiet) ∷ (0, Acquire 0) ∷ (0, Write 0 1) ∷ (0, Release 0) ∷ (0, Write 1 2) ∷ (1, Quiet) ∷ (1, Acquire 0)
-        ∷ (1, Read 0 1) ∷ (1, Read 1 0) ∷ (1, Release 0) ∷ (1, Print 0) ∷ (1, End) ∷ (0, End) ∷ []) }
+        (0, Quiet) ∷ (0, Acquire 0) ∷ (0, Write 0 1) ∷ (0, Release 0) ∷ (0, Write 1 2) ∷ (1, Quiet)
+        ∷ (1, Acquire 0)
+        ∷ (1, Read 0 1) ∷ (1, Read 1 0) ∷ (1, Release 0) ∷ (1, Print 0) ∷ (1, End) ∷ (0, End)
+        ∷ []) }
 {}
 
 /// A grant that is repeated once the lock is elsewhere is not taken for a new one.
 fn a_late_repeat_is_no_grant()
     ensures { deeds_by 1 late_repeat_run ≡ Some (
-        Quiet ∷ Acquire 0 ∷ Read 0 0 ∷ Write 0 1 ∷ Release 0 ∷ Quiet ∷ Acquire 0 ∷ Read 0 2 ∷ Release 0 ∷ Print 2 ∷ End ∷ []) }
+        Quiet ∷ Acquire 0 ∷ Read 0 0 ∷ Write 0 1 ∷ Release 0 ∷ Quiet ∷ Acquire 0 ∷ Read 0 2
+        ∷ Release 0 ∷ Print 2 ∷ End ∷ []) }
 {}
 
 /// A third node is granted what the second learned of the first.
@@ -92,17 +96,22 @@ fn changes_are_applied_by_weight()
         ∷ (key 2 1 ∷ key 1 2 ∷ key 0 3 ∷ [])
         ∷ []) }
     ensures reads { deeds_by 3 repair_run ≡ Some (
-        Quiet ∷ Arrive ∷ Depart ∷ Quiet ∷ Arrive ∷ Depart ∷ Quiet ∷ Arrive ∷ Depart ∷ Read 0 10 ∷ Print 10 ∷ End ∷ []) }
+        Quiet ∷ Arrive ∷ Depart ∷ Quiet ∷ Arrive ∷ Depart ∷ Quiet ∷ Arrive ∷ Depart ∷ Read 0 10
+        ∷ Print 10 ∷ End ∷ []) }
 {}
 
 /// At a collection the keeper fetches what its copy lacks, and keeps a base copy; other copies become absent, and all
 /// intervals are dropped. Later misses are met from the base copy and the changes since.
 fn a_collection_leaves_the_keeper_a_base_copy()
-    ensures intervals { of_nodes (λ node. length node.memory.store.entries) collected_run ≡ Some (0 ∷ 0 ∷ 0 ∷ []) }
-    ensures keepers { of_nodes (λ node. node.memory.keepers) collected_run ≡ Some ((1 ∷ []) ∷ (1 ∷ []) ∷ (1 ∷ []) ∷ []) }
-    ensures readable { of_nodes (λ node. is_readable (copy_at node.memory 0)) collected_run ≡ Some (false ∷ true ∷ false ∷ []) }
+    ensures intervals { of_nodes (λ node. length node.memory.store.entries) collected_run
+        ≡ Some (0 ∷ 0 ∷ 0 ∷ []) }
+    ensures keepers { of_nodes (λ node. node.memory.keepers) collected_run
+        ≡ Some ((1 ∷ []) ∷ (1 ∷ []) ∷ (1 ∷ []) ∷ []) }
+    ensures readable { of_nodes (λ node. is_readable (copy_at node.memory 0)) collected_run
+        ≡ Some (false ∷ true ∷ false ∷ []) }
     ensures reads { deeds_by 2 collecting_run ≡ Some (
-        Quiet ∷ Quiet ∷ Write 2 8 ∷ Arrive ∷ Depart ∷ Quiet ∷ Arrive ∷ Depart ∷ Read 0 4 ∷ Read 1 6 ∷ Read 2 8 ∷ Print 8 ∷ End ∷ []) }
+        Quiet ∷ Quiet ∷ Write 2 8 ∷ Arrive ∷ Depart ∷ Quiet ∷ Arrive ∷ Depart ∷ Read 0 4 ∷ Read 1 6
+        ∷ Read 2 8 ∷ Print 8 ∷ End ∷ []) }
 {}
 
 /// With a collection one barrier costs six messages more for three nodes, and two misses on absent pages the same as two

@@ -38,7 +38,8 @@ fn settles(
     wanted: Option<(usize, u8, u64)>,
 ) -> Result<bool, AllocError>
     requires { page < length table.old.copies }
-    ensures { OnOk result (table.new ≡ with_copy table.old page (settled (copy_at table.old page))) }
+    ensures { OnOk result (table.new ≡ with_copy table.old page
+        (settled (copy_at table.old page))) }
 {
     let changes = table.settle(page)?;
     Ok(summary(changes) == wanted)

@@ -1,4 +1,4 @@
-//! Tests alone: pictures of runs, as they are drawn.
+//! Tests of pictures of runs as they are drawn.
 #![tactic(auto)]
 
 #[cfg(test)]

@@ -1,4 +1,4 @@
-//! Tests alone: mailboxes and the post between threads.
+//! Tests of mailboxes and of the post between threads.
 #![tactic(auto)]
 
 #[cfg(test)]

@@ -4,11 +4,11 @@ ghost use Rattle.std.specs.Prelude.{◌<◌, ◌↔◌, All, IsTrue};
 
 use crate::acts::{push_each, run_of};
 use crate::checks::holds;
+use lrc_clock::times::times_of_acts;
 use lrc_judge::are_in_range;
 use lrc_judge::order::{Order, happens_before};
 use lrc_judge::synchronization::first_fault_of_synchronization;
 use lrc_time::Time;
-use lrc_timed::times::times_of_acts;
 use lrc_trace::act::{Act, Deed};
 use std::alloc::{AllocError, Global};
 

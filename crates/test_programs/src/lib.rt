@@ -1,4 +1,4 @@
-//! Tests alone: texts and their programs, their acts, and what is said of acts: their order, times and races.
+//! Tests of texts and their programs, of the acts of the programs, and of the acts' order, times and races.
 #![tactic(auto)]
 
 #[cfg(test)]

@@ -1,4 +1,5 @@
-//! Tests alone: lines of traces, numbers of names, pairs that are told of traces, and their groups and first faults.
+//! Tests of traces: their lines, the numbering of their names, the racing pairs reported for them, and the groups and
+//! first faults.
 #![tactic(auto)]
 
 #[cfg(test)]

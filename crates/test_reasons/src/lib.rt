@@ -1,4 +1,4 @@
-//! Tests alone: runs of a few acts, and what is told in them: chains, what is known and held, what a read gives, and the reasons of acts.
+//! Tests of the reasons for acts in short runs: chains, what is known and held, and what a read gives.
 #![tactic(auto)]
 
 #[cfg(test)]

@@ -1,4 +1,4 @@
-//! Tests alone: runs of nodes on threads, and the weave of their turns.
+//! Tests of runs of nodes on threads, and of the weave of their turns.
 #![tactic(auto)]
 
 #[cfg(test)]

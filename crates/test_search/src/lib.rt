@@ -1,4 +1,4 @@
-//! Tests alone: the search through settled states.
+//! Tests of the search through settled states.
 #![tactic(auto)]
 
 #[cfg(test)]

@@ -1,5 +1,5 @@
-//! Tests alone: the lines of the turns of runs, with the states of their nodes. What is wanted stands in worked cases, made by another
-//! program.
+//! Tests of the lines about the turns of runs, with the states of their nodes. The expected lines are worked cases that
+//! another program made.
 #![tactic(auto)]
 
 #[cfg(test)]

@@ -1,4 +1,4 @@
-//! Tests alone: the times of a run's acts. Its counts are played by `test_examples`.
+//! Tests of the times of a run's acts. The crate `test_examples` tests its counts.
 #![tactic(auto)]
 
 #[cfg(test)]

@@ -1,7 +1,7 @@
 // The times of acts.
 
+use lrc_clock::times::times_of_acts;
 use lrc_time::Time;
-use lrc_timed::times::times_of_acts;
 use lrc_trace::act::{Act, Deed};
 use std::alloc::Global;
 

@@ -1,4 +1,4 @@
-//! Tests alone: what a run did, as texts, and events that are written and read.
+//! Tests of texts about runs: what a run did, and events that are written and read back.
 #![tactic(auto)]
 
 #[cfg(test)]

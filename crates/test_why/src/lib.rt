@@ -1,4 +1,4 @@
-//! Tests alone: what `why` prints of acts of runs.
+//! Tests of what `why` prints about acts of runs.
 #![tactic(auto)]
 
 #[cfg(test)]

@@ -1,4 +1,4 @@
-//! The program `treadmarks`: hands its arguments, the files of the system and both outputs to the library `lrc_shell`.
+//! The program `treadmarks`. It passes its arguments, the system's files and both outputs to the library `lrc_shell`.
 #![tactic(auto)]
 
 use lrc_shell::{LateLine, System, start};
@@ -15,7 +15,7 @@ fn main(rt: HostRuntime) -> ExitCode {
     ExitCode::from(start(&rt, arguments(&rt), &files, late, &mut out, &mut err))
 }
 
-/// The program's name, and the words that follow it.
+/// Returns the program's arguments: its name, and the words that follow.
 fn arguments(rt: &(impl Env + AllocGlobal)) -> io::Result<Vec<String>> {
     Ok(env::args(rt)?.collect(rt.alloc())?)
 }

@@ -31,23 +31,24 @@ fn with_entry(time: &Time, node: u8, entry: u32) -> Time
 }
 
 impl NodeState<'_> {
-    /// Whether so many intervals are stored that the node asks for a collection.
+    /// Returns whether the node stores so many intervals that it asks for a collection.
     pub(crate) fn asks_for_collection(&self) -> bool
         ensures { result ≡ asks_for_collection self.now }
     {
         1 <= self.options.collect && self.options.collect as usize <= self.memory.len()
     }
 
-    /// The node's own intervals that it has not sent with an arrival.
+    /// Returns the node's own intervals that it has not sent with an arrival.
     pub(crate) fn own_news(&self) -> Result<Intervals, AllocError>
         ensures news { IfOk result (λ news. news ≡ own_news self.now) }
-        ensures stamps { IfOk result (λ news. All (λ i. length i.stamp ≡ length self.now.locks.time) news) }
+        ensures stamps { IfOk result (λ news. All
+            (λ i. length i.stamp ≡ length self.now.locks.time) news) }
     {
         let since = with_entry(self.clock.time(), self.me, self.barrier.sent());
         self.memory.newer(&since, self.clock.time())
     }
 
-    /// Arrives at the barrier: tells its manager, and waits for the departure.
+    /// Arrives at the barrier: sends the arrival to the manager, and waits for the departure.
     pub(crate) fn arrive(&mut self) -> Result<Effect, AllocError>
         requires next { asked_in self.old.course ≡ Some Barrier }
         requires episode { self.old.barrier.episode < MOST_NUMBER }

@@ -48,10 +48,12 @@ fn departs(alloc: Global, nodes: u8, departures: Departures) -> Result<Vec<Lette
 }
 
 impl NodeState<'_> {
-    /// Whether an arrival is expected: the manager is here and accepts it, with its sender's own intervals.
+    /// Returns whether an arrival is expected: the manager is here and accepts it, and it brings its sender's own
+    /// intervals.
     pub(crate) fn expects_arrival(&self, from: u8, m: &Arrive) -> bool
         requires { from < self.now.setting.nodes }
-        ensures { result ≡ (unwrap_or (option_map is_accepted (arrive_step self.now.barrier from (arrival_in m.now))) false
+        ensures { result ≡ (unwrap_or (option_map is_accepted
+            (arrive_step self.now.barrier from (arrival_in m.now))) false
             && are_arriving self.now from m.now.time m.now.intervals) }
     {
         self.barrier.accepts(from, m.episode) && self.are_arriving(from, &m.news)
@@ -69,12 +71,15 @@ impl NodeState<'_> {
         are_between(news.intervals.as_slice(), from, last, news.time.at(from))
     }
 
-    /// A node has arrived. With the last one each node is told to depart.
+    /// Takes a node's arrival. With the last one, every node is told to depart.
     pub(crate) fn take_arrival(&mut self, from: u8, arrive: &Arrive) -> Result<Effect, AllocError>
         requires from { from < self.old.setting.nodes }
-        requires accepted { IsTrue (unwrap_or (option_map is_accepted (arrive_step self.old.barrier from (arrival_in arrive.now))) false) }
+        requires accepted { IsTrue (unwrap_or (option_map is_accepted
+            (arrive_step self.old.barrier from (arrival_in arrive.now))) false) }
         requires own { IsArrival self.old.setting.nodes from (arrival_in arrive.now) }
-        ensures effect { IfOk result (λ effect. option_and_then (arrive_by self.old) (arrive_step self.old.barrier from (arrival_in arrive.now)) ≡ Some (seen_effect effect self.new)) }
+        ensures effect { IfOk result (λ effect. option_and_then (arrive_by self.old)
+            (arrive_step self.old.barrier from (arrival_in arrive.now))
+            ≡ Some (seen_effect effect self.new)) }
         ensures to { IfOk result (λ effect. AreFor self.new.setting.nodes effect.letters.items) }
     {
         let arrival = Arrival {
@@ -90,8 +95,8 @@ impl NodeState<'_> {
         Ok(Effect::sending(letters))
     }
 
-    /// Whether a departure is expected: it is from node 0, for the episode from which the node awaits to depart; its time
-    /// covers the node's, and the node can learn the news.
+    /// Returns whether a departure is expected. It must be from node 0, for the episode from which the node awaits to
+    /// depart. Its time must cover the node's time, and the node must be able to learn the news.
     pub(crate) fn expects_departure(&self, from: u8, m: &Depart) -> bool
         ensures { result ≡ expects_departure self.now from m.now }
     {
@@ -103,7 +108,7 @@ impl NodeState<'_> {
             && self.can_learn(&m.news)
     }
 
-    /// A departure brings news, and the depart is made, or first a collection.
+    /// Takes a departure with its news. The node then makes the depart, or first begins a collection.
     pub(crate) fn take_departure(
         &mut self,
         collect: bool,
@@ -113,7 +118,8 @@ impl NodeState<'_> {
         requires counted { length news.now.time ≡ self.old.setting.nodes }
         requires intervals { CanBeAdded self.old.memory.store news.now.intervals }
         requires can { CanCollect (learns news.now.time news.now.intervals self.old) }
-        ensures effect { IfOk result (λ effect. take_departure self.old collect news.now.time news.now.intervals ≡ seen_effect effect self.new) }
+        ensures effect { IfOk result (λ effect. take_departure self.old collect news.now.time
+            news.now.intervals ≡ seen_effect effect self.new) }
         ensures to { IfOk result (λ effect. AreFor self.new.setting.nodes effect.letters.items) }
     {
         self.learn(news)?;
@@ -125,7 +131,8 @@ impl NodeState<'_> {
         requires next { asked_in self.old.course ≡ Some Barrier }
         requires can { CanCollect self.old }
         ensures effect { IfOk result (λ effect.
-            (if collect then collects time.now self.old else acts [] (waiting nothing self.old)) ≡ seen_effect effect self.new) }
+            (if collect then collects time.now self.old else acts [] (waiting nothing self.old))
+            ≡ seen_effect effect self.new) }
         ensures to { IfOk result (λ effect. AreFor self.new.setting.nodes effect.letters.items) }
     {
         if collect {

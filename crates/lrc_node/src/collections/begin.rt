@@ -20,7 +20,8 @@ use std::alloc::{AllocError, Global};
 // What those of these pages need that may not be read.
 fn unread_needs(alloc: Global, memory: &Memory, pages: &[u16]) -> Result<Vec<Need>, AllocError>
     requires { All (λ page. page < length memory.now.memory.copies) pages.now }
-    ensures { IfOk result (λ needs. needs.items ≡ map (need_of (length memory.now.memory.store.last) memory.now.memory)
+    ensures { IfOk result (λ needs. needs.items
+        ≡ map (need_of (length memory.now.memory.store.last) memory.now.memory)
         (filter (λ page. not (is_readable (copy_at memory.now.memory page))) pages.now)) }
 {
     let mut needs = Vec::new(alloc);
@@ -58,7 +59,8 @@ impl NodeState<'_> {
     /// Begins a collection up to this time.
     pub(crate) fn collects(&mut self, time: &Time) -> Result<Effect, AllocError>
         requires { CanCollect self.old }
-        ensures effect { IfOk result (λ effect. collects time.now self.old ≡ seen_effect effect self.new) }
+        ensures effect { IfOk result (λ effect. collects time.now self.old
+            ≡ seen_effect effect self.new) }
         ensures to { IfOk result (λ effect. AreFor self.new.setting.nodes effect.letters.items) }
     {
         self.take_keepers();

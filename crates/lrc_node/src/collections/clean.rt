@@ -30,7 +30,8 @@ fn are_met(needs: &[Need]) -> bool
 fn mend_all(memory: &mut Memory, needs: &[Need])
     requires apart { AllPairs (λ a b. a.page ≢ b.page) needs.now }
     requires can { All (CanMend memory.old.size memory.old.memory) needs.now }
-    ensures mended { memory.new ≡ with_known memory.old (fold repaired memory.old.memory needs.now) }
+    ensures mended { memory.new ≡ with_known memory.old
+        (fold repaired memory.old.memory needs.now) }
     ensures same { SameMemory memory.old memory.new }
 {
     for need in needs {
@@ -41,7 +42,8 @@ fn mend_all(memory: &mut Memory, needs: &[Need])
 // Keeps base copies of these pages.
 fn keep_all(memory: &mut Memory, pages: &[u16]) -> Result<(), AllocError>
     requires { All (CanKeep memory.old.memory) pages.now }
-    ensures kept { OnOk result (memory.new ≡ with_known memory.old (fold with_base memory.old.memory pages.now)) }
+    ensures kept { OnOk result (memory.new ≡ with_known memory.old
+        (fold with_base memory.old.memory pages.now)) }
     ensures same { SameMemory memory.old memory.new }
 {
     for page in pages {
@@ -55,7 +57,8 @@ impl NodeState<'_> {
     // copies are clean, and waits for the word to discard.
     fn clean(&mut self, collection: Collection, needs: &[Need]) -> Result<Effect, AllocError>
         requires { CanClean self.old collection.kept needs.now }
-        ensures effect { IfOk result (λ effect. cleans self.old collection needs.now ≡ seen_effect effect self.new) }
+        ensures effect { IfOk result (λ effect. cleans self.old collection needs.now
+            ≡ seen_effect effect self.new) }
         ensures to { IfOk result (λ effect. AreFor self.new.setting.nodes effect.letters.items) }
     {
         mend_all(&mut self.memory, needs);
@@ -66,8 +69,8 @@ impl NodeState<'_> {
         Ok(Effect::sending(letters))
     }
 
-    /// Sends the requests for the pages that the node keeps in a collection and waits; or where all has come its copies are
-    /// clean.
+    /// Sends the requests for the pages that the node keeps in a collection, and waits. If everything has arrived, its
+    /// copies are clean.
     pub(crate) fn keep_up(
         &mut self,
         collection: Collection,
@@ -76,7 +79,8 @@ impl NodeState<'_> {
     ) -> Result<Effect, AllocError>
         requires can { CanGoOn self.old (upkeep collection needs.items) }
         requires to { AreFor self.old.setting.nodes letters.items }
-        ensures effect { IfOk result (λ effect. keeps_up letters.items self.old collection needs.items ≡ seen_effect effect self.new) }
+        ensures effect { IfOk result (λ effect. keeps_up letters.items self.old collection
+            needs.items ≡ seen_effect effect self.new) }
         ensures to { IfOk result (λ effect. AreFor self.new.setting.nodes effect.letters.items) }
     {
         if are_met(&needs) {
@@ -86,14 +90,15 @@ impl NodeState<'_> {
         Ok(Effect::sending(letters))
     }
 
-    /// Goes on with a collection, after something came for the pages that the node keeps.
+    /// Continues a collection after something has arrived for the pages that the node keeps.
     pub(crate) fn go_on_keeping(
         &mut self,
         collection: Collection,
         needs: Vec<Need>,
     ) -> Result<Effect, AllocError>
         requires { CanGoOn self.old (upkeep collection needs.items) }
-        ensures effect { IfOk result (λ effect. keeps_up [] self.old collection needs.items ≡ seen_effect effect self.new) }
+        ensures effect { IfOk result (λ effect. keeps_up [] self.old collection needs.items
+            ≡ seen_effect effect self.new) }
         ensures to { IfOk result (λ effect. AreFor self.new.setting.nodes effect.letters.items) }
     {
         let letters = Vec::new(self.alloc);

@@ -25,7 +25,8 @@ use std::alloc::{AllocError, Global};
 // One word to discard for each node.
 fn discards(alloc: Global, nodes: u8, episode: u32) -> Result<Vec<Letter>, AllocError>
     requires { 1 ≤ episode }
-    ensures letters { IfOk result (λ letters. letters.items ≡ discards_to (range_with_len 0 nodes) episode) }
+    ensures letters { IfOk result (λ letters. letters.items
+        ≡ discards_to (range_with_len 0 nodes) episode) }
     ensures to { IfOk result (λ letters. AreFor nodes letters.items) }
 {
     let mut letters = Vec::new(alloc);
@@ -37,20 +38,23 @@ fn discards(alloc: Global, nodes: u8, episode: u32) -> Result<Vec<Letter>, Alloc
 }
 
 impl NodeState<'_> {
-    /// Whether a Clean is expected: the manager is here and accepts it.
+    /// Returns whether a Clean is expected: the manager is here and accepts it.
     pub(crate) fn expects_clean(&self, from: u8, m: &Clean) -> bool
         requires { from < self.now.setting.nodes }
-        ensures { result ≡ unwrap_or (option_map is_clean (clean_step self.now.barrier from m.now)) false }
+        ensures { result ≡ unwrap_or (option_map is_clean (clean_step self.now.barrier from m.now))
+            false }
     {
         self.barrier.accepts_clean(from, m.episode)
     }
 
-    /// A node's copies are clean. With the last Clean each node is told to discard.
+    /// Takes a Clean: the copies of its sender are clean. With the last Clean, every node is told to discard.
     pub(crate) fn take_clean(&mut self, from: u8, episode: u32) -> Result<Effect, AllocError>
         requires from { from < self.old.setting.nodes }
-        requires accepted { IsTrue (unwrap_or (option_map is_clean (clean_step self.old.barrier from episode)) false) }
+        requires accepted { IsTrue (unwrap_or (option_map is_clean
+            (clean_step self.old.barrier from episode)) false) }
         requires episode { 1 ≤ episode }
-        ensures effect { IfOk result (λ effect. option_and_then (clean_by self.old) (clean_step self.old.barrier from episode) ≡ Some (seen_effect effect self.new)) }
+        ensures effect { IfOk result (λ effect. option_and_then (clean_by self.old)
+            (clean_step self.old.barrier from episode) ≡ Some (seen_effect effect self.new)) }
         ensures to { IfOk result (λ effect. AreFor self.new.setting.nodes effect.letters.items) }
     {
         let letters = match self.barrier.take_clean(from, episode) {
@@ -60,22 +64,26 @@ impl NodeState<'_> {
         Ok(Effect::sending(letters))
     }
 
-    /// Whether the word to discard is expected: it is from node 0, for the collection for which this node has sent its Clean.
+    /// Returns whether the message to discard is expected. It must be from node 0, for the collection for which this
+    /// node has sent its Clean.
     pub(crate) fn expects_discard(&self, from: u8, m: &Discard) -> bool
-        ensures { result ≡ ((from == 0) && awaits_discard self.now.mail.wait && (m.now == self.now.barrier.episode)) }
+        ensures { result ≡ ((from == 0) && awaits_discard self.now.mail.wait
+            && (m.now == self.now.barrier.episode)) }
     {
         from == 0 && self.mail.wait().awaits_discard() && m.episode == self.barrier.episode()
     }
 
-    /// The collection is done: the node drops what it covers, and the depart is made.
+    /// Ends the collection: the node drops what the collection covers, and makes the depart.
     pub(crate) fn take_discard(&mut self) -> Result<Effect, AllocError>
         requires next { asked_in self.old.course ≡ Some Barrier }
         requires waits { IsTrue (awaits_discard self.old.mail.wait) }
         requires closed { NoneIsWritten self.old.memory }
         requires time { (collection : CollectionRecord) → self.old.mail.wait ≡ discard collection
             → (length collection.time ≡ self.old.setting.nodes)
-            × (entry self.old.memory.store.last self.old.setting.me ≤ entry collection.time self.old.setting.me) }
-        ensures effect { IfOk result (λ effect. discard_by self.old (collection_of self.old.mail.wait) ≡ Some (seen_effect effect self.new)) }
+            × (entry self.old.memory.store.last self.old.setting.me
+            ≤ entry collection.time self.old.setting.me) }
+        ensures effect { IfOk result (λ effect. discard_by self.old
+            (collection_of self.old.mail.wait) ≡ Some (seen_effect effect self.new)) }
         ensures to { IfOk result (λ effect. AreFor self.new.setting.nodes effect.letters.items) }
     {
         let Wait::Discard(collection) = self.mail.stop_waiting() else {

@@ -10,7 +10,7 @@ use lrc_envelope::News;
 use std::alloc::AllocError;
 
 impl NodeState<'_> {
-    /// Whether a time and intervals are in range, and the time covers each stamp.
+    /// Returns whether the time and the intervals are in range, and the time covers each stamp.
     pub(crate) fn fits(&self, news: &News) -> bool
         ensures { result ≡ is_news_in_range self.now news.now.time news.now.intervals }
     {
@@ -22,7 +22,7 @@ impl NodeState<'_> {
         )
     }
 
-    /// Whether the node can learn the news.
+    /// Returns whether the node can learn the news.
     pub(crate) fn can_learn(&self, news: &News) -> bool
         ensures { result ≡ is_learnable self.now news.now.time news.now.intervals }
     {
@@ -35,7 +35,8 @@ impl NodeState<'_> {
             )
     }
 
-    /// The node learns news: intervals are stored, the pages that they name become invalid, and the times are joined.
+    /// Learns the news: stores the intervals, makes the valid copies of the pages that they name invalid, and joins the
+    /// times.
     pub(crate) fn learn(&mut self, news: &News) -> Result<(), AllocError>
         requires counted { length news.now.time ≡ self.old.setting.nodes }
         requires intervals { CanBeAdded self.old.memory.store news.now.intervals }

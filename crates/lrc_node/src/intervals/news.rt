@@ -27,11 +27,12 @@ fn reached(known: &Time, intervals: &[Interval]) -> Option<Time>
     Some(reached)
 }
 
-/// Whether for each node the intervals are exactly those above the first time's entry and up to the second's.
+/// Returns whether, for each node, the intervals are exactly those above the first time's entry and up to the second's.
 pub(crate) fn lead(known: &Time, time: &Time, intervals: &[Interval]) -> bool
     requires counted { length time.now ≡ length known.now }
     requires nodes { All (λ interval. interval.node < length known.now) intervals.now }
-    ensures { result ≡ list_all (λ q. are_between intervals.now q (entry known.now q) (entry time.now q)) (range_with_len 0 (length known.now)) }
+    ensures { result ≡ list_all (λ q. are_between intervals.now q (entry known.now q)
+        (entry time.now q)) (range_with_len 0 (length known.now)) }
 {
     let Some(reached) = reached(known, intervals) else {
         return false;
@@ -41,7 +42,7 @@ pub(crate) fn lead(known: &Time, time: &Time, intervals: &[Interval]) -> bool
     reached == all
 }
 
-/// Whether the intervals of a node are exactly those above this index and up to that one.
+/// Returns whether the intervals of a node are exactly those above index `above` and up to index `upto`.
 pub(crate) fn are_between(intervals: &[Interval], node: u8, above: u32, upto: u32) -> bool
     ensures { result ≡ are_between intervals.now node above upto }
 {

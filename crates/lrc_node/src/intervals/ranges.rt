@@ -9,7 +9,7 @@ use super::news::lead;
 use lrc_store::Interval;
 use lrc_time::Time;
 
-/// Whether a time knows all that another one knows, of as many nodes.
+/// Returns whether a time knows everything that another time of as many nodes knows.
 pub(crate) fn covers(time: &Time, other: &Time) -> bool
     requires { length time.now ≡ length other.now }
     ensures { result ≡ covers time.now other.now }
@@ -55,14 +55,15 @@ fn all_covered(time: &Time, intervals: &[Interval]) -> bool
     true
 }
 
-/// Whether a time and intervals are in range, and the time covers each stamp.
+/// Returns whether the time and the intervals are in range, and the time covers each stamp.
 pub(crate) fn fits(nodes: u8, pages: u16, time: &Time, intervals: &[Interval]) -> bool
     ensures { result ≡ fits nodes pages time.now intervals.now }
 {
     time.nodes() == nodes && are_in_range(nodes, pages, intervals) && all_covered(time, intervals)
 }
 
-/// Whether intervals in range lead from one time to the other, which knows no more of this node than the first.
+/// Returns whether the intervals, which are in range, lead from the known time to the other one. The other time must
+/// know no more of this node than the known time does.
 pub(crate) fn leads(me: u8, known: &Time, time: &Time, intervals: &[Interval]) -> bool
     requires here { me < length known.now }
     requires counted { length time.now ≡ length known.now }
@@ -72,7 +73,7 @@ pub(crate) fn leads(me: u8, known: &Time, time: &Time, intervals: &[Interval]) -
     lead(known, time, intervals) && time.at(me) <= known.at(me)
 }
 
-/// Whether all intervals are of this node.
+/// Returns whether all intervals are of this node.
 pub(crate) fn are_of(node: u8, intervals: &[Interval]) -> bool
     ensures { result ≡ list_all (λ interval. interval.node == node) intervals.now }
 {

@@ -15,12 +15,14 @@ use lrc_need::Wait;
 use std::alloc::AllocError;
 
 impl NodeState<'_> {
-    /// Takes a free lock whose token is here; else asks its manager, and waits.
+    /// Takes a lock that is free and whose token is here. Otherwise it asks the lock's manager, and waits.
     pub(crate) fn acquire(&mut self, lock: u8) -> Result<Effect, AllocError>
         requires lock { lock < length self.old.locks.held.locks }
         requires next { asked_in self.old.course ≡ Some (Acquire lock) }
-        requires away { is_free (lock_at self.old.locks.held lock) ≡ false → lock_at self.old.locks.held lock ≡ Away }
-        ensures effect { IfOk result (λ effect. acquire_at lock self.old ≡ seen_effect effect self.new) }
+        requires away { is_free (lock_at self.old.locks.held lock) ≡ false
+            → lock_at self.old.locks.held lock ≡ Away }
+        ensures effect { IfOk result (λ effect. acquire_at lock self.old
+            ≡ seen_effect effect self.new) }
         ensures to { IfOk result (λ effect. AreFor self.new.setting.nodes effect.letters.items) }
     {
         if self.clock.try_local(lock) {
@@ -34,12 +36,13 @@ impl NodeState<'_> {
         Ok(Effect::sending(letters))
     }
 
-    /// Releases a lock that the node holds, and grants it to the successor.
+    /// Releases a lock that the node holds, and grants it to the successor, if there is one.
     pub(crate) fn release(&mut self, lock: u8) -> Result<Effect, AllocError>
         requires lock { lock < length self.old.locks.held.locks }
         requires next { asked_in self.old.course ≡ Some (Release lock) }
         requires held { IsTrue (is_held (lock_at self.old.locks.held lock)) }
-        ensures effect { IfOk result (λ effect. release_at lock self.old ≡ seen_effect effect self.new) }
+        ensures effect { IfOk result (λ effect. release_at lock self.old
+            ≡ seen_effect effect self.new) }
         ensures to { IfOk result (λ effect. AreFor self.new.setting.nodes effect.letters.items) }
     {
         let pass = self.clock.release(lock);

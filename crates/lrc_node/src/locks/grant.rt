@@ -13,7 +13,7 @@ use lrc_mail::Letter;
 use std::alloc::AllocError;
 
 impl NodeState<'_> {
-    /// The grant of a pass, if there is one.
+    /// Returns the grant of a pass, if there is one.
     pub(crate) fn grants(&mut self, pass: Option<Pass>) -> Result<Vec<Letter>, AllocError>
         requires pass { IfSome pass (IsPass self.old.setting.me self.old.setting.nodes) }
         requires lock { IfSome pass (λ pass. pass.lock < MOST_LOCKS) }

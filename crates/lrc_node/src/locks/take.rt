@@ -17,14 +17,14 @@ use lrc_need::Wait;
 use std::alloc::AllocError;
 
 impl NodeState<'_> {
-    /// Whether a request of a lock is expected: this node manages it.
+    /// Returns whether a request for a lock is expected: this node manages the lock.
     pub(crate) fn expects_request(&self, m: &LockRequest) -> bool
         ensures { result ≡ expects_request self.now m.now }
     {
         m.lock < self.locks && m.time.nodes() == self.nodes && m.lock % self.nodes == self.me
     }
 
-    /// A node asks for a lock that this one manages: its request goes on to who asked last.
+    /// Takes a request for a lock that this node manages, and forwards it to the last node to ask for the lock.
     pub(crate) fn take_request(
         &mut self,
         from: u8,
@@ -32,8 +32,10 @@ impl NodeState<'_> {
     ) -> Result<Effect, AllocError>
         requires from { from < self.old.setting.nodes }
         requires lock { request.now.lock < self.old.setting.locks }
-        requires managed { manager_of self.old.locks.managed.nodes request.now.lock ≡ self.old.locks.managed.me }
-        ensures effect { IfOk result (λ effect. passes_on self.old from request.now ≡ seen_effect effect self.new) }
+        requires managed { manager_of self.old.locks.managed.nodes request.now.lock
+            ≡ self.old.locks.managed.me }
+        ensures effect { IfOk result (λ effect. passes_on self.old from request.now
+            ≡ seen_effect effect self.new) }
         ensures to { IfOk result (λ effect. AreFor self.new.setting.nodes effect.letters.items) }
     {
         let lock = request.lock;
@@ -47,8 +49,8 @@ impl NodeState<'_> {
         Ok(Effect::sending(letters))
     }
 
-    /// Whether a forwarded request is expected: its sender manages the lock, and the token is here or awaited, with no
-    /// successor yet.
+    /// Returns whether a forwarded request is expected: its sender manages the lock, its asker is another node, and the
+    /// token is here or awaited, with no successor yet.
     pub(crate) fn expects_forward(&self, from: u8, m: &LockForward) -> bool
         ensures { result ≡ (expects_forward self.now from m.now
             && is_taken (forwarded self.now.locks.held m.now.lock m.now.asker m.now.time)) }
@@ -60,14 +62,16 @@ impl NodeState<'_> {
             && self.clock.accepts(m.lock, m.asker)
     }
 
-    /// A request is forwarded to this node: it is granted at once, or its asker is kept as successor.
+    /// Takes a request that was forwarded to this node. It grants the lock at once, or keeps the asker as successor.
     pub(crate) fn take_forward(&mut self, forward: &LockForward) -> Result<Effect, AllocError>
         requires lock { forward.now.lock < self.old.setting.locks }
         requires asker { forward.now.asker < self.old.setting.nodes }
         requires counted { length forward.now.time ≡ self.old.setting.nodes }
-        requires taken { IsTrue (is_taken (forwarded self.old.locks.held forward.now.lock forward.now.asker forward.now.time)) }
+        requires taken { IsTrue (is_taken (forwarded self.old.locks.held forward.now.lock
+            forward.now.asker forward.now.time)) }
         ensures effect { IfOk result (λ effect. forward_by self.old forward.now.lock
-            (forwarded self.old.locks.held forward.now.lock forward.now.asker forward.now.time) ≡ Some (seen_effect effect self.new)) }
+            (forwarded self.old.locks.held forward.now.lock forward.now.asker forward.now.time)
+            ≡ Some (seen_effect effect self.new)) }
         ensures to { IfOk result (λ effect. AreFor self.new.setting.nodes effect.letters.items) }
     {
         let time = forward.time.copy();
@@ -76,21 +80,22 @@ impl NodeState<'_> {
         Ok(Effect::sending(letters))
     }
 
-    /// Whether a grant is expected: this node awaits it, and can learn the news.
+    /// Returns whether a grant is expected: this node awaits it, and can learn the news.
     pub(crate) fn expects_grant(&self, m: &LockGrant) -> bool
         ensures { result ≡ expects_grant self.now m.now }
     {
         m.lock < self.locks && self.mail.wait().awaits_grant(m.lock) && self.can_learn(&m.news)
     }
 
-    /// The token comes with news, and the acquire is made.
+    /// Takes the token with its news, and makes the acquire.
     pub(crate) fn take_grant(&mut self, grant: &LockGrant) -> Result<Effect, AllocError>
         requires lock { grant.now.lock < self.old.setting.locks }
         requires awaited { IsTrue (is_awaited (lock_at self.old.locks.held grant.now.lock)) }
         requires next { asked_in self.old.course ≡ Some (Acquire grant.now.lock) }
         requires counted { length grant.now.time ≡ self.old.setting.nodes }
         requires intervals { CanBeAdded self.old.memory.store grant.now.intervals }
-        ensures effect { IfOk result (λ effect. take_grant self.old grant.now ≡ seen_effect effect self.new) }
+        ensures effect { IfOk result (λ effect. take_grant self.old grant.now
+            ≡ seen_effect effect self.new) }
         ensures to { IfOk result (λ effect. AreFor self.new.setting.nodes effect.letters.items) }
     {
         self.clock.granted(grant.lock);

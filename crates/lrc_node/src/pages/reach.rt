@@ -16,12 +16,13 @@ use lrc_need::{Need, Wait};
 use std::alloc::AllocError;
 
 impl NodeState<'_> {
-    /// Makes the access that comes next, of this page, at once where its copy may be read. At a miss the node asks for what
-    /// the page needs and waits, or where nothing has to be asked repairs the page and goes on.
+    /// Makes the next access, which is to this page, at once if its copy may be read. On a miss the node asks for what
+    /// the page needs, and waits. If nothing has to be asked, it repairs the page and goes on.
     pub(crate) fn reach(&mut self, page: u16) -> Result<Effect, AllocError>
         requires page { page < length self.old.memory.copies }
         requires next { AccessesPage self.old page (asked_in self.old.course) }
-        ensures effect { IfOk result (λ effect. reaches self.old page ≡ seen_effect effect self.new) }
+        ensures effect { IfOk result (λ effect. reaches self.old page
+            ≡ seen_effect effect self.new) }
         ensures to { IfOk result (λ effect. AreFor self.new.setting.nodes effect.letters.items) }
     {
         if self.memory.is_readable(page) {
@@ -46,14 +47,17 @@ impl NodeState<'_> {
         Ok(letters)
     }
 
-    /// Repairs a page for which all has come, and makes the access that comes next.
+    /// Repairs a page for which everything has arrived, and makes the next access.
     pub(crate) fn repair(&mut self, need: &Need, letters: Vec<Letter>) -> Result<Effect, AllocError>
         requires page { need.now.page < length self.old.memory.copies }
-        requires fit { is_mendable self.old.options.size (copy_at self.old.memory need.now.page) need.now.base ≡ true }
+        requires fit { is_mendable self.old.options.size
+            (copy_at self.old.memory need.now.page) need.now.base ≡ true }
         requires of_page { All (λ key. key.page ≡ need.now.page) need.now.missing }
         requires next { AccessesPage self.old need.now.page (asked_in self.old.course) }
         ensures effect { IfOk result (λ effect.
-            acts letters.items (waiting nothing (with_memory self.old (repaired self.old.memory need.now))) ≡ seen_effect effect self.new) }
+            acts letters.items (waiting nothing
+            (with_memory self.old (repaired self.old.memory need.now)))
+            ≡ seen_effect effect self.new) }
         ensures letters { IfOk result (λ effect. effect.letters ≡ letters) }
         ensures setting { self.new.setting ≡ self.old.setting }
     {

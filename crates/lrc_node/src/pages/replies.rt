@@ -32,16 +32,18 @@ fn are_on_page(words: u16, changes: &Changes) -> bool
 
 // Whether the offsets of the changes of all parts are below so many words.
 fn all_on_page(words: u16, parts: &[IndexedChanges]) -> bool
-    ensures { result ≡ list_all (λ part. list_all (λ change. nat_lt change.offset words) part.changes) parts.now }
+    ensures { result ≡ list_all (λ part.
+        list_all (λ change. nat_lt change.offset words) part.changes) parts.now }
 {
     parts.iter().all(|part| are_on_page(words, &part.changes))
 }
 
 impl NodeState<'_> {
-    /// Makes the access that is awaited, once all has come that its page needs; else goes on waiting.
+    /// Makes the awaited access if everything that its page needs has arrived. Otherwise it goes on waiting.
     pub(crate) fn go_on_with(&mut self, need: Need) -> Result<Effect, AllocError>
         requires { CanGoOn self.old (access need) }
-        ensures effect { IfOk result (λ effect. fetches [] self.old need ≡ seen_effect effect self.new) }
+        ensures effect { IfOk result (λ effect. fetches [] self.old need
+            ≡ seen_effect effect self.new) }
         ensures to { IfOk result (λ effect. AreFor self.new.setting.nodes effect.letters.items) }
     {
         let letters = Vec::new(self.alloc);
@@ -55,7 +57,8 @@ impl NodeState<'_> {
     // Goes on with what is awaited of pages, after something came for it.
     fn go_on(&mut self, wait: Wait) -> Result<Effect, AllocError>
         requires { CanGoOn self.old (seen_wait wait) }
-        ensures effect { IfOk result (λ effect. takes_reply self.old (seen_wait wait) ≡ seen_effect effect self.new) }
+        ensures effect { IfOk result (λ effect. takes_reply self.old (seen_wait wait)
+            ≡ seen_effect effect self.new) }
         ensures to { IfOk result (λ effect. AreFor self.new.setting.nodes effect.letters.items) }
     {
         match wait {
@@ -69,7 +72,7 @@ impl NodeState<'_> {
         }
     }
 
-    /// Whether changes are expected: just these of that page are awaited from their sender.
+    /// Returns whether changes are expected: exactly these changes of the page are awaited from their sender.
     pub(crate) fn expects_changes(&self, from: u8, m: &ChangesReply) -> bool
         ensures { result ≡ expects_changes_reply self.now from m.now }
     {
@@ -79,15 +82,18 @@ impl NodeState<'_> {
             && self.mail.wait().awaits_changes(m.page, from, parts)
     }
 
-    /// Changes come that were asked of a maker.
+    /// Takes changes that were asked of a maker.
     pub(crate) fn take_changes(
         &mut self,
         from: u8,
         reply: &ChangesReply,
     ) -> Result<Effect, AllocError>
-        requires awaited { AreAwaited self.old.options.size self.old.memory.store from reply.now.page reply.now.parts }
-        requires ready { CanGoOn (with_parts from reply.now self.old) (with_needs (changes_came reply.now.page from) self.old.mail.wait) }
-        ensures effect { IfOk result (λ effect. take_changes self.old from reply.now ≡ seen_effect effect self.new) }
+        requires awaited { AreAwaited self.old.options.size self.old.memory.store from
+            reply.now.page reply.now.parts }
+        requires ready { CanGoOn (with_parts from reply.now self.old)
+            (with_needs (changes_came reply.now.page from) self.old.mail.wait) }
+        ensures effect { IfOk result (λ effect. take_changes self.old from reply.now
+            ≡ seen_effect effect self.new) }
         ensures to { IfOk result (λ effect. AreFor self.new.setting.nodes effect.letters.items) }
     {
         self.memory.attach(from, reply.page, &reply.parts)?;
@@ -96,7 +102,7 @@ impl NodeState<'_> {
         self.go_on(wait)
     }
 
-    /// Whether a base copy is expected: it is awaited from its sender, and has a value for each word of a page.
+    /// Returns whether a base copy is expected: it is awaited from its sender, and has a value for each word of a page.
     pub(crate) fn expects_page(&self, from: u8, m: &PageReply) -> bool
         ensures { result ≡ expects_page_reply self.now from m.now }
     {
@@ -105,11 +111,13 @@ impl NodeState<'_> {
             && self.mail.wait().awaits_page(m.page, from)
     }
 
-    /// A base copy comes that was asked of its keeper.
+    /// Takes a base copy that was asked of its keeper.
     pub(crate) fn take_page(&mut self, reply: &PageReply) -> Result<Effect, AllocError>
         requires apart { AllPairs (λ a b. a.page ≢ b.page) (needs_of self.old.mail.wait) }
-        requires ready { CanGoOn self.old (with_needs (page_came reply.now.page reply.now.values) self.old.mail.wait) }
-        ensures effect { IfOk result (λ effect. take_page self.old reply.now ≡ seen_effect effect self.new) }
+        requires ready { CanGoOn self.old (with_needs
+            (page_came reply.now.page reply.now.values) self.old.mail.wait) }
+        ensures effect { IfOk result (λ effect. take_page self.old reply.now
+            ≡ seen_effect effect self.new) }
         ensures to { IfOk result (λ effect. AreFor self.new.setting.nodes effect.letters.items) }
     {
         let copy = Box::new(self.alloc, reply.copy.copy())?;

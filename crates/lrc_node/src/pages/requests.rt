@@ -21,7 +21,9 @@ use std::alloc::{AllocError, Global};
 
 // Whether each of these intervals of a node is stored and names the page.
 fn has_notices(memory: &Memory, node: u8, page: u16, indices: &[u32]) -> bool
-    ensures { result ≡ list_all (λ index. is_some (notice_at memory.now.memory.store (record { node = node; index = index; page = page }))) indices.now }
+    ensures { result ≡ list_all (λ index.
+        is_some (notice_at memory.now.memory.store
+        (record { node = node; index = index; page = page }))) indices.now }
 {
     for index in indices {
         if !memory.has_notice(node, *index, page) {
@@ -58,14 +60,15 @@ fn parts_of(
 }
 
 impl NodeState<'_> {
-    /// Whether a request of changes is expected: each index is of a stored interval of this node that names the page.
+    /// Returns whether a request for changes is expected: each index is that of a stored interval of this node that
+    /// names the page.
     pub(crate) fn expects_changes_request(&self, m: &ChangesRequest) -> bool
         ensures { result ≡ expects_changes_request self.now m.now }
     {
         m.page < self.pages() && has_notices(&self.memory, self.me, m.page, m.indices.as_slice())
     }
 
-    /// A node asks for changes that this one's intervals made.
+    /// Takes a node's request for changes that this node's intervals made, and replies.
     pub(crate) fn take_changes_request(
         &mut self,
         from: u8,
@@ -73,7 +76,8 @@ impl NodeState<'_> {
     ) -> Result<Effect, AllocError>
         requires from { from < self.old.setting.nodes }
         requires page { request.now.page < length self.old.memory.copies }
-        ensures effect { IfOk result (λ effect. sends (changes_reply_to self.old from request.now.page request.now.indices ∷ [])
+        ensures effect { IfOk result (λ effect. sends
+            (changes_reply_to self.old from request.now.page request.now.indices ∷ [])
             self.old ≡ seen_effect effect self.new) }
         ensures to { IfOk result (λ effect. AreFor self.new.setting.nodes effect.letters.items) }
     {
@@ -84,14 +88,15 @@ impl NodeState<'_> {
         Ok(Effect::sending(letters))
     }
 
-    /// Whether a request of a base copy is expected: it is from another node, and one is kept here.
+    /// Returns whether a request for a base copy is expected: it is from another node, and the base copy is kept here.
     pub(crate) fn expects_page_request(&self, from: u8, m: &PageRequest) -> bool
-        ensures { result ≡ (expects_page_request self.now from m.now && is_some (base_at self.now.memory m.now)) }
+        ensures { result ≡ (expects_page_request self.now from m.now
+            && is_some (base_at self.now.memory m.now)) }
     {
         m.page < self.pages() && from != self.me && self.memory.base(m.page).is_some()
     }
 
-    /// A node asks for the base copy of a page.
+    /// Takes a node's request for the base copy of a page, and replies.
     pub(crate) fn take_page_request(
         &mut self,
         from: u8,
@@ -100,7 +105,8 @@ impl NodeState<'_> {
         requires from { from < self.old.setting.nodes }
         requires page { request.now < length self.old.memory.copies }
         requires kept { IsTrue (is_some (base_at self.old.memory request.now)) }
-        ensures effect { IfOk result (λ effect. page_reply_by self.old from request.now (base_at self.old.memory request.now) ≡ Some (seen_effect effect self.new)) }
+        ensures effect { IfOk result (λ effect. page_reply_by self.old from request.now
+            (base_at self.old.memory request.now) ≡ Some (seen_effect effect self.new)) }
         ensures to { IfOk result (λ effect. AreFor self.new.setting.nodes effect.letters.items) }
     {
         let page = request.page;

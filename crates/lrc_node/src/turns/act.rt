@@ -44,11 +44,12 @@ impl NodeState<'_> {
         Ok(self.text.go_on(asked, value))
     }
 
-    /// Sends these letters, and makes the act that the text is at.
+    /// Sends these letters, and makes the act that comes next in the text.
     #[inline(always)]
     pub(crate) fn act(&mut self, letters: Vec<Letter>) -> Result<Effect, AllocError>
         requires access { CanAccess self.old (asked_in self.old.course) }
-        ensures effect { IfOk result (λ effect. acts letters.items self.old ≡ seen_effect effect self.new) }
+        ensures effect { IfOk result (λ effect. acts letters.items self.old
+            ≡ seen_effect effect self.new) }
         ensures letters { IfOk result (λ effect. effect.letters ≡ letters) }
         ensures setting { self.new.setting ≡ self.old.setting }
     {

@@ -8,9 +8,10 @@ use lrc_mail::Letter;
 use std::alloc::AllocError;
 
 impl NodeState<'_> {
-    /// One letter, in a list of the node's.
+    /// Returns a list of one letter. It reuses a list of the node's mail.
     pub(crate) fn letter(&mut self, to: u8, message: Message) -> Result<Vec<Letter>, AllocError>
-        ensures letters { IfOk result (λ letters. letters.items ≡ record { to = to; message = message } ∷ []) }
+        ensures letters { IfOk result (λ letters. letters.items
+            ≡ record { to = to; message = message } ∷ []) }
         ensures same { self.new ≡ self.old }
     {
         let mut letters = self.mail.letters();

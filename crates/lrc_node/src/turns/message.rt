@@ -11,7 +11,7 @@ use lrc_envelope::Message;
 use std::alloc::AllocError;
 
 impl NodeState<'_> {
-    /// Whether the node expects a message from one of the nodes.
+    /// Returns whether the node expects a message from one of the nodes.
     pub(crate) fn expects(&self, from: u8, message: &Message) -> bool
         requires { from < self.now.setting.nodes }
         ensures { result ≡ is_expected self.now from message.now }
@@ -31,11 +31,12 @@ impl NodeState<'_> {
         }
     }
 
-    /// Does what a message from a node asks for, which the node can take.
+    /// Does what a node's message asks for. The node must be able to take the message.
     pub(crate) fn take_message(&mut self, from: u8, message: &Message) -> Result<Effect, AllocError>
         requires from { from < self.old.setting.nodes }
         requires can { CanTake self.old from message.now }
-        ensures effect { IfOk result (λ effect. effect_of self.old from message.now ≡ Some (seen_effect effect self.new)) }
+        ensures effect { IfOk result (λ effect. effect_of self.old from message.now
+            ≡ Some (seen_effect effect self.new)) }
         ensures to { IfOk result (λ effect. AreFor self.new.setting.nodes effect.letters.items) }
     {
         match message {

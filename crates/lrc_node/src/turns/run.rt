@@ -19,21 +19,21 @@ use lrc_trace::act::{Act, Deed};
 use lrc_trace::end::End;
 
 impl NodeState<'_> {
-    /// Whether the node would go on if it were named.
+    /// Returns whether the node would go on by itself.
     pub(crate) fn is_ready(&self) -> bool
         ensures { result ≡ is_ready self.now }
     {
         self.mail.wait().is_idle() && self.text.is_ready()
     }
 
-    /// How the node ended.
+    /// Returns how the node ended.
     pub(crate) fn end(&self) -> End
         ensures { result ≡ end_of self.now.course }
     {
         self.text.end()
     }
 
-    /// What the node begins if it is named, if it is ready.
+    /// Returns what the node would begin by itself, or none if it is not ready.
     #[inline(always)]
     pub(crate) fn wish(&self) -> Option<Ask>
         ensures { result ≡ option_map ask_of (begins self.now) }
@@ -44,7 +44,7 @@ impl NodeState<'_> {
         self.text.begins()
     }
 
-    /// Begins this, which comes next, and counts the step.
+    /// Begins what comes next, and counts the step.
     #[inline(always)]
     pub(crate) fn count(&mut self, ask: Ask)
         requires { option_map ask_of (begins self.old) ≡ Some ask }
@@ -53,7 +53,7 @@ impl NodeState<'_> {
         self.text.begin(ask);
     }
 
-    /// Goes on by a step that only its own thread sees. Most turns do.
+    /// Makes a step that only its own thread sees. Most turns are such steps.
     #[inline(always)]
     pub(crate) fn run_quietly(&mut self) -> Turn
         requires { option_map ask_of (begins self.old) ≡ Some Ask.Quiet }
@@ -82,7 +82,7 @@ impl NodeState<'_> {
         }
     }
 
-    /// Goes on by what it has begun. `Worn` where a number would be too large.
+    /// Goes on by what the node has begun. It fails with `Worn` if a number would be too large.
     pub(crate) fn run_begun(&mut self, ask: Ask) -> Result<Turn, NodeFault>
         requires next { asked_in self.old.course ≡ Some ask }
         requires can { CanBegin self.old ask }
@@ -97,8 +97,10 @@ impl NodeState<'_> {
     fn begin(&mut self, ask: Ask) -> Result<Effect, NodeFault>
         requires next { asked_in self.old.course ≡ Some ask }
         requires can { CanBegin self.old ask }
-        ensures effect { IfOk result (λ effect. effect_asked self.old ask ≡ Some (seen_effect effect self.new)) }
-        ensures refused { IfErr result (λ fault. ((fault ≡ Worn) × (effect_asked self.old ask ≡ None)) ⊎ (fault ≡ NoMemory)) }
+        ensures effect { IfOk result (λ effect. effect_asked self.old ask
+            ≡ Some (seen_effect effect self.new)) }
+        ensures refused { IfErr result (λ fault. ((fault ≡ Worn)
+            × (effect_asked self.old ask ≡ None)) ⊎ (fault ≡ NoMemory)) }
         ensures to { IfOk result (λ effect. AreFor self.new.setting.nodes effect.letters.items) }
     {
         match ask {

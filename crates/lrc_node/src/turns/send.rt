@@ -14,12 +14,14 @@ use lrc_mail::{Letter, MailFault};
 use lrc_trace::act::Act;
 
 impl NodeState<'_> {
-    /// The turn of an effect, whose messages have numbers. `Worn` where a number would be too large.
+    /// Makes the turn of an effect, and numbers its messages. It fails with `Worn` if a number would be too large.
     #[inline(always)]
     pub(crate) fn send(&mut self, effect: Effect) -> Result<Turn, NodeFault>
         requires { AreFor self.old.setting.nodes effect.letters.items }
-        ensures sent { IfOk result (λ turn. turn_of (seen_effect effect self.old) ≡ done turn self.new) }
-        ensures refused { IfErr result (λ fault. ((fault ≡ Worn) × (turn_of (seen_effect effect self.old) ≡ worn)) ⊎ (fault ≡ NoMemory)) }
+        ensures sent { IfOk result (λ turn. turn_of (seen_effect effect self.old)
+            ≡ done turn self.new) }
+        ensures refused { IfErr result (λ fault. ((fault ≡ Worn)
+            × (turn_of (seen_effect effect self.old) ≡ worn)) ⊎ (fault ≡ NoMemory)) }
     {
         let node = self.me;
         let act = effect.deed.map(|deed| Act { node, deed });
@@ -32,7 +34,7 @@ impl NodeState<'_> {
         Ok(Turn { act, out })
     }
 
-    /// Keeps a list of messages that are of no use any more, whose place those of a later turn take.
+    /// Keeps a list of messages that are no longer needed, so that the messages of a later turn can reuse its memory.
     pub(crate) fn keep_list(&mut self, out: Vec<Envelope>)
         ensures { self.new ≡ self.old }
     {
@@ -44,10 +46,12 @@ impl NodeState<'_> {
     fn number(&mut self, letters: Vec<Letter>) -> Result<Vec<Envelope>, NodeFault>
         requires { AreFor self.old.setting.nodes letters.items }
         ensures numbers { IfOk result (λ out.
-            numbered self.old.setting.me self.old.options.first self.old.mail.sent letters.items ≡ Some (out.items, self.new.mail.sent)) }
+            numbered self.old.setting.me self.old.options.first self.old.mail.sent letters.items
+            ≡ Some (out.items, self.new.mail.sent)) }
         ensures node { OnOk result (self.new ≡ with_sent self.old self.new.mail.sent) }
         ensures refused { IfErr result (λ fault.
-            ((fault ≡ Worn) × (numbered self.old.setting.me self.old.options.first self.old.mail.sent letters.items ≡ None)) ⊎ (fault ≡ NoMemory)) }
+            ((fault ≡ Worn) × (numbered self.old.setting.me self.old.options.first
+            self.old.mail.sent letters.items ≡ None)) ⊎ (fault ≡ NoMemory)) }
     {
         match self.mail.number(self.me, self.options.first, letters) {
             Ok(out) => Ok(out),

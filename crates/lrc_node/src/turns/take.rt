@@ -16,13 +16,16 @@ use crate::turn::Turn;
 use lrc_envelope::Envelope;
 
 impl NodeState<'_> {
-    /// Takes a message. A repeat of one that was taken is an empty turn. `Unexpected`, with nothing changed, where the
-    /// message is for another node, from none, or not expected; `Worn` where a number would be too large.
+    /// Takes a message. A repeat of a message that was taken is an empty turn. It fails with `Unexpected`, and changes
+    /// nothing, if the message is for another node, from no node of the run, or not expected; and with `Worn` if a
+    /// number would be too large.
     pub(crate) fn take(&mut self, envelope: &Envelope) -> Result<Turn, NodeFault>
         requires { IsReached self.old }
         ensures done { IfOk result (λ turn. take_turn self.old envelope.now ≡ done turn self.new) }
-        ensures refused { IfErr result (λ fault. RefusesTake (take_turn self.old envelope.now) self.old fault self.new) }
-        ensures unexpected { take_turn self.old envelope.now ≡ unexpected → result ≡ Err Unexpected }
+        ensures refused { IfErr result (λ fault. RefusesTake
+            (take_turn self.old envelope.now) self.old fault self.new) }
+        ensures unexpected { take_turn self.old envelope.now ≡ unexpected
+            → result ≡ Err Unexpected }
     {
         let from = envelope.from;
         if !self.is_addressed(envelope) {
@@ -40,7 +43,8 @@ impl NodeState<'_> {
         self.take_anew(envelope)
     }
 
-    /// Whether a message is taken, as far as numbers go: it is for this node, from one of the nodes, and taken before or expected.
+    /// Returns whether a message is taken, if numbers that are too large are left aside: it is for this node, from one
+    /// of the nodes, and was taken before or is expected.
     pub(crate) fn awaits(&self, envelope: &Envelope) -> bool
         ensures { result ≡ is_turn (take_turn self.now envelope.now) }
     {
@@ -78,9 +82,13 @@ impl NodeState<'_> {
         requires from { envelope.now.from < self.old.setting.nodes }
         requires anew { is_repeat self.old envelope.now ≡ false }
         requires expected { is_expected self.old envelope.now.from envelope.now.message ≡ true }
-        ensures done { IfOk result (λ turn. turn_or unexpected (effect_of (taking self.old envelope.now) envelope.now.from envelope.now.message) ≡ done turn self.new) }
+        ensures done { IfOk result (λ turn. turn_or unexpected
+            (effect_of (taking self.old envelope.now) envelope.now.from envelope.now.message)
+            ≡ done turn self.new) }
         ensures refused { IfErr result (λ fault.
-            ((fault ≡ Worn) × (turn_or unexpected (effect_of (taking self.old envelope.now) envelope.now.from envelope.now.message) ≡ worn)) ⊎ (fault ≡ NoMemory)) }
+            ((fault ≡ Worn) × (turn_or unexpected
+            (effect_of (taking self.old envelope.now) envelope.now.from envelope.now.message)
+            ≡ worn)) ⊎ (fault ≡ NoMemory)) }
     {
         self.mail.note_taken(envelope.from, envelope.number)?;
         let effect = self.take_message(envelope.from, &envelope.message)?;

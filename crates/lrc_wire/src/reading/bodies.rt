@@ -1,4 +1,4 @@
-//! What each kind has after the header.
+//! Reading the body of each kind of message.
 
 ghost use Rattle.std.specs.Prelude.{◌≡◌};
 ghost use Rattle.lrc_wire.specs.Reading.{Gives, lock_request_at, lock_forward_at, lock_grant_at, arrive_at, depart_at, clean_at, discard_at};
@@ -135,7 +135,7 @@ fn read_page_reply(
     Ok(PageReply { page, copy })
 }
 
-/// The body of a message of this kind. Bytes may be left.
+/// Reads the body of a message of the given kind. Bytes may remain.
 #[tactic(auto, unfolding(crate::specs::Reading::body_at, crate::specs::Reading::as_message))]
 pub(super) fn read_body(
     alloc: Global,
@@ -143,7 +143,8 @@ pub(super) fn read_body(
     kind: Kind,
     bytes: &mut &[u8],
 ) -> Result<Message, WireFault>
-    ensures { Gives (λ message. (message, bytes.new.now)) result (body_at version kind bytes.old.now) }
+    ensures { Gives (λ message. (message, bytes.new.now)) result
+        (body_at version kind bytes.old.now) }
 {
     match kind {
         Kind::LockRequest => read_lock_request(bytes).map(Message::LockRequest),

@@ -1,4 +1,4 @@
-//! Changes, one by one and in runs.
+//! Reading changes, one by one and in runs.
 
 ghost use Rattle.std.specs.Prelude.{◌≡◌, ◌+◌, ◌≤◌, ◌<◌, IfOk, OnOk, IfSome, IsSomeAnd, Option, Some, None};
 ghost use Rattle.std.specs.Option.{ForSome};
@@ -32,7 +32,8 @@ fn read_next_offset(before: Option<u8>, bytes: &mut &[u8]) -> Result<u8, WireFau
 // A change after another.
 #[tactic(auto, unfolding(crate::specs::Reading::next_change_at))]
 fn read_next_change(before: Option<u8>, bytes: &mut &[u8]) -> Result<Change, WireFault>
-    ensures exact { Gives (λ change. (change, bytes.new.now)) result (next_change_at before bytes.old.now) }
+    ensures exact { Gives (λ change. (change, bytes.new.now)) result
+        (next_change_at before bytes.old.now) }
     ensures above { IfOk result (λ change. IfSome before (λ b. b < change.offset)) }
 {
     let offset = read_next_offset(before, bytes)?;
@@ -41,7 +42,8 @@ fn read_next_change(before: Option<u8>, bytes: &mut &[u8]) -> Result<Change, Wir
 }
 
 fn read_changes_of(alloc: Global, count: u8, bytes: &mut &[u8]) -> Result<Changes, WireFault>
-    ensures { Gives (λ changes. (changes, bytes.new.now)) result (elements_at next_change_at (λ _ change. Some change.offset) count None bytes.old.now) }
+    ensures { Gives (λ changes. (changes, bytes.new.now)) result
+        (elements_at next_change_at (λ _ change. Some change.offset) count None bytes.old.now) }
 {
     let mut changes = Changes::empty(alloc);
     let mut before = None;
@@ -74,7 +76,8 @@ fn read_run_values(
 ) -> Result<(), WireFault>
     requires within { first + more < 256 }
     requires above { ForSome (last_change changes.old) (λ c. c.offset < first) }
-    ensures put { PutsValues result (values_at (more + 1) bytes.old.now) first changes.old changes.new bytes.new.now }
+    ensures put { PutsValues result (values_at (more + 1) bytes.old.now) first changes.old
+        changes.new bytes.new.now }
     ensures last { OnOk result (ForSome (last_change changes.new) (λ c. c.offset ≤ first + more)) }
 {
     let end = u16::from(first) + u16::from(more) + 1;
@@ -100,7 +103,8 @@ fn may_begin(before: Option<u8>, first: u8) -> bool
 #[tactic(auto, unfolding(crate::specs::Reading::next_run_at, crate::specs::Reading::tested, crate::specs::Reading::is_after))]
 fn read_run(before: Option<u8>, changes: &mut Changes, bytes: &mut &[u8]) -> Result<u8, WireFault>
     requires { ForSome (last_change changes.old) (λ c. IsSomeAnd before (λ last. c.offset ≤ last)) }
-    ensures put { PutsRun result (next_run_at before bytes.old.now) changes.old changes.new bytes.new.now }
+    ensures put { PutsRun result (next_run_at before bytes.old.now) changes.old changes.new
+        bytes.new.now }
     ensures last { IfOk result (λ last. ForSome (last_change changes.new) (λ c. c.offset ≤ last)) }
 {
     let first = read_u8(bytes)?;
@@ -116,7 +120,9 @@ fn read_run(before: Option<u8>, changes: &mut Changes, bytes: &mut &[u8]) -> Res
 }
 
 fn read_runs_of(alloc: Global, count: u16, bytes: &mut &[u8]) -> Result<Changes, WireFault>
-    ensures { Gives (λ changes. (changes, bytes.new.now)) result (whole_runs (elements_at next_run_at (λ _ run. Some (last_of run)) count None bytes.old.now)) }
+    ensures { Gives (λ changes. (changes, bytes.new.now)) result
+        (whole_runs (elements_at next_run_at
+        (λ _ run. Some (last_of run)) count None bytes.old.now)) }
 {
     let mut changes = Changes::empty(alloc);
     let mut before = None;
@@ -130,7 +136,8 @@ fn read_runs_of(alloc: Global, count: u16, bytes: &mut &[u8]) -> Result<Changes,
 // Changes in runs.
 #[tactic(auto, unfolding(crate::specs::Reading::runs_at, crate::specs::Reading::tested))]
 fn read_runs(alloc: Global, bytes: &mut &[u8]) -> Result<Changes, WireFault>
-    ensures { Gives (λ changes. (changes, bytes.new.now)) result (whole_runs (runs_at bytes.old.now)) }
+    ensures { Gives (λ changes. (changes, bytes.new.now)) result
+        (whole_runs (runs_at bytes.old.now)) }
 {
     let count = read_u16(bytes)?;
     if count > MOST_RUNS {
@@ -139,14 +146,15 @@ fn read_runs(alloc: Global, bytes: &mut &[u8]) -> Result<Changes, WireFault>
     read_runs_of(alloc, count, bytes)
 }
 
-/// What an interval changed.
+/// Reads the changes of one interval.
 #[tactic(auto, unfolding(crate::specs::Reading::changes_at))]
 pub(super) fn read_changes(
     alloc: Global,
     version: Version,
     bytes: &mut &[u8],
 ) -> Result<Changes, WireFault>
-    ensures { Gives (λ changes. (changes, bytes.new.now)) result (changes_at version bytes.old.now) }
+    ensures { Gives (λ changes. (changes, bytes.new.now)) result
+        (changes_at version bytes.old.now) }
 {
     match version {
         Version::One => read_singly(alloc, bytes),

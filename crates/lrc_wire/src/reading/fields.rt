@@ -1,4 +1,4 @@
-//! Fields of one number, each tested once it is read.
+//! Reading fields of one number, each checked as soon as it is read.
 
 ghost use Rattle.std.specs.Prelude.{◌≡◌, ◌<◌, ◌≤◌, IfOk};
 ghost use Rattle.lrc_page.specs.declared.TheConstants.{MOST_PAGES};
@@ -68,7 +68,7 @@ pub(super) fn read_flag(bytes: &mut &[u8]) -> Result<bool, WireFault>
     }
 }
 
-/// How many elements follow, at least one.
+/// Reads the number of elements that follow, which is at least one.
 #[tactic(auto, unfolding(crate::specs::Reading::count_at, crate::specs::Reading::tested))]
 pub(super) fn read_count(bytes: &mut &[u8]) -> Result<u32, WireFault>
     ensures exact { Gives (λ n. (n, bytes.new.now)) result (count_at bytes.old.now) }

@@ -1,4 +1,4 @@
-//! Headers.
+//! Reading headers.
 
 ghost use Rattle.std.specs.Prelude.{◌≡◌, ◌<◌, IfOk};
 ghost use Rattle.lrc_wire.specs.Reading.{Gives, version_at, kind_at, header_at};
@@ -12,7 +12,7 @@ use crate::version::Version;
 use lrc_envelope::MOST_NODES;
 use std::marker::Model;
 
-/// What a header says of the message behind it.
+/// The header of a message.
 #[derive(Drop)]
 pub(super) struct Header {
     pub version: Version,

@@ -1,4 +1,4 @@
-//! Intervals.
+//! Reading intervals.
 
 ghost use Rattle.std.specs.Prelude.{◌≡◌, ◌≤◌, ◌<◌, IfOk, IfSome, Option, Some, None, []};
 ghost use Rattle.lrc_page.specs.declared.TheConstants.{MOST_PAGES};
@@ -24,7 +24,8 @@ fn read_next_page(
     before: Option<u16>,
     bytes: &mut &[u8],
 ) -> Result<u16, WireFault>
-    ensures exact { Gives (λ n. (n, bytes.new.now)) result (next_page_at version before bytes.old.now) }
+    ensures exact { Gives (λ n. (n, bytes.new.now)) result
+        (next_page_at version before bytes.old.now) }
     ensures in_range { IfOk result (λ n. n < MOST_PAGES) }
     ensures above { IfOk result (λ n. IfSome before (λ b. b < n)) }
 {
@@ -43,7 +44,8 @@ fn read_pages_of(
     bytes: &mut &[u8],
 ) -> Result<(), WireFault>
     requires { pages.old ≡ [] }
-    ensures { Gives (λ _. (pages.new, bytes.new.now)) result (elements_at (next_page_at version) (λ _ page. Some page) count None bytes.old.now) }
+    ensures { Gives (λ _. (pages.new, bytes.new.now)) result
+        (elements_at (next_page_at version) (λ _ page. Some page) count None bytes.old.now) }
 {
     let mut before = None;
     for _ in 0..count {
@@ -75,7 +77,8 @@ fn read_next_interval(
 ) -> Result<(u8, u32), WireFault>
     requires some { 1 ≤ nodes }
     requires few { nodes ≤ MOST_NODES }
-    ensures { PutsInterval result (next_interval_at version nodes before bytes.old.now) intervals.old.items intervals.new.items bytes.new.now }
+    ensures { PutsInterval result (next_interval_at version nodes before bytes.old.now)
+        intervals.old.items intervals.new.items bytes.new.now }
 {
     let node = read_u8(bytes)?;
     if node >= nodes {
@@ -103,7 +106,8 @@ fn read_intervals_of(
     requires some { 1 ≤ nodes }
     requires few { nodes ≤ MOST_NODES }
     ensures { Gives (λ v. (v.items, bytes.new.now)) result
-        (elements_at (next_interval_at version nodes) (λ _ interval. Some (known_by interval)) count None bytes.old.now) }
+        (elements_at (next_interval_at version nodes)
+        (λ _ interval. Some (known_by interval)) count None bytes.old.now) }
 {
     let mut rest = *bytes;
     let mut intervals = Vec::with_capacity(alloc, room(count, rest, 8))?;
@@ -126,7 +130,8 @@ fn read_intervals(
 ) -> Result<Intervals, WireFault>
     requires some { 1 ≤ nodes }
     requires few { nodes ≤ MOST_NODES }
-    ensures exact { Gives (λ v. (v, bytes.new.now)) result (intervals_at version nodes bytes.old.now) }
+    ensures exact { Gives (λ v. (v, bytes.new.now)) result
+        (intervals_at version nodes bytes.old.now) }
     ensures together { IfOk result (λ v. GoWith nodes v) }
 {
     let count = read_u32(bytes)?;
@@ -134,7 +139,7 @@ fn read_intervals(
     Ok(Intervals::from_ascending(list))
 }
 
-/// A time, and intervals that go with it.
+/// Reads a time, and the intervals that go with it.
 #[tactic(auto, unfolding(crate::specs::Reading::news_at))]
 pub(super) fn read_news(
     alloc: Global,

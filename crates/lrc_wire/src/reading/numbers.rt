@@ -1,4 +1,4 @@
-//! Numbers at the front of what is left to read.
+//! Reading numbers from the front of the remaining bytes.
 
 ghost use Rattle.std.specs.Prelude.{◌≡◌};
 ghost use Rattle.std.specs.Int.{w16, w32, w64};

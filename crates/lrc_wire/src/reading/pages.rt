@@ -1,4 +1,4 @@
-//! The values of a page.
+//! Reading the values of a page.
 
 ghost use Rattle.std.specs.Prelude.{◌≡◌, length};
 ghost use Rattle.lrc_page.specs.Page.{words_of};
@@ -13,7 +13,8 @@ use std::alloc::Global;
 // How many words a page has.
 #[tactic(auto, unfolding(crate::specs::Reading::size_at, crate::specs::Reading::tested))]
 fn read_size(version: Version, bytes: &mut &[u8]) -> Result<Size, WireFault>
-    ensures { Gives (λ size. (words_of size, bytes.new.now)) result (size_at version bytes.old.now) }
+    ensures { Gives (λ size. (words_of size, bytes.new.now)) result
+        (size_at version bytes.old.now) }
 {
     match version {
         Version::One => Ok(Size::Words64),
@@ -27,7 +28,8 @@ fn read_size(version: Version, bytes: &mut &[u8]) -> Result<Size, WireFault>
 
 // A value for each word of a page of this size, into a page of zeros.
 fn read_values(page: &mut Page, bytes: &mut &[u8]) -> Result<(), WireFault>
-    ensures { Gives (λ _. (page.new, bytes.new.now)) result (values_at (length page.old) bytes.old.now) }
+    ensures { Gives (λ _. (page.new, bytes.new.now)) result
+        (values_at (length page.old) bytes.old.now) }
 {
     let words = page.size().words();
     for offset in 0..words {
@@ -37,14 +39,15 @@ fn read_values(page: &mut Page, bytes: &mut &[u8]) -> Result<(), WireFault>
     Ok(())
 }
 
-/// The values of a page.
+/// Reads the values of a page.
 #[tactic(auto, unfolding(crate::specs::Reading::page_values_at))]
 pub(super) fn read_page_values(
     alloc: Global,
     version: Version,
     bytes: &mut &[u8],
 ) -> Result<Box<Page>, WireFault>
-    ensures { Gives (λ page. (page.value, bytes.new.now)) result (page_values_at version bytes.old.now) }
+    ensures { Gives (λ page. (page.value, bytes.new.now)) result
+        (page_values_at version bytes.old.now) }
 {
     let size = read_size(version, bytes)?;
     let mut page = Box::new(alloc, Page::zero(size))?;

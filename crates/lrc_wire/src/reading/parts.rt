@@ -1,4 +1,4 @@
-//! What intervals changed.
+//! Reading the changes of several intervals.
 
 ghost use Rattle.std.specs.Prelude.{◌≡◌, ◌≤◌, length, IfOk, Option, Some, None};
 ghost use Rattle.lrc_wire.specs.Reading.{Gives, elements_at, next_part_at, parts_at};
@@ -21,7 +21,8 @@ fn read_next_part(
     before: Option<u32>,
     bytes: &mut &[u8],
 ) -> Result<IndexedChanges, WireFault>
-    ensures { Gives (λ part. (part, bytes.new.now)) result (next_part_at version before bytes.old.now) }
+    ensures { Gives (λ part. (part, bytes.new.now)) result
+        (next_part_at version before bytes.old.now) }
 {
     let index = read_next_index(before, bytes)?;
     let changes = read_changes(alloc, version, bytes)?;
@@ -40,7 +41,8 @@ fn read_parts_of(
     count: u32,
     bytes: &mut &[u8],
 ) -> Result<SmallVec<IndexedChanges, FEW_PARTS>, WireFault>
-    ensures { Gives (λ v. (v.items, bytes.new.now)) result (elements_at (next_part_at version) (λ _ part. Some part.index) count None bytes.old.now) }
+    ensures { Gives (λ v. (v.items, bytes.new.now)) result
+        (elements_at (next_part_at version) (λ _ part. Some part.index) count None bytes.old.now) }
 {
     let mut parts = SmallVec::with_capacity(alloc, room(count, bytes, 5))?;
     let mut before = None;
@@ -52,7 +54,7 @@ fn read_parts_of(
     Ok(parts)
 }
 
-/// What at least one interval changed.
+/// Reads the changes of at least one interval.
 #[tactic(auto, unfolding(crate::specs::Reading::parts_at))]
 pub(super) fn read_parts(
     alloc: Global,

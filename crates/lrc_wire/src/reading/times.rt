@@ -1,4 +1,4 @@
-//! Times and stamps.
+//! Reading times and stamps.
 
 ghost use Rattle.std.specs.Prelude.{◌≡◌, ◌≤◌, ◌<◌, ◌+◌, ◌*◌, ◌↔◌, drop, length, take, IfOk, IsTrue, None, Ok};
 ghost use Rattle.std.specs.Int.{w32, from_be_bytes};
@@ -16,7 +16,8 @@ const ENTRY_BYTES: usize = 4;
 
 // Whether the entry of the node `own` stands in the bytes, which begin with entries, and is 0.
 fn is_unbegun(own: u8, bytes: &[u8]) -> bool
-    ensures { IsTrue result ↔ ((4 * own + 4 ≤ length bytes.now) × (from_be_bytes w32 (take 4 (drop (4 * own) bytes.now)) ≡ 0)) }
+    ensures { IsTrue result ↔ ((4 * own + 4 ≤ length bytes.now)
+        × (from_be_bytes w32 (take 4 (drop (4 * own) bytes.now)) ≡ 0)) }
 {
     let start = ENTRY_BYTES * usize::from(own);
     if bytes.len() < start + ENTRY_BYTES {
@@ -42,7 +43,8 @@ fn take_entries(time: &mut Time, bytes: &mut &[u8])
 
 // As many entries as a time has, in place of its own.
 fn read_entries(time: &mut Time, bytes: &mut &[u8]) -> Result<(), WireFault>
-    ensures { Gives (λ _. (time.new, bytes.new.now)) result (entries_at None (length time.old) bytes.old.now) }
+    ensures { Gives (λ _. (time.new, bytes.new.now)) result
+        (entries_at None (length time.old) bytes.old.now) }
 {
     if bytes.len() < ENTRY_BYTES * usize::from(time.nodes()) {
         return Err(WireFault::Short);
@@ -51,7 +53,7 @@ fn read_entries(time: &mut Time, bytes: &mut &[u8]) -> Result<(), WireFault>
     Ok(())
 }
 
-/// A time of any number of nodes.
+/// Reads a time of any number of nodes.
 #[tactic(auto, unfolding(crate::specs::Reading::time_at, crate::specs::Reading::tested))]
 pub(super) fn read_time(bytes: &mut &[u8]) -> Result<Time, WireFault>
     ensures { Gives (λ time. (time, bytes.new.now)) result (time_at bytes.old.now) }
@@ -65,11 +67,12 @@ pub(super) fn read_time(bytes: &mut &[u8]) -> Result<Time, WireFault>
     Ok(time)
 }
 
-/// The stamp of an interval of the node `own`, in place of one of as many nodes.
+/// Reads the stamp of an interval of node `own` into `stamp`, which has the same number of nodes.
 #[tactic(auto, unfolding(crate::specs::Reading::stamp_at, crate::specs::Reading::tested))]
 pub(super) fn read_stamp(stamp: &mut Time, own: u8, bytes: &mut &[u8]) -> Result<(), WireFault>
     requires { own < length stamp.old }
-    ensures exact { Gives (λ _. (stamp.new, bytes.new.now)) result (stamp_at (length stamp.old) own bytes.old.now) }
+    ensures exact { Gives (λ _. (stamp.new, bytes.new.now)) result
+        (stamp_at (length stamp.old) own bytes.old.now) }
     ensures long { IfOk result (λ _. length stamp.new ≡ length stamp.old) }
     ensures begun { IfOk result (λ _. 1 ≤ entry stamp.new own) }
 {

@@ -1,4 +1,4 @@
-//! Writing what each kind has after the header.
+//! Writing the body of each kind of message.
 
 ghost use Rattle.std.specs.Prelude.{◌≡◌, ◌++◌, ◌<◌, ◌≤◌, ◌^◌, length, OnOk};
 ghost use Rattle.std.specs.Int.{w16, w32};
@@ -20,7 +20,8 @@ use std::alloc::AllocError;
 
 #[tactic(auto, unfolding(crate::specs::Spelling::byte))]
 fn put_lock_request(out: &mut Vec<u8>, m: &LockRequest) -> Result<(), AllocError>
-    ensures written { OnOk result (out.new.items ≡ out.old.items ++ body Two runs_of (kinds.LockRequest m.now)) }
+    ensures written { OnOk result (out.new.items
+        ≡ out.old.items ++ body Two runs_of (kinds.LockRequest m.now)) }
     ensures fits { OnOk result (IsMessage Two (kinds.LockRequest m.now)) }
 {
     out.put_u8(m.lock)?;
@@ -29,7 +30,8 @@ fn put_lock_request(out: &mut Vec<u8>, m: &LockRequest) -> Result<(), AllocError
 
 #[tactic(auto, unfolding(crate::specs::Spelling::byte))]
 fn put_lock_forward(out: &mut Vec<u8>, m: &LockForward) -> Result<(), AllocError>
-    ensures written { OnOk result (out.new.items ≡ out.old.items ++ body Two runs_of (kinds.LockForward m.now)) }
+    ensures written { OnOk result (out.new.items
+        ≡ out.old.items ++ body Two runs_of (kinds.LockForward m.now)) }
     ensures fits { OnOk result (IsMessage Two (kinds.LockForward m.now)) }
 {
     out.put_u8(m.lock)?;
@@ -40,7 +42,8 @@ fn put_lock_forward(out: &mut Vec<u8>, m: &LockForward) -> Result<(), AllocError
 #[tactic(auto, unfolding(crate::specs::Spelling::byte))]
 fn put_lock_grant(out: &mut Vec<u8>, m: &LockGrant) -> Result<(), AllocError>
     requires { length m.now.intervals < 2 ^ 32 }
-    ensures written { OnOk result (out.new.items ≡ out.old.items ++ body Two runs_of (kinds.LockGrant m.now)) }
+    ensures written { OnOk result (out.new.items
+        ≡ out.old.items ++ body Two runs_of (kinds.LockGrant m.now)) }
     ensures fits { OnOk result (IsMessage Two (kinds.LockGrant m.now)) }
 {
     out.put_u8(m.lock)?;
@@ -50,7 +53,8 @@ fn put_lock_grant(out: &mut Vec<u8>, m: &LockGrant) -> Result<(), AllocError>
 #[tactic(auto, unfolding(crate::specs::Spelling::number))]
 fn put_arrive(out: &mut Vec<u8>, m: &Arrive) -> Result<(), AllocError>
     requires { length m.now.intervals < 2 ^ 32 }
-    ensures written { OnOk result (out.new.items ≡ out.old.items ++ body Two runs_of (kinds.Arrive m.now)) }
+    ensures written { OnOk result (out.new.items
+        ≡ out.old.items ++ body Two runs_of (kinds.Arrive m.now)) }
     ensures fits { OnOk result (IsMessage Two (kinds.Arrive m.now)) }
 {
     out.put_u32(m.episode)?;
@@ -61,7 +65,8 @@ fn put_arrive(out: &mut Vec<u8>, m: &Arrive) -> Result<(), AllocError>
 #[tactic(auto, unfolding(crate::specs::Spelling::number))]
 fn put_depart(out: &mut Vec<u8>, m: &Depart) -> Result<(), AllocError>
     requires { length m.now.intervals < 2 ^ 32 }
-    ensures written { OnOk result (out.new.items ≡ out.old.items ++ body Two runs_of (kinds.Depart m.now)) }
+    ensures written { OnOk result (out.new.items
+        ≡ out.old.items ++ body Two runs_of (kinds.Depart m.now)) }
     ensures fits { OnOk result (IsMessage Two (kinds.Depart m.now)) }
 {
     out.put_u32(m.episode)?;
@@ -72,7 +77,8 @@ fn put_depart(out: &mut Vec<u8>, m: &Depart) -> Result<(), AllocError>
 #[tactic(auto, unfolding(crate::specs::Spelling::number))]
 fn put_changes_request(out: &mut Vec<u8>, m: &ChangesRequest) -> Result<(), AllocError>
     requires { length m.now.indices < 2 ^ 32 }
-    ensures written { OnOk result (out.new.items ≡ out.old.items ++ body Two runs_of (kinds.ChangesRequest m.now)) }
+    ensures written { OnOk result (out.new.items
+        ≡ out.old.items ++ body Two runs_of (kinds.ChangesRequest m.now)) }
     ensures fits { OnOk result (IsMessage Two (kinds.ChangesRequest m.now)) }
 {
     out.put_u16(m.page)?;
@@ -82,7 +88,8 @@ fn put_changes_request(out: &mut Vec<u8>, m: &ChangesRequest) -> Result<(), Allo
 #[tactic(auto, unfolding(crate::specs::Spelling::number))]
 fn put_changes_reply(out: &mut Vec<u8>, m: &ChangesReply) -> Result<(), AllocError>
     requires { length m.now.parts < 2 ^ 32 }
-    ensures written { OnOk result (out.new.items ≡ out.old.items ++ body Two runs_of (kinds.ChangesReply m.now)) }
+    ensures written { OnOk result (out.new.items
+        ≡ out.old.items ++ body Two runs_of (kinds.ChangesReply m.now)) }
     ensures fits { OnOk result (IsMessage Two (kinds.ChangesReply m.now)) }
 {
     out.put_u16(m.page)?;
@@ -91,7 +98,8 @@ fn put_changes_reply(out: &mut Vec<u8>, m: &ChangesReply) -> Result<(), AllocErr
 
 #[tactic(auto, unfolding(crate::specs::Spelling::number))]
 fn put_page_reply(out: &mut Vec<u8>, m: &PageReply) -> Result<(), AllocError>
-    ensures written { OnOk result (out.new.items ≡ out.old.items ++ body Two runs_of (kinds.PageReply m.now)) }
+    ensures written { OnOk result (out.new.items
+        ≡ out.old.items ++ body Two runs_of (kinds.PageReply m.now)) }
     ensures fits { OnOk result (IsMessage Two (kinds.PageReply m.now)) }
 {
     out.put_u16(m.page)?;
@@ -114,7 +122,7 @@ fn put_page(out: &mut Vec<u8>, page: u16) -> Result<(), AllocError>
     out.put_u16(page)
 }
 
-/// The body of a message.
+/// Appends the body of a message.
 pub(super) fn put_body(out: &mut Vec<u8>, message: &Message) -> Result<(), AllocError>
     requires { length (body Two runs_of message.now) ≤ MOST_BODY_BYTES }
     ensures written { OnOk result (out.new.items ≡ out.old.items ++ body Two runs_of message.now) }

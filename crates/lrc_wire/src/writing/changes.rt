@@ -1,4 +1,4 @@
-//! Writing indices, parts and values.
+//! Writing indices, the changes of intervals, and page values.
 
 ghost use Rattle.std.specs.Prelude.{◌≡◌, ◌++◌, ◌<◌, ◌^◌, length, All, OnOk};
 ghost use Rattle.std.specs.Int.{w32, w64};
@@ -47,7 +47,8 @@ fn put_part(out: &mut Vec<u8>, item: &IndexedChanges) -> Result<(), AllocError>
 }
 
 fn put_each_part(out: &mut Vec<u8>, list: &[IndexedChanges]) -> Result<(), AllocError>
-    ensures written { OnOk result (out.new.items ≡ out.old.items ++ flat_map (part Two runs_of) list.now) }
+    ensures written { OnOk result (out.new.items
+        ≡ out.old.items ++ flat_map (part Two runs_of) list.now) }
     ensures each { OnOk result (All (FitPart Two) list.now) }
 {
     for item in list {
@@ -78,7 +79,7 @@ fn put_values(out: &mut Vec<u8>, values: &[u64]) -> Result<(), AllocError>
     Ok(())
 }
 
-/// How many values a page has, and the values.
+/// Appends the number of a page's values, and then the values.
 #[tactic(auto, unfolding(crate::specs::Spelling::number))]
 pub(super) fn put_page_values(out: &mut Vec<u8>, page: &Page) -> Result<(), AllocError>
     ensures written { OnOk result (out.new.items ≡ out.old.items ++ page_values Two page.now) }

@@ -73,7 +73,8 @@ fn put_numbers_16(out: &mut Vec<u8>, list: &[u16]) -> Result<(), AllocError>
 // An interval up to its pages, in one block.
 #[tactic(auto, unfolding(crate::specs::Spelling::byte, crate::specs::Spelling::number))]
 fn head_of(item: &Interval) -> Block
-    ensures written { result.items ≡ byte item.now.node ++ (time item.now.stamp ++ number w16 (length item.now.pages)) }
+    ensures written { result.items ≡ byte item.now.node
+        ++ (time item.now.stamp ++ number w16 (length item.now.pages)) }
     ensures fits { IsTime item.now.stamp }
 {
     let mut block = Block::new();
@@ -118,11 +119,12 @@ fn put_intervals(out: &mut Vec<u8>, list: &Intervals) -> Result<(), AllocError>
     put_each_interval(out, list.as_slice())
 }
 
-/// A time, and intervals that go with it.
+/// Appends a time, and the intervals that go with it.
 #[tactic(auto, unfolding(crate::specs::Spelling::news))]
 pub(super) fn put_news(out: &mut Vec<u8>, told: &News) -> Result<(), AllocError>
     requires { length told.now.intervals < 2 ^ 32 }
-    ensures written { OnOk result (out.new.items ≡ out.old.items ++ news told.now.time told.now.intervals) }
+    ensures written { OnOk result (out.new.items
+        ≡ out.old.items ++ news told.now.time told.now.intervals) }
     ensures fits { OnOk result (FitNews Two told.now.time told.now.intervals) }
 {
     put_time(out, &told.time)?;

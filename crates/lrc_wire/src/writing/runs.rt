@@ -35,7 +35,7 @@ fn run_end(changes: &Changes, start: usize) -> usize
     all
 }
 
-/// How many runs the changes are cut into.
+/// Returns the number of runs into which the changes are cut.
 pub(super) fn count_runs(changes: &Changes) -> usize
     ensures exact { result ≡ length (runs_of changes.now) }
     ensures few { result ≤ length changes.now }
@@ -61,7 +61,9 @@ fn put_run_values(
     requires order { start ≤ end }
     requires within { end ≤ length changes.now }
     requires bits { All (λ c. HasBits 64 c.value) (take start changes.now) }
-    ensures written { OnOk result (out.new.items ≡ out.old.items ++ numbers w64 (map (λ c. c.value) (take (end - start) (drop start changes.now)))) }
+    ensures written { OnOk result (out.new.items
+        ≡ out.old.items ++ numbers w64
+        (map (λ c. c.value) (take (end - start) (drop start changes.now)))) }
     ensures bits { OnOk result (All (λ c. HasBits 64 c.value) (take end changes.now)) }
 {
     for place in start..end {
@@ -78,7 +80,8 @@ fn put_run(out: &mut Vec<u8>, changes: &Changes, start: usize, end: usize) -> Re
     requires within { end ≤ length changes.now }
     requires few { length changes.now ≤ 256 }
     requires bits { All (λ c. HasBits 64 c.value) (take start changes.now) }
-    ensures written { OnOk result (out.new.items ≡ out.old.items ++ run (first_run (drop start changes.now))) }
+    ensures written { OnOk result (out.new.items
+        ≡ out.old.items ++ run (first_run (drop start changes.now))) }
     ensures bits { OnOk result (All (λ c. HasBits 64 c.value) (take end changes.now)) }
 {
     out.put_u8(changes.at(start).offset)?;
@@ -87,7 +90,8 @@ fn put_run(out: &mut Vec<u8>, changes: &Changes, start: usize, end: usize) -> Re
 }
 
 fn put_each_run(out: &mut Vec<u8>, changes: &Changes) -> Result<(), AllocError>
-    ensures written { OnOk result (out.new.items ≡ out.old.items ++ flat_map run (runs_of changes.now)) }
+    ensures written { OnOk result (out.new.items
+        ≡ out.old.items ++ flat_map run (runs_of changes.now)) }
     ensures bits { OnOk result (All (λ c. HasBits 64 c.value) changes.now) }
 {
     let mut start = 0;
@@ -99,7 +103,7 @@ fn put_each_run(out: &mut Vec<u8>, changes: &Changes) -> Result<(), AllocError>
     Ok(())
 }
 
-/// Changes in runs.
+/// Appends changes in runs.
 #[tactic(auto, unfolding(crate::specs::Spelling::in_runs, crate::specs::Spelling::number))]
 pub(super) fn put_runs(out: &mut Vec<u8>, changes: &Changes) -> Result<(), AllocError>
     ensures written { OnOk result (out.new.items ≡ out.old.items ++ in_runs (runs_of changes.now)) }

@@ -1,4 +1,4 @@
-//! How many bytes a body has, before any of them is written.
+//! The length of a body, computed before any of its bytes is written.
 
 ghost use Rattle.std.specs.Prelude.{◌≡◌, ◌+◌, ◌<◌, ◌≤◌, length, IfSome, IfNone};
 ghost use Rattle.lrc_wire.specs.declared.version.Version.TheVariants.{Two};
@@ -31,9 +31,11 @@ fn interval_len(item: &Interval) -> usize
 // have.
 fn news_len(before: usize, told: &News) -> Option<usize>
     requires { before ≤ 5 }
-    ensures within { IfSome result (λ n. n ≡ before + length (news told.now.time told.now.intervals)) }
+    ensures within { IfSome result (λ n. n ≡ before + length
+        (news told.now.time told.now.intervals)) }
     ensures small { IfSome result (λ n. n ≤ MOST_BODY_BYTES) }
-    ensures over { IfNone result (MOST_BODY_BYTES < before + length (news told.now.time told.now.intervals)) }
+    ensures over { IfNone result (MOST_BODY_BYTES
+        < before + length (news told.now.time told.now.intervals)) }
 {
     let mut len = before + time_len(&told.time) + 4;
     for record in told.intervals.as_slice() {
@@ -87,7 +89,7 @@ fn page_len(page: &Page) -> usize
     4 + 8 * usize::from(page.size().words())
 }
 
-/// How many bytes the body of a message has. None where it is more than a body may have.
+/// Returns the number of bytes of a message's body, or `None` if the body would be too long.
 #[tactic(auto, using(crate::proofs::Lengths::lengths))]
 pub(super) fn body_len(message: &Message) -> Option<usize>
     ensures within { IfSome result (λ n. n ≡ length (body Two runs_of message.now)) }

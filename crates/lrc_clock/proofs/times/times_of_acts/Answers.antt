@@ -4,8 +4,8 @@ use Rattle.lrc_trace.specs.declared.act.Act.{Act}
 use Rattle.lrc_trace.specs.declared.act.Deed.TheVariants.{Quiet}
 use Rattle.lrc_clock.specs.Keeping.{KeepsTime}
 use Rattle.lrc_clock.proofs.Computing.{keeps-none, keeps-step}
-use Rattle.lrc_timed.specs.Past.{IsTimedPast}
-use Rattle.lrc_timed.proofs.times.times_of_acts.Goals as goal
+use Rattle.lrc_clock.specs.Past.{IsTimedPast}
+use Rattle.lrc_clock.proofs.times.times_of_acts.Goals as goal
 
 abbrev no_act : Act
 no_act = record { node = 0; deed = Quiet }

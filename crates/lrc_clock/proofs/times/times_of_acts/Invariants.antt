@@ -1,7 +1,7 @@
 use Rattle.std.proofs.Common.{take}
 use Rattle.lrc_clock.specs.Keeping.{KeepsTime}
-use Rattle.lrc_timed.specs.Past.{IsTimedPast}
-use Rattle.lrc_timed.proofs.times.times_of_acts.Given as goal
+use Rattle.lrc_clock.specs.Past.{IsTimedPast}
+use Rattle.lrc_clock.proofs.times.times_of_acts.Given as goal
 
 -- the times of the acts so far, and what these leave
 abbrev pub invariant-loop-position : goal.invariant-loop-position

@@ -4,7 +4,7 @@ use Rattle.lrc_trace.specs.declared.act.Act.{Act}
 use Rattle.lrc_trace.specs.Run.{arrives_before, departs_before}
 use Rattle.lrc_time.specs.Time.{zeros}
 use Rattle.lrc_clock.specs.Times.{time_before, released_time, arrived_time, time_or_zeros}
-use Rattle.lrc_timed.specs.declared.past.Past.{Past}
+use Rattle.lrc_clock.specs.declared.past.Past.{Past}
 
 -- the time is that at the position, or zeros where there is none
 pub record IsTimeAt (nodes : ℕ) (times : List (List ℕ)) (position : Option ℕ) (time : List ℕ) : Type 0 where

@@ -19,9 +19,9 @@ use Rattle.lrc_clock.proofs.Lasting.{last-here, last-not_here}
 use Rattle.lrc_clock.proofs.Passing.{acts_at-true, acts_at-act, releases_at-true, releases_at-act}
 use Rattle.lrc_clock.proofs.Prefixes.{keeps-more, time_before-prefix, released_time-prefix, arrived_time-prefix}
 use Rattle.lrc_clock.proofs.Rules.{long}
-use Rattle.lrc_timed.specs.Joined.{IsJoined}
-use Rattle.lrc_timed.specs.Past.{IsTimedPast, IsTimeAt}
-use Rattle.lrc_timed.specs.declared.past.Past.{Past}
+use Rattle.lrc_clock.specs.Joined.{IsJoined}
+use Rattle.lrc_clock.specs.Past.{IsTimedPast, IsTimeAt}
+use Rattle.lrc_clock.specs.declared.past.Past.{Past}
 
 module _ (nodes : ℕ) (run : List Act) (times : List (List ℕ)) (act : Act) (time : List ℕ) (timed : length times ≡ length run) where
   abbrev pub grown : List Act

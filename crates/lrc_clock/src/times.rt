@@ -8,8 +8,9 @@ use lrc_time::Time;
 use lrc_trace::act::Act;
 use std::alloc::{AllocError, Global};
 
-/// The times of acts of so many nodes, 1 to 16, each act of one of them: for each position that of the acting node just after the
-/// act. It costs little more than the acts. There is no memory for 2^32 acts or more, whose times would take 256 GiB.
+/// Returns the times of the acts of 1 to 16 nodes: for each position, the time of the acting node just after the act.
+/// Each act is of one of the nodes. It costs little more than the acts. It fails if memory runs out; there is no memory
+/// for 2^32 acts or more, whose times would take 256 GiB.
 pub fn times_of_acts(alloc: Global, acts: &[Act], nodes: u8) -> Result<Vec<Time>, AllocError>
     requires some { 1 ≤ nodes }
     requires few { nodes ≤ 16 }

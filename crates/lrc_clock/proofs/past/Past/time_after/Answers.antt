@@ -4,7 +4,7 @@ use Rattle.lrc_time.specs.Time.{entry}
 use Rattle.lrc_clock.specs.Times.{time_before}
 use Rattle.lrc_clock.proofs.Rules.{long-before}
 use Rattle.lrc_clock.proofs.Computing.{arrived-length, own-few, released-length}
-use Rattle.lrc_timed.proofs.past.Past.time_after.Goals as goal
+use Rattle.lrc_clock.proofs.past.Past.time_after.Goals as goal
 
 pub close-requires-clause-in_range : goal.close-requires-clause-in_range
 close-requires-clause-in_range c =

@@ -10,11 +10,11 @@ use Rattle.lrc_trace.proofs.Counts.{no_arrive, no_depart}
 use Rattle.lrc_time.specs.Time.{zeros}
 use Rattle.lrc_clock.specs.Times.{arrived_time, released_time, time_before}
 use Rattle.lrc_clock.proofs.Computing.{arrived-length}
-use Rattle.lrc_timed.specs.Past.{IsTimeAt}
-use Rattle.lrc_timed.proofs.NextPast.{arrived-next, arrived-rest, before-other, before-own, bound-next, bound-same, counts-next}
-use Rattle.lrc_timed.proofs.NextPast.{counts-same, next-long, released-other, released-own, table-next, table-same}
-use Rattle.lrc_timed.proofs.past.Past.note.Goals as goal
-use Rattle.lrc_timed.proofs.past.Past.note.Goals.{After-from-node}
+use Rattle.lrc_clock.specs.Past.{IsTimeAt}
+use Rattle.lrc_clock.proofs.NextPast.{arrived-next, arrived-rest, before-other, before-own, bound-next, bound-same, counts-next}
+use Rattle.lrc_clock.proofs.NextPast.{counts-same, next-long, released-other, released-own, table-next, table-same}
+use Rattle.lrc_clock.proofs.past.Past.note.Goals as goal
+use Rattle.lrc_clock.proofs.past.Past.note.Goals.{After-from-node}
 
 -- the lock that a release names
 released_lock : {a b : ℕ} → Release a ≡ Release b → a ≡ b

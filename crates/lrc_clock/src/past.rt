@@ -2,27 +2,28 @@
 
 ghost use Rattle.std.specs.Prelude.{◌≡◌, ◌<◌, ◌≤◌, IfSome, OnOk, length, slice_index_or};
 ghost use Rattle.lrc_judge.specs.declared.TheConstants.{NODES};
-ghost use Rattle.lrc_timed.specs.declared.past.TheConstants.{LOCKS};
+ghost use Rattle.lrc_clock.specs.declared.past.TheConstants.{LOCKS};
 ghost use Rattle.lrc_time.specs.Time.{entry, zeros};
 ghost use Rattle.lrc_clock.specs.Times.{raised, time_or_zeros};
-ghost use Rattle.lrc_timed.specs.Joined.{IsJoined};
+ghost use Rattle.lrc_clock.specs.Joined.{IsJoined};
 
 use lrc_judge::NODES;
 use lrc_time::Time;
 use lrc_trace::act::{Act, Deed};
 use std::alloc::{AllocError, Global};
 
-/// How many locks an act can name.
+/// The number of locks that an act can name.
 const LOCKS: usize = 256;
 
-/// Where the times of nodes and locks stand, the times of barriers, and how often each node came to one and went on.
+/// What the acts so far leave: the last positions of nodes and locks, the times of barriers, and how often each node
+/// arrived and departed.
 #[derive(Drop)]
 pub(crate) struct Past {
-    /// For each node its last position.
+    /// For each node, the position of its last act.
     acted: [Option<usize>; NODES],
-    /// For each lock the position of its last release.
+    /// For each lock, the position of its last release.
     released: [Option<usize>; LOCKS],
-    /// For each number, what was known at the arrives with so many of their own node before them.
+    /// For each number, what was known at the arrives that have this many arrives of their own node before them.
     arrived: Vec<Time>,
     /// How often each node has arrived.
     arrives: [usize; NODES],
@@ -81,9 +82,9 @@ impl Past {
     ghost use Rattle.lrc_trace.specs.Run.{departs_before};
     ghost use Rattle.lrc_clock.specs.Keeping.{KeepsTime, next_act_time};
     ghost use Rattle.lrc_clock.specs.Times.{arrived_time, released_time, time_before};
-    ghost use Rattle.lrc_timed.specs.Past.{IsTimedPast};
+    ghost use Rattle.lrc_clock.specs.Past.{IsTimedPast};
 
-    /// Before any act.
+    /// Returns the past before any act.
     pub(crate) fn new(alloc: Global) -> Past
         ensures { (nodes : ℕ) → IsTimedPast nodes [] [] result }
     {
@@ -123,7 +124,8 @@ impl Past {
         requires few { nodes ≤ 16 }
         requires past { IsTimedPast nodes acts.now times.now self.now }
         requires node { node < nodes }
-        ensures { result ≡ arrived_time nodes acts.now times.now (departs_before acts.now node (length acts.now)) (length acts.now) }
+        ensures { result ≡ arrived_time nodes acts.now times.now
+            (departs_before acts.now node (length acts.now)) (length acts.now) }
     {
         match self.arrived.get(self.departs[usize::from(node)]) {
             Some(time) => time.copy(),
@@ -131,7 +133,7 @@ impl Past {
         }
     }
 
-    /// The time just after an act that follows these.
+    /// Returns the time just after `act`, which follows `acts`.
     pub(crate) fn time_after(&self, acts: &[Act], times: &[Time], act: Act, nodes: u8) -> Time
         requires some { 1 ≤ nodes }
         requires few { nodes ≤ 16 }
@@ -154,7 +156,8 @@ impl Past {
         time
     }
 
-    /// Takes an act in that follows these, and its time.
+    /// Takes in an act that follows these, and its time. It fails if memory runs out; what is then noted is
+    /// unspecified.
     pub(crate) fn note(
         &mut self,
         acts: &[Act],
@@ -170,7 +173,8 @@ impl Past {
         requires keeps { KeepsTime nodes acts.now times.now }
         requires past { IsTimedPast nodes acts.now times.now self.old }
         requires time { time.now ≡ next_act_time nodes acts.now times.now act.node act.deed }
-        ensures { OnOk result (IsTimedPast nodes (acts.now ++ act ∷ []) (times.now ++ time.now ∷ []) self.new) }
+        ensures { OnOk result (IsTimedPast nodes (acts.now ++ act ∷ [])
+            (times.now ++ time.now ∷ []) self.new) }
     {
         let node = usize::from(act.node);
         self.acted[node] = Some(times.len());

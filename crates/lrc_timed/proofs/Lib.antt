@@ -1,2 +1,0 @@
-pub mod NextPast
-pub mod OfRuns

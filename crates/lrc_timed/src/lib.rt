@@ -1,7 +1,0 @@
-//! The time of each act of a run, in one pass over the acts: what its node knew just after it (Mattern 1989, Fidge 1988; for
-//! intervals between synchronizations Keleher, Cox and Zwaenepoel 1992).
-#![tactic(auto)]
-
-pub mod laws;
-mod past;
-pub mod times;
