@@ -91,7 +91,8 @@ impl Found {
         ensures found { OnOk result (AreFound task.now self.new) }
         ensures more { OnOk result (IsMore self.old self.new) }
         ensures sound { OnOk result (AreSound task.now outcomes.new.keys) }
-        ensures done { OnOk result (AreGathered task.now self.new.states outcomes.new.keys (row_count self.new.states)) }
+        ensures done { OnOk result (AreGathered task.now self.new.states outcomes.new.keys
+            (row_count self.new.states)) }
         ensures fits { OnOk result (row_count self.new.states ≤ task.now.most) }
         ensures faults { IfErr result (IsFault task.now) }
     {

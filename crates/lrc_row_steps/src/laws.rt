@@ -19,16 +19,22 @@ ghost use Rattle.lrc_row_steps.specs.All.{acts_of_all, gone_all};
 
 /// After a read, a write or an acquire from a settled state that node alone settles, as its thread does by itself.
 pub fn one_thread_settles_after_the_step_of_one_node()
-    ensures { (machine mid : Plain) (node : ℕ) (deed : Deed) (deeds : List Deed) (there : Option Thread) → IsSettled machine
-        → is_contended deed ≡ true → plain_step machine node ≡ Some (deed, mid) → ThreadSettles (thread_in mid node) deeds there
-        → TakesTo machine (Alone node) (act_of node deed ∷ acts_by node deeds) (gone mid node deeds there) }
+    ensures { (machine mid : Plain) (node : ℕ) (deed : Deed) (deeds : List Deed)
+        (there : Option Thread) → IsSettled machine
+        → is_contended deed ≡ true → plain_step machine node ≡ Some (deed, mid)
+        → ThreadSettles (thread_in mid node) deeds there
+        → TakesTo machine (Alone node) (act_of node deed ∷ acts_by node deeds)
+        (gone mid node deeds there) }
 {}
 
 /// After the departs of all nodes they settle one after another, each as its thread does by itself.
 pub fn each_thread_settles_after_the_step_of_all()
-    ensures { (machine mid : Plain) (departs : List Act) (deeds : ℕ → List Deed) (there : ℕ → Option Thread) → AllWait machine
+    ensures { (machine mid : Plain) (departs : List Act) (deeds : ℕ → List Deed)
+        (there : ℕ → Option Thread) → AllWait machine
         → plain_from machine (range_with_len 0 (length machine.threads)) ≡ Some (departs, mid)
         → length mid.threads ≡ length machine.threads
-        → ((node : ℕ) → node < length machine.threads → ThreadSettles (thread_in mid node) (deeds node) (there node))
-        → TakesTo machine Together (departs ++ acts_of_all deeds (length machine.threads)) (gone_all mid deeds there (length machine.threads)) }
+        → ((node : ℕ) → node < length machine.threads
+        → ThreadSettles (thread_in mid node) (deeds node) (there node))
+        → TakesTo machine Together (departs ++ acts_of_all deeds (length machine.threads))
+        (gone_all mid deeds there (length machine.threads)) }
 {}

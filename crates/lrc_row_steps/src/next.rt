@@ -70,8 +70,11 @@ pub fn settled_after(
     requires flat { IsFlat flat.now }
     requires within { spot.now.place ≤ length flat.now.code.now }
     requires going { spot.now.stopped ≡ false }
-    requires takes { spot.now.arrived ≡ false → TakesAnswer (ask_of (next_of_thread (thread_at flat.now spot.now))) }
-    ensures { IfOk result (λ settled. MatchOption settled (MakesFree looked (Some (thread_then flat.now spot.now value))) (SettlesSo flat.now spot.now value)) }
+    requires takes { spot.now.arrived ≡ false
+        → TakesAnswer (ask_of (next_of_thread (thread_at flat.now spot.now))) }
+    ensures { IfOk result (λ settled. MatchOption settled
+        (MakesFree looked (Some (thread_then flat.now spot.now value)))
+        (SettlesSo flat.now spot.now value)) }
 {
     let there = after_act(flat, spot, value);
     match settle_thread(alloc, flat, &there, looked)? {
@@ -92,7 +95,8 @@ fn after_act(flat: &Flat, spot: &Spot, value: u64) -> Spot
     requires flat { IsFlat flat.now }
     requires within { spot.now.place ≤ length flat.now.code.now }
     requires going { spot.now.stopped ≡ false }
-    requires takes { spot.now.arrived ≡ false → TakesAnswer (ask_of (next_of_thread (thread_at flat.now spot.now))) }
+    requires takes { spot.now.arrived ≡ false
+        → TakesAnswer (ask_of (next_of_thread (thread_at flat.now spot.now))) }
     ensures thread { spot_thread flat.now result ≡ Some (thread_then flat.now spot.now value) }
     ensures within { result.place ≤ length flat.now.code.now }
 {

@@ -48,7 +48,8 @@ pub fn thread_number(threads: &mut IndexSet<Spot>, thread: Spot) -> Result<u32, 
 pub fn shared_number(all: &mut IndexSet<Shared>, shared: Shared) -> Result<u32, AllocError>
     ensures grows { OnOk result (Grows all.old.keys all.new.keys) }
     ensures distinct { OnOk result (AreSharedDistinct all.new.keys) }
-    ensures there { IfOk result (λ number. IsSharedAt all.new.keys number shared.memory.items shared.holders.items) }
+    ensures there { IfOk result (λ number. IsSharedAt all.new.keys number shared.memory.items
+        shared.holders.items) }
 {
     let (place, _new) = all.insert_full(shared)?;
     let number = short(place)?;
@@ -71,7 +72,8 @@ pub fn threads_of(threads: &mut IndexSet<Spot>, spots: &[Spot]) -> Result<[u32; 
     requires { AreSpotsDistinct threads.old.keys }
     ensures grows { OnOk result (Grows threads.old.keys threads.new.keys) }
     ensures distinct { OnOk result (AreSpotsDistinct threads.new.keys) }
-    ensures there { IfOk result (λ numbers. AreThreadsAt threads.new.keys (length spots.now) numbers spots.now) }
+    ensures there { IfOk result (λ numbers. AreThreadsAt threads.new.keys
+        (length spots.now) numbers spots.now) }
     ensures few { OnOk result (length spots.now ≤ 16) }
 {
     if spots.len() > 16 {

@@ -6,8 +6,8 @@
 use crate::parts::{Notes, Shared, counted, notes_number, shared_number, threads_at, threads_of};
 use indexmap::IndexSet;
 use lrc_exec::spot::Spot;
-use lrc_explore::noted::Noted;
 use lrc_exec::state::State;
+use lrc_explore::noted::Noted;
 use std::alloc::{AllocError, Global};
 
 /// A state with its notes, by the number of each node's thread, of what the nodes share, and of what was noted. Past the nodes that there
@@ -95,7 +95,8 @@ impl Rows {
         ensures widens { OnOk result (WidensRows self.old self.new) }
         ensures distinct { OnOk result (AreRowsDistinct self.new) }
         ensures there { IfOk result (λ added. IsRowAt self.new added.0 noted) }
-        ensures added { IfOk result (λ added. IsAddedAt (row_count self.old) (row_count self.new) added.0 added.1) }
+        ensures added { IfOk result (λ added. IsAddedAt (row_count self.old)
+            (row_count self.new) added.0 added.1) }
     {
         let state = noted.state;
         let acts = noted.notes;
@@ -121,8 +122,10 @@ impl Rows {
         requires { AreRowsDistinct self.old }
         ensures widens { OnOk result (WidensRows self.old self.new) }
         ensures distinct { OnOk result (AreRowsDistinct self.new) }
-        ensures there { IfOk result (λ added. (key : Key) → StandsFor self.old row key → IsRowAt self.new added.0 key) }
-        ensures added { IfOk result (λ added. IsAddedAt (row_count self.old) (row_count self.new) added.0 added.1) }
+        ensures there { IfOk result (λ added. (key : Key) → StandsFor self.old row key
+            → IsRowAt self.new added.0 key) }
+        ensures added { IfOk result (λ added. IsAddedAt (row_count self.old)
+            (row_count self.new) added.0 added.1) }
     {
         let (place, added) = self.rows.insert_full(row)?;
         Ok((place, added))
