@@ -8,9 +8,9 @@ use Rattle.std.proofs.lemmas.List.{get_or-map, get_or_past, length-map, with_ite
 use Rattle.lrc_exec.specs.declared.spot.Flat.{Flat}
 use Rattle.lrc_exec.specs.declared.spot.Spot.{Spot}
 use Rattle.lrc_exec.specs.Plain.{thread_in}
-use Rattle.lrc_exec.specs.Spots.{spot_thread, thread_at}
+use Rattle.lrc_exec.specs.Spots.{spot_stopped, spot_thread, thread_at}
 use Rattle.lrc_exec.specs.declared.state.State.{State}
-use Rattle.lrc_exec.specs.States.{plain_at, spot_stopped, IsStateOf}
+use Rattle.lrc_exec.specs.States.{plain_at, IsStateOf}
 use Rattle.lrc_alike.specs.Alike.{BothAlike, stopped, going}
 use Rattle.lrc_alike.specs.Names.{AgreeWhereItMatters}
 use Rattle.lrc_steps.specs.Taking.{count_of, IsCounted}
