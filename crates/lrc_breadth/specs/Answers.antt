@@ -43,7 +43,8 @@ IsAnswer program nodes (RaceFree None) = HasNoRace program nodes × NeverStuck p
 IsAnswer program nodes (RaceFree (Some order)) = HasNoRace program nodes × GetsStuck program nodes order.items
 IsAnswer program nodes (Racy order) = EndsInRace program nodes order.items
 
--- from where a settled state of the program stands, but for how often nodes have arrived, some node comes to so many free acts
+-- from a state like a settled one of the program, the same but for how often nodes have arrived and for private values that nothing
+-- depends on any more, some node comes to so many free acts
 pub record SettlesLong (program : Program) (nodes most : ℕ) : Type 0 where
   pub acts : List Act
   pub machine : Plain
@@ -59,7 +60,8 @@ pub record HasMoreSettled (task : Task) (most : ℕ) : Type 0 where
   pub distinct : IsDistinct eq-value.it keys
   pub each : (k : ℕ) (key : Noted) → slice_get keys k ≡ Some key → IsReached task key
 
--- each settled state of the program is one of so many, but for how often nodes have arrived
+-- each settled state of the program is one of so many, but for how often nodes have arrived and for private values that nothing depends
+-- on any more
 pub record FitsSettled (program : Program) (nodes most : ℕ) : Type 0 where
   pub states : List Plain
   pub few : length states ≤ most
