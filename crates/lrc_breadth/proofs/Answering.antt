@@ -10,7 +10,7 @@ use Rattle.lrc_explore.specs.Meeting.{Meet}
 use Rattle.lrc_explore.specs.Stuck.{GetsStuck, IsStuck}
 use Rattle.lrc_explore.specs.Verdict.{EndsInRace, NeverStuck}
 use Rattle.lrc_explore.proofs.Searching.{copy_same}
-use Rattle.lrc_explore.proofs.Ways.{noted_copy}
+use Rattle.lrc_rows.proofs.RowLaws.{row_copy}
 use Rattle.lrc_settled.proofs.Settled.{ends_in_race}
 use Rattle.lrc_breadth.specs.declared.task.Task.{Task}
 use Rattle.lrc_breadth.specs.declared.task.Found.{Found}
@@ -24,7 +24,7 @@ use Rattle.lrc_breadth.proofs.Reaching.{gets_stuck, never_stuck, no_race}
 pub race_answer : (task : Task) (found : Found) (place p q : ℕ) (acts : List Act) (order : List ℕ) → LeadTo task found place acts
     → IsEnd task found (Meeting place p q) → order ≡ nodes_of_acts acts ++ p ∷ q ∷ [] → EndsInRace task.program.now task.flat.nodes order
 race_answer task found place p q acts order led end is =
-    let same = copy_same task.flat end.0.state led.key.state (noted_copy found.states place end.0 led.key end.1 led.there).state in
+    let same = copy_same task.flat end.0.state led.key.state (row_copy found.states place end.0 led.key end.1 led.there).state in
     let meet = meet_like (like_back led.alike) p q (subst (λ m. Meet m p q) same end.2) in
     subst (EndsInRace task.program.now task.flat.nodes) (sym is) (ends_in_race task.program.now task.flat.nodes acts led.machine p q led.led meet)
 
@@ -33,7 +33,7 @@ pub stuck_answer : (task : Task) (found : Found) (place : ℕ) (acts : List Act)
     → HasNoRace task.program.now task.flat.nodes × GetsStuck task.program.now task.flat.nodes order
 stuck_answer task found place acts order f start led end is =
     let key = end.2.0 in
-    let same = copy_same task.flat key.state led.key.state (noted_copy found.states place key led.key end.2.1 led.there).state in (
+    let same = copy_same task.flat key.state led.key.state (row_copy found.states place key led.key end.2.1 led.there).state in (
       no_race task found.states f.reached start end.1 end.0,
       subst (GetsStuck task.program.now task.flat.nodes) (sym (is ∙ append-nil (nodes_of_acts acts)))
           (gets_stuck task led.key (f.reached.each place led.key led.there) acts led.machine led.led led.alike (subst IsStuck same end.2.2)),

@@ -10,13 +10,13 @@ use Rattle.lrc_trace.specs.contracts.act.CausePartialEq.TheImpl.{eq-value as cau
 use Rattle.lrc_trace.specs.contracts.act.DeedPartialEq.TheImpl.{eq-value as deed_eq}
 use Rattle.lrc_trace.specs.contracts.act.ActPartialEq.TheImpl.{eq-value as act_eq}
 use Rattle.lrc_explore.specs.declared.noted.Noted.{Noted}
-use Rattle.lrc_explore.specs.Noted.{IsNotedAt, noted_count}
+use Rattle.lrc_rows.specs.Rows.{IsRowAt, row_count}
 use Rattle.lrc_explore.specs.Outcome.{IsOutcome}
 use Rattle.lrc_exec.specs.States.{plain_at}
 use Rattle.lrc_explore.specs.Stuck.{IsAtRest}
 use Rattle.lrc_explore.proofs.KeptAlike.{both_true, nat_itself}
 use Rattle.lrc_explore.proofs.Searching.{copy_same}
-use Rattle.lrc_explore.proofs.Ways.{noted_copy, noted_within}
+use Rattle.lrc_rows.proofs.RowLaws.{row_copy, row_within}
 use Rattle.lrc_settled.proofs.GoingOn.{state_fine}
 use Rattle.lrc_settled.proofs.Settled.{outcomes, state_run}
 use Rattle.lrc_breadth.specs.declared.task.Task.{Task}
@@ -53,7 +53,7 @@ act_itself a = both_true _ _ (nat_itself a.node) (deed_itself a.deed)
 
 -- ---- all settled states
 
-pub all_found : (task : Task) (found : Found) → AreFound task found → HasStart task found.states → AreExpanded task found.states (noted_count found.states)
+pub all_found : (task : Task) (found : Found) → AreFound task found → HasStart task found.states → AreExpanded task found.states (row_count found.states)
     → AreAllFound task found
 all_found task found f start expanded = record { are = f; start = start; expanded = expanded }
 
@@ -61,7 +61,7 @@ all_found task found f start expanded = record { are = f; start = start; expande
 pub run_to : (task : Task) (found : Found) (notes : List Act) (place : ℕ) (acts : List Act) → task.noting ≡ true → AreFound task found
     → IsEndAt task found notes place → LeadTo task found place acts → IsRunWith task.program.now task.flat.nodes notes acts
 run_to task found notes place acts noting f is led =
-    let copy = noted_copy found.states place is.key led.key is.there led.there in
+    let copy = row_copy found.states place is.key led.key is.there led.there in
     let still = subst IsAtRest (copy_same task.flat is.key.state led.key.state copy.state) is.still in
     record {
       machine = led.machine;
@@ -73,23 +73,23 @@ run_to task found notes place acts noting f is led =
 
 -- where no state is such an end, the notes are of no outcome
 pub no_outcome : (task : Task) (found : Found) (notes : List Act) → task.noting ≡ true → AreAllFound task found
-    → HasNoEndBefore task found notes (noted_count found.states) → IsOutcome task.program.now task.flat.nodes notes → ⊥
+    → HasNoEndBefore task found notes (row_count found.states) → IsOutcome task.program.now task.flat.nodes notes → ⊥
 no_outcome task found notes noting a none is =
     let o = (outcomes task.program.now task.flat.nodes notes).0 is in
     let has = all_reached task found.states a.are.reached a.start a.expanded o.led in
     let key = has.key in
     let still = rest_like o.machine (plain_at task.flat key.state) (state_fine o.led) (fine_key task key (a.are.reached.each has.place key has.there))
     has.alike o.still in
-    none has.place (noted_within found.states has.place key has.there)
+    none has.place (row_within found.states has.place key has.there)
     (record { key = key; there = has.there; still = still; are = has.noted noting ∙ o.are })
 
 -- the state at one place more is no such end
-pub no_end_at : (task : Task) (found : Found) (notes : List Act) (place : ℕ) (key : Noted) → IsNotedAt found.states place key
+pub no_end_at : (task : Task) (found : Found) (notes : List Act) (place : ℕ) (key : Noted) → IsRowAt found.states place key
     → (IsAtRest (plain_at task.flat key.state) × (key.notes.items ≡ notes) → ⊥) → HasNoEndBefore task found notes place
     → HasNoEndBefore task found notes (place + 1)
 no_end_at task found notes place key there never before k lt is = elim (cases_eq k place) [
   | inl same ↦
-      let copy = noted_copy found.states place is.key key (subst (λ n. IsNotedAt found.states n is.key) same is.there) there in
+      let copy = row_copy found.states place is.key key (subst (λ n. IsRowAt found.states n is.key) same is.there) there in
       never (subst IsAtRest (copy_same task.flat is.key.state key.state copy.state) is.still, sym copy.notes ∙ is.are)
   | inr apart ↦ before k (omega (arith, lt, apart)) is
 ]

@@ -7,14 +7,15 @@ use Rattle.lrc_trace.specs.declared.act.Act.{Act}
 use Rattle.lrc_exec.specs.declared.spot.Flat.{Flat}
 use Rattle.lrc_exec.specs.Plain.{Plain}
 use Rattle.lrc_explore.specs.declared.noted.Noted.{Noted}
-use Rattle.lrc_explore.specs.declared.noted.NotedStates.{NotedStates}
-use Rattle.lrc_explore.specs.Noted.{IsNotedAt, WidensNoted, noted_count}
+use Rattle.lrc_rows.specs.declared.rows.Rows.{Rows}
+use Rattle.lrc_rows.specs.Rows.{IsRowAt, WidensRows, row_count}
 use Rattle.lrc_explore.specs.Notes.{notes_of}
 use Rattle.lrc_exec.specs.States.{plain_at}
 use Rattle.lrc_explore.proofs.Keeping.{item_at}
 use Rattle.lrc_explore.proofs.Searching.{copy_same}
 use Rattle.lrc_explore.proofs.Stores.{listed}
-use Rattle.lrc_explore.proofs.Ways.{IsNotedCopy, noted_copy, noted_store, noted_within}
+use Rattle.lrc_explore.proofs.Ways.{IsNotedCopy}
+use Rattle.lrc_rows.proofs.RowLaws.{row_copy, row_store, row_within}
 use Rattle.lrc_breadth.specs.declared.task.Task.{Task}
 use Rattle.lrc_breadth.specs.Answers.{FitsSettled, FitsSettledNoted}
 use Rattle.lrc_breadth.specs.Reached.{AreExpanded, AreReached, HasStart}
@@ -29,11 +30,11 @@ told flat key = with_notes (plain_at flat key.state) key.notes.items
 abbrev stood : Flat → Noted → Plain
 stood flat key = plain_at flat key.state
 
-module _ (task : Task) (all : NotedStates) (most : ℕ) (reached : AreReached task all) (start : HasStart task all)
-    (expanded : AreExpanded task all (noted_count all)) (few : noted_count all ≤ most) where
+module _ (task : Task) (all : Rows) (most : ℕ) (reached : AreReached task all) (start : HasStart task all)
+    (expanded : AreExpanded task all (row_count all)) (few : row_count all ≤ most) where
   pub fits_settled : FitsSettled task.program.now task.flat.nodes most
   fits_settled =
-      let items = listed IsNotedAt noted_count WidensNoted IsNotedCopy noted_store all reached.full in
+      let items = listed IsRowAt row_count WidensRows IsNotedCopy row_store all reached.full in
       let keys = items.list in
       let long = items.long in
       record {
@@ -41,9 +42,9 @@ module _ (task : Task) (all : NotedStates) (most : ℕ) (reached : AreReached ta
         few = omega (arith, few, long, length-map keys (stood task.flat));
         all = λ acts machine state.
             let has = all_reached task all reached start expanded state in
-            let within = subst (λ n. has.place < n) (sym long) (noted_within all has.place has.key has.there) in
+            let within = subst (λ n. has.place < n) (sym long) (row_within all has.place has.key has.there) in
             let (key, there) = item_at keys has.place within in
-            let copy = noted_copy all has.place key has.key (items.at has.place key there) has.there in
+            let copy = row_copy all has.place key has.key (items.at has.place key there) has.there in
             let like = plain_at task.flat has.key.state in (
               like,
               (
@@ -59,7 +60,7 @@ module _ (task : Task) (all : NotedStates) (most : ℕ) (reached : AreReached ta
 
   pub fits_settled_noted : task.noting ≡ true → FitsSettledNoted task.program.now task.flat.nodes most
   fits_settled_noted noting =
-      let items = listed IsNotedAt noted_count WidensNoted IsNotedCopy noted_store all reached.full in
+      let items = listed IsRowAt row_count WidensRows IsNotedCopy row_store all reached.full in
       let keys = items.list in
       let long = items.long in
       record {
@@ -67,9 +68,9 @@ module _ (task : Task) (all : NotedStates) (most : ℕ) (reached : AreReached ta
         few = omega (arith, few, long, length-map keys (told task.flat));
         all = λ acts machine state.
             let has = all_reached task all reached start expanded state in
-            let within = subst (λ n. has.place < n) (sym long) (noted_within all has.place has.key has.there) in
+            let within = subst (λ n. has.place < n) (sym long) (row_within all has.place has.key has.there) in
             let (key, there) = item_at keys has.place within in
-            let copy = noted_copy all has.place key has.key (items.at has.place key there) has.there in
+            let copy = row_copy all has.place key has.key (items.at has.place key there) has.there in
             let like = plain_at task.flat has.key.state in (
               like,
               (

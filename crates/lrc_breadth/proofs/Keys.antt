@@ -8,17 +8,18 @@ use Rattle.lrc_trace.proofs.Positions.{slice_get-seam}
 use Rattle.lrc_exec.specs.Plain.{Plain}
 use Rattle.lrc_exec.specs.Spots.{spot_thread}
 use Rattle.lrc_explore.specs.declared.noted.Noted.{Noted}
-use Rattle.lrc_explore.specs.declared.noted.NotedStates.{NotedStates}
+use Rattle.lrc_rows.specs.declared.rows.Rows.{Rows}
 use Rattle.lrc_exec.specs.declared.state.State.{State}
 use Rattle.lrc_explore.specs.Kept.{Grows, IsAddedAt}
-use Rattle.lrc_explore.specs.Noted.{AreNotedDistinct, IsNotedAt, WidensNoted, noted_count}
+use Rattle.lrc_rows.specs.Rows.{AreRowsDistinct, IsRowAt, WidensRows, row_count}
 use Rattle.lrc_explore.specs.Notes.{notes_of, notes_with}
 use Rattle.lrc_exec.specs.States.{plain_at, IsCopy}
 use Rattle.lrc_explore.proofs.Keeping.{grows_again, grows_not, stands_on}
 use Rattle.lrc_explore.proofs.Searching.{copy_same, copy_state}
 use Rattle.lrc_explore.proofs.Standing.{step_within}
 use Rattle.lrc_explore.proofs.Stores.{added_all, full_more}
-use Rattle.lrc_explore.proofs.Ways.{IsNotedCopy, noted_grows, noted_store, noted_within, widens_further}
+use Rattle.lrc_explore.proofs.Ways.{IsNotedCopy}
+use Rattle.lrc_rows.proofs.RowLaws.{row_grown, row_store, row_within, rows_again, rows_not}
 use Rattle.lrc_settled.specs.Steps.{beginning}
 use Rattle.lrc_settled.proofs.Rounds.{one_settling}
 use Rattle.lrc_steps.specs.declared.step.Step.{Step}
@@ -71,7 +72,7 @@ takes_copy task from step acts copy key c t = record {
   alike = like_is t.alike (sym (copy_same task.flat copy.state key.state c.state));
 }
 
-from_copy : (task : Task) (all : NotedStates) (origin : Origin) (copy key : Noted) → IsNotedCopy copy key → IsFrom task all origin key
+from_copy : (task : Task) (all : Rows) (origin : Origin) (copy key : Noted) → IsNotedCopy copy key → IsFrom task all origin key
     → IsFrom task all origin copy
 from_copy task all origin copy key c f = record {
   before = f.before;
@@ -81,11 +82,11 @@ from_copy task all origin copy key c f = record {
   noted = λ e. c.notes ∙ f.noted e;
 }
 
-from_grown : (task : Task) (old new : NotedStates) (origin : Origin) (key : Noted) → WidensNoted old new → IsFrom task old origin key
+from_grown : (task : Task) (old new : Rows) (origin : Origin) (key : Noted) → WidensRows old new → IsFrom task old origin key
     → IsFrom task new origin key
 from_grown task old new origin key w f = record {
   before = f.before;
-  there = noted_grows old new origin.parent f.before w f.there;
+  there = row_grown old new origin.parent f.before w f.there;
   acts = f.acts;
   takes = f.takes;
   noted = f.noted;
@@ -97,45 +98,47 @@ first_copy task copy key c f =
 
 -- ---- what was found
 
-pub found_none : (task : Task) (found : Found) → noted_count found.states ≡ 0 → AreNotedDistinct found.states → found.origins.items ≡ [] → AreFound task found
-found_none task found none distinct origins = record {
+pub found_none : (task : Task) (found : Found) → row_count found.states ≡ 0 → AreRowsDistinct found.states → found.states.nodes ≡ task.flat.nodes
+    → found.origins.items ≡ [] → AreFound task found
+found_none task found none distinct nodes origins = record {
   reached = record {
     full = λ k lt. absurd (omega (arith, lt, none));
+    nodes = nodes;
     distinct = distinct;
-    each = λ k key at. let within = noted_within found.states k key at in absurd (omega (arith, within, none));
+    each = λ k key at. let within = row_within found.states k key at in absurd (omega (arith, within, none));
   };
   even = ap (λ l. length l) origins ∙ sym none;
-  from = λ k key pos at. let within = noted_within found.states k key at in absurd (omega (arith, within, none));
-  first = λ key at. let within = noted_within found.states 0 key at in absurd (omega (arith, within, none));
+  from = λ k key pos at. let within = row_within found.states k key at in absurd (omega (arith, within, none));
+  first = λ key at. let within = row_within found.states 0 key at in absurd (omega (arith, within, none));
 }
 
 origins_grow : (b : Bool) (old new : List Origin) (origin : Origin) → new ≡ (if b then old ++ origin ∷ [] else old) → Grows old new
 origins_grow true old new origin is = record { more = origin ∷ []; is = is }
 origins_grow false old new origin is = grows_not old new is
 
-even_put : (b : Bool) (old new : NotedStates) (place : ℕ) (before after : List Origin) (origin : Origin)
-    → IsAddedAt (noted_count old) (noted_count new) place b → after ≡ (if b then before ++ origin ∷ [] else before)
-    → length before ≡ noted_count old → length after ≡ noted_count new
+even_put : (b : Bool) (old new : Rows) (place : ℕ) (before after : List Origin) (origin : Origin)
+    → IsAddedAt (row_count old) (row_count new) place b → after ≡ (if b then before ++ origin ∷ [] else before)
+    → length before ≡ row_count old → length after ≡ row_count new
 even_put true old new place before after origin put is e =
     ap (λ l. length l) is ∙ length_push before origin ∙ ap (λ n. n + 1) e ∙ sym put.1
 even_put false old new place before after origin put is e = ap (λ l. length l) is ∙ e ∙ sym put
 
 module _ (task : Task) (old new : Found) (key : Noted) (origin : Origin) (place : ℕ) (added : Bool) (f : AreFound task old) (r : IsReached task key)
-    (from : ComesFrom task old origin key) (w : WidensNoted old.states new.states) (distinct : AreNotedDistinct new.states)
-    (put : IsAddedAt (noted_count old.states) (noted_count new.states) place added) (at : IsNotedAt new.states place key)
+    (from : ComesFrom task old origin key) (w : WidensRows old.states new.states) (distinct : AreRowsDistinct new.states)
+    (put : IsAddedAt (row_count old.states) (row_count new.states) place added) (at : IsRowAt new.states place key)
     (origins : new.origins.items ≡ (if added then old.origins.items ++ origin ∷ [] else old.origins.items)) where
   pub more_put : IsMore old new
   more_put = record { states = w; origins = origins_grow added old.origins.items new.origins.items origin origins }
 
-  seam : added ≡ true → slice_get new.origins.items (noted_count old.states) ≡ Some origin
+  seam : added ≡ true → slice_get new.origins.items (row_count old.states) ≡ Some origin
   seam e =
-      ap (λ l. slice_get l (noted_count old.states)) (origins ∙ ap (λ b. if b then old.origins.items ++ origin ∷ [] else old.origins.items) e)
+      ap (λ l. slice_get l (row_count old.states)) (origins ∙ ap (λ b. if b then old.origins.items ++ origin ∷ [] else old.origins.items) e)
       ∙ ap (slice_get (old.origins.items ++ origin ∷ [])) (sym f.even)
       ∙ slice_get-seam old.origins.items origin []
 
-  found_at : (k : ℕ) (x : Noted) → IsNotedAt new.states k x → 0 < k → IsFound task new k x
+  found_at : (k : ℕ) (x : Noted) → IsRowAt new.states k x → 0 < k → IsFound task new k x
   found_at k x there pos =
-      added_all IsNotedAt noted_count WidensNoted IsNotedCopy noted_store old.states new.states place added key w f.reached.full put at
+      added_all IsRowAt row_count WidensRows IsNotedCopy row_store old.states new.states place added key w f.reached.full put at
       (λ n y. 0 < n → IsFound task new n y)
       (λ n y here positive.
       let o = f.from n y positive here in
@@ -154,20 +157,21 @@ module _ (task : Task) (old new : Found) (key : Noted) (origin : Origin) (place 
         from = from_copy task new.states origin copy key c (from_grown task old.states new.states origin key w o.1);
       }) k x there pos
 
-  first_at : (k : ℕ) (x : Noted) → IsNotedAt new.states k x → k ≡ 0 → IsFirstKey task x
+  first_at : (k : ℕ) (x : Noted) → IsRowAt new.states k x → k ≡ 0 → IsFirstKey task x
   first_at =
-      added_all IsNotedAt noted_count WidensNoted IsNotedCopy noted_store old.states new.states place added key w f.reached.full put at
+      added_all IsRowAt row_count WidensRows IsNotedCopy row_store old.states new.states place added key w f.reached.full put at
       (λ n y. n ≡ 0 → IsFirstKey task y)
-      (λ n y here e. f.first y (subst (λ m. IsNotedAt old.states m y) e here))
+      (λ n y here e. f.first y (subst (λ m. IsRowAt old.states m y) e here))
       (λ e copy c none. first_copy task copy key c (from.1 none))
 
   pub found_put : AreFound task new
   found_put = record {
     reached = record {
-      full = full_more IsNotedAt noted_count WidensNoted IsNotedCopy noted_store old.states new.states place added key w f.reached.full put at;
+      full = full_more IsRowAt row_count WidensRows IsNotedCopy row_store old.states new.states place added key w f.reached.full put at;
+      nodes = w.nodes ∙ f.reached.nodes;
       distinct = distinct;
       each =
-          added_all IsNotedAt noted_count WidensNoted IsNotedCopy noted_store old.states new.states place added key w f.reached.full put at
+          added_all IsRowAt row_count WidensRows IsNotedCopy row_store old.states new.states place added key w f.reached.full put at
           (λ n y. IsReached task y) f.reached.each (λ e copy c. reached_copy task copy key c r);
     };
     even = even_put added old.states new.states place old.origins.items new.origins.items origin put origins f.even;
@@ -201,7 +205,7 @@ module _ (task : Task) (state : State) (acts : List Act) (key : Noted) (s : Sett
   pub start_first : IsFirstKey task key
   start_first = (s.acts, s.settles.there, s.settles.settles, like_on (like_alike s.settles.alike) (like_back k.alike), λ e. sym (start_noted e))
 
-  pub has_start : (all : NotedStates) → IsKept all key → HasStart task all
+  pub has_start : (all : Rows) → IsKept all key → HasStart task all
   has_start all kept others machine settles =
       let one = one_settling settles s.settles.settles in
       record {
@@ -239,10 +243,10 @@ module _ (task : Task) (before : Noted) (step : Step) (acts : List Act) (state :
   pub next_takes : TakesLike (plain_at task.flat before.state) step t.acts (plain_at task.flat key.state)
   next_takes = record { there = t.takes.there; takes = t.takes.takes; alike = like_on (like_alike t.takes.alike) (like_back k.alike) }
 
-  pub next_from : (found : Found) (place : ℕ) (origin : Origin) → origin ≡ record { parent = place; step = step } → IsNotedAt found.states place before
+  pub next_from : (found : Found) (place : ℕ) (origin : Origin) → origin ≡ record { parent = place; step = step } → IsRowAt found.states place before
       → ComesFrom task found origin key
   next_from found place origin is at =
-      let within = noted_within found.states place before at in
+      let within = row_within found.states place before at in
       subst (λ o. ComesFrom task found o key) (sym is) (
         λ pos. (
           within,
@@ -251,7 +255,7 @@ module _ (task : Task) (before : Noted) (step : Step) (acts : List Act) (state :
         λ none. absurd (omega (arith, within, none)),
       )
 
-  pub has_after : (all : NotedStates) → IsKept all key → HasAfter task all before step
+  pub has_after : (all : Rows) → IsKept all key → HasAfter task all before step
   has_after all kept others after takes =
       let one = takes_once takes t.takes.takes in
       record {
@@ -262,30 +266,30 @@ module _ (task : Task) (before : Noted) (step : Step) (acts : List Act) (state :
         noted = λ e. k.noted e ∙ ap (noted_on before.notes.items) (sym (one.0 ∙ same));
       }
 
-pub has_none : (task : Task) (all : NotedStates) (before : Noted) (step : Step) → CannotTake task before.state step → HasAfter task all before step
+pub has_none : (task : Task) (all : Rows) (before : Noted) (step : Step) → CannotTake task before.state step → HasAfter task all before step
 has_none task all before step cannot acts after takes = absurd (cannot acts after takes)
 
-reached_grown : (task : Task) (old new : NotedStates) (machine : Plain) (notes : List Act) → WidensNoted old new → HasReached task old machine notes
+reached_grown : (task : Task) (old new : Rows) (machine : Plain) (notes : List Act) → WidensRows old new → HasReached task old machine notes
     → HasReached task new machine notes
 reached_grown task old new machine notes w h = record {
   place = h.place;
   key = h.key;
-  there = noted_grows old new h.place h.key w h.there;
+  there = row_grown old new h.place h.key w h.there;
   alike = h.alike;
   noted = h.noted;
 }
 
-pub after_grown : (task : Task) (old new : NotedStates) (key : Noted) (step : Step) → WidensNoted old new → HasAfter task old key step
+pub after_grown : (task : Task) (old new : Rows) (key : Noted) (step : Step) → WidensRows old new → HasAfter task old key step
     → HasAfter task new key step
 after_grown task old new key step w h acts after takes = reached_grown task old new after (noted_on key.notes.items acts) w (h acts after takes)
 
-pub start_grown : (task : Task) (old new : NotedStates) → WidensNoted old new → HasStart task old → HasStart task new
+pub start_grown : (task : Task) (old new : Rows) → WidensRows old new → HasStart task old → HasStart task new
 start_grown task old new w h acts machine settles = reached_grown task old new machine (notes_of task.flat.nodes acts) w (h acts machine settles)
 
-pub expanded_grown : (task : Task) (old new : NotedStates) (key : Noted) → WidensNoted old new → IsExpanded task old key → IsExpanded task new key
+pub expanded_grown : (task : Task) (old new : Rows) (key : Noted) → WidensRows old new → IsExpanded task old key → IsExpanded task new key
 expanded_grown task old new key w h step = after_grown task old new key step w (h step)
 
-pub expanded_copy : (task : Task) (all : NotedStates) (copy key : Noted) → IsNotedCopy copy key → IsExpanded task all key → IsExpanded task all copy
+pub expanded_copy : (task : Task) (all : Rows) (copy key : Noted) → IsNotedCopy copy key → IsExpanded task all key → IsExpanded task all copy
 expanded_copy task all copy key c h step acts after takes =
     let from = subst (λ m. Takes m step acts after) (copy_same task.flat copy.state key.state c.state) takes in
     let r = h step acts after from in
@@ -303,7 +307,7 @@ no_node task state node past acts after (alone machine mid _ _ deed more kind st
     let within = step_within (plain_at task.flat state) node (deed, mid) step in
     omega (arith, past, within, length-map state.spots.items (spot_thread task.flat))
 
-pub expanded_all : (task : Task) (all : NotedStates) (key : Noted) (last : ℕ) → length key.state.spots.items ≤ last → HasAfter task all key Together
+pub expanded_all : (task : Task) (all : Rows) (key : Noted) (last : ℕ) → length key.state.spots.items ≤ last → HasAfter task all key Together
     → ((node : ℕ) → node < last → HasAfter task all key (Alone node)) → IsExpanded task all key
 expanded_all task all key last le all_together each Together = all_together
 expanded_all task all key last le all_together each (Alone node) = elim (cases_lt node last) [
@@ -312,22 +316,12 @@ expanded_all task all key last le all_together each (Alone node) = elim (cases_l
 ]
 
 pub more_again : {a b c : Found} → IsMore a b → IsMore b c → IsMore a c
-more_again v w = record { states = widens_further v.states w.states; origins = grows_again v.origins w.origins }
+more_again v w = record { states = rows_again v.states w.states; origins = grows_again v.origins w.origins }
 
 pub more_same : (found : Found) → IsMore found found
-more_same found = record {
-  states = record {
-    states = record {
-      shared = grows_not found.states.states.shared.keys found.states.states.shared.keys refl;
-      spots = grows_not found.states.states.spots.keys found.states.states.spots.keys refl;
-      kept = grows_not found.states.states.kept.keys found.states.states.kept.keys refl;
-    };
-    ways = grows_not found.states.ways.keys found.states.ways.keys refl;
-  };
-  origins = grows_not found.origins.items found.origins.items refl;
-}
+more_same found = record { states = rows_not found.states; origins = grows_not found.origins.items found.origins.items refl }
 
-pub each_more : (task : Task) (old new : NotedStates) (key : Noted) (node : ℕ) → WidensNoted old new
+pub each_more : (task : Task) (old new : Rows) (key : Noted) (node : ℕ) → WidensRows old new
     → ((k : ℕ) → k < node → HasAfter task old key (Alone k)) → HasAfter task new key (Alone node) → (k : ℕ) → k < node + 1 → HasAfter task new key (Alone k)
 each_more task old new key node w each here k lt = elim (cases_eq k node) [
   | inl same ↦ subst (λ n. HasAfter task new key (Alone n)) (sym same) here

@@ -9,8 +9,8 @@ use Rattle.lrc_exec.proofs.PlainLaws.{plain_from-begins}
 use Rattle.lrc_consistency_laws.specs.Follows.{nodes_of_acts}
 use Rattle.lrc_consistency_laws.specs.Racing.{HasNoRace}
 use Rattle.lrc_explore.specs.declared.noted.Noted.{Noted}
-use Rattle.lrc_explore.specs.declared.noted.NotedStates.{NotedStates}
-use Rattle.lrc_explore.specs.Noted.{noted_count}
+use Rattle.lrc_rows.specs.declared.rows.Rows.{Rows}
+use Rattle.lrc_rows.specs.Rows.{row_count}
 use Rattle.lrc_explore.specs.Notes.{notes_from, notes_of}
 use Rattle.lrc_exec.specs.States.{plain_at}
 use Rattle.lrc_explore.specs.Stuck.{GetsStuck, IsStuck}
@@ -18,7 +18,7 @@ use Rattle.lrc_explore.specs.Verdict.{NeverStuck}
 use Rattle.lrc_explore.proofs.Counting.{step_threads}
 use Rattle.lrc_explore.proofs.Noting.{notes_more}
 use Rattle.lrc_explore.proofs.Standing.{step_within}
-use Rattle.lrc_explore.proofs.Ways.{noted_within}
+use Rattle.lrc_rows.proofs.RowLaws.{row_within}
 use Rattle.lrc_settled.specs.Settling.{IsSettled}
 use Rattle.lrc_settled.specs.Steps.{IsSettledState, beginning, onward}
 use Rattle.lrc_settled.proofs.GoingOn.{state_fine}
@@ -118,7 +118,7 @@ further task key r first machine led a step acts like t =
 
 -- ---- where all states are expanded
 
-module _ (task : Task) (all : NotedStates) (reached : AreReached task all) (start : HasStart task all) (expanded : AreExpanded task all (noted_count all)) where
+module _ (task : Task) (all : Rows) (reached : AreReached task all) (start : HasStart task all) (expanded : AreExpanded task all (row_count all)) where
   pub all_reached : {acts : List Act} {machine : Plain} → IsSettledState task.program.now task.flat.nodes acts machine
       → HasReached task all machine (notes_of task.flat.nodes acts)
   all_reached (beginning acts machine settles) = start acts machine settles
@@ -128,7 +128,7 @@ module _ (task : Task) (all : NotedStates) (reached : AreReached task all) (star
       let r = reached.each has.place key has.there in
       let st = leads_takes leads in
       let on = takes_like st.1 (state_fine state) (plain_at task.flat key.state) (fine_key task key r) has.alike in
-      let next = expanded has.place (noted_within all has.place key has.there) key has.there st.0 more on.there on.takes in
+      let next = expanded has.place (row_within all has.place key has.there) key has.there st.0 more on.there on.takes in
       record {
         place = next.place;
         key = next.key;
@@ -139,16 +139,16 @@ module _ (task : Task) (all : NotedStates) (reached : AreReached task all) (star
             ∙ sym (notes_on task.program.now task.flat.nodes acts more after (onward acts more before after state leads));
       }
 
-  pub no_race : AreCalm task all (noted_count all) → HasNoRace task.program.now task.flat.nodes
+  pub no_race : AreCalm task all (row_count all) → HasNoRace task.program.now task.flat.nodes
   no_race calm = (races task.program.now task.flat.nodes).1 (λ acts machine state p q meet.
       let has = all_reached state in
-      calm has.place has.key (noted_within all has.place has.key has.there) has.there p q (meet_like has.alike p q meet))
+      calm has.place has.key (row_within all has.place has.key has.there) has.there p q (meet_like has.alike p q meet))
 
-  pub never_stuck : AreNowhereStuck task all (noted_count all) → NeverStuck task.program.now task.flat.nodes
+  pub never_stuck : AreNowhereStuck task all (row_count all) → NeverStuck task.program.now task.flat.nodes
   never_stuck nowhere = λ order gets.
       let s = (stuck task.program.now task.flat.nodes).0 (order, gets) in
       let has = all_reached s.led in
-      nowhere has.place has.key (noted_within all has.place has.key has.there) has.there
+      nowhere has.place has.key (row_within all has.place has.key has.there) has.there
       (stuck_like s.machine (plain_at task.flat has.key.state) (state_fine s.led) (fine_key task has.key (reached.each has.place has.key has.there)) has.alike
       s.stuck)
 

@@ -5,19 +5,21 @@ use Rattle.std.specs.Option.{option_or}
 use Rattle.std.proofs.lemmas.Bool.{cases_eq}
 use Rattle.lrc_trace.specs.declared.act.Act.{Act}
 use Rattle.lrc_explore.specs.declared.noted.Noted.{Noted}
-use Rattle.lrc_explore.specs.declared.noted.NotedStates.{NotedStates}
+use Rattle.lrc_rows.specs.declared.rows.Rows.{Rows}
 use Rattle.lrc_explore.specs.declared.outcomes.Outcome.{Outcome}
 use Rattle.lrc_explore.specs.contracts.noted.NotedPartialEq.TheImpl.{eq-value as noted_eq}
 use Rattle.lrc_explore.specs.Kept.{Grows}
 use Rattle.lrc_explore.specs.Meeting.{IsCalm}
-use Rattle.lrc_explore.specs.Noted.{IsNotedAt, WidensNoted, noted_count}
+use Rattle.lrc_rows.specs.Rows.{IsRowAt, WidensRows, row_count}
 use Rattle.lrc_explore.specs.Outcome.{HasOutcome, IsOutcome}
 use Rattle.lrc_exec.specs.States.{machine_begun, plain_at}
 use Rattle.lrc_explore.specs.Stuck.{IsAtRest, IsStuck}
 use Rattle.lrc_explore.proofs.Keeping.{stands_on}
 use Rattle.lrc_explore.proofs.Searching.{copy_same}
 use Rattle.lrc_explore.proofs.Stores.{before, listed, listed_apart}
-use Rattle.lrc_explore.proofs.Ways.{IsNotedCopy, noted_apart, noted_copy, noted_grows, noted_store, noted_within}
+use Rattle.lrc_explore.proofs.Ways.{IsNotedCopy}
+use Rattle.lrc_rows.proofs.RowLaws.{row_copy, row_grown, row_store, row_within}
+use Rattle.lrc_rows.proofs.RowsApart.{row_apart}
 use Rattle.lrc_exec.specs.declared.state.State.{State}
 use Rattle.lrc_explore.specs.declared.search.ExploreFault.{ExploreFault}
 use Rattle.lrc_explore.specs.declared.search.ExploreFault.TheVariants.{BadNodes, TooMany}
@@ -35,19 +37,19 @@ use Rattle.lrc_breadth.proofs.Keys.{expanded_copy, expanded_grown, more_again, m
 use Rattle.lrc_breadth.proofs.Reaching.{all_reached, fine_key}
 
 -- what is at an old place was there
-was_there : (old new : NotedStates) (k : ℕ) (key : Noted) → WidensNoted old new → ((n : ℕ) → n < noted_count old → (x : Noted) × IsNotedAt old n x)
-    → k < noted_count old → IsNotedAt new k key → IsNotedAt old k key
-was_there old new k key w full lt at = before IsNotedAt noted_count WidensNoted IsNotedCopy noted_store old new k key w (full k lt) at
+was_there : (old new : Rows) (k : ℕ) (key : Noted) → WidensRows old new → ((n : ℕ) → n < row_count old → (x : Noted) × IsRowAt old n x)
+    → k < row_count old → IsRowAt new k key → IsRowAt old k key
+was_there old new k key w full lt at = before IsRowAt row_count WidensRows IsNotedCopy row_store old new k key w (full k lt) at
 
-same_plain : (task : Task) (all : NotedStates) (k : ℕ) (a b : Noted) → IsNotedAt all k a → IsNotedAt all k b
+same_plain : (task : Task) (all : Rows) (k : ℕ) (a b : Noted) → IsRowAt all k a → IsRowAt all k b
     → plain_at task.flat a.state ≡ plain_at task.flat b.state
-same_plain task all k a b x y = copy_same task.flat a.state b.state (noted_copy all k a b x y).state
+same_plain task all k a b x y = copy_same task.flat a.state b.state (row_copy all k a b x y).state
 
 -- ---- for a meeting
 
-abbrev pub IsStuckSoFar : Task → NotedStates → (index : ℕ) → Option ℕ → Type 0
+abbrev pub IsStuckSoFar : Task → Rows → (index : ℕ) → Option ℕ → Type 0
 IsStuckSoFar task all index None = AreNowhereStuck task all index
-IsStuckSoFar task all index (Some place) = (key : Noted) × IsNotedAt all place key × IsStuck (plain_at task.flat key.state)
+IsStuckSoFar task all index (Some place) = (key : Noted) × IsRowAt all place key × IsStuck (plain_at task.flat key.state)
 
 pub record Seeking (task : Task) (first now : Found) (place : ℕ) (stuck : Option ℕ) : Type 0 where
   pub found : AreFound task now
@@ -66,8 +68,8 @@ seeking_first task found f = record {
 }
 
 module _ (task : Task) (first old new : Found) (place : ℕ) (stuck : Option ℕ) (s : Seeking task first old place stuck) (f : AreFound task new)
-    (m : IsMore old new) (within : place < noted_count old.states) where
-  old_at : (k : ℕ) (key : Noted) → k < place → IsNotedAt new.states k key → IsNotedAt old.states k key
+    (m : IsMore old new) (within : place < row_count old.states) where
+  old_at : (k : ℕ) (key : Noted) → k < place → IsRowAt new.states k key → IsRowAt old.states k key
   old_at k key lt at = was_there old.states new.states k key m.states s.found.reached.full (omega (arith, lt, within)) at
 
   pub expanded_on : AreExpanded task new.states place
@@ -77,14 +79,14 @@ module _ (task : Task) (first old new : Found) (place : ℕ) (stuck : Option ℕ
   seen_expanded seen k lt key at = elim (cases_eq k place) [
     | inl same ↦
         expanded_copy task new.states key seen.key
-        (noted_copy new.states place key seen.key (subst (λ n. IsNotedAt new.states n key) same at) seen.there) seen.expanded
+        (row_copy new.states place key seen.key (subst (λ n. IsRowAt new.states n key) same at) seen.there) seen.expanded
     | inr apart ↦ expanded_on k (omega (arith, lt, apart)) key at
   ]
 
   seen_calm : IsSeen task new place → AreCalm task new.states (place + 1)
   seen_calm seen k key lt at = elim (cases_eq k place) [
     | inl same ↦
-        subst IsCalm (same_plain task new.states place seen.key key seen.there (subst (λ n. IsNotedAt new.states n key) same at)) seen.calm
+        subst IsCalm (same_plain task new.states place seen.key key seen.there (subst (λ n. IsRowAt new.states n key) same at)) seen.calm
     | inr apart ↦ s.calm k key (omega (arith, lt, apart)) (old_at k key (omega (arith, lt, apart)) at)
   ]
 
@@ -92,19 +94,19 @@ module _ (task : Task) (first old new : Found) (place : ℕ) (stuck : Option ℕ
       → AreNowhereStuck task new.states (place + 1)
   nowhere_on seen never nowhere k key lt at = elim (cases_eq k place) [
     | inl same ↦ λ halted.
-        never (subst IsStuck (same_plain task new.states place key seen.key (subst (λ n. IsNotedAt new.states n key) same at) seen.there) halted)
+        never (subst IsStuck (same_plain task new.states place key seen.key (subst (λ n. IsRowAt new.states n key) same at) seen.there) halted)
     | inr apart ↦ nowhere k key (omega (arith, lt, apart)) (old_at k key (omega (arith, lt, apart)) at)
   ]
 
   past_on : (seen : IsSeen task new place) → (IsStuck (plain_at task.flat seen.key.state) → ⊥) → (o : Option ℕ) → IsStuckSoFar task old.states place o
       → IsStuckSoFar task new.states (place + 1) o
   past_on seen never None nowhere = nowhere_on seen never nowhere
-  past_on seen never (Some at) is = (is.0, noted_grows old.states new.states at is.0 m.states is.1, is.2)
+  past_on seen never (Some at) is = (is.0, row_grown old.states new.states at is.0 m.states is.1, is.2)
 
   stuck_on : (seen : IsSeen task new place) → IsStuck (plain_at task.flat seen.key.state) → (o : Option ℕ) → IsStuckSoFar task old.states place o
       → IsStuckSoFar task new.states (place + 1) (option_or o (Some place))
   stuck_on seen halted None nowhere = (seen.key, seen.there, halted)
-  stuck_on seen halted (Some at) is = (is.0, noted_grows old.states new.states at is.0 m.states is.1, is.2)
+  stuck_on seen halted (Some at) is = (is.0, row_grown old.states new.states at is.0 m.states is.1, is.2)
 
   pub seeking_past : (seen : IsSeen task new place) → (IsStuck (plain_at task.flat seen.key.state) → ⊥) → Seeking task first new (place + 1) stuck
   seeking_past seen never = record {
@@ -125,7 +127,7 @@ module _ (task : Task) (first old new : Found) (place : ℕ) (stuck : Option ℕ
     halted = stuck_on seen halted stuck s.halted;
   }
 
-pub stuck_end : (task : Task) (all : NotedStates) (index : ℕ) → noted_count all ≤ index → (o : Option ℕ) → IsStuckSoFar task all index o → IsStuckFirst task all o
+pub stuck_end : (task : Task) (all : Rows) (index : ℕ) → row_count all ≤ index → (o : Option ℕ) → IsStuckSoFar task all index o → IsStuckFirst task all o
 stuck_end task all index le None nowhere = λ k key lt at. nowhere k key (omega (arith, lt, le)) at
 stuck_end task all index le (Some place) is = is
 
@@ -151,7 +153,7 @@ gathering_first task found outcomes f none = record {
   done = λ k lt. absurd (omega (arith, lt));
 }
 
-gathered_grown : (task : Task) (old new : NotedStates) (some more : List Outcome) (key : Noted) → WidensNoted old new → Grows some more
+gathered_grown : (task : Task) (old new : Rows) (some more : List Outcome) (key : Noted) → WidensRows old new → Grows some more
     → IsGathered task old some key → IsGathered task new more key
 gathered_grown task old new some more key w g d = record {
   expanded = expanded_grown task old new key w d.expanded;
@@ -161,24 +163,24 @@ gathered_grown task old new some more key w g d = record {
 }
 
 pub gathering_on : (task : Task) (first old new : Found) (some more : List Outcome) (place : ℕ) → Gathering task first old some place → AreFound task new
-    → IsMore old new → Grows some more → AreSound task more → IsGatheredAt task new.states more place → place < noted_count old.states
+    → IsMore old new → Grows some more → AreSound task more → IsGatheredAt task new.states more place → place < row_count old.states
     → Gathering task first new more (place + 1)
 gathering_on task first old new some more place g f m grown sound here within = record {
   found = f;
   more = more_again g.more m;
   sound = sound;
   done = λ k lt key at. elim (cases_eq k place) [
-    | inl same ↦ here key (subst (λ n. IsNotedAt new.states n key) same at)
+    | inl same ↦ here key (subst (λ n. IsRowAt new.states n key) same at)
     | inr apart ↦
         let there = was_there old.states new.states k key m.states g.found.reached.full (omega (arith, lt, apart, within)) at in
         gathered_grown task old.states new.states some more key m.states grown (g.done k (omega (arith, lt, apart)) key there)
   ];
 }
 
-pub gathered_at : (task : Task) (old new : NotedStates) (outcomes : List Outcome) (place : ℕ) (key : Noted) → WidensNoted old new → IsNotedAt old place key
+pub gathered_at : (task : Task) (old new : Rows) (outcomes : List Outcome) (place : ℕ) (key : Noted) → WidensRows old new → IsRowAt old place key
     → IsExpanded task new key → (IsAtRest (plain_at task.flat key.state) → HasOutcome outcomes key.notes.items) → IsGatheredAt task new outcomes place
 gathered_at task old new outcomes place key w there expanded gathered other at =
-    let copy = noted_copy new place other key at (noted_grows old new place key w there) in
+    let copy = row_copy new place other key at (row_grown old new place key w there) in
     record {
       expanded = expanded_copy task new other key copy expanded;
       gathered = λ still.
@@ -199,8 +201,8 @@ sound_on task old new key sound adds r still k outcome at noting = elim (adds k 
   }
 ]
 
-pub exact : (task : Task) (all : NotedStates) (found : List Outcome) → AreReached task all → HasStart task all → AreSound task found
-    → AreGathered task all found (noted_count all) → task.noting ≡ true → (notes : List Act)
+pub exact : (task : Task) (all : Rows) (found : List Outcome) → AreReached task all → HasStart task all → AreSound task found
+    → AreGathered task all found (row_count all) → task.noting ≡ true → (notes : List Act)
     → (HasOutcome found notes ↔ IsOutcome task.program.now task.flat.nodes notes)
 exact task all found reached start sound done noting notes =
     let law = outcomes task.program.now task.flat.nodes notes in (
@@ -211,23 +213,23 @@ exact task all found reached start sound done noting notes =
           let key = has.key in
           let still = rest_like o.machine (plain_at task.flat key.state) (state_fine o.led) (fine_key task key (reached.each has.place key has.there))
           has.alike o.still in
-          let h = (done has.place (noted_within all has.place key has.there) key has.there).gathered still in
+          let h = (done has.place (row_within all has.place key has.there) key has.there).gathered still in
           record { place = h.place; outcome = h.outcome; there = h.there; same = h.same ∙ has.noted noting ∙ o.are },
     )
 
 -- ---- too many states
 
-pub has_more_settled : (task : Task) (all : NotedStates) (most : ℕ) → AreReached task all → most < noted_count all → HasMoreSettled task most
+pub has_more_settled : (task : Task) (all : Rows) (most : ℕ) → AreReached task all → most < row_count all → HasMoreSettled task most
 has_more_settled task all most reached many =
-    let items = listed IsNotedAt noted_count WidensNoted IsNotedCopy noted_store all reached.full in
+    let items = listed IsRowAt row_count WidensRows IsNotedCopy row_store all reached.full in
     record {
       keys = items.list;
       many = subst (λ n. most < n) (sym items.long) many;
-      distinct = listed_apart IsNotedAt noted_count WidensNoted IsNotedCopy noted_store noted_eq.it all (noted_apart all reached.distinct) items;
+      distinct = listed_apart IsRowAt row_count WidensRows IsNotedCopy row_store noted_eq.it all (row_apart all reached.distinct) items;
       each = λ k key there. reached.each k key (items.at k key there);
     }
 
-pub too_many_states : (task : Task) (all : NotedStates) → AreReached task all → task.most < noted_count all → IsFault task TooMany
+pub too_many_states : (task : Task) (all : Rows) → AreReached task all → task.most < row_count all → IsFault task TooMany
 too_many_states task all reached many = record {
   nodes = λ e. cc;
   many = λ e. has_more (has_more_settled task all task.most reached many);

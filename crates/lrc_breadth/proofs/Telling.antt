@@ -6,11 +6,12 @@ use Rattle.std.proofs.lemmas.Grind.{common_steps}
 use Rattle.lrc_trace.specs.declared.act.Act.{Act}
 use Rattle.lrc_explore.specs.declared.noted.Noted.{Noted}
 use Rattle.lrc_exec.specs.declared.state.State.{State}
-use Rattle.lrc_explore.specs.Noted.{IsNotedAt, noted_count}
+use Rattle.lrc_rows.specs.Rows.{IsRowAt, row_count}
 use Rattle.lrc_explore.specs.Notes.{notes_of}
 use Rattle.lrc_exec.specs.States.{plain_at}
 use Rattle.lrc_explore.proofs.Searching.{copy_same}
-use Rattle.lrc_explore.proofs.Ways.{IsNotedCopy, noted_copy}
+use Rattle.lrc_explore.proofs.Ways.{IsNotedCopy}
+use Rattle.lrc_rows.proofs.RowLaws.{row_copy}
 use Rattle.lrc_settled.specs.Steps.{beginning, IsSettledState}
 use Rattle.lrc_settled.proofs.Rounds.{one_settling}
 use Rattle.lrc_breadth.specs.declared.task.Task.{Task}
@@ -24,7 +25,7 @@ use Rattle.lrc_live.proofs.Like.{like_alike, like_back, like_is, like_on}
 use Rattle.lrc_breadth.proofs.Reaching.{further, notes_on}
 
 -- the first state
-pub led_first : (task : Task) (found : Found) (place : ℕ) (acts : List Act) (state : State) → AreFound task found → place < noted_count found.states
+pub led_first : (task : Task) (found : Found) (place : ℕ) (acts : List Act) (state : State) → AreFound task found → place < row_count found.states
     → SettlesStart task [] acts state → LeadTo task found 0 acts
 led_first task found place acts state f lt s =
     let at = f.reached.full 0 (omega (arith, lt)) in
@@ -40,9 +41,9 @@ led_first task found place acts state f lt s =
     }
 
 -- one step more
-module _ (task : Task) (found : Found) (place : ℕ) (origin : Origin) (key : Noted) (f : AreFound task found) (within : place < noted_count found.states)
-    (later : 0 < place) (noted : slice_get found.origins.items place ≡ Some origin) (there : IsNotedAt found.states origin.parent key) where
-  here_is : (x : Noted) × IsNotedAt found.states place x
+module _ (task : Task) (found : Found) (place : ℕ) (origin : Origin) (key : Noted) (f : AreFound task found) (within : place < row_count found.states)
+    (later : 0 < place) (noted : slice_get found.origins.items place ≡ Some origin) (there : IsRowAt found.states origin.parent key) where
+  here_is : (x : Noted) × IsRowAt found.states place x
   here_is = f.reached.full place within
 
   was : IsFound task found place here_is.0
@@ -53,9 +54,9 @@ module _ (task : Task) (found : Found) (place : ℕ) (origin : Origin) (key : No
 
   before_copy : IsNotedCopy was.from.before key
   before_copy =
-      let at : IsNotedAt found.states origin.parent was.from.before =
-      subst (λ (o : Origin). IsNotedAt found.states o.parent was.from.before) same_origin was.from.there in
-      noted_copy found.states origin.parent was.from.before key at there
+      let at : IsRowAt found.states origin.parent was.from.before =
+      subst (λ (o : Origin). IsRowAt found.states o.parent was.from.before) same_origin was.from.there in
+      row_copy found.states origin.parent was.from.before key at there
 
   before_is : plain_at task.flat was.from.before.state ≡ plain_at task.flat key.state
   before_is = copy_same task.flat was.from.before.state key.state before_copy.state
@@ -70,7 +71,7 @@ module _ (task : Task) (found : Found) (place : ℕ) (origin : Origin) (key : No
   led_on acts later_acts None led cannot = absurd (cannot was.from.acts takes_it.there takes_it.takes)
   led_on acts later_acts (Some state) led t =
       let r = f.reached.each origin.parent key there in
-      let copy = noted_copy found.states origin.parent led.key key led.there there in
+      let copy = row_copy found.states origin.parent led.key key led.there there in
       let alike : AreLike led.machine (plain_at task.flat key.state) = like_is led.alike (copy_same task.flat led.key.state key.state copy.state) in
       let next = further task key r acts led.machine led.led alike origin.step t.acts (plain_at task.flat state) t.takes in
       let one = takes_once t.takes.takes takes_it.takes in
@@ -121,7 +122,7 @@ module _ (task : Task) (found : Found) (path : List ℕ) (place index : ℕ) (ac
       onwards found.origins.items so.at (slice_index path index) place (drop (index + 1) path)
       (subst (λ l. Comes found.origins.items so.at l place) (drop-cons path index 0 lt ∙ ap (λ n. get_or path index 0 ∷ drop n path) (sym (add-one index))) so.comes)
 
-  pub next_within : slice_index path index < noted_count found.states
+  pub next_within : slice_index path index < row_count found.states
   next_within = let e = slice_get_within found.origins.items (slice_index path index) next.origin next.there in omega (arith, e, f.even)
 
   pub next_led : IsParentLed task found (slice_index path index) acts

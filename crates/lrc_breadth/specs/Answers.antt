@@ -6,7 +6,7 @@ use Rattle.lrc_trace.specs.declared.act.Act.{Act}
 use Rattle.lrc_exec.specs.Plain.{Plain}
 use Rattle.lrc_consistency_laws.specs.Racing.{HasNoRace}
 use Rattle.lrc_explore.specs.declared.noted.Noted.{Noted}
-use Rattle.lrc_explore.specs.declared.noted.NotedStates.{NotedStates}
+use Rattle.lrc_rows.specs.declared.rows.Rows.{Rows}
 use Rattle.lrc_explore.specs.declared.search.Verdict.{Verdict}
 use Rattle.lrc_explore.specs.declared.search.Verdict.TheVariants.{RaceFree, Racy}
 use Rattle.lrc_explore.specs.contracts.noted.NotedPartialEq.TheImpl.{eq-value}
@@ -14,7 +14,7 @@ use Rattle.lrc_explore.specs.declared.search.ExploreFault.{ExploreFault}
 use Rattle.lrc_explore.specs.declared.search.ExploreFault.TheVariants.{BadNodes, TooMany}
 use Rattle.lrc_exec.specs.Plain.{plain_start}
 use Rattle.lrc_explore.specs.Meeting.{IsCalm, Meet}
-use Rattle.lrc_explore.specs.Noted.{IsNotedAt, noted_count}
+use Rattle.lrc_rows.specs.Rows.{IsRowAt, row_count}
 use Rattle.lrc_explore.specs.Notes.{notes_of}
 use Rattle.lrc_exec.specs.States.{plain_at}
 use Rattle.lrc_explore.specs.Stuck.{GetsStuck, IsAtRest, IsStuck}
@@ -43,7 +43,8 @@ IsAnswer program nodes (RaceFree None) = HasNoRace program nodes × NeverStuck p
 IsAnswer program nodes (RaceFree (Some order)) = HasNoRace program nodes × GetsStuck program nodes order.items
 IsAnswer program nodes (Racy order) = EndsInRace program nodes order.items
 
--- from where a settled state of the program stands, but for how often nodes have arrived, some node comes to so many free acts
+-- from a state like a settled one of the program, the same but for how often nodes have arrived and for private values that nothing
+-- depends on any more, some node comes to so many free acts
 pub record SettlesLong (program : Program) (nodes most : ℕ) : Type 0 where
   pub acts : List Act
   pub machine : Plain
@@ -59,7 +60,8 @@ pub record HasMoreSettled (task : Task) (most : ℕ) : Type 0 where
   pub distinct : IsDistinct eq-value.it keys
   pub each : (k : ℕ) (key : Noted) → slice_get keys k ≡ Some key → IsReached task key
 
--- each settled state of the program is one of so many, but for how often nodes have arrived
+-- each settled state of the program is one of so many, but for how often nodes have arrived and for private values that nothing depends
+-- on any more
 pub record FitsSettled (program : Program) (nodes most : ℕ) : Type 0 where
   pub states : List Plain
   pub few : length states ≤ most
@@ -105,12 +107,12 @@ pub record IsFaultOf (program : Program) (nodes most : ℕ) (fault : ExploreFaul
 -- what was seen at the state at a place
 pub record IsSeen (task : Task) (found : Found) (place : ℕ) : Type 0 where
   pub key : Noted
-  pub there : IsNotedAt found.states place key
+  pub there : IsRowAt found.states place key
   pub calm : IsCalm (plain_at task.flat key.state)
   pub expanded : IsExpanded task found.states key
 
 abbrev pub IsVisit : Task → Found → (place : ℕ) → Visit → Type 0
-IsVisit task found place (visit.Meeting p q) = (key : Noted) × IsNotedAt found.states place key × Meet (plain_at task.flat key.state) p q
+IsVisit task found place (visit.Meeting p q) = (key : Noted) × IsRowAt found.states place key × Meet (plain_at task.flat key.state) p q
 IsVisit task found place visit.Stuck = (seen : IsSeen task found place) × IsStuck (plain_at task.flat seen.key.state)
 IsVisit task found place visit.Past = (seen : IsSeen task found place) × ¬ IsStuck (plain_at task.flat seen.key.state)
 
@@ -124,27 +126,27 @@ abbrev pub AddsOnly : (old new : List Outcome) → List Act → Type 0
 AddsOnly old new notes = (k : ℕ) (outcome : Outcome) → slice_get new k ≡ Some outcome → (slice_get old k ≡ Some outcome) ⊎ (outcome.notes.items ≡ notes)
 
 -- the states have what every step leads to from one of them, and its outcome where no node can make an act
-pub record IsGathered (task : Task) (all : NotedStates) (outcomes : List Outcome) (key : Noted) : Type 0 where
+pub record IsGathered (task : Task) (all : Rows) (outcomes : List Outcome) (key : Noted) : Type 0 where
   pub expanded : IsExpanded task all key
   pub gathered : IsAtRest (plain_at task.flat key.state) → HasOutcome outcomes key.notes.items
 
-abbrev pub IsGatheredAt : Task → NotedStates → List Outcome → (place : ℕ) → Type 0
-IsGatheredAt task all outcomes place = (key : Noted) → IsNotedAt all place key → IsGathered task all outcomes key
+abbrev pub IsGatheredAt : Task → Rows → List Outcome → (place : ℕ) → Type 0
+IsGatheredAt task all outcomes place = (key : Noted) → IsRowAt all place key → IsGathered task all outcomes key
 
-abbrev pub AreGathered : Task → NotedStates → List Outcome → (index : ℕ) → Type 0
+abbrev pub AreGathered : Task → Rows → List Outcome → (index : ℕ) → Type 0
 AreGathered task all outcomes index = (k : ℕ) → k < index → IsGatheredAt task all outcomes k
 
 -- where a search ended: at a state where two nodes meet; or past all states, none of which is stuck before this one
-abbrev pub IsStuckFirst : Task → NotedStates → Option ℕ → Type 0
-IsStuckFirst task all None = AreNowhereStuck task all (noted_count all)
-IsStuckFirst task all (Some place) = (key : Noted) × IsNotedAt all place key × IsStuck (plain_at task.flat key.state)
+abbrev pub IsStuckFirst : Task → Rows → Option ℕ → Type 0
+IsStuckFirst task all None = AreNowhereStuck task all (row_count all)
+IsStuckFirst task all (Some place) = (key : Noted) × IsRowAt all place key × IsStuck (plain_at task.flat key.state)
 
 abbrev pub IsEnd : Task → Found → End → Type 0
-IsEnd task found (end.Meeting place p q) = (key : Noted) × IsNotedAt found.states place key × Meet (plain_at task.flat key.state) p q
+IsEnd task found (end.Meeting place p q) = (key : Noted) × IsRowAt found.states place key × Meet (plain_at task.flat key.state) p q
 IsEnd task found (end.Through stuck) =
-    AreCalm task found.states (noted_count found.states) × AreExpanded task found.states (noted_count found.states) × IsStuckFirst task found.states stuck
+    AreCalm task found.states (row_count found.states) × AreExpanded task found.states (row_count found.states) × IsStuckFirst task found.states stuck
 
 -- a search that went past all of its states met no more than it may
 abbrev pub FitsEnd : Task → Found → End → Type 0
 FitsEnd task found (end.Meeting place p q) = Unit {0}
-FitsEnd task found (end.Through stuck) = noted_count found.states ≤ task.most
+FitsEnd task found (end.Through stuck) = row_count found.states ≤ task.most

@@ -4,8 +4,8 @@ use Rattle.lrc_trace.specs.declared.act.Act.{Act}
 use Rattle.lrc_exec.specs.Plain.{Plain, plain_start}
 use Rattle.lrc_exec.specs.Spots.{IsFlat}
 use Rattle.lrc_explore.specs.declared.noted.Noted.{Noted}
-use Rattle.lrc_explore.specs.declared.noted.NotedStates.{NotedStates}
-use Rattle.lrc_explore.specs.Noted.{AreNotedDistinct, AreNotedFull, IsNotedAt, WidensNoted, noted_count}
+use Rattle.lrc_rows.specs.declared.rows.Rows.{Rows}
+use Rattle.lrc_rows.specs.Rows.{AreRowsDistinct, AreRowsFull, IsRowAt, WidensRows, row_count}
 use Rattle.lrc_exec.specs.declared.state.State.{State}
 use Rattle.lrc_explore.specs.Notes.{notes_of, notes_with}
 use Rattle.lrc_explore.specs.Kept.{Grows}
@@ -48,44 +48,45 @@ pub record IsReached (task : Task) (key : Noted) : Type 0 where
   pub bare : task.noting ≡ false → key.notes.items ≡ []
 
 -- so it is of all, and each stands once
-pub record AreReached (task : Task) (all : NotedStates) : Type 0 where
-  pub full : AreNotedFull all
-  pub distinct : AreNotedDistinct all
-  pub each : (k : ℕ) (key : Noted) → IsNotedAt all k key → IsReached task key
+pub record AreReached (task : Task) (all : Rows) : Type 0 where
+  pub full : AreRowsFull all
+  pub nodes : all.nodes ≡ task.flat.nodes
+  pub distinct : AreRowsDistinct all
+  pub each : (k : ℕ) (key : Noted) → IsRowAt all k key → IsReached task key
 
 -- one of the states stands for this one, with these notes if notes are kept
-pub record HasReached (task : Task) (all : NotedStates) (machine : Plain) (notes : List Act) : Type 0 where
+pub record HasReached (task : Task) (all : Rows) (machine : Plain) (notes : List Act) : Type 0 where
   pub place : ℕ
   pub key : Noted
-  pub there : IsNotedAt all place key
+  pub there : IsRowAt all place key
   pub alike : AreLike machine (plain_at task.flat key.state)
   pub noted : task.noting ≡ true → key.notes.items ≡ notes
 
 -- the states have what this step leads to from one of them
-abbrev pub HasAfter : Task → NotedStates → Noted → Step → Type 0
+abbrev pub HasAfter : Task → Rows → Noted → Step → Type 0
 HasAfter task all key step = (acts : List Act) (after : Plain) → Takes (plain_at task.flat key.state) step acts after
     → HasReached task all after (noted_on key.notes.items acts)
 
 -- they have what every step leads to from it
-abbrev pub IsExpanded : Task → NotedStates → Noted → Type 0
+abbrev pub IsExpanded : Task → Rows → Noted → Type 0
 IsExpanded task all key = (step : Step) → HasAfter task all key step
 
 -- they have it from that at a place, and from those before an index
-abbrev pub IsExpandedAt : Task → NotedStates → (place : ℕ) → Type 0
-IsExpandedAt task all place = (key : Noted) → IsNotedAt all place key → IsExpanded task all key
+abbrev pub IsExpandedAt : Task → Rows → (place : ℕ) → Type 0
+IsExpandedAt task all place = (key : Noted) → IsRowAt all place key → IsExpanded task all key
 
-abbrev pub AreExpanded : Task → NotedStates → (index : ℕ) → Type 0
+abbrev pub AreExpanded : Task → Rows → (index : ℕ) → Type 0
 AreExpanded task all index = (k : ℕ) → k < index → IsExpandedAt task all k
 
 -- they have the settled start of the program
-abbrev pub HasStart : Task → NotedStates → Type 0
+abbrev pub HasStart : Task → Rows → Type 0
 HasStart task all = (acts : List Act) (machine : Plain) → Settles (plain_start task.program.now task.flat.nodes) acts machine
     → HasReached task all machine (notes_of task.flat.nodes acts)
 
 -- a step leads from an earlier state to this one, and its acts to these notes if notes are kept
-pub record IsFrom (task : Task) (all : NotedStates) (origin : Origin) (key : Noted) : Type 0 where
+pub record IsFrom (task : Task) (all : Rows) (origin : Origin) (key : Noted) : Type 0 where
   pub before : Noted
-  pub there : IsNotedAt all origin.parent before
+  pub there : IsRowAt all origin.parent before
   pub acts : List Act
   pub takes : TakesLike (plain_at task.flat before.state) origin.step acts (plain_at task.flat key.state)
   pub noted : task.noting ≡ true → key.notes.items ≡ noted_on before.notes.items acts
@@ -105,13 +106,13 @@ IsFirstKey task key = (acts : List Act) × (machine : Plain) × Settles (plain_s
 -- all that was found stands for settled states, and of each but the first it is known from where it was found
 pub record AreFound (task : Task) (found : Found) : Type 0 where
   pub reached : AreReached task found.states
-  pub even : length found.origins.items ≡ noted_count found.states
-  pub from : (k : ℕ) (key : Noted) → 0 < k → IsNotedAt found.states k key → IsFound task found k key
-  pub first : (key : Noted) → IsNotedAt found.states 0 key → IsFirstKey task key
+  pub even : length found.origins.items ≡ row_count found.states
+  pub from : (k : ℕ) (key : Noted) → 0 < k → IsRowAt found.states k key → IsFound task found k key
+  pub first : (key : Noted) → IsRowAt found.states 0 key → IsFirstKey task key
 
 -- what was found stays at its places, and there may be more
 pub record IsMore (old new : Found) : Type 0 where
-  pub states : WidensNoted old.states new.states
+  pub states : WidensRows old.states new.states
   pub origins : Grows old.origins.items new.origins.items
 
 -- a step makes these acts, put to those before, and leads from this state to that one
@@ -134,8 +135,8 @@ pub record IsKeyOf (task : Task) (state : State) (notes acts : List Act) (key : 
   pub bare : task.noting ≡ false → key.notes.items ≡ []
 
 -- some place keeps it
-abbrev pub IsKept : NotedStates → Noted → Type 0
-IsKept all key = (place : ℕ) × IsNotedAt all place key
+abbrev pub IsKept : Rows → Noted → Type 0
+IsKept all key = (place : ℕ) × IsRowAt all place key
 
 -- the program's start settles to this state: the acts were put to those before
 pub record SettlesStart (task : Task) (before after : List Act) (state : State) : Type 0 where
@@ -145,12 +146,12 @@ pub record SettlesStart (task : Task) (before after : List Act) (state : State) 
 
 -- from where it was found, if it is not the first
 abbrev pub ComesFrom : Task → Found → Origin → Noted → Type 0
-ComesFrom task found origin key = (0 < noted_count found.states → (origin.parent < noted_count found.states) × IsFrom task found.states origin key)
-    × (noted_count found.states ≡ 0 → IsFirstKey task key)
+ComesFrom task found origin key = (0 < row_count found.states → (origin.parent < row_count found.states) × IsFrom task found.states origin key)
+    × (row_count found.states ≡ 0 → IsFirstKey task key)
 
 -- no two nodes meet at the states before an index, and the program is stuck at none of them
-abbrev pub AreCalm : Task → NotedStates → (index : ℕ) → Type 0
-AreCalm task all index = (k : ℕ) (key : Noted) → k < index → IsNotedAt all k key → IsCalm (plain_at task.flat key.state)
+abbrev pub AreCalm : Task → Rows → (index : ℕ) → Type 0
+AreCalm task all index = (k : ℕ) (key : Noted) → k < index → IsRowAt all k key → IsCalm (plain_at task.flat key.state)
 
-abbrev pub AreNowhereStuck : Task → NotedStates → (index : ℕ) → Type 0
-AreNowhereStuck task all index = (k : ℕ) (key : Noted) → k < index → IsNotedAt all k key → ¬ IsStuck (plain_at task.flat key.state)
+abbrev pub AreNowhereStuck : Task → Rows → (index : ℕ) → Type 0
+AreNowhereStuck task all index = (k : ℕ) (key : Noted) → k < index → IsRowAt all k key → ¬ IsStuck (plain_at task.flat key.state)

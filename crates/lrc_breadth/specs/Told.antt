@@ -3,7 +3,7 @@ use Rattle.std.specs.Prelude.{◌≡◌, ℕ, ◌<◌, true, List, [], ◌∷◌
 use Rattle.lrc_trace.specs.declared.act.Act.{Act}
 use Rattle.lrc_exec.specs.Plain.{Plain}
 use Rattle.lrc_explore.specs.declared.noted.Noted.{Noted}
-use Rattle.lrc_explore.specs.Noted.{IsNotedAt}
+use Rattle.lrc_rows.specs.Rows.{IsRowAt}
 use Rattle.lrc_explore.specs.Notes.{notes_of}
 use Rattle.lrc_exec.specs.States.{plain_at}
 use Rattle.lrc_settled.specs.Steps.{IsSettledState}
@@ -23,7 +23,7 @@ pub record LeadTo (task : Task) (found : Found) (place : ℕ) (acts : List Act) 
   pub machine : Plain
   pub led : IsSettledState task.program.now task.flat.nodes acts machine
   pub key : Noted
-  pub there : IsNotedAt found.states place key
+  pub there : IsRowAt found.states place key
   pub alike : AreLike machine (plain_at task.flat key.state)
   pub noted : task.noting ≡ true → notes_of task.flat.nodes acts ≡ key.notes.items
 

@@ -54,7 +54,7 @@ fn explore_code(
     ensures faults { IfErr result (IsFaultOf code.now nodes most) }
 {
     let task = task_of(alloc, code, nodes, most, false)?;
-    let mut found = Found::none(alloc);
+    let mut found = Found::none(alloc, nodes as usize);
     found.answer(alloc, &task)
 }
 
@@ -91,7 +91,7 @@ fn outcomes_of(
     ensures faults { IfErr result (IsFaultOf code.now nodes most) }
 {
     let task = task_of(alloc, code, nodes, most, true)?;
-    let mut found = Found::none(alloc);
+    let mut found = Found::none(alloc, nodes as usize);
     let mut outcomes = IndexSet::new(alloc);
     let all = found.all_outcomes(alloc, &task, &mut outcomes);
     match all {
@@ -164,7 +164,7 @@ fn order_of(alloc: Global, acts: &[Act], more: &[usize]) -> Result<Vec<usize>, A
 
 impl Found {
     ghost use Rattle.std.specs.Prelude.{◌≡◌, IfOk, IfErr, OnOk, [], true, Some};
-    ghost use Rattle.lrc_explore.specs.Noted.{AreNotedDistinct, noted_count};
+    ghost use Rattle.lrc_rows.specs.Rows.{AreRowsDistinct, row_count};
     ghost use Rattle.lrc_breadth.specs.Reached.{AreFound, HasStart, IsTask};
     ghost use Rattle.lrc_breadth.specs.Ended.{AreAllFound};
     ghost use Rattle.lrc_breadth.specs.Answers.{FitsEnd, FitsSettled, FitsSettledNoted, IsAnswer, IsEnd, IsFault};
@@ -174,8 +174,9 @@ impl Found {
     // From the settled start on, where there are no states yet: what is answered.
     fn answer(&mut self, alloc: Global, task: &Task<'_>) -> Result<Verdict, ExploreFault>
         requires task { IsTask task.now }
-        requires none { noted_count self.old.states ≡ 0 }
-        requires distinct { AreNotedDistinct self.old.states }
+        requires none { row_count self.old.states ≡ 0 }
+        requires distinct { AreRowsDistinct self.old.states }
+        requires nodes { self.old.states.nodes ≡ task.now.flat.nodes }
         requires origins { self.old.origins.items ≡ [] }
         ensures answer { IfOk result (IsAnswer task.now.program.now task.now.flat.nodes) }
         ensures fits { IfOk result (λ verdict. FindsNoRace verdict
@@ -255,8 +256,9 @@ impl Found {
     ) -> Result<(), ExploreFault>
         requires task { IsTask task.now }
         requires noting { task.now.noting ≡ true }
-        requires none { noted_count self.old.states ≡ 0 }
-        requires distinct { AreNotedDistinct self.old.states }
+        requires none { row_count self.old.states ≡ 0 }
+        requires distinct { AreRowsDistinct self.old.states }
+        requires nodes { self.old.states.nodes ≡ task.now.flat.nodes }
         requires origins { self.old.origins.items ≡ [] }
         requires empty { outcomes.old.keys ≡ [] }
         ensures all { OnOk result (AreAllFound task.now self.new) }

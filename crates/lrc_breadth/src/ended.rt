@@ -35,7 +35,7 @@ pub fn all_ended(alloc: Global, task: &Task<'_>) -> Result<Ended, ExploreFault>
         task.now.most) }
     ensures faults { IfErr result (IsFault task.now) }
 {
-    let mut found = Found::none(alloc);
+    let mut found = Found::none(alloc, task.flat.nodes as usize);
     let mut outcomes = IndexSet::new(alloc);
     let all = found.all_outcomes(alloc, task, &mut outcomes);
     match all {

@@ -15,6 +15,7 @@ use lrc_explore::noted::Noted;
 use lrc_explore::notes::note;
 use lrc_explore::search::ExploreFault;
 use lrc_live::forget_dead;
+use lrc_rows::rows::Rows;
 use lrc_steps::settle::settle;
 use lrc_steps::step::{Step, all_wait, contended_deed, count, take_alone, take_together};
 use lrc_trace::act::Act;
@@ -176,18 +177,19 @@ fn note_all(notes: &mut Vec<Act>, acts: &[Act]) -> Result<(), AllocError>
 impl Found {
     ghost use Rattle.std.specs.Prelude.{◌≡◌, ◌<◌, ◌≤◌, ◌++◌, IfOk, IfErr, OnOk, [], length, true};
     ghost use Rattle.lrc_exec.specs.States.{plain_at, IsStateOf};
-    ghost use Rattle.lrc_explore.specs.Noted.{AreNotedDistinct, IsNotedAt, noted_count};
+    ghost use Rattle.lrc_rows.specs.Rows.{AreRowsDistinct, IsRowAt, row_count};
     ghost use Rattle.lrc_breadth.specs.Reached.{AreFound, ComesFrom, HasAfter, HasStart, IsExpanded, IsKept, IsMore, IsReached, IsTask};
     ghost use Rattle.lrc_breadth.specs.Answers.{IsFault};
 
-    /// Makes a list without states.
-    pub fn none(alloc: Global) -> Found
-        ensures none { noted_count result.states ≡ 0 }
-        ensures distinct { AreNotedDistinct result.states }
+    /// Makes a list without states, for this many nodes.
+    pub fn none(alloc: Global, nodes: usize) -> Found
+        ensures none { row_count result.states ≡ 0 }
+        ensures distinct { AreRowsDistinct result.states }
+        ensures nodes { result.states.nodes ≡ nodes }
         ensures origins { result.origins.items ≡ [] }
     {
         Found {
-            states: lrc_explore::noted::NotedStates::new(alloc),
+            states: Rows::new(alloc, nodes),
             origins: Vec::new(alloc),
         }
     }
@@ -195,8 +197,9 @@ impl Found {
     /// Adds the settled start. There must be no states yet.
     pub fn begin(&mut self, alloc: Global, task: &Task<'_>) -> Result<(), ExploreFault>
         requires task { IsTask task.now }
-        requires none { noted_count self.old.states ≡ 0 }
-        requires distinct { AreNotedDistinct self.old.states }
+        requires none { row_count self.old.states ≡ 0 }
+        requires distinct { AreRowsDistinct self.old.states }
+        requires nodes { self.old.states.nodes ≡ task.now.flat.nodes }
         requires origins { self.old.origins.items ≡ [] }
         ensures found { OnOk result (AreFound task.now self.new) }
         ensures start { OnOk result (HasStart task.now self.new.states) }
@@ -228,7 +231,7 @@ impl Found {
         ensures has { OnOk result (IsKept self.new.states key) }
     {
         let _most = task.most;
-        let (_place, added) = self.states.add(alloc, key)?;
+        let (_place, added) = self.states.add(key)?;
         if added {
             self.origins.push(origin)?;
         }
@@ -245,7 +248,7 @@ impl Found {
     ) -> Result<(), ExploreFault>
         requires task { IsTask task.now }
         requires found { AreFound task.now self.old }
-        requires there { IsNotedAt self.old.states place key.now }
+        requires there { IsRowAt self.old.states place key.now }
         ensures found { OnOk result (AreFound task.now self.new) }
         ensures more { OnOk result (IsMore self.old self.new) }
         ensures expanded { OnOk result (IsExpanded task.now self.new.states key.now) }
@@ -269,7 +272,7 @@ impl Found {
     ) -> Result<(), ExploreFault>
         requires task { IsTask task.now }
         requires found { AreFound task.now self.old }
-        requires there { IsNotedAt self.old.states place key.now }
+        requires there { IsRowAt self.old.states place key.now }
         ensures found { OnOk result (AreFound task.now self.new) }
         ensures more { OnOk result (IsMore self.old self.new) }
         ensures after { OnOk result (HasAfter task.now self.new.states key.now step) }

@@ -25,7 +25,7 @@ fn keep(outcomes: &mut IndexSet<Outcome>, notes: Vec<Act>) -> Result<(), AllocEr
 
 impl Found {
     ghost use Rattle.std.specs.Prelude.{◌≡◌, ◌<◌, ◌≤◌, IfOk, IfErr, OnOk, []};
-    ghost use Rattle.lrc_explore.specs.Noted.{noted_count, WidensNoted};
+    ghost use Rattle.lrc_rows.specs.Rows.{row_count, WidensRows};
     ghost use Rattle.lrc_explore.specs.Kept.{Grows};
     ghost use Rattle.lrc_breadth.specs.Reached.{AreExpanded, AreFound, IsExpandedAt, IsMore, IsTask};
     ghost use Rattle.lrc_breadth.specs.Answers.{AreGathered, AreSound, FitsEnd, IsEnd, IsFault, IsGatheredAt, IsVisit};
@@ -60,7 +60,7 @@ impl Found {
     fn visit(&mut self, alloc: Global, task: &Task<'_>, place: usize) -> Result<Visit, ExploreFault>
         requires task { IsTask task.now }
         requires found { AreFound task.now self.old }
-        requires within { place < noted_count self.old.states }
+        requires within { place < row_count self.old.states }
         ensures found { OnOk result (AreFound task.now self.new) }
         ensures more { OnOk result (IsMore self.old self.new) }
         ensures visit { IfOk result (IsVisit task.now self.new place) }
@@ -92,8 +92,8 @@ impl Found {
         ensures more { OnOk result (IsMore self.old self.new) }
         ensures sound { OnOk result (AreSound task.now outcomes.new.keys) }
         ensures done { OnOk result (AreGathered task.now self.new.states outcomes.new.keys
-            (noted_count self.new.states)) }
-        ensures fits { OnOk result (noted_count self.new.states ≤ task.now.most) }
+            (row_count self.new.states)) }
+        ensures fits { OnOk result (row_count self.new.states ≤ task.now.most) }
         ensures faults { IfErr result (IsFault task.now) }
     {
         let mut place = 0;
@@ -117,7 +117,7 @@ impl Found {
     ) -> Result<(), ExploreFault>
         requires task { IsTask task.now }
         requires found { AreFound task.now self.old }
-        requires within { place < noted_count self.old.states }
+        requires within { place < row_count self.old.states }
         requires sound { AreSound task.now outcomes.old.keys }
         ensures found { OnOk result (AreFound task.now self.new) }
         ensures more { OnOk result (IsMore self.old self.new) }

@@ -1,8 +1,8 @@
 // What is searched, and what was found.
 
 use lrc_exec::spot::Flat;
-use lrc_explore::noted::NotedStates;
 use lrc_lang::program::Program;
+use lrc_rows::rows::Rows;
 use lrc_steps::step::Step;
 
 /// The task of a search: a program, its code and the place where the code begins, the names that matter at each place,
@@ -28,7 +28,7 @@ pub struct Origin {
 /// The states found, each once, in the order of finding, and how each was found.
 #[derive(Drop)]
 pub struct Found {
-    pub states: NotedStates,
+    pub states: Rows,
     pub origins: Vec<Origin>,
 }
 

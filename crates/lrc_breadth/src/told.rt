@@ -8,7 +8,7 @@ use std::alloc::{AllocError, Global};
 
 impl Found {
     ghost use Rattle.std.specs.Prelude.{◌≡◌, ◌<◌, ◌++◌, IfOk, IfErr, OnOk, length};
-    ghost use Rattle.lrc_explore.specs.Noted.{noted_count};
+    ghost use Rattle.lrc_rows.specs.Rows.{row_count};
     ghost use Rattle.lrc_breadth.specs.Reached.{AreFound, IsTask};
     ghost use Rattle.lrc_breadth.specs.Answers.{IsFault};
     ghost use Rattle.lrc_breadth.specs.Told.{Comes, IsParentLed, LeadTo};
@@ -23,7 +23,7 @@ impl Found {
     ) -> Result<Vec<Act>, ExploreFault>
         requires task { IsTask task.now }
         requires found { AreFound task.now self.now }
-        requires within { place < noted_count self.now.states }
+        requires within { place < row_count self.now.states }
         ensures led { IfOk result (λ acts. LeadTo task.now self.now place acts.items) }
         ensures faults { IfErr result (IsFault task.now) }
     {
@@ -65,7 +65,7 @@ impl Found {
         place: usize,
     ) -> Result<Vec<usize>, AllocError>
         requires found { AreFound task.now self.now }
-        requires within { place < noted_count self.now.states }
+        requires within { place < row_count self.now.states }
         ensures { IfOk result (λ path. Comes self.now.origins.items 0 path.items place) }
     {
         let _most = task.most;
@@ -90,7 +90,7 @@ impl Found {
     ) -> Result<(), ExploreFault>
         requires task { IsTask task.now }
         requires found { AreFound task.now self.now }
-        requires within { place < noted_count self.now.states }
+        requires within { place < row_count self.now.states }
         requires later { 0 < place }
         requires led { IsParentLed task.now self.now place acts.old.items }
         ensures led { OnOk result (LeadTo task.now self.now place acts.new.items) }

@@ -31,12 +31,12 @@ fn forget_all(table: &[[bool; 32]], spots: &mut [Spot])
     ensures { spots.new ≡ map (forgot table.now) spots.old }
 {
     for spot in spots.iter_mut() {
-        forget_at(table, spot);
+        forget_spot(table, spot);
     }
 }
 
-// The same of one.
-fn forget_at(table: &[[bool; 32]], spot: &mut Spot)
+/// The same of one spot.
+pub fn forget_spot(table: &[[bool; 32]], spot: &mut Spot)
     requires within { spot.old.place < length table.now }
     ensures { spot.new ≡ forgot table.now spot.old }
 {

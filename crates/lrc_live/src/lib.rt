@@ -6,5 +6,5 @@ mod forget;
 pub mod laws;
 mod live;
 
-pub use forget::forget_dead;
+pub use forget::{forget_dead, forget_spot};
 pub use live::live_names;

@@ -11,6 +11,6 @@ loop-spot-preserved c =
     let spots = c.loop-spot.spots in
     let i = c.loop-spot.spot-index in
     let within : i < length spots = omega (arith, c.loop-spot-test.true, c.loop-spot.auto.spots) in
-    rw (c.forget_at.ensures)
+    rw (c.forget_spot.ensures)
     (map_over_more (forgot c.args.table.now) c.args.spots.now spots i (get_or spots i none) c.loop-spot-test.true c.loop-spot.invariant
     (get_or_default spots i none (get_or spots i none) within))

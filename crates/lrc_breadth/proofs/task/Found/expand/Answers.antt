@@ -1,12 +1,12 @@
 use Rattle.std.proofs.Common.{arith}
-use Rattle.lrc_explore.proofs.Ways.{noted_grows}
+use Rattle.lrc_rows.proofs.RowLaws.{row_grown}
 use Rattle.lrc_steps.specs.declared.step.Step.TheVariants.{Together}
 use Rattle.lrc_breadth.proofs.Keys.{after_grown, each_more, expanded_all, more_again}
 use Rattle.lrc_breadth.proofs.task.Found.expand.Goals as goal
 
 pub expand_step-requires-in-loop-node-clause-there : goal.expand_step-requires-in-loop-node-clause-there
 expand_step-requires-in-loop-node-clause-there c =
-    noted_grows c.args.self.now.states c.loop-node.self.states c.args.place c.args.key.now c.loop-node.invariant.more.states c.requires.there
+    row_grown c.args.self.now.states c.loop-node.self.states c.args.place c.args.key.now c.loop-node.invariant.more.states c.requires.there
 
 pub loop-node-preserved : goal.loop-node-preserved
 loop-node-preserved c =

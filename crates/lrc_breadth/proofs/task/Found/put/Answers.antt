@@ -30,3 +30,9 @@ returns-else-added-clause-more c =
     more_put c.args.task.now old new c.args.key c.args.origin c.in_ok-_place._place c.in_ok-_place.added c.requires.found c.requires.reached c.requires.from
     e.widens e.distinct e.added e.there
     (ap (λ b. if b then old.origins.items ++ c.args.origin ∷ [] else old.origins.items) (sym c.if-added.false))
+
+pub add-requires-clause-nodes : goal.add-requires-clause-nodes
+add-requires-clause-nodes c = c.requires.reached.valid.spots ∙ sym c.requires.found.reached.nodes
+
+pub add-requires-clause-counted : goal.add-requires-clause-counted
+add-requires-clause-counted c = c.requires.reached.counted

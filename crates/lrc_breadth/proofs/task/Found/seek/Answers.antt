@@ -1,5 +1,5 @@
 use Rattle.std.proofs.Common.{◌+◌, ◌<◌, ◌∙◌, sym, subst, arith}
-use Rattle.lrc_explore.specs.Noted.{noted_count}
+use Rattle.lrc_rows.specs.Rows.{row_count}
 use Rattle.lrc_breadth.specs.Answers.{IsVisit}
 use Rattle.lrc_breadth.proofs.Keys.{more_again}
 use Rattle.lrc_breadth.proofs.Seeking.{Seeking, seeking_past, seeking_stuck, stuck_end, too_many_states}
@@ -24,7 +24,7 @@ loop-place-preserved c =
     let stuck = c.loop-place.stuck in
     let i = c.loop-place.invariant.0 in
     let e = c.in_ok-p.ensures in
-    let lt : place < noted_count old.states = omega (arith, c.loop-place-test.true, c.len.ensures.len) in (
+    let lt : place < row_count old.states = omega (arith, c.loop-place-test.true, c.len.ensures.len) in (
       elim c.match-branch-2.branch [
         | in-Stuck w ↦
             let v = subst (IsVisit task new place) w.in-Stuck.is e.visit in

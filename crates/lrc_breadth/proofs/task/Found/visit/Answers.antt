@@ -1,5 +1,5 @@
 use Rattle.std.proofs.Common.{◌≡◌, ◌∙◌, sym, true, false}
-use Rattle.lrc_explore.proofs.Ways.{noted_grows}
+use Rattle.lrc_rows.proofs.RowLaws.{row_grown}
 use Rattle.lrc_breadth.proofs.task.Found.visit.Goals as goal
 
 pub returns-then-is_stuck-clause-visit : goal.returns-then-is_stuck-clause-visit
@@ -8,7 +8,7 @@ returns-then-is_stuck-clause-visit c =
     let e = c.in_ok-expand.ensures in (
       record {
         key = key;
-        there = noted_grows c.args.self.now.states c.expand.new.self.states c.args.place key e.more.states c.in_ok-key.ensures;
+        there = row_grown c.args.self.now.states c.expand.new.self.states c.args.place key e.more.states c.in_ok-key.ensures;
         calm = c.in_default.ensures;
         expanded = e.expanded;
       },
@@ -21,7 +21,7 @@ returns-clause-visit c =
     let e = c.in_ok-expand.ensures in (
       record {
         key = key;
-        there = noted_grows c.args.self.now.states c.expand.new.self.states c.args.place key e.more.states c.in_ok-key.ensures;
+        there = row_grown c.args.self.now.states c.expand.new.self.states c.args.place key e.more.states c.in_ok-key.ensures;
         calm = c.in_default.ensures;
         expanded = e.expanded;
       },
