@@ -27,7 +27,7 @@ const _: () = prove!(EVENTS_READ > lrc_events::events::MOST_BYTES as u64);
 
 /// The texts that a choice names.
 #[derive(Drop)]
-pub(crate) struct Read {
+pub(crate) struct Texts {
     /// The text of the FILE: a program, or acts.
     pub text: Vec<u8>,
     /// The text of the events, if the choice names a file of them.
@@ -35,7 +35,7 @@ pub(crate) struct Read {
 }
 
 /// Reads the texts that a choice names. It fails if one of them cannot be read.
-pub(crate) fn read<F: Sources>(alloc: Global, sources: &F, choice: &Choice<'_>) -> io::Result<Read>
+pub(crate) fn read<F: Sources>(alloc: Global, sources: &F, choice: &Choice<'_>) -> io::Result<Texts>
     ensures named { IfOk result (λ read. is_some read.events ≡ names_events choice.now) }
     ensures text { IfOk result (λ read. IsTextRead (F.known sources.now)
         (most_read (reads_acts choice.now)) (file_of choice.now) read.text.items) }
@@ -47,7 +47,7 @@ pub(crate) fn read<F: Sources>(alloc: Global, sources: &F, choice: &Choice<'_>) 
 {
     let text = read_text(alloc, sources, choice)?;
     let events = read_events(alloc, sources, choice)?;
-    Ok(Read { text, events })
+    Ok(Texts { text, events })
 }
 
 // Reads the text of a program, or of acts. The path `-` is standard input.
