@@ -131,7 +131,8 @@ fn run_at(
     }
 }
 
-/// The place of the outcome whose line has this number among those of all, ascending, counted from 1.
+/// Returns the place of the outcome whose line has this number, counted from 1, in the ascending list of their lines.
+/// Returns none if there are fewer outcomes. Fails if memory runs out.
 pub fn place_of(
     alloc: Global,
     nodes: u8,

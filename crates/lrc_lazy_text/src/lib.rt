@@ -1,4 +1,5 @@
-//! What is printed of the lazy runs of a program: their outcomes, with the seeds whose runs have them, and a run that has one of them.
+//! Prints what a search of all lazy runs of a program finds: their outcomes, each with the least seed whose run has it,
+//! or the acts of a run that has one of them.
 #![tactic(auto)]
 
 pub mod listed;

@@ -15,15 +15,16 @@ use lrc_setting::setting::Nodes;
 use lrc_text::push_number;
 use std::alloc::{AllocError, Global};
 
-/// The line of an outcome, and the least seed whose run has it, if one is known.
+/// An outcome as it is printed: its line, and the least of the tried seeds whose run has it, if one has.
 #[derive(PartialEq, Eq, PartialOrd, Ord, Drop)]
 struct ToldOutcome {
     line: Vec<u8>,
     seed: Option<u64>,
 }
 
-/// What is printed of the outcomes of the lazy runs of a program; where runs of so many seeds are tried, with the least seed whose run has
-/// an outcome behind it. The text comes in parts. Gives up where there are more states to tell apart than `most`.
+/// Returns what is printed of the outcomes of the lazy runs of a program, in parts. If `tries` is given, it plays a run
+/// in the random order of each seed below `tries`, and each outcome has behind it the least seed whose run has it. Fails
+/// if there are more than `most` states to tell apart, or if memory runs out.
 pub fn lazy_outcomes_told(
     alloc: Global,
     program: &Program,

@@ -15,9 +15,10 @@ use lrc_setting::setting::Nodes;
 use lrc_trace::act::Act;
 use std::alloc::Global;
 
-/// What is printed of the outcome of this number, counted from 1, among those of the lazy runs of a program whose statements, and the
-/// text's end behind them, have these lines: the acts of a lazy run that has it. Nothing where there are fewer outcomes. Gives up where
-/// there are more states to tell apart than `most`.
+/// Returns what is printed of the outcome with this number, counted from 1, among the outcomes of the lazy runs of a
+/// program: the acts of a lazy run that has it. Returns none if there are fewer outcomes. `lines` has the lines of the
+/// program's statements, and of the text's end behind them. Fails if there are more than `most` states to tell apart, or
+/// if memory runs out.
 pub fn lazy_run_told(
     alloc: Global,
     program: &Program,

@@ -1,4 +1,4 @@
-use Rattle.std.proofs.Common.{◌≡◌, ◌∷◌, ◌++◌, ◌∙◌, [], ap, get_or, sym, take}
+use Rattle.std.proofs.Common.{◌∙◌, ap, get_or, sym, take}
 use Rattle.std.proofs.lemmas.List.{take_all, take_more}
 use Rattle.lrc_trace.specs.declared.act.Act.{Act}
 use Rattle.lrc_trace.specs.declared.act.Deed.TheVariants.{Quiet}

@@ -1,8 +1,8 @@
-use Rattle.std.proofs.Common.{List, subst, ◌∙◌, ap}
+use Rattle.std.proofs.Common.{List, subst}
 use Rattle.std.specs.Prelude.{Option, Vec, option_map}
 use Rattle.std.specs.declared.alloc.Global.{Global}
 use Rattle.lrc_trace.specs.declared.act.Act.{Act}
-use Rattle.lrc_seeds.specs.Seeds.{AreLeastSeeds, AreMarked, IsAllOfSeed}
+use Rattle.lrc_seeds.specs.Seeds.{AreMarked, IsAllOfSeed}
 use Rattle.lrc_seeds.proofs.Marking.{marked_more, unmarked_more}
 use Rattle.lrc_seeds.proofs.seeds.try_seed.Goals as goal
 
