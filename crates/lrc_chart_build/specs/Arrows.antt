@@ -4,28 +4,13 @@ use Rattle.std.specs.List.{flat_map, position}
 use Rattle.lrc_text.specs.Each.{each}
 use Rattle.lrc_envelope.specs.Envelope.{EnvelopeRecord}
 use Rattle.lrc_envelope.specs.declared.message.Message.{Message}
-use Rattle.lrc_envelope.specs.declared.message.Message.TheVariants as messages
-use Rattle.lrc_wire.specs.declared.kind.Kind.{Kind}
-use Rattle.lrc_wire.specs.declared.kind.Kind.TheVariants as kinds
-use Rattle.lrc_messages.specs.MessageText.{kind_name, message_text}
+use Rattle.lrc_messages.specs.MessageText.{kind_name, message_kind, message_text}
 use Rattle.lrc_turns_text.specs.Turns.{Made}
 use Rattle.lrc_chart_rows.specs.Takers.{takers}
 use Rattle.lrc_chart_build.specs.Seen.{SeenArrow, SeenLost}
 use Rattle.lrc_chart_build.specs.declared.part.Place.{Place}
 
-abbrev pub message_kind : Message → Kind
-message_kind (messages.LockRequest m) = kinds.LockRequest
-message_kind (messages.LockForward m) = kinds.LockForward
-message_kind (messages.LockGrant m) = kinds.LockGrant
-message_kind (messages.Arrive m) = kinds.Arrive
-message_kind (messages.Depart m) = kinds.Depart
-message_kind (messages.Clean m) = kinds.Clean
-message_kind (messages.Discard m) = kinds.Discard
-message_kind (messages.ChangesRequest m) = kinds.ChangesRequest
-message_kind (messages.ChangesReply m) = kinds.ChangesReply
-message_kind (messages.PageRequest m) = kinds.PageRequest
-message_kind (messages.PageReply m) = kinds.PageReply
-
+-- the name of a message's kind
 abbrev pub label_text : Message → List ℕ
 label_text message = kind_name (message_kind message)
 

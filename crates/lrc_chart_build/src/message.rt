@@ -2,36 +2,17 @@
 
 ghost use Rattle.std.specs.Prelude.{◌≡◌, IfOk};
 ghost use Rattle.lrc_messages.specs.MessageText.{message_text};
-ghost use Rattle.lrc_chart_build.specs.Arrows.{label_text, message_kind};
+ghost use Rattle.lrc_chart_build.specs.Arrows.{label_text};
 
 use lrc_envelope::Message;
-use lrc_messages::{kind_name, push_message};
-use lrc_wire::Kind;
+use lrc_messages::{MessageKind, push_message};
 use std::alloc::{AllocError, Global};
-
-fn message_kind(message: &Message) -> Kind
-    ensures { result ≡ message_kind message.now }
-{
-    match message {
-        Message::LockRequest(_) => Kind::LockRequest,
-        Message::LockForward(_) => Kind::LockForward,
-        Message::LockGrant(_) => Kind::LockGrant,
-        Message::Arrive(_) => Kind::Arrive,
-        Message::Depart(_) => Kind::Depart,
-        Message::Clean(_) => Kind::Clean,
-        Message::Discard(_) => Kind::Discard,
-        Message::ChangesRequest(_) => Kind::ChangesRequest,
-        Message::ChangesReply(_) => Kind::ChangesReply,
-        Message::PageRequest(_) => Kind::PageRequest,
-        Message::PageReply(_) => Kind::PageReply,
-    }
-}
 
 /// Returns the name of a message's kind.
 pub(crate) fn label_text(alloc: Global, message: &Message) -> Result<Vec<u8>, AllocError>
     ensures { IfOk result (λ text. text.items ≡ label_text message.now) }
 {
-    Vec::from_slice(alloc, kind_name(message_kind(message)))
+    Vec::from_slice(alloc, MessageKind::of(message).name())
 }
 
 /// Returns the content of a message, in words.

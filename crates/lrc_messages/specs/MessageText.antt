@@ -3,14 +3,14 @@ use Rattle.std.specs.Prelude.{ℕ, Bool, true, false, List, [], ◌++◌, codes,
 use Rattle.lrc_page.specs.declared.changes.Change.{Change}
 use Rattle.lrc_page.specs.Changes.{changes_between}
 use Rattle.lrc_store.specs.Interval.{IntervalRecord, index_of}
-use Rattle.lrc_wire.specs.declared.kind.Kind.{Kind}
-use Rattle.lrc_wire.specs.declared.kind.Kind.TheVariants as kinds
 use Rattle.lrc_envelope.specs.Records.{IndexedChangesRecord, LockRequestRecord, LockForwardRecord, LockGrantRecord, ArriveRecord, DepartRecord}
 use Rattle.lrc_envelope.specs.Records.{ChangesRequestRecord, ChangesReplyRecord, PageReplyRecord}
 use Rattle.lrc_envelope.specs.declared.message.Message.{Message}
 use Rattle.lrc_envelope.specs.declared.message.Message.TheVariants.{LockRequest, LockForward, LockGrant, Arrive, Depart, Clean, Discard}
 use Rattle.lrc_envelope.specs.declared.message.Message.TheVariants.{ChangesRequest, ChangesReply, PageRequest, PageReply}
 use Rattle.lrc_acts_text.specs.Json.{with_commas}
+use Rattle.lrc_messages.specs.declared.kind.MessageKind.{MessageKind}
+use Rattle.lrc_messages.specs.declared.kind.MessageKind.TheVariants as kinds
 use Rattle.lrc_messages.specs.Lists.{separated, separated_or_dash}
 
 -- ---- parts of several kinds
@@ -47,8 +47,22 @@ nonzero_words values = changes_between (replicate (length values) 0) values
 
 -- ---- the kinds
 
+-- the kind of each message
+abbrev pub message_kind : Message → MessageKind
+message_kind (LockRequest m) = kinds.LockRequest
+message_kind (LockForward m) = kinds.LockForward
+message_kind (LockGrant m) = kinds.LockGrant
+message_kind (Arrive m) = kinds.Arrive
+message_kind (Depart m) = kinds.Depart
+message_kind (Clean episode) = kinds.Clean
+message_kind (Discard episode) = kinds.Discard
+message_kind (ChangesRequest m) = kinds.ChangesRequest
+message_kind (ChangesReply m) = kinds.ChangesReply
+message_kind (PageRequest page) = kinds.PageRequest
+message_kind (PageReply m) = kinds.PageReply
+
 -- the name of each kind
-unfoldable pub kind_name : Kind → List ℕ
+unfoldable pub kind_name : MessageKind → List ℕ
 kind_name kinds.LockRequest = codes "lock-request"
 kind_name kinds.LockForward = codes "lock-forward"
 kind_name kinds.LockGrant = codes "lock-grant"
@@ -62,7 +76,7 @@ kind_name kinds.PageRequest = codes "page-request"
 kind_name kinds.PageReply = codes "page-reply"
 
 -- a kind, and a number behind a word
-abbrev pub named : Kind → List ℕ → ℕ → List ℕ
+abbrev pub named : MessageKind → List ℕ → ℕ → List ℕ
 named kind word n = kind_name kind ++ word ++ decimal n
 
 abbrev pub lock_request_text : LockRequestRecord → List ℕ

@@ -4,9 +4,11 @@
 
 mod changes;
 mod envelope;
+mod kind;
 mod lists;
 mod message;
 mod news;
 
 pub use envelope::{push_all_sent, push_sent, push_size, push_taken};
-pub use message::{kind_name, push_message};
+pub use kind::MessageKind;
+pub use message::push_message;

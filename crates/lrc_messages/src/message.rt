@@ -2,10 +2,11 @@
 
 ghost use Rattle.std.specs.Prelude.{◌≡◌, ◌++◌, OnErr, OnOk};
 ghost use Rattle.lrc_text.specs.Front.{BeginsWith};
-ghost use Rattle.lrc_messages.specs.MessageText.{arrive_text, changes_reply_text, changes_request_text, depart_text, kind_name, named};
+ghost use Rattle.lrc_messages.specs.MessageText.{arrive_text, changes_reply_text, changes_request_text, depart_text, named};
 ghost use Rattle.lrc_messages.specs.MessageText.{lock_forward_text, lock_grant_text, lock_request_text, message_text, page_reply_text};
 
 use crate::changes::{push_parts, push_words};
+use crate::kind::MessageKind;
 use crate::lists::push_indices;
 use crate::news::{push_collect, push_news, push_time};
 use lrc_envelope::{
@@ -13,35 +14,19 @@ use lrc_envelope::{
     PageReply,
 };
 use lrc_text::push_number;
-use lrc_wire::Kind;
 use std::alloc::{AllocError, Global};
 
-/// Returns the name of a message kind.
-#[tactic(auto, unfolding(crate::specs::MessageText::kind_name))]
-pub fn kind_name(kind: Kind) -> &'static [u8]
-    ensures { result.now ≡ kind_name kind }
-{
-    match kind {
-        Kind::LockRequest => b"lock-request",
-        Kind::LockForward => b"lock-forward",
-        Kind::LockGrant => b"lock-grant",
-        Kind::Arrive => b"arrive",
-        Kind::Depart => b"depart",
-        Kind::Clean => b"clean",
-        Kind::Discard => b"discard",
-        Kind::ChangesRequest => b"changes-request",
-        Kind::ChangesReply => b"changes-reply",
-        Kind::PageRequest => b"page-request",
-        Kind::PageReply => b"page-reply",
-    }
-}
-
 // Adds a kind, and a number behind a word.
-fn push_named(text: &mut Vec<u8>, kind: Kind, word: &[u8], number: u64) -> Result<(), AllocError>
+fn push_named(
+    text: &mut Vec<u8>,
+    kind: MessageKind,
+    word: &[u8],
+    number: u64,
+) -> Result<(), AllocError>
     ensures ok { OnOk result (text.new.items ≡ text.old.items ++ named kind word.now number) }
     ensures err { OnErr result (BeginsWith text.new.items text.old.items) }
 {
-    text.extend_from_slice(kind_name(kind))?;
+    text.extend_from_slice(kind.name())?;
     push_number(text, word, number)
 }
 
@@ -49,7 +34,7 @@ fn push_lock_request(text: &mut Vec<u8>, m: &LockRequest) -> Result<(), AllocErr
     ensures ok { OnOk result (text.new.items ≡ text.old.items ++ lock_request_text m.now) }
     ensures err { OnErr result (BeginsWith text.new.items text.old.items) }
 {
-    push_named(text, Kind::LockRequest, b" ", u64::from(m.lock))?;
+    push_named(text, MessageKind::LockRequest, b" ", u64::from(m.lock))?;
     push_time(text, &m.time)
 }
 
@@ -57,7 +42,7 @@ fn push_lock_forward(text: &mut Vec<u8>, m: &LockForward) -> Result<(), AllocErr
     ensures ok { OnOk result (text.new.items ≡ text.old.items ++ lock_forward_text m.now) }
     ensures err { OnErr result (BeginsWith text.new.items text.old.items) }
 {
-    push_named(text, Kind::LockForward, b" ", u64::from(m.lock))?;
+    push_named(text, MessageKind::LockForward, b" ", u64::from(m.lock))?;
     push_number(text, b" for ", u64::from(m.asker))?;
     push_time(text, &m.time)
 }
@@ -66,7 +51,7 @@ fn push_lock_grant(text: &mut Vec<u8>, m: &LockGrant) -> Result<(), AllocError>
     ensures ok { OnOk result (text.new.items ≡ text.old.items ++ lock_grant_text m.now) }
     ensures err { OnErr result (BeginsWith text.new.items text.old.items) }
 {
-    push_named(text, Kind::LockGrant, b" ", u64::from(m.lock))?;
+    push_named(text, MessageKind::LockGrant, b" ", u64::from(m.lock))?;
     push_news(text, &m.news)
 }
 
@@ -74,7 +59,7 @@ fn push_arrive(text: &mut Vec<u8>, m: &Arrive) -> Result<(), AllocError>
     ensures ok { OnOk result (text.new.items ≡ text.old.items ++ arrive_text m.now) }
     ensures err { OnErr result (BeginsWith text.new.items text.old.items) }
 {
-    push_named(text, Kind::Arrive, b" ", u64::from(m.episode))?;
+    push_named(text, MessageKind::Arrive, b" ", u64::from(m.episode))?;
     push_news(text, &m.news)?;
     push_collect(text, m.ask)
 }
@@ -83,7 +68,7 @@ fn push_depart(text: &mut Vec<u8>, m: &Depart) -> Result<(), AllocError>
     ensures ok { OnOk result (text.new.items ≡ text.old.items ++ depart_text m.now) }
     ensures err { OnErr result (BeginsWith text.new.items text.old.items) }
 {
-    push_named(text, Kind::Depart, b" ", u64::from(m.episode))?;
+    push_named(text, MessageKind::Depart, b" ", u64::from(m.episode))?;
     push_news(text, &m.news)?;
     push_collect(text, m.collect)
 }
@@ -92,7 +77,12 @@ fn push_changes_request(text: &mut Vec<u8>, m: &ChangesRequest) -> Result<(), Al
     ensures ok { OnOk result (text.new.items ≡ text.old.items ++ changes_request_text m.now) }
     ensures err { OnErr result (BeginsWith text.new.items text.old.items) }
 {
-    push_named(text, Kind::ChangesRequest, b" page ", u64::from(m.page))?;
+    push_named(
+        text,
+        MessageKind::ChangesRequest,
+        b" page ",
+        u64::from(m.page),
+    )?;
     text.extend_from_slice(b" intervals ")?;
     push_indices(text, &m.indices)
 }
@@ -101,7 +91,12 @@ fn push_changes_reply(text: &mut Vec<u8>, m: &ChangesReply) -> Result<(), AllocE
     ensures ok { OnOk result (text.new.items ≡ text.old.items ++ changes_reply_text m.now) }
     ensures err { OnErr result (BeginsWith text.new.items text.old.items) }
 {
-    push_named(text, Kind::ChangesReply, b" page ", u64::from(m.page))?;
+    push_named(
+        text,
+        MessageKind::ChangesReply,
+        b" page ",
+        u64::from(m.page),
+    )?;
     text.extend_from_slice(b" changes ")?;
     push_parts(text, &m.parts)
 }
@@ -110,7 +105,7 @@ fn push_page_reply(alloc: Global, text: &mut Vec<u8>, m: &PageReply) -> Result<(
     ensures ok { OnOk result (text.new.items ≡ text.old.items ++ page_reply_text m.now) }
     ensures err { OnErr result (BeginsWith text.new.items text.old.items) }
 {
-    push_named(text, Kind::PageReply, b" page ", u64::from(m.page))?;
+    push_named(text, MessageKind::PageReply, b" page ", u64::from(m.page))?;
     text.extend_from_slice(b" words ")?;
     push_words(alloc, text, &m.copy)
 }
@@ -126,13 +121,13 @@ pub fn push_message(alloc: Global, text: &mut Vec<u8>, message: &Message) -> Res
         Message::LockGrant(m) => push_lock_grant(text, m),
         Message::Arrive(m) => push_arrive(text, m),
         Message::Depart(m) => push_depart(text, m),
-        Message::Clean(m) => push_named(text, Kind::Clean, b" ", u64::from(m.episode)),
-        Message::Discard(m) => push_named(text, Kind::Discard, b" ", u64::from(m.episode)),
+        Message::Clean(m) => push_named(text, MessageKind::Clean, b" ", u64::from(m.episode)),
+        Message::Discard(m) => push_named(text, MessageKind::Discard, b" ", u64::from(m.episode)),
         Message::ChangesRequest(m) => push_changes_request(text, m),
         Message::ChangesReply(m) => push_changes_reply(text, m),
         Message::PageRequest(m) => push_named(
             text,
-            Kind::PageRequest,
+            MessageKind::PageRequest,
             b" page ",
             u64::from(m.page),
         ),

@@ -1,3 +1,4 @@
+pub mod DeedKinds
 pub mod Learned
 pub mod Seen
 pub mod Sent

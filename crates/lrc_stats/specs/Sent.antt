@@ -5,7 +5,9 @@ use Rattle.lrc_wire.specs.declared.limits.TheConstants.{MOST_BODY_BYTES}
 use Rattle.lrc_wire.specs.declared.version.Version.TheVariants.{Two}
 use Rattle.lrc_envelope.specs.Envelope.{EnvelopeRecord}
 use Rattle.lrc_wire.specs.Runs.{runs_of}
-use Rattle.lrc_wire.specs.Spelling.{body, bytes_of, kind}
+use Rattle.lrc_wire.specs.Spelling.{body, bytes_of}
+use Rattle.lrc_messages.specs.contracts.kind.MessageKindPartialEq.TheImpl.{eq-value as kind_eq}
+use Rattle.lrc_messages.specs.MessageText.{message_kind}
 use Rattle.lrc_protocol.specs.Run.{EntryRecord}
 use Rattle.lrc_stats.specs.declared.sent.Sent.{Sent}
 use Rattle.lrc_stats.specs.declared.sent.Wanted.{Wanted}
@@ -17,7 +19,7 @@ size_of envelope = if nat_lt MOST_BODY_BYTES (length (body Two runs_of envelope.
 
 -- what is counted of a message: its kind, whether its sender is its receiver, and its bytes
 abbrev pub sent_of : EnvelopeRecord → Sent
-sent_of envelope = record { kind = kind envelope.message; to_itself = envelope.from == envelope.to; bytes = size_of envelope }
+sent_of envelope = record { kind = message_kind envelope.message; to_itself = envelope.from == envelope.to; bytes = size_of envelope }
 
 abbrev pub sent_by_turn : EntryRecord → List Sent
 sent_by_turn entry = map sent_of entry.turn.out
@@ -27,7 +29,7 @@ abbrev pub sent_messages : List (List EntryRecord) → List Sent
 sent_messages logs = flat_map (flat_map sent_by_turn) logs
 
 abbrev pub is_wanted : Wanted → Sent → Bool
-is_wanted (Kind kind) sent = sent.kind == kind
+is_wanted (Kind kind) sent = kind_eq.it sent.kind kind
 is_wanted Each sent = true
 is_wanted ToItself sent = sent.to_itself
 

@@ -1,10 +1,15 @@
 -- The counts of a run in words, a line for each.
-use Rattle.std.specs.Prelude.{ℕ, ◌-◌, ◌==◌, List, ◌++◌, codes, decimal, if◌then◌else◌}
-use Rattle.std.specs.List.{flat_map, range_with_len}
+use Rattle.std.specs.Prelude.{ℕ, ◌-◌, List, [], ◌∷◌, ◌++◌, codes, decimal}
+use Rattle.std.specs.List.{flat_map}
 use Rattle.lrc_protocol.specs.Run.{EntryRecord}
+use Rattle.lrc_messages.specs.declared.kind.MessageKind.{MessageKind}
+use Rattle.lrc_messages.specs.declared.kind.MessageKind.TheVariants as kinds
+use Rattle.lrc_messages.specs.MessageText.{kind_name}
+use Rattle.lrc_stats.specs.declared.deed_kind.DeedKind.{DeedKind}
 use Rattle.lrc_stats.specs.declared.sent.Sent.{Sent}
 use Rattle.lrc_stats.specs.declared.sent.Wanted.{Wanted}
 use Rattle.lrc_stats.specs.declared.sent.Wanted.TheVariants.{Kind, Each, ToItself}
+use Rattle.lrc_stats.specs.DeedKinds as deeds
 use Rattle.lrc_stats.specs.Learned.{collections, learned_intervals, learned_notices, repeats}
 use Rattle.lrc_stats.specs.Sent.{bytes_in, sent_messages, wanted_count}
 use Rattle.lrc_stats.specs.Turns.{is_miss, makes_of_kind, turn_count, turns_with}
@@ -20,26 +25,12 @@ unfoldable pub turns_lines : ℕ → ℕ → List ℕ
 turns_lines events turns =
     count_line (codes "events") events ++ count_line (codes "skipped") (events - turns) ++ count_line (codes "turns") turns
 
--- a kind of deeds in words
-abbrev pub deed_kind_words : ℕ → List ℕ
-deed_kind_words kind =
-    if kind == 0 then codes "quiet"
-    else if kind == 1 then codes "print"
-    else if kind == 2 then codes "read"
-    else if kind == 3 then codes "write"
-    else if kind == 4 then codes "acquire"
-    else if kind == 5 then codes "release"
-    else if kind == 6 then codes "arrive"
-    else if kind == 7 then codes "depart"
-    else if kind == 8 then codes "trap"
-    else codes "end"
-
 -- how many acts there are of a kind, and of each
-unfoldable pub acts_line : List (List EntryRecord) → ℕ → List ℕ
-acts_line logs kind = codes "acts " ++ count_line (deed_kind_words kind) (turns_with (makes_of_kind kind) logs)
+unfoldable pub acts_line : List (List EntryRecord) → DeedKind → List ℕ
+acts_line logs kind = codes "acts " ++ count_line (deeds.kind_name kind) (turns_with (makes_of_kind kind) logs)
 
 abbrev pub act_counts_text : List (List EntryRecord) → List ℕ
-act_counts_text logs = flat_map (acts_line logs) (range_with_len 0 10)
+act_counts_text logs = flat_map (acts_line logs) deeds.deed_kinds
 
 -- how often a node missed
 unfoldable pub misses_line : List (List EntryRecord) → List ℕ
@@ -61,32 +52,22 @@ learned_text logs = learned_lines (repeats logs) (learned_intervals logs) (learn
 
 -- ---- messages
 
--- a kind of messages in words, by its number
-abbrev pub message_kind_words : ℕ → List ℕ
-message_kind_words kind =
-    if kind == 1 then codes "lock-request"
-    else if kind == 2 then codes "lock-forward"
-    else if kind == 3 then codes "lock-grant"
-    else if kind == 4 then codes "arrive"
-    else if kind == 5 then codes "depart"
-    else if kind == 6 then codes "clean"
-    else if kind == 7 then codes "discard"
-    else if kind == 8 then codes "changes-request"
-    else if kind == 9 then codes "changes-reply"
-    else if kind == 10 then codes "page-request"
-    else codes "page-reply"
+-- all kinds of messages, in the order of their lines
+abbrev pub message_kinds : List MessageKind
+message_kinds = kinds.LockRequest ∷ kinds.LockForward ∷ kinds.LockGrant ∷ kinds.Arrive ∷ kinds.Depart ∷ kinds.Clean ∷ kinds.Discard
+    ∷ kinds.ChangesRequest ∷ kinds.ChangesReply ∷ kinds.PageRequest ∷ kinds.PageReply ∷ []
 
 -- how many messages of those that are wanted were sent, and their bytes
 unfoldable pub sent_line : List ℕ → Wanted → List Sent → List ℕ
 sent_line words wanted sent =
     codes "messages " ++ words ++ codes " " ++ decimal (wanted_count wanted sent) ++ codes " " ++ decimal (bytes_in wanted sent) ++ codes "\n"
 
-abbrev pub kind_line : List Sent → ℕ → List ℕ
-kind_line sent kind = sent_line (message_kind_words kind) (Kind kind) sent
+abbrev pub kind_line : List Sent → MessageKind → List ℕ
+kind_line sent kind = sent_line (kind_name kind) (Kind kind) sent
 
 -- of each kind
 unfoldable pub kinds_text : List Sent → List ℕ
-kinds_text sent = flat_map (kind_line sent) (range_with_len 1 11)
+kinds_text sent = flat_map (kind_line sent) message_kinds
 
 -- of each kind, of all, and of those whose sender is their receiver
 unfoldable pub message_counts_text : List Sent → List ℕ

@@ -1,12 +1,13 @@
 -- How many turns there are of which kind, by the logs of the nodes.
-use Rattle.std.specs.Prelude.{ℕ, ◌==◌, ◌&&◌, Bool, true, false, Option, Some, None, List, length, count_by, sum_by}
+use Rattle.std.specs.Prelude.{ℕ, ◌&&◌, Bool, true, false, Option, Some, None, List, length, count_by, sum_by}
 use Rattle.std.specs.List.{list_any}
 use Rattle.lrc_trace.specs.declared.act.Act.{Act}
-use Rattle.lrc_trace.specs.declared.act.Deed.{Deed}
-use Rattle.lrc_trace.specs.declared.act.Deed.TheVariants.{Quiet, Print, Read, Write, Acquire, Release, Arrive, Depart, Trap, End}
 use Rattle.lrc_envelope.specs.declared.message.Message.{Message}
 use Rattle.lrc_envelope.specs.declared.message.Message.TheVariants.{ChangesRequest, PageRequest}
 use Rattle.lrc_protocol.specs.Run.{EntryRecord, Input, run, taken}
+use Rattle.lrc_stats.specs.contracts.deed_kind.DeedKindPartialEq.TheImpl.{eq-value as kind_eq}
+use Rattle.lrc_stats.specs.declared.deed_kind.DeedKind.{DeedKind}
+use Rattle.lrc_stats.specs.DeedKinds.{kind_of}
 
 -- how many turns the nodes made, and how many of these pass a test
 abbrev pub turn_count : List (List EntryRecord) → ℕ
@@ -17,25 +18,12 @@ turns_with passes logs = sum_by (count_by passes) logs
 
 -- ---- acts
 
--- the kinds of deeds, counted from 0
-abbrev pub deed_number : Deed → ℕ
-deed_number Quiet = 0
-deed_number (Print value) = 1
-deed_number (Read word value) = 2
-deed_number (Write word value) = 3
-deed_number (Acquire lock) = 4
-deed_number (Release lock) = 5
-deed_number Arrive = 6
-deed_number Depart = 7
-deed_number (Trap cause) = 8
-deed_number End = 9
-
-abbrev pub is_of_kind : ℕ → Option Act → Bool
+abbrev pub is_of_kind : DeedKind → Option Act → Bool
 is_of_kind kind None = false
-is_of_kind kind (Some act) = deed_number act.deed == kind
+is_of_kind kind (Some act) = kind_eq.it (kind_of act.deed) kind
 
 -- a turn that makes an act of this kind
-abbrev pub makes_of_kind : ℕ → EntryRecord → Bool
+abbrev pub makes_of_kind : DeedKind → EntryRecord → Bool
 makes_of_kind kind entry = is_of_kind kind entry.turn.act
 
 -- ---- misses

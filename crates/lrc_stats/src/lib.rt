@@ -2,6 +2,7 @@
 //! their bytes. TreadMarks printed such counts at exit (Keleher, Cox, Dwarkadas and Zwaenepoel 1994).
 #![tactic(auto)]
 
+mod deed_kind;
 mod learned;
 mod seen;
 mod sent;

@@ -3,11 +3,11 @@
 ghost use Rattle.std.specs.Prelude.{◌≡◌, ◌++◌, IfOk, OnOk, map};
 ghost use Rattle.std.specs.List.{flat_map};
 ghost use Rattle.lrc_protocol.specs.Run.{turns_of_logs};
-ghost use Rattle.lrc_wire.specs.Spelling as spelling;
 ghost use Rattle.lrc_stats.specs.Sent.{bytes_in, is_wanted, sent_by_turn, sent_messages, sent_of, size_of, wanted_count};
 
 use crate::turns::add;
-use lrc_envelope::{Envelope, Message};
+use lrc_envelope::Envelope;
+use lrc_messages::MessageKind;
 use lrc_node::Entry;
 use lrc_wire::{EncodeFault, encode};
 use std::alloc::{AllocError, Global};
@@ -15,8 +15,7 @@ use std::alloc::{AllocError, Global};
 /// What is counted of a message.
 #[derive(Clone, Copy)]
 pub(crate) struct Sent {
-    /// The number of its kind, counted from 1.
-    pub kind: u8,
+    pub kind: MessageKind,
     /// Whether its sender is its receiver.
     pub to_itself: bool,
     pub bytes: u64,
@@ -25,8 +24,8 @@ pub(crate) struct Sent {
 /// Which messages are counted.
 #[derive(Clone, Copy)]
 pub(crate) enum Wanted {
-    /// Those of the kind with this number.
-    Kind(u8),
+    /// Those of a kind.
+    Kind(MessageKind),
     /// All messages.
     Each,
     /// Those whose sender is their receiver.
@@ -38,25 +37,6 @@ pub(crate) enum Wanted {
 pub(crate) struct Total {
     pub count: u64,
     pub bytes: u64,
-}
-
-// The number of a message's kind.
-fn kind(message: &Message) -> u8
-    ensures { result ≡ spelling.kind message.now }
-{
-    match message {
-        Message::LockRequest(_) => 1,
-        Message::LockForward(_) => 2,
-        Message::LockGrant(_) => 3,
-        Message::Arrive(_) => 4,
-        Message::Depart(_) => 5,
-        Message::Clean(_) => 6,
-        Message::Discard(_) => 7,
-        Message::ChangesRequest(_) => 8,
-        Message::ChangesReply(_) => 9,
-        Message::PageRequest(_) => 10,
-        Message::PageReply(_) => 11,
-    }
 }
 
 // How many bytes are sent for an envelope: none where it is longer than may be sent.
@@ -76,7 +56,7 @@ fn sent_of(alloc: Global, envelope: &Envelope) -> Result<Sent, AllocError>
 {
     let bytes = size_of(alloc, envelope)?;
     Ok(Sent {
-        kind: kind(&envelope.message),
+        kind: MessageKind::of(&envelope.message),
         to_itself: envelope.from == envelope.to,
         bytes,
     })

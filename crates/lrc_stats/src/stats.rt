@@ -4,13 +4,15 @@ ghost use Rattle.std.specs.Prelude.{◌≡◌, ◌++◌, IfOk, OnOk};
 ghost use Rattle.lrc_protocol.specs.Run.{turns_of_logs};
 ghost use Rattle.lrc_stats.specs.Learned.{learned_intervals, learned_notices, repeats};
 ghost use Rattle.lrc_stats.specs.Sent.{sent_messages};
-ghost use Rattle.lrc_stats.specs.StatsText.{act_counts_text, acts_line, collections_line, count_line, deed_kind_words, kind_line, kinds_text, message_kind_words};
+ghost use Rattle.lrc_stats.specs.StatsText.{act_counts_text, acts_line, collections_line, count_line, kind_line, kinds_text};
 ghost use Rattle.lrc_stats.specs.StatsText.{learned_lines, learned_text, message_counts_text, misses_line, sent_line, stats_text, turns_lines};
 ghost use Rattle.lrc_stats.specs.Turns.{turn_count};
 
+use crate::deed_kind::DeedKind;
 use crate::learned::{Learned, collections, learned_by_all};
 use crate::sent::{Sent, Wanted, sent_messages, total_of};
 use crate::turns::{misses, turns_made, turns_making};
+use lrc_messages::MessageKind;
 use lrc_node::Entry;
 use lrc_text::push_number;
 use std::alloc::{AllocError, Global};
@@ -57,40 +59,23 @@ fn push_turn_counts(text: &mut Vec<u8>, events: u64, turns: u64) -> Result<(), A
     push_count(text, b"turns", turns)
 }
 
-fn deed_kind_words(kind: u8) -> &'static [u8]
-    ensures { result.now ≡ deed_kind_words kind }
-{
-    match kind {
-        0 => b"quiet",
-        1 => b"print",
-        2 => b"read",
-        3 => b"write",
-        4 => b"acquire",
-        5 => b"release",
-        6 => b"arrive",
-        7 => b"depart",
-        8 => b"trap",
-        _ => b"end",
-    }
-}
-
 fn push_acts(text: &mut Vec<u8>, logs: &[Vec<Entry>]) -> Result<(), AllocError>
     ensures { OnOk result (text.new.items
         ≡ text.old.items ++ act_counts_text (turns_of_logs logs.now)) }
 {
-    for kind in 0..10 {
-        push_acts_of(text, kind, logs)?;
+    for kind in &DeedKind::ALL {
+        push_acts_of(text, *kind, logs)?;
     }
     Ok(())
 }
 
 #[tactic(auto, unfolding(crate::specs::StatsText::acts_line))]
-fn push_acts_of(text: &mut Vec<u8>, kind: u8, logs: &[Vec<Entry>]) -> Result<(), AllocError>
+fn push_acts_of(text: &mut Vec<u8>, kind: DeedKind, logs: &[Vec<Entry>]) -> Result<(), AllocError>
     ensures { OnOk result (text.new.items
         ≡ text.old.items ++ acts_line (turns_of_logs logs.now) kind) }
 {
     text.extend_from_slice(b"acts ")?;
-    push_count(text, deed_kind_words(kind), turns_making(kind, logs)?)
+    push_count(text, kind.name(), turns_making(kind, logs)?)
 }
 
 #[tactic(auto, unfolding(crate::specs::StatsText::misses_line))]
@@ -142,24 +127,6 @@ fn push_collections(
     push_count(text, b"collections", collections(alloc, logs)?)
 }
 
-fn message_kind_words(kind: u8) -> &'static [u8]
-    ensures { result.now ≡ message_kind_words kind }
-{
-    match kind {
-        1 => b"lock-request",
-        2 => b"lock-forward",
-        3 => b"lock-grant",
-        4 => b"arrive",
-        5 => b"depart",
-        6 => b"clean",
-        7 => b"discard",
-        8 => b"changes-request",
-        9 => b"changes-reply",
-        10 => b"page-request",
-        _ => b"page-reply",
-    }
-}
-
 fn push_all_sent(alloc: Global, text: &mut Vec<u8>, logs: &[Vec<Entry>]) -> Result<(), AllocError>
     ensures { OnOk result (text.new.items
         ≡ text.old.items ++ message_counts_text (sent_messages (turns_of_logs logs.now))) }
@@ -178,19 +145,20 @@ fn push_messages(text: &mut Vec<u8>, sent: &[Sent]) -> Result<(), AllocError>
 }
 
 // A line for each kind.
+#[tactic(auto, unfolding(crate::specs::StatsText::kinds_text))]
 fn push_kinds(text: &mut Vec<u8>, sent: &[Sent]) -> Result<(), AllocError>
     ensures { OnOk result (text.new.items ≡ text.old.items ++ kinds_text sent.now) }
 {
-    for kind in 1..12 {
-        push_kind(text, kind, sent)?;
+    for kind in &MessageKind::ALL {
+        push_kind(text, *kind, sent)?;
     }
     Ok(())
 }
 
-fn push_kind(text: &mut Vec<u8>, kind: u8, sent: &[Sent]) -> Result<(), AllocError>
+fn push_kind(text: &mut Vec<u8>, kind: MessageKind, sent: &[Sent]) -> Result<(), AllocError>
     ensures { OnOk result (text.new.items ≡ text.old.items ++ kind_line sent.now kind) }
 {
-    push_sent(text, message_kind_words(kind), Wanted::Kind(kind), sent)
+    push_sent(text, kind.name(), Wanted::Kind(kind), sent)
 }
 
 #[tactic(auto, unfolding(crate::specs::StatsText::sent_line))]

@@ -3,11 +3,11 @@
 ghost use Rattle.std.specs.Prelude.{◌≡◌, ◌+◌, IfOk, count_by, length};
 ghost use Rattle.std.specs.List.{list_any};
 ghost use Rattle.lrc_protocol.specs.Run.{turns_of_logs};
-ghost use Rattle.lrc_stats.specs.Turns.{asks_for_page, deed_number, is_miss, makes_of_kind, turn_count, turns_with};
+ghost use Rattle.lrc_stats.specs.Turns.{asks_for_page, is_miss, makes_of_kind, turn_count, turns_with};
 
+use crate::deed_kind::DeedKind;
 use lrc_envelope::{Envelope, Message};
 use lrc_node::{Entry, Input};
-use lrc_trace::act::Deed;
 use std::alloc::AllocError;
 
 /// Adds two counts. Fails if the sum does not fit into 64 bits: there is no memory for that many things.
@@ -29,37 +29,19 @@ pub fn turns_made(logs: &[Vec<Entry>]) -> Result<u64, AllocError>
     Ok(count)
 }
 
-// The kinds of deeds, counted from 0.
-fn deed_number(deed: Deed) -> u8
-    ensures { result ≡ deed_number deed }
-{
-    match deed {
-        Deed::Quiet => 0,
-        Deed::Print(_) => 1,
-        Deed::Read(_, _) => 2,
-        Deed::Write(_, _) => 3,
-        Deed::Acquire(_) => 4,
-        Deed::Release(_) => 5,
-        Deed::Arrive => 6,
-        Deed::Depart => 7,
-        Deed::Trap(_) => 8,
-        Deed::End => 9,
-    }
-}
-
 // Whether a turn makes an act of this kind.
-fn makes_of_kind(kind: u8, entry: &Entry) -> bool
+fn makes_of_kind(kind: DeedKind, entry: &Entry) -> bool
     ensures { result ≡ makes_of_kind kind entry.now }
 {
     match entry.turn.act {
-        Some(act) => deed_number(act.deed) == kind,
+        Some(act) => DeedKind::of(act.deed) == kind,
         None => false,
     }
 }
 
 /// Returns how many turns make an act of this kind.
 #[tactic(auto, using(crate::proofs::Logs::sum_more))]
-pub(crate) fn turns_making(kind: u8, logs: &[Vec<Entry>]) -> Result<u64, AllocError>
+pub(crate) fn turns_making(kind: DeedKind, logs: &[Vec<Entry>]) -> Result<u64, AllocError>
     ensures { IfOk result (λ count. count
         ≡ turns_with (makes_of_kind kind) (turns_of_logs logs.now)) }
 {
@@ -70,7 +52,7 @@ pub(crate) fn turns_making(kind: u8, logs: &[Vec<Entry>]) -> Result<u64, AllocEr
     Ok(count)
 }
 
-fn making(kind: u8, log: &[Entry]) -> usize
+fn making(kind: DeedKind, log: &[Entry]) -> usize
     ensures { result ≡ count_by (makes_of_kind kind) log.now }
 {
     log.iter()
