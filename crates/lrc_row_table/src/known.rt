@@ -23,10 +23,45 @@ pub struct Means<'c> {
 }
 
 impl Table {
+    ghost use Rattle.std.specs.Prelude.{◌≡◌, ◌<◌, ℕ, IfErr, IfOk, MatchOption, OnOk};
+    ghost use Rattle.lrc_exec.specs.States.{IsStateOf};
+    ghost use Rattle.lrc_explore.specs.declared.noted.Noted.{Noted as Key};
+    ghost use Rattle.lrc_explore.specs.Kept.{IsAddedAt};
+    ghost use Rattle.lrc_steps.specs.declared.step.Step.TheVariants.{Alone, Together};
+    ghost use Rattle.lrc_steps.specs.Taking.{IsCounted};
+    ghost use Rattle.lrc_rows.specs.Rows.{AreRowsDistinct, IsRowAt, StandsFor, WidensRows, row_count};
+    ghost use Rattle.lrc_row_table.specs.declared.known.Means.{Means as TheMeans};
+    ghost use Rattle.lrc_row_table.specs.Tables.{AreMeans, CannotTakeFrom, IsLongFault, IsTable, IsTakenFrom, IsTakenFromSome, KeepsRows, LeadsToRow};
+
     /// Adds the row of a state with its notes, if it is new: its place, and whether it is new.
-    pub fn add(&mut self, flat: &Flat, noted: Noted) -> Result<(usize, bool), AllocError> {
+    pub fn add(&mut self, means: &Means<'_>, noted: Noted) -> Result<(usize, bool), AllocError>
+        requires means { AreMeans means.now }
+        requires table { IsTable means.now self.old }
+        requires state { IsStateOf means.now.flat noted.state }
+        requires counted { IsCounted noted.state }
+        ensures table { OnOk result (IsTable means.now self.new) }
+        ensures widens { OnOk result (WidensRows self.old.rows self.new.rows) }
+        ensures there { IfOk result (λ added. IsRowAt self.new.rows added.0 noted) }
+        ensures added { IfOk result (λ added. IsAddedAt (row_count self.old.rows)
+            (row_count self.new.rows) added.0 added.1) }
+    {
         let (place, added) = self.rows.add(noted)?;
-        self.complete(flat)?;
+        self.complete(&means.flat)?;
+        Ok((place, added))
+    }
+
+    /// Adds a row, if it is new: its place, and whether it is new.
+    pub fn put(&mut self, row: Row) -> Result<(usize, bool), AllocError>
+        requires { AreRowsDistinct self.old.rows }
+        ensures table { OnOk result ((means : TheMeans) → IsTable means self.old
+            → IsTable means self.new) }
+        ensures widens { OnOk result (WidensRows self.old.rows self.new.rows) }
+        ensures there { IfOk result (λ added. (key : Key) → StandsFor self.old.rows row key
+            → IsRowAt self.new.rows added.0 key) }
+        ensures added { IfOk result (λ added. IsAddedAt (row_count self.old.rows)
+            (row_count self.new.rows) added.0 added.1) }
+    {
+        let (place, added) = self.rows.put(row)?;
         Ok((place, added))
     }
 
@@ -47,7 +82,20 @@ impl Table {
         means: &Means<'_>,
         row: &Row,
         node: usize,
-    ) -> Result<Option<Row>, ExploreFault> {
+    ) -> Result<Option<Row>, ExploreFault>
+        requires means { AreMeans means.now }
+        requires table { IsTable means.now self.old }
+        requires from { IsTakenFromSome means.now self.old row.now }
+        requires node { node < self.old.rows.nodes }
+        ensures table { OnOk result (IsTable means.now self.new) }
+        ensures keeps { OnOk result (KeepsRows self.old self.new) }
+        ensures taken { IfOk result (λ taken. (key : Key)
+            → IsTakenFrom means.now self.old row.now key
+            → MatchOption taken (CannotTakeFrom means.now key (Alone node))
+            (LeadsToRow means.now self.new key (Alone node))) }
+        ensures faults { IfErr result (λ fault. (key : Key)
+            → IsTakenFrom means.now self.old row.now key → IsLongFault means.now key fault) }
+    {
         let next = self.next(row, node);
         let shared = &self.rows.shared.as_slice()[row.shared as usize];
         let value = match next {
@@ -67,7 +115,19 @@ impl Table {
         alloc: Global,
         means: &Means<'_>,
         row: &Row,
-    ) -> Result<Option<Row>, ExploreFault> {
+    ) -> Result<Option<Row>, ExploreFault>
+        requires means { AreMeans means.now }
+        requires table { IsTable means.now self.old }
+        requires from { IsTakenFromSome means.now self.old row.now }
+        ensures table { OnOk result (IsTable means.now self.new) }
+        ensures keeps { OnOk result (KeepsRows self.old self.new) }
+        ensures taken { IfOk result (λ taken. (key : Key)
+            → IsTakenFrom means.now self.old row.now key
+            → MatchOption taken (CannotTakeFrom means.now key Together)
+            (LeadsToRow means.now self.new key Together)) }
+        ensures faults { IfErr result (λ fault. (key : Key)
+            → IsTakenFrom means.now self.old row.now key → IsLongFault means.now key fault) }
+    {
         if !self.all_wait(row) {
             return Ok(None);
         }

@@ -5,13 +5,38 @@ use lrc_row_steps::next::Next;
 use lrc_rows::rows::Row;
 
 impl Table {
+    ghost use Rattle.std.specs.Prelude.{◌≡◌, ◌<◌, ◌↔◌, ℕ, IsTrue, MatchOption, Some, slice_get};
+    ghost use Rattle.lrc_exec.specs.declared.spot.Spot.{Spot as TheSpot};
+    ghost use Rattle.lrc_exec.specs.States.{plain_at};
+    ghost use Rattle.lrc_explore.specs.declared.noted.Noted.{Noted as Key};
+    ghost use Rattle.lrc_explore.specs.Meeting.{Meet, IsCalm, IsLeastPair};
+    ghost use Rattle.lrc_explore.specs.Stuck.{IsAtRest, IsStuck, IsUnfinished};
+    ghost use Rattle.lrc_settled.specs.Steps.{AllWait};
+    ghost use Rattle.lrc_row_steps.specs.Nexts.{next_in};
+    ghost use Rattle.lrc_row_table.specs.declared.known.Means.{Means as TheMeans};
+    ghost use Rattle.lrc_row_table.specs.Tables.{IsKnown, IsRowOf, IsTable, next_at};
+
     /// What a node does next.
-    pub fn next(&self, row: &Row, node: usize) -> Next {
+    pub fn next(&self, row: &Row, node: usize) -> Next
+        requires row { IsKnown self.now row.now }
+        requires node { node < self.now.rows.nodes }
+        ensures at { result ≡ next_at self.now row.now node }
+        ensures means { (means : TheMeans) (key : Key) (spot : TheSpot) → IsTable means self.now
+            → IsRowOf means self.now row.now key → slice_get key.state.spots.items node ≡ Some spot
+            → result ≡ next_in means.flat spot }
+    {
         self.nexts[row.threads[node] as usize]
     }
 
     /// The least two nodes that meet, the lower one first.
-    pub fn meeting(&self, row: &Row) -> Option<(usize, usize)> {
+    pub fn meeting(&self, row: &Row) -> Option<(usize, usize)>
+        requires { IsKnown self.now row.now }
+        ensures { (means : TheMeans) (key : Key) → IsTable means self.now
+            → IsRowOf means self.now row.now key
+            → MatchOption result (IsCalm (plain_at means.flat key.state))
+            (λ pair. (pair.0 < pair.1) × Meet (plain_at means.flat key.state) pair.0 pair.1
+            × IsLeastPair (plain_at means.flat key.state) pair.0 pair.1) }
+    {
         for p in 0..self.rows.nodes {
             let Some((word, writes)) = access_of(self.next(row, p)) else {
                 continue;
@@ -37,7 +62,12 @@ impl Table {
     }
 
     /// Whether every node has arrived and none departed.
-    pub fn all_wait(&self, row: &Row) -> bool {
+    pub fn all_wait(&self, row: &Row) -> bool
+        requires { IsKnown self.now row.now }
+        ensures { (means : TheMeans) (key : Key) → IsTable means self.now
+            → IsRowOf means self.now row.now key
+            → (IsTrue result ↔ AllWait (plain_at means.flat key.state)) }
+    {
         for node in 0..self.rows.nodes {
             if self.next(row, node) != Next::Waits {
                 return false;
@@ -46,8 +76,23 @@ impl Table {
         true
     }
 
+    /// Whether no node can make an act, and some node has neither ended nor trapped.
+    pub fn is_stuck(&self, row: &Row) -> bool
+        requires { IsKnown self.now row.now }
+        ensures { (means : TheMeans) (key : Key) → IsTable means self.now
+            → IsRowOf means self.now row.now key
+            → (IsTrue result ↔ IsStuck (plain_at means.flat key.state)) }
+    {
+        self.is_still(row) && self.is_unfinished(row)
+    }
+
     /// Whether no node can make an act.
-    pub fn is_still(&self, row: &Row) -> bool {
+    pub fn is_still(&self, row: &Row) -> bool
+        requires { IsKnown self.now row.now }
+        ensures { (means : TheMeans) (key : Key) → IsTable means self.now
+            → IsRowOf means self.now row.now key
+            → (IsTrue result ↔ IsAtRest (plain_at means.flat key.state)) }
+    {
         let departs = self.all_wait(row);
         for node in 0..self.rows.nodes {
             if self.can_act(row, node, departs) {
@@ -69,7 +114,12 @@ impl Table {
     }
 
     /// Whether some node has neither ended nor trapped.
-    pub fn is_unfinished(&self, row: &Row) -> bool {
+    pub fn is_unfinished(&self, row: &Row) -> bool
+        requires { IsKnown self.now row.now }
+        ensures { (means : TheMeans) (key : Key) → IsTable means self.now
+            → IsRowOf means self.now row.now key
+            → (IsTrue result ↔ IsUnfinished (plain_at means.flat key.state)) }
+    {
         for node in 0..self.rows.nodes {
             if self.next(row, node) != Next::Stopped {
                 return true;
