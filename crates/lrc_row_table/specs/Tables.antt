@@ -19,9 +19,10 @@ use Rattle.lrc_rows.specs.declared.parts.Shared.{Shared}
 use Rattle.lrc_rows.specs.declared.rows.Row.{Row}
 use Rattle.lrc_rows.specs.Rows.{AreRowsDistinct, IsSharedAt, StandsFor, WidensRows}
 use Rattle.lrc_row_steps.specs.declared.next.Next.{Next}
-use Rattle.lrc_row_steps.specs.declared.next.Next.TheVariants.{Stopped, Writes, Acquires}
+use Rattle.lrc_row_steps.specs.declared.next.Next.TheVariants.{Stopped}
 use Rattle.lrc_row_steps.specs.declared.next.Settled.{Settled}
 use Rattle.lrc_row_steps.specs.Nexts.{SettlesSo, next_in, notes_on}
+use Rattle.lrc_row_table.specs.Shared.{holders_then, words_then}
 use Rattle.lrc_row_table.specs.declared.known.Means.{Means}
 use Rattle.lrc_row_table.specs.declared.table.After.{After}
 use Rattle.lrc_row_table.specs.declared.table.Asked.{Asked}
@@ -42,17 +43,12 @@ pub record IsAfter (means : Means) (keys : List Spot) (asked : Asked) (after : A
   pub kept : slice_get keys after.thread ≡ Some (forgot means.live.now settled.spot)
   pub deeds : after.deeds.items ≡ settled.deeds.items
 
--- the words after what a node does next, and the holders of locks
-abbrev pub words_then : Next → List ℕ → List ℕ
-words_then (Writes word value) words = slice_set words word value
-words_then _ words = words
-
-abbrev pub holders_then : (node : ℕ) → Next → List (Option ℕ) → List (Option ℕ)
-holders_then node (Acquires lock) holders = slice_set holders lock (Some node)
-holders_then node _ holders = holders
+-- what a thread with this number does next
+abbrev pub next_of : Table → (number : ℕ) → Next
+next_of table number = slice_index_or table.nexts.items number Stopped
 
 -- what is shared becomes this by what a thread does next and what comes of it
-pub record IsChange (means : Means) (table : Table) (change : Change) (number : ℕ) : Type 0 where
+pub record IsChange (table : Table) (change : Change) (number : ℕ) : Type 0 where
   pub asked : Asked
   pub after : After
   pub comes : slice_get table.afters.entries change.after ≡ Some (asked, after)
@@ -60,8 +56,12 @@ pub record IsChange (means : Means) (table : Table) (change : Change) (number : 
   pub there : slice_get table.rows.threads.keys asked.thread ≡ Some spot
   pub shared : Shared
   pub before : slice_get table.rows.shared.keys change.shared ≡ Some shared
-  pub becomes : IsSharedAt table.rows.shared.keys number (words_then (next_in means.flat spot) shared.memory.items)
-      (freed after.deeds.items (holders_then spot.me (next_in means.flat spot) shared.holders.items))
+  pub becomes : IsSharedAt table.rows.shared.keys number (words_then (next_of table asked.thread) shared.memory.items)
+      (freed after.deeds.items (holders_then spot.me (next_of table asked.thread) shared.holders.items))
+
+-- what was noted of what becomes of what is shared is so
+abbrev pub AreChanges : Table → Type 0
+AreChanges table = (k : ℕ) (change : Change) (number : ℕ) → slice_get table.changes.entries k ≡ Some (change, number) → IsChange table change number
 
 -- of each thread it is known what it does next; what was noted of what comes of threads is so, and of what then becomes of what is shared
 pub record IsTable (means : Means) (table : Table) : Type 0 where
@@ -71,8 +71,7 @@ pub record IsTable (means : Means) (table : Table) : Type 0 where
   pub nexts : table.nexts.items ≡ map (next_in means.flat) table.rows.threads.keys
   pub afters : (k : ℕ) (asked : Asked) (after : After) → slice_get table.afters.entries k ≡ Some (asked, after)
       → IsAfter means table.rows.threads.keys asked after
-  pub changes : (k : ℕ) (change : Change) (number : ℕ) → slice_get table.changes.entries k ≡ Some (change, number)
-      → IsChange means table change number
+  pub changes : AreChanges table
 
 -- the same rows, of parts that may be more
 pub record KeepsRows (old new : Table) : Type 0 where
@@ -93,7 +92,7 @@ pub record IsKnown (table : Table) (row : Row) : Type 0 where
 
 -- what a node of a row does next
 abbrev pub next_at : Table → Row → (node : ℕ) → Next
-next_at table row node = slice_index_or table.nexts.items (slice_index row.threads node) Stopped
+next_at table row node = next_of table (slice_index row.threads node)
 
 -- what a step is taken from: a state that a row stands for, of the code and settled
 pub record IsTakenFrom (means : Means) (table : Table) (row : Row) (key : Noted) : Type 0 where

@@ -18,7 +18,7 @@ use Rattle.lrc_exec.specs.declared.spot.Spot.{Spot}
 use Rattle.lrc_exec.specs.contracts.spot.SpotPartialEq.TheImpl.{eq-value as spot_eq}
 use Rattle.lrc_explore.specs.declared.noted.Noted.{Noted}
 use Rattle.lrc_explore.specs.contracts.noted.NotedPartialEq.TheImpl.{eq-value as noted_eq}
-use Rattle.lrc_explore.specs.contracts.state.StatePartialEq.TheImpl.{eq-value as state_eq}
+use Rattle.lrc_exec.specs.contracts.state.StatePartialEq.TheImpl.{eq-value as state_eq}
 use Rattle.lrc_explore.proofs.Alike.{acts_same}
 use Rattle.lrc_explore.proofs.Keeping.{item_at}
 use Rattle.lrc_explore.proofs.KeptAlike.{both_true, equal_items, nat_itself, one_place}

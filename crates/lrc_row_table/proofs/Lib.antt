@@ -1,0 +1,4 @@
+pub mod Known
+pub mod Noting
+pub mod Seen
+pub mod Sharing
