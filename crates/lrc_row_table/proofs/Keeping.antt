@@ -23,7 +23,7 @@ use Rattle.lrc_row_table.specs.declared.table.Change.{Change}
 use Rattle.lrc_row_table.specs.declared.table.Table.{Table}
 use Rattle.lrc_row_table.specs.Shared.{holders_then, words_then}
 use Rattle.lrc_row_table.specs.Tables.{AreChanges, IsAfter, IsChange, IsTable, KeepsRows, next_of}
-use Rattle.lrc_row_table.proofs.Known.{next_by_all}
+use Rattle.lrc_row_table.proofs.RowNodes.{next_by_all}
 
 -- ---- growth
 

@@ -1,4 +1,9 @@
-pub mod Known
+pub mod Alone
+pub mod Departed
+pub mod Gone
+pub mod Keeping
+pub mod NextActs
 pub mod Noting
-pub mod Seen
+pub mod RowNodes
 pub mod Sharing
+pub mod Together
