@@ -1,5 +1,5 @@
 -- The step of one node.
-use Rattle.std.proofs.Common.{◌≡◌, ℕ, ◌<◌, ◌≤◌, Bool, true, false, List, [], ◌∷◌, inl, inr, length, map, refl, sym, ◌∙◌, ap, subst, arith}
+use Rattle.std.proofs.Common.{◌≡◌, ℕ, ◌<◌, ◌≤◌, Bool, true, false, List, [], ◌∷◌, inl, inr, length, get_or, map, refl, sym, ◌∙◌, ap, subst, arith}
 use Rattle.std.specs.Prelude.{Option, Some, None, filter, if◌then◌else◌, is_none, option_and_then, option_map, slice_get, slice_index, slice_index_or, slice_set}
 use Rattle.std.specs.Vec.{with_item}
 use Rattle.std.proofs.lemmas.Bool.{cases_eq, true≢false}
@@ -67,7 +67,8 @@ cannot_by machine (asks.Read word) deed none is kind = none_some (sym none)
 cannot_by machine (asks.Write word value) deed none is kind = none_some (sym none)
 cannot_by machine (asks.Acquire lock) deed none is kind = held (nobody_holds machine lock) none is
   where
-    held : (b : Bool) → (if b then Some 0 else None) ≡ None → (if b then Some (deeds.Acquire lock) else None) ≡ Some deed → ⊥
+    held : (b : Bool) → if◌then◌else◌ {A = Option ℕ} b (Some 0) None ≡ None
+        → if◌then◌else◌ {A = Option Deed} b (Some (deeds.Acquire lock)) None ≡ Some deed → ⊥
     held true none is = none_some (sym none)
     held false none is = none_some is
 cannot_by machine asks.Quiet deed none is kind = true≢false (sym kind ∙ ap is_contended (sym (same_Some deeds.Quiet deed is)))
@@ -78,10 +79,10 @@ cannot_by machine (asks.Trap cause) deed none is kind = true≢false (sym kind �
 cannot_by machine asks.End deed none is kind = true≢false (sym kind ∙ ap is_contended (sym (same_Some deeds.End deed is)))
 
 -- where it gives a value, one is made
-record Gives (machine : Plain) (node value : ℕ) (ask : Ask) : Type 0 where
-  kind : is_contended (deed_asked value ask) ≡ true
-  can : CanDo machine node (deed_asked value ask)
-  takes : TakesAnswer ask
+pub record Gives (machine : Plain) (node value : ℕ) (ask : Ask) : Type 0 where
+  pub kind : is_contended (deed_asked value ask) ≡ true
+  pub can : CanDo machine node (deed_asked value ask)
+  pub takes : TakesAnswer ask
 
 gives_by : (machine : Plain) (node value : ℕ) (ask : Ask) → given (next_by ask) machine.memory machine.holders ≡ Some value → Gives machine node value ask
 gives_by machine node value (asks.Read word) e = record { kind = refl; can = sym (same_Some (slice_index machine.memory word) value e); takes = tt }
@@ -144,13 +145,13 @@ module _ (means : Means) (key : Noted) (node : ℕ) (spot : Spot) (here : slice_
       none_some (sym gone ∙ step)
   cannot_cases false true e f none deed mid kind step =
       let machine = plain_at means.flat key.state in
-      let departs : option_map (λ s. s.0) (plain_step machine node) ≡ (if all_arrived machine node then Some deeds.Depart else None) =
+      let departs : option_map (λ s. s.0) (plain_step machine node) ≡ if◌then◌else◌ {A = Option Deed} (all_arrived machine node) (Some deeds.Depart) None =
       ap (λ o. option_map (λ s. s.0) (option_and_then (λ t. deed_done machine node (next_of t)) o))
       (going_thread means.flat key.state node spot within is true e f) ∙ if_first (all_arrived machine node) deeds.Depart _ in
-      let one : (if all_arrived machine node then Some deeds.Depart else None) ≡ Some deed = sym departs ∙ ap (option_map (λ s. s.0)) step in
+      let one : if◌then◌else◌ {A = Option Deed} (all_arrived machine node) (Some deeds.Depart) None ≡ Some deed = sym departs ∙ ap (option_map (λ s. s.0)) step in
       not_depart (all_arrived machine node) deed one kind
     where
-      not_depart : (b : Bool) (d : Deed) → (if b then Some deeds.Depart else None) ≡ Some d → is_contended d ≡ true → ⊥
+      not_depart : (b : Bool) (d : Deed) → if◌then◌else◌ {A = Option Deed} b (Some deeds.Depart) None ≡ Some d → is_contended d ≡ true → ⊥
       not_depart true d e kind = true≢false (sym kind ∙ ap is_contended (sym (same_Some deeds.Depart d e)))
       not_depart false d e kind = none_some e
   cannot_cases false false e f none deed mid kind step =

@@ -38,8 +38,8 @@ pub record Departed (flat : Flat) (start : State) (node : ℕ) : Type 0 where
   pub before : (k : ℕ) (spot : Spot) → k < node → slice_get start.spots.items k ≡ Some spot → thread_in (plain_at flat now) k ≡ Some (thread_at flat spot)
   pub rest : (k : ℕ) → node ≤ k → slice_get now.spots.items k ≡ slice_get start.spots.items k
 
-took : (b : Bool) (m : Plain) → option_map (λ (s : Deed × Plain). s.0) (if b then Some (Depart, m) else None) ≡ Some Depart
-    → (if b then Some (Depart, m) else None) ≡ Some (Depart, m)
+took : (b : Bool) (m : Plain) → option_map (λ (s : Deed × Plain). s.0) (if◌then◌else◌ {A = Option (Deed × Plain)} b (Some (Depart, m)) None) ≡ Some Depart
+    → if◌then◌else◌ {A = Option (Deed × Plain)} b (Some (Depart, m)) None ≡ Some (Depart, m)
 took true m e = refl
 took false m e = absurd (let f : None ≡ Some Depart = e in cc)
 
@@ -69,7 +69,7 @@ module _ (flat : Flat) (start : State) (valid : IsStateOf flat start) (counted :
         let t : Thread = w.0 in
         let gone : Thread = record t { arrived = false } in
         let next : next_of t ≡ departs gone = ap (λ x. if x then departs gone else first_act t t.rest) w.2 in
-        let made : plain_step machine node ≡ (if all_arrived machine node then Some (Depart, with_thread machine node (Some gone)) else None) =
+        let made : plain_step machine node ≡ if◌then◌else◌ {A = Option (Deed × Plain)} (all_arrived machine node) (Some (Depart, with_thread machine node (Some gone))) None =
         ap (option_and_then (λ u. deed_done machine node (next_of u))) w.1 ∙ ap (deed_done machine node) next in
         let can = can_depart flat start now node [] d.acts counted all d.so lt in
         let step = made ∙ took (all_arrived machine node) (with_thread machine node (Some gone)) (ap (option_map (λ s. s.0)) (sym made) ∙ can) in

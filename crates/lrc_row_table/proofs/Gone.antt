@@ -5,6 +5,7 @@ use Rattle.std.specs.Vec.{with_item}
 use Rattle.std.proofs.lemmas.Bool.{cases_eq}
 use Rattle.std.proofs.lemmas.List.{get_or-set_other, get_or-set_same, length-set, map-set}
 use Rattle.std.proofs.lemmas.Option.{get_or_from_slice_get, same_Some, slice_get_within}
+use Rattle.lrc_trace.specs.declared.act.Act.{Act}
 use Rattle.lrc_trace.specs.declared.act.Deed.{Deed}
 use Rattle.lrc_exec.specs.declared.spot.Flat.{Flat}
 use Rattle.lrc_exec.specs.declared.spot.Spot.{Spot}
@@ -19,7 +20,7 @@ use Rattle.lrc_explore.specs.declared.noted.Noted.{Noted}
 use Rattle.lrc_settled.specs.Threads.{ThreadSettles}
 use Rattle.lrc_steps.specs.Gone.{acts_by, freed, kept_spot}
 use Rattle.lrc_steps.specs.Taking.{count_of}
-use Rattle.lrc_steps.proofs.OneNode.{none_on, settles_setting}
+use Rattle.lrc_steps.proofs.OneNode.{settles_setting}
 use Rattle.lrc_steps.proofs.Parts.{length-freed}
 use Rattle.lrc_live.specs.Live.{AreLive, forgot}
 use Rattle.lrc_live.proofs.Dead.{blank_forgot}
@@ -131,7 +132,7 @@ module _ (means : Means) (table : Table) (row : Row) (key : Noted) (node value n
     (there : slice_get table.rows.threads.keys number ≡ Some (forgot means.live.now settled.spot))
     (s : IsSharedAt table.rows.shared.keys shared (words_then (next_in means.flat spot) key.state.memory.items)
     (freed settled.deeds.items (holders_then node (next_in means.flat spot) key.state.holders.items)))
-    (acts : _) (n : AreNotesAt table.rows.notes.keys notes acts) where
+    (acts : List Act) (n : AreNotesAt table.rows.notes.keys notes acts) where
   abbrev kept : Spot
   kept = forgot means.live.now settled.spot
 

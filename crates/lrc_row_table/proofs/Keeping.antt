@@ -1,18 +1,22 @@
 -- Tables to which more is known.
 use Rattle.std.proofs.Common.{◌≡◌, ℕ, zero, suc, ◌<◌, ◌≤◌, List, [], ◌∷◌, ◌++◌, ◌⊎◌, inl, inr, length, map, refl, sym, ◌∙◌, ap, subst, arith}
 use Rattle.std.specs.Prelude.{All, Option, Some, get_or, slice_get, slice_index_or, take}
+use Rattle.std.specs.List.{IsDistinct}
 use Rattle.std.proofs.lemmas.Bool.{cases_lt}
 use Rattle.std.proofs.lemmas.List.{get_or_past, length-map, length_push}
 use Rattle.std.proofs.lemmas.Option.{get_or_from_slice_get, same_Some, slice_get-get_or, slice_get_within}
 use Rattle.lrc_trace.proofs.Positions.{slice_get-front, slice_get-seam}
 use Rattle.lrc_exec.specs.declared.spot.Flat.{Flat}
 use Rattle.lrc_exec.specs.declared.spot.Spot.{Spot}
-use Rattle.lrc_explore.specs.Kept.{Grows}
+use Rattle.lrc_explore.specs.declared.noted.Noted.{Noted}
+use Rattle.lrc_explore.specs.Kept.{AreSpotsDistinct, Grows}
 use Rattle.lrc_explore.proofs.Keeping.{grows_not, item_at, stands_on}
 use Rattle.lrc_steps.specs.Gone.{freed}
 use Rattle.lrc_rows.specs.declared.parts.Shared.{Shared}
-use Rattle.lrc_rows.specs.Rows.{AddsThreads, AreRowsDistinct, IsSharedAt, WidensRows}
-use Rattle.lrc_rows.proofs.RowLaws.{rows_again, rows_not}
+use Rattle.lrc_rows.specs.declared.rows.Row.{Row}
+use Rattle.lrc_rows.specs.Rows.{AddsThreads, AreNotesDistinct, AreRowsDistinct, AreSharedDistinct, IsSharedAt, WidensRows}
+use Rattle.lrc_rows.specs.contracts.rows.RowPartialEq.TheImpl.{eq-value as row_eq}
+use Rattle.lrc_rows.proofs.RowLaws.{rows_again, rows_not, stands_grown}
 use Rattle.lrc_row_steps.specs.declared.next.Next.{Next}
 use Rattle.lrc_row_steps.specs.declared.next.Next.TheVariants.{Stopped}
 use Rattle.lrc_row_steps.specs.Nexts.{next_in}
@@ -22,7 +26,7 @@ use Rattle.lrc_row_table.specs.declared.table.Asked.{Asked}
 use Rattle.lrc_row_table.specs.declared.table.Change.{Change}
 use Rattle.lrc_row_table.specs.declared.table.Table.{Table}
 use Rattle.lrc_row_table.specs.Shared.{holders_then, words_then}
-use Rattle.lrc_row_table.specs.Tables.{AreChanges, IsAfter, IsChange, IsTable, KeepsRows, next_of}
+use Rattle.lrc_row_table.specs.Tables.{AreChanges, IsAfter, IsChange, IsRowOf, IsTable, KeepsRows, next_of}
 use Rattle.lrc_row_table.proofs.RowNodes.{next_by_all}
 
 -- ---- growth
@@ -142,11 +146,99 @@ module _ (means : Means) (old new : Table) (threads : new.rows.threads.keys ≡ 
     changes = changes;
   }
 
+pub last_there : (old new : List (Asked × After)) (asked : Asked) (after : After) → new ≡ old ++ (asked, after) ∷ []
+    → slice_get new (length old) ≡ Some (asked, after)
+last_there old new asked after entries = ap (λ l. slice_get l (length old)) entries ∙ slice_get-seam old (asked, after) []
+
+-- a change that is noted more
+pub changes_more : (old new : Table) (change : Change) (number : ℕ) → new.rows.threads.keys ≡ old.rows.threads.keys → new.nexts.items ≡ old.nexts.items
+    → Grows old.rows.shared.keys new.rows.shared.keys → Grows old.afters.entries new.afters.entries
+    → new.changes.entries ≡ old.changes.entries ++ (change, number) ∷ [] → AreChanges old → IsChange new change number → AreChanges new
+changes_more old new change number threads nexts shared afters entries are is k c n at = elim (cases_lt k (length old.changes.entries)) [
+  | inl lt ↦
+      change_grown old new c n (grows_not old.rows.threads.keys new.rows.threads.keys threads) shared afters
+      (λ m spot there. ap (λ l. slice_index_or l m Stopped) nexts)
+      (are k c n (sym (slice_get-front old.changes.entries ((change, number) ∷ []) k lt) ∙ ap (λ l. slice_get l k) (sym entries) ∙ at))
+  | inr le ↦
+      let there : slice_get (old.changes.entries ++ (change, number) ∷ []) k ≡ Some (c, n) = ap (λ l. slice_get l k) (sym entries) ∙ at in
+      let within = slice_get_within (old.changes.entries ++ (change, number) ∷ []) k (c, n) there in
+      let last : k ≡ length old.changes.entries = omega (arith, le, within, length_push old.changes.entries (change, number)) in
+      let P : Change × ℕ = (change, number) in
+      let Q : Change × ℕ = (c, n) in
+      let same : P ≡ Q =
+      same_Some P Q
+      (sym (slice_get-seam old.changes.entries (change, number) []) ∙ ap (slice_get (old.changes.entries ++ (change, number) ∷ [])) (sym last) ∙ there) in
+      subst (λ (p : Change × ℕ). IsChange new p.0 p.1) same is
+]
+
+-- what is shared changes, and what is noted of that
+module _ (means : Means) (old new : Table) (known : IsTable means old)
+    (others : new ≡ record old { rows = record old.rows { shared = new.rows.shared }; changes = new.changes; scratch = new.scratch })
+    (distinct : AreSharedDistinct new.rows.shared.keys) (grows : Grows old.rows.shared.keys new.rows.shared.keys) where
+  pub table_shared : AreChanges new → IsTable means new
+  table_shared changes =
+      table_same means old new (ap (λ (t : Table). t.rows.threads.keys) others) (ap (λ (t : Table). t.nexts.items) others) known
+      (ap (λ (t : Table). t.rows.nodes) others) (record {
+        threads = subst AreSpotsDistinct (sym (ap (λ (t : Table). t.rows.threads.keys) others)) known.distinct.threads;
+        shared = distinct;
+        notes = subst AreNotesDistinct (sym (ap (λ (t : Table). t.rows.notes.keys) others)) known.distinct.notes;
+        rows = subst (λ l. IsDistinct row_eq.it l) (sym (ap (λ (t : Table). t.rows.rows.keys) others)) known.distinct.rows;
+      })
+      (λ k asked after at. known.afters k asked after (ap (λ (t : Table). slice_get t.afters.entries k) (sym others) ∙ at)) changes
+
+  pub keeps_shared : KeepsRows old new
+  keeps_shared = record {
+    rows = ap (λ (t : Table). t.rows.rows.keys) others;
+    widens = record {
+      nodes = ap (λ (t : Table). t.rows.nodes) others;
+      threads = grows_not old.rows.threads.keys new.rows.threads.keys (ap (λ (t : Table). t.rows.threads.keys) others);
+      shared = grows;
+      notes = grows_not old.rows.notes.keys new.rows.notes.keys (ap (λ (t : Table). t.rows.notes.keys) others);
+      rows = grows_not old.rows.rows.keys new.rows.rows.keys (ap (λ (t : Table). t.rows.rows.keys) others);
+    };
+  }
+
+-- notes more
+module _ (means : Means) (old new : Table) (known : IsTable means old)
+    (others : new ≡ record old { rows = record old.rows { notes = new.rows.notes } })
+    (distinct : AreNotesDistinct new.rows.notes.keys) (grows : Grows old.rows.notes.keys new.rows.notes.keys) where
+  pub table_notes : IsTable means new
+  table_notes =
+      let threads : new.rows.threads.keys ≡ old.rows.threads.keys = ap (λ (t : Table). t.rows.threads.keys) others in
+      let nexts : new.nexts.items ≡ old.nexts.items = ap (λ (t : Table). t.nexts.items) others in
+      let shared : new.rows.shared.keys ≡ old.rows.shared.keys = ap (λ (t : Table). t.rows.shared.keys) others in
+      let afters : new.afters.entries ≡ old.afters.entries = ap (λ (t : Table). t.afters.entries) others in
+      table_same means old new threads nexts known (ap (λ (t : Table). t.rows.nodes) others) (record {
+        threads = subst AreSpotsDistinct (sym threads) known.distinct.threads;
+        shared = subst AreSharedDistinct (sym shared) known.distinct.shared;
+        notes = distinct;
+        rows = subst (λ l. IsDistinct row_eq.it l) (sym (ap (λ (t : Table). t.rows.rows.keys) others)) known.distinct.rows;
+      })
+      (λ k asked after at. known.afters k asked after (ap (λ l. slice_get l k) (sym afters) ∙ at))
+      (changes_same means old new threads nexts (grows_not old.rows.shared.keys new.rows.shared.keys shared)
+      (grows_not old.afters.entries new.afters.entries afters) (ap (λ (t : Table). t.changes.entries) others) known.changes)
+
+  pub keeps_notes : KeepsRows old new
+  keeps_notes = record {
+    rows = ap (λ (t : Table). t.rows.rows.keys) others;
+    widens = record {
+      nodes = ap (λ (t : Table). t.rows.nodes) others;
+      threads = grows_not old.rows.threads.keys new.rows.threads.keys (ap (λ (t : Table). t.rows.threads.keys) others);
+      shared = grows_not old.rows.shared.keys new.rows.shared.keys (ap (λ (t : Table). t.rows.shared.keys) others);
+      notes = grows;
+      rows = grows_not old.rows.rows.keys new.rows.rows.keys (ap (λ (t : Table). t.rows.rows.keys) others);
+    };
+  }
+
+-- a row stands for a state still
+pub of_grown : (means : Means) (old new : Table) (row : Row) (key : Noted) → KeepsRows old new → IsRowOf means old row key → IsRowOf means new row key
+of_grown means old new row key k of = record { stands = stands_grown old.rows new.rows row key k.widens of.stands; valid = of.valid }
+
 -- what comes of one thread more
 module _ (means : Means) (old new : Table) (known : IsTable means old) (asked : Asked) (after : After)
     (entries : new.afters.entries ≡ old.afters.entries ++ (asked, after) ∷ []) (is : IsAfter means old.rows.threads.keys asked after) where
-  pub after_there : slice_get new.afters.entries (length old.afters.entries) ≡ Some (asked, after)
-  after_there = ap (λ l. slice_get l (length old.afters.entries)) entries ∙ slice_get-seam old.afters.entries (asked, after) []
+  after_there : slice_get new.afters.entries (length old.afters.entries) ≡ Some (asked, after)
+  after_there = last_there old.afters.entries new.afters.entries asked after entries
 
   pub afters_more : (k : ℕ) (a : Asked) (b : After) → slice_get new.afters.entries k ≡ Some (a, b) → IsAfter means old.rows.threads.keys a b
   afters_more k a b at = elim (cases_lt k (length old.afters.entries)) [

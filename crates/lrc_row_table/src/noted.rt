@@ -39,6 +39,7 @@ pub(crate) fn notes_after(
 }
 
 // Notes these deeds of a node.
+#[tactic(auto, using(crate::proofs::Noting::noted_more))]
 fn note_all(notes: &mut Vec<Act>, node: u8, deeds: &[Deed]) -> Result<(), AllocError>
     ensures { OnOk result (notes.new.items ≡ notes_on notes.old.items (acts_by node deeds.now)) }
 {

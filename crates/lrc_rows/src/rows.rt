@@ -30,7 +30,7 @@ pub struct Rows {
 }
 
 impl Rows {
-    ghost use Rattle.std.specs.Prelude.{◌≡◌, ◌<◌, ◌≤◌, ◌^◌, IfOk, OnOk, Some, length, slice_get};
+    ghost use Rattle.std.specs.Prelude.{◌≡◌, ◌<◌, ◌≤◌, ◌^◌, [], IfOk, OnOk, Some, length, slice_get};
     ghost use Rattle.lrc_explore.specs.declared.noted.Noted.{Noted as Key};
     ghost use Rattle.lrc_explore.specs.Kept.{IsAddedAt};
     ghost use Rattle.lrc_steps.specs.Taking.{IsCounted};
@@ -40,6 +40,7 @@ impl Rows {
     pub fn new(alloc: Global, nodes: usize) -> Rows
         ensures empty { row_count result ≡ 0 }
         ensures nodes { result.nodes ≡ nodes }
+        ensures threads { result.threads.keys ≡ [] }
         ensures distinct { AreRowsDistinct result }
     {
         Rows {
