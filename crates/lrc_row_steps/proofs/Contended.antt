@@ -1,6 +1,6 @@
 -- The step of one node, where it is known to what its thread settles then.
-use Rattle.std.proofs.Common.{◌≡◌, ℕ, ◌<◌, List, ◌∷◌, Bool, true, false, length, get_or, map, set, refl, sym, ap, ◌∙◌, subst, arith}
-use Rattle.std.specs.Prelude.{Option, Some, None, filter, slice_get, slice_set, if◌then◌else◌}
+use Rattle.std.proofs.Common.{◌≡◌, ℕ, ◌<◌, ◌∷◌, true, false, length, map, refl, sym, ap, ◌∙◌, subst, arith}
+use Rattle.std.specs.Prelude.{Some, None, slice_get, slice_set, if◌then◌else◌}
 use Rattle.std.proofs.lemmas.Bool.{true≢false}
 use Rattle.std.proofs.lemmas.List.{get_or-set_same, length-map, map-set, set-set}
 use Rattle.std.proofs.lemmas.Option.{get_or_from_slice_get, slice_get_within}
@@ -21,17 +21,16 @@ use Rattle.lrc_exec.specs.States.{plain_at}
 use Rattle.lrc_explore.proofs.Effects.{after_of, holders_after, memory_after}
 use Rattle.lrc_exec.proofs.Spots.{thread_there}
 use Rattle.lrc_settled.specs.Free.{is_contended}
-use Rattle.lrc_settled.specs.Rows.{AreAlike}
 use Rattle.lrc_settled.specs.Settling.{IsSettled}
 use Rattle.lrc_settled.specs.Threads.{ThreadSettles}
 use Rattle.lrc_settled.proofs.Parts.{can_step}
 use Rattle.lrc_search.proofs.Freely.{at_thread}
 use Rattle.lrc_steps.specs.declared.step.Step.TheVariants.{Alone}
-use Rattle.lrc_steps.specs.Gone.{acts_by, freed, gone, kept_spot}
+use Rattle.lrc_steps.specs.Gone.{acts_by, freed}
 use Rattle.lrc_steps.specs.Taking.{TakesTo}
 use Rattle.lrc_steps.proofs.Parts.{kept_thread}
 use Rattle.lrc_row_steps.specs.declared.next.Settled.{Settled}
-use Rattle.lrc_row_steps.specs.Nexts.{SettlesSo, is_seen, thread_then}
+use Rattle.lrc_row_steps.specs.Nexts.{SettlesSo, thread_then}
 use Rattle.lrc_row_steps.proofs.Seen.{freed_seen}
 use Rattle.lrc_row_steps.proofs.Stepping.{one_settles}
 

@@ -1,6 +1,6 @@
 -- The step of one node.
-use Rattle.std.proofs.Common.{◌≡◌, ℕ, ◌<◌, ◌≤◌, Bool, true, false, List, [], ◌∷◌, inl, inr, length, get_or, map, refl, sym, ◌∙◌, ap, subst, arith}
-use Rattle.std.specs.Prelude.{Option, Some, None, filter, if◌then◌else◌, is_none, option_and_then, option_map, slice_get, slice_index, slice_index_or, slice_set}
+use Rattle.std.proofs.Common.{◌≡◌, ℕ, ◌<◌, Bool, true, false, List, ◌∷◌, inl, inr, length, get_or, map, refl, sym, ◌∙◌, ap, subst, arith}
+use Rattle.std.specs.Prelude.{Option, Some, None, if◌then◌else◌, option_and_then, option_map, slice_get, slice_index, slice_index_or, slice_set}
 use Rattle.std.specs.Vec.{with_item}
 use Rattle.std.proofs.lemmas.Bool.{cases_eq, true≢false}
 use Rattle.std.proofs.lemmas.List.{get_or-set_other, get_or-set_same, length-map, length-set, map-set}
@@ -32,16 +32,14 @@ use Rattle.lrc_settled.specs.Settling.{IsSettled}
 use Rattle.lrc_search.specs.Settling.{MakesFree}
 use Rattle.lrc_steps.specs.declared.step.Step.TheVariants.{Alone}
 use Rattle.lrc_steps.specs.Gone.{acts_by, freed}
-use Rattle.lrc_steps.specs.Taking.{ComputesLong, Takes, TakesTo, alone}
+use Rattle.lrc_steps.specs.Taking.{ComputesLong, TakesTo, alone}
 use Rattle.lrc_steps.proofs.Taken.{long_alone}
-use Rattle.lrc_live.specs.Like.{AreLike, TakesLike}
-use Rattle.lrc_live.specs.Live.{AreLive, forgot}
+use Rattle.lrc_live.specs.Like.{AreLike}
+use Rattle.lrc_live.specs.Live.{forgot}
 use Rattle.lrc_live.proofs.Dead.{spot_like}
 use Rattle.lrc_live.proofs.Like.{like_alike, like_back, like_on, like_same}
-use Rattle.lrc_row_steps.specs.declared.next.Next.{Next}
 use Rattle.lrc_row_steps.specs.declared.next.Next.TheVariants.{Stopped, Waits}
-use Rattle.lrc_row_steps.specs.declared.next.Settled.{Settled}
-use Rattle.lrc_row_steps.specs.Nexts.{SettlesSo, is_seen, next_by, next_in, notes_on, thread_then}
+use Rattle.lrc_row_steps.specs.Nexts.{next_by, next_in, notes_on, thread_then}
 use Rattle.lrc_row_steps.proofs.Contended.{acted, deed_of_spot, step_alone, step_made, thread_acted}
 use Rattle.lrc_row_steps.proofs.Seen.{notes_seen}
 use Rattle.lrc_row_table.specs.declared.known.Means.{Means}

@@ -1,10 +1,10 @@
 -- What a state becomes once a node has made its next act and has settled.
-use Rattle.std.proofs.Common.{◌≡◌, ℕ, zero, suc, ◌<◌, ◌≤◌, Bool, true, false, List, [], ◌∷◌, inl, inr, length, get_or, map, refl, sym, ◌∙◌, ap, subst, arith}
+use Rattle.std.proofs.Common.{◌≡◌, ℕ, zero, suc, ◌<◌, ◌≤◌, Bool, true, false, List, [], ◌∷◌, inl, inr, length, get_or, refl, sym, ◌∙◌, ap, subst, arith}
 use Rattle.std.specs.Prelude.{Option, Some, None, if◌then◌else◌, slice_get, slice_index, slice_set}
 use Rattle.std.specs.Vec.{with_item}
 use Rattle.std.proofs.lemmas.Bool.{cases_eq}
 use Rattle.std.proofs.lemmas.List.{get_or-set_other, get_or-set_same, length-set, map-set}
-use Rattle.std.proofs.lemmas.Option.{get_or_from_slice_get, same_Some, slice_get_within}
+use Rattle.std.proofs.lemmas.Option.{get_or_from_slice_get, slice_get_within}
 use Rattle.lrc_trace.specs.declared.act.Act.{Act}
 use Rattle.lrc_trace.specs.declared.act.Deed.{Deed}
 use Rattle.lrc_exec.specs.declared.spot.Flat.{Flat}
@@ -12,27 +12,25 @@ use Rattle.lrc_exec.specs.declared.spot.Spot.{Spot}
 use Rattle.lrc_exec.specs.declared.state.State.{State}
 use Rattle.lrc_exec.specs.Ask.{answered}
 use Rattle.lrc_exec.specs.Meaning.{Setting, Thread}
-use Rattle.lrc_exec.specs.Spots.{spot_stopped, spot_thread, thread_at}
-use Rattle.lrc_exec.specs.States.{IsStateOf}
+use Rattle.lrc_exec.specs.Spots.{spot_stopped, thread_at}
 use Rattle.lrc_exec.proofs.PlainParts.{setting-answered}
 use Rattle.lrc_exec.proofs.Spots.{state_set}
 use Rattle.lrc_explore.specs.declared.noted.Noted.{Noted}
 use Rattle.lrc_settled.specs.Threads.{ThreadSettles}
-use Rattle.lrc_steps.specs.Gone.{acts_by, freed, kept_spot}
+use Rattle.lrc_steps.specs.Gone.{freed}
 use Rattle.lrc_steps.specs.Taking.{count_of}
 use Rattle.lrc_steps.proofs.OneNode.{settles_setting}
 use Rattle.lrc_steps.proofs.Parts.{length-freed}
-use Rattle.lrc_live.specs.Live.{AreLive, forgot}
+use Rattle.lrc_live.specs.Live.{forgot}
 use Rattle.lrc_live.proofs.Dead.{blank_forgot}
 use Rattle.lrc_rows.specs.declared.rows.Row.{Row}
-use Rattle.lrc_rows.specs.Rows.{AreNotesAt, AreThreadsAt, IsSharedAt, StandsFor}
+use Rattle.lrc_rows.specs.Rows.{AreNotesAt, AreThreadsAt, IsSharedAt}
 use Rattle.lrc_row_steps.specs.declared.next.Next.{Next}
 use Rattle.lrc_row_steps.specs.declared.next.Next.TheVariants.{Writes, Acquires}
 use Rattle.lrc_row_steps.specs.declared.next.Settled.{Settled}
-use Rattle.lrc_row_steps.specs.Nexts.{SettlesSo, next_in, notes_on, thread_then}
+use Rattle.lrc_row_steps.specs.Nexts.{SettlesSo, next_in, thread_then}
 use Rattle.lrc_row_table.specs.declared.known.Means.{Means}
 use Rattle.lrc_row_table.specs.declared.table.Table.{Table}
-use Rattle.lrc_row_table.specs.Going.{HasGone}
 use Rattle.lrc_row_table.specs.Shared.{holders_then, words_then}
 use Rattle.lrc_row_table.specs.Tables.{IsRowOf}
 

@@ -1,16 +1,16 @@
 -- Tables to which more is known.
-use Rattle.std.proofs.Common.{◌≡◌, ℕ, zero, suc, ◌<◌, ◌≤◌, List, [], ◌∷◌, ◌++◌, ◌⊎◌, inl, inr, length, map, refl, sym, ◌∙◌, ap, subst, arith}
+use Rattle.std.proofs.Common.{◌≡◌, ℕ, zero, suc, ◌≤◌, List, [], ◌∷◌, ◌++◌, inl, inr, length, map, refl, sym, ◌∙◌, ap, subst, arith}
 use Rattle.std.specs.Prelude.{All, Option, Some, get_or, slice_get, slice_index_or, take}
 use Rattle.std.specs.List.{IsDistinct}
 use Rattle.std.proofs.lemmas.Bool.{cases_lt}
-use Rattle.std.proofs.lemmas.List.{get_or_past, length-map, length_push}
+use Rattle.std.proofs.lemmas.List.{length-map, length_push}
 use Rattle.std.proofs.lemmas.Option.{get_or_from_slice_get, same_Some, slice_get-get_or, slice_get_within}
 use Rattle.lrc_trace.proofs.Positions.{slice_get-front, slice_get-seam}
 use Rattle.lrc_exec.specs.declared.spot.Flat.{Flat}
 use Rattle.lrc_exec.specs.declared.spot.Spot.{Spot}
 use Rattle.lrc_explore.specs.declared.noted.Noted.{Noted}
 use Rattle.lrc_explore.specs.Kept.{AreSpotsDistinct, Grows}
-use Rattle.lrc_explore.proofs.Keeping.{grows_not, item_at, stands_on}
+use Rattle.lrc_explore.proofs.Keeping.{grows_not, stands_on}
 use Rattle.lrc_steps.specs.Gone.{freed}
 use Rattle.lrc_rows.specs.declared.parts.Shared.{Shared}
 use Rattle.lrc_rows.specs.declared.rows.Row.{Row}

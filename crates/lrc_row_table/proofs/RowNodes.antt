@@ -1,5 +1,5 @@
 -- What a table knows of the nodes of a row.
-use Rattle.std.proofs.Common.{◌≡◌, ℕ, ◌<◌, ◌≤◌, List, length, map, sym, ◌∙◌, ap, subst, arith}
+use Rattle.std.proofs.Common.{◌≡◌, ℕ, ◌<◌, length, map, ◌∙◌, ap, arith}
 use Rattle.std.specs.Prelude.{Some, slice_get, slice_index, slice_index_or}
 use Rattle.std.proofs.lemmas.List.{get_or-map, length-map}
 use Rattle.std.proofs.lemmas.Option.{get_or_from_slice_get, slice_get_within}

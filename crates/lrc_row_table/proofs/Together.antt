@@ -1,17 +1,12 @@
 -- The step of all nodes.
-use Rattle.std.proofs.Common.{◌≡◌, ℕ, zero, suc, ◌+◌, ◌<◌, ◌≤◌, Bool, true, false, List, [], ◌∷◌, ◌++◌, add-one, inl, inr, length, map, refl, sym, ◌∙◌, ap, subst, arith}
+use Rattle.std.proofs.Common.{◌≡◌, ℕ, zero, suc, ◌+◌, ◌<◌, ◌≤◌, Bool, true, false, List, [], ◌++◌, add-one, inl, inr, length, refl, sym, ◌∙◌, ap, subst, arith}
 use Rattle.std.specs.Prelude.{◌&&◌, Option, Some, None, if◌then◌else◌, nat_eq, not, slice_get, slice_index_or, slice_set}
-use Rattle.std.specs.List.{range_with_len}
 use Rattle.std.proofs.lemmas.Bool.{cases_eq, cases_lt, true≢false}
-use Rattle.std.proofs.lemmas.List.{get_or-map, get_or-set_other, get_or-set_same, get_or_past, length-map, length-set}
+use Rattle.std.proofs.lemmas.List.{get_or-set_other, get_or-set_same, get_or_past, length-map, length-set}
 use Rattle.std.proofs.lemmas.Option.{get_or_from_slice_get, same_Some, slice_get_within}
-use Rattle.lrc_trace.specs.declared.act.Act.{Act}
 use Rattle.lrc_trace.specs.declared.act.Deed.{Deed}
-use Rattle.lrc_trace.specs.declared.act.Deed.TheVariants.{Depart}
-use Rattle.lrc_trace.specs.Run.{act_of}
 use Rattle.lrc_exec.specs.declared.spot.Flat.{Flat}
 use Rattle.lrc_exec.specs.declared.spot.Spot.{Spot}
-use Rattle.lrc_exec.specs.declared.state.State.{State}
 use Rattle.lrc_exec.specs.Ask.{answered}
 use Rattle.lrc_exec.specs.Meaning.{Thread}
 use Rattle.lrc_exec.specs.Plain.{Plain, thread_in}
@@ -22,8 +17,7 @@ use Rattle.lrc_exec.proofs.States.{no_thread}
 use Rattle.lrc_explore.specs.declared.noted.Noted.{Noted}
 use Rattle.lrc_explore.proofs.Keeping.{item_at}
 use Rattle.lrc_explore.proofs.KeptAlike.{nat_itself}
-use Rattle.lrc_alike.specs.Alike.{BothAlike, stopped}
-use Rattle.lrc_alike.specs.Names.{AgreeWhereItMatters}
+use Rattle.lrc_alike.specs.Alike.{stopped}
 use Rattle.lrc_settled.specs.Steps.{AllWait}
 use Rattle.lrc_settled.specs.Threads.{ThreadSettles}
 use Rattle.lrc_settled.proofs.GoingOn.{same_thread}
@@ -37,7 +31,7 @@ use Rattle.lrc_steps.proofs.Taken.{long_together}
 use Rattle.lrc_live.specs.Like.{AreLike}
 use Rattle.lrc_live.specs.Live.{forgot}
 use Rattle.lrc_live.proofs.Dead.{spot_like}
-use Rattle.lrc_live.proofs.Like.{like_back, like_same}
+use Rattle.lrc_live.proofs.Like.{like_back}
 use Rattle.lrc_rows.specs.declared.rows.Row.{Row}
 use Rattle.lrc_row_steps.specs.declared.next.Next.{Next}
 use Rattle.lrc_row_steps.specs.declared.next.Next.TheVariants.{Waits}

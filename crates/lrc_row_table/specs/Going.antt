@@ -1,5 +1,5 @@
 -- What a node does that goes on, and what comes of it.
-use Rattle.std.specs.Prelude.{◌≡◌, ◌≢◌, ℕ, false, true, Some, slice_get, slice_index, slice_set}
+use Rattle.std.specs.Prelude.{◌≡◌, ◌≢◌, ℕ, false, true, Some, slice_get, slice_set}
 use Rattle.lrc_exec.specs.declared.spot.Spot.{Spot}
 use Rattle.lrc_exec.specs.Ask.{TakesAnswer, ask_of}
 use Rattle.lrc_exec.specs.Meaning.{next_of as next_of_thread}

@@ -1,7 +1,6 @@
 -- What is known of the threads of rows, and to what steps from a row lead.
-use Rattle.std.specs.Prelude.{◌≡◌, ◌≢◌, ℕ, ◌<◌, ◌≤◌, false, true, All, List, Option, Some, length, map, slice_get, slice_index, slice_index_or, slice_set}
+use Rattle.std.specs.Prelude.{◌≡◌, ◌≢◌, ℕ, ◌≤◌, false, true, All, List, Some, length, map, slice_get, slice_index, slice_index_or}
 use Rattle.lrc_trace.specs.declared.act.Act.{Act}
-use Rattle.lrc_exec.specs.declared.spot.Flat.{Flat}
 use Rattle.lrc_exec.specs.declared.spot.Spot.{Spot}
 use Rattle.lrc_exec.specs.Plain.{Plain}
 use Rattle.lrc_exec.specs.Spots.{IsFlat}

@@ -1,4 +1,4 @@
-use Rattle.std.proofs.Common.{◌≡◌, ◌≤◌, ◌∙◌, length, sym, ap}
+use Rattle.std.proofs.Common.{◌≤◌, ◌∙◌, length, sym, ap}
 use Rattle.std.specs.Prelude.{Some}
 use Rattle.std.proofs.lemmas.Option.{slice_get_within}
 use Rattle.lrc_exec.specs.declared.spot.Spot.{Spot}

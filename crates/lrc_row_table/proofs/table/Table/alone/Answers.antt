@@ -1,7 +1,5 @@
-use Rattle.std.proofs.Common.{◌≡◌, ◌∙◌, sym, ap}
-use Rattle.std.specs.Prelude.{None, Option, Some}
+use Rattle.std.proofs.Common.{◌∙◌, sym}
 use Rattle.lrc_explore.specs.declared.noted.Noted.{Noted}
-use Rattle.lrc_explore.specs.declared.search.ExploreFault.{ExploreFault}
 use Rattle.lrc_explore.proofs.Faults.{fault_up}
 use Rattle.lrc_row_table.specs.Tables.{IsLongFault, IsTakenFrom}
 use Rattle.lrc_row_table.proofs.Alone.{cannot_alone, leads_alone, long_from, makes, makes_on}

@@ -1,5 +1,5 @@
-use Rattle.std.proofs.Common.{◌≡◌, ◌∙◌, ◌<◌, length, refl, sym, ap, subst, arith}
-use Rattle.std.specs.Prelude.{Some, slice_get, slice_index}
+use Rattle.std.proofs.Common.{◌≡◌, ◌∙◌, ◌<◌, length, sym, ap, subst, arith}
+use Rattle.std.specs.Prelude.{slice_get, slice_index}
 use Rattle.std.proofs.lemmas.Option.{same_Some, slice_get_within}
 use Rattle.lrc_explore.proofs.Keeping.{stands_on}
 use Rattle.lrc_rows.specs.Rows.{AreNotesAt}
@@ -7,7 +7,7 @@ use Rattle.lrc_row_steps.specs.Nexts.{next_in}
 use Rattle.lrc_row_table.specs.declared.table.After.{After}
 use Rattle.lrc_row_table.specs.declared.table.Table.{Table}
 use Rattle.lrc_row_table.specs.Shared.{Fits}
-use Rattle.lrc_row_table.specs.Tables.{IsTable, KeepsRows, next_at, next_of}
+use Rattle.lrc_row_table.specs.Tables.{IsTable, KeepsRows}
 use Rattle.lrc_row_table.proofs.Acting.{fits_here, has_gone, me_at}
 use Rattle.lrc_row_table.proofs.Entries.{value_at}
 use Rattle.lrc_row_table.proofs.Keeping.{keeps_notes, keeps_shared, table_notes, table_shared}

@@ -1,7 +1,5 @@
-use Rattle.std.proofs.Common.{◌≡◌, ◌∙◌, ◌<◌, [], length, map, sym, ap, subst, arith}
-use Rattle.std.specs.Prelude.{None, Some, slice_get}
+use Rattle.std.proofs.Common.{◌∙◌, length, map, sym, ap, arith}
 use Rattle.std.proofs.lemmas.Option.{slice_get_within}
-use Rattle.lrc_exec.specs.declared.spot.Spot.{Spot}
 use Rattle.lrc_row_steps.specs.Nexts.{next_in}
 use Rattle.lrc_row_table.proofs.table.Table.new.Goals as goal
 

@@ -1,17 +1,15 @@
-use Rattle.std.proofs.Common.{◌≡◌, ◌∙◌, [], ◌∷◌, ◌++◌, false, refl, sym, ap, subst}
-use Rattle.std.specs.Prelude.{◌||◌, None, Some, option_copied, slice_get}
+use Rattle.std.proofs.Common.{◌≡◌, ◌∙◌, false, refl, sym, ap, subst}
+use Rattle.std.specs.Prelude.{◌||◌, None, option_copied, slice_get}
 use Rattle.std.specs.List.{list_any}
 use Rattle.std.proofs.lemmas.Map.Entries.{place_from_lookup}
 use Rattle.std.proofs.lemmas.Option.{same_Some}
 use Rattle.indexmap.specs.IndexMap.{get}
 use Rattle.indexmap.proofs.CallerLemmas.{insert_entry-new}
-use Rattle.lrc_trace.specs.declared.act.Deed.{Deed}
 use Rattle.lrc_explore.proofs.Keeping.{grows_not, stands_on}
 use Rattle.lrc_steps.specs.Gone.{freed}
 use Rattle.lrc_rows.specs.declared.parts.Shared.{Shared}
 use Rattle.lrc_rows.specs.Rows.{IsSharedAt}
 use Rattle.lrc_row_table.specs.declared.table.After.{After}
-use Rattle.lrc_row_table.specs.declared.table.Asked.{Asked}
 use Rattle.lrc_row_table.specs.declared.table.Change.{Change}
 use Rattle.lrc_row_table.specs.declared.table.Table.{Table}
 use Rattle.lrc_row_table.specs.contracts.table.ChangePartialEq.TheImpl.{eq-value as change_eq}

@@ -1,7 +1,6 @@
 use Rattle.std.proofs.Common.{◌≡◌, ◌∙◌, ◌≤◌, length, refl, sym, ap, subst}
 use Rattle.std.specs.Prelude.{slice_get}
 use Rattle.lrc_explore.proofs.Keeping.{grows_not}
-use Rattle.lrc_rows.specs.declared.rows.Row.{Row}
 use Rattle.lrc_rows.specs.declared.rows.Rows.{Rows}
 use Rattle.lrc_rows.specs.Rows.{AddsThreads, AreThreadsAt, WidensRows}
 use Rattle.lrc_rows.proofs.RowLaws.{rows_again}
