@@ -59,7 +59,8 @@ pub record IsNextOf (table : Table) (place node : ℕ) (next : Next) : Type 0 wh
   pub next_is : next ≡ next_of table asked.thread
   pub node_is : node ≡ spot.me
 
--- why it is not known what comes of a thread, and of a node: it makes as many free acts as may be looked at; or there is no memory
+-- why it is not known what comes of a thread, and of a node: it makes as many free acts as may be looked at; or there
+-- is no memory
 pub record IsLongAsk (means : Means) (table : Table) (asked : Asked) (fault : ExploreFault) : Type 0 where
   pub nodes : fault ≢ BadNodes
   pub many : fault ≡ TooMany → (spot : Spot) → slice_get table.rows.threads.keys asked.thread ≡ Some spot

@@ -36,7 +36,8 @@ Fits _ words holders = Unit {0}
 abbrev pub IsFitting : List Shared → (number : ℕ) → Next → Type 0
 IsFitting keys number next = (shared : Shared) × (slice_get keys number ≡ Some shared) × Fits next shared.memory.items shared.holders.items
 
--- the value that a read, a write or an acquire gives: what is read, and else 0. None where a node does none of these next, or the lock is held
+-- the value that a read, a write or an acquire gives: what is read, and else 0. None where a node does none of these
+-- next, or the lock is held
 abbrev pub given : Next → List ℕ → List (Option ℕ) → Option ℕ
 given (Reads word) words holders = Some (slice_index words word)
 given (Writes word value) words holders = Some 0

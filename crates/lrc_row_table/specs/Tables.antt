@@ -62,7 +62,8 @@ pub record IsChange (table : Table) (change : Change) (number : ℕ) : Type 0 wh
 abbrev pub AreChanges : Table → Type 0
 AreChanges table = (k : ℕ) (change : Change) (number : ℕ) → slice_get table.changes.entries k ≡ Some (change, number) → IsChange table change number
 
--- of each thread it is known what it does next; what was noted of what comes of threads is so, and of what then becomes of what is shared
+-- of each thread it is known what it does next; what was noted of what comes of threads is so, and of what then becomes
+-- of what is shared
 pub record IsTable (means : Means) (table : Table) : Type 0 where
   pub distinct : AreRowsDistinct table.rows
   pub nodes : table.rows.nodes ≡ means.flat.nodes
@@ -105,8 +106,8 @@ IsTakenFromSome means table row = (key : Noted) × IsTakenFrom means table row k
 abbrev pub CannotTakeFrom : Means → Noted → Step → Type 0
 CannotTakeFrom means key step = (acts : List Act) (after : Plain) → ¬ Takes (plain_at means.flat key.state) step acts after
 
--- what a step leads to: the row stands for a state like the one that the step makes, but for values that are dead, and for its notes if notes
--- are kept
+-- what a step leads to: the row stands for a state like the one that the step makes, but for values that are dead, and
+-- for its notes if notes are kept
 pub record LeadsToRow (means : Means) (table : Table) (key : Noted) (step : Step) (row : Row) : Type 0 where
   pub next : Noted
   pub of : IsRowOf means table row next

@@ -12,8 +12,8 @@ use lrc_rows::parts::thread_number;
 use lrc_rows::rows::Row;
 use std::alloc::AllocError;
 
-/// What steps are taken by: the code, the names that matter at each place, how many free acts of a thread are looked at, and whether notes
-/// are kept.
+/// What steps are taken by: the code, the names that matter at each place, how many free acts of a thread are looked
+/// at, and whether notes are kept.
 #[derive(Clone, Copy)]
 pub struct Means<'c> {
     pub flat: Flat<'c>,

@@ -28,8 +28,8 @@ pub struct Change {
     pub after: u32,
 }
 
-/// Rows; what each settled thread does next; of each that went on what came of it, for each value; and of what is shared what became of it
-/// then.
+/// Rows; what each settled thread does next; of each that went on what came of it, for each value; and of what is
+/// shared what became of it then.
 #[derive(Drop)]
 pub struct Table {
     pub rows: Rows,

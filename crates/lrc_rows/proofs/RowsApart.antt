@@ -45,17 +45,6 @@ shared_same a b e =
 pub notes_same : (a b : Notes) → notes_eq.it a b ≡ true → a.acts.items ≡ b.acts.items
 notes_same a b e = acts_same a.acts.items b.acts.items e
 
-pub row_is : (a b : Row) → row_eq.it a b ≡ true → a ≡ b
-row_is a b e =
-    let p = and_parts (pointwise nat_eq a.threads b.threads) _ e in
-    let q = and_parts (nat_eq a.shared b.shared) (nat_eq a.notes b.notes) p.1 in
-    let threads : a.threads ≡ b.threads = pointwise_same nat_eq (λ x y h. eqb-true x y h) a.threads b.threads p.0 in
-    let shared : a.shared ≡ b.shared = eqb-true a.shared b.shared q.0 in
-    let notes : a.notes ≡ b.notes = eqb-true a.notes b.notes q.1 in
-    ap (λ x. record a { threads = x }) threads
-    ∙ ap (λ x. record a { threads = b.threads; shared = x }) shared
-    ∙ ap (λ x. record b { notes = x }) notes
-
 -- ---- and the other way round
 
 option_itself : (x : Option ℕ) → option_eq nat_eq x x ≡ true

@@ -42,7 +42,8 @@ HaveThreads keys nodes numbers = (spots : List Spot) × AreThreadsAt keys nodes 
 abbrev pub AddsThreads : (old new spots : List Spot) → Type 0
 AddsThreads old new spots = (k : ℕ) (x : Spot) → slice_get new k ≡ Some x → (slice_get old k ≡ Some x) ⊎ ((j : ℕ) × (slice_get spots j ≡ Some x))
 
--- the state with its notes that a row stands for. How often a node has arrived is not kept: once where it waits, and else never
+-- the state with its notes that a row stands for. How often a node has arrived is not kept: once where it waits, and
+-- else never
 pub record StandsFor (all : Rows) (row : Row) (key : Noted) : Type 0 where
   pub few : all.nodes ≤ 16
   pub threads : AreThreadsAt all.threads.keys all.nodes row.threads key.state.spots.items

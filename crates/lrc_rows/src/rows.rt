@@ -1,7 +1,10 @@
 // Rows, each once: a state with its notes is kept as the numbers of its parts.
 //
-// A row takes 72 bytes, and some 13 in the set that keeps it. What a node is at, what the nodes share and what was noted is kept once
-// for all the rows that have it.
+// A row takes 72 bytes, and some 13 in the set that keeps it. What a node is at, what the nodes share and what was
+// noted is kept once for all the rows that have it.
+
+ghost use Rattle.std.specs.Prelude.{◌≡◌};
+ghost use Rattle.lrc_rows.specs.RowHash.{mix, mixed};
 
 use crate::parts::{Notes, Shared, counted, notes_number, shared_number, threads_at, threads_of};
 use indexmap::IndexSet;
@@ -9,14 +12,48 @@ use lrc_exec::spot::Spot;
 use lrc_exec::state::State;
 use lrc_explore::noted::Noted;
 use std::alloc::{AllocError, Global};
+use std::hash::{Hash, Hasher};
 
-/// A state with its notes, by the number of each node's thread, of what the nodes share, and of what was noted. Past the nodes that there
-/// are the numbers are 0.
-#[derive(Clone, Copy, PartialEq, Eq, Hash)]
+/// A state with its notes, by the number of each node's thread, of what the nodes share, and of what was noted. Past
+/// the nodes that there are the numbers are 0.
+#[derive(Clone, Copy, PartialEq, Eq)]
 pub struct Row {
     pub threads: [u32; 16],
     pub shared: u32,
     pub notes: u32,
+}
+
+// A row is hashed as one number: most of the time of a search is that of looking rows up.
+impl Hash for Row {
+    ghost use Rattle.std.specs.Hash.{u64};
+    ghost use Rattle.lrc_rows.specs.RowHash.{mixed, respects};
+
+    ghost hash_input = { λ row. u64 (mixed row) };
+
+    ghost respects_eq = { respects };
+
+    fn hash<H: Hasher>(&self, state: &mut H) {
+        state.write_u64(mixed(self));
+    }
+}
+
+// The numbers of a row, mixed to one of 64 bits.
+#[tactic(auto, using(std::proofs::lemmas::List::Sums::fold_more))]
+fn mixed(row: &Row) -> u64
+    ensures { result ≡ mixed row.now }
+{
+    let mut all = 0;
+    for number in &row.threads {
+        all = mix(all, *number);
+    }
+    mix(mix(all, row.shared), row.notes)
+}
+
+// A number with another mixed in.
+fn mix(all: u64, number: u32) -> u64
+    ensures { result ≡ mix all number }
+{
+    (all ^ u64::from(number)).wrapping_mul(0x9e37_79b9_7f4a_7c15)
 }
 
 /// Rows of so many nodes, each once, in the order in which they were added, and the distinct parts of them.
