@@ -40,8 +40,17 @@ pub struct Table {
 }
 
 impl Table {
+    ghost use Rattle.std.specs.Prelude.{◌≡◌};
+    ghost use Rattle.lrc_rows.specs.Rows.{row_count};
+    ghost use Rattle.lrc_row_table.specs.declared.known.Means.{Means as TheMeans};
+    ghost use Rattle.lrc_row_table.specs.Tables.{IsTable};
+
     /// No rows, of so many nodes.
-    pub fn new(alloc: Global, nodes: usize) -> Table {
+    pub fn new(alloc: Global, nodes: usize) -> Table
+        ensures empty { row_count result.rows ≡ 0 }
+        ensures nodes { result.rows.nodes ≡ nodes }
+        ensures table { (means : TheMeans) → means.flat.nodes ≡ nodes → IsTable means result }
+    {
         Table {
             rows: Rows::new(alloc, nodes),
             nexts: Vec::new(alloc),

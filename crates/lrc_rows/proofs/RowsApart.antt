@@ -1,5 +1,5 @@
 -- No two rows stand for equal states.
-use Rattle.std.proofs.Common.{◌≡◌, ℕ, ◌<◌, List, Bool, true, false, inl, inr, length, refl, sym, subst, ◌∙◌, ap, arith}
+use Rattle.std.proofs.Common.{◌≡◌, ℕ, ◌<◌, List, Bool, true, false, inl, inr, refl, sym, subst, ◌∙◌, ap, arith}
 use Rattle.std.specs.Prelude.{Option, Some, None, nat_eq, slice_get, slice_index}
 use Rattle.std.specs.Option.{option_eq}
 use Rattle.std.proofs.lemmas.Bool.{and_parts, cases_lt, eqb-true}
@@ -23,7 +23,6 @@ use Rattle.lrc_explore.proofs.Alike.{acts_same}
 use Rattle.lrc_explore.proofs.Keeping.{item_at}
 use Rattle.lrc_explore.proofs.KeptAlike.{both_true, equal_items, nat_itself, one_place}
 use Rattle.lrc_explore.proofs.Same.{option_same, pointwise_same, spot_same}
-use Rattle.lrc_explore.proofs.Ways.{IsNotedCopy}
 use Rattle.lrc_explore.proofs.Widening.{apart_in, not_true}
 use Rattle.lrc_rows.specs.declared.parts.Shared.{Shared}
 use Rattle.lrc_rows.specs.declared.parts.Notes.{Notes}

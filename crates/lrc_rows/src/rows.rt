@@ -30,16 +30,17 @@ pub struct Rows {
 }
 
 impl Rows {
-    ghost use Rattle.std.specs.Prelude.{◌≡◌, ◌<◌, ◌≤◌, ◌^◌, IfOk, OnOk, Some, length, slice_get};
+    ghost use Rattle.std.specs.Prelude.{◌≡◌, ◌<◌, ◌≤◌, ◌^◌, [], IfOk, OnOk, Some, length, slice_get};
     ghost use Rattle.lrc_explore.specs.declared.noted.Noted.{Noted as Key};
     ghost use Rattle.lrc_explore.specs.Kept.{IsAddedAt};
     ghost use Rattle.lrc_steps.specs.Taking.{IsCounted};
-    ghost use Rattle.lrc_rows.specs.Rows.{AreRowsDistinct, IsRowAt, IsRowPlace, StandsFor, WidensRows, row_count};
+    ghost use Rattle.lrc_rows.specs.Rows.{AddsThreads, AreRowsDistinct, IsRowAt, IsRowPlace, StandsFor, WidensRows, row_count};
 
     /// No rows.
     pub fn new(alloc: Global, nodes: usize) -> Rows
         ensures empty { row_count result ≡ 0 }
         ensures nodes { result.nodes ≡ nodes }
+        ensures threads { result.threads.keys ≡ [] }
         ensures distinct { AreRowsDistinct result }
     {
         Rows {
@@ -97,6 +98,8 @@ impl Rows {
         ensures there { IfOk result (λ added. IsRowAt self.new added.0 noted) }
         ensures added { IfOk result (λ added. IsAddedAt (row_count self.old)
             (row_count self.new) added.0 added.1) }
+        ensures only { OnOk result (AddsThreads self.old.threads.keys self.new.threads.keys
+            noted.state.spots.items) }
     {
         let state = noted.state;
         let acts = noted.notes;
@@ -126,6 +129,7 @@ impl Rows {
             → IsRowAt self.new added.0 key) }
         ensures added { IfOk result (λ added. IsAddedAt (row_count self.old)
             (row_count self.new) added.0 added.1) }
+        ensures parts { self.new ≡ record self.old { rows = self.new.rows } }
     {
         let (place, added) = self.rows.insert_full(row)?;
         Ok((place, added))
