@@ -1,13 +1,13 @@
 // What links the intervals and the notices of a store.
 
-ghost use Rattle.std.specs.Prelude.{◌≡◌, ◌<◌, ◌≤◌, ◌+◌, ℕ, All, AllPairs, IfOk, IsTrue, OnOk, [], ◌∷◌, ◌++◌, filter, flat_map, length, map, position};
+ghost use Rattle.std.specs.Prelude.{◌≡◌, ◌<◌, ◌≤◌, ◌+◌, ℕ, All, AllPairs, IfOk, IsTrue, OnOk, ◌++◌, filter, flat_map, length, map, position};
 ghost use Rattle.lrc_time.specs.Time.{knows};
 ghost use Rattle.lrc_store.specs.Interval.{index_of};
 ghost use Rattle.lrc_store.specs.Lists.{keys_of, knows_notice, places_from};
 ghost use Rattle.lrc_store.specs.Nodes.{AreStarts};
 ghost use Rattle.lrc_store.specs.Rows.{HasNoGaps};
 ghost use Rattle.lrc_store.specs.Linking.{AreLinked, AreNoLinks, AreSameLinks, HaveRoomFor};
-ghost use Rattle.lrc_store.specs.Links.{page_named, ranked_pages, is_newer_of, is_unknown_on};
+ghost use Rattle.lrc_store.specs.Links.{page_named, is_newer_of, is_unknown_on};
 ghost use Rattle.lrc_store.specs.Store.{interval_of, is_at};
 
 use crate::arena::Arena;
