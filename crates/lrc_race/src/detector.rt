@@ -102,7 +102,11 @@ impl TracePair<'_> {
         if y.word != x.word || !self.rise {
             return y.word < x.word;
         }
-        knows(&self.a.segments()[x.segment], self.b.node(), &self.b.segments()[y.segment])
+        knows(
+            &self.a.segments()[x.segment],
+            self.b.node(),
+            &self.b.segments()[y.segment],
+        )
     }
 
     // Whether the first trace's place comes before the second's, likewise.
@@ -115,7 +119,11 @@ impl TracePair<'_> {
         if x.word != y.word || !self.rise {
             return x.word < y.word;
         }
-        knows(&self.b.segments()[y.segment], self.a.node(), &self.a.segments()[x.segment])
+        knows(
+            &self.b.segments()[y.segment],
+            self.a.node(),
+            &self.a.segments()[x.segment],
+        )
     }
 
     // The first of the second trace's places from this one on that is not behind.
@@ -246,13 +254,17 @@ impl Survey<'_> {
         requires within { i < length self.now.traces.now }
         ensures { OnOk result (Adds races.old.items races.new.items
             (λ race. (j : ℕ) × (j < length self.now.traces.now)
-                × IsRaceOfTraces self.now.traces.now i j race)) }
+            × IsRaceOfTraces self.now.traces.now i j race)) }
     {
         let a = &self.traces[i];
         for j in i + 1..self.traces.len() {
             let b = &self.traces[j];
             if a.node() != b.node() {
-                let pair = TracePair { a, b, rise: self.rise };
+                let pair = TracePair {
+                    a,
+                    b,
+                    rise: self.rise,
+                };
                 pair.add_lanes(races, &self.lanes[i], &self.lanes[j])?;
             }
         }
