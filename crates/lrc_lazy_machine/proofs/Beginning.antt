@@ -1,17 +1,26 @@
 -- Before the first act the machine stands at the beginning of the program.
-use Rattle.std.proofs.Common.{◌≡◌, ℕ, zero, suc, ◌<◌, List, [], refl, sym, subst, arith}
+use Rattle.std.proofs.Common.{◌≡◌, ℕ, zero, suc, ◌+◌, ◌<◌, List, [], ◌∷◌, map, refl, sym, subst, ◌∙◌, ap, arith}
 use Rattle.std.specs.Prelude.{Option, Some, None}
 use Rattle.std.proofs.lemmas.List.{length-replicate}
 use Rattle.lrc_lang.specs.declared.program.Program.{Program}
 use Rattle.lrc_trace.proofs.Positions.{Does-within}
-use Rattle.lrc_exec.specs.Plain.{plain_start, start_of}
+use Rattle.lrc_exec.specs.Plain.{Plain, plain_start, start_of}
+use Rattle.lrc_consistency_laws.proofs.Matching.{Matches}
 use Rattle.lrc_consistency_laws.proofs.Plainly.{facts}
 use Rattle.lrc_consistency_laws.proofs.Runs.{start_matches, thread_at_start}
 use Rattle.lrc_explore.specs.Notes.{notes_from, notes_of}
 use Rattle.lrc_known.specs.declared.known.Knowledge.{Knowledge}
 use Rattle.lrc_known.specs.Effect.{word_of}
 use Rattle.lrc_known.proofs.Beginning.{nothing_known}
-use Rattle.lrc_lazy_machine.specs.Standing.{Comes, there, Stands}
+use Rattle.lrc_lazy_machine.specs.Standing.{advanced, Comes, there, Stands}
+
+-- where no barrier is gone the machine is as it is
+none_gone : (xs : List ℕ) → map (λ count. 0 + count) xs ≡ xs
+none_gone [] = refl
+none_gone (x ∷ xs) = let e : 0 + x ≡ x = omega arith in ap (λ y. y ∷ map (λ count. 0 + count) xs) e ∙ ap (λ l. x ∷ l) (none_gone xs)
+
+advanced_none : (machine : Plain) → advanced 0 machine ≡ machine
+advanced_none machine = ap (λ xs. record machine { arrivals = xs }) (none_gone machine.arrivals)
 
 pub stands_first : (program : Program) (nodes : ℕ) (knowledge : Knowledge) → ((word : ℕ) → word_of knowledge word ≡ [])
     → Stands program nodes [] (plain_start program nodes) knowledge
@@ -23,17 +32,20 @@ stands_first program nodes knowledge nothing =
         synchronized = f.synchronized;
         lazily = λ j word value h. let lt = Does-within h.1 in absurd (omega (arith, lt));
       };
+      gone = 0;
+      departed = λ n lt. omega arith;
       memory = (plain_start program nodes).memory;
-      matches = start_matches program nodes [];
+      matches = subst (λ (m : Plain). Matches [] 0 m) (sym (advanced_none (plain_start program nodes))) (start_matches program nodes []);
       long = length-replicate {A = ℕ} program.words 0;
       holders = length-replicate {A = Option ℕ} program.locks None;
       size = length-replicate {A = ℕ} nodes 0;
       leads = λ n lt. subst (λ o. Comes (Some (start_of program nodes n)) [] o) (sym (thread_at_start program nodes n lt)) there;
+      stopped = λ n lt none. refl;
       are = record {
         in_nodes = λ i n d does. let lt = Does-within does in absurd (omega (arith, lt));
         in_locks = λ i n l does. let lt = Does-within does in absurd (omega (arith, lt));
       };
-      known = nothing_known nodes program.locks knowledge nothing;
+      known = nothing_known nodes program.locks 0 knowledge nothing;
     }
 
 -- the first notes are none
