@@ -32,6 +32,23 @@ number_low first count k lt = ap (λ b. if b then k else k + count) (lt-ltb k fi
 pub number_high : (first count k : ℕ) → first ≤ k → number_before first count k ≡ k + count
 number_high first count k le = ap (λ b. if b then k else k + count) (le-ltb k first le)
 
+-- where none are dropped all is the same
+pub number_none : (first k : ℕ) → number_before first 0 k ≡ k
+number_none first k = elim (cases_lt k first) [
+  | inl lt ↦ number_low first 0 k lt
+  | inr le ↦ number_high first 0 k le ∙ omega arith
+]
+
+pub without_none : (first : ℕ) (word : List Known) → IsWithout first 0 word word
+without_none first word = record {
+  lasts = λ k. ap (last_of word) (sym (number_none first k));
+  values = λ k v. (
+    subst (λ x. Contains (values_of word x) v) (sym (number_none first k)),
+    subst (λ x. Contains (values_of word x) v) (number_none first k),
+  );
+  above = λ k z. ap (λ x. is_above word x z) (sym (number_none first k)) ∙ ap (is_above word (number_before first 0 k)) (sym (number_none first z));
+}
+
 module _ (nodes locks gone count : ℕ) (run : List Act) (are : AreOf nodes locks run) where
   abbrev first : ℕ
   first = nodes + locks

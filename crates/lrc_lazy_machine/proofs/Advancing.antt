@@ -13,6 +13,14 @@ use Rattle.lrc_consistency_laws.proofs.Runs.{CanDo}
 use Rattle.lrc_explore.proofs.Effects.{after_of, arrivals_after}
 use Rattle.lrc_lazy_machine.specs.Standing.{advanced, with_memory}
 
+-- none more: it is as it is
+none_gone : (xs : List ℕ) → map (λ count. 0 + count) xs ≡ xs
+none_gone [] = refl
+none_gone (x ∷ xs) = let e : 0 + x ≡ x = omega arith in ap (λ y. y ∷ map (λ count. 0 + count) xs) e ∙ ap (λ l. x ∷ l) (none_gone xs)
+
+pub advanced_none : (machine : Plain) → advanced 0 machine ≡ machine
+advanced_none machine = ap (λ xs. record machine { arrivals = xs }) (none_gone machine.arrivals)
+
 -- twice some are those of both
 twice : (a b : ℕ) (xs : List ℕ) → map (λ count. a + count) (map (λ count. b + count) xs) ≡ map (λ count. a + b + count) xs
 twice a b [] = refl

@@ -1,5 +1,5 @@
 -- Before the first act the machine stands at the beginning of the program.
-use Rattle.std.proofs.Common.{◌≡◌, ℕ, zero, suc, ◌+◌, ◌<◌, List, [], ◌∷◌, map, refl, sym, subst, ◌∙◌, ap, arith}
+use Rattle.std.proofs.Common.{◌≡◌, ℕ, zero, suc, ◌<◌, List, [], refl, sym, subst, arith}
 use Rattle.std.specs.Prelude.{Option, Some, None}
 use Rattle.std.proofs.lemmas.List.{length-replicate}
 use Rattle.lrc_lang.specs.declared.program.Program.{Program}
@@ -12,15 +12,8 @@ use Rattle.lrc_explore.specs.Notes.{notes_from, notes_of}
 use Rattle.lrc_known.specs.declared.known.Knowledge.{Knowledge}
 use Rattle.lrc_known.specs.Effect.{word_of}
 use Rattle.lrc_known.proofs.Beginning.{nothing_known}
-use Rattle.lrc_lazy_machine.specs.Standing.{advanced, Comes, there, Stands}
-
--- where no barrier is gone the machine is as it is
-none_gone : (xs : List ℕ) → map (λ count. 0 + count) xs ≡ xs
-none_gone [] = refl
-none_gone (x ∷ xs) = let e : 0 + x ≡ x = omega arith in ap (λ y. y ∷ map (λ count. 0 + count) xs) e ∙ ap (λ l. x ∷ l) (none_gone xs)
-
-advanced_none : (machine : Plain) → advanced 0 machine ≡ machine
-advanced_none machine = ap (λ xs. record machine { arrivals = xs }) (none_gone machine.arrivals)
+use Rattle.lrc_lazy_machine.specs.Standing.{Comes, there, Stands}
+use Rattle.lrc_lazy_machine.proofs.Advancing.{advanced_none}
 
 pub stands_first : (program : Program) (nodes : ℕ) (knowledge : Knowledge) → ((word : ℕ) → word_of knowledge word ≡ [])
     → Stands program nodes [] (plain_start program nodes) knowledge
