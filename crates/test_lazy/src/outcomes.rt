@@ -109,6 +109,18 @@ const BARRIERS_WITHOUT_END: &[Row] = &[
         outcomes: &[],
     },
     Row {
+        name: "barriers_without_end under a lock",
+        text: b"words 1; locks 1; while 1 { acquire 0; x = [0]; [0] = 1 - x; release 0; barrier; }",
+        nodes: 3,
+        outcomes: &[],
+    },
+    Row {
+        name: "barriers_without_end with a race",
+        text: b"words 1; locks 0; while 1 { x = [0]; [0] = 1 - x; barrier; }",
+        nodes: 3,
+        outcomes: &[],
+    },
+    Row {
         name: "barriers_without_end between neighbours",
         text: b"words 2; locks 0; while 1 { x = [1 - me]; barrier; [me] = 1 - x; barrier; }",
         nodes: 2,
