@@ -7,3 +7,4 @@ pub mod Giving
 pub mod Made
 pub mod After
 pub mod Beginning
+pub mod Dropping
