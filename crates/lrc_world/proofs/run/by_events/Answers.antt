@@ -1,15 +1,25 @@
-use Rattle.std.proofs.Common.{◌≡◌, ◌∙◌, sym, ap, rules, arith, take}
+use Rattle.std.proofs.Common.{◌≡◌, ◌∙◌, sym, ap, refl, subst, rules, arith, take}
 use Rattle.std.proofs.lemmas.Result.{IfOk-from_err}
 use Rattle.lrc_world.specs.Turned.{kept_turns, turned_of}
-use Rattle.lrc_world.specs.World.{starts_of}
-use Rattle.lrc_protocol.specs.Run.{run_of}
+use Rattle.lrc_world.specs.World.{Shows, starts_of}
+use Rattle.lrc_protocol.specs.Run.{fresh_world, run_of}
 use Rattle.lrc_world.specs.declared.report.TurnFault.TheVariants.{NoMemory}
 use Rattle.lrc_world.specs.Report.{IsWornBy, IsWornFault}
 use Rattle.lrc_world.proofs.Events.{goes_on, faults_at, fault_up, take_whole, get_at}
+use Rattle.lrc_world.proofs.Noted.{kept_none}
 use Rattle.lrc_world.proofs.Runs.{run_is}
 use Rattle.lrc_world.proofs.Races.{kept_raceless, kept_traces}
 use Rattle.lrc_world.proofs.Worlds.{acts_of_nodes}
 use Rattle.lrc_world.proofs.run.by_events.Goals as goal
+
+pub loop-event-init : goal.loop-event-init
+loop-event-init c = (
+  fresh_world c.args.program.now c.args.nodes c.args.options.now,
+  refl,
+  subst (λ p. Shows (starts_of p c.args.nodes c.args.options.now c.args.keep) c.in_ok-world.world (fresh_world p c.args.nodes c.args.options.now))
+      c.in_ok-code.ensures c.in_ok-world.ensures.shows,
+  c.in_ok-world.ensures.turned ∙ sym (kept_none c.args.keep),
+)
 
 pub loop-event-preserved : goal.loop-event-preserved
 loop-event-preserved c =

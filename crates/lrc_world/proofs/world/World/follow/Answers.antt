@@ -39,6 +39,10 @@ module _ (world : World) (n : ℕ) (entry : EntryRecord) (last : NodeLogsLast wo
   not_sent new (Ok done) fault is why = absurd is
   not_sent new (Err f) fault is why = subst (IsSendFault entry.turn.out) (sym is) why
 
+pub returns-in_err-note_turn-clause-adds : goal.returns-in_err-note_turn-clause-adds
+returns-in_err-note_turn-clause-adds c = λ entry last.
+    not_sent c.args.self.now c.args.turn.node entry last _ c.from_residual.result NoMemory c.from_residual.ensures.1 tt
+
 pub returns-in_default-clause-adds : goal.returns-in_default-clause-adds
 returns-in_default-clause-adds c = λ entry last.
     let past : length c.args.self.now.nodes.items ≤ c.args.turn.node = search rules in
