@@ -13,7 +13,7 @@ returns-in-Ok-clause-run c = λ picker picked.
     subst (λ (wires : List MailboxRecord). IsThreadedRun setting.program.now setting.nodes setting.options picker run wires)
     (sym c.reported.ensures.wires)
     (threaded_run setting.program.now setting.nodes setting.options picker logs c.in-Ok.told run c.args.wires c.requires.range.0.0
-    c.in-Ok.ensures.told c.reported.ensures.report c.reported.ensures.events c.reported.ensures.over
+    c.in-Ok.ensures.told c.reported.ensures.report c.reported.ensures.events c.reported.ensures.turned c.reported.ensures.over
     (subst (λ (wires : List MailboxRecord). AreMatched logs wires) c.mailboxes.ensures.all c.in-Ok.ensures.matched)
     (subst (λ (wires : List MailboxRecord). All IsAllGiven wires) c.mailboxes.ensures.all c.in-Ok.ensures.taken)
     c.requires.mailboxes
