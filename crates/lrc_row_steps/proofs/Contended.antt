@@ -1,6 +1,6 @@
 -- The step of one node, where it is known to what its thread settles then.
-use Rattle.std.proofs.Common.{◌≡◌, ℕ, ◌<◌, List, ◌∷◌, Bool, true, false, length, get_or, map, set, refl, sym, ap, ◌∙◌, subst, arith}
-use Rattle.std.specs.Prelude.{Option, Some, None, filter, slice_get, slice_set, if◌then◌else◌}
+use Rattle.std.proofs.Common.{◌≡◌, ℕ, ◌<◌, ◌∷◌, true, false, length, map, refl, sym, ap, ◌∙◌, subst, arith}
+use Rattle.std.specs.Prelude.{Some, None, slice_get, slice_set, if◌then◌else◌}
 use Rattle.std.proofs.lemmas.Bool.{true≢false}
 use Rattle.std.proofs.lemmas.List.{get_or-set_same, length-map, map-set, set-set}
 use Rattle.std.proofs.lemmas.Option.{get_or_from_slice_get, slice_get_within}
@@ -11,7 +11,7 @@ use Rattle.lrc_exec.specs.declared.spot.Flat.{Flat}
 use Rattle.lrc_exec.specs.declared.spot.Spot.{Spot}
 use Rattle.lrc_exec.specs.Ask.{answered, ask_of, deed_asked, done}
 use Rattle.lrc_exec.specs.Meaning.{Thread, Next, quiet, prints, reads, writes, acquires, releases, arrives, departs, traps, ends, next_of}
-use Rattle.lrc_exec.specs.Plain.{Plain, thread_in}
+use Rattle.lrc_exec.specs.Plain.{Plain, plain_step, thread_in}
 use Rattle.lrc_exec.specs.Spots.{spot_thread, thread_at}
 use Rattle.lrc_exec.proofs.NextLaws.{IsFine, next_of-fine}
 use Rattle.lrc_consistency_laws.specs.Follows.{Goes, reading, writing, acquiring}
@@ -19,19 +19,18 @@ use Rattle.lrc_consistency_laws.proofs.Runs.{CanDo}
 use Rattle.lrc_exec.specs.declared.state.State.{State}
 use Rattle.lrc_exec.specs.States.{plain_at}
 use Rattle.lrc_explore.proofs.Effects.{after_of, holders_after, memory_after}
-use Rattle.lrc_explore.proofs.Spots.{thread_there}
+use Rattle.lrc_exec.proofs.Spots.{thread_there}
 use Rattle.lrc_settled.specs.Free.{is_contended}
-use Rattle.lrc_settled.specs.Rows.{AreAlike}
 use Rattle.lrc_settled.specs.Settling.{IsSettled}
 use Rattle.lrc_settled.specs.Threads.{ThreadSettles}
 use Rattle.lrc_settled.proofs.Parts.{can_step}
 use Rattle.lrc_search.proofs.Freely.{at_thread}
 use Rattle.lrc_steps.specs.declared.step.Step.TheVariants.{Alone}
-use Rattle.lrc_steps.specs.Gone.{acts_by, freed, gone, kept_spot}
+use Rattle.lrc_steps.specs.Gone.{acts_by, freed}
 use Rattle.lrc_steps.specs.Taking.{TakesTo}
 use Rattle.lrc_steps.proofs.Parts.{kept_thread}
 use Rattle.lrc_row_steps.specs.declared.next.Settled.{Settled}
-use Rattle.lrc_row_steps.specs.Nexts.{SettlesSo, is_seen, thread_then}
+use Rattle.lrc_row_steps.specs.Nexts.{SettlesSo, thread_then}
 use Rattle.lrc_row_steps.proofs.Seen.{freed_seen}
 use Rattle.lrc_row_steps.proofs.Stepping.{one_settles}
 
@@ -63,12 +62,9 @@ goes_contended value thread at ends fine e = absurd (true≢false (sym e))
 abbrev pub deed_of_spot : Flat → Spot → (value : ℕ) → Deed
 deed_of_spot flat spot value = deed_asked value (ask_of (next_of (thread_at flat spot)))
 
-module _ (flat : Flat) (old new : State) (node value : ℕ) (spot : Spot) (settled : Settled) (at : slice_get old.spots.items node ≡ Some spot)
+module _ (flat : Flat) (old : State) (node value : ℕ) (spot : Spot) (at : slice_get old.spots.items node ≡ Some spot)
     (on : spot.stopped ≡ false) (here : spot.arrived ≡ false) (kind : is_contended (deed_of_spot flat spot value) ≡ true)
-    (can : CanDo (plain_at flat old) node (deed_of_spot flat spot value)) (so : SettlesSo flat spot value settled)
-    (memory : new.memory.items ≡ memory_after (deed_of_spot flat spot value) old.memory.items)
-    (holders : new.holders.items ≡ freed settled.deeds.items (holders_after node (deed_of_spot flat spot value) old.holders.items))
-    (spots : new.spots.items ≡ slice_set old.spots.items node settled.spot) where
+    (can : CanDo (plain_at flat old) node (deed_of_spot flat spot value)) where
   abbrev deed : Deed
   deed = deed_of_spot flat spot value
 
@@ -77,6 +73,10 @@ module _ (flat : Flat) (old new : State) (node value : ℕ) (spot : Spot) (settl
 
   abbrev onward : Thread
   onward = record (answered value (thread_at flat spot)) { arrived = false }
+
+  -- the state after the act
+  abbrev pub acted : Plain
+  acted = after_of (plain_at flat old) node (deed_of_spot flat spot value) (Some (record (answered value (thread_at flat spot)) { arrived = false }))
 
   within : node < length old.spots.items
   within = slice_get_within old.spots.items node spot at
@@ -87,34 +87,43 @@ module _ (flat : Flat) (old new : State) (node value : ℕ) (spot : Spot) (settl
       ∙ ap (spot_thread flat) (get_or_from_slice_get old.spots.items node spot spot at)
       ∙ at_thread flat spot on here
 
-  -- the step is that of the plain machine, and the node settles
-  pub step_alone : IsSettled machine → TakesTo machine (Alone node) (act_of node deed ∷ acts_by node so.deeds) (plain_at flat new)
-  step_alone is =
+  pub step_made : plain_step (plain_at flat old) node ≡ Some (deed_of_spot flat spot value, acted)
+  step_made =
       let thread = thread_at flat spot in
-      let mid : Plain = after_of machine node deed (Some onward) in
-      let step = can_step machine node thread deed thread_here refl (goes_contended value thread refl (next_of thread) (next_of-fine thread) kind) can in
-      let less : node < length machine.threads = omega (arith, within, length-map old.spots.items (spot_thread flat)) in
-      let own : thread_in mid node ≡ Some onward = get_or-set_same machine.threads node (Some onward) None less in
-      let begun : thread_then flat spot value ≡ onward = ap (λ b. if b then thread else onward) here in
-      let settles : ThreadSettles (thread_in mid node) so.deeds (spot_thread flat so.there) =
-      subst (λ o. ThreadSettles o so.deeds (spot_thread flat so.there)) (ap (λ t. Some t) begun ∙ sym own) so.settles in
-      let taken = one_settles machine mid node deed so.deeds (spot_thread flat so.there) is kind step settles in
-      let kept : spot_thread flat settled.spot ≡ spot_thread flat so.there = ap (spot_thread flat) so.is ∙ kept_thread flat so.there spot.me in
-      record {
-        there = taken.there;
-        takes = taken.takes;
-        alike = record {
-          memory = taken.alike.memory ∙ sym memory;
-          holders =
-              taken.alike.holders
-              ∙ sym (freed_seen so.deeds (holders_after node deed old.holders.items))
-              ∙ ap (λ ds. freed ds (holders_after node deed old.holders.items)) (sym so.seen)
-              ∙ sym holders;
-          threads =
-              taken.alike.threads
-              ∙ set-set machine.threads node (Some onward) (spot_thread flat so.there)
-              ∙ ap (slice_set machine.threads node) (sym kept)
-              ∙ sym (map-set (spot_thread flat) old.spots.items node settled.spot)
-              ∙ ap (map (spot_thread flat)) (sym spots);
-        };
-      }
+      can_step machine node thread deed thread_here refl (goes_contended value thread refl (next_of thread) (next_of-fine thread) kind) can
+
+  pub thread_acted : thread_in acted node ≡ Some (thread_then flat spot value)
+  thread_acted =
+      get_or-set_same machine.threads node (Some onward) None (omega (arith, within, length-map old.spots.items (spot_thread flat)))
+      ∙ ap (λ b. Some (if b then thread_at flat spot else onward)) (sym here)
+
+  -- the step is that of the plain machine, and the node settles
+  module _ (new : State) (settled : Settled) (so : SettlesSo flat spot value settled)
+      (memory : new.memory.items ≡ memory_after (deed_of_spot flat spot value) old.memory.items)
+      (holders : new.holders.items ≡ freed settled.deeds.items (holders_after node (deed_of_spot flat spot value) old.holders.items))
+      (spots : new.spots.items ≡ slice_set old.spots.items node settled.spot) where
+    pub step_alone : IsSettled (plain_at flat old)
+        → TakesTo (plain_at flat old) (Alone node) (act_of node (deed_of_spot flat spot value) ∷ acts_by node so.deeds) (plain_at flat new)
+    step_alone is =
+        let settles : ThreadSettles (thread_in acted node) so.deeds (spot_thread flat so.there) =
+        subst (λ o. ThreadSettles o so.deeds (spot_thread flat so.there)) (sym thread_acted) so.settles in
+        let taken = one_settles machine acted node deed so.deeds (spot_thread flat so.there) is kind step_made settles in
+        let kept : spot_thread flat settled.spot ≡ spot_thread flat so.there = ap (spot_thread flat) so.is ∙ kept_thread flat so.there spot.me in
+        record {
+          there = taken.there;
+          takes = taken.takes;
+          alike = record {
+            memory = taken.alike.memory ∙ sym memory;
+            holders =
+                taken.alike.holders
+                ∙ sym (freed_seen so.deeds (holders_after node deed old.holders.items))
+                ∙ ap (λ ds. freed ds (holders_after node deed old.holders.items)) (sym so.seen)
+                ∙ sym holders;
+            threads =
+                taken.alike.threads
+                ∙ set-set machine.threads node (Some onward) (spot_thread flat so.there)
+                ∙ ap (slice_set machine.threads node) (sym kept)
+                ∙ sym (map-set (spot_thread flat) old.spots.items node settled.spot)
+                ∙ ap (map (spot_thread flat)) (sym spots);
+          };
+        }

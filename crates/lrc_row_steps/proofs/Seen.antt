@@ -3,7 +3,7 @@ use Rattle.std.proofs.Common.{◌≡◌, ℕ, List, [], ◌∷◌, Bool, true, f
 use Rattle.std.specs.Prelude.{Option, filter, if◌then◌else◌}
 use Rattle.lrc_trace.specs.declared.act.Act.{Act}
 use Rattle.lrc_trace.specs.declared.act.Deed.{Deed}
-use Rattle.lrc_trace.specs.declared.act.Deed.TheVariants.{Quiet, Print, Read, Write, Acquire, Release, Arrive, Depart, Trap, End}
+use Rattle.lrc_trace.specs.declared.act.Deed.TheVariants.{Print, Release, Trap, End}
 use Rattle.lrc_trace.specs.Run.{act_of}
 use Rattle.lrc_explore.specs.Notes.{notes_with}
 use Rattle.lrc_steps.specs.Gone.{acts_by, freed, freed_by}

@@ -1,5 +1,5 @@
 -- What a step leads to, where it is known to what each thread settles.
-use Rattle.std.proofs.Common.{◌≡◌, ℕ, zero, suc, ◌+◌, ◌<◌, ◌≤◌, List, [], ◌∷◌, ◌++◌, inl, inr, true, length, refl, sym, ap, ◌∙◌, subst, arith, append_assoc, append-nil}
+use Rattle.std.proofs.Common.{◌≡◌, ℕ, zero, suc, ◌<◌, ◌≤◌, List, [], ◌∷◌, ◌++◌, inl, inr, true, length, refl, sym, ap, ◌∙◌, subst, arith, append_assoc, append-nil}
 use Rattle.std.specs.Prelude.{Option, Some, None, slice_index_or, slice_set}
 use Rattle.std.specs.List.{range_with_len}
 use Rattle.std.proofs.lemmas.Bool.{cases_eq, cases_lt}
@@ -20,7 +20,7 @@ use Rattle.lrc_settled.proofs.Diamond.{true_is_false}
 use Rattle.lrc_steps.specs.declared.step.Step.TheVariants.{Alone, Together}
 use Rattle.lrc_steps.specs.Gone.{acts_by, freed, gone}
 use Rattle.lrc_steps.specs.Taking.{Takes, TakesTo, alone, together}
-use Rattle.lrc_steps.proofs.OneNode.{Goings, going, settles_settled}
+use Rattle.lrc_steps.proofs.OneNode.{going, settles_settled}
 use Rattle.lrc_steps.proofs.Taken.{others_settled}
 use Rattle.lrc_row_steps.specs.All.{acts_of_all, gone_all}
 

@@ -1,5 +1,5 @@
-// What a step leads to, where it is known to what each thread settles. Each function is a theorem: its body is empty, and its clause is the
-// law.
+// What a step leads to, where it is known to what each thread settles. Each function is a theorem: its body is empty,
+// and its clause is the law.
 
 ghost use Rattle.std.specs.Prelude.{◌≡◌, ℕ, ◌<◌, ◌∷◌, ◌++◌, List, Option, Some, true, length};
 ghost use Rattle.std.specs.List.{range_with_len};

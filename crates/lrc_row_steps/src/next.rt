@@ -58,8 +58,8 @@ pub fn next_of(flat: &Flat, spot: &Spot) -> Next
     }
 }
 
-/// Where a settled thread settles after its next act, if that gives this value. None, where it makes as many free acts as are to be
-/// looked at.
+/// Where a settled thread settles after its next act, if that gives this value. None, where it makes as many free acts
+/// as are to be looked at.
 pub fn settled_after(
     alloc: Global,
     flat: &Flat,
@@ -109,7 +109,8 @@ fn after_act(flat: &Flat, spot: &Spot, value: u64) -> Spot
     there
 }
 
-// What is kept of a thread: of a node that has stopped nothing but its number, so that states do not differ by what it knew.
+// What is kept of a thread: of a node that has stopped nothing but its number, so that states do not differ by what it
+// knew.
 fn kept(spot: Spot, me: u8) -> Spot
     ensures { result ≡ kept_spot spot me }
 {

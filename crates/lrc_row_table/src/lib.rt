@@ -2,5 +2,8 @@
 #![tactic(auto)]
 
 pub mod known;
+mod noted;
 pub mod seen;
+mod shared;
+pub mod steps;
 pub mod table;

@@ -28,8 +28,8 @@ pub struct Change {
     pub after: u32,
 }
 
-/// Rows; what each settled thread does next; of each that went on what came of it, for each value; and of what is shared what became of it
-/// then.
+/// Rows; what each settled thread does next; of each that went on what came of it, for each value; and of what is
+/// shared what became of it then.
 #[derive(Drop)]
 pub struct Table {
     pub rows: Rows,
@@ -40,8 +40,17 @@ pub struct Table {
 }
 
 impl Table {
+    ghost use Rattle.std.specs.Prelude.{◌≡◌};
+    ghost use Rattle.lrc_rows.specs.Rows.{row_count};
+    ghost use Rattle.lrc_row_table.specs.declared.known.Means.{Means as TheMeans};
+    ghost use Rattle.lrc_row_table.specs.Tables.{IsTable};
+
     /// No rows, of so many nodes.
-    pub fn new(alloc: Global, nodes: usize) -> Table {
+    pub fn new(alloc: Global, nodes: usize) -> Table
+        ensures empty { row_count result.rows ≡ 0 }
+        ensures nodes { result.rows.nodes ≡ nodes }
+        ensures table { (means : TheMeans) → means.flat.nodes ≡ nodes → IsTable means result }
+    {
         Table {
             rows: Rows::new(alloc, nodes),
             nexts: Vec::new(alloc),
