@@ -17,11 +17,11 @@ use std::alloc::{AllocError, Global};
 /// What a settled thread does next.
 #[derive(Clone, Copy, PartialEq, Eq)]
 pub enum Next {
-    /// Nothing: it has stopped for good.
+    /// It does nothing: it has stopped for good.
     Stopped,
     /// It departs, once all nodes have arrived.
     Waits,
-    /// Quiet acts and prints, without end.
+    /// It makes quiet acts and prints, without end.
     Turns,
     /// It reads this word.
     Reads(u32),
@@ -38,7 +38,7 @@ pub struct Settled {
     pub deeds: Vec<Deed>,
 }
 
-/// What a settled thread does next.
+/// Returns what a settled thread does next.
 pub fn next_of(flat: &Flat, spot: &Spot) -> Next
     requires flat { IsFlat flat.now }
     requires within { spot.now.place ≤ length flat.now.code.now }
@@ -58,8 +58,8 @@ pub fn next_of(flat: &Flat, spot: &Spot) -> Next
     }
 }
 
-/// Where a settled thread settles after its next act, if that gives this value. None, where it makes as many free acts
-/// as are to be looked at.
+/// Returns where a settled thread settles after its next act, if that act gives this value. Returns none if the thread
+/// makes as many free acts as are looked at. It fails if memory runs out.
 pub fn settled_after(
     alloc: Global,
     flat: &Flat,

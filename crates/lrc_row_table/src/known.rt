@@ -1,4 +1,4 @@
-// What each thread of rows does next is known.
+// What is known of threads: what each one does next.
 
 ghost use Rattle.std.specs.Prelude.{◌≡◌, ◌≤◌, All, OnOk, length, map, take};
 ghost use Rattle.lrc_exec.specs.Spots.{IsFlat};
@@ -12,7 +12,7 @@ use lrc_rows::parts::thread_number;
 use lrc_rows::rows::Row;
 use std::alloc::AllocError;
 
-/// What steps are taken by: the code, the names that matter at each place, how many free acts of a thread are looked
+/// What the steps depend on: the code, the names that matter at each place, how many free acts of a thread are looked
 /// at, and whether notes are kept.
 #[derive(Clone, Copy)]
 pub struct Means<'c> {
@@ -32,7 +32,8 @@ impl Table {
     ghost use Rattle.lrc_row_table.specs.declared.known.Means.{Means as TheMeans};
     ghost use Rattle.lrc_row_table.specs.Tables.{AreMeans, IsTable, KeepsRows};
 
-    /// Adds the row of a state with its notes, if it is new: its place, and whether it is new.
+    /// Adds the row of a state with its notes, if it is new. Returns its place, and whether it is new. It fails if
+    /// memory runs out.
     pub fn add(&mut self, means: &Means<'_>, noted: Noted) -> Result<(usize, bool), AllocError>
         requires means { AreMeans means.now }
         requires table { IsTable means.now self.old }
@@ -49,7 +50,7 @@ impl Table {
         Ok((place, added))
     }
 
-    /// Adds a row, if it is new: its place, and whether it is new.
+    /// Adds a row, if it is new. Returns its place, and whether it is new. It fails if memory runs out.
     pub fn put(&mut self, row: Row) -> Result<(usize, bool), AllocError>
         requires { AreRowsDistinct self.old.rows }
         ensures table { OnOk result ((means : TheMeans) → IsTable means self.old
@@ -64,7 +65,7 @@ impl Table {
         Ok((place, added))
     }
 
-    // The number of a thread.
+    // Returns the number of a thread, which is added if it is new.
     pub(crate) fn number(&mut self, means: &Means<'_>, spot: Spot) -> Result<u32, AllocError>
         requires means { AreMeans means.now }
         requires table { IsTable means.now self.old }
@@ -81,7 +82,7 @@ impl Table {
     }
 }
 
-// What the threads do next of which it is not known yet.
+// Adds what the threads do next of which that is not known yet.
 fn complete(nexts: &mut Vec<Next>, flat: &Flat, spots: &[Spot]) -> Result<(), AllocError>
     requires flat { IsFlat flat.now }
     requires placed { All (λ spot. spot.place ≤ length flat.now.code.now) spots.now }

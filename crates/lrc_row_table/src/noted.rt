@@ -14,7 +14,7 @@ use lrc_rows::parts::{Notes, notes_number};
 use lrc_trace::act::{Act, Deed};
 use std::alloc::{AllocError, Global};
 
-/// The number of the notes after those with a number and these deeds of a node.
+/// Returns the number of the notes that a node's deeds make of the notes with this number. It fails if memory runs out.
 pub(crate) fn notes_after(
     alloc: Global,
     all: &mut IndexSet<Notes>,

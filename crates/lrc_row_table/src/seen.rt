@@ -21,7 +21,7 @@ impl Table {
     ghost use Rattle.lrc_row_table.specs.Shared.{can_act};
     ghost use Rattle.lrc_row_table.specs.Tables.{IsKnown, IsRowOf, IsTable, next_at};
 
-    /// What a node does next.
+    /// Returns what a node does next.
     pub fn next(&self, row: &Row, node: usize) -> Next
         requires row { IsKnown self.now row.now }
         requires node { node < self.now.rows.nodes }
@@ -33,7 +33,7 @@ impl Table {
         self.nexts[row.threads[node] as usize]
     }
 
-    /// The least two nodes that meet, the lower one first.
+    /// Returns the least two nodes that meet, the lower one first.
     pub fn meeting(&self, row: &Row) -> Option<(usize, usize)>
         requires { IsKnown self.now row.now }
         ensures { (means : TheMeans) (key : Key) → IsTable means self.now
@@ -53,7 +53,7 @@ impl Table {
         None
     }
 
-    // The lowest higher node that accesses the word next, where one of the two writes it.
+    // Returns the lowest node above `p` that accesses the word next, if one of the two accesses is a write.
     fn partner(&self, row: &Row, p: usize, word: u32, writes: bool) -> Option<usize>
         requires row { IsKnown self.now row.now }
         requires node { p < self.now.rows.nodes }
@@ -75,7 +75,7 @@ impl Table {
         None
     }
 
-    /// Whether every node has arrived and none departed.
+    /// Returns whether every node has arrived and none has departed.
     pub fn all_wait(&self, row: &Row) -> bool
         requires { IsKnown self.now row.now }
         ensures { (means : TheMeans) (key : Key) → IsTable means self.now
@@ -90,7 +90,7 @@ impl Table {
         true
     }
 
-    /// Whether no node can make an act, and some node has neither ended nor trapped.
+    /// Returns whether no node can make an act, and some node has neither ended nor trapped.
     pub fn is_stuck(&self, row: &Row) -> bool
         requires { IsKnown self.now row.now }
         ensures { (means : TheMeans) (key : Key) → IsTable means self.now
@@ -100,7 +100,7 @@ impl Table {
         self.is_still(row) && self.is_unfinished(row)
     }
 
-    /// Whether no node can make an act.
+    /// Returns whether no node can make an act.
     pub fn is_still(&self, row: &Row) -> bool
         requires { IsKnown self.now row.now }
         ensures { (means : TheMeans) (key : Key) → IsTable means self.now
@@ -133,7 +133,7 @@ impl Table {
         }
     }
 
-    /// Whether some node has neither ended nor trapped.
+    /// Returns whether some node has neither ended nor trapped.
     pub fn is_unfinished(&self, row: &Row) -> bool
         requires { IsKnown self.now row.now }
         ensures { (means : TheMeans) (key : Key) → IsTable means self.now

@@ -27,7 +27,8 @@ impl Table {
     ghost use Rattle.lrc_row_table.specs.Tables.{AreMeans, CannotTakeFrom, IsKnown, IsLongFault, IsRowOf, IsTable, IsTakenFrom, IsTakenFromSome, KeepsRows, LeadsToRow, next_at};
     ghost use Rattle.lrc_row_table.specs.Going.{CanGo, HasAfter, HasGone, IsAskable, IsAskedSettled, IsLongAct, IsLongAsk};
 
-    /// The row that the step of one node leads to, if it can be taken.
+    /// Returns the row that the step of one node leads to, or none if the node cannot take one. It fails if memory runs
+    /// out, or if a thread makes as many free acts as are looked at.
     pub fn alone(
         &mut self,
         alloc: Global,
@@ -73,7 +74,8 @@ impl Table {
         }
     }
 
-    /// The row that the step of all nodes leads to, if it can be taken.
+    /// Returns the row that the step of all nodes leads to, or none if they cannot take one. It fails if memory runs
+    /// out, or if a thread makes as many free acts as are looked at.
     pub fn together(
         &mut self,
         alloc: Global,

@@ -14,22 +14,22 @@ pub struct Asked {
     pub value: u64,
 }
 
-/// The number of the thread that settles then, and those of its deeds that others can see or that are noted.
+/// The number of the thread that it settles to, and those of its deeds that others can see or that are noted.
 #[derive(Drop)]
 pub struct After {
     pub thread: u32,
     pub deeds: Vec<Deed>,
 }
 
-/// What is shared, and what comes of a thread.
+/// The number of what nodes share, and the place of what comes of a thread.
 #[derive(Clone, Copy, PartialEq, Eq, Hash)]
 pub struct Change {
     pub shared: u32,
     pub after: u32,
 }
 
-/// Rows; what each settled thread does next; of each that went on what came of it, for each value; and of what is
-/// shared what became of it then.
+/// Rows, and what is known of the steps from them: what each thread does next (`nexts`), what came of a thread after
+/// its next act (`afters`), and what that made of what the nodes share (`changes`). `scratch` is where it is changed.
 #[derive(Drop)]
 pub struct Table {
     pub rows: Rows,
@@ -45,7 +45,7 @@ impl Table {
     ghost use Rattle.lrc_row_table.specs.declared.known.Means.{Means as TheMeans};
     ghost use Rattle.lrc_row_table.specs.Tables.{IsTable};
 
-    /// No rows, of so many nodes.
+    /// Makes a table without rows, for this many nodes.
     pub fn new(alloc: Global, nodes: usize) -> Table
         ensures empty { row_count result.rows ≡ 0 }
         ensures nodes { result.rows.nodes ≡ nodes }
