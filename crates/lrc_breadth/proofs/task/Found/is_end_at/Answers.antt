@@ -13,8 +13,8 @@ is_still-requires c = known_at c.args.task.now c.args.self.now c.args.place c.ro
 pub noted-requires : goal.noted-requires
 noted-requires c = c.requires.found.reached.full c.args.place c.requires.within
 
-pub returns-then-is_still : goal.returns-then-is_still
-returns-then-is_still c =
+pub returns-in_ok-key : goal.returns-in_ok-key
+returns-in_ok-key c =
     let task = c.args.task.now in
     let old = c.args.self.now in
     let place = c.args.place in
