@@ -1,9 +1,6 @@
 -- Steps from a row that was found.
-use Rattle.std.proofs.Common.{◌≡◌, ℕ, ◌<◌, List, refl, sym, ap, ◌∙◌, subst, length, true, false}
+use Rattle.std.proofs.Common.{◌≡◌, ℕ, ◌<◌, refl, sym, ap, ◌∙◌, subst, length, true}
 use Rattle.std.specs.Prelude.{Option, Some, None, MatchOption, Result, Ok, Err, IfErr, IfOk, OnOk, slice_get}
-use Rattle.lrc_trace.specs.declared.act.Act.{Act}
-use Rattle.lrc_exec.specs.declared.spot.Flat.{Flat}
-use Rattle.lrc_exec.specs.Plain.{Plain}
 use Rattle.lrc_exec.specs.States.{plain_at, IsStateOf}
 use Rattle.lrc_explore.specs.declared.noted.Noted.{Noted}
 use Rattle.lrc_explore.specs.declared.search.ExploreFault.{ExploreFault}
@@ -16,18 +13,15 @@ use Rattle.lrc_steps.specs.declared.step.Step.{Step}
 use Rattle.lrc_steps.specs.Taking.{ComputesLong, Takes}
 use Rattle.lrc_live.specs.Like.{TakesLike}
 use Rattle.lrc_rows.specs.declared.rows.Row.{Row}
-use Rattle.lrc_rows.specs.declared.rows.Rows.{Rows}
 use Rattle.lrc_rows.specs.Rows.{IsRowAt, WidensRows, row_count}
 use Rattle.lrc_rows.proofs.RowLaws.{row_copy, row_grown, row_store, row_within, stands_at}
-use Rattle.lrc_row_steps.specs.Nexts.{notes_on}
 use Rattle.lrc_row_table.specs.declared.known.Means.{Means}
 use Rattle.lrc_row_table.specs.declared.table.Table.{Table}
 use Rattle.lrc_row_table.specs.Tables.{CannotTakeFrom, IsKnown, IsLongFault as IsLongRowFault, IsRowOf, IsTable, IsTakenFrom, KeepsRows, LeadsToRow}
 use Rattle.lrc_breadth.specs.declared.task.Task.{Task}
-use Rattle.lrc_breadth.specs.declared.task.Origin.{Origin}
 use Rattle.lrc_breadth.specs.declared.task.Found.{Found}
 use Rattle.lrc_breadth.specs.Answers.{IsFault}
-use Rattle.lrc_breadth.specs.Reached.{AreFound, CannotTakeAt, IsFound, IsFrom, IsMeansOf, IsMore, IsNext, IsReached, LeadsTo}
+use Rattle.lrc_breadth.specs.Reached.{AreFound, CannotTakeAt, IsFound, IsMeansOf, IsMore, IsReached, LeadsTo}
 use Rattle.lrc_breadth.proofs.Keys.{from_grown, next_reached}
 use Rattle.lrc_breadth.proofs.MeansOf.{means_are, means_of, table_of}
 use Rattle.lrc_breadth.proofs.Reaching.{settled_key}

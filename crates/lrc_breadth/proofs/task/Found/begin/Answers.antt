@@ -1,4 +1,4 @@
-use Rattle.std.proofs.Common.{[], subst}
+use Rattle.std.proofs.Common.{subst}
 use Rattle.lrc_breadth.specs.Reached.{IsKeyOf, SettlesStart}
 use Rattle.lrc_breadth.proofs.Keys.{start_first, start_reached, has_start}
 use Rattle.lrc_breadth.proofs.task.Found.begin.Goals as goal

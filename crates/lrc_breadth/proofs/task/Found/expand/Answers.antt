@@ -1,10 +1,5 @@
-use Rattle.std.proofs.Common.{◌<◌, arith, subst}
-use Rattle.lrc_rows.proofs.RowLaws.{row_grown, row_within}
-use Rattle.lrc_rows.specs.Rows.{row_count}
+use Rattle.std.proofs.Common.{arith}
 use Rattle.lrc_steps.specs.declared.step.Step.TheVariants.{Together}
-use Rattle.lrc_breadth.specs.declared.task.Found.{Found}
-use Rattle.lrc_breadth.specs.Reached.{AreFound, IsMore}
-use Rattle.lrc_breadth.specs.declared.task.Task.{Task}
 use Rattle.lrc_breadth.proofs.Keys.{after_at_grown, each_more, expanded_at, more_again, within_more}
 use Rattle.lrc_breadth.proofs.task.Found.expand.Goals as goal
 

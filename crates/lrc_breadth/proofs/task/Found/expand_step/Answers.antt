@@ -2,7 +2,7 @@ use Rattle.std.proofs.Common.{subst}
 use Rattle.std.specs.Prelude.{Option, MatchOption}
 use Rattle.lrc_rows.specs.declared.rows.Row.{Row}
 use Rattle.lrc_breadth.specs.Reached.{CannotTakeAt, LeadsTo}
-use Rattle.lrc_breadth.proofs.Keys.{has_after, has_none, more_again}
+use Rattle.lrc_breadth.proofs.Keys.{has_after, more_again}
 use Rattle.lrc_breadth.proofs.task.Found.expand_step.Goals as goal
 
 pub put-requires-clause-next : goal.put-requires-clause-next
