@@ -11,3 +11,4 @@ pub mod Taken
 pub mod Logged
 pub mod Requests
 pub mod Whole
+pub mod Options

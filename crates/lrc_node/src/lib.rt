@@ -35,6 +35,6 @@ pub use fault::NodeFault;
 pub use logged::{Entry, Input, Logged};
 pub use lrc_trace::end::End;
 pub use node::Node;
-pub use options::Options;
+pub use options::{Options, options_of};
 pub use state::NodeState;
 pub use turn::Turn;

@@ -1,6 +1,10 @@
 // How a run goes.
 
+ghost use Rattle.std.specs.Prelude.{◌≡◌};
+ghost use Rattle.lrc_node.specs.Options.{options_of};
+
 use lrc_page::Size;
+use lrc_setting::setting::Setting;
 use std::marker::Model;
 
 /// The options of a run, which are the same for all nodes.
@@ -24,4 +28,16 @@ impl Model for Options {
     ghost view = { λ o. record { steps = o.steps; collect = o.collect; first = o.first; size = o.size } };
 
     ghost inverse = { λ o. record { steps = o.steps; collect = o.collect; first = o.first; size = o.size } };
+}
+
+/// Returns the options of the nodes in this setting.
+pub fn options_of(setting: &Setting) -> Options
+    ensures { result ≡ options_of setting.now }
+{
+    Options {
+        steps: setting.steps.count,
+        collect: setting.collect,
+        first: setting.first,
+        size: setting.size,
+    }
 }

@@ -3,7 +3,7 @@
 ghost use Rattle.std.specs.Prelude.{◌≡◌, ◌↔◌, ◌⊎◌, Err, IfErr, IfOk, MatchResult};
 ghost use Rattle.lrc_exec.specs.Nodes.{AreNodes};
 ghost use Rattle.lrc_setting.specs.Ranges.{AreSteps};
-ghost use Rattle.lrc_world.specs.Setting.{options_of};
+ghost use Rattle.lrc_node.specs.Options.{options_of};
 ghost use Rattle.lrc_world.specs.declared.run.Run.{Run as AnyRun};
 ghost use Rattle.lrc_run.specs.Halts.{IsRunFault};
 ghost use Rattle.lrc_run.specs.Run.{IsThreadedRun};

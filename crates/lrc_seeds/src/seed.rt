@@ -9,7 +9,7 @@ ghost use Rattle.lrc_world.specs.declared.run.Order.TheVariants.{Random};
 ghost use Rattle.lrc_world.specs.Random.{WanderingWearsOut};
 ghost use Rattle.lrc_world.specs.Report.{IsWornFault};
 ghost use Rattle.lrc_world.specs.Runs.{IsRunIn};
-ghost use Rattle.lrc_world.specs.Setting.{options_of};
+ghost use Rattle.lrc_node.specs.Options.{options_of};
 ghost use Rattle.lrc_seeds.specs.Seeds.{AreNotesIfOver, IsAllOfSeed, seed_options};
 
 use lrc_explore::notes::note;

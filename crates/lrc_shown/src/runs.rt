@@ -5,7 +5,7 @@ ghost use Rattle.lrc_shown.specs.Runs.{IsLedFault, IsPlayedFault, IsRunFault, Is
 ghost use Rattle.lrc_events.specs.EventsText.{ReadsEvents};
 ghost use Rattle.lrc_args.specs.Files.{events_along, is_on_threads};
 ghost use Rattle.lrc_world.specs.Runs.{IsRunBy, IsRunIn, WearsOutIn};
-ghost use Rattle.lrc_world.specs.Setting.{options_of as options_in};
+ghost use Rattle.lrc_node.specs.Options.{options_of as options_in};
 
 use lrc_answer::fault::Fault;
 use lrc_args::choice::{RunChoice, RunOptions, Way};

@@ -19,12 +19,12 @@ use lrc_answer::fault::Fault;
 use lrc_args::choice::{Part, RunOptions};
 use lrc_judge::order::{Order, happens_before};
 use lrc_lang::program::Program;
+use lrc_node::options_of;
 use lrc_states::{Range, StatesFault, Told, states_parts};
 use lrc_step_page::step_document;
 use lrc_step_races::{Part as ShownActs, races_part};
 use lrc_step_reasons::reasons_part;
 use lrc_world::run::Run;
-use lrc_world::setting::options_of;
 use std::alloc::{AllocError, Global};
 
 /// Returns the turns of a part of a run with the states of its nodes, one part for each line.

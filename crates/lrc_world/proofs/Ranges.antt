@@ -4,7 +4,7 @@ use Rattle.lrc_exec.specs.Nodes.{AreNodes}
 use Rattle.lrc_setting.specs.Ranges.{AreSteps}
 use Rattle.lrc_setting.specs.declared.setting.Setting.{Setting}
 use Rattle.lrc_protocol.specs.Node.{OptionsRecord}
-use Rattle.lrc_world.specs.Setting.{options_of}
+use Rattle.lrc_node.specs.Options.{options_of}
 
 -- the numbers of a setting are in range
 module _ (setting : Setting) (nodes : ℕ) (options : OptionsRecord) (counted : setting.nodes.count ≡ nodes) (told : options_of setting ≡ options) where

@@ -1,4 +1,3 @@
-pub mod Setting
 pub mod Ends
 pub mod Report
 pub mod Runs

@@ -16,7 +16,7 @@ use Rattle.lrc_world.specs.Promises.{AreKept}
 use Rattle.lrc_world.specs.Random.{WanderingWearsOut, wandering}
 use Rattle.lrc_world.specs.Report.{AreAll, IsKeptReport, IsOver, IsWornBy, IsWornFault}
 use Rattle.lrc_world.specs.Rounds.{RoundsWearOut, schedule_of_rounds}
-use Rattle.lrc_world.specs.Setting.{options_of}
+use Rattle.lrc_node.specs.Options.{options_of}
 use Rattle.lrc_world.specs.Turned.{AreAllTurned}
 
 -- The events are the first ones of a program's run that is led so. None of them is skipped. Unless there are 100,000,000, of which there

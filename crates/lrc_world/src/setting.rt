@@ -3,7 +3,7 @@
 ghost use Rattle.std.specs.Prelude.{◌≡◌, ◌⊎◌, MatchResult};
 ghost use Rattle.lrc_exec.specs.Nodes.{AreNodes};
 ghost use Rattle.lrc_setting.specs.Ranges.{AreSteps};
-ghost use Rattle.lrc_world.specs.Setting.{options_of};
+ghost use Rattle.lrc_node.specs.Options.{options_of};
 
 use crate::report::SimFault;
 use lrc_node::Options;
@@ -30,16 +30,4 @@ pub fn setting_of(nodes: u32, options: &Options) -> Result<Setting, SimFault>
         size: options.size,
         first: options.first,
     })
-}
-
-/// Returns the options of the nodes in this setting.
-pub fn options_of(setting: &Setting) -> Options
-    ensures { result ≡ options_of setting.now }
-{
-    Options {
-        steps: setting.steps.count,
-        collect: setting.collect,
-        first: setting.first,
-        size: setting.size,
-    }
 }

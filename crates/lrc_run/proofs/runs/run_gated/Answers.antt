@@ -3,7 +3,7 @@ use Rattle.lrc_protocol.specs.Node.{OptionsRecord}
 use Rattle.lrc_run.specs.Halts.{IsRunFault, fault_of}
 use Rattle.lrc_run.specs.Run.{IsThreadedRun}
 use Rattle.lrc_run.proofs.Halting.{of_halt}
-use Rattle.lrc_world.specs.Setting.{options_of}
+use Rattle.lrc_node.specs.Options.{options_of}
 use Rattle.lrc_run.proofs.runs.run_gated.Goals as goal
 
 pub returns-in-Ok-clause-run : goal.returns-in-Ok-clause-run

@@ -5,7 +5,7 @@ use Rattle.lrc_world.specs.declared.run.Order.TheVariants.{Random}
 use Rattle.lrc_world.specs.Random.{WanderingWearsOut}
 use Rattle.lrc_world.specs.Report.{IsWornFault}
 use Rattle.lrc_world.specs.Runs.{IsRunIn}
-use Rattle.lrc_world.specs.Setting.{options_of}
+use Rattle.lrc_node.specs.Options.{options_of}
 use Rattle.lrc_seeds.proofs.seed.run_of_seed.Goals as goal
 
 pub returns-clause-run : goal.returns-clause-run

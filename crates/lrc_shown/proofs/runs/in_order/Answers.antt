@@ -1,7 +1,7 @@
 use Rattle.std.proofs.Common.{ℕ, subst}
 use Rattle.lrc_protocol.specs.Node.{OptionsRecord}
 use Rattle.lrc_world.specs.Runs.{IsRunIn, IsTurnFault, WearsOutIn}
-use Rattle.lrc_world.specs.Setting.{options_of as options_in}
+use Rattle.lrc_node.specs.Options.{options_of as options_in}
 use Rattle.lrc_world.specs.declared.report.TurnFault.TheVariants.{Worn}
 use Rattle.lrc_shown.proofs.runs.in_order.Goals as goal
 

@@ -2,7 +2,7 @@ use Rattle.std.proofs.Common.{ℕ, subst, sym}
 use Rattle.lrc_protocol.specs.Node.{OptionsRecord}
 use Rattle.lrc_run.specs.Halts.{IsHalt}
 use Rattle.lrc_run.specs.Run.{IsThreadedRun}
-use Rattle.lrc_world.specs.Setting.{options_of as options_in}
+use Rattle.lrc_node.specs.Options.{options_of as options_in}
 use Rattle.lrc_world.specs.declared.run.Run.{Run}
 use Rattle.lrc_shown.specs.Runs.{options_of}
 use Rattle.lrc_shown.proofs.threads.threaded.Goals as goal

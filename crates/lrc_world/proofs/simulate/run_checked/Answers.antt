@@ -10,7 +10,7 @@ use Rattle.lrc_world.specs.declared.report.TurnFault.{TurnFault}
 use Rattle.lrc_world.specs.declared.report.TurnFault.TheVariants as turns
 use Rattle.lrc_world.specs.Report.{IsWornFault, of_turns}
 use Rattle.lrc_world.specs.Runs.{IsRunIn, WearsOutIn}
-use Rattle.lrc_world.specs.Setting.{options_of}
+use Rattle.lrc_node.specs.Options.{options_of}
 use Rattle.lrc_world.proofs.Ranges.{nodes_in_range, of_numbers, steps_in_range}
 use Rattle.lrc_world.proofs.simulate.run_checked.Goals as goal
 

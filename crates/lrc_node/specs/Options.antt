@@ -1,4 +1,4 @@
--- The setting of a run, as the nodes are told of it.
+-- The options of a run's nodes, by its setting.
 use Rattle.lrc_protocol.specs.Node.{OptionsRecord}
 use Rattle.lrc_setting.specs.declared.setting.Setting.{Setting}
 
