@@ -8,3 +8,4 @@ pub mod Made
 pub mod After
 pub mod Beginning
 pub mod Dropping
+pub mod Cutting

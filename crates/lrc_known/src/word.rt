@@ -1,8 +1,8 @@
 // What is kept of the writes of one word that are known, and how an act changes it.
 
-ghost use Rattle.std.specs.Prelude.{◌≡◌, ◌≤◌, ◌<◌, ◌⊎◌, ◌↔◌, ◌^◌, ◌-◌, ℕ, IfOk, OnOk, Contains, length, slice_index_or, false};
+ghost use Rattle.std.specs.Prelude.{◌≡◌, ◌≤◌, ◌<◌, ◌⊎◌, ◌↔◌, ◌^◌, ◌-◌, ℕ, IfOk, OnOk, Contains, length, slice_index_or, false, true};
 ghost use Rattle.lrc_known.specs.Word.{above_by, above_learned, above_then, above_written, is_above, is_ordered, last_by, last_of, last_then, number_before, row_of, source_by, source_of, values_of, IsLearned, IsSame, IsWithout, IsWritten};
-ghost use Rattle.lrc_known.specs.Made.{last_learned, last_written, values_taught, IsCopyOf, IsKnownWithout, IsLearnedBy, IsWrittenBy};
+ghost use Rattle.lrc_known.specs.Made.{last_learned, last_written, values_taught, IsCopyOf, IsKnownWithout, IsLearnedBy, IsNothing, IsWrittenBy, KnowsNothing};
 ghost use Rattle.lrc_known.specs.Effect.{IsAfter, IsSmall};
 
 use crate::known::{Known, Last};
@@ -425,6 +425,44 @@ fn number_before(first: usize, dropped: usize, knower: usize) -> usize
     }
 }
 
+// How long a row is up to the last one whose last write is known.
+fn width_of(row: &[bool]) -> usize
+    ensures { (z : ℕ) → result ≤ z → slice_index_or row.now z false ≡ false }
+{
+    let mut width = row.len();
+    while width > 0 {
+        if row[width - 1] {
+            return width;
+        }
+        width -= 1;
+    }
+    0
+}
+
+// Whether one knows nothing.
+fn knows_nothing(known: &Known) -> bool
+    ensures { result ≡ true → IsNothing known.now }
+{
+    match known.last {
+        Last::Nothing => known.values.is_empty() && known.above.is_empty(),
+        _ => false,
+    }
+}
+
+// How many there are up to the last one who knows something.
+fn count_who_know(word: &[Known]) -> usize
+    ensures { (k : ℕ) → result ≤ k → KnowsNothing word.now k }
+{
+    let mut count = word.len();
+    while count > 0 {
+        if !knows_nothing(&word[count - 1]) {
+            return count;
+        }
+        count -= 1;
+    }
+    0
+}
+
 // Whose last writes one knows, of those who are left.
 fn row_without(
     alloc: Global,
@@ -440,6 +478,8 @@ fn row_without(
     for other in 0..width {
         left.push(row[number_before(first, dropped, other)])?;
     }
+    let known = width_of(&left);
+    left.truncate(known);
     Ok(left)
 }
 
@@ -477,6 +517,8 @@ pub fn word_without(
     for knower in 0..count {
         left.push(known_without(alloc, word, first, dropped, knower)?)?;
     }
+    let known = count_who_know(&left);
+    left.truncate(known);
     Ok(left)
 }
 
