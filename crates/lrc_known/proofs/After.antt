@@ -1,11 +1,10 @@
 -- What is kept of every word, after an act.
-use Rattle.std.proofs.Common.{◌≡◌, ℕ, ◌<◌, ◌≤◌, ◌⊎◌, List, [], length, inl, inr, refl, sym, subst, ap, arith}
-use Rattle.std.specs.Prelude.{◌↔◌, None, Some, slice_get, Contains}
+use Rattle.std.proofs.Common.{◌≡◌, ℕ, ◌≤◌, ◌⊎◌, List, [], length, inl, inr, refl, sym, subst, arith}
+use Rattle.std.specs.Prelude.{◌↔◌, Contains}
 use Rattle.std.proofs.lemmas.Bool.{cases_lt}
 use Rattle.std.proofs.lemmas.Option.{slice_get_past}
 use Rattle.lrc_known.specs.declared.known.Last.{Last}
 use Rattle.lrc_known.specs.declared.known.Last.TheVariants.{Nothing, Value, Unordered}
-use Rattle.lrc_known.specs.declared.known.Known.{Known}
 use Rattle.lrc_known.specs.declared.known.KnownWord.{KnownWord}
 use Rattle.lrc_known.specs.declared.known.Knowledge.{Knowledge}
 use Rattle.lrc_known.specs.declared.word.Effect.{Effect}

@@ -1,11 +1,11 @@
 -- Lists without what says nothing at their end.
-use Rattle.std.proofs.Common.{◌≡◌, ℕ, zero, suc, ◌+◌, ◌-◌, ◌<◌, ◌≤◌, List, [], ◌∷◌, length, take, Bool, false, inl, inr, refl, sym, subst, ◌∙◌, ap, arith}
-use Rattle.std.specs.Prelude.{◌↔◌, Some, None, Contains, slice_get, slice_index_or}
+use Rattle.std.proofs.Common.{◌≡◌, ℕ, zero, suc, ◌<◌, ◌≤◌, List, [], ◌∷◌, length, take, Bool, false, inl, inr, refl, sym, subst, ◌∙◌, ap, arith}
+use Rattle.std.specs.Prelude.{Contains, slice_get, slice_index_or}
 use Rattle.std.proofs.lemmas.Bool.{cases_lt}
 use Rattle.std.proofs.lemmas.List.{get_or-take, get_or_past, length-take}
 use Rattle.std.proofs.lemmas.Option.{slice_get_past}
 use Rattle.lrc_known.specs.declared.known.Known.{Known}
-use Rattle.lrc_known.specs.Word.{last_in, values_in, row_in, last_of, values_of, row_of, is_above, number_before, IsSame, IsWithout}
+use Rattle.lrc_known.specs.Word.{last_in, values_in, row_in, last_of, values_of, row_of, IsWithout}
 use Rattle.lrc_known.specs.Made.{KnowsNothing}
 
 -- ---- rows

@@ -1,13 +1,13 @@
 -- What is kept without the barriers that are gone.
-use Rattle.std.proofs.Common.{◌≡◌, ℕ, ◌+◌, ◌-◌, ◌<◌, ◌≤◌, List, true, inl, inr, refl, sym, subst, ◌∙◌, ap, arith}
-use Rattle.std.specs.Prelude.{◌↔◌, if◌then◌else◌, nat_lt, Contains}
+use Rattle.std.proofs.Common.{◌≡◌, ℕ, ◌+◌, ◌-◌, ◌<◌, ◌≤◌, List, inl, inr, refl, sym, subst, ◌∙◌, ap, arith}
+use Rattle.std.specs.Prelude.{if◌then◌else◌, Contains}
 use Rattle.std.proofs.lemmas.Bool.{cases_lt, le-ltb, lt-ltb}
 use Rattle.lrc_trace.specs.declared.act.Act.{Act}
 use Rattle.lrc_trace.specs.Order.{HappensBefore}
 use Rattle.lrc_known.specs.declared.known.Known.{Known}
 use Rattle.lrc_known.specs.declared.known.Knowledge.{Knowledge}
-use Rattle.lrc_known.specs.Knowing.{Tells, to_node, to_lock, to_barrier, Knows, KnowsWrite}
-use Rattle.lrc_known.specs.Word.{last_of, values_of, is_above, number_before, HasLast, IsLast, IsWithout, Describes}
+use Rattle.lrc_known.specs.Knowing.{Tells, to_node, to_lock, to_barrier, KnowsWrite}
+use Rattle.lrc_known.specs.Word.{last_of, values_of, is_above, number_before, IsLast, IsWithout, Describes}
 use Rattle.lrc_known.specs.Effect.{word_of, AreOf, IsKnowledgeOf, IsKnowledgeWithout}
 use Rattle.lrc_known.proofs.Sets.{describes_moved}
 

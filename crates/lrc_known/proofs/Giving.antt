@@ -1,19 +1,18 @@
 -- What a read may give, by what is kept of what its node knows.
-use Rattle.std.proofs.Common.{◌≡◌, ℕ, ◌+◌, ◌<◌, ◌≤◌, ◌⊎◌, List, [], ◌∷◌, ◌++◌, length, inl, inr, refl, sym, subst, ◌∙◌, ap, arith}
-use Rattle.std.specs.Prelude.{◌↔◌, Contains}
+use Rattle.std.proofs.Common.{◌≡◌, ℕ, ◌<◌, List, [], ◌∷◌, ◌++◌, length, inl, inr, sym, subst, ◌∙◌, arith}
+use Rattle.std.specs.Prelude.{◌↔◌}
 use Rattle.lrc_trace.specs.declared.act.Act.{Act}
-use Rattle.lrc_trace.specs.declared.act.Deed.{Deed}
-use Rattle.lrc_trace.specs.declared.act.Deed.TheVariants.{Read, Write, Acquire, Depart}
-use Rattle.lrc_trace.specs.Run.{Does, IsDone, act_of}
+use Rattle.lrc_trace.specs.declared.act.Deed.TheVariants.{Read}
+use Rattle.lrc_trace.specs.Run.{act_of}
 use Rattle.lrc_trace.specs.Order.{HappensBefore}
 use Rattle.lrc_trace.specs.Reading.{WrittenBefore, MayRead}
 use Rattle.lrc_trace.proofs.Positions.{Does-longer, Does-shorter, Does-one_deed}
-use Rattle.lrc_trace.proofs.HappensBefore.{longer, shorter, forward}
+use Rattle.lrc_trace.proofs.HappensBefore.{longer, shorter}
 use Rattle.lrc_known.specs.declared.known.Last.{Last}
 use Rattle.lrc_known.specs.declared.known.Last.TheVariants.{Nothing, Value, Unordered}
 use Rattle.lrc_known.specs.declared.known.Known.{Known}
 use Rattle.lrc_known.specs.Knowing.{Knows, KnowsWrite}
-use Rattle.lrc_known.specs.Word.{Describes, IsLast, IsLastOf, AreChained, MayGive, Gives, last_of, values_of}
+use Rattle.lrc_known.specs.Word.{Describes, IsLast, AreChained, MayGive, Gives, last_of, values_of}
 use Rattle.lrc_known.specs.Effect.{AreOf}
 use Rattle.lrc_known.proofs.Telling.{Before, by_node, by_lock, by_barrier, before_cases, node_before, knows_within}
 

@@ -1,14 +1,14 @@
 -- What is kept of a word's writes, after one learns what another knows.
-use Rattle.std.proofs.Common.{◌≡◌, ℕ, ◌<◌, ◌≤◌, ◌⊎◌, List, Bool, true, false, inl, inr, refl, sym, subst, ◌∙◌, ap, arith}
-use Rattle.std.specs.Prelude.{◌↔◌, ◌==◌, ◌&&◌, ◌||◌, if◌then◌else◌, Contains}
+use Rattle.std.proofs.Common.{◌≡◌, ℕ, ◌⊎◌, List, Bool, true, false, inl, inr, refl, sym, subst, ◌∙◌, ap, arith}
+use Rattle.std.specs.Prelude.{◌↔◌, ◌==◌, if◌then◌else◌, Contains}
 use Rattle.std.proofs.lemmas.Bool.{cases_eq, cases_lt, eq-eqb, ne_eqb, eqb-true}
 use Rattle.lrc_known.specs.declared.known.Last.{Last}
 use Rattle.lrc_known.specs.declared.known.Last.TheVariants.{Nothing, Value, Unordered}
 use Rattle.lrc_known.specs.declared.known.Known.{Known}
-use Rattle.lrc_known.specs.Word.{last_of, values_of, is_above, AreChained, IsLastOf, IsLast, HasLast, Describes}
+use Rattle.lrc_known.specs.Word.{last_of, values_of, is_above, AreChained, IsLast, HasLast, Describes}
 use Rattle.lrc_known.specs.declared.word.Source.{Source}
 use Rattle.lrc_known.specs.declared.word.Source.TheVariants.{Own, Taught, Neither}
-use Rattle.lrc_known.specs.Word.{source_by, source_of, last_by, above_then, above_by, above_learned, IsLearned}
+use Rattle.lrc_known.specs.Word.{source_by, source_of, last_by, above_then, above_by, IsLearned}
 use Rattle.lrc_known.proofs.Sets.{or_and_parts, or_and_left, or_and_right, last_same, has_last_same}
 
 module _ (before : ℕ → ℕ → Type 0) (known : ℕ → ℕ → ℕ → Type 0)

@@ -1,10 +1,10 @@
 -- Sets of writes that are the same, and what is kept of them.
-use Rattle.std.proofs.Common.{◌≡◌, ℕ, ◌<◌, ◌≤◌, ◌⊎◌, List, [], arith, Bool, true, false, inl, inr, refl, sym, subst, ◌∙◌}
-use Rattle.std.specs.Prelude.{◌↔◌, ◌&&◌, ◌||◌, Contains}
+use Rattle.std.proofs.Common.{◌≡◌, ℕ, ◌⊎◌, List, [], arith, Bool, true, false, inl, inr, refl, sym, subst, ◌∙◌}
+use Rattle.std.specs.Prelude.{◌&&◌, ◌||◌}
 use Rattle.lrc_known.specs.declared.known.Last.{Last}
 use Rattle.lrc_known.specs.declared.known.Last.TheVariants.{Nothing, Value, Unordered}
 use Rattle.lrc_known.specs.declared.known.Known.{Known}
-use Rattle.lrc_known.specs.Word.{last_of, values_of, is_above, AreChained, IsLastOf, IsLast, HasLast, Describes, IsSame}
+use Rattle.lrc_known.specs.Word.{last_of, IsLastOf, IsLast, HasLast, Describes, IsSame}
 
 pub or_and_parts : (a b c : Bool) → (a || (b && c)) ≡ true → (a ≡ true) ⊎ ((b ≡ true) × (c ≡ true))
 or_and_parts true b c e = inl refl

@@ -1,14 +1,12 @@
 -- What is kept of what is known changes by an act as its effect says.
-use Rattle.std.proofs.Common.{◌≡◌, ℕ, ◌+◌, ◌<◌, ◌≤◌, ◌⊎◌, List, [], ◌∷◌, ◌++◌, length, inl, inr, refl, sym, subst, ◌∙◌, ap, arith}
-use Rattle.std.specs.Prelude.{◌↔◌}
-use Rattle.std.proofs.lemmas.Bool.{cases_eq}
+use Rattle.std.proofs.Common.{◌≡◌, ℕ, ◌+◌, ◌<◌, ◌⊎◌, List, [], ◌∷◌, ◌++◌, length, inl, inr, refl, sym, subst, ◌∙◌, ap, arith}
 use Rattle.lrc_trace.specs.declared.act.Act.{Act}
 use Rattle.lrc_trace.specs.declared.act.Deed.{Deed}
 use Rattle.lrc_trace.specs.declared.act.Deed.TheVariants.{Quiet, Print, Read, Write, Acquire, Release, Arrive, Depart, Trap, End}
-use Rattle.lrc_trace.specs.Run.{Does, IsDone, arrives_before, departs_before}
+use Rattle.lrc_trace.specs.Run.{Does, IsDone, arrives_before}
 use Rattle.lrc_trace.specs.Order.{HappensBefore, Reaches}
-use Rattle.lrc_trace.proofs.Positions.{Does-within, Does-longer, Does-shorter, Does-deed, Does-node, Does-last, Does-cases, Does-one_node, Does-one_deed, arrives_before-prefix}
-use Rattle.lrc_trace.proofs.HappensBefore.{forward, longer, shorter}
+use Rattle.lrc_trace.proofs.Positions.{Does-longer, Does-shorter, Does-deed, Does-node, Does-last, Does-one_node, Does-one_deed, arrives_before-prefix}
+use Rattle.lrc_trace.proofs.HappensBefore.{longer, shorter}
 use Rattle.lrc_known.specs.declared.known.Last.TheVariants.{Nothing}
 use Rattle.lrc_known.specs.declared.known.Known.{Known}
 use Rattle.lrc_known.specs.declared.known.Knowledge.{Knowledge}

@@ -1,16 +1,15 @@
 -- What an act more tells to whom.
-use Rattle.std.proofs.Common.{◌≡◌, ℕ, ◌+◌, ◌<◌, ◌≤◌, ◌⊎◌, List, [], ◌∷◌, ◌++◌, length, inl, inr, refl, sym, subst, ◌∙◌, ap, arith}
-use Rattle.std.proofs.lemmas.Bool.{cases_eq, cases_lt}
+use Rattle.std.proofs.Common.{◌≡◌, ℕ, ◌+◌, ◌<◌, ◌⊎◌, List, [], ◌∷◌, ◌++◌, length, inl, inr, refl, sym, subst, ◌∙◌, ap, arith}
+use Rattle.std.proofs.lemmas.Bool.{cases_lt}
 use Rattle.std.proofs.lemmas.List.{length_push}
 use Rattle.lrc_trace.specs.declared.act.Act.{Act}
-use Rattle.lrc_trace.specs.declared.act.Deed.{Deed}
-use Rattle.lrc_trace.specs.declared.act.Deed.TheVariants.{Write, Acquire, Release, Arrive, Depart}
-use Rattle.lrc_trace.specs.Run.{Does, IsDone, arrives_before, departs_before}
-use Rattle.lrc_trace.specs.Order.{Precedes, program, lock, barrier, HappensBefore, base, further, Reaches}
-use Rattle.lrc_trace.proofs.Positions.{Does-within, Does-longer, Does-shorter, Does-deed, Does-node, Does-last, Does-cases}
+use Rattle.lrc_trace.specs.declared.act.Deed.TheVariants.{Acquire, Release, Depart}
+use Rattle.lrc_trace.specs.Run.{arrives_before, departs_before}
+use Rattle.lrc_trace.specs.Order.{Precedes, program, lock, barrier, HappensBefore, base, Reaches}
+use Rattle.lrc_trace.proofs.Positions.{Does-within, Does-longer, Does-shorter, Does-deed, Does-last}
 use Rattle.lrc_trace.proofs.Positions.{Does-one_node, Does-one_deed, arrives_before-prefix, departs_before-prefix}
-use Rattle.lrc_trace.proofs.HappensBefore.{forward, transitive, longer, shorter, Reaches-last, Reaches-forward, Reaches-extends}
-use Rattle.lrc_known.specs.Knowing.{Tells, to_node, to_lock, to_barrier, Knows, KnowsWrite}
+use Rattle.lrc_trace.proofs.HappensBefore.{transitive, longer, shorter, Reaches-last, Reaches-forward, Reaches-extends}
+use Rattle.lrc_known.specs.Knowing.{Tells, to_node, to_lock, to_barrier, Knows}
 use Rattle.lrc_known.specs.Effect.{AreOf}
 
 module _ (nodes locks gone : ℕ) where

@@ -1,11 +1,11 @@
 -- What is kept of a word's writes, after one of those who know writes it.
 use Rattle.std.proofs.Common.{◌≡◌, ℕ, ◌<◌, ◌≤◌, ◌⊎◌, List, Bool, true, false, inl, inr, refl, sym, subst, ◌∙◌, ap, arith}
-use Rattle.std.specs.Prelude.{◌↔◌, ◌==◌, ◌&&◌, if◌then◌else◌, Contains}
-use Rattle.std.proofs.lemmas.Bool.{cases_eq, cases_lt, eq-eqb, ne_eqb, eqb-true, and_parts}
+use Rattle.std.specs.Prelude.{◌==◌, ◌&&◌, if◌then◌else◌, Contains}
+use Rattle.std.proofs.lemmas.Bool.{cases_eq, eq-eqb, ne_eqb, eqb-true, and_parts}
 use Rattle.lrc_known.specs.declared.known.Last.{Last}
 use Rattle.lrc_known.specs.declared.known.Last.TheVariants.{Nothing, Value, Unordered}
 use Rattle.lrc_known.specs.declared.known.Known.{Known}
-use Rattle.lrc_known.specs.Word.{last_of, values_of, is_above, AreChained, IsLastOf, IsLast, HasLast, Describes, last_then, is_ordered, above_written, IsWritten}
+use Rattle.lrc_known.specs.Word.{last_of, values_of, is_above, AreChained, IsLastOf, IsLast, HasLast, Describes, last_then, is_ordered, IsWritten}
 use Rattle.lrc_known.proofs.Sets.{last_same, has_last_same}
 
 and_true : (a b : Bool) → a ≡ true → b ≡ true → (a && b) ≡ true

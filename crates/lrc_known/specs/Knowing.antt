@@ -1,11 +1,11 @@
 -- Which acts of a run are known to whom: to each node, to a lock by its releases, and to a barrier by its arrives. The first so many
 -- barriers are gone: of what was known to them nothing is said.
-use Rattle.std.specs.Prelude.{◌≡◌, ℕ, ◌+◌, ◌<◌, ◌≤◌, ◌⊎◌, ◌↔◌, List}
+use Rattle.std.specs.Prelude.{◌≡◌, ℕ, ◌+◌, List}
 use Rattle.lrc_trace.specs.declared.act.Act.{Act}
 use Rattle.lrc_trace.specs.declared.act.Deed.{Deed}
 use Rattle.lrc_trace.specs.declared.act.Deed.TheVariants.{Write, Release, Arrive}
 use Rattle.lrc_trace.specs.Run.{Does, IsDone, arrives_before}
-use Rattle.lrc_trace.specs.Order.{HappensBefore, Reaches}
+use Rattle.lrc_trace.specs.Order.{Reaches}
 
 -- Those who know have numbers: first the nodes, then the locks, then the barriers by their episodes, from the first that is not gone on. What
 -- is done at a position is told

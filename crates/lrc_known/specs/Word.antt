@@ -1,5 +1,5 @@
 -- What is kept of the writes of one word that are known, for each who knows.
-use Rattle.std.specs.Prelude.{◌≡◌, ◌≢◌, ℕ, ◌+◌, ◌<◌, ◌≤◌, ◌⊎◌, ◌↔◌, ◌==◌, ◌&&◌, ◌||◌, not, Bool, true, false, Option, Some, None, List, [], if◌then◌else◌, nat_lt, slice_get, slice_index_or, Contains}
+use Rattle.std.specs.Prelude.{◌≡◌, ◌≢◌, ℕ, ◌+◌, ◌<◌, ◌≤◌, ◌⊎◌, ◌↔◌, ◌==◌, ◌&&◌, ◌||◌, Bool, true, false, Option, Some, None, List, [], if◌then◌else◌, nat_lt, slice_get, slice_index_or, Contains}
 use Rattle.lrc_known.specs.declared.known.Last.{Last}
 use Rattle.lrc_known.specs.declared.known.Last.TheVariants.{Nothing, Value, Unordered}
 use Rattle.lrc_known.specs.declared.known.Known.{Known}

@@ -1,17 +1,16 @@
 -- Threads that come by deeds to where they stand, and runs by one act more or less.
-use Rattle.std.proofs.Common.{◌≡◌, ℕ, ◌+◌, ◌<◌, ◌≤◌, true, false, List, [], ◌∷◌, ◌++◌, length, map, inl, inr, refl, sym, subst, ◌∙◌, ap, arith}
-use Rattle.std.specs.Prelude.{◌==◌, Option, Some, None, All, slice_index_or, filter, take}
+use Rattle.std.proofs.Common.{◌≡◌, ℕ, ◌<◌, true, false, List, [], ◌∷◌, ◌++◌, length, map, inl, inr, refl, sym, subst, ◌∙◌, ap, arith}
+use Rattle.std.specs.Prelude.{◌==◌, Option, Some, None, filter}
 use Rattle.std.proofs.lemmas.Bool.{cases_eq}
 use Rattle.std.proofs.lemmas.List.{append-nil, map-append, take-append-le}
 use Rattle.std.proofs.lemmas.List.Elements.{filter-append}
-use Rattle.std.proofs.lemmas.Option.{same_Some}
 use Rattle.lrc_lang.specs.declared.program.Program.{Program}
 use Rattle.lrc_trace.specs.declared.act.Act.{Act}
 use Rattle.lrc_trace.specs.declared.act.Deed.{Deed}
-use Rattle.lrc_trace.specs.declared.act.Deed.TheVariants.{Quiet, Print, Read, Write, Acquire, Release, Arrive, Depart, Trap, End}
-use Rattle.lrc_trace.specs.Run.{Does, act_of, is_arrive, is_depart, arrives_before, departs_before}
+use Rattle.lrc_trace.specs.declared.act.Deed.TheVariants.{Read, Acquire, Release, Depart}
+use Rattle.lrc_trace.specs.Run.{act_of, is_arrive, is_depart, arrives_before, departs_before}
 use Rattle.lrc_trace.specs.Synchronization.{Holds, MayGoOn}
-use Rattle.lrc_trace.proofs.Positions.{Does-longer, Does-last, Does-cases, arrives_before-prefix, departs_before-prefix}
+use Rattle.lrc_trace.proofs.Positions.{Does-longer, Does-cases, arrives_before-prefix, departs_before-prefix}
 use Rattle.lrc_trace.proofs.Prefixes.{Holds-longer, Holds-shorter, IsWellSynchronized-shorter, ReadsLazily-shorter}
 use Rattle.lrc_exec.specs.Meaning.{Thread, Next, next_of}
 use Rattle.lrc_exec.specs.Plain.{Plain, start_of}
@@ -19,7 +18,7 @@ use Rattle.lrc_exec.proofs.NextLaws.{IsFine, Stays}
 use Rattle.lrc_consistency_laws.specs.Follows.{Goes, quietly, printing, reading, writing, acquiring, releasing, arriving, departing}
 use Rattle.lrc_consistency_laws.specs.Follows.{trapping, ending, Makes, nothing_more, and_then, deeds_of, FollowsText}
 use Rattle.lrc_consistency_laws.specs.InOrder.{value_after_all}
-use Rattle.lrc_consistency_laws.proofs.Matching.{Matches, ThreadFits, IsPaired}
+use Rattle.lrc_consistency_laws.proofs.Matching.{Matches, IsPaired}
 use Rattle.lrc_consistency_laws.proofs.Runs.{SoundAt, deeds_of-other}
 use Rattle.lrc_consistency_laws.proofs.UpToRace.{in_range}
 use Rattle.lrc_lazy.specs.Lazy.{IsLazyRun}

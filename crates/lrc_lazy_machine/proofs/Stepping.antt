@@ -1,39 +1,38 @@
 -- A lazy run goes on with what the machine can make, and the machine can make what it goes on with.
-use Rattle.std.proofs.Common.{◌≡◌, ℕ, ◌+◌, ◌-◌, ◌<◌, ◌≤◌, true, false, List, map, [], ◌∷◌, ◌++◌, length, inl, inr, refl, sym, subst, ◌∙◌, ap, arith}
+use Rattle.std.proofs.Common.{◌≡◌, ℕ, ◌+◌, ◌-◌, ◌<◌, ◌≤◌, true, false, List, [], ◌∷◌, ◌++◌, length, inl, inr, refl, sym, subst, ◌∙◌, ap, arith}
 use Rattle.std.specs.Prelude.{Option, Some, None, slice_index, slice_set}
 use Rattle.std.proofs.lemmas.Bool.{cases_eq}
 use Rattle.std.proofs.lemmas.List.{get_or-set_same, length-map, length-set, length_push}
 use Rattle.lrc_lang.specs.declared.program.Program.{Program}
 use Rattle.lrc_trace.specs.declared.act.Act.{Act}
 use Rattle.lrc_trace.specs.declared.act.Deed.{Deed}
-use Rattle.lrc_trace.specs.declared.act.Deed.TheVariants.{Quiet, Print, Read, Write, Acquire, Release, Arrive, Depart, Trap, End}
-use Rattle.lrc_trace.specs.Run.{Does, act_of, arrives_before, departs_before, is_arrive, is_depart}
+use Rattle.lrc_trace.specs.declared.act.Deed.TheVariants.{Read}
+use Rattle.lrc_trace.specs.Run.{act_of, arrives_before, departs_before, is_arrive, is_depart}
 use Rattle.lrc_trace.specs.Reading.{MayRead}
 use Rattle.lrc_trace.specs.Synchronization.{MayGoOn}
-use Rattle.lrc_trace.proofs.Positions.{Does-within, Does-longer, Does-last, Does-cases, Does-deed, arrives_before-prefix, departs_before-prefix}
+use Rattle.lrc_trace.proofs.Positions.{Does-last, Does-cases, arrives_before-prefix, departs_before-prefix}
 use Rattle.lrc_trace.proofs.Intervals.{count_of-rises}
 use Rattle.lrc_trace.proofs.Prefixes.{IsWellSynchronized-more, MayGoOn-last, ReadsLazily-more, MayRead-last}
-use Rattle.lrc_exec.specs.Meaning.{Thread, Next, next_of}
-use Rattle.lrc_exec.specs.Plain.{Plain, thread_in, plain_step, start_of, with_thread}
-use Rattle.lrc_exec.proofs.NextLaws.{IsFine, Stays, next_of-fine}
+use Rattle.lrc_exec.specs.Meaning.{Thread, next_of}
+use Rattle.lrc_exec.specs.Plain.{Plain, thread_in, plain_step, start_of}
+use Rattle.lrc_exec.proofs.NextLaws.{IsFine, next_of-fine}
 use Rattle.lrc_exec.proofs.PlainParts.{thread_within}
-use Rattle.lrc_consistency_laws.specs.Follows.{Goes, Makes, deeds_of, FollowsText}
+use Rattle.lrc_consistency_laws.specs.Follows.{Goes, Makes, deeds_of}
 use Rattle.lrc_consistency_laws.proofs.Matching.{Matches, IsPaired, arrives-same, departs-same}
 use Rattle.lrc_consistency_laws.proofs.Step.{IsNoLock, step, passes_on}
-use Rattle.lrc_consistency_laws.proofs.Runs.{CanDo, SoundAt, can_do, is_sound}
+use Rattle.lrc_consistency_laws.proofs.Runs.{CanDo, can_do, is_sound}
 use Rattle.lrc_consistency_laws.proofs.UpToRace.{in_range}
-use Rattle.lrc_explore.proofs.Effects.{after_of, goes_on, memory_after, holders_after, length-memory, length-holders, length-arrivals}
-use Rattle.lrc_settled.proofs.Parts.{Stepped, stepped, can_step}
+use Rattle.lrc_explore.proofs.Effects.{after_of, goes_on, memory_after, length-memory, length-holders, length-arrivals}
+use Rattle.lrc_settled.proofs.Parts.{stepped, can_step}
 use Rattle.lrc_lazy.specs.Lazy.{IsLazyRun, IsOver}
 use Rattle.lrc_lazy.proofs.Onward.{deeds_more-own, free_read}
 use Rattle.lrc_lazy.proofs.Plainly.{over_stops, stops_over}
 use Rattle.lrc_known.specs.declared.known.Knowledge.{Knowledge}
-use Rattle.lrc_known.specs.Word.{Gives}
-use Rattle.lrc_known.specs.Effect.{effect_of, word_of, IsKnowledgeAfter, IsKnowledgeOf, AreCounts, AreOf}
+use Rattle.lrc_known.specs.Effect.{word_of, IsKnowledgeAfter, AreCounts, AreOf}
 use Rattle.lrc_known.proofs.Stepping.{knowledge_on}
 use Rattle.lrc_known.proofs.Giving.{gives_read}
 use Rattle.lrc_lazy_machine.specs.Standing.{advanced, with_memory, Comes, Stands, effect_at, MayGive, CanMake}
-use Rattle.lrc_lazy_machine.proofs.Coming.{comes_makes, comes_more, GoesFrom, comes_goes, deeds_same, follows_more, matches_longer}
+use Rattle.lrc_lazy_machine.proofs.Coming.{comes_makes, comes_more, comes_goes, deeds_same, follows_more, matches_longer}
 use Rattle.lrc_lazy_machine.proofs.Coming.{read_stays, acquire_below, release_below, depart_waits, stops_then, may_go, sound_of}
 use Rattle.lrc_lazy_machine.proofs.Advancing.{can_moved, can_back, after_moved}
 use Rattle.lrc_lazy_machine.proofs.Renewing.{arrived}
