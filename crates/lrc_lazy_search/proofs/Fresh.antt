@@ -1,5 +1,5 @@
 -- A state without more barriers that are gone.
-use Rattle.std.proofs.Common.{◌≡◌, ℕ, zero, suc, ◌+◌, ◌-◌, ◌<◌, ◌≤◌, List, [], ◌∷◌, length, map, true, refl, sym, subst, ◌∙◌, ap, arith}
+use Rattle.std.proofs.Common.{◌≡◌, ℕ, suc, ◌+◌, ◌-◌, ◌<◌, ◌≤◌, List, [], ◌∷◌, length, map, true, refl, sym, subst, ◌∙◌, ap, arith}
 use Rattle.std.specs.Prelude.{All, Option, slice_index}
 use Rattle.std.proofs.lemmas.List.{length-map}
 use Rattle.lrc_exec.specs.declared.spot.Flat.{Flat}
@@ -7,7 +7,6 @@ use Rattle.lrc_exec.specs.declared.spot.Spot.{Spot}
 use Rattle.lrc_exec.specs.Spots.{spot_stopped, spot_thread}
 use Rattle.lrc_exec.specs.Plain.{Plain}
 use Rattle.lrc_exec.specs.States.{plain_at, IsStateOf}
-use Rattle.lrc_known.specs.declared.known.Knowledge.{Knowledge}
 use Rattle.lrc_known.specs.Effect.{word_of, IsKnowledgeWithout}
 use Rattle.lrc_known.proofs.Dropping.{without_none}
 use Rattle.lrc_lazy_machine.specs.Standing.{advanced, departures_of}

@@ -18,7 +18,8 @@ use std::alloc::{AllocError, Global};
 const LONGEST: usize = 64;
 
 /// A state of the search: where the nodes are, what they know of the writes, and what was noted on the way. The words
-/// of the state are all 0: what a node knows says what a read gives.
+/// of the state are all 0: what a node knows says what a read gives. It counts no barriers that all nodes had left when
+/// it was renewed.
 #[derive(PartialEq, Eq, Hash, Drop)]
 pub struct LazyState {
     pub state: State,

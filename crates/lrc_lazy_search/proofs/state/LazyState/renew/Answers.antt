@@ -1,4 +1,4 @@
-use Rattle.std.proofs.Common.{◌≡◌, ◌∙◌, ◌-◌, List, ℕ, ap, map, refl}
+use Rattle.std.proofs.Common.{◌∙◌, ◌-◌, List, ℕ, ap, map, refl}
 use Rattle.lrc_lazy_search.specs.declared.state.LazyState.{LazyState}
 use Rattle.lrc_lazy_search.proofs.Fresh.{fresh_after, fresh_itself}
 use Rattle.lrc_lazy_search.proofs.state.LazyState.renew.Goals as goal
