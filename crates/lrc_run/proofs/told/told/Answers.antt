@@ -3,6 +3,7 @@ use Rattle.std.specs.Prelude.{All, MatchOption}
 use Rattle.lrc_judge.specs.Races.{AreNamedRaces}
 use Rattle.lrc_trace.specs.Conflict.{IsFirstRace, IsRaceFree}
 use Rattle.lrc_world.specs.Ends.{ends_of}
+use Rattle.lrc_node.specs.Options.{options_of}
 use Rattle.lrc_run.specs.Run.{IsUntold, IsWovenReport}
 use Rattle.lrc_run.proofs.Telling.{acts_told, left_over, over_told, raceless_told, races_told, report_told, run_told, traces_told}
 use Rattle.lrc_run.proofs.Telling.{weave_told, woven_told}
@@ -12,7 +13,7 @@ use Rattle.lrc_run.proofs.told.told.Goals as goal
 
 pub findings_of-requires : goal.findings_of-requires
 findings_of-requires c =
-    let s = c.args.setting.now in
+    let s = record { program = c.args.program; nodes = c.args.setting.now.nodes.count; options = options_of c.args.setting.now } in
     let parts = c.args.parts.now in
     let run = c.in_ok-run.run' in
     let logs = map (λ log. log.items) parts.logs.items in
@@ -23,7 +24,7 @@ findings_of-requires c =
     let its = traces ∙ c.requires.whole.traces_are in
     record {
       acts = subst (All (λ act. act.node < 16)) (sym acts)
-          (acts_told s.program.now s.nodes s.options logs run.events.items run.acts.items run.in_flight m c.requires.few);
+          (acts_told s.program.now s.nodes s.options logs run.events.items run.acts.items run.in_flight m c.args.setting.now.nodes.few);
       traces = traces_told s.program.now s.nodes s.options logs run.events.items run.acts.items run.in_flight m c.as_slice-2.result.now its;
       raceless = λ none. subst IsRaceFree (sym acts)
           (raceless_told s.program.now s.nodes s.options logs run.events.items run.acts.items run.in_flight m c.as_slice-2.result.now its none);
@@ -31,7 +32,7 @@ findings_of-requires c =
 
 pub returns-then-parts-clause-mismatch : goal.returns-then-parts-clause-mismatch
 returns-then-parts-clause-mismatch c = λ answered.
-    let s = c.args.setting.now in
+    let s = record { program = c.args.program; nodes = c.args.setting.now.nodes.count; options = options_of c.args.setting.now } in
     let parts = c.args.parts.now in
     let run = c.in_ok-run.run' in
     let logs = map (λ log. log.items) parts.logs.items in
@@ -54,7 +55,7 @@ returns-then-parts-clause-mismatch c = λ answered.
 
 pub returns-clause-told : goal.returns-clause-told
 returns-clause-told c =
-    let s = c.args.setting.now in
+    let s = record { program = c.args.program; nodes = c.args.setting.now.nodes.count; options = options_of c.args.setting.now } in
     let parts = c.args.parts.now in
     let run = c.in_ok-run.run' in
     let found = c.in_ok-found.found in
