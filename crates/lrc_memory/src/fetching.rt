@@ -31,7 +31,8 @@ impl Memory {
     pub fn changes_of(&mut self, page: u16, index: u32) -> Result<Changes, AllocError>
         requires { page < length self.old.memory.copies }
         ensures changes { IfOk result (λ changes. changes
-            ≡ changes_or_none self.old.memory.store (record { node = self.old.me; index = index; page = page })) }
+            ≡ changes_or_none self.old.memory.store
+            (record { node = self.old.me; index = index; page = page })) }
         ensures ok { OnOk result (self.new ≡ self.old) }
         ensures same { SameMemory self.old self.new }
     {

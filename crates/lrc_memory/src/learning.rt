@@ -108,7 +108,8 @@ impl Memory {
     /// Returns whether this node's interval with the given index is stored and names the page.
     pub fn has_notice(&self, node: u8, index: u32, page: u16) -> bool
         ensures { result
-            ≡ is_some (notice_at self.now.memory.store (record { node = node; index = index; page = page })) }
+            ≡ is_some (notice_at self.now.memory.store
+            (record { node = node; index = index; page = page })) }
     {
         self.store.has_notice(Key { node, index, page })
     }

@@ -79,8 +79,8 @@ impl Memory {
         requires few_nodes { nodes ≤ 16 }
         requires some { 1 ≤ words }
         requires few { words ≤ MOST_WORDS }
-        ensures { IfOk result (λ memory. memory
-            ≡ record { me = me; size = size; memory = fresh_memory nodes (pages_of words size) size }) }
+        ensures { IfOk result (λ memory. memory ≡
+            record { me = me; size = size; memory = fresh_memory nodes (pages_of words size) size }) }
     {
         let pages = pages_of(words, size);
         let count = usize::from(pages);

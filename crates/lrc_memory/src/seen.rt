@@ -68,7 +68,8 @@ impl Memory {
     ) -> Result<Option<Changes>, AllocError>
         requires { page < length self.now.memory.copies }
         ensures { IfOk result (λ changes. changes
-            ≡ changes_at self.now.memory.store (record { node = node; index = index; page = page })) }
+            ≡ changes_at self.now.memory.store
+            (record { node = node; index = index; page = page })) }
     {
         let key = Key { node, index, page };
         let unmade = unmade(&self.table, self.me, &self.notes, key)?;

@@ -32,7 +32,9 @@ pub(crate) fn settle_page(
     ensures table { OnOk result (table.new ≡ with_copy table.old page
         (settled (copy_at table.old page))) }
     ensures store { OnOk result (store.new
-        ≡ settled_store store.old (record { node = me; index = slice_index (named_of notes.now) page; page = page }) (pending_changes (copy_at table.old page))) }
+        ≡ settled_store store.old
+        (record { node = me; index = slice_index (named_of notes.now) page; page = page })
+        (pending_changes (copy_at table.old page))) }
     ensures err_table { OnErr result (table.new ≡ table.old) }
     ensures err_store { OnErr result (store.new ≡ store.old) }
     ensures sized { ForSome (pending_changes (copy_at table.old page))

@@ -16,6 +16,7 @@ use Rattle.lrc_judge.specs.Adding.{Adds}
 use Rattle.lrc_race.specs.Places.{IsPlace}
 use Rattle.lrc_race.specs.Races.{AreConflicting, AreUnordered, IsRaceOf, race_named}
 use Rattle.lrc_race.specs.Pairs.{AreWithin, IsLane, AreLanes, IsRaceOfPlaces, IsRaceOfLists, IsRaceOfLanes, IsRaceOfTraces}
+use Rattle.lrc_race.specs.Comparable.{AreListed}
 use Rattle.lrc_judge.proofs.Additions.{adds-same, adds-iff, adds-both, IsBelow}
 use Rattle.lrc_race.proofs.Same.{some_same}
 use Rattle.lrc_race.proofs.Stretches.{at_contains, contains_at}
@@ -72,11 +73,17 @@ places-within trace is_write places are k d within =
     let (s, is, touched) = are place (Contains-get_or places k d within) in
     slice_get_within trace.segments place.segment s is
 
-pub writes-within : (trace : TraceRecord) (lane : Lane) → IsLane trace lane → AreWithin trace lane.writes.items
-writes-within trace lane of = places-within trace true lane.writes.items (λ p there. (of.writes.exact p).0 there)
+pub writes-listed : (trace : TraceRecord) (lane : Lane) → IsLane trace lane → AreListed trace lane.writes.items
+writes-listed trace lane of = record {
+  within = places-within trace true lane.writes.items (λ p there. (of.writes.exact p).0 there);
+  in_order = of.writes.sorted;
+}
 
-pub reads-within : (trace : TraceRecord) (lane : Lane) → IsLane trace lane → AreWithin trace lane.reads.items
-reads-within trace lane of = places-within trace false lane.reads.items of.reads_sound
+pub reads-listed : (trace : TraceRecord) (lane : Lane) → IsLane trace lane → AreListed trace lane.reads.items
+reads-listed trace lane of = record {
+  within = places-within trace false lane.reads.items of.reads_sound;
+  in_order = of.reads_sorted;
+}
 
 -- ---- two traces
 

@@ -12,7 +12,8 @@ use Rattle.lrc_trace.specs.Trace.{TraceRecord}
 use Rattle.lrc_race.specs.declared.places.TouchedPlace.{TouchedPlace}
 use Rattle.lrc_judge.specs.Adding.{Adds}
 use Rattle.lrc_race.specs.Places.{AreInOrder, IsPartOf}
-use Rattle.lrc_race.specs.Pairs.{AreWithin, IsRaceOfLists}
+use Rattle.lrc_race.specs.Pairs.{IsRaceOfLists}
+use Rattle.lrc_race.specs.Comparable.{AreListed}
 use Rattle.lrc_judge.proofs.Additions.{adds-iff}
 
 -- ---- the front and the rest of a list
@@ -106,11 +107,14 @@ part-part places rest part P Q R both first second = record {
   cover = λ p there meant. second.cover p (first.cover p there (both p meant).0) (both p meant).1;
 }
 
-pub part-within : (trace : TraceRecord) (places part : List TouchedPlace) (P : TouchedPlace → Type 0) → AreWithin trace places
-    → IsPartOf places part P → AreWithin trace part
-part-within trace places part P within is k d less =
-    All-contains (λ p. p.segment < length trace.segments) places (get_or part k d) within
-    (is.sound (get_or part k d) (Contains-get_or part k d less))
+pub part-listed : (trace : TraceRecord) (places part : List TouchedPlace) (P : TouchedPlace → Type 0) → AreListed trace places
+    → IsPartOf places part P → AreListed trace part
+part-listed trace places part P listed is = record {
+  within = λ k d less.
+      All-contains (λ p. p.segment < length trace.segments) places (get_or part k d) listed.within
+      (is.sound (get_or part k d) (Contains-get_or part k d less));
+  in_order = is.sorted;
+}
 
 -- of a word that the list has
 abbrev pub IsOfWord : List TouchedPlace → TouchedPlace → Type 0

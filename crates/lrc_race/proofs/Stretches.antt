@@ -10,6 +10,7 @@ use Rattle.lrc_judge.specs.Adding.{Adds, IsOfSome}
 use Rattle.lrc_race.specs.Places.{IsBefore, AreInOrder}
 use Rattle.lrc_race.specs.Races.{RisesAlong, race_named}
 use Rattle.lrc_race.specs.Pairs.{AreWithin, IsBehind, IsRaceOfPlaces, IsRaceAt, IsRaceFrom}
+use Rattle.lrc_race.specs.Comparable.{AreListed}
 use Rattle.lrc_judge.proofs.Additions.{adds-same, adds-push, adds-iff, below-more, IsBelow}
 use Rattle.lrc_race.proofs.Same.{some_same}
 
@@ -146,11 +147,11 @@ within_at b ys within k y is =
 
 -- what stands after a place that is ahead does not race
 pub ahead-rest : (rise : Bool) (a : TraceRecord) (x : TouchedPlace) (b : TraceRecord) (ys : List TouchedPlace) → (IsTrue rise → RisesAlong b)
-    → AreInOrder ys → AreWithin b ys → (k : ℕ) (y : TouchedPlace) → slice_get ys k ≡ Some y → IsBehind rise b y a x
+    → AreListed b ys → (k : ℕ) (y : TouchedPlace) → slice_get ys k ≡ Some y → IsBehind rise b y a x
     → (j : ℕ) (z : TouchedPlace) (race : Race) → k ≤ j → slice_get ys j ≡ Some z → ¬ IsRaceOfPlaces a x b z race
-ahead-rest rise a x b ys rises sorted within k y y_is ahead j z race late z_is =
+ahead-rest rise a x b ys rises listed k y y_is ahead j z race late z_is =
     ahead-no_race rise a x b z race
-    (behind-later rise b y z a x rises (order_at ys sorted k j y z late y_is z_is) (within_at b ys within j z z_is) ahead)
+    (behind-later rise b y z a x rises (order_at ys listed.in_order k j y z late y_is z_is) (within_at b ys listed.within j z z_is) ahead)
 
 -- the races from a number on are all, where those before are behind
 pub from-all : (rise : Bool) (a : TraceRecord) (x : TouchedPlace) (b : TraceRecord) (ys : List TouchedPlace) (start : ℕ) (rs qs : List Race)

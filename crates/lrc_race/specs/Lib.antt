@@ -3,3 +3,4 @@ pub mod Races
 pub mod Pairs
 pub mod Epochs
 pub mod OfRun
+pub mod Comparable

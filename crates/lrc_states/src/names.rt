@@ -26,7 +26,8 @@ pub(crate) fn names_set<'t>(
 // Keeps a name with its value, if that is not 0.
 fn keep_set<'t>(set: &mut Vec<NamedValue<'t>>, name: &'t [u8], value: u64) -> Result<(), AllocError>
     ensures { OnOk result (map named_seen set.new.items
-        ≡ map named_seen set.old.items ++ filter is_set (record { name = name.entry.now; value = value } ∷ [])) }
+        ≡ map named_seen set.old.items
+        ++ filter is_set (record { name = name.entry.now; value = value } ∷ [])) }
 {
     if value != 0 {
         set.push(NamedValue { name, value })?;

@@ -2,6 +2,7 @@ pub mod Arena
 pub mod Chains
 pub mod Interval
 pub mod Linked
+pub mod Linking
 pub mod Links
 pub mod Lists
 pub mod Nodes

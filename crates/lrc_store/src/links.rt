@@ -1,12 +1,13 @@
 // What links the intervals and the notices of a store.
 
-ghost use Rattle.std.specs.Prelude.{◌≡◌, ◌<◌, ◌≤◌, ◌+◌, ℕ, All, AllPairs, IfOk, IsTrue, OnOk, [], ◌∷◌, ◌++◌, filter, flat_map, length, map, position};
+ghost use Rattle.std.specs.Prelude.{◌≡◌, ◌<◌, ◌≤◌, ◌+◌, ℕ, All, AllPairs, IfOk, IsTrue, OnOk, ◌++◌, filter, flat_map, length, map, position};
 ghost use Rattle.lrc_time.specs.Time.{knows};
 ghost use Rattle.lrc_store.specs.Interval.{index_of};
 ghost use Rattle.lrc_store.specs.Lists.{keys_of, knows_notice, places_from};
 ghost use Rattle.lrc_store.specs.Nodes.{AreStarts};
-ghost use Rattle.lrc_store.specs.Rows.{HasNoGaps, HasRoom};
-ghost use Rattle.lrc_store.specs.Links.{page_named, ranked_pages, is_newer_of, is_unknown_on};
+ghost use Rattle.lrc_store.specs.Rows.{HasNoGaps};
+ghost use Rattle.lrc_store.specs.Linking.{AreLinked, AreNoLinks, AreSameLinks, HaveRoomFor};
+ghost use Rattle.lrc_store.specs.Links.{page_named, is_newer_of, is_unknown_on};
 ghost use Rattle.lrc_store.specs.Store.{interval_of, is_at};
 
 use crate::arena::Arena;
@@ -30,11 +31,7 @@ pub(crate) struct Links {
 impl Links {
     /// Returns no links, for the given numbers of nodes and pages. It fails if memory runs out.
     pub(crate) fn new(alloc: Global, nodes: usize, pages: usize) -> Result<Self, AllocError>
-        ensures node_lists { IfOk result (λ links. links.by_node.lists ≡ nodes) }
-        ensures node_keys { IfOk result (λ links. links.by_node.keys ≡ []) }
-        ensures node_starts { IfOk result (λ links. links.by_node.starts ≡ []) }
-        ensures page_lists { IfOk result (λ links. links.by_page.lists ≡ pages) }
-        ensures page_keys { IfOk result (λ links. links.by_page.keys ≡ []) }
+        ensures { IfOk result (λ links. AreNoLinks nodes pages links) }
     {
         Ok(Links {
             by_node: Nodes::new(alloc, nodes)?,
@@ -46,17 +43,8 @@ impl Links {
     /// there would be more than `MOST_ENTRIES` intervals or notices. Then no link changes.
     pub(crate) fn make_room(&mut self, node: u16, more: usize) -> Result<(), AllocError>
         requires { node < self.old.by_node.lists }
-        ensures node_keys { self.new.by_node.keys ≡ self.old.by_node.keys }
-        ensures node_lists { self.new.by_node.lists ≡ self.old.by_node.lists }
-        ensures node_starts { self.new.by_node.starts ≡ self.old.by_node.starts }
-        ensures page_keys { self.new.by_page.keys ≡ self.old.by_page.keys }
-        ensures page_lists { self.new.by_page.lists ≡ self.old.by_page.lists }
-        ensures node_room { OnOk result (length self.old.by_node.keys < self.new.by_node.room) }
-        ensures node_few { OnOk result (length self.old.by_node.keys < MOST_ENTRIES) }
-        ensures node_row { OnOk result (HasRoom self.new.by_node.rows self.old.by_node.keys node) }
-        ensures page_room { OnOk result (length self.old.by_page.keys + more
-            ≤ self.new.by_page.room) }
-        ensures page_few { OnOk result (length self.old.by_page.keys + more ≤ MOST_ENTRIES) }
+        ensures same { AreSameLinks self.old self.new }
+        ensures room { OnOk result (HaveRoomFor node more self.new) }
     {
         self.by_node.reserve(node)?;
         self.by_page.reserve(more)
@@ -65,19 +53,9 @@ impl Links {
     /// Links an interval of the node, and its notices of the given pages. There is room for both.
     pub(crate) fn push(&mut self, node: u16, pages: &[u16])
         requires node_in_range { node < self.old.by_node.lists }
-        requires node_room { length self.old.by_node.keys < self.old.by_node.room }
-        requires node_few { length self.old.by_node.keys < MOST_ENTRIES }
-        requires node_row { HasRoom self.old.by_node.rows self.old.by_node.keys node }
         requires pages_in_range { All (λ page. page < self.old.by_page.lists) pages.now }
-        requires page_room { length self.old.by_page.keys + length pages.now
-            ≤ self.old.by_page.room }
-        requires page_few { length self.old.by_page.keys + length pages.now ≤ MOST_ENTRIES }
-        ensures node_keys { self.new.by_node.keys ≡ self.old.by_node.keys ++ node ∷ [] }
-        ensures node_lists { self.new.by_node.lists ≡ self.old.by_node.lists }
-        ensures node_starts { self.new.by_node.starts ≡ self.old.by_node.starts
-            ++ length self.old.by_page.keys ∷ [] }
-        ensures page_keys { self.new.by_page.keys ≡ self.old.by_page.keys ++ pages.now }
-        ensures page_lists { self.new.by_page.lists ≡ self.old.by_page.lists }
+        requires room { HaveRoomFor node (length pages.now) self.old }
+        ensures { AreLinked node pages.now self.old self.new }
     {
         let start = self.by_page.len() as u32;
         self.by_node.push(node, start);

@@ -205,7 +205,8 @@ fn put_barrier(
 ) -> Result<(), AllocError>
     requires { length tables.now < 256 }
     ensures { OnOk result (out.new.items ≡ out.old.items
-        ++ barrier_by (map (λ t. t.items) tables.now) i (record { at = at; statement = statement_of statement.now })) }
+        ++ barrier_by (map (λ t. t.items) tables.now) i
+        (record { at = at; statement = statement_of statement.now })) }
 {
     if !is_barrier(statement) {
         return Ok(());

@@ -88,7 +88,8 @@ pub fn a_comparison_with_zero_says_nothing()
 /// If a warning says that a lock is held already, each node that reaches the place holds it, and traps.
 pub fn a_lock_that_is_held_already_is_held()
     ensures { (program : Program) (tokens : List Token) (at lock : ℕ)
-        → Contains (held_already program.locks (statements_of_text program tokens) (paths_of_text program))
+        → Contains (held_already program.locks (statements_of_text program tokens)
+        (paths_of_text program))
         (record { at = at; kind = HeldAlready lock })
         → (nodes : ℕ)
         → ((acts : List Act) (node : ℕ) → IsAt (walk_to program tokens nodes acts node) at
@@ -99,7 +100,8 @@ pub fn a_lock_that_is_held_already_is_held()
 /// If a warning says that a lock is not held, no node that reaches the place holds it, and each traps.
 pub fn a_lock_that_is_not_held_is_not_held()
     ensures { (program : Program) (tokens : List Token) (at lock : ℕ)
-        → Contains (not_held program.locks (statements_of_text program tokens) (paths_of_text program))
+        → Contains (not_held program.locks (statements_of_text program tokens)
+        (paths_of_text program))
         (record { at = at; kind = NotHeld lock })
         → (nodes : ℕ)
         → ((acts : List Act) (node : ℕ) → IsAt (walk_to program tokens nodes acts node) at
@@ -110,7 +112,8 @@ pub fn a_lock_that_is_not_held_is_not_held()
 /// If a warning says that a lock is held at a barrier, each node that reaches the barrier holds it.
 pub fn a_lock_that_is_held_at_a_barrier_is_held()
     ensures { (program : Program) (tokens : List Token) (at lock : ℕ)
-        → Contains (held_at_barrier program.locks (statements_of_text program tokens) (paths_of_text program))
+        → Contains (held_at_barrier program.locks (statements_of_text program tokens)
+        (paths_of_text program))
         (record { at = at; kind = HeldAtBarrier lock })
         → (nodes : ℕ) (acts : List Act) (node : ℕ)
         → IsAt (walk_to program tokens nodes acts node) at

@@ -136,7 +136,8 @@ pub fn runs_trap_at_a_division_by_the_constant_zero()
 /// If a warning says that a lock is held already, in every run a node that reaches this acquire traps.
 pub fn runs_trap_at_an_acquire_of_a_lock_that_is_held_already()
     ensures { (program : Program) (tokens : List Token) (at lock : ℕ)
-        → Contains (held_already program.locks (statements_of_text program tokens) (paths_of_text program))
+        → Contains (held_already program.locks (statements_of_text program tokens)
+        (paths_of_text program))
         (record { at = at; kind = HeldAlready lock })
         → TrapsInRuns program tokens at (λ walk. causes.LockHeld) }
 {}
@@ -144,7 +145,8 @@ pub fn runs_trap_at_an_acquire_of_a_lock_that_is_held_already()
 /// If a warning says that a lock is not held, in every run a node that reaches this release traps.
 pub fn runs_trap_at_a_release_of_a_lock_that_is_not_held()
     ensures { (program : Program) (tokens : List Token) (at lock : ℕ)
-        → Contains (not_held program.locks (statements_of_text program tokens) (paths_of_text program))
+        → Contains (not_held program.locks (statements_of_text program tokens)
+        (paths_of_text program))
         (record { at = at; kind = NotHeld lock })
         → TrapsInRuns program tokens at (λ walk. causes.LockNotHeld) }
 {}

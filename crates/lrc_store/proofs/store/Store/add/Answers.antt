@@ -44,13 +44,13 @@ linked c =
     c.self.inside.arena.notices c.push.new.self.notices interval (length room.by_page.keys) c.self.invariant c.index.ensures.interval
     (rw is at c.requires.stamp) (rw is at c.requires.pages) (rw is at c.requires.next)
     (c.push-2.ensures.node_keys ∙ ap (λ n. room.by_node.keys ++ n ∷ []) node
-    ∙ ap (λ (l : List ℕ). l ++ interval.node ∷ []) c.make_room.ensures.node_keys)
-    (c.push-2.ensures.node_lists ∙ c.make_room.ensures.node_lists)
-    (c.push-2.ensures.node_starts ∙ ap (λ (l : List ℕ). l ++ length room.by_page.keys ∷ []) c.make_room.ensures.node_starts)
-    (ap length c.make_room.ensures.page_keys)
+    ∙ ap (λ (l : List ℕ). l ++ interval.node ∷ []) c.make_room.ensures.same.node_keys)
+    (c.push-2.ensures.node_lists ∙ c.make_room.ensures.same.node_lists)
+    (c.push-2.ensures.node_starts ∙ ap (λ (l : List ℕ). l ++ length room.by_page.keys ∷ []) c.make_room.ensures.same.node_starts)
+    (ap length c.make_room.ensures.same.page_keys)
     (c.push-2.ensures.page_keys ∙ ap (λ (l : List ℕ). room.by_page.keys ++ l) pages
-    ∙ ap (λ (l : List ℕ). l ++ interval.pages) c.make_room.ensures.page_keys)
-    (c.push-2.ensures.page_lists ∙ c.make_room.ensures.page_lists)
+    ∙ ap (λ (l : List ℕ). l ++ interval.pages) c.make_room.ensures.same.page_keys)
+    (c.push-2.ensures.page_lists ∙ c.make_room.ensures.same.page_lists)
     c.in_ok-push.ensures.notices)
 
 pub invariant_of-self-2 : goal.invariant_of-self-2
@@ -63,19 +63,19 @@ returns-clause-sound c = (linked (goal.at.returns-clause-sound c).After-raise).s
 
 pub invariant_of-self : goal.invariant_of-self
 invariant_of-self c =
-    let room = c.make_room.ensures in
+    let same = c.make_room.ensures.same in
     IsLinkedUp-same c.self.inside.links.by_node c.make_room.new.self.by_node c.self.inside.links.by_page c.make_room.new.self.by_page
     c.self.inside.arena.notices (record { pages = c.self.inside.pages; last = c.self.inside.last; entries = c.self.inside.arena.entries })
-    c.self.invariant room.node_keys room.node_lists room.node_starts room.page_keys room.page_lists
+    c.self.invariant same.node_keys same.node_lists same.node_starts same.page_keys same.page_lists
 
 pub invariant_of-self-in_err-push : goal.invariant_of-self-in_err-push
 invariant_of-self-in_err-push c =
-    let room = c.make_room.ensures in
+    let same = c.make_room.ensures.same in
     subst (λ (a : ArenaRecord). IsLinkedUp (record { pages = c.self.inside.pages; last = c.self.inside.last; entries = a.entries })
     c.make_room.new.self.by_node c.make_room.new.self.by_page a.notices) (sym c.in_err-push.ensures.err)
     (IsLinkedUp-same c.self.inside.links.by_node c.make_room.new.self.by_node c.self.inside.links.by_page c.make_room.new.self.by_page
     c.self.inside.arena.notices (record { pages = c.self.inside.pages; last = c.self.inside.last; entries = c.self.inside.arena.entries })
-    c.self.invariant room.node_keys room.node_lists room.node_starts room.page_keys room.page_lists)
+    c.self.invariant same.node_keys same.node_lists same.node_starts same.page_keys same.page_lists)
 
 pub returns-clause-ok : goal.returns-clause-ok
 returns-clause-ok c =

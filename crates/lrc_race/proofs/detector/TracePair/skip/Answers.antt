@@ -5,7 +5,7 @@ use Rattle.std.proofs.lemmas.Bool.{cases_eq}
 use Rattle.std.proofs.lemmas.Option.{get_or_from_slice_get}
 use Rattle.lrc_race.specs.declared.places.TouchedPlace.{TouchedPlace}
 use Rattle.lrc_race.specs.Pairs.{IsBehind}
-use Rattle.lrc_race.proofs.detector.skip.Goals as goal
+use Rattle.lrc_race.proofs.detector.TracePair.skip.Goals as goal
 
 one_more : (P : TouchedPlace → Type 0) (ys : List TouchedPlace) (from n : ℕ) (d : TouchedPlace)
     → ((k : ℕ) (y : TouchedPlace) → from ≤ k → k < n → slice_get ys k ≡ Some y → P y) → P (get_or ys n d)
@@ -22,6 +22,6 @@ loop-start-init c = record { within = c.requires.within; behind = λ k y low hig
 pub loop-start-preserved : goal.loop-start-preserved
 loop-start-preserved c = record {
   within = omega arith;
-  behind = one_more (IsBehind c.args.rise c.args.a.now c.args.x c.args.b.now) c.args.ys.now c.args.from c.loop-start.start _
+  behind = one_more (IsBehind c.args.self.now.rise c.args.self.now.a.now c.args.x c.args.self.now.b.now) c.args.ys.now c.args.from c.loop-start.start _
       c.loop-start.invariant.behind (c.if-is_behind.ensures refl);
 }
