@@ -6,7 +6,7 @@ use Rattle.std.proofs.lemmas.List.{length-map}
 use Rattle.std.proofs.lemmas.Option.{get_or_from_slice_get, slice_get_within}
 use Rattle.lrc_post.specs.declared.parcel.Wire.{Wire}
 use Rattle.lrc_post.specs.Mailbox.{MailboxRecord}
-use Rattle.lrc_protocol.specs.Run.{Input, EntryRecord, Flying}
+use Rattle.lrc_protocol.specs.Run.{EntryRecord, Flying}
 use Rattle.lrc_weave.specs.Logs.{sent_to}
 use Rattle.lrc_weave.specs.Matched.{message_of, puts_by, takes_in, Takes, AreAlike, AreMatched}
 use Rattle.lrc_weave.specs.Compared.{is_by_node, AreByNodes, AreOwn, AreAllOwn, AreSent, line_at, puts_by_each, taken_in, IsLeft}

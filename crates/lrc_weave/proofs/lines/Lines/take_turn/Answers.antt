@@ -1,4 +1,4 @@
-use Rattle.std.proofs.Common.{◌≡◌, rules}
+use Rattle.std.proofs.Common.{rules}
 use Rattle.lrc_weave.specs.Compared.{messages_left}
 use Rattle.lrc_weave.proofs.Lining.{turn_more, turn_not}
 use Rattle.lrc_weave.proofs.lines.Lines.take_turn.Goals as goal
