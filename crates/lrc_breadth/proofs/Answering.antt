@@ -24,25 +24,25 @@ use Rattle.lrc_breadth.proofs.Reaching.{gets_stuck, never_stuck, no_race}
 pub race_answer : (task : Task) (found : Found) (place p q : ℕ) (acts : List Act) (order : List ℕ) → LeadTo task found place acts
     → IsEnd task found (Meeting place p q) → order ≡ nodes_of_acts acts ++ p ∷ q ∷ [] → EndsInRace task.program.now task.flat.nodes order
 race_answer task found place p q acts order led end is =
-    let same = copy_same task.flat end.0.state led.key.state (row_copy found.states place end.0 led.key end.1 led.there).state in
+    let same = copy_same task.flat end.0.state led.key.state (row_copy found.table.rows place end.0 led.key end.1 led.there).state in
     let meet = meet_like (like_back led.alike) p q (subst (λ m. Meet m p q) same end.2) in
     subst (EndsInRace task.program.now task.flat.nodes) (sym is) (ends_in_race task.program.now task.flat.nodes acts led.machine p q led.led meet)
 
-pub stuck_answer : (task : Task) (found : Found) (place : ℕ) (acts : List Act) (order : List ℕ) → AreFound task found → HasStart task found.states
+pub stuck_answer : (task : Task) (found : Found) (place : ℕ) (acts : List Act) (order : List ℕ) → AreFound task found → HasStart task found.table.rows
     → LeadTo task found place acts → IsEnd task found (Through (Some place)) → order ≡ nodes_of_acts acts ++ []
     → HasNoRace task.program.now task.flat.nodes × GetsStuck task.program.now task.flat.nodes order
 stuck_answer task found place acts order f start led end is =
     let key = end.2.0 in
-    let same = copy_same task.flat key.state led.key.state (row_copy found.states place key led.key end.2.1 led.there).state in (
-      no_race task found.states f.reached start end.1 end.0,
+    let same = copy_same task.flat key.state led.key.state (row_copy found.table.rows place key led.key end.2.1 led.there).state in (
+      no_race task found.table.rows f.reached start end.1 end.0,
       subst (GetsStuck task.program.now task.flat.nodes) (sym (is ∙ append-nil (nodes_of_acts acts)))
           (gets_stuck task led.key (f.reached.each place led.key led.there) acts led.machine led.led led.alike (subst IsStuck same end.2.2)),
     )
 
-pub free_answer : (task : Task) (found : Found) → AreFound task found → HasStart task found.states → IsEnd task found (Through None)
+pub free_answer : (task : Task) (found : Found) → AreFound task found → HasStart task found.table.rows → IsEnd task found (Through None)
     → HasNoRace task.program.now task.flat.nodes × NeverStuck task.program.now task.flat.nodes
 free_answer task found f start end =
-    (no_race task found.states f.reached start end.1 end.0, never_stuck task found.states f.reached start end.1 end.2)
+    (no_race task found.table.rows f.reached start end.1 end.0, never_stuck task found.table.rows f.reached start end.1 end.2)
 
 pub fault_of_task : (task : Task) (program : Program) (nodes most : ℕ) (fault : ExploreFault) → IsTask task → task.program.now ≡ program
     → task.flat.nodes ≡ nodes → task.most ≡ most → task.looked ≡ looked_at most → IsFault task fault → IsFaultOf program nodes most fault

@@ -53,7 +53,7 @@ act_itself a = both_true _ _ (nat_itself a.node) (deed_itself a.deed)
 
 -- ---- all settled states
 
-pub all_found : (task : Task) (found : Found) → AreFound task found → HasStart task found.states → AreExpanded task found.states (row_count found.states)
+pub all_found : (task : Task) (found : Found) → AreFound task found → HasStart task found.table.rows → AreExpanded task found.table.rows (row_count found.table.rows)
     → AreAllFound task found
 all_found task found f start expanded = record { are = f; start = start; expanded = expanded }
 
@@ -61,7 +61,7 @@ all_found task found f start expanded = record { are = f; start = start; expande
 pub run_to : (task : Task) (found : Found) (notes : List Act) (place : ℕ) (acts : List Act) → task.noting ≡ true → AreFound task found
     → IsEndAt task found notes place → LeadTo task found place acts → IsRunWith task.program.now task.flat.nodes notes acts
 run_to task found notes place acts noting f is led =
-    let copy = row_copy found.states place is.key led.key is.there led.there in
+    let copy = row_copy found.table.rows place is.key led.key is.there led.there in
     let still = subst IsAtRest (copy_same task.flat is.key.state led.key.state copy.state) is.still in
     record {
       machine = led.machine;
@@ -73,23 +73,30 @@ run_to task found notes place acts noting f is led =
 
 -- where no state is such an end, the notes are of no outcome
 pub no_outcome : (task : Task) (found : Found) (notes : List Act) → task.noting ≡ true → AreAllFound task found
-    → HasNoEndBefore task found notes (row_count found.states) → IsOutcome task.program.now task.flat.nodes notes → ⊥
+    → HasNoEndBefore task found notes (row_count found.table.rows) → IsOutcome task.program.now task.flat.nodes notes → ⊥
 no_outcome task found notes noting a none is =
     let o = (outcomes task.program.now task.flat.nodes notes).0 is in
-    let has = all_reached task found.states a.are.reached a.start a.expanded o.led in
+    let has = all_reached task found.table.rows a.are.reached a.start a.expanded o.led in
     let key = has.key in
     let still = rest_like o.machine (plain_at task.flat key.state) (state_fine o.led) (fine_key task key (a.are.reached.each has.place key has.there))
     has.alike o.still in
-    none has.place (row_within found.states has.place key has.there)
+    none has.place (row_within found.table.rows has.place key has.there)
     (record { key = key; there = has.there; still = still; are = has.noted noting ∙ o.are })
 
+-- such an end is one by whatever its row stands for
+pub end_still : (task : Task) (found : Found) (notes : List Act) (place : ℕ) (key : Noted) → IsRowAt found.table.rows place key
+    → IsEndAt task found notes place → IsAtRest (plain_at task.flat key.state)
+end_still task found notes place key there is =
+    subst IsAtRest (copy_same task.flat is.key.state key.state (row_copy found.table.rows place is.key key is.there there).state) is.still
+
+pub end_notes : (task : Task) (found : Found) (notes : List Act) (place : ℕ) (key : Noted) → IsRowAt found.table.rows place key
+    → IsEndAt task found notes place → key.notes.items ≡ notes
+end_notes task found notes place key there is = sym (row_copy found.table.rows place is.key key is.there there).notes ∙ is.are
+
 -- the state at one place more is no such end
-pub no_end_at : (task : Task) (found : Found) (notes : List Act) (place : ℕ) (key : Noted) → IsRowAt found.states place key
-    → (IsAtRest (plain_at task.flat key.state) × (key.notes.items ≡ notes) → ⊥) → HasNoEndBefore task found notes place
+pub no_end_at : (task : Task) (found : Found) (notes : List Act) (place : ℕ) → (IsEndAt task found notes place → ⊥) → HasNoEndBefore task found notes place
     → HasNoEndBefore task found notes (place + 1)
-no_end_at task found notes place key there never before k lt is = elim (cases_eq k place) [
-  | inl same ↦
-      let copy = row_copy found.states place is.key key (subst (λ n. IsRowAt found.states n is.key) same is.there) there in
-      never (subst IsAtRest (copy_same task.flat is.key.state key.state copy.state) is.still, sym copy.notes ∙ is.are)
+no_end_at task found notes place never before k lt is = elim (cases_eq k place) [
+  | inl same ↦ never (subst (IsEndAt task found notes) same is)
   | inr apart ↦ before k (omega (arith, lt, apart)) is
 ]

@@ -11,15 +11,15 @@ use Rattle.lrc_explore.specs.declared.noted.Noted.{Noted}
 use Rattle.lrc_rows.specs.declared.rows.Rows.{Rows}
 use Rattle.lrc_exec.specs.declared.state.State.{State}
 use Rattle.lrc_explore.specs.Kept.{Grows, IsAddedAt}
-use Rattle.lrc_rows.specs.Rows.{AreRowsDistinct, IsRowAt, WidensRows, row_count}
+use Rattle.lrc_rows.specs.Rows.{IsRowAt, IsRowPlace, WidensRows, row_count}
 use Rattle.lrc_explore.specs.Notes.{notes_of, notes_with}
-use Rattle.lrc_exec.specs.States.{plain_at, IsCopy}
+use Rattle.lrc_exec.specs.States.{plain_at, IsCopy, IsStateOf}
 use Rattle.lrc_explore.proofs.Keeping.{grows_again, grows_not, stands_on}
 use Rattle.lrc_explore.proofs.Searching.{copy_same, copy_state}
 use Rattle.lrc_explore.proofs.Standing.{step_within}
-use Rattle.lrc_explore.proofs.Stores.{added_all, full_more}
+use Rattle.lrc_explore.proofs.Stores.{added_all, before, full_more}
 use Rattle.lrc_explore.proofs.Ways.{IsNotedCopy}
-use Rattle.lrc_rows.proofs.RowLaws.{row_grown, row_store, row_within, rows_again, rows_not}
+use Rattle.lrc_rows.proofs.RowLaws.{row_copy, row_grown, row_store, row_within, rows_again, rows_not}
 use Rattle.lrc_settled.specs.Steps.{beginning}
 use Rattle.lrc_settled.proofs.Rounds.{one_settling}
 use Rattle.lrc_steps.specs.declared.step.Step.{Step}
@@ -28,23 +28,25 @@ use Rattle.lrc_steps.specs.Taking.{count_of, IsCounted, Takes, alone}
 use Rattle.lrc_breadth.specs.declared.task.Task.{Task}
 use Rattle.lrc_breadth.specs.declared.task.Origin.{Origin}
 use Rattle.lrc_breadth.specs.declared.task.Found.{Found}
-use Rattle.lrc_breadth.specs.Reached.{AreFound, CannotTake, ComesFrom, HasAfter, HasReached, HasStart, HasTakenTo, IsExpanded, IsFirstKey, IsFound}
-use Rattle.lrc_breadth.specs.Reached.{IsFrom, IsKept, IsKeyOf, IsMore, IsReached, SettlesStart, noted_on}
+use Rattle.lrc_breadth.specs.Reached.{AreFound, AreReached, CannotTake, ComesFrom, HasAfter, HasAfterAt, HasReached, HasStart, IsExpanded, IsExpandedAt, IsFirstKey, IsFound}
+use Rattle.lrc_breadth.specs.Reached.{IsFrom, IsKept, IsKeyOf, IsMore, IsReached, IsTableOf, SettlesStart}
+use Rattle.lrc_row_steps.specs.Nexts.{notes_on}
 use Rattle.lrc_live.specs.Like.{AreLike, TakesLike}
 use Rattle.lrc_live.proofs.Alike.{takes_once}
 use Rattle.lrc_live.proofs.Like.{like_alike, like_back, like_is, like_on, like_same}
-use Rattle.lrc_breadth.proofs.Reaching.{Further, further, notes_on, notes_start}
+use Rattle.lrc_breadth.proofs.MeansOf.{table_distinct}
+use Rattle.lrc_breadth.proofs.Reaching.{Further, further, notes_onward, notes_start}
 
 -- one act more
 noted_next : (acts : List Act) (i : ℕ) (d : Act) (notes : List Act) → i < length acts
-    → noted_on notes (take (suc i) acts) ≡ notes_with (noted_on notes (take i acts)) (get_or acts i d)
+    → notes_on notes (take (suc i) acts) ≡ notes_with (notes_on notes (take i acts)) (get_or acts i d)
 noted_next [] i d notes lt = absurd (omega arith)
 noted_next (x ∷ xs) zero d notes lt = refl
 noted_next (x ∷ xs) (suc i) d notes lt = noted_next xs i d (notes_with notes x) (omega arith)
 
 pub noted_more : (acts : List Act) (i : ℕ) (d : Act) (notes : List Act) → i < length acts
-    → noted_on notes (take (i + 1) acts) ≡ notes_with (noted_on notes (take i acts)) (get_or acts i d)
-noted_more acts i d notes lt = ap (λ n. noted_on notes (take n acts)) (add-one i) ∙ noted_next acts i d notes lt
+    → notes_on notes (take (i + 1) acts) ≡ notes_with (notes_on notes (take i acts)) (get_or acts i d)
+noted_more acts i d notes lt = ap (λ n. notes_on notes (take n acts)) (add-one i) ∙ noted_next acts i d notes lt
 
 -- ---- copies
 
@@ -82,7 +84,7 @@ from_copy task all origin copy key c f = record {
   noted = λ e. c.notes ∙ f.noted e;
 }
 
-from_grown : (task : Task) (old new : Rows) (origin : Origin) (key : Noted) → WidensRows old new → IsFrom task old origin key
+pub from_grown : (task : Task) (old new : Rows) (origin : Origin) (key : Noted) → WidensRows old new → IsFrom task old origin key
     → IsFrom task new origin key
 from_grown task old new origin key w f = record {
   before = f.before;
@@ -98,18 +100,19 @@ first_copy task copy key c f =
 
 -- ---- what was found
 
-pub found_none : (task : Task) (found : Found) → row_count found.states ≡ 0 → AreRowsDistinct found.states → found.states.nodes ≡ task.flat.nodes
+pub found_none : (task : Task) (found : Found) → row_count found.table.rows ≡ 0 → found.table.rows.nodes ≡ task.flat.nodes → IsTableOf task found.table
     → found.origins.items ≡ [] → AreFound task found
-found_none task found none distinct nodes origins = record {
+found_none task found none nodes table origins = record {
   reached = record {
     full = λ k lt. absurd (omega (arith, lt, none));
     nodes = nodes;
-    distinct = distinct;
-    each = λ k key at. let within = row_within found.states k key at in absurd (omega (arith, within, none));
+    distinct = table_distinct task found.table table;
+    each = λ k key at. let within = row_within found.table.rows k key at in absurd (omega (arith, within, none));
   };
+  table = table;
   even = ap (λ l. length l) origins ∙ sym none;
-  from = λ k key pos at. let within = row_within found.states k key at in absurd (omega (arith, within, none));
-  first = λ key at. let within = row_within found.states 0 key at in absurd (omega (arith, within, none));
+  from = λ k key pos at. let within = row_within found.table.rows k key at in absurd (omega (arith, within, none));
+  first = λ key at. let within = row_within found.table.rows 0 key at in absurd (omega (arith, within, none));
 }
 
 origins_grow : (b : Bool) (old new : List Origin) (origin : Origin) → new ≡ (if b then old ++ origin ∷ [] else old) → Grows old new
@@ -124,21 +127,21 @@ even_put true old new place before after origin put is e =
 even_put false old new place before after origin put is e = ap (λ l. length l) is ∙ e ∙ sym put
 
 module _ (task : Task) (old new : Found) (key : Noted) (origin : Origin) (place : ℕ) (added : Bool) (f : AreFound task old) (r : IsReached task key)
-    (from : ComesFrom task old origin key) (w : WidensRows old.states new.states) (distinct : AreRowsDistinct new.states)
-    (put : IsAddedAt (row_count old.states) (row_count new.states) place added) (at : IsRowAt new.states place key)
+    (from : ComesFrom task old origin key) (w : WidensRows old.table.rows new.table.rows) (table : IsTableOf task new.table)
+    (put : IsAddedAt (row_count old.table.rows) (row_count new.table.rows) place added) (at : IsRowAt new.table.rows place key)
     (origins : new.origins.items ≡ (if added then old.origins.items ++ origin ∷ [] else old.origins.items)) where
   pub more_put : IsMore old new
-  more_put = record { states = w; origins = origins_grow added old.origins.items new.origins.items origin origins }
+  more_put = record { rows = w; origins = origins_grow added old.origins.items new.origins.items origin origins }
 
-  seam : added ≡ true → slice_get new.origins.items (row_count old.states) ≡ Some origin
+  seam : added ≡ true → slice_get new.origins.items (row_count old.table.rows) ≡ Some origin
   seam e =
-      ap (λ l. slice_get l (row_count old.states)) (origins ∙ ap (λ b. if b then old.origins.items ++ origin ∷ [] else old.origins.items) e)
+      ap (λ l. slice_get l (row_count old.table.rows)) (origins ∙ ap (λ b. if b then old.origins.items ++ origin ∷ [] else old.origins.items) e)
       ∙ ap (slice_get (old.origins.items ++ origin ∷ [])) (sym f.even)
       ∙ slice_get-seam old.origins.items origin []
 
-  found_at : (k : ℕ) (x : Noted) → IsRowAt new.states k x → 0 < k → IsFound task new k x
+  found_at : (k : ℕ) (x : Noted) → IsRowAt new.table.rows k x → 0 < k → IsFound task new k x
   found_at k x there pos =
-      added_all IsRowAt row_count WidensRows IsNotedCopy row_store old.states new.states place added key w f.reached.full put at
+      added_all IsRowAt row_count WidensRows IsNotedCopy row_store old.table.rows new.table.rows place added key w f.reached.full put at
       (λ n y. 0 < n → IsFound task new n y)
       (λ n y here positive.
       let o = f.from n y positive here in
@@ -146,7 +149,7 @@ module _ (task : Task) (old new : Found) (key : Noted) (origin : Origin) (place 
         origin = o.origin;
         there = stands_on n o.origin more_put.origins o.there;
         earlier = o.earlier;
-        from = from_grown task old.states new.states o.origin y w o.from;
+        from = from_grown task old.table.rows new.table.rows o.origin y w o.from;
       })
       (λ e copy c positive.
       let o = from.0 positive in
@@ -154,41 +157,42 @@ module _ (task : Task) (old new : Found) (key : Noted) (origin : Origin) (place 
         origin = origin;
         there = seam e;
         earlier = o.0;
-        from = from_copy task new.states origin copy key c (from_grown task old.states new.states origin key w o.1);
+        from = from_copy task new.table.rows origin copy key c (from_grown task old.table.rows new.table.rows origin key w o.1);
       }) k x there pos
 
-  first_at : (k : ℕ) (x : Noted) → IsRowAt new.states k x → k ≡ 0 → IsFirstKey task x
+  first_at : (k : ℕ) (x : Noted) → IsRowAt new.table.rows k x → k ≡ 0 → IsFirstKey task x
   first_at =
-      added_all IsRowAt row_count WidensRows IsNotedCopy row_store old.states new.states place added key w f.reached.full put at
+      added_all IsRowAt row_count WidensRows IsNotedCopy row_store old.table.rows new.table.rows place added key w f.reached.full put at
       (λ n y. n ≡ 0 → IsFirstKey task y)
-      (λ n y here e. f.first y (subst (λ m. IsRowAt old.states m y) e here))
+      (λ n y here e. f.first y (subst (λ m. IsRowAt old.table.rows m y) e here))
       (λ e copy c none. first_copy task copy key c (from.1 none))
 
   pub found_put : AreFound task new
   found_put = record {
     reached = record {
-      full = full_more IsRowAt row_count WidensRows IsNotedCopy row_store old.states new.states place added key w f.reached.full put at;
+      full = full_more IsRowAt row_count WidensRows IsNotedCopy row_store old.table.rows new.table.rows place added key w f.reached.full put at;
       nodes = w.nodes ∙ f.reached.nodes;
-      distinct = distinct;
+      distinct = table_distinct task new.table table;
       each =
-          added_all IsRowAt row_count WidensRows IsNotedCopy row_store old.states new.states place added key w f.reached.full put at
+          added_all IsRowAt row_count WidensRows IsNotedCopy row_store old.table.rows new.table.rows place added key w f.reached.full put at
           (λ n y. IsReached task y) f.reached.each (λ e copy c. reached_copy task copy key c r);
     };
-    even = even_put added old.states new.states place old.origins.items new.origins.items origin put origins f.even;
+    table = table;
+    even = even_put added old.table.rows new.table.rows place old.origins.items new.origins.items origin put origins f.even;
     from = λ k x pos there. found_at k x there pos;
     first = λ x there. first_at 0 x there refl;
   }
 
 -- ---- the key of the start
 
-module _ (task : Task) (state : State) (acts : List Act) (key : Noted) (s : SettlesStart task [] acts state) (k : IsKeyOf task state [] acts key) where
+module _ (task : Task) (state : State) (acts : List Act) (key : Noted) (s : SettlesStart task [] acts state) (k : IsKeyOf task state acts key) where
   made : s.acts ≡ acts
   made = sym s.made
 
   start_noted : task.noting ≡ true → notes_of task.flat.nodes s.acts ≡ key.notes.items
   start_noted e =
       notes_start task.program.now task.flat.nodes s.acts s.settles.there (beginning s.acts s.settles.there s.settles.settles)
-      ∙ ap (noted_on []) made ∙ sym (k.noted e)
+      ∙ ap (notes_on []) made ∙ sym (k.noted e)
 
   pub start_reached : IsReached task key
   start_reached = record {
@@ -218,56 +222,48 @@ module _ (task : Task) (state : State) (acts : List Act) (key : Noted) (s : Sett
 
 -- ---- the key of a step
 
-module _ (task : Task) (before : Noted) (step : Step) (acts : List Act) (state : State) (key : Noted) (r : IsReached task before)
-    (t : HasTakenTo task before.state step [] acts state) (k : IsKeyOf task state before.notes.items acts key) where
-  on : Further task (r.acts ++ t.acts) (plain_at task.flat state)
-  on = further task before r r.acts r.machine r.led r.alike step t.acts (plain_at task.flat state) t.takes
+-- it is reached
+pub next_reached : (task : Task) (before : Noted) (step : Step) (acts : List Act) (key : Noted) → IsReached task before → IsStateOf task.flat key.state
+    → IsCounted key.state → TakesLike (plain_at task.flat before.state) step acts (plain_at task.flat key.state)
+    → (task.noting ≡ true → key.notes.items ≡ notes_on before.notes.items acts) → (task.noting ≡ false → key.notes.items ≡ before.notes.items)
+    → IsReached task key
+next_reached task before step acts key r valid counted takes noted bare =
+    let on : Further task (r.acts ++ acts) (plain_at task.flat key.state) =
+    further task before r r.acts r.machine r.led r.alike step acts (plain_at task.flat key.state) takes in
+    record {
+      valid = valid;
+      counted = counted;
+      acts = r.acts ++ acts;
+      machine = on.machine;
+      led = on.led;
+      alike = on.alike;
+      noted = λ e.
+          notes_onward task.program.now task.flat.nodes r.acts acts on.machine on.led ∙ ap (λ n. notes_on n acts) (r.noted e) ∙ sym (noted e);
+      bare = λ e. bare e ∙ r.bare e;
+    }
 
-  same : t.acts ≡ acts
-  same = sym t.made
+-- it is found from where the step was taken
+pub next_comes : (task : Task) (found : Found) (origin : Origin) (key : Noted) → IsFrom task found.table.rows origin key → ComesFrom task found origin key
+next_comes task found origin key from =
+    let within = row_within found.table.rows origin.parent from.before from.there in (λ pos. (within, from), λ none. absurd (omega (arith, within, none)))
 
-  pub next_reached : IsReached task key
-  next_reached = record {
-    valid = k.valid;
-    counted = k.counted;
-    acts = r.acts ++ t.acts;
-    machine = on.machine;
-    led = on.led;
-    alike = like_on on.alike (like_back k.alike);
-    noted = λ e.
-        notes_on task.program.now task.flat.nodes r.acts t.acts on.machine on.led
-        ∙ ap (λ n. noted_on n t.acts) (r.noted e) ∙ ap (noted_on before.notes.items) same ∙ sym (k.noted e);
-    bare = k.bare;
-  }
+-- and is what the step leads to
+pub has_after : (task : Task) (old new : Rows) (place : ℕ) (step : Step) (key : Noted) → IsFrom task old (record { parent = place; step = step }) key
+    → WidensRows old new → IsKept new key → HasAfterAt task new place step
+has_after task old new place step key from w kept other at acts after takes =
+    let copy = row_copy new place other from.before at (row_grown old new place from.before w from.there) in
+    let here = subst (λ m. Takes m step acts after) (copy_same task.flat other.state from.before.state copy.state) takes in
+    let one = takes_once here from.takes.takes in
+    record {
+      place = kept.0;
+      key = key;
+      there = kept.1;
+      alike = like_on (subst (λ m. AreLike after m) one.1 (like_same after)) from.takes.alike;
+      noted = λ e. from.noted e ∙ ap (notes_on from.before.notes.items) (sym one.0) ∙ ap (λ n. notes_on n acts) (sym copy.notes);
+    }
 
-  pub next_takes : TakesLike (plain_at task.flat before.state) step t.acts (plain_at task.flat key.state)
-  next_takes = record { there = t.takes.there; takes = t.takes.takes; alike = like_on (like_alike t.takes.alike) (like_back k.alike) }
-
-  pub next_from : (found : Found) (place : ℕ) (origin : Origin) → origin ≡ record { parent = place; step = step } → IsRowAt found.states place before
-      → ComesFrom task found origin key
-  next_from found place origin is at =
-      let within = row_within found.states place before at in
-      subst (λ o. ComesFrom task found o key) (sym is) (
-        λ pos. (
-          within,
-          record { before = before; there = at; acts = t.acts; takes = next_takes; noted = λ e. k.noted e ∙ ap (noted_on before.notes.items) (sym same) },
-        ),
-        λ none. absurd (omega (arith, within, none)),
-      )
-
-  pub has_after : (all : Rows) → IsKept all key → HasAfter task all before step
-  has_after all kept others after takes =
-      let one = takes_once takes t.takes.takes in
-      record {
-        place = kept.0;
-        key = key;
-        there = kept.1;
-        alike = like_on (subst (λ m. AreLike after m) one.1 (like_same after)) (like_on (like_alike t.takes.alike) (like_back k.alike));
-        noted = λ e. k.noted e ∙ ap (noted_on before.notes.items) (sym (one.0 ∙ same));
-      }
-
-pub has_none : (task : Task) (all : Rows) (before : Noted) (step : Step) → CannotTake task before.state step → HasAfter task all before step
-has_none task all before step cannot acts after takes = absurd (cannot acts after takes)
+pub has_none : (task : Task) (all : Rows) (key : Noted) (step : Step) → CannotTake task key.state step → HasAfter task all key step
+has_none task all key step cannot acts after takes = absurd (cannot acts after takes)
 
 reached_grown : (task : Task) (old new : Rows) (machine : Plain) (notes : List Act) → WidensRows old new → HasReached task old machine notes
     → HasReached task new machine notes
@@ -279,9 +275,9 @@ reached_grown task old new machine notes w h = record {
   noted = h.noted;
 }
 
-pub after_grown : (task : Task) (old new : Rows) (key : Noted) (step : Step) → WidensRows old new → HasAfter task old key step
+after_grown : (task : Task) (old new : Rows) (key : Noted) (step : Step) → WidensRows old new → HasAfter task old key step
     → HasAfter task new key step
-after_grown task old new key step w h acts after takes = reached_grown task old new after (noted_on key.notes.items acts) w (h acts after takes)
+after_grown task old new key step w h acts after takes = reached_grown task old new after (notes_on key.notes.items acts) w (h acts after takes)
 
 pub start_grown : (task : Task) (old new : Rows) → WidensRows old new → HasStart task old → HasStart task new
 start_grown task old new w h acts machine settles = reached_grown task old new machine (notes_of task.flat.nodes acts) w (h acts machine settles)
@@ -298,7 +294,7 @@ expanded_copy task all copy key c h step acts after takes =
       key = r.key;
       there = r.there;
       alike = r.alike;
-      noted = λ e. r.noted e ∙ ap (λ n. noted_on n acts) (sym c.notes);
+      noted = λ e. r.noted e ∙ ap (λ n. notes_on n acts) (sym c.notes);
     }
 
 -- past the nodes there is none that takes a step
@@ -307,7 +303,7 @@ no_node task state node past acts after (alone machine mid _ _ deed more kind st
     let within = step_within (plain_at task.flat state) node (deed, mid) step in
     omega (arith, past, within, length-map state.spots.items (spot_thread task.flat))
 
-pub expanded_all : (task : Task) (all : Rows) (key : Noted) (last : ℕ) → length key.state.spots.items ≤ last → HasAfter task all key Together
+expanded_all : (task : Task) (all : Rows) (key : Noted) (last : ℕ) → length key.state.spots.items ≤ last → HasAfter task all key Together
     → ((node : ℕ) → node < last → HasAfter task all key (Alone node)) → IsExpanded task all key
 expanded_all task all key last le all_together each Together = all_together
 expanded_all task all key last le all_together each (Alone node) = elim (cases_lt node last) [
@@ -315,15 +311,34 @@ expanded_all task all key last le all_together each (Alone node) = elim (cases_l
   | inr past ↦ has_none task all key (Alone node) (no_node task key.state node (omega (arith, le, past)))
 ]
 
+pub expanded_at : (task : Task) (all : Rows) (place last : ℕ) → AreReached task all → task.flat.nodes ≤ last → HasAfterAt task all place Together
+    → ((node : ℕ) → node < last → HasAfterAt task all place (Alone node)) → IsExpandedAt task all place
+expanded_at task all place last reached le all_together each key at =
+    expanded_all task all key last (let e = (reached.each place key at).valid.spots in omega (arith, e, le)) (all_together key at)
+    (λ node lt. each node lt key at)
+
 pub more_again : {a b c : Found} → IsMore a b → IsMore b c → IsMore a c
-more_again v w = record { states = rows_again v.states w.states; origins = grows_again v.origins w.origins }
+more_again v w = record { rows = rows_again v.rows w.rows; origins = grows_again v.origins w.origins }
 
 pub more_same : (found : Found) → IsMore found found
-more_same found = record { states = rows_not found.states; origins = grows_not found.origins.items found.origins.items refl }
+more_same found = record { rows = rows_not found.table.rows; origins = grows_not found.origins.items found.origins.items refl }
 
-pub each_more : (task : Task) (old new : Rows) (key : Noted) (node : ℕ) → WidensRows old new
-    → ((k : ℕ) → k < node → HasAfter task old key (Alone k)) → HasAfter task new key (Alone node) → (k : ℕ) → k < node + 1 → HasAfter task new key (Alone k)
-each_more task old new key node w each here k lt = elim (cases_eq k node) [
-  | inl same ↦ subst (λ n. HasAfter task new key (Alone n)) (sym same) here
-  | inr apart ↦ after_grown task old new key (Alone k) w (each k (omega (arith, lt, apart)))
+pub after_at_grown : (task : Task) (old new : Rows) (place : ℕ) (step : Step) → WidensRows old new → IsRowPlace old place → HasAfterAt task old place step
+    → HasAfterAt task new place step
+after_at_grown task old new place step w full h key at =
+    after_grown task old new key step w (h key (before IsRowAt row_count WidensRows IsNotedCopy row_store old new place key w full at))
+
+pub each_more : (task : Task) (old new : Rows) (place node : ℕ) → WidensRows old new → IsRowPlace old place
+    → ((k : ℕ) → k < node → HasAfterAt task old place (Alone k)) → HasAfterAt task new place (Alone node) → (k : ℕ) → k < node + 1
+    → HasAfterAt task new place (Alone k)
+each_more task old new place node w full each here k lt = elim (cases_eq k node) [
+  | inl same ↦ subst (λ n. HasAfterAt task new place (Alone n)) (sym same) here
+  | inr apart ↦ after_at_grown task old new place (Alone k) w full (each k (omega (arith, lt, apart)))
 ]
+
+-- places stay within what was found
+pub within_more : (task : Task) (old new : Found) (place : ℕ) → AreFound task old → IsMore old new → place < row_count old.table.rows
+    → place < row_count new.table.rows
+within_more task old new place f more lt =
+    let x = f.reached.full place lt in
+    row_within new.table.rows place x.0 (row_grown old.table.rows new.table.rows place x.0 more.rows x.1)

@@ -1,5 +1,7 @@
 pub mod Reaching
+pub mod MeansOf
 pub mod Keys
+pub mod Stepping
 pub mod Seeking
 pub mod Telling
 pub mod Answering

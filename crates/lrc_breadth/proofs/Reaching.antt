@@ -26,12 +26,12 @@ use Rattle.lrc_settled.proofs.Held.{threads_at_start}
 use Rattle.lrc_settled.proofs.Onward.{Fine}
 use Rattle.lrc_settled.proofs.Settled.{state_run, state_settled, races, stuck}
 use Rattle.lrc_steps.specs.declared.step.Step.{Step}
-use Rattle.lrc_steps.specs.Taking.{TakesTo}
 use Rattle.lrc_breadth.specs.declared.task.Task.{Task}
-use Rattle.lrc_breadth.specs.Reached.{AreCalm, AreExpanded, AreNowhereStuck, AreReached, HasReached, HasStart, IsReached, noted_on}
-use Rattle.lrc_live.specs.Like.{AreLike}
+use Rattle.lrc_breadth.specs.Reached.{AreCalm, AreExpanded, AreNowhereStuck, AreReached, HasReached, HasStart, IsReached}
+use Rattle.lrc_row_steps.specs.Nexts.{notes_on}
+use Rattle.lrc_live.specs.Like.{AreLike, TakesLike}
 use Rattle.lrc_live.proofs.Alike.{takes_leads, leads_takes}
-use Rattle.lrc_live.proofs.Like.{fine_counted, like_alike, like_back, like_on, meet_like, settled_like, stuck_like, takes_like}
+use Rattle.lrc_live.proofs.Like.{fine_counted, like_back, like_on, meet_like, settled_like, stuck_like, takes_like}
 
 pub fine_key : (task : Task) (key : Noted) → IsReached task key → Fine (plain_at task.flat key.state)
 fine_key task key r = fine_counted task.flat key.state r.valid r.counted r.machine (state_fine r.led).held r.alike
@@ -46,10 +46,10 @@ nil_cons x xs e = cc
 
 -- acts of a run, put behind others
 notes_run : (nodes : ℕ) (order : List ℕ) (machine final : Plain) (before acts : List Act) → length machine.threads ≡ nodes
-    → plain_from machine order ≡ Some (acts, final) → notes_of nodes (before ++ acts) ≡ noted_on (notes_of nodes before) acts
+    → plain_from machine order ≡ Some (acts, final) → notes_of nodes (before ++ acts) ≡ notes_on (notes_of nodes before) acts
 notes_run nodes [] machine final before acts size run =
     let e : [] ≡ acts = (some_pair_parts [] acts machine final run).0 in
-    ap (λ l. notes_of nodes (before ++ l)) (sym e) ∙ ap (notes_of nodes) (append-nil before) ∙ ap (noted_on (notes_of nodes before)) e
+    ap (λ l. notes_of nodes (before ++ l)) (sym e) ∙ ap (notes_of nodes) (append-nil before) ∙ ap (notes_on (notes_of nodes before)) e
 notes_run nodes (node ∷ order) machine final before acts size run =
     let b = plain_from-begins machine node order (acts, final) run in
     let act : Act = record { node = node; deed = b.step.0 } in
@@ -59,8 +59,8 @@ notes_run nodes (node ∷ order) machine final before acts size run =
     ap (λ l. notes_of nodes (before ++ l)) is
     ∙ ap (notes_of nodes) (sym (append_assoc before (act ∷ []) b.more.0))
     ∙ rest
-    ∙ ap (λ n. noted_on n b.more.0) (notes_more nodes before act (omega (arith, within, size)))
-    ∙ ap (noted_on (notes_of nodes before)) (sym is)
+    ∙ ap (λ n. notes_on n b.more.0) (notes_more nodes before act (omega (arith, within, size)))
+    ∙ ap (notes_on (notes_of nodes before)) (sym is)
 
 notes_none : (count first : ℕ) → notes_from first count [] ≡ []
 notes_none zero first = refl
@@ -86,16 +86,16 @@ module _ (program : Program) (nodes : ℕ) where
       parted acts more b.step.1 (step_threads machine b.step.1 node b.step.0 b.step_is ∙ size) order b.more.1
       (b.more_is ∙ ap (λ l. Some (l, b.more.1)) (sym rest))
 
-  pub notes_on : (acts more : List Act) (machine : Plain) → IsSettledState program nodes (acts ++ more) machine
-      → notes_of nodes (acts ++ more) ≡ noted_on (notes_of nodes acts) more
-  notes_on acts more machine state =
+  pub notes_onward : (acts more : List Act) (machine : Plain) → IsSettledState program nodes (acts ++ more) machine
+      → notes_of nodes (acts ++ more) ≡ notes_on (notes_of nodes acts) more
+  notes_onward acts more machine state =
       let p = parted acts more (plain_start program nodes) (threads_at_start program nodes) (nodes_of_acts (acts ++ more)) machine (state_run state) in
       notes_run nodes p.order p.mid p.final acts more p.size p.run
 
-  pub notes_start : (acts : List Act) (machine : Plain) → IsSettledState program nodes acts machine → notes_of nodes acts ≡ noted_on [] acts
+  pub notes_start : (acts : List Act) (machine : Plain) → IsSettledState program nodes acts machine → notes_of nodes acts ≡ notes_on [] acts
   notes_start acts machine state =
       notes_run nodes (nodes_of_acts acts) (plain_start program nodes) machine [] acts (threads_at_start program nodes) (state_run state)
-      ∙ ap (λ n. noted_on n acts) (notes_none nodes 0)
+      ∙ ap (λ n. notes_on n acts) (notes_none nodes 0)
 
 -- ---- a step further
 
@@ -107,13 +107,13 @@ pub record Further (task : Task) (acts : List Act) (like : Plain) : Type 0 where
 -- a step from what is kept leads the program on
 pub further : (task : Task) (key : Noted) → IsReached task key → (first : List Act) (machine : Plain)
     → IsSettledState task.program.now task.flat.nodes first machine → AreLike machine (plain_at task.flat key.state) → (step : Step) (acts : List Act)
-    (like : Plain) → TakesTo (plain_at task.flat key.state) step acts like → Further task (first ++ acts) like
+    (like : Plain) → TakesLike (plain_at task.flat key.state) step acts like → Further task (first ++ acts) like
 further task key r first machine led a step acts like t =
     let on = takes_like t.takes (fine_key task key r) machine (state_fine led) (like_back a) in
     record {
       machine = on.there;
       led = onward first acts machine on.there led (takes_leads on.takes);
-      alike = like_on on.alike (like_alike t.alike);
+      alike = like_on on.alike t.alike;
     }
 
 -- ---- where all states are expanded
@@ -135,8 +135,8 @@ module _ (task : Task) (all : Rows) (reached : AreReached task all) (start : Has
         there = next.there;
         alike = like_on (like_back on.alike) next.alike;
         noted = λ e.
-            next.noted e ∙ ap (λ n. noted_on n more) (has.noted e)
-            ∙ sym (notes_on task.program.now task.flat.nodes acts more after (onward acts more before after state leads));
+            next.noted e ∙ ap (λ n. notes_on n more) (has.noted e)
+            ∙ sym (notes_onward task.program.now task.flat.nodes acts more after (onward acts more before after state leads));
       }
 
   pub no_race : AreCalm task all (row_count all) → HasNoRace task.program.now task.flat.nodes

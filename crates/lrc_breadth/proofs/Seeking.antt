@@ -54,9 +54,9 @@ IsStuckSoFar task all index (Some place) = (key : Noted) × IsRowAt all place ke
 pub record Seeking (task : Task) (first now : Found) (place : ℕ) (stuck : Option ℕ) : Type 0 where
   pub found : AreFound task now
   pub more : IsMore first now
-  pub calm : AreCalm task now.states place
-  pub expanded : AreExpanded task now.states place
-  pub halted : IsStuckSoFar task now.states place stuck
+  pub calm : AreCalm task now.table.rows place
+  pub expanded : AreExpanded task now.table.rows place
+  pub halted : IsStuckSoFar task now.table.rows place stuck
 
 pub seeking_first : (task : Task) (found : Found) → AreFound task found → Seeking task found found 0 None
 seeking_first task found f = record {
@@ -68,45 +68,45 @@ seeking_first task found f = record {
 }
 
 module _ (task : Task) (first old new : Found) (place : ℕ) (stuck : Option ℕ) (s : Seeking task first old place stuck) (f : AreFound task new)
-    (m : IsMore old new) (within : place < row_count old.states) where
-  old_at : (k : ℕ) (key : Noted) → k < place → IsRowAt new.states k key → IsRowAt old.states k key
-  old_at k key lt at = was_there old.states new.states k key m.states s.found.reached.full (omega (arith, lt, within)) at
+    (m : IsMore old new) (within : place < row_count old.table.rows) where
+  old_at : (k : ℕ) (key : Noted) → k < place → IsRowAt new.table.rows k key → IsRowAt old.table.rows k key
+  old_at k key lt at = was_there old.table.rows new.table.rows k key m.rows s.found.reached.full (omega (arith, lt, within)) at
 
-  pub expanded_on : AreExpanded task new.states place
-  expanded_on k lt key at = expanded_grown task old.states new.states key m.states (s.expanded k lt key (old_at k key lt at))
+  pub expanded_on : AreExpanded task new.table.rows place
+  expanded_on k lt key at = expanded_grown task old.table.rows new.table.rows key m.rows (s.expanded k lt key (old_at k key lt at))
 
-  seen_expanded : IsSeen task new place → AreExpanded task new.states (place + 1)
+  seen_expanded : IsSeen task new place → AreExpanded task new.table.rows (place + 1)
   seen_expanded seen k lt key at = elim (cases_eq k place) [
     | inl same ↦
-        expanded_copy task new.states key seen.key
-        (row_copy new.states place key seen.key (subst (λ n. IsRowAt new.states n key) same at) seen.there) seen.expanded
+        expanded_copy task new.table.rows key seen.key
+        (row_copy new.table.rows place key seen.key (subst (λ n. IsRowAt new.table.rows n key) same at) seen.there) seen.expanded
     | inr apart ↦ expanded_on k (omega (arith, lt, apart)) key at
   ]
 
-  seen_calm : IsSeen task new place → AreCalm task new.states (place + 1)
+  seen_calm : IsSeen task new place → AreCalm task new.table.rows (place + 1)
   seen_calm seen k key lt at = elim (cases_eq k place) [
     | inl same ↦
-        subst IsCalm (same_plain task new.states place seen.key key seen.there (subst (λ n. IsRowAt new.states n key) same at)) seen.calm
+        subst IsCalm (same_plain task new.table.rows place seen.key key seen.there (subst (λ n. IsRowAt new.table.rows n key) same at)) seen.calm
     | inr apart ↦ s.calm k key (omega (arith, lt, apart)) (old_at k key (omega (arith, lt, apart)) at)
   ]
 
-  nowhere_on : (seen : IsSeen task new place) → (IsStuck (plain_at task.flat seen.key.state) → ⊥) → AreNowhereStuck task old.states place
-      → AreNowhereStuck task new.states (place + 1)
+  nowhere_on : (seen : IsSeen task new place) → (IsStuck (plain_at task.flat seen.key.state) → ⊥) → AreNowhereStuck task old.table.rows place
+      → AreNowhereStuck task new.table.rows (place + 1)
   nowhere_on seen never nowhere k key lt at = elim (cases_eq k place) [
     | inl same ↦ λ halted.
-        never (subst IsStuck (same_plain task new.states place key seen.key (subst (λ n. IsRowAt new.states n key) same at) seen.there) halted)
+        never (subst IsStuck (same_plain task new.table.rows place key seen.key (subst (λ n. IsRowAt new.table.rows n key) same at) seen.there) halted)
     | inr apart ↦ nowhere k key (omega (arith, lt, apart)) (old_at k key (omega (arith, lt, apart)) at)
   ]
 
-  past_on : (seen : IsSeen task new place) → (IsStuck (plain_at task.flat seen.key.state) → ⊥) → (o : Option ℕ) → IsStuckSoFar task old.states place o
-      → IsStuckSoFar task new.states (place + 1) o
+  past_on : (seen : IsSeen task new place) → (IsStuck (plain_at task.flat seen.key.state) → ⊥) → (o : Option ℕ) → IsStuckSoFar task old.table.rows place o
+      → IsStuckSoFar task new.table.rows (place + 1) o
   past_on seen never None nowhere = nowhere_on seen never nowhere
-  past_on seen never (Some at) is = (is.0, row_grown old.states new.states at is.0 m.states is.1, is.2)
+  past_on seen never (Some at) is = (is.0, row_grown old.table.rows new.table.rows at is.0 m.rows is.1, is.2)
 
-  stuck_on : (seen : IsSeen task new place) → IsStuck (plain_at task.flat seen.key.state) → (o : Option ℕ) → IsStuckSoFar task old.states place o
-      → IsStuckSoFar task new.states (place + 1) (option_or o (Some place))
+  stuck_on : (seen : IsSeen task new place) → IsStuck (plain_at task.flat seen.key.state) → (o : Option ℕ) → IsStuckSoFar task old.table.rows place o
+      → IsStuckSoFar task new.table.rows (place + 1) (option_or o (Some place))
   stuck_on seen halted None nowhere = (seen.key, seen.there, halted)
-  stuck_on seen halted (Some at) is = (is.0, row_grown old.states new.states at is.0 m.states is.1, is.2)
+  stuck_on seen halted (Some at) is = (is.0, row_grown old.table.rows new.table.rows at is.0 m.rows is.1, is.2)
 
   pub seeking_past : (seen : IsSeen task new place) → (IsStuck (plain_at task.flat seen.key.state) → ⊥) → Seeking task first new (place + 1) stuck
   seeking_past seen never = record {
@@ -137,7 +137,7 @@ pub record Gathering (task : Task) (first now : Found) (outcomes : List Outcome)
   pub found : AreFound task now
   pub more : IsMore first now
   pub sound : AreSound task outcomes
-  pub done : AreGathered task now.states outcomes place
+  pub done : AreGathered task now.table.rows outcomes place
 
 abbrev nothing : List Outcome
 nothing = []
@@ -163,17 +163,17 @@ gathered_grown task old new some more key w g d = record {
 }
 
 pub gathering_on : (task : Task) (first old new : Found) (some more : List Outcome) (place : ℕ) → Gathering task first old some place → AreFound task new
-    → IsMore old new → Grows some more → AreSound task more → IsGatheredAt task new.states more place → place < row_count old.states
+    → IsMore old new → Grows some more → AreSound task more → IsGatheredAt task new.table.rows more place → place < row_count old.table.rows
     → Gathering task first new more (place + 1)
 gathering_on task first old new some more place g f m grown sound here within = record {
   found = f;
   more = more_again g.more m;
   sound = sound;
   done = λ k lt key at. elim (cases_eq k place) [
-    | inl same ↦ here key (subst (λ n. IsRowAt new.states n key) same at)
+    | inl same ↦ here key (subst (λ n. IsRowAt new.table.rows n key) same at)
     | inr apart ↦
-        let there = was_there old.states new.states k key m.states g.found.reached.full (omega (arith, lt, apart, within)) at in
-        gathered_grown task old.states new.states some more key m.states grown (g.done k (omega (arith, lt, apart)) key there)
+        let there = was_there old.table.rows new.table.rows k key m.rows g.found.reached.full (omega (arith, lt, apart, within)) at in
+        gathered_grown task old.table.rows new.table.rows some more key m.rows grown (g.done k (omega (arith, lt, apart)) key there)
   ];
 }
 

@@ -17,15 +17,16 @@ use Rattle.lrc_settled.proofs.Rounds.{one_settling}
 use Rattle.lrc_breadth.specs.declared.task.Task.{Task}
 use Rattle.lrc_breadth.specs.declared.task.Origin.{Origin}
 use Rattle.lrc_breadth.specs.declared.task.Found.{Found}
-use Rattle.lrc_breadth.specs.Reached.{AreFound, CannotTake, HasTakenTo, IsFound, SettlesStart, noted_on}
+use Rattle.lrc_breadth.specs.Reached.{AreFound, CannotTake, HasTakenTo, IsFound, SettlesStart}
+use Rattle.lrc_row_steps.specs.Nexts.{notes_on}
 use Rattle.lrc_breadth.specs.Told.{Comes, here, on, IsParentLed, LeadTo}
 use Rattle.lrc_live.specs.Like.{AreLike, TakesLike}
 use Rattle.lrc_live.proofs.Alike.{takes_once}
 use Rattle.lrc_live.proofs.Like.{like_alike, like_back, like_is, like_on}
-use Rattle.lrc_breadth.proofs.Reaching.{further, notes_on}
+use Rattle.lrc_breadth.proofs.Reaching.{further, notes_onward}
 
 -- the first state
-pub led_first : (task : Task) (found : Found) (place : ℕ) (acts : List Act) (state : State) → AreFound task found → place < row_count found.states
+pub led_first : (task : Task) (found : Found) (place : ℕ) (acts : List Act) (state : State) → AreFound task found → place < row_count found.table.rows
     → SettlesStart task [] acts state → LeadTo task found 0 acts
 led_first task found place acts state f lt s =
     let at = f.reached.full 0 (omega (arith, lt)) in
@@ -41,9 +42,9 @@ led_first task found place acts state f lt s =
     }
 
 -- one step more
-module _ (task : Task) (found : Found) (place : ℕ) (origin : Origin) (key : Noted) (f : AreFound task found) (within : place < row_count found.states)
-    (later : 0 < place) (noted : slice_get found.origins.items place ≡ Some origin) (there : IsRowAt found.states origin.parent key) where
-  here_is : (x : Noted) × IsRowAt found.states place x
+module _ (task : Task) (found : Found) (place : ℕ) (origin : Origin) (key : Noted) (f : AreFound task found) (within : place < row_count found.table.rows)
+    (later : 0 < place) (noted : slice_get found.origins.items place ≡ Some origin) (there : IsRowAt found.table.rows origin.parent key) where
+  here_is : (x : Noted) × IsRowAt found.table.rows place x
   here_is = f.reached.full place within
 
   was : IsFound task found place here_is.0
@@ -54,9 +55,9 @@ module _ (task : Task) (found : Found) (place : ℕ) (origin : Origin) (key : No
 
   before_copy : IsNotedCopy was.from.before key
   before_copy =
-      let at : IsRowAt found.states origin.parent was.from.before =
-      subst (λ (o : Origin). IsRowAt found.states o.parent was.from.before) same_origin was.from.there in
-      row_copy found.states origin.parent was.from.before key at there
+      let at : IsRowAt found.table.rows origin.parent was.from.before =
+      subst (λ (o : Origin). IsRowAt found.table.rows o.parent was.from.before) same_origin was.from.there in
+      row_copy found.table.rows origin.parent was.from.before key at there
 
   before_is : plain_at task.flat was.from.before.state ≡ plain_at task.flat key.state
   before_is = copy_same task.flat was.from.before.state key.state before_copy.state
@@ -71,9 +72,10 @@ module _ (task : Task) (found : Found) (place : ℕ) (origin : Origin) (key : No
   led_on acts later_acts None led cannot = absurd (cannot was.from.acts takes_it.there takes_it.takes)
   led_on acts later_acts (Some state) led t =
       let r = f.reached.each origin.parent key there in
-      let copy = row_copy found.states origin.parent led.key key led.there there in
+      let copy = row_copy found.table.rows origin.parent led.key key led.there there in
       let alike : AreLike led.machine (plain_at task.flat key.state) = like_is led.alike (copy_same task.flat led.key.state key.state copy.state) in
-      let next = further task key r acts led.machine led.led alike origin.step t.acts (plain_at task.flat state) t.takes in
+      let next = further task key r acts led.machine led.led alike origin.step t.acts (plain_at task.flat state)
+      (record { there = t.takes.there; takes = t.takes.takes; alike = like_alike t.takes.alike }) in
       let one = takes_once t.takes.takes takes_it.takes in
       record {
         machine = next.machine;
@@ -83,9 +85,9 @@ module _ (task : Task) (found : Found) (place : ℕ) (origin : Origin) (key : No
         alike = like_on next.alike (like_on (like_back (like_alike t.takes.alike)) (subst (λ m. AreLike m (plain_at task.flat here_is.0.state)) (sym one.1) takes_it.alike));
         noted = λ e.
             ap (notes_of task.flat.nodes) t.made
-            ∙ notes_on task.program.now task.flat.nodes acts t.acts next.machine next.led
-            ∙ ap (λ n. noted_on n t.acts) (led.noted e ∙ copy.notes ∙ sym before_copy.notes)
-            ∙ ap (noted_on was.from.before.notes.items) one.0
+            ∙ notes_onward task.program.now task.flat.nodes acts t.acts next.machine next.led
+            ∙ ap (λ n. notes_on n t.acts) (led.noted e ∙ copy.notes ∙ sym before_copy.notes)
+            ∙ ap (notes_on was.from.before.notes.items) one.0
             ∙ sym (was.from.noted e);
       }
 
@@ -122,7 +124,7 @@ module _ (task : Task) (found : Found) (path : List ℕ) (place index : ℕ) (ac
       onwards found.origins.items so.at (slice_index path index) place (drop (index + 1) path)
       (subst (λ l. Comes found.origins.items so.at l place) (drop-cons path index 0 lt ∙ ap (λ n. get_or path index 0 ∷ drop n path) (sym (add-one index))) so.comes)
 
-  pub next_within : slice_index path index < row_count found.states
+  pub next_within : slice_index path index < row_count found.table.rows
   next_within = let e = slice_get_within found.origins.items (slice_index path index) next.origin next.there in omega (arith, e, f.even)
 
   pub next_led : IsParentLed task found (slice_index path index) acts

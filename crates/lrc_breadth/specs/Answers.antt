@@ -107,12 +107,12 @@ pub record IsFaultOf (program : Program) (nodes most : ℕ) (fault : ExploreFaul
 -- what was seen at the state at a place
 pub record IsSeen (task : Task) (found : Found) (place : ℕ) : Type 0 where
   pub key : Noted
-  pub there : IsRowAt found.states place key
+  pub there : IsRowAt found.table.rows place key
   pub calm : IsCalm (plain_at task.flat key.state)
-  pub expanded : IsExpanded task found.states key
+  pub expanded : IsExpanded task found.table.rows key
 
 abbrev pub IsVisit : Task → Found → (place : ℕ) → Visit → Type 0
-IsVisit task found place (visit.Meeting p q) = (key : Noted) × IsRowAt found.states place key × Meet (plain_at task.flat key.state) p q
+IsVisit task found place (visit.Meeting p q) = (key : Noted) × IsRowAt found.table.rows place key × Meet (plain_at task.flat key.state) p q
 IsVisit task found place visit.Stuck = (seen : IsSeen task found place) × IsStuck (plain_at task.flat seen.key.state)
 IsVisit task found place visit.Past = (seen : IsSeen task found place) × ¬ IsStuck (plain_at task.flat seen.key.state)
 
@@ -142,11 +142,12 @@ IsStuckFirst task all None = AreNowhereStuck task all (row_count all)
 IsStuckFirst task all (Some place) = (key : Noted) × IsRowAt all place key × IsStuck (plain_at task.flat key.state)
 
 abbrev pub IsEnd : Task → Found → End → Type 0
-IsEnd task found (end.Meeting place p q) = (key : Noted) × IsRowAt found.states place key × Meet (plain_at task.flat key.state) p q
+IsEnd task found (end.Meeting place p q) = (key : Noted) × IsRowAt found.table.rows place key × Meet (plain_at task.flat key.state) p q
 IsEnd task found (end.Through stuck) =
-    AreCalm task found.states (row_count found.states) × AreExpanded task found.states (row_count found.states) × IsStuckFirst task found.states stuck
+    AreCalm task found.table.rows (row_count found.table.rows) × AreExpanded task found.table.rows (row_count found.table.rows)
+    × IsStuckFirst task found.table.rows stuck
 
 -- a search that went past all of its states met no more than it may
 abbrev pub FitsEnd : Task → Found → End → Type 0
 FitsEnd task found (end.Meeting place p q) = Unit {0}
-FitsEnd task found (end.Through stuck) = row_count found.states ≤ task.most
+FitsEnd task found (end.Through stuck) = row_count found.table.rows ≤ task.most

@@ -30,8 +30,8 @@ IsRunFor program nodes notes None = ¬ IsOutcome program nodes notes
 -- all settled states of the program were found
 pub record AreAllFound (task : Task) (found : Found) : Type 0 where
   pub are : AreFound task found
-  pub start : HasStart task found.states
-  pub expanded : AreExpanded task found.states (row_count found.states)
+  pub start : HasStart task found.table.rows
+  pub expanded : AreExpanded task found.table.rows (row_count found.table.rows)
 
 -- and these are exactly its outcomes
 pub record AreEnded (task : Task) (ended : Ended) : Type 0 where
@@ -41,7 +41,7 @@ pub record AreEnded (task : Task) (ended : Ended) : Type 0 where
 -- at the state at a place no node can make an act, and it has these notes
 pub record IsEndAt (task : Task) (found : Found) (notes : List Act) (place : ℕ) : Type 0 where
   pub key : Noted
-  pub there : IsRowAt found.states place key
+  pub there : IsRowAt found.table.rows place key
   pub still : IsAtRest (plain_at task.flat key.state)
   pub are : key.notes.items ≡ notes
 
@@ -52,4 +52,4 @@ HasNoEndBefore task found notes place = (k : ℕ) → k < place → ¬ IsEndAt t
 -- so it is at this place first, or at none
 abbrev pub IsFirstEnd : Task → Found → (notes : List Act) → Option ℕ → Type 0
 IsFirstEnd task found notes (Some place) = IsEndAt task found notes place × HasNoEndBefore task found notes place
-IsFirstEnd task found notes None = HasNoEndBefore task found notes (row_count found.states)
+IsFirstEnd task found notes None = HasNoEndBefore task found notes (row_count found.table.rows)

@@ -1,13 +1,14 @@
 -- States that a search through the settled states has found.
-use Rattle.std.specs.Prelude.{◌≡◌, ℕ, ◌<◌, ◌≤◌, true, false, List, [], ◌∷◌, ◌++◌, Some, length, slice_get}
+use Rattle.std.specs.Prelude.{◌≡◌, ℕ, ◌<◌, ◌≤◌, true, false, List, [], ◌++◌, Some, length, slice_get}
 use Rattle.lrc_trace.specs.declared.act.Act.{Act}
 use Rattle.lrc_exec.specs.Plain.{Plain, plain_start}
 use Rattle.lrc_exec.specs.Spots.{IsFlat}
 use Rattle.lrc_explore.specs.declared.noted.Noted.{Noted}
+use Rattle.lrc_rows.specs.declared.rows.Row.{Row}
 use Rattle.lrc_rows.specs.declared.rows.Rows.{Rows}
-use Rattle.lrc_rows.specs.Rows.{AreRowsDistinct, AreRowsFull, IsRowAt, WidensRows, row_count}
+use Rattle.lrc_rows.specs.Rows.{AreRowsDistinct, AreRowsFull, IsRowAt, StandsFor, WidensRows, row_count}
 use Rattle.lrc_exec.specs.declared.state.State.{State}
-use Rattle.lrc_explore.specs.Notes.{notes_of, notes_with}
+use Rattle.lrc_explore.specs.Notes.{notes_of}
 use Rattle.lrc_explore.specs.Kept.{Grows}
 use Rattle.lrc_explore.specs.Meeting.{IsCalm}
 use Rattle.lrc_exec.specs.States.{machine_begun, plain_at, IsStateOf}
@@ -15,10 +16,15 @@ use Rattle.lrc_explore.specs.Stuck.{IsStuck}
 use Rattle.lrc_settled.specs.Settling.{Settles}
 use Rattle.lrc_settled.specs.Steps.{IsSettledState}
 use Rattle.lrc_steps.specs.declared.step.Step.{Step}
+use Rattle.lrc_steps.specs.declared.step.Step.TheVariants.{Alone, Together}
 use Rattle.lrc_steps.specs.Gone.{SettlesTo}
 use Rattle.lrc_steps.specs.Taking.{IsCounted, Takes, TakesTo}
 use Rattle.lrc_breadth.specs.declared.task.Task.{Task}
 use Rattle.lrc_breadth.specs.declared.task.Origin.{Origin}
+use Rattle.lrc_row_steps.specs.Nexts.{notes_on}
+use Rattle.lrc_row_table.specs.declared.known.Means.{Means}
+use Rattle.lrc_row_table.specs.declared.table.Table.{Table}
+use Rattle.lrc_row_table.specs.Tables.{IsTable}
 use Rattle.lrc_live.specs.Like.{AreLike, TakesLike}
 use Rattle.lrc_live.specs.Live.{AreLive}
 use Rattle.lrc_breadth.specs.declared.task.Found.{Found}
@@ -30,10 +36,21 @@ pub record IsTask (task : Task) : Type 0 where
   pub begun : machine_begun task.flat task.start ≡ plain_start task.program.now task.flat.nodes
   pub live : AreLive task.flat.code.now task.live.items
 
--- notes with several acts more
-abbrev pub noted_on : List Act → List Act → List Act
-noted_on notes [] = notes
-noted_on notes (act ∷ acts) = noted_on (notes_with notes act) acts
+-- steps from rows are taken by what the task says
+pub record IsMeansOf (task : Task) (means : Means) : Type 0 where
+  pub flat : means.flat ≡ task.flat
+  pub live : means.live.now ≡ task.live.items
+  pub looked : means.looked ≡ task.looked
+  pub noting : means.noting ≡ task.noting
+
+-- what is known of the threads of rows is so
+abbrev pub IsTableOf : Task → Table → Type 0
+IsTableOf task table = (means : Means) → IsMeansOf task means → IsTable means table
+
+-- if one node takes the step, it is one of the program's nodes
+abbrev pub IsStepOf : Task → Step → Type 0
+IsStepOf task (Alone node) = node < task.flat.nodes
+IsStepOf task Together = Unit {0}
 
 -- a settled state of the program stands behind what is kept: the same but for how often nodes have arrived and for private values that
 -- nothing depends on any more; and if notes are kept the notes of the acts that lead there, and else none
@@ -65,7 +82,11 @@ pub record HasReached (task : Task) (all : Rows) (machine : Plain) (notes : List
 -- the states have what this step leads to from one of them
 abbrev pub HasAfter : Task → Rows → Noted → Step → Type 0
 HasAfter task all key step = (acts : List Act) (after : Plain) → Takes (plain_at task.flat key.state) step acts after
-    → HasReached task all after (noted_on key.notes.items acts)
+    → HasReached task all after (notes_on key.notes.items acts)
+
+-- so it is of the state at a place
+abbrev pub HasAfterAt : Task → Rows → (place : ℕ) → Step → Type 0
+HasAfterAt task all place step = (key : Noted) → IsRowAt all place key → HasAfter task all key step
 
 -- they have what every step leads to from it
 abbrev pub IsExpanded : Task → Rows → Noted → Type 0
@@ -89,30 +110,32 @@ pub record IsFrom (task : Task) (all : Rows) (origin : Origin) (key : Noted) : T
   pub there : IsRowAt all origin.parent before
   pub acts : List Act
   pub takes : TakesLike (plain_at task.flat before.state) origin.step acts (plain_at task.flat key.state)
-  pub noted : task.noting ≡ true → key.notes.items ≡ noted_on before.notes.items acts
+  pub noted : task.noting ≡ true → key.notes.items ≡ notes_on before.notes.items acts
 
 -- how the state at this place was found
 pub record IsFound (task : Task) (found : Found) (place : ℕ) (key : Noted) : Type 0 where
   pub origin : Origin
   pub there : slice_get found.origins.items place ≡ Some origin
   pub earlier : origin.parent < place
-  pub from : IsFrom task found.states origin key
+  pub from : IsFrom task found.table.rows origin key
 
 -- the first state is where the program's start settles, with the notes of the acts by which it does if notes are kept
 abbrev pub IsFirstKey : Task → Noted → Type 0
 IsFirstKey task key = (acts : List Act) × (machine : Plain) × Settles (plain_start task.program.now task.flat.nodes) acts machine
     × AreLike machine (plain_at task.flat key.state) × (task.noting ≡ true → key.notes.items ≡ notes_of task.flat.nodes acts)
 
--- all that was found stands for settled states, and of each but the first it is known from where it was found
+-- all that was found stands for settled states, what is known of their threads is so, and of each state but the first it is known from
+-- where it was found
 pub record AreFound (task : Task) (found : Found) : Type 0 where
-  pub reached : AreReached task found.states
-  pub even : length found.origins.items ≡ row_count found.states
-  pub from : (k : ℕ) (key : Noted) → 0 < k → IsRowAt found.states k key → IsFound task found k key
-  pub first : (key : Noted) → IsRowAt found.states 0 key → IsFirstKey task key
+  pub reached : AreReached task found.table.rows
+  pub table : IsTableOf task found.table
+  pub even : length found.origins.items ≡ row_count found.table.rows
+  pub from : (k : ℕ) (key : Noted) → 0 < k → IsRowAt found.table.rows k key → IsFound task found k key
+  pub first : (key : Noted) → IsRowAt found.table.rows 0 key → IsFirstKey task key
 
 -- what was found stays at its places, and there may be more
 pub record IsMore (old new : Found) : Type 0 where
-  pub states : WidensRows old.states new.states
+  pub rows : WidensRows old.table.rows new.table.rows
   pub origins : Grows old.origins.items new.origins.items
 
 -- a step makes these acts, put to those before, and leads from this state to that one
@@ -126,12 +149,27 @@ pub record HasTakenTo (task : Task) (state : State) (step : Step) (before after 
 abbrev pub CannotTake : Task → State → Step → Type 0
 CannotTake task state step = (acts : List Act) (after : Plain) → ¬ Takes (plain_at task.flat state) step acts after
 
--- the key stands for a state, and has its notes with these acts if notes are kept
-pub record IsKeyOf (task : Task) (state : State) (notes acts : List Act) (key : Noted) : Type 0 where
+-- no step does from the state at a place
+abbrev pub CannotTakeAt : Task → Rows → (place : ℕ) → Step → Type 0
+CannotTakeAt task all place step = (key : Noted) → IsRowAt all place key → CannotTake task key.state step
+
+-- the row stands for a settled state to which a step leads from one of these
+pub record IsNext (task : Task) (all : Rows) (origin : Origin) (row : Row) : Type 0 where
+  pub key : Noted
+  pub stands : StandsFor all row key
+  pub reached : IsReached task key
+  pub from : IsFrom task all origin key
+
+-- so it is of this step from the state at a place
+abbrev pub LeadsTo : Task → Rows → (place : ℕ) → Step → Row → Type 0
+LeadsTo task all place step = IsNext task all (record { parent = place; step = step })
+
+-- the key stands for a state, and has the notes of these acts if notes are kept
+pub record IsKeyOf (task : Task) (state : State) (acts : List Act) (key : Noted) : Type 0 where
   pub valid : IsStateOf task.flat key.state
   pub counted : IsCounted key.state
   pub alike : AreLike (plain_at task.flat key.state) (plain_at task.flat state)
-  pub noted : task.noting ≡ true → key.notes.items ≡ noted_on notes acts
+  pub noted : task.noting ≡ true → key.notes.items ≡ notes_on [] acts
   pub bare : task.noting ≡ false → key.notes.items ≡ []
 
 -- some place keeps it
@@ -146,8 +184,8 @@ pub record SettlesStart (task : Task) (before after : List Act) (state : State) 
 
 -- from where it was found, if it is not the first
 abbrev pub ComesFrom : Task → Found → Origin → Noted → Type 0
-ComesFrom task found origin key = (0 < row_count found.states → (origin.parent < row_count found.states) × IsFrom task found.states origin key)
-    × (row_count found.states ≡ 0 → IsFirstKey task key)
+ComesFrom task found origin key = (0 < row_count found.table.rows → (origin.parent < row_count found.table.rows) × IsFrom task found.table.rows origin key)
+    × (row_count found.table.rows ≡ 0 → IsFirstKey task key)
 
 -- no two nodes meet at the states before an index, and the program is stuck at none of them
 abbrev pub AreCalm : Task → Rows → (index : ℕ) → Type 0

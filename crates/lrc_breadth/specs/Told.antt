@@ -23,7 +23,7 @@ pub record LeadTo (task : Task) (found : Found) (place : ℕ) (acts : List Act) 
   pub machine : Plain
   pub led : IsSettledState task.program.now task.flat.nodes acts machine
   pub key : Noted
-  pub there : IsRowAt found.states place key
+  pub there : IsRowAt found.table.rows place key
   pub alike : AreLike machine (plain_at task.flat key.state)
   pub noted : task.noting ≡ true → notes_of task.flat.nodes acts ≡ key.notes.items
 

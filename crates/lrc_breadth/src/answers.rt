@@ -164,7 +164,7 @@ fn order_of(alloc: Global, acts: &[Act], more: &[usize]) -> Result<Vec<usize>, A
 
 impl Found {
     ghost use Rattle.std.specs.Prelude.{◌≡◌, IfOk, IfErr, OnOk, [], true, Some};
-    ghost use Rattle.lrc_rows.specs.Rows.{AreRowsDistinct, row_count};
+    ghost use Rattle.lrc_rows.specs.Rows.{row_count};
     ghost use Rattle.lrc_breadth.specs.Reached.{AreFound, HasStart, IsTask};
     ghost use Rattle.lrc_breadth.specs.Ended.{AreAllFound};
     ghost use Rattle.lrc_breadth.specs.Answers.{FitsEnd, FitsSettled, FitsSettledNoted, IsAnswer, IsEnd, IsFault};
@@ -174,10 +174,8 @@ impl Found {
     // From the settled start on, where there are no states yet: what is answered.
     fn answer(&mut self, alloc: Global, task: &Task<'_>) -> Result<Verdict, ExploreFault>
         requires task { IsTask task.now }
-        requires none { row_count self.old.states ≡ 0 }
-        requires distinct { AreRowsDistinct self.old.states }
-        requires nodes { self.old.states.nodes ≡ task.now.flat.nodes }
-        requires origins { self.old.origins.items ≡ [] }
+        requires found { AreFound task.now self.old }
+        requires none { row_count self.old.table.rows ≡ 0 }
         ensures answer { IfOk result (IsAnswer task.now.program.now task.now.flat.nodes) }
         ensures fits { IfOk result (λ verdict. FindsNoRace verdict
             → FitsSettled task.now.program.now task.now.flat.nodes task.now.most) }
@@ -192,7 +190,7 @@ impl Found {
     fn verdict(&self, alloc: Global, task: &Task<'_>, end: End) -> Result<Verdict, ExploreFault>
         requires task { IsTask task.now }
         requires found { AreFound task.now self.now }
-        requires start { HasStart task.now self.now.states }
+        requires start { HasStart task.now self.now.table.rows }
         requires end { IsEnd task.now self.now end }
         requires few { FitsEnd task.now self.now end }
         ensures answer { IfOk result (IsAnswer task.now.program.now task.now.flat.nodes) }
@@ -237,7 +235,7 @@ impl Found {
     ) -> Result<Verdict, ExploreFault>
         requires task { IsTask task.now }
         requires found { AreFound task.now self.now }
-        requires start { HasStart task.now self.now.states }
+        requires start { HasStart task.now self.now.table.rows }
         requires stuck { IsEnd task.now self.now (Through (Some place)) }
         ensures answer { IfOk result (IsAnswer task.now.program.now task.now.flat.nodes) }
         ensures faults { IfErr result (IsFault task.now) }
@@ -256,10 +254,8 @@ impl Found {
     ) -> Result<(), ExploreFault>
         requires task { IsTask task.now }
         requires noting { task.now.noting ≡ true }
-        requires none { row_count self.old.states ≡ 0 }
-        requires distinct { AreRowsDistinct self.old.states }
-        requires nodes { self.old.states.nodes ≡ task.now.flat.nodes }
-        requires origins { self.old.origins.items ≡ [] }
+        requires found { AreFound task.now self.old }
+        requires none { row_count self.old.table.rows ≡ 0 }
         requires empty { outcomes.old.keys ≡ [] }
         ensures all { OnOk result (AreAllFound task.now self.new) }
         ensures exact { OnOk result ((notes : List ActType)

@@ -1,9 +1,6 @@
 // The runs of a program that end, and their outcomes.
 
 ghost use Rattle.std.specs.Prelude.{◌≡◌, ◌↔◌, IfOk, IfErr, IsTrue, true};
-ghost use Rattle.lrc_exec.specs.Spots.{IsFlat};
-ghost use Rattle.lrc_exec.specs.States.{IsStateOf, plain_at};
-ghost use Rattle.lrc_explore.specs.Stuck.{IsAtRest};
 ghost use Rattle.lrc_breadth.specs.Answers.{FitsSettledNoted, IsFault};
 ghost use Rattle.lrc_breadth.specs.Ended.{AreEnded};
 ghost use Rattle.lrc_breadth.specs.Reached.{IsTask};
@@ -13,7 +10,6 @@ use indexmap::IndexSet;
 use lrc_explore::noted::Noted;
 use lrc_explore::outcomes::Outcome;
 use lrc_explore::search::ExploreFault;
-use lrc_explore::seen::is_still;
 use lrc_trace::act::Act;
 use std::alloc::{AllocError, Global};
 
@@ -51,20 +47,11 @@ fn has_notes(key: &Noted, notes: &[Act]) -> bool
     key.notes.as_slice() == notes
 }
 
-// Whether no node can make an act at a state, and it has these notes.
-fn is_end_with(task: &Task<'_>, key: &Noted, notes: &[Act]) -> bool
-    requires flat { IsFlat task.now.flat }
-    requires state { IsStateOf task.now.flat key.now.state }
-    ensures { IsTrue result ↔ (IsAtRest (plain_at task.now.flat key.now.state)
-        × (key.now.notes.items ≡ notes.now)) }
-{
-    is_still(&task.flat, &key.state) && has_notes(key, notes)
-}
-
 impl Found {
-    ghost use Rattle.std.specs.Prelude.{◌≡◌, ◌↔◌, IfOk, IfErr, IsTrue, true, option_map};
+    ghost use Rattle.std.specs.Prelude.{◌≡◌, ◌↔◌, ◌<◌, IfOk, IfErr, IsTrue, true, option_map};
     ghost use Rattle.lrc_breadth.specs.Answers.{IsFault};
-    ghost use Rattle.lrc_breadth.specs.Ended.{AreAllFound, IsFirstEnd, IsRunFor};
+    ghost use Rattle.lrc_breadth.specs.Ended.{AreAllFound, IsEndAt, IsFirstEnd, IsRunFor};
+    ghost use Rattle.lrc_rows.specs.Rows.{row_count};
     ghost use Rattle.lrc_breadth.specs.Reached.{AreFound, IsTask};
 
     /// Returns the acts of a run with these notes after which no node can make an act, or none if there is no such run.
@@ -99,12 +86,34 @@ impl Found {
         requires found { AreFound task.now self.now }
         ensures { IfOk result (IsFirstEnd task.now self.now notes.now) }
     {
-        for place in 0..self.states.len() {
-            let key = self.states.noted(alloc, place)?;
-            if is_end_with(task, &key, notes) {
+        for place in 0..self.table.rows.len() {
+            let is_end = self.is_end_at(alloc, task, place, notes)?;
+            if is_end {
                 return Ok(Some(place));
             }
         }
         Ok(None)
+    }
+
+    // Whether no node can make an act at the state at a place, and it has these notes.
+    fn is_end_at(
+        &self,
+        alloc: Global,
+        task: &Task<'_>,
+        place: usize,
+        notes: &[Act],
+    ) -> Result<bool, AllocError>
+        requires found { AreFound task.now self.now }
+        requires within { place < row_count self.now.table.rows }
+        ensures { IfOk result (λ is. IsTrue is ↔ IsEndAt task.now self.now notes.now place) }
+    {
+        let _most = task.most;
+        let row = self.table.rows.row(place);
+        if self.table.is_still(&row) {
+            let key = self.table.rows.noted(alloc, place)?;
+            Ok(has_notes(&key, notes))
+        } else {
+            Ok(false)
+        }
     }
 }

@@ -6,7 +6,8 @@ ghost use Rattle.lrc_exec.specs.States.{plain_at, IsStateOf};
 ghost use Rattle.lrc_settled.specs.Settling.{IsSettled};
 ghost use Rattle.lrc_steps.specs.declared.step.Step.TheVariants.{Alone, Together};
 ghost use Rattle.lrc_steps.specs.Taking.{IsCounted};
-ghost use Rattle.lrc_breadth.specs.Reached.{CannotTake, HasTakenTo, IsKeyOf, IsTask, SettlesStart, noted_on};
+ghost use Rattle.lrc_breadth.specs.Reached.{CannotTake, HasTakenTo, IsKeyOf, IsTask, SettlesStart};
+ghost use Rattle.lrc_row_steps.specs.Nexts.{notes_on};
 ghost use Rattle.lrc_breadth.specs.Answers.{IsFault, IsLongFault};
 
 use crate::task::{Found, Origin, Task};
@@ -15,7 +16,8 @@ use lrc_explore::noted::Noted;
 use lrc_explore::notes::note;
 use lrc_explore::search::ExploreFault;
 use lrc_live::forget_dead;
-use lrc_rows::rows::Rows;
+use lrc_row_table::table::Table;
+use lrc_rows::rows::Row;
 use lrc_steps::settle::settle;
 use lrc_steps::step::{Step, all_wait, contended_deed, count, take_alone, take_together};
 use lrc_trace::act::Act;
@@ -124,41 +126,29 @@ pub fn settled_start(
     Ok(state)
 }
 
-/// Returns what is kept of a state to which these acts led, after `notes`.
-fn key_of(
-    alloc: Global,
-    task: &Task<'_>,
-    state: State,
-    notes: &[Act],
-    acts: &[Act],
-) -> Result<Noted, AllocError>
+/// Returns what is kept of the start, which settled by these acts.
+fn key_of(alloc: Global, task: &Task<'_>, state: State, acts: &[Act]) -> Result<Noted, AllocError>
     requires task { IsTask task.now }
     requires state { IsStateOf task.now.flat state }
-    ensures { IfOk result (IsKeyOf task.now state notes.now acts.now) }
+    ensures { IfOk result (IsKeyOf task.now state acts.now) }
 {
     let mut state = state;
     count(&task.flat, &mut state)?;
     forget_dead(&task.flat, &task.live, &mut state);
-    let notes = notes_on(alloc, task, notes, acts)?;
+    let notes = notes_of(alloc, task, acts)?;
     Ok(Noted { state, notes })
 }
 
-// Notes with several acts more, if notes are kept, and else none.
-fn notes_on(
-    alloc: Global,
-    task: &Task<'_>,
-    notes: &[Act],
-    acts: &[Act],
-) -> Result<Vec<Act>, AllocError>
+// The notes of acts, if notes are kept, and else none.
+fn notes_of(alloc: Global, task: &Task<'_>, acts: &[Act]) -> Result<Vec<Act>, AllocError>
     ensures noted { IfOk result (λ all. task.now.noting ≡ true
-        → all.items ≡ noted_on notes.now acts.now) }
+        → all.items ≡ notes_on [] acts.now) }
     ensures bare { IfOk result (λ all. task.now.noting ≡ false → all.items ≡ []) }
 {
     let mut all = Vec::new(alloc);
     if !task.noting {
         return Ok(all);
     }
-    all.extend_from_slice(notes)?;
     note_all(&mut all, acts)?;
     Ok(all)
 }
@@ -166,7 +156,7 @@ fn notes_on(
 // Notes several acts.
 #[tactic(auto, using(crate::proofs::Keys::noted_more))]
 fn note_all(notes: &mut Vec<Act>, acts: &[Act]) -> Result<(), AllocError>
-    ensures { OnOk result (notes.new.items ≡ noted_on notes.old.items acts.now) }
+    ensures { OnOk result (notes.new.items ≡ notes_on notes.old.items acts.now) }
 {
     for act in acts {
         note(notes, *act)?;
@@ -175,21 +165,20 @@ fn note_all(notes: &mut Vec<Act>, acts: &[Act]) -> Result<(), AllocError>
 }
 
 impl Found {
-    ghost use Rattle.std.specs.Prelude.{◌≡◌, ◌<◌, ◌≤◌, ◌++◌, IfOk, IfErr, OnOk, [], length, true};
-    ghost use Rattle.lrc_exec.specs.States.{plain_at, IsStateOf};
-    ghost use Rattle.lrc_rows.specs.Rows.{AreRowsDistinct, IsRowAt, row_count};
-    ghost use Rattle.lrc_breadth.specs.Reached.{AreFound, ComesFrom, HasAfter, HasStart, IsExpanded, IsKept, IsMore, IsReached, IsTask};
+    ghost use Rattle.std.specs.Prelude.{◌≡◌, ◌<◌, IfOk, IfErr, MatchOption, OnOk};
+    ghost use Rattle.lrc_explore.specs.declared.noted.Noted.{Noted as Key};
+    ghost use Rattle.lrc_rows.specs.Rows.{IsRowAt, StandsFor, row_count};
+    ghost use Rattle.lrc_breadth.specs.declared.task.Task.{Task as TheTask};
+    ghost use Rattle.lrc_breadth.specs.Reached.{AreFound, CannotTakeAt, HasAfterAt, HasStart, IsExpandedAt, IsFirstKey, IsKept, IsMore, IsNext, IsReached, IsStepOf, IsTask, LeadsTo};
     ghost use Rattle.lrc_breadth.specs.Answers.{IsFault};
 
     /// Makes a list without states, for this many nodes.
     pub fn none(alloc: Global, nodes: usize) -> Found
-        ensures none { row_count result.states ≡ 0 }
-        ensures distinct { AreRowsDistinct result.states }
-        ensures nodes { result.states.nodes ≡ nodes }
-        ensures origins { result.origins.items ≡ [] }
+        ensures none { row_count result.table.rows ≡ 0 }
+        ensures found { (task : TheTask) → task.flat.nodes ≡ nodes → AreFound task result }
     {
         Found {
-            states: Rows::new(alloc, nodes),
+            table: Table::new(alloc, nodes),
             origins: Vec::new(alloc),
         }
     }
@@ -197,96 +186,128 @@ impl Found {
     /// Adds the settled start. There must be no states yet.
     pub fn begin(&mut self, alloc: Global, task: &Task<'_>) -> Result<(), ExploreFault>
         requires task { IsTask task.now }
-        requires none { row_count self.old.states ≡ 0 }
-        requires distinct { AreRowsDistinct self.old.states }
-        requires nodes { self.old.states.nodes ≡ task.now.flat.nodes }
-        requires origins { self.old.origins.items ≡ [] }
+        requires found { AreFound task.now self.old }
+        requires none { row_count self.old.table.rows ≡ 0 }
         ensures found { OnOk result (AreFound task.now self.new) }
-        ensures start { OnOk result (HasStart task.now self.new.states) }
+        ensures start { OnOk result (HasStart task.now self.new.table.rows) }
         ensures faults { IfErr result (IsFault task.now) }
     {
         let mut acts = Vec::new(alloc);
         let state = settled_start(alloc, task, &mut acts)?;
-        let key = key_of(alloc, task, state, &[], &acts)?;
-        let origin = Origin {
-            parent: 0,
-            step: Step::Together,
-        };
-        Ok(self.put(alloc, task, key, origin)?)
+        let key = key_of(alloc, task, state, &acts)?;
+        Ok(self.add(task, key)?)
     }
 
-    // One state more, if it is new.
-    fn put(
-        &mut self,
-        alloc: Global,
-        task: &Task<'_>,
-        key: Noted,
-        origin: Origin,
-    ) -> Result<(), AllocError>
+    // Adds the first state.
+    fn add(&mut self, task: &Task<'_>, key: Noted) -> Result<(), AllocError>
+        requires task { IsTask task.now }
         requires found { AreFound task.now self.old }
+        requires none { row_count self.old.table.rows ≡ 0 }
         requires reached { IsReached task.now key }
-        requires from { ComesFrom task.now self.old origin key }
+        requires first { IsFirstKey task.now key }
         ensures found { OnOk result (AreFound task.now self.new) }
-        ensures more { OnOk result (IsMore self.old self.new) }
-        ensures has { OnOk result (IsKept self.new.states key) }
+        ensures has { OnOk result (IsKept self.new.table.rows key) }
     {
-        let _most = task.most;
-        let (_place, added) = self.states.add(key)?;
+        let (_place, added) = self.table.add(&task.means(), key)?;
         if added {
-            self.origins.push(origin)?;
+            self.origins.push(Origin {
+                parent: 0,
+                step: Step::Together,
+            })?;
         }
         Ok(())
     }
 
-    /// Adds the states that a step leads to from one of them.
+    /// Adds the states that a step leads to from that at a place.
     pub fn expand(
         &mut self,
         alloc: Global,
         task: &Task<'_>,
         place: usize,
-        key: &Noted,
     ) -> Result<(), ExploreFault>
         requires task { IsTask task.now }
         requires found { AreFound task.now self.old }
-        requires there { IsRowAt self.old.states place key.now }
+        requires within { place < row_count self.old.table.rows }
         ensures found { OnOk result (AreFound task.now self.new) }
         ensures more { OnOk result (IsMore self.old self.new) }
-        ensures expanded { OnOk result (IsExpanded task.now self.new.states key.now) }
+        ensures expanded { OnOk result (IsExpandedAt task.now self.new.table.rows place) }
         ensures faults { IfErr result (IsFault task.now) }
     {
-        self.expand_step(alloc, task, place, key, Step::Together)?;
+        self.expand_step(alloc, task, place, Step::Together)?;
         for node in 0..task.flat.nodes {
-            self.expand_step(alloc, task, place, key, Step::Alone(node))?;
+            self.expand_step(alloc, task, place, Step::Alone(node))?;
         }
         Ok(())
     }
 
-    // The state that a step leads to from one of them, if it can be taken.
+    // The state that a step leads to from that at a place, if it can be taken.
     fn expand_step(
         &mut self,
         alloc: Global,
         task: &Task<'_>,
         place: usize,
-        key: &Noted,
         step: Step,
     ) -> Result<(), ExploreFault>
         requires task { IsTask task.now }
         requires found { AreFound task.now self.old }
-        requires there { IsRowAt self.old.states place key.now }
+        requires within { place < row_count self.old.table.rows }
+        requires step { IsStepOf task.now step }
         ensures found { OnOk result (AreFound task.now self.new) }
         ensures more { OnOk result (IsMore self.old self.new) }
-        ensures after { OnOk result (HasAfter task.now self.new.states key.now step) }
+        ensures after { OnOk result (HasAfterAt task.now self.new.table.rows place step) }
         ensures faults { IfErr result (IsFault task.now) }
     {
-        let mut acts = Vec::new(alloc);
-        let Some(after) = taken(alloc, task, &key.state, step, &mut acts)? else {
+        let Some(row) = self.row_after(alloc, task, place, step)? else {
             return Ok(());
         };
-        let next = key_of(alloc, task, after, &key.notes, &acts)?;
         let origin = Origin {
             parent: place,
             step,
         };
-        Ok(self.put(alloc, task, next, origin)?)
+        Ok(self.put(task, row, origin)?)
+    }
+
+    // The row that a step leads to from that at a place, if it can be taken.
+    fn row_after(
+        &mut self,
+        alloc: Global,
+        task: &Task<'_>,
+        place: usize,
+        step: Step,
+    ) -> Result<Option<Row>, ExploreFault>
+        requires task { IsTask task.now }
+        requires found { AreFound task.now self.old }
+        requires within { place < row_count self.old.table.rows }
+        requires step { IsStepOf task.now step }
+        ensures found { OnOk result (AreFound task.now self.new) }
+        ensures more { OnOk result (IsMore self.old self.new) }
+        ensures taken { IfOk result (λ after. MatchOption after
+            (CannotTakeAt task.now self.new.table.rows place step)
+            (LeadsTo task.now self.new.table.rows place step)) }
+        ensures faults { IfErr result (IsFault task.now) }
+    {
+        let row = self.table.rows.row(place);
+        let means = task.means();
+        match step {
+            Step::Alone(node) => self.table.alone(alloc, &means, &row, node as usize),
+            Step::Together => self.table.together(alloc, &means, &row),
+        }
+    }
+
+    // One row more, if it is new.
+    fn put(&mut self, task: &Task<'_>, row: Row, origin: Origin) -> Result<(), AllocError>
+        requires found { AreFound task.now self.old }
+        requires next { IsNext task.now self.old.table.rows origin row }
+        ensures found { OnOk result (AreFound task.now self.new) }
+        ensures more { OnOk result (IsMore self.old self.new) }
+        ensures has { OnOk result ((key : Key) → StandsFor self.old.table.rows row key
+            → IsKept self.new.table.rows key) }
+    {
+        let _most = task.most;
+        let (_place, added) = self.table.put(row)?;
+        if added {
+            self.origins.push(origin)?;
+        }
+        Ok(())
     }
 }

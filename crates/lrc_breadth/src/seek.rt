@@ -9,7 +9,6 @@ use crate::task::{End, Found, Task, Visit};
 use indexmap::IndexSet;
 use lrc_explore::outcomes::Outcome;
 use lrc_explore::search::ExploreFault;
-use lrc_explore::seen::{is_still, is_stuck, meeting};
 use lrc_trace::act::Act;
 use std::alloc::{AllocError, Global};
 
@@ -42,8 +41,8 @@ impl Found {
     {
         let mut stuck = None;
         let mut place = 0;
-        while place < self.states.len() {
-            if self.states.len() > task.most {
+        while place < self.table.rows.len() {
+            if self.table.rows.len() > task.most {
                 return Err(ExploreFault::TooMany);
             }
             match self.visit(alloc, task, place)? {
@@ -60,18 +59,19 @@ impl Found {
     fn visit(&mut self, alloc: Global, task: &Task<'_>, place: usize) -> Result<Visit, ExploreFault>
         requires task { IsTask task.now }
         requires found { AreFound task.now self.old }
-        requires within { place < row_count self.old.states }
+        requires within { place < row_count self.old.table.rows }
         ensures found { OnOk result (AreFound task.now self.new) }
         ensures more { OnOk result (IsMore self.old self.new) }
         ensures visit { IfOk result (IsVisit task.now self.new place) }
         ensures faults { IfErr result (IsFault task.now) }
     {
-        let key = self.states.noted(alloc, place)?;
-        if let Some((p, q)) = meeting(&task.flat, &key.state) {
+        let row = self.table.rows.row(place);
+        if let Some((p, q)) = self.table.meeting(&row) {
             return Ok(Visit::Meeting(p, q));
         }
-        self.expand(alloc, task, place, &key)?;
-        if is_stuck(&task.flat, &key.state) {
+        let stuck = self.table.is_stuck(&row);
+        self.expand(alloc, task, place)?;
+        if stuck {
             Ok(Visit::Stuck)
         } else {
             Ok(Visit::Past)
@@ -91,14 +91,14 @@ impl Found {
         ensures found { OnOk result (AreFound task.now self.new) }
         ensures more { OnOk result (IsMore self.old self.new) }
         ensures sound { OnOk result (AreSound task.now outcomes.new.keys) }
-        ensures done { OnOk result (AreGathered task.now self.new.states outcomes.new.keys
-            (row_count self.new.states)) }
-        ensures fits { OnOk result (row_count self.new.states ≤ task.now.most) }
+        ensures done { OnOk result (AreGathered task.now self.new.table.rows outcomes.new.keys
+            (row_count self.new.table.rows)) }
+        ensures fits { OnOk result (row_count self.new.table.rows ≤ task.now.most) }
         ensures faults { IfErr result (IsFault task.now) }
     {
         let mut place = 0;
-        while place < self.states.len() {
-            if self.states.len() > task.most {
+        while place < self.table.rows.len() {
+            if self.table.rows.len() > task.most {
                 return Err(ExploreFault::TooMany);
             }
             self.take_outcome(alloc, task, place, outcomes)?;
@@ -117,18 +117,20 @@ impl Found {
     ) -> Result<(), ExploreFault>
         requires task { IsTask task.now }
         requires found { AreFound task.now self.old }
-        requires within { place < row_count self.old.states }
+        requires within { place < row_count self.old.table.rows }
         requires sound { AreSound task.now outcomes.old.keys }
         ensures found { OnOk result (AreFound task.now self.new) }
         ensures more { OnOk result (IsMore self.old self.new) }
         ensures grows { OnOk result (Grows outcomes.old.keys outcomes.new.keys) }
         ensures sound { OnOk result (AreSound task.now outcomes.new.keys) }
-        ensures done { OnOk result (IsGatheredAt task.now self.new.states outcomes.new.keys place) }
+        ensures done { OnOk result (IsGatheredAt task.now self.new.table.rows outcomes.new.keys place) }
         ensures faults { IfErr result (IsFault task.now) }
     {
-        let key = self.states.noted(alloc, place)?;
-        self.expand(alloc, task, place, &key)?;
-        if is_still(&task.flat, &key.state) {
+        let row = self.table.rows.row(place);
+        let still = self.table.is_still(&row);
+        self.expand(alloc, task, place)?;
+        if still {
+            let key = self.table.rows.noted(alloc, place)?;
             keep(outcomes, key.notes)?;
         }
         Ok(())

@@ -1,8 +1,11 @@
 // What is searched, and what was found.
 
+ghost use Rattle.lrc_breadth.specs.Reached.{IsMeansOf};
+
 use lrc_exec::spot::Flat;
 use lrc_lang::program::Program;
-use lrc_rows::rows::Rows;
+use lrc_row_table::known::Means;
+use lrc_row_table::table::Table;
 use lrc_steps::step::Step;
 
 /// The task of a search: a program, its code and the place where the code begins, the names that matter at each place,
@@ -18,6 +21,20 @@ pub struct Task<'c> {
     pub noting: bool,
 }
 
+impl Task<'_> {
+    /// Returns what steps from rows are taken by.
+    pub(crate) fn means(&self) -> Means<'_>
+        ensures { IsMeansOf self.now result }
+    {
+        Means {
+            flat: self.flat,
+            live: &self.live,
+            looked: self.looked,
+            noting: self.noting,
+        }
+    }
+}
+
 /// How a state was found: from which state, and by which step.
 #[derive(Clone, Copy)]
 pub struct Origin {
@@ -25,10 +42,11 @@ pub struct Origin {
     pub step: Step,
 }
 
-/// The states found, each once, in the order of finding, and how each was found.
+/// The states found, each once, in the order of finding, with what is known of the steps of their threads, and how each
+/// was found.
 #[derive(Drop)]
 pub struct Found {
-    pub states: Rows,
+    pub table: Table,
     pub origins: Vec<Origin>,
 }
 

@@ -23,7 +23,7 @@ impl Found {
     ) -> Result<Vec<Act>, ExploreFault>
         requires task { IsTask task.now }
         requires found { AreFound task.now self.now }
-        requires within { place < row_count self.now.states }
+        requires within { place < row_count self.now.table.rows }
         ensures led { IfOk result (λ acts. LeadTo task.now self.now place acts.items) }
         ensures faults { IfErr result (IsFault task.now) }
     {
@@ -65,7 +65,7 @@ impl Found {
         place: usize,
     ) -> Result<Vec<usize>, AllocError>
         requires found { AreFound task.now self.now }
-        requires within { place < row_count self.now.states }
+        requires within { place < row_count self.now.table.rows }
         ensures { IfOk result (λ path. Comes self.now.origins.items 0 path.items place) }
     {
         let _most = task.most;
@@ -90,14 +90,14 @@ impl Found {
     ) -> Result<(), ExploreFault>
         requires task { IsTask task.now }
         requires found { AreFound task.now self.now }
-        requires within { place < row_count self.now.states }
+        requires within { place < row_count self.now.table.rows }
         requires later { 0 < place }
         requires led { IsParentLed task.now self.now place acts.old.items }
         ensures led { OnOk result (LeadTo task.now self.now place acts.new.items) }
         ensures faults { IfErr result (IsFault task.now) }
     {
         let origin = self.origins[place];
-        let key = self.states.noted(alloc, origin.parent)?;
+        let key = self.table.rows.noted(alloc, origin.parent)?;
         let _after = taken(alloc, task, &key.state, origin.step, acts)?;
         Ok(())
     }

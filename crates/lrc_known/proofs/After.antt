@@ -10,9 +10,9 @@ use Rattle.lrc_known.specs.declared.known.KnownWord.{KnownWord}
 use Rattle.lrc_known.specs.declared.known.Knowledge.{Knowledge}
 use Rattle.lrc_known.specs.declared.word.Effect.{Effect}
 use Rattle.lrc_known.specs.declared.word.Effect.TheVariants.{Passes, Writes, Learns}
-use Rattle.lrc_known.specs.Word.{IsSame, MayGive}
+use Rattle.lrc_known.specs.Word.{IsSame, IsWithout, MayGive}
 use Rattle.lrc_known.specs.Made.{AreEach}
-use Rattle.lrc_known.specs.Effect.{knowers_in, word_of, IsAfter, IsKnowledgeAfter, IsWithin}
+use Rattle.lrc_known.specs.Effect.{knowers_in, word_of, IsAfter, IsKnowledgeAfter, IsKnowledgeWithout, IsWithin}
 use Rattle.lrc_known.proofs.Made.{get_at}
 
 same_none : IsSame [] []
@@ -36,6 +36,25 @@ words_after effect old new count within long all word =
           subst (λ o. IsAfter effect word (word_of old word) (knowers_in o)) (sym (slice_get_past new.words.items word (omega arith)))
           (subst (λ o. IsAfter effect word (knowers_in o) []) (sym (slice_get_past old.words.items word (omega arith)))
           (none_after effect count word within le))
+    ]
+
+-- the same where some are dropped
+without_none : (first count : ℕ) → IsWithout first count [] []
+without_none first count = record { lasts = λ k. refl; values = λ k v. (λ c. c, λ c. c); above = λ k z. refl }
+
+pub words_without : (first dropped : ℕ) (old new : Knowledge) (count : ℕ) → length old.words.items ≤ count
+    → AreEach (λ w (x : KnownWord). IsWithout first dropped (word_of old w) x.knowers.items) new.words.items count
+    → IsKnowledgeWithout first dropped old new
+words_without first dropped old new count long all word =
+    let len = all.len in
+    elim (cases_lt word count) [
+      | inl lt ↦
+          let found = get_at new.words.items word (omega arith) in
+          subst (λ o. IsWithout first dropped (word_of old word) (knowers_in o)) (sym found.1) (all.each word found.0 found.1)
+      | inr le ↦
+          subst (λ o. IsWithout first dropped (word_of old word) (knowers_in o)) (sym (slice_get_past new.words.items word (omega arith)))
+          (subst (λ o. IsWithout first dropped (knowers_in o) []) (sym (slice_get_past old.words.items word (omega arith)))
+          (without_none first dropped))
     ]
 
 -- what may be read of writes that are not ordered

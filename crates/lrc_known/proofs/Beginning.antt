@@ -8,7 +8,8 @@ use Rattle.lrc_known.specs.Word.{Describes}
 use Rattle.lrc_known.specs.Effect.{word_of, IsKnowledgeOf}
 use Rattle.lrc_known.proofs.Sets.{describes_nothing}
 
-pub nothing_known : (nodes locks : ℕ) (knowledge : Knowledge) → ((word : ℕ) → word_of knowledge word ≡ []) → IsKnowledgeOf nodes locks [] knowledge
-nothing_known nodes locks knowledge none word =
-    subst (λ kept. Describes (HappensBefore []) (KnowsWrite nodes locks [] word) kept) (sym (none word))
-    (describes_nothing (HappensBefore []) (KnowsWrite nodes locks [] word) (λ k i v h. let lt = Does-within h.write.1 in omega (arith, lt)))
+pub nothing_known : (nodes locks gone : ℕ) (knowledge : Knowledge) → ((word : ℕ) → word_of knowledge word ≡ [])
+    → IsKnowledgeOf nodes locks gone [] knowledge
+nothing_known nodes locks gone knowledge none word =
+    subst (λ kept. Describes (HappensBefore []) (KnowsWrite nodes locks gone [] word) kept) (sym (none word))
+    (describes_nothing (HappensBefore []) (KnowsWrite nodes locks gone [] word) (λ k i v h. let lt = Does-within h.write.1 in omega (arith, lt)))

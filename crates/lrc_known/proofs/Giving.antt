@@ -17,7 +17,7 @@ use Rattle.lrc_known.specs.Word.{Describes, IsLast, IsLastOf, AreChained, MayGiv
 use Rattle.lrc_known.specs.Effect.{AreOf}
 use Rattle.lrc_known.proofs.Telling.{Before, by_node, by_lock, by_barrier, before_cases, node_before, knows_within}
 
-module _ (nodes locks : ℕ) (run : List Act) (node word value : ℕ) (are : AreOf nodes locks run) (own : node < nodes) where
+module _ (nodes locks gone : ℕ) (run : List Act) (node word value : ℕ) (are : AreOf nodes locks run) (own : node < nodes) where
   abbrev read : Act
   read = act_of node (Read word value)
 
@@ -28,23 +28,23 @@ module _ (nodes locks : ℕ) (run : List Act) (node word value : ℕ) (are : Are
   j = length run
 
   abbrev known : ℕ → ℕ → Type 0
-  known i v = KnowsWrite nodes locks run word node i v
+  known i v = KnowsWrite nodes locks gone run word node i v
 
-  own_known : {i : ℕ} → Before nodes locks run read i → Knows nodes locks run node i
+  own_known : {i : ℕ} → Before nodes locks gone run read 0 i → Knows nodes locks gone run node i
   own_known (by_node h) = h
   own_known (by_lock e h) = cc
   own_known (by_barrier e h) = cc
 
   to_known : {i v : ℕ} → WrittenBefore on j word i v → known i v
   to_known {i} {v} h =
-      let knows = own_known (before_cases nodes locks run read h.before) in
-      let lt = knows_within nodes locks knows in
+      let knows = own_known (before_cases nodes locks gone run read (λ e. cc) h.before) in
+      let lt = knows_within nodes locks gone knows in
       let (p, d) = h.write in
       record { write = (p, Does-shorter (read ∷ []) lt d); knows = knows }
 
   from_known : {i v : ℕ} → known i v → WrittenBefore on j word i v
   from_known {i} {v} h =
-      let (p, d) = h.write in record { write = (p, Does-longer (read ∷ []) d); before = node_before nodes locks run read are own h.knows }
+      let (p, d) = h.write in record { write = (p, Does-longer (read ∷ []) d); before = node_before nodes locks gone run read are own h.knows }
 
   one_value : {i u v : ℕ} → WrittenBefore on j word i u → WrittenBefore on j word i v → u ≡ v
   one_value g h = let e = Does-one_deed g.write.1 h.write.1 in cc
@@ -56,10 +56,10 @@ module _ (nodes locks : ℕ) (run : List Act) (node word value : ℕ) (are : Are
   chained_of : ((i k u v : ℕ) → WrittenBefore on j word i u → WrittenBefore on j word k v → i < k → HappensBefore on i k)
       → AreChained (HappensBefore run) known
   chained_of ordered i k u v a b lt =
-      let within = knows_within nodes locks b.knows in
+      let within = knows_within nodes locks gone b.knows in
       shorter run (read ∷ []) within (ordered i k u v (from_known a) (from_known b) lt)
 
-  module _ (kept : List Known) (d : Describes (HappensBefore run) (KnowsWrite nodes locks run word) kept) where
+  module _ (kept : List Known) (d : Describes (HappensBefore run) (KnowsWrite nodes locks gone run word) kept) where
     may_to : (x : Last) → IsLast (HappensBefore run) known x → MayRead on j word value → MayGive x (values_of kept node) value
     may_to Nothing none m =
         (m.strong (λ i k u v g h lt. absurd (none i u (to_known g)))).none (λ i v g. none i v (to_known g))

@@ -7,3 +7,5 @@ pub mod Giving
 pub mod Made
 pub mod After
 pub mod Beginning
+pub mod Dropping
+pub mod Cutting

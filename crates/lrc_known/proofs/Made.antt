@@ -10,9 +10,9 @@ use Rattle.lrc_known.specs.declared.known.Last.{Last}
 use Rattle.lrc_known.specs.declared.known.Known.{Known}
 use Rattle.lrc_known.specs.declared.word.Source.{Source}
 use Rattle.lrc_known.specs.declared.word.Source.TheVariants.{Own, Taught, Neither}
-use Rattle.lrc_known.specs.Word.{last_in, values_in, row_in, last_of, values_of, row_of, is_above, last_by, last_then, is_ordered, source_of, above_then, above_by, above_learned, above_written}
-use Rattle.lrc_known.specs.Word.{IsLearned, IsWritten, IsSame}
-use Rattle.lrc_known.specs.Made.{AreEach, last_learned, values_taught, IsLearnedBy, last_written, IsWrittenBy, IsCopyOf}
+use Rattle.lrc_known.specs.Word.{last_in, values_in, row_in, last_of, values_of, row_of, is_above, last_by, last_then, is_ordered, source_of, above_then, above_by, above_learned, above_written, number_before}
+use Rattle.lrc_known.specs.Word.{IsLearned, IsWritten, IsSame, IsWithout}
+use Rattle.lrc_known.specs.Made.{AreEach, last_learned, values_taught, IsLearnedBy, last_written, IsWrittenBy, IsCopyOf, IsKnownWithout}
 
 -- ---- one after another
 
@@ -244,6 +244,45 @@ module _ (word after : List Known) (count : ℕ) (all : AreEach (IsCopyOf word) 
     lasts = λ k. copy_last k (copy_at k);
     values = λ k v. (copy_to k v (copy_at k), copy_from k v (copy_at k));
     above = λ k z. copy_above k z (copy_at k);
+  }
+
+-- where some are dropped
+module _ (word left : List Known) (first dropped count : ℕ) (all : AreEach (IsKnownWithout word first dropped) left count)
+    (past_all : (k : ℕ) → count ≤ k → length word ≤ number_before first dropped k) where
+  data Left (k : ℕ) : Type 0 where
+    left_there : (x : Known) → slice_get left k ≡ Some x → IsKnownWithout word first dropped k x → Left k
+    left_past : slice_get left k ≡ None → slice_get word (number_before first dropped k) ≡ None → Left k
+
+  left_at : (k : ℕ) → Left k
+  left_at k =
+      let len = all.len in
+      elim (cases_lt k count) [
+        | inl lt ↦ let found = get_at left k (omega arith) in left_there found.0 found.1 (all.each k found.0 found.1)
+        | inr le ↦ left_past (slice_get_past left k (omega arith)) (slice_get_past word (number_before first dropped k) (past_all k le))
+      ]
+
+  left_last : (k : ℕ) → Left k → last_of left k ≡ last_of word (number_before first dropped k)
+  left_last k (left_there x e is) = ap last_in e ∙ is.last
+  left_last k (left_past e gone) = ap last_in e ∙ sym (ap last_in gone)
+
+  left_to : (k v : ℕ) → Left k → Contains (values_of left k) v → Contains (values_of word (number_before first dropped k)) v
+  left_to k v (left_there x e is) c = (is.values v).0 (subst (λ o. Contains (values_in o) v) e c)
+  left_to k v (left_past e gone) c = absurd (no_value v (values_of left k) (ap values_in e) c)
+
+  left_from : (k v : ℕ) → Left k → Contains (values_of word (number_before first dropped k)) v → Contains (values_of left k) v
+  left_from k v (left_there x e is) c = subst (λ o. Contains (values_in o) v) (sym e) ((is.values v).1 c)
+  left_from k v (left_past e gone) c = absurd (no_value v (values_of word (number_before first dropped k)) (ap values_in gone) c)
+
+  left_above : (k z : ℕ) → Left k → is_above left k z ≡ is_above word (number_before first dropped k) (number_before first dropped z)
+  left_above k z (left_there x e is) = ap (λ o. slice_index_or (row_in o) z false) e ∙ is.above z
+  left_above k z (left_past e gone) =
+      none_above left k z e ∙ sym (none_above word (number_before first dropped k) (number_before first dropped z) gone)
+
+  pub all_without : IsWithout first dropped word left
+  all_without = record {
+    lasts = λ k. left_last k (left_at k);
+    values = λ k v. (left_to k v (left_at k), left_from k v (left_at k));
+    above = λ k z. left_above k z (left_at k);
   }
 
 -- ---- sets of values

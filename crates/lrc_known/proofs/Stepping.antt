@@ -14,14 +14,15 @@ use Rattle.lrc_known.specs.declared.known.Known.{Known}
 use Rattle.lrc_known.specs.declared.known.Knowledge.{Knowledge}
 use Rattle.lrc_known.specs.Knowing.{Tells, to_node, to_lock, to_barrier, Knows, KnowsWrite}
 use Rattle.lrc_known.specs.Word.{Describes, IsLast, IsSame, IsLearned, IsWritten, last_of}
-use Rattle.lrc_known.specs.Effect.{effect_of, word_of, IsAfter, IsKnowledgeAfter, IsKnowledgeOf, AreOf}
+use Rattle.lrc_known.specs.Effect.{effect_of, word_of, IsAfter, IsKnowledgeAfter, IsKnowledgeOf, AreCounts, AreOf}
 use Rattle.lrc_known.proofs.Sets.{describes_moved}
 use Rattle.lrc_known.proofs.Learning.{learned, describes_learned}
 use Rattle.lrc_known.proofs.Writing.{written, describes_written}
 use Rattle.lrc_known.proofs.Telling.{knows_before, knows_within, knows_on, knows_cases, Before, by_node, by_lock, by_barrier, before_cases}
 use Rattle.lrc_known.proofs.Telling.{node_before, lock_before, barrier_before}
 
-module _ (nodes locks : ℕ) (run : List Act) (a : Act) (are : AreOf nodes locks run) (own : a.node < nodes) (word : ℕ) where
+module _ (nodes locks gone arrived departed : ℕ) (run : List Act) (a : Act) (are : AreOf nodes locks run) (own : a.node < nodes)
+    (counts : AreCounts gone run a.node a.deed arrived departed) (word : ℕ) where
   abbrev j : ℕ
   j = length run
 
@@ -29,29 +30,29 @@ module _ (nodes locks : ℕ) (run : List Act) (a : Act) (are : AreOf nodes locks
   on = run ++ a ∷ []
 
   abbrev known : ℕ → ℕ → ℕ → Type 0
-  known k i v = KnowsWrite nodes locks run word k i v
+  known k i v = KnowsWrite nodes locks gone run word k i v
 
   abbrev then_known : ℕ → ℕ → ℕ → Type 0
-  then_known k i v = KnowsWrite nodes locks on word k i v
+  then_known k i v = KnowsWrite nodes locks gone on word k i v
 
   within : {k i v : ℕ} → known k i v → i < j
-  within h = knows_within nodes locks h.knows
+  within h = knows_within nodes locks gone h.knows
 
   same_value : {i u v : ℕ} → IsDone run i (Write word u) → IsDone run i (Write word v) → u ≡ v
   same_value (p, d) (q, e) = let same = Does-one_deed d e in cc
 
   closed : (k z i m u v : ℕ) → known k m v → known z i u → HappensBefore run i m → known k i u
-  closed k z i m u v h g b = record { write = g.write; knows = knows_before nodes locks h.knows b }
+  closed k z i m u v h g b = record { write = g.write; knows = knows_before nodes locks gone h.knows b }
 
   one : (k z i u v : ℕ) → known k i u → known z i v → u ≡ v
   one k z i u v h g = same_value h.write g.write
 
   keep : {k i v : ℕ} → known k i v → then_known k i v
-  keep {k} {i} {v} h = let (p, d) = h.write in record { write = (p, Does-longer (a ∷ []) d); knows = knows_on nodes locks run a h.knows }
+  keep {k} {i} {v} h = let (p, d) = h.write in record { write = (p, Does-longer (a ∷ []) d); knows = knows_on nodes locks gone run a h.knows }
 
   -- an earlier write that is known
-  earlier : {k i v : ℕ} → IsDone on i (Write word v) → Knows nodes locks run k i → known k i v
-  earlier {k} {i} {v} (p, d) h = let lt = knows_within nodes locks h in record { write = (p, Does-shorter (a ∷ []) lt d); knows = h }
+  earlier : {k i v : ℕ} → IsDone on i (Write word v) → Knows nodes locks gone run k i → known k i v
+  earlier {k} {i} {v} (p, d) h = let lt = knows_within nodes locks gone h in record { write = (p, Does-shorter (a ∷ []) lt d); knows = h }
 
   order_on : (z k i m u v : ℕ) → known z i u → known k m v → HappensBefore run i m → HappensBefore on i m
   order_on z k i m u v g h b = longer run (a ∷ []) b
@@ -62,30 +63,30 @@ module _ (nodes locks : ℕ) (run : List Act) (a : Act) (are : AreOf nodes locks
   -- what is known then, in terms of what was: the sets are those of the effect
   data Now (k i v : ℕ) : Type 0 where
     was : known k i v → Now k i v
-    told_write : Tells nodes locks on j k → i ≡ j → a.deed ≡ Write word v → Now k i v
-    told_before : Tells nodes locks on j k → Before nodes locks run a i → IsDone on i (Write word v) → Now k i v
+    told_write : Tells nodes locks gone on j k → i ≡ j → a.deed ≡ Write word v → Now k i v
+    told_before : Tells nodes locks gone on j k → Before nodes locks gone run a departed i → IsDone on i (Write word v) → Now k i v
 
   now : {k i v : ℕ} → then_known k i v → Now k i v
-  now {k} {i} {v} h = elim (knows_cases nodes locks run a h.knows) [
+  now {k} {i} {v} h = elim (knows_cases nodes locks gone run a h.knows) [
     | inl before ↦ was (earlier h.write before)
     | inr (told, inl same) ↦
         let (p, d) = h.write in
         told_write told same (Does-one_deed (Does-last run a) (subst (λ x. Does on x p (Write word v)) same d))
-    | inr (told, inr before) ↦ told_before told (before_cases nodes locks run a before) h.write
+    | inr (told, inr before) ↦ told_before told (before_cases nodes locks gone run a counts.departs before) h.write
   ]
 
-  told_node : (k : ℕ) → Tells nodes locks on j k → ((m : ℕ) → a.deed ≡ Release m → ⊥) → (a.deed ≡ Arrive → ⊥) → k ≡ a.node
+  told_node : (k : ℕ) → Tells nodes locks gone on j k → ((m : ℕ) → a.deed ≡ Release m → ⊥) → (a.deed ≡ Arrive → ⊥) → k ≡ a.node
   told_node k (to_node d) no_release no_arrive = Does-one_node d (Does-last run a)
   told_node k (to_lock e d) no_release no_arrive = absurd (no_release _ (Does-one_deed (Does-last run a) d))
-  told_node k (to_barrier e d) no_release no_arrive = absurd (no_arrive (Does-one_deed (Does-last run a) d))
+  told_node k (to_barrier n e c d) no_release no_arrive = absurd (no_arrive (Does-one_deed (Does-last run a) d))
 
   -- what was done before at an act that learns of nobody
-  alone : {i : ℕ} → Before nodes locks run a i → ((l : ℕ) → a.deed ≡ Acquire l → ⊥) → (a.deed ≡ Depart → ⊥) → Knows nodes locks run a.node i
+  alone : {i : ℕ} → Before nodes locks gone run a departed i → ((l : ℕ) → a.deed ≡ Acquire l → ⊥) → (a.deed ≡ Depart → ⊥) → Knows nodes locks gone run a.node i
   alone (by_node h) no_acquire no_depart = h
   alone (by_lock e h) no_acquire no_depart = absurd (no_acquire _ e)
   alone (by_barrier e h) no_acquire no_depart = absurd (no_depart e)
 
-  told_too : {k i v : ℕ} → Tells nodes locks on j k → Reaches on i j → IsDone on i (Write word v) → then_known k i v
+  told_too : {k i v : ℕ} → Tells nodes locks gone on j k → Reaches on i j → IsDone on i (Write word v) → then_known k i v
   told_too t r w = record { write = w; knows = record { through = j; told = t; reaches = r } }
 
   -- the write of an earlier position, in the run that is longer
@@ -120,7 +121,7 @@ module _ (nodes locks : ℕ) (run : List Act) (a : Act) (are : AreOf nodes locks
 
     module _ (value : ℕ) (is : a.deed ≡ Write word value) where
       abbrev set_written : ℕ → ℕ → ℕ → Type 0
-      set_written = written (HappensBefore on) known j a.node value (λ k i v h. within h) (λ i v h. node_before nodes locks run a are own h.knows)
+      set_written = written (HappensBefore on) known j a.node value (λ k i v h. within h) (λ i v h. node_before nodes locks gone run a are own h.knows)
 
       written_to : (k i v : ℕ) → set_written k i v → then_known k i v
       written_to k i v h = elim h [
@@ -143,7 +144,7 @@ module _ (nodes locks : ℕ) (run : List Act) (a : Act) (are : AreOf nodes locks
       pub writing : IsWritten old a.node value new → Describes (HappensBefore on) then_known new
       writing e = described set_written written_to (λ k i v h. written_now k i v (now h))
           (describes_written (HappensBefore on) known j a.node value (λ k i v h. within h)
-          (λ i v h. node_before nodes locks run a are own h.knows) old moved new e)
+          (λ i v h. node_before nodes locks gone run a are own h.knows) old moved new e)
 
     -- ---- one learns what another knows
     closed_on : (k z i m u v : ℕ) → known k m v → known z i u → HappensBefore on i m → known k i u
@@ -163,8 +164,8 @@ module _ (nodes locks : ℕ) (run : List Act) (a : Act) (are : AreOf nodes locks
 
     -- what the node learns, from the lock that it acquires or the barrier that it departs from
     module _ (t : ℕ) (no_release : (m : ℕ) → a.deed ≡ Release m → ⊥) (no_arrive : a.deed ≡ Arrive → ⊥) (no_write : (v : ℕ) → a.deed ≡ Write word v → ⊥)
-        (happens : (i : ℕ) → Knows nodes locks run t i → HappensBefore on i j)
-        (sources : (i : ℕ) → Before nodes locks run a i → Knows nodes locks run a.node i ⊎ Knows nodes locks run t i) where
+        (happens : (i : ℕ) → Knows nodes locks gone run t i → HappensBefore on i j)
+        (sources : (i : ℕ) → Before nodes locks gone run a departed i → Knows nodes locks gone run a.node i ⊎ Knows nodes locks gone run t i) where
       taught_to : (k i v : ℕ) → set_learned a.node t k i v → then_known k i v
       taught_to k i v h = elim h [
         | inl a ↦ keep a
@@ -186,33 +187,33 @@ module _ (nodes locks : ℕ) (run : List Act) (a : Act) (are : AreOf nodes locks
 
     pub acquiring : (l : ℕ) → l < locks → a.deed ≡ Acquire l
         → IsLearned old a.node (nodes + l) new ⊎ ((last_of old (nodes + l) ≡ Nothing) × IsSame old new) → Describes (HappensBefore on) then_known new
-    acquiring l lt is e = taught (nodes + l) (λ m x. cc) (λ x. cc) (λ v x. cc) (λ i h. lock_before nodes locks run a are own l lt is h) source e
+    acquiring l lt is e = taught (nodes + l) (λ m x. cc) (λ x. cc) (λ v x. cc) (λ i h. lock_before nodes locks gone run a are own l lt is h) source e
       where
-        source : (i : ℕ) → Before nodes locks run a i → Knows nodes locks run a.node i ⊎ Knows nodes locks run (nodes + l) i
+        source : (i : ℕ) → Before nodes locks gone run a departed i → Knows nodes locks gone run a.node i ⊎ Knows nodes locks gone run (nodes + l) i
         source i (by_node h) = inl h
         source i (by_lock {l = m} x h) =
             let e : Acquire m ≡ Acquire l = sym x ∙ is in
             let same : m ≡ l = cc in
-            inr (subst (λ y. Knows nodes locks run (nodes + y) i) same h)
+            inr (subst (λ y. Knows nodes locks gone run (nodes + y) i) same h)
         source i (by_barrier x h) = cc
 
-    pub departing : a.deed ≡ Depart → IsLearned old a.node (nodes + locks + departs_before run a.node j) new
-        ⊎ ((last_of old (nodes + locks + departs_before run a.node j) ≡ Nothing) × IsSame old new) → Describes (HappensBefore on) then_known new
-    departing is e = taught (nodes + locks + departs_before run a.node j) (λ m x. cc) (λ x. cc) (λ v x. cc)
-        (λ i h. barrier_before nodes locks run a are own is h) source e
+    pub departing : a.deed ≡ Depart → IsLearned old a.node (nodes + locks + departed) new
+        ⊎ ((last_of old (nodes + locks + departed) ≡ Nothing) × IsSame old new) → Describes (HappensBefore on) then_known new
+    departing is e = taught (nodes + locks + departed) (λ m x. cc) (λ x. cc) (λ v x. cc)
+        (λ i h. barrier_before nodes locks gone run a are own departed is (counts.departs is) h) source e
       where
-        source : (i : ℕ) → Before nodes locks run a i → Knows nodes locks run a.node i ⊎ Knows nodes locks run (nodes + locks + departs_before run a.node j) i
+        source : (i : ℕ) → Before nodes locks gone run a departed i → Knows nodes locks gone run a.node i ⊎ Knows nodes locks gone run (nodes + locks + departed) i
         source i (by_node h) = inl h
         source i (by_lock {l = m} x h) = cc
         source i (by_barrier x h) = inr h
 
     -- what a lock learns of its node, or a barrier
     module _ (l : ℕ) (no_acquire : (m : ℕ) → a.deed ≡ Acquire m → ⊥) (no_depart : a.deed ≡ Depart → ⊥) (no_write : (v : ℕ) → a.deed ≡ Write word v → ⊥)
-        (tells : (k : ℕ) → k ≡ l → Tells nodes locks on j k) (told : (k : ℕ) → Tells nodes locks on j k → (k ≡ a.node) ⊎ (k ≡ l)) where
+        (tells : (k : ℕ) → k ≡ l → Tells nodes locks gone on j k) (told : (k : ℕ) → Tells nodes locks gone on j k → (k ≡ a.node) ⊎ (k ≡ l)) where
       given_to : (k i v : ℕ) → set_learned l a.node k i v → then_known k i v
       given_to k i v h = elim h [
         | inl a ↦ keep a
-        | inr (its, b) ↦ told_too (tells k its) (inr (node_before nodes locks run a are own b.knows)) (still b)
+        | inr (its, b) ↦ told_too (tells k its) (inr (node_before nodes locks gone run a are own b.knows)) (still b)
       ]
 
       given_now : (k i v : ℕ) → Now k i v → set_learned l a.node k i v
@@ -232,33 +233,35 @@ module _ (nodes locks : ℕ) (run : List Act) (a : Act) (are : AreOf nodes locks
         → IsLearned old (nodes + l) a.node new ⊎ ((last_of old a.node ≡ Nothing) × IsSame old new) → Describes (HappensBefore on) then_known new
     releasing l is e = given (nodes + l) (λ m x. cc) (λ x. cc) (λ v x. cc) (λ k its. to_lock its (Does-deed is (Does-last run a))) told e
       where
-        told : (k : ℕ) → Tells nodes locks on j k → (k ≡ a.node) ⊎ (k ≡ nodes + l)
+        told : (k : ℕ) → Tells nodes locks gone on j k → (k ≡ a.node) ⊎ (k ≡ nodes + l)
         told k (to_node d) = inl (Does-one_node d (Does-last run a))
         told k (to_lock {l = m} x d) =
             let e : Release m ≡ Release l = sym (Does-one_deed (Does-last run a) d) ∙ is in
             let same : m ≡ l = cc in
             inr (x ∙ ap (λ y. nodes + y) same)
-        told k (to_barrier x d) = let e : Arrive ≡ Release l = sym (Does-one_deed (Does-last run a) d) ∙ is in cc
+        told k (to_barrier n x c d) = let e : Arrive ≡ Release l = sym (Does-one_deed (Does-last run a) d) ∙ is in cc
 
-    pub arriving : a.deed ≡ Arrive → IsLearned old (nodes + locks + arrives_before run a.node j) a.node new
+    pub arriving : a.deed ≡ Arrive → IsLearned old (nodes + locks + arrived) a.node new
         ⊎ ((last_of old a.node ≡ Nothing) × IsSame old new) → Describes (HappensBefore on) then_known new
-    arriving is e = given (nodes + locks + arrives_before run a.node j) (λ m x. cc) (λ x. cc) (λ v x. cc) tells told e
+    arriving is e = given (nodes + locks + arrived) (λ m x. cc) (λ x. cc) (λ v x. cc) tells told e
       where
-        tells : (k : ℕ) → k ≡ nodes + locks + arrives_before run a.node j → Tells nodes locks on j k
+        tells : (k : ℕ) → k ≡ nodes + locks + arrived → Tells nodes locks gone on j k
         tells k its =
-            to_barrier (its ∙ ap (λ x. nodes + locks + x) (sym (arrives_before-prefix run (a ∷ []) a.node j (omega arith)))) (Does-deed is (Does-last run a))
+            to_barrier arrived its (arrives_before-prefix run (a ∷ []) a.node j (omega arith) ∙ counts.arrives is) (Does-deed is (Does-last run a))
 
-        told : (k : ℕ) → Tells nodes locks on j k → (k ≡ a.node) ⊎ (k ≡ nodes + locks + arrives_before run a.node j)
+        told : (k : ℕ) → Tells nodes locks gone on j k → (k ≡ a.node) ⊎ (k ≡ nodes + locks + arrived)
         told k (to_node d) = inl (Does-one_node d (Does-last run a))
         told k (to_lock {l = m} x d) = let e : Release m ≡ Arrive = sym (Does-one_deed (Does-last run a) d) ∙ is in cc
-        told k (to_barrier {node = q} x d) =
+        told k (to_barrier {node = q} n x c d) =
             let same : q ≡ a.node = Does-one_node d (Does-last run a) in
-            inr (x ∙ ap (λ y. nodes + locks + y) (arrives_before-prefix run (a ∷ []) q j (omega arith) ∙ ap (λ y. arrives_before run y j) same))
+            let here = arrives_before-prefix run (a ∷ []) q j (omega arith) in
+            let count : arrives_before run q j ≡ gone + arrived = ap (λ y. arrives_before run y j) same ∙ counts.arrives is in
+            inr (omega (arith, x, c, here, count))
 
   -- an act changes what is kept of the word as its effect says
   module _ (locks_in : (l : ℕ) → a.deed ≡ Acquire l → l < locks) (old new : List Known) (d : Describes (HappensBefore run) known old) where
     pub by_effect : (deed : Deed) → a.deed ≡ deed
-        → IsAfter (effect_of nodes locks (arrives_before run a.node j) (departs_before run a.node j) a.node deed) word old new
+        → IsAfter (effect_of nodes locks arrived departed a.node deed) word old new
         → Describes (HappensBefore on) then_known new
     by_effect Quiet is e = passing old new d (λ m x. cc) (λ x. cc) (λ m x. cc) (λ x. cc) (λ v x. cc) e
     by_effect (Print v) is e = passing old new d (λ m x. cc) (λ x. cc) (λ m x. cc) (λ x. cc) (λ v x. cc) e
@@ -277,9 +280,8 @@ module _ (nodes locks : ℕ) (run : List Act) (a : Act) (are : AreOf nodes locks
     by_effect End is e = passing old new d (λ m x. cc) (λ x. cc) (λ m x. cc) (λ x. cc) (λ v x. cc) e
 
 -- what is kept of every word changes as the act's effect says
-pub knowledge_on : (nodes locks : ℕ) (run : List Act) (a : Act) (old new : Knowledge) → AreOf nodes locks run → a.node < nodes
-    → ((l : ℕ) → a.deed ≡ Acquire l → l < locks) → IsKnowledgeOf nodes locks run old
-    → IsKnowledgeAfter (effect_of nodes locks (arrives_before run a.node (length run)) (departs_before run a.node (length run)) a.node a.deed) old new
-    → IsKnowledgeOf nodes locks (run ++ a ∷ []) new
-knowledge_on nodes locks run a old new are own locks_in d e word =
-    by_effect nodes locks run a are own word locks_in (word_of old word) (word_of new word) (d word) a.deed refl (e word)
+pub knowledge_on : (nodes locks gone arrived departed : ℕ) (run : List Act) (a : Act) (old new : Knowledge) → AreOf nodes locks run → a.node < nodes
+    → ((l : ℕ) → a.deed ≡ Acquire l → l < locks) → AreCounts gone run a.node a.deed arrived departed → IsKnowledgeOf nodes locks gone run old
+    → IsKnowledgeAfter (effect_of nodes locks arrived departed a.node a.deed) old new → IsKnowledgeOf nodes locks gone (run ++ a ∷ []) new
+knowledge_on nodes locks gone arrived departed run a old new are own locks_in counts d e word =
+    by_effect nodes locks gone arrived departed run a are own counts word locks_in (word_of old word) (word_of new word) (d word) a.deed refl (e word)

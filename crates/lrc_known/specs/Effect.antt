@@ -1,5 +1,5 @@
 -- What an act changes of what is known, and what knowledge of every word is kept.
-use Rattle.std.specs.Prelude.{◌≡◌, ℕ, ◌+◌, ◌-◌, ◌<◌, ◌^◌, ◌⊎◌, Option, Some, None, List, [], slice_get}
+use Rattle.std.specs.Prelude.{◌≡◌, ℕ, ◌+◌, ◌-◌, ◌<◌, ◌^◌, ◌⊎◌, Option, Some, None, List, [], length, slice_get}
 use Rattle.lrc_trace.specs.declared.act.Act.{Act}
 use Rattle.lrc_trace.specs.declared.act.Deed.{Deed}
 use Rattle.lrc_trace.specs.declared.act.Deed.TheVariants.{Write, Acquire, Release, Arrive, Depart}
@@ -12,9 +12,9 @@ use Rattle.lrc_known.specs.declared.word.Effect.TheVariants.{Passes, Writes, Lea
 use Rattle.lrc_known.specs.declared.known.KnownWord.{KnownWord}
 use Rattle.lrc_known.specs.declared.known.Knowledge.{Knowledge}
 use Rattle.lrc_known.specs.Knowing.{KnowsWrite}
-use Rattle.lrc_known.specs.Word.{last_of, Describes, IsSame, IsLearned, IsWritten}
+use Rattle.lrc_known.specs.Word.{last_of, Describes, IsSame, IsLearned, IsWithout, IsWritten}
 
--- a node that has arrived so often, and departed so often, does this
+-- a node does this that has arrived so often, and departed so often, the barriers that are gone left out
 abbrev pub effect_of : (nodes locks arrived departed node : ℕ) → Deed → Effect
 effect_of nodes locks arrived departed node (Write word value) = Writes node word value
 effect_of nodes locks arrived departed node (Acquire l) = Learns node (nodes + l)
@@ -42,10 +42,19 @@ IsAfter (Learns learner teacher) word old new = IsLearned old learner teacher ne
 abbrev pub IsKnowledgeAfter : Effect → (old new : Knowledge) → Type 0
 IsKnowledgeAfter effect old new = (word : ℕ) → IsAfter effect word (word_of old word) (word_of new word)
 
--- what is kept is what is known of each word's writes after these acts
-abbrev pub IsKnowledgeOf : (nodes locks : ℕ) → List Act → Knowledge → Type 0
-IsKnowledgeOf nodes locks run knowledge =
-    (word : ℕ) → Describes (HappensBefore run) (KnowsWrite nodes locks run word) (word_of knowledge word)
+-- what is kept is what is known of each word's writes after these acts, where the first so many barriers are gone
+abbrev pub IsKnowledgeOf : (nodes locks gone : ℕ) → List Act → Knowledge → Type 0
+IsKnowledgeOf nodes locks gone run knowledge =
+    (word : ℕ) → Describes (HappensBefore run) (KnowsWrite nodes locks gone run word) (word_of knowledge word)
+
+-- the counts are those of the node's arrives and departs where they matter, without the barriers that are gone
+pub record AreCounts (gone : ℕ) (run : List Act) (node : ℕ) (deed : Deed) (arrived departed : ℕ) : Type 0 where
+  pub arrives : deed ≡ Arrive → arrives_before run node (length run) ≡ gone + arrived
+  pub departs : deed ≡ Depart → departs_before run node (length run) ≡ gone + departed
+
+-- what is kept of every word where so many barriers more are gone, whose numbers begin at the first
+abbrev pub IsKnowledgeWithout : (first count : ℕ) → (old new : Knowledge) → Type 0
+IsKnowledgeWithout first count old new = (word : ℕ) → IsWithout first count (word_of old word) (word_of new word)
 
 -- the acts are of these nodes, and release these locks
 pub record AreOf (nodes locks : ℕ) (run : List Act) : Type 0 where

@@ -1,8 +1,9 @@
 -- How what is kept of a word is made anew, for one after another of those who know.
 use Rattle.std.specs.Prelude.{◌≡◌, ℕ, ◌⊎◌, ◌↔◌, ◌==◌, Some, List, [], if◌then◌else◌, length, slice_get, slice_index_or, false, Contains}
 use Rattle.lrc_known.specs.declared.known.Last.{Last}
+use Rattle.lrc_known.specs.declared.known.Last.TheVariants.{Nothing}
 use Rattle.lrc_known.specs.declared.known.Known.{Known}
-use Rattle.lrc_known.specs.Word.{last_of, values_of, row_of, last_by, source_of, above_learned, last_then, above_written}
+use Rattle.lrc_known.specs.Word.{last_of, values_of, row_of, last_by, source_of, above_learned, last_then, above_written, number_before}
 
 -- there are so many, and each is as it should be
 pub record AreEach {A : Type 0} (is : ℕ → A → Type 0) (items : List A) (count : ℕ) : Type 0 where
@@ -36,3 +37,22 @@ pub record IsCopyOf (word : List Known) (k : ℕ) (known : Known) : Type 0 where
   pub last : known.last ≡ last_of word k
   pub values : (v : ℕ) → Contains known.values.items v ↔ Contains (values_of word k) v
   pub above : (z : ℕ) → slice_index_or known.above.items z false ≡ slice_index_or (row_of word k) z false
+
+-- one knows nothing
+pub record IsNothing (known : Known) : Type 0 where
+  pub last : known.last ≡ Nothing
+  pub values : known.values.items ≡ []
+  pub above : known.above.items ≡ []
+
+-- so does the one at a place
+pub record KnowsNothing (word : List Known) (k : ℕ) : Type 0 where
+  pub last : last_of word k ≡ Nothing
+  pub values : values_of word k ≡ []
+  pub above : row_of word k ≡ []
+
+-- what is left of the one at a place, where some are dropped
+pub record IsKnownWithout (word : List Known) (first count k : ℕ) (known : Known) : Type 0 where
+  pub last : known.last ≡ last_of word (number_before first count k)
+  pub values : (v : ℕ) → Contains known.values.items v ↔ Contains (values_of word (number_before first count k)) v
+  pub above : (z : ℕ) → slice_index_or known.above.items z false
+      ≡ slice_index_or (row_of word (number_before first count k)) (number_before first count z) false

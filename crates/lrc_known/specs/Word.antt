@@ -1,5 +1,5 @@
 -- What is kept of the writes of one word that are known, for each who knows.
-use Rattle.std.specs.Prelude.{◌≡◌, ◌≢◌, ℕ, ◌<◌, ◌≤◌, ◌⊎◌, ◌↔◌, ◌==◌, ◌&&◌, ◌||◌, not, Bool, true, false, Option, Some, None, List, [], if◌then◌else◌, slice_get, slice_index_or, Contains}
+use Rattle.std.specs.Prelude.{◌≡◌, ◌≢◌, ℕ, ◌+◌, ◌<◌, ◌≤◌, ◌⊎◌, ◌↔◌, ◌==◌, ◌&&◌, ◌||◌, not, Bool, true, false, Option, Some, None, List, [], if◌then◌else◌, nat_lt, slice_get, slice_index_or, Contains}
 use Rattle.lrc_known.specs.declared.known.Last.{Last}
 use Rattle.lrc_known.specs.declared.known.Last.TheVariants.{Nothing, Value, Unordered}
 use Rattle.lrc_known.specs.declared.known.Known.{Known}
@@ -126,6 +126,17 @@ pub record IsSame (word after : List Known) : Type 0 where
   pub lasts : (k : ℕ) → last_of after k ≡ last_of word k
   pub values : (k v : ℕ) → Contains (values_of after k) v ↔ Contains (values_of word k) v
   pub above : (k z : ℕ) → is_above after k z ≡ is_above word k z
+
+-- ---- what is kept where some are dropped: so many, whose numbers begin at the first
+
+-- the number that one had before
+abbrev pub number_before : (first count k : ℕ) → ℕ
+number_before first count k = if nat_lt k first then k else k + count
+
+pub record IsWithout (first count : ℕ) (word left : List Known) : Type 0 where
+  pub lasts : (k : ℕ) → last_of left k ≡ last_of word (number_before first count k)
+  pub values : (k v : ℕ) → Contains (values_of left k) v ↔ Contains (values_of word (number_before first count k)) v
+  pub above : (k z : ℕ) → is_above left k z ≡ is_above word (number_before first count k) (number_before first count z)
 
 -- ---- what may be read: the last value where they are ordered, 0 of none, else 0 or any one's
 

@@ -3,7 +3,9 @@
 ghost use Rattle.std.specs.Prelude.{◌≤◌};
 ghost use Rattle.lrc_known.specs.Effect.{IsSmall, IsWithin};
 
-use crate::word::{Effect, copied, last_of, past, values_of, values_with, word_after};
+use crate::word::{
+    Effect, copied, last_of, past, values_of, values_with, word_after, word_without,
+};
 use std::alloc::{AllocError, Global};
 
 /// The last of the known writes.
@@ -42,7 +44,7 @@ pub struct Knowledge {
 impl Knowledge {
     ghost use Rattle.std.specs.Prelude.{◌≡◌, ◌↔◌, ◌<◌, ◌^◌, ℕ, IfOk, Contains, []};
     ghost use Rattle.lrc_known.specs.Word.{Gives};
-    ghost use Rattle.lrc_known.specs.Effect.{IsAfter, IsKnowledgeAfter, IsSmall, word_of};
+    ghost use Rattle.lrc_known.specs.Effect.{IsAfter, IsKnowledgeAfter, IsKnowledgeWithout, IsSmall, word_of};
 
     /// Returns the knowledge of no write to any word.
     pub fn nothing(alloc: Global) -> Knowledge
@@ -85,6 +87,24 @@ impl Knowledge {
         let mut words = Vec::new(alloc);
         for word in 0..count {
             let knowers = word_after(alloc, self.word(word), effect, word)?;
+            words.push(KnownWord { knowers })?;
+        }
+        Ok(Knowledge { words })
+    }
+
+    /// Returns what those know who are left, where those of so many numbers from the first on are dropped. It fails if
+    /// memory runs out.
+    pub fn without(
+        &self,
+        alloc: Global,
+        first: usize,
+        dropped: usize,
+    ) -> Result<Knowledge, AllocError>
+        ensures { IfOk result (IsKnowledgeWithout first dropped self.now) }
+    {
+        let mut words = Vec::new(alloc);
+        for word in 0..self.words.len() {
+            let knowers = word_without(alloc, self.word(word), first, dropped)?;
             words.push(KnownWord { knowers })?;
         }
         Ok(Knowledge { words })

@@ -1,8 +1,8 @@
 // What is kept of the writes of one word that are known, and how an act changes it.
 
-ghost use Rattle.std.specs.Prelude.{◌≡◌, ◌≤◌, ◌<◌, ◌⊎◌, ◌↔◌, ◌^◌, ◌-◌, ℕ, IfOk, OnOk, Contains, length, slice_index_or, false};
-ghost use Rattle.lrc_known.specs.Word.{above_by, above_learned, above_then, above_written, is_above, is_ordered, last_by, last_of, last_then, row_of, source_by, source_of, values_of, IsLearned, IsSame, IsWritten};
-ghost use Rattle.lrc_known.specs.Made.{last_learned, last_written, values_taught, IsCopyOf, IsLearnedBy, IsWrittenBy};
+ghost use Rattle.std.specs.Prelude.{◌≡◌, ◌≤◌, ◌<◌, ◌⊎◌, ◌↔◌, ◌^◌, ◌-◌, ℕ, IfOk, OnOk, Contains, length, slice_index_or, false, true};
+ghost use Rattle.lrc_known.specs.Word.{above_by, above_learned, above_then, above_written, is_above, is_ordered, last_by, last_of, last_then, number_before, row_of, source_by, source_of, values_of, IsLearned, IsSame, IsWithout, IsWritten};
+ghost use Rattle.lrc_known.specs.Made.{last_learned, last_written, values_taught, IsCopyOf, IsKnownWithout, IsLearnedBy, IsNothing, IsWrittenBy, KnowsNothing};
 ghost use Rattle.lrc_known.specs.Effect.{IsAfter, IsSmall};
 
 use crate::known::{Known, Last};
@@ -397,6 +397,129 @@ pub fn word_after(
             _ => learned(alloc, word, learner, teacher),
         },
     }
+}
+
+// How many of a list's items are left, where those of so many numbers from the first on are dropped.
+fn count_without(count: usize, first: usize, dropped: usize) -> usize
+    ensures within { (k : ℕ) → k < result → number_before first dropped k < count }
+    ensures past { (k : ℕ) → result ≤ k → count ≤ number_before first dropped k }
+{
+    if count <= first {
+        count
+    } else if count - first <= dropped {
+        first
+    } else {
+        count - dropped
+    }
+}
+
+// The number that one of those who are left had before.
+fn number_before(first: usize, dropped: usize, knower: usize) -> usize
+    requires { number_before first dropped knower < 2 ^ 64 }
+    ensures { result ≡ number_before first dropped knower }
+{
+    if knower < first {
+        knower
+    } else {
+        knower + dropped
+    }
+}
+
+// How long a row is up to the last one whose last write is known.
+fn width_of(row: &[bool]) -> usize
+    ensures { (z : ℕ) → result ≤ z → slice_index_or row.now z false ≡ false }
+{
+    let mut width = row.len();
+    while width > 0 {
+        if row[width - 1] {
+            return width;
+        }
+        width -= 1;
+    }
+    0
+}
+
+// Whether one knows nothing.
+fn knows_nothing(known: &Known) -> bool
+    ensures { result ≡ true → IsNothing known.now }
+{
+    match known.last {
+        Last::Nothing => known.values.is_empty() && known.above.is_empty(),
+        _ => false,
+    }
+}
+
+// How many there are up to the last one who knows something.
+fn count_who_know(word: &[Known]) -> usize
+    ensures { (k : ℕ) → result ≤ k → KnowsNothing word.now k }
+{
+    let mut count = word.len();
+    while count > 0 {
+        if !knows_nothing(&word[count - 1]) {
+            return count;
+        }
+        count -= 1;
+    }
+    0
+}
+
+// Whose last writes one knows, of those who are left.
+fn row_without(
+    alloc: Global,
+    row: &[bool],
+    first: usize,
+    dropped: usize,
+) -> Result<Vec<bool>, AllocError>
+    ensures { IfOk result (λ left. (z : ℕ) → slice_index_or left.items z false
+        ≡ slice_index_or row.now (number_before first dropped z) false) }
+{
+    let width = count_without(row.len(), first, dropped);
+    let mut left = Vec::new(alloc);
+    for other in 0..width {
+        left.push(row[number_before(first, dropped, other)])?;
+    }
+    let known = width_of(&left);
+    left.truncate(known);
+    Ok(left)
+}
+
+// What one of those who are left knows.
+fn known_without(
+    alloc: Global,
+    word: &[Known],
+    first: usize,
+    dropped: usize,
+    knower: usize,
+) -> Result<Known, AllocError>
+    requires { number_before first dropped knower < 2 ^ 64 }
+    ensures { IfOk result (IsKnownWithout word.now first dropped knower) }
+{
+    let before = number_before(first, dropped, knower);
+    Ok(Known {
+        last: last_of(word, before),
+        values: copied(alloc, values_of(word, before))?,
+        above: row_without(alloc, row_of(word, before), first, dropped)?,
+    })
+}
+
+/// Returns what is known of a word by those who are left, where those of so many numbers from the first on are dropped.
+/// It fails if memory runs out.
+pub fn word_without(
+    alloc: Global,
+    word: &[Known],
+    first: usize,
+    dropped: usize,
+) -> Result<Vec<Known>, AllocError>
+    ensures { IfOk result (λ left. IsWithout first dropped word.now left.items) }
+{
+    let count = count_without(word.len(), first, dropped);
+    let mut left = Vec::new(alloc);
+    for knower in 0..count {
+        left.push(known_without(alloc, word, first, dropped, knower)?)?;
+    }
+    let known = count_who_know(&left);
+    left.truncate(known);
+    Ok(left)
 }
 
 // The values of both.

@@ -4,7 +4,8 @@ use Rattle.std.specs.Prelude.{Option, Some, None}
 use Rattle.std.proofs.lemmas.List.{length-replicate}
 use Rattle.lrc_lang.specs.declared.program.Program.{Program}
 use Rattle.lrc_trace.proofs.Positions.{Does-within}
-use Rattle.lrc_exec.specs.Plain.{plain_start, start_of}
+use Rattle.lrc_exec.specs.Plain.{Plain, plain_start, start_of}
+use Rattle.lrc_consistency_laws.proofs.Matching.{Matches}
 use Rattle.lrc_consistency_laws.proofs.Plainly.{facts}
 use Rattle.lrc_consistency_laws.proofs.Runs.{start_matches, thread_at_start}
 use Rattle.lrc_explore.specs.Notes.{notes_from, notes_of}
@@ -12,6 +13,7 @@ use Rattle.lrc_known.specs.declared.known.Knowledge.{Knowledge}
 use Rattle.lrc_known.specs.Effect.{word_of}
 use Rattle.lrc_known.proofs.Beginning.{nothing_known}
 use Rattle.lrc_lazy_machine.specs.Standing.{Comes, there, Stands}
+use Rattle.lrc_lazy_machine.proofs.Advancing.{advanced_none}
 
 pub stands_first : (program : Program) (nodes : ℕ) (knowledge : Knowledge) → ((word : ℕ) → word_of knowledge word ≡ [])
     → Stands program nodes [] (plain_start program nodes) knowledge
@@ -23,17 +25,20 @@ stands_first program nodes knowledge nothing =
         synchronized = f.synchronized;
         lazily = λ j word value h. let lt = Does-within h.1 in absurd (omega (arith, lt));
       };
+      gone = 0;
+      departed = λ n lt. omega arith;
       memory = (plain_start program nodes).memory;
-      matches = start_matches program nodes [];
+      matches = subst (λ (m : Plain). Matches [] 0 m) (sym (advanced_none (plain_start program nodes))) (start_matches program nodes []);
       long = length-replicate {A = ℕ} program.words 0;
       holders = length-replicate {A = Option ℕ} program.locks None;
       size = length-replicate {A = ℕ} nodes 0;
       leads = λ n lt. subst (λ o. Comes (Some (start_of program nodes n)) [] o) (sym (thread_at_start program nodes n lt)) there;
+      stopped = λ n lt none. refl;
       are = record {
         in_nodes = λ i n d does. let lt = Does-within does in absurd (omega (arith, lt));
         in_locks = λ i n l does. let lt = Does-within does in absurd (omega (arith, lt));
       };
-      known = nothing_known nodes program.locks knowledge nothing;
+      known = nothing_known nodes program.locks 0 knowledge nothing;
     }
 
 -- the first notes are none

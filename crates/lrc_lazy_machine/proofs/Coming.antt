@@ -1,5 +1,5 @@
 -- Threads that come by deeds to where they stand, and runs by one act more or less.
-use Rattle.std.proofs.Common.{◌≡◌, ℕ, ◌+◌, ◌<◌, ◌≤◌, true, List, [], ◌∷◌, ◌++◌, length, map, inl, inr, refl, sym, subst, ◌∙◌, ap, arith}
+use Rattle.std.proofs.Common.{◌≡◌, ℕ, ◌+◌, ◌<◌, ◌≤◌, true, false, List, [], ◌∷◌, ◌++◌, length, map, inl, inr, refl, sym, subst, ◌∙◌, ap, arith}
 use Rattle.std.specs.Prelude.{◌==◌, Option, Some, None, All, slice_index_or, filter, take}
 use Rattle.std.proofs.lemmas.Bool.{cases_eq}
 use Rattle.std.proofs.lemmas.List.{append-nil, map-append, take-append-le}
@@ -9,7 +9,7 @@ use Rattle.lrc_lang.specs.declared.program.Program.{Program}
 use Rattle.lrc_trace.specs.declared.act.Act.{Act}
 use Rattle.lrc_trace.specs.declared.act.Deed.{Deed}
 use Rattle.lrc_trace.specs.declared.act.Deed.TheVariants.{Quiet, Print, Read, Write, Acquire, Release, Arrive, Depart, Trap, End}
-use Rattle.lrc_trace.specs.Run.{Does, act_of, arrives_before, departs_before}
+use Rattle.lrc_trace.specs.Run.{Does, act_of, is_arrive, is_depart, arrives_before, departs_before}
 use Rattle.lrc_trace.specs.Synchronization.{Holds, MayGoOn}
 use Rattle.lrc_trace.proofs.Positions.{Does-longer, Does-last, Does-cases, arrives_before-prefix, departs_before-prefix}
 use Rattle.lrc_trace.proofs.Prefixes.{Holds-longer, Holds-shorter, IsWellSynchronized-shorter, ReadsLazily-shorter}
@@ -140,6 +140,20 @@ release_below t fine releasing = fine.0
 
 pub depart_waits : (t : Thread) {n : Next} {after : Option Thread} → IsFine t n → Goes n Depart after → t.arrived ≡ true
 depart_waits t fine departing = fine.0
+
+-- a thread that stops neither arrives nor departs, and did not wait
+pub stops_then : (t : Thread) {n : Next} {d : Deed} {after : Option Thread} → IsFine t n → Goes n d after → after ≡ None
+    → (t.arrived ≡ false) × (is_arrive d ≡ true → ⊥) × (is_depart d ≡ true → ⊥)
+stops_then t fine quietly none = cc
+stops_then t fine printing none = cc
+stops_then t fine reading none = cc
+stops_then t fine writing none = cc
+stops_then t fine acquiring none = cc
+stops_then t fine releasing none = cc
+stops_then t fine arriving none = cc
+stops_then t fine departing none = cc
+stops_then t fine trapping none = (fine, λ e. cc, λ e. cc)
+stops_then t fine ending none = (fine, λ e. cc, λ e. cc)
 
 -- a run may go on with a sound deed
 pub may_go : (nodes : ℕ) (run : List Act) (node : ℕ) (d : Deed) → ((w v : ℕ) → d ≡ Read w v → ⊥) → SoundAt run nodes (length run) node d

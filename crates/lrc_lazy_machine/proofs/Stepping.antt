@@ -1,23 +1,24 @@
 -- A lazy run goes on with what the machine can make, and the machine can make what it goes on with.
-use Rattle.std.proofs.Common.{◌≡◌, ℕ, ◌+◌, ◌-◌, ◌<◌, ◌≤◌, true, List, [], ◌∷◌, ◌++◌, length, inl, inr, refl, sym, subst, ◌∙◌, ap, arith}
+use Rattle.std.proofs.Common.{◌≡◌, ℕ, ◌+◌, ◌-◌, ◌<◌, ◌≤◌, true, false, List, map, [], ◌∷◌, ◌++◌, length, inl, inr, refl, sym, subst, ◌∙◌, ap, arith}
 use Rattle.std.specs.Prelude.{Option, Some, None, slice_index, slice_set}
 use Rattle.std.proofs.lemmas.Bool.{cases_eq}
-use Rattle.std.proofs.lemmas.List.{get_or-set_same, length-set, length_push}
+use Rattle.std.proofs.lemmas.List.{get_or-set_same, length-map, length-set, length_push}
 use Rattle.lrc_lang.specs.declared.program.Program.{Program}
 use Rattle.lrc_trace.specs.declared.act.Act.{Act}
 use Rattle.lrc_trace.specs.declared.act.Deed.{Deed}
 use Rattle.lrc_trace.specs.declared.act.Deed.TheVariants.{Quiet, Print, Read, Write, Acquire, Release, Arrive, Depart, Trap, End}
-use Rattle.lrc_trace.specs.Run.{Does, act_of, arrives_before, departs_before}
+use Rattle.lrc_trace.specs.Run.{Does, act_of, arrives_before, departs_before, is_arrive, is_depart}
 use Rattle.lrc_trace.specs.Reading.{MayRead}
 use Rattle.lrc_trace.specs.Synchronization.{MayGoOn}
-use Rattle.lrc_trace.proofs.Positions.{Does-within, Does-longer, Does-last, Does-cases, Does-deed}
+use Rattle.lrc_trace.proofs.Positions.{Does-within, Does-longer, Does-last, Does-cases, Does-deed, arrives_before-prefix, departs_before-prefix}
+use Rattle.lrc_trace.proofs.Intervals.{count_of-rises}
 use Rattle.lrc_trace.proofs.Prefixes.{IsWellSynchronized-more, MayGoOn-last, ReadsLazily-more, MayRead-last}
 use Rattle.lrc_exec.specs.Meaning.{Thread, Next, next_of}
 use Rattle.lrc_exec.specs.Plain.{Plain, thread_in, plain_step, start_of, with_thread}
 use Rattle.lrc_exec.proofs.NextLaws.{IsFine, Stays, next_of-fine}
 use Rattle.lrc_exec.proofs.PlainParts.{thread_within}
 use Rattle.lrc_consistency_laws.specs.Follows.{Goes, Makes, deeds_of, FollowsText}
-use Rattle.lrc_consistency_laws.proofs.Matching.{Matches, IsPaired}
+use Rattle.lrc_consistency_laws.proofs.Matching.{Matches, IsPaired, arrives-same, departs-same}
 use Rattle.lrc_consistency_laws.proofs.Step.{IsNoLock, step, passes_on}
 use Rattle.lrc_consistency_laws.proofs.Runs.{CanDo, SoundAt, can_do, is_sound}
 use Rattle.lrc_consistency_laws.proofs.UpToRace.{in_range}
@@ -28,12 +29,14 @@ use Rattle.lrc_lazy.proofs.Onward.{deeds_more-own, free_read}
 use Rattle.lrc_lazy.proofs.Plainly.{over_stops, stops_over}
 use Rattle.lrc_known.specs.declared.known.Knowledge.{Knowledge}
 use Rattle.lrc_known.specs.Word.{Gives}
-use Rattle.lrc_known.specs.Effect.{effect_of, word_of, IsKnowledgeAfter, IsKnowledgeOf, AreOf}
+use Rattle.lrc_known.specs.Effect.{effect_of, word_of, IsKnowledgeAfter, IsKnowledgeOf, AreCounts, AreOf}
 use Rattle.lrc_known.proofs.Stepping.{knowledge_on}
 use Rattle.lrc_known.proofs.Giving.{gives_read}
-use Rattle.lrc_lazy_machine.specs.Standing.{with_memory, Comes, Stands, effect_at, MayGive, CanMake}
+use Rattle.lrc_lazy_machine.specs.Standing.{advanced, with_memory, Comes, Stands, effect_at, MayGive, CanMake}
 use Rattle.lrc_lazy_machine.proofs.Coming.{comes_makes, comes_more, GoesFrom, comes_goes, deeds_same, follows_more, matches_longer}
-use Rattle.lrc_lazy_machine.proofs.Coming.{read_stays, acquire_below, release_below, depart_waits, may_go, sound_of}
+use Rattle.lrc_lazy_machine.proofs.Coming.{read_stays, acquire_below, release_below, depart_waits, stops_then, may_go, sound_of}
+use Rattle.lrc_lazy_machine.proofs.Advancing.{can_moved, can_back, after_moved}
+use Rattle.lrc_lazy_machine.proofs.Renewing.{arrived}
 
 no_lock_read : (w v : ℕ) → IsNoLock (Read w v)
 no_lock_read w v = record { acquires_not = λ l e. cc; releases_not = λ l e. cc }
@@ -42,8 +45,12 @@ module _ (program : Program) (nodes : ℕ) (acts : List Act) (machine : Plain) (
   j : ℕ
   j = length acts
 
+  -- the machine where no barrier is gone
+  abbrev whole : Plain
+  whole = advanced s.gone machine
+
   abbrev now : Plain
-  now = with_memory machine s.memory
+  now = with_memory whole s.memory
 
   -- ---- what the machine makes
   module _ (node : ℕ) (thread : Thread) (at : thread_in machine node ≡ Some thread) where
@@ -54,18 +61,25 @@ module _ (program : Program) (nodes : ℕ) (acts : List Act) (machine : Plain) (
     below =
         let within = thread_within machine node thread at in
         let sizes = s.matches.sizes in
+        let long = length-map machine.arrivals (λ count. s.gone + count) in
         let size = s.size in
         omega arith
 
+    counted : node < length machine.arrivals
+    counted = let size = s.size in let lt = below in omega arith
+
+    size_is : length whole.arrivals ≡ nodes
+    size_is = length-map machine.arrivals (λ count. s.gone + count) ∙ s.size
+
     -- the machine after a deed, whatever its words
-    matches_after : (memory : List ℕ) (d : Deed) (t : Option Thread) → Goes (next_of thread) d t → CanDo (with_memory machine memory) node d
-        → (words : List ℕ) × Matches (acts ++ act_of node d ∷ []) (length acts + 1) (with_memory (after_of machine node d t) words) × (length words ≡ length s.memory)
+    matches_after : (memory : List ℕ) (d : Deed) (t : Option Thread) → Goes (next_of thread) d t → CanDo (with_memory whole memory) node d
+        → (words : List ℕ) × Matches (acts ++ act_of node d ∷ []) (length acts + 1) (with_memory (after_of whole node d t) words) × (length words ≡ length s.memory)
     matches_after memory (Read w v) t goes can =
         let stays = read_stays fine goes in
         let u = stays.1.0 in
         let run = acts ++ act_of node (Read w v) ∷ [] in (
           s.memory,
-          subst (λ x. Matches run (length acts + 1) (with_memory (after_of machine node (Read w v) x) s.memory)) (sym stays.1.1)
+          subst (λ x. Matches run (length acts + 1) (with_memory (after_of whole node (Read w v) x) s.memory)) (sym stays.1.1)
               (passes_on run (length acts) node now thread at (matches_longer acts (act_of node (Read w v) ∷ []) now s.matches) (Read w v)
               (Does-last acts (act_of node (Read w v))) (no_lock_read w v) (λ x y. refl) (λ x. cc) (λ x. cc) u stays.1.2),
           refl,
@@ -79,24 +93,24 @@ module _ (program : Program) (nodes : ℕ) (acts : List Act) (machine : Plain) (
         )
 
     -- it may be made
-    may_after : (memory : List ℕ) (d : Deed) (t : Option Thread) → Goes (next_of thread) d t → CanDo (with_memory machine memory) node d
+    may_after : (memory : List ℕ) (d : Deed) (t : Option Thread) → Goes (next_of thread) d t → CanDo (with_memory whole memory) node d
         → MayGoOn nodes acts (act_of node d)
     may_after memory (Read w v) t goes can = free_read nodes acts node w v
     may_after memory d t goes can =
-        may_go nodes acts node d (λ w v e. cc) (is_sound acts nodes (length acts) node now thread at s.matches s.size goes fine can)
+        may_go nodes acts node d (λ w v e. cc) (is_sound acts nodes (length acts) node now thread at s.matches size_is goes fine can)
 
     lazily_after : (d : Deed) → MayGive knowledge node d
         → (word value : ℕ) → d ≡ Read word value → MayRead (acts ++ act_of node d ∷ []) (length acts) word value
     lazily_after d gives word value is =
         subst (λ x. MayRead (acts ++ act_of node x ∷ []) (length acts) word value) (sym is)
-        ((gives_read nodes program.locks acts node word value s.are below (word_of knowledge word) (s.known word)).1 (gives word value is))
+        ((gives_read nodes program.locks s.gone acts node word value s.are below (word_of knowledge word) (s.known word)).1 (gives word value is))
 
     run_after : (memory : List ℕ) (d : Deed) (t : Option Thread) → Goes (next_of thread) d t → CanDo (with_memory machine memory) node d
         → MayGive knowledge node d → IsLazyRun program nodes (acts ++ act_of node d ∷ [])
     run_after memory d t goes can gives = record {
       follows = follows_more program nodes acts node d s.run.follows below
           (comes_makes (comes_more (subst (λ o. Comes (Some (start_of program nodes node)) (deeds_of node acts) o) at (s.leads node below)) goes));
-      synchronized = IsWellSynchronized-more acts (act_of node d) nodes s.run.synchronized (may_after memory d t goes can);
+      synchronized = IsWellSynchronized-more acts (act_of node d) nodes s.run.synchronized (may_after memory d t goes (can_moved s.gone machine node counted memory d can));
       lazily = ReadsLazily-more acts (act_of node d) s.run.lazily (lazily_after d gives);
     }
 
@@ -116,28 +130,54 @@ module _ (program : Program) (nodes : ℕ) (acts : List Act) (machine : Plain) (
       ];
     }
 
-    -- the counts of the machine are those of the run
-    effect_is : (d : Deed) (t : Option Thread) → Goes (next_of thread) d t
-        → effect_at nodes program.locks machine node d
-        ≡ effect_of nodes program.locks (arrives_before acts node (length acts)) (departs_before acts node (length acts)) node d
-    effect_is Arrive t goes =
-        let within : node < length machine.arrivals = let size = s.size in let lt = below in omega arith in
-        ap (λ n. effect_of nodes program.locks n (departs_before acts node (length acts)) node Arrive) (s.matches.arrivals node within)
-    effect_is Depart t goes =
-        let within : node < length machine.arrivals = let size = s.size in let lt = below in omega arith in
-        let count = s.matches.arrivals node within in
-        let paired : IsPaired true (arrives_before acts node (length acts)) (departs_before acts node (length acts)) =
-        subst (λ b. IsPaired b (arrives_before acts node (length acts)) (departs_before acts node (length acts))) (depart_waits thread fine goes)
+    -- the counts of the machine are those of the run, without the barriers that are gone
+    counts : (d : Deed) (t : Option Thread) → Goes (next_of thread) d t
+        → AreCounts s.gone acts node d (slice_index machine.arrivals node) (slice_index machine.arrivals node - 1)
+    counts d t goes =
+        let all = arrived program nodes acts machine knowledge s node below in
+        record {
+          arrives = λ is. all;
+          departs = λ is.
+              let waits = depart_waits thread fine (subst (λ y. Goes (next_of thread) y t) is goes) in
+              let paired : IsPaired true (arrives_before acts node (length acts)) (departs_before acts node (length acts)) =
+              subst (λ b. IsPaired b (arrives_before acts node (length acts)) (departs_before acts node (length acts))) waits
+              (s.matches.threads node thread at).paired in
+              let gone = s.departed node below in
+              omega (arith, all, paired, gone);
+        }
+
+    -- ---- how often nodes have departed then
+    abbrev run_on : Deed → List Act
+    run_on d = acts ++ act_of node d ∷ []
+
+    departs_rise : (d : Deed) (n : ℕ) → departs_before acts n (length acts) ≤ departs_before (run_on d) n (length (run_on d))
+    departs_rise d n =
+        let long = length_push acts (act_of node d) in
+        let more = count_of-rises is_depart (run_on d) n (length acts) (length (run_on d)) (omega (arith, long)) in
+        let same = departs_before-prefix acts (act_of node d ∷ []) n (length acts) (omega arith) in
+        omega (arith, more, same)
+
+    -- a node that neither arrives nor departs is where it was
+    counts_still : (d : Deed) (n : ℕ) → (node ≡ n → is_arrive d ≡ true → ⊥) → (node ≡ n → is_depart d ≡ true → ⊥)
+        → departs_before acts n (length acts) ≡ arrives_before acts n (length acts)
+        → departs_before (run_on d) n (length (run_on d)) ≡ arrives_before (run_on d) n (length (run_on d))
+    counts_still d n no_arrive no_depart same =
+        let here = Does-last acts (act_of node d) in
+        let arrives = arrives-same (run_on d) (length acts) node d here n no_arrive
+        ∙ arrives_before-prefix acts (act_of node d ∷ []) n (length acts) (omega arith) in
+        let departs = departs-same (run_on d) (length acts) node d here n no_depart
+        ∙ departs_before-prefix acts (act_of node d ∷ []) n (length acts) (omega arith) in
+        subst (λ k. departs_before (run_on d) n k ≡ arrives_before (run_on d) n k) (sym (length_push acts (act_of node d)))
+        (departs ∙ same ∙ sym arrives)
+
+    stopped_own : (d : Deed) (t : Option Thread) → Goes (next_of thread) d t → t ≡ None
+        → departs_before (run_on d) node (length (run_on d)) ≡ arrives_before (run_on d) node (length (run_on d))
+    stopped_own d t goes none =
+        let stops = stops_then thread fine goes none in
+        let paired : IsPaired false (arrives_before acts node (length acts)) (departs_before acts node (length acts)) =
+        subst (λ b. IsPaired b (arrives_before acts node (length acts)) (departs_before acts node (length acts))) stops.0
         (s.matches.threads node thread at).paired in
-        ap (λ n. effect_of nodes program.locks (arrives_before acts node (length acts)) n node Depart) (omega (arith, paired, count))
-    effect_is Quiet t goes = refl
-    effect_is (Print v) t goes = refl
-    effect_is (Read w v) t goes = refl
-    effect_is (Write w v) t goes = refl
-    effect_is (Acquire l) t goes = refl
-    effect_is (Release l) t goes = refl
-    effect_is (Trap c) t goes = refl
-    effect_is End t goes = refl
+        counts_still d node (λ e. stops.1) (λ e. stops.2) (sym paired)
 
   -- the run goes on with what the machine can make
   pub run_made : (node : ℕ) (deed : Deed) → CanMake program.words machine knowledge node deed → IsLazyRun program nodes (acts ++ act_of node deed ∷ [])
@@ -158,14 +198,19 @@ module _ (program : Program) (nodes : ℕ) (acts : List Act) (machine : Plain) (
       let goes = made.took.goes in
       let act = act_of node deed in
       let run = acts ++ act ∷ [] in
-      let found = matches_after node thread at memory deed t goes made.took.can in
+      let within = counted node thread at in
+      let found = matches_after node thread at memory deed t goes (can_moved s.gone machine node within memory deed made.took.can) in
       let words = found.0 in
-      let is : with_memory after words ≡ with_memory (after_of machine node deed t) words = ap (λ (m : Plain). with_memory m words) made.took.is in
+      let is : with_memory (advanced s.gone after) words ≡ with_memory (after_of whole node deed t) words =
+      ap (λ (m : Plain). with_memory (advanced s.gone m) words) made.took.is
+      ∙ ap (λ (m : Plain). with_memory m words) (sym (after_moved s.gone machine node within deed t)) in
       let lt = below node thread at in
       record {
         run = run_after node thread at memory deed t goes made.took.can gives;
+        gone = s.gone;
+        departed = λ n below_n. let least = s.departed n below_n in let rise = departs_rise node thread at deed n in omega (arith, least, rise);
         memory = words;
-        matches = subst (λ k. Matches run k (with_memory after words)) (sym (length_push acts act))
+        matches = subst (λ k. Matches run k (with_memory (advanced s.gone after) words)) (sym (length_push acts act))
             (subst (λ m. Matches run (length acts + 1) m) (sym is) found.1);
         long = found.2 ∙ s.long;
         holders = ap (λ (m : Plain). length m.holders) made.took.is ∙ length-holders node deed machine.holders ∙ s.holders;
@@ -180,11 +225,20 @@ module _ (program : Program) (nodes : ℕ) (acts : List Act) (machine : Plain) (
               subst (λ ds. Comes (Some (start_of program nodes n)) ds (thread_in after n)) (sym (deeds_same n acts act other))
               (subst (λ o. Comes (Some (start_of program nodes n)) (deeds_of n acts) o) (sym (made.others n (λ e. other (sym e)))) (s.leads n below_n))
         ];
+        stopped = λ n below_n none. elim (cases_eq n node) [
+          | inl own ↦
+              subst (λ x. departs_before run x (length run) ≡ arrives_before run x (length run)) (sym own)
+              (stopped_own node thread at deed t goes (sym made.own ∙ ap (thread_in after) (sym own) ∙ none))
+          | inr other ↦
+              counts_still node thread at deed n (λ e. absurd (other (sym e))) (λ e. absurd (other (sym e)))
+              (s.stopped n below_n (sym (made.others n other) ∙ none))
+        ];
         are = are_after node thread at deed t goes;
-        known = knowledge_on nodes program.locks acts act knowledge kept s.are lt
+        known = knowledge_on nodes program.locks s.gone (slice_index machine.arrivals node) (slice_index machine.arrivals node - 1) acts act knowledge kept
+            s.are lt
             (λ l e. subst (λ y. l < y) (locks_are node thread at)
             (acquire_below thread (fine node thread at) (subst (λ y. Goes (next_of thread) y t) e goes)))
-            s.known (subst (λ x. IsKnowledgeAfter x knowledge kept) (effect_is node thread at deed t goes) effect);
+            (counts node thread at deed t goes) s.known effect;
       }
 
   -- ---- what the run goes on with
@@ -209,9 +263,11 @@ module _ (program : Program) (nodes : ℕ) (acts : List Act) (machine : Plain) (
   make_deed node deed thread t at goes may gives = record {
     memory = s.memory;
     long = s.long;
-    after = after_of now node deed t;
-    made = can_step now node thread deed at refl goes
-        (can_do acts nodes (length acts) node now thread at s.matches s.size goes (fine node thread at) (sound_of nodes acts node deed (λ w v e. cc) may));
+    after = after_of (with_memory machine s.memory) node deed t;
+    made = can_step (with_memory machine s.memory) node thread deed at refl goes
+        (can_back s.gone machine node (counted node thread at) s.memory deed
+        (can_do acts nodes (length acts) node now thread at s.matches (size_is node thread at) goes (fine node thread at)
+        (sound_of nodes acts node deed (λ w v e. cc) may)));
     gives = gives;
   }
 
@@ -223,7 +279,7 @@ module _ (program : Program) (nodes : ℕ) (acts : List Act) (machine : Plain) (
       let found = comes_goes (deeds_of node acts) (s.leads node lt) makes in
       make_deed node deed found.thread found.after found.stands found.goes (MayGoOn-last acts act nodes run.synchronized)
       (λ w v is.
-      (gives_read nodes program.locks acts node w v s.are lt (word_of knowledge w) (s.known w)).0
+      (gives_read nodes program.locks s.gone acts node w v s.are lt (word_of knowledge w) (s.known w)).0
       (subst (λ x. MayRead (acts ++ act_of node x ∷ []) (length acts) w v) is (MayRead-last acts act run.lazily w v is)))
 
   -- the run is over where the machine can make nothing

@@ -9,7 +9,7 @@ ghost use Rattle.lrc_exec.specs.Plain.{Plain, plain_start, plain_step};
 ghost use Rattle.lrc_lazy.specs.Lazy.{IsLazyRun, IsOver};
 ghost use Rattle.lrc_known.specs.declared.known.Knowledge.{Knowledge};
 ghost use Rattle.lrc_known.specs.Effect.{word_of, IsKnowledgeAfter};
-ghost use Rattle.lrc_lazy_machine.specs.Standing.{with_memory, effect_at, CanMake, MayGive, Stands};
+ghost use Rattle.lrc_lazy_machine.specs.Standing.{with_memory, effect_at, CanMake, IsRenewed, MayGive, Stands};
 
 /// Before the first act the machine is at the beginning of the program, and nothing is known.
 pub fn the_machine_begins_with_the_program()
@@ -37,6 +37,15 @@ pub fn the_machine_stands_where_its_acts_lead()
         → MayGive knowledge node deed
         → IsKnowledgeAfter (effect_at nodes program.locks machine node deed) knowledge kept
         → Stands program nodes (acts ++ act_of node deed ∷ []) after kept }
+{}
+
+/// Where barriers are gone from which all nodes have departed, the machine stands there too.
+pub fn the_machine_stands_there_without_barriers_that_are_gone()
+    ensures { (program : Program) (nodes : ℕ) (acts : List Act) (machine : Plain)
+        (knowledge : Knowledge) → Stands program nodes acts machine knowledge
+        → (left : Plain) (kept : Knowledge)
+        → IsRenewed nodes program.locks machine knowledge left kept
+        → Stands program nodes acts left kept }
 {}
 
 /// A lazy run is over exactly if the machine, where the run has led it, can make no act.

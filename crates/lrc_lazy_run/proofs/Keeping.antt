@@ -27,7 +27,7 @@ use Rattle.lrc_lazy_run.specs.declared.sought.Sought.{Sought}
 use Rattle.lrc_lazy_run.specs.declared.ways.Origin.{Origin}
 use Rattle.lrc_lazy_run.specs.Ended.{IsEndedLazyRun}
 use Rattle.lrc_lazy_run.specs.Ways.{AreKeptIn, BeginsThere, CanMakeAt, ComesFrom, HasAllStepsAt, HasStepAt, IsEndWith, IsFound, IsPut, IsSought, LeadTo, LeadsFrom, LeadsTo}
-use Rattle.lrc_lazy_run.proofs.Leading.{ended_there, leads_first, leads_on}
+use Rattle.lrc_lazy_run.proofs.Leading.{ended_there, leads_first, leads_fresh, leads_on}
 
 -- ---- an item that is put, or was there
 
@@ -55,7 +55,7 @@ front_item old new x y k is lt at = sym (slice_get-front old (x ∷ []) k lt) �
 
 comes_on : {flat : Flat} {old new : List LazyState} {place : ℕ} {origin : Origin} {key : LazyState} → Grows old new → ComesFrom flat old place origin key
     → ComesFrom flat new place origin key
-comes_on {origin = origin} g c = record { before = c.before; parent = c.parent; there = stays origin.parent c.parent g c.there; steps = c.steps }
+comes_on {origin = origin} g c = record { before = c.before; parent = c.parent; there = stays origin.parent c.parent g c.there; next = c.next; steps = c.steps; fresh = c.fresh }
 
 -- one state more
 pub kept_more : (sought : Sought) (old new : List LazyState) (origins more : List Origin) (settled : List ℕ) (key : LazyState) (origin : Origin)
@@ -160,8 +160,9 @@ pub leads_back : (sought : Sought) (keys : List LazyState) (from place : ℕ) (b
 leads_back sought keys from place back more origin key is there comes put leads front parent last at end led =
     let act = origin.act in
     let same = same_Some parent comes.parent (sym at ∙ comes.there) in
-    let here = leads_on sought.program.now sought.flat is.words is.locks front comes.parent key act.node act.deed
-    (subst (LeadsTo sought.program.now sought.flat front) same led) comes.steps in
+    let here = leads_fresh sought.program.now sought.flat is.words is.locks (front ++ act ∷ []) comes.next key
+    (leads_on sought.program.now sought.flat is.words is.locks front comes.parent comes.next act.node act.deed
+    (subst (LeadsTo sought.program.now sought.flat front) same led) comes.steps) comes.fresh in
     let turned : (front ++ act ∷ []) ++ reverse back ≡ front ++ reverse more =
     append_assoc front (act ∷ []) (reverse back) ∙ ap (λ l. front ++ l) (sym (ap reverse put ∙ reverse-append back (act ∷ []))) in
     subst (λ acts. LeadsTo sought.program.now sought.flat acts last) turned (leads (front ++ act ∷ []) key last there end here)
@@ -189,7 +190,7 @@ has_on flat old new place node deed lt g has key at =
     let stood = item_at old place lt in
     let same : stood.0 ≡ key = same_Some stood.0 key (sym (stays place stood.0 g stood.1) ∙ at) in
     let n = has key (subst (λ k. slice_get old place ≡ Some k) same stood.1) in
-    record { after = n.after; steps = n.steps; has = key_on g n.has }
+    record { after = n.after; steps = n.steps; left = n.left; fresh = n.fresh; has = key_on g n.has }
 
 -- all steps that are there stay there
 pub step_on : (flat : Flat) (old new : List LazyState) (place node : ℕ) → place < length old → Grows old new → HasAllStepsAt flat old place node

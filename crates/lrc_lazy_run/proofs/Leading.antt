@@ -13,11 +13,12 @@ use Rattle.lrc_explore.specs.Notes.{notes_with}
 use Rattle.lrc_exec.specs.States.{plain_at}
 use Rattle.lrc_explore.proofs.Noting.{notes_more}
 use Rattle.lrc_known.specs.Effect.{IsKnowledgeAfter, word_of}
-use Rattle.lrc_lazy_machine.specs.Standing.{CanMake, Stands, effect_at}
+use Rattle.lrc_lazy_machine.specs.Standing.{CanMake, IsRenewed, Stands, effect_at}
 use Rattle.lrc_lazy_machine.proofs.Beginning.{first_notes, stands_first}
+use Rattle.lrc_lazy_machine.proofs.Renewing.{stands_renewed}
 use Rattle.lrc_lazy_machine.proofs.Stepping.{over_there, stands_on}
 use Rattle.lrc_lazy_search.specs.declared.state.LazyState.{LazyState}
-use Rattle.lrc_lazy_search.specs.Searching.{Steps}
+use Rattle.lrc_lazy_search.specs.Searching.{IsFresh, Steps}
 use Rattle.lrc_lazy_run.specs.declared.sought.Sought.{Sought}
 use Rattle.lrc_lazy_run.specs.Ended.{IsEndedLazyRun}
 use Rattle.lrc_lazy_run.specs.Ways.{IsSought, LeadsTo}
@@ -47,6 +48,14 @@ module _ (program : Program) (flat : Flat) (words : flat.words ≡ program.words
         stands = stands;
         noted = notes_more flat.nodes acts act lt ∙ ap (λ notes. notes_with notes act) l.noted ∙ sym steps.notes;
       }
+
+  -- without the barriers that are gone
+  pub leads_fresh : (acts : List Act) (key after : LazyState) → LeadsTo program flat acts key → IsFresh flat key after → LeadsTo program flat acts after
+  leads_fresh acts key after l fresh = record {
+    stands = stands_renewed program flat.nodes acts (plain_at flat key.state) key.knowledge l.stands (plain_at flat after.state) after.knowledge
+        (subst (λ n. IsRenewed flat.nodes n (plain_at flat key.state) key.knowledge (plain_at flat after.state) after.knowledge) locks fresh.renewed);
+    noted = l.noted ∙ sym fresh.notes;
+  }
 
   -- acts that lead to where no node can act are a lazy run that has ended
   pub ended_there : (acts : List Act) (key : LazyState) (notes : List Act) → LeadsTo program flat acts key

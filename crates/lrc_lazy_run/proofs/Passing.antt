@@ -20,12 +20,12 @@ use Rattle.lrc_lazy_search.specs.declared.state.LazyState.{LazyState}
 use Rattle.lrc_lazy_search.proofs.Adding.{key_on}
 use Rattle.lrc_lazy_search.proofs.Same.{notes_same, stands_same}
 use Rattle.lrc_lazy_run.specs.Ways.{ArePassed, BeginsThere, IsPassed, LeadsTo}
-use Rattle.lrc_lazy_run.proofs.Leading.{leads_on}
+use Rattle.lrc_lazy_run.proofs.Leading.{leads_fresh, leads_on}
 
 -- what was passed stays so
 pub passed_on : {flat : Flat} {old new : List LazyState} {notes : List Act} {key : LazyState} → Grows old new → IsPassed flat old notes key → IsPassed flat new notes key
 passed_on g p = record {
-  next = λ node deed can. let n = p.next node deed can in record { after = n.after; steps = n.steps; has = key_on g n.has };
+  next = λ node deed can. let n = p.next node deed can in record { after = n.after; steps = n.steps; left = n.left; fresh = n.fresh; has = key_on g n.has };
   other = p.other;
 }
 
@@ -60,14 +60,15 @@ module _ (program : Program) (flat : Flat) (words : flat.words ≡ program.words
       let p = passed f.place f.key (slice_get_within keys f.place f.key f.at) f.at in
       let can = can_make program flat.nodes acts (plain_at flat f.key.state) f.key.knowledge f.led.stands node deed run in
       let next = p.next node deed (subst (λ n. CanMake n (plain_at flat f.key.state) f.key.knowledge node deed) (sym words) can) in
-      let led = leads_on program flat words locks acts f.key next.after node deed f.led next.steps in
+      let led = leads_fresh program flat words locks (acts ++ act_of node deed ∷ []) next.after next.left
+      (leads_on program flat words locks acts f.key next.after node deed f.led next.steps) next.fresh in
       record {
         place = next.has.place;
         key = next.has.stored;
         at = next.has.there;
         led = record {
-          stands = stands_same program flat.nodes flat (acts ++ act_of node deed ∷ []) next.after next.has.stored next.has.same led.stands;
-          noted = led.noted ∙ notes_same next.after next.has.stored next.has.same;
+          stands = stands_same program flat.nodes flat (acts ++ act_of node deed ∷ []) next.left next.has.stored next.has.same led.stands;
+          noted = led.noted ∙ notes_same next.left next.has.stored next.has.same;
         };
       }
 

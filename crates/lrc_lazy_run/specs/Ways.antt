@@ -13,7 +13,7 @@ use Rattle.lrc_lazy.specs.Lazy.{IsLazyOutcome}
 use Rattle.lrc_lazy_machine.specs.Standing.{CanMake, Stands}
 use Rattle.lrc_lazy_search.specs.declared.state.LazyState.{LazyState}
 use Rattle.lrc_lazy_search.specs.contracts.state.LazyStatePartialEq.TheImpl.{eq-value}
-use Rattle.lrc_lazy_search.specs.Searching.{AreReached, HasKey, Steps}
+use Rattle.lrc_lazy_search.specs.Searching.{AreReached, HasKey, IsFresh, Steps}
 use Rattle.lrc_lazy_run.specs.declared.sought.Sought.{Sought}
 use Rattle.lrc_lazy_run.specs.declared.ways.Origin.{Origin}
 use Rattle.lrc_lazy_run.specs.declared.ways.Ways.{Ways}
@@ -32,12 +32,14 @@ pub record LeadsTo (program : Program) (flat : Flat) (acts : List Act) (key : La
   pub stands : Stands program flat.nodes acts (plain_at flat key.state) key.knowledge
   pub noted : notes_of flat.nodes acts ≡ key.notes.items
 
--- a state that was found at a place is one after an earlier state, by an act
+-- a state that was found at a place is one after an earlier state, by an act, and barriers that are gone are left out
 pub record ComesFrom (flat : Flat) (keys : List LazyState) (place : ℕ) (origin : Origin) (key : LazyState) : Type 0 where
   pub before : origin.parent < place
   pub parent : LazyState
   pub there : slice_get keys origin.parent ≡ Some parent
-  pub steps : Steps flat parent origin.act.node origin.act.deed key
+  pub next : LazyState
+  pub steps : Steps flat parent origin.act.node origin.act.deed next
+  pub fresh : IsFresh flat next key
 
 -- no acts lead to the first state
 pub record BeginsThere (program : Program) (flat : Flat) (keys : List LazyState) : Type 0 where
@@ -75,7 +77,9 @@ CanMakeAt flat keys place node deed =
 pub record HasAfter (flat : Flat) (keys : List LazyState) (key : LazyState) (node : ℕ) (deed : Deed) : Type 0 where
   pub after : LazyState
   pub steps : Steps flat key node deed after
-  pub has : HasKey keys after
+  pub left : LazyState
+  pub fresh : IsFresh flat after left
+  pub has : HasKey keys left
 
 -- so does a deed at the state at a place
 abbrev pub HasStepAt : Flat → List LazyState → (place node : ℕ) → Deed → Type 0

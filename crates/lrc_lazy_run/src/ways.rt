@@ -99,7 +99,8 @@ impl Ways {
         ensures too_many { IfErr result (λ fault. fault ≡ ExploreFault.TooMany
             → MeetsMore sought.now.program.now sought.now.flat.nodes sought.now.most) }
     {
-        let next = self.states.as_slice()[place].after(alloc, &sought.flat, node, deed)?;
+        let mut next = self.states.as_slice()[place].after(alloc, &sought.flat, node, deed)?;
+        next.renew(alloc, &sought.flat)?;
         let act = Act {
             node: node as u8,
             deed,

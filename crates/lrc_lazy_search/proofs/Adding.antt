@@ -25,12 +25,13 @@ use Rattle.lrc_known.specs.Effect.{word_of, IsKnowledgeAfter}
 use Rattle.lrc_lazy_search.specs.declared.state.LazyState.{LazyState}
 use Rattle.lrc_lazy_search.specs.declared.search.Task.{Task}
 use Rattle.lrc_lazy_search.specs.contracts.state.LazyStatePartialEq.TheImpl.{eq-value}
-use Rattle.lrc_lazy_machine.specs.Standing.{with_memory, Stands, CanMake, effect_at}
-use Rattle.lrc_lazy_search.specs.Searching.{Steps, IsAhead, still, onward, IsNext, AreNext, HasStep, HasAll, AreEnough, of_one, of_all, IsReached, HasKey, AreThere}
+use Rattle.lrc_lazy_machine.specs.Standing.{with_memory, IsRenewed, Stands, CanMake, effect_at}
+use Rattle.lrc_lazy_search.specs.Searching.{Steps, IsFresh, IsAhead, still, onward, renewed, IsNext, AreNext, HasStep, HasAll, AreEnough, of_one, of_all, IsReached, HasKey, AreThere}
 use Rattle.lrc_lazy_search.specs.Searching.{HasNexts, HasEnough, by_one, by_all, IsSearched, AreSearched, IsBegun}
 use Rattle.lrc_lazy_search.specs.Task.{IsTask, IsInOrder}
 use Rattle.lrc_lazy_machine.proofs.Beginning.{stands_first, first_notes}
-use Rattle.lrc_lazy_search.proofs.Ahead.{arrivals_still}
+use Rattle.lrc_lazy_search.proofs.Ahead.{arrivals_still, fresh_counts}
+use Rattle.lrc_lazy_machine.proofs.Renewing.{stands_renewed}
 use Rattle.lrc_lazy_machine.proofs.Stepping.{stands_on}
 
 -- ---- lists of next states
@@ -62,8 +63,20 @@ module _ (program : Program) (flat : Flat) (words : flat.words ≡ program.words
         counted = counted;
       }
 
+  pub reached_fresh : (key after : LazyState) (most : ℕ) → IsReached program flat key most → IsFresh flat key after → IsReached program flat after most
+  reached_fresh key after most r fresh =
+      let left = subst (λ l. IsRenewed flat.nodes l (plain_at flat key.state) key.knowledge (plain_at flat after.state) after.knowledge) locks fresh.renewed in
+      record {
+        acts = r.acts;
+        stands = stands_renewed program flat.nodes r.acts (plain_at flat key.state) key.knowledge r.stands (plain_at flat after.state) after.knowledge left;
+        noted = r.noted ∙ sym fresh.notes;
+        valid = fresh.valid;
+        counted = λ n. let few = r.counted n in let fewer = fresh_counts fresh n in omega (arith, few, fewer);
+      }
+
   pub reached_ahead : (key ahead : LazyState) (most : ℕ) → IsReached program flat key most → IsAhead flat key ahead → IsReached program flat ahead most
   reached_ahead key ahead most r still = r
+  reached_ahead key ahead most r (renewed {mid = mid} before fresh) = reached_fresh mid ahead most (reached_ahead key mid most r before) fresh
   reached_ahead key ahead most r (onward {mid = mid} node deed before forced steps valid) =
       let earlier = reached_ahead key mid most r before in
       reached_step mid ahead most most node deed earlier steps valid (λ n.

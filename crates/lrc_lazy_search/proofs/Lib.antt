@@ -3,3 +3,4 @@ pub mod Same
 pub mod Searched
 pub mod Adding
 pub mod Ahead
+pub mod Fresh

@@ -1,5 +1,5 @@
 -- States that compare equal stand for the same runs.
-use Rattle.std.proofs.Common.{◌≡◌, ℕ, zero, suc, List, [], ◌∷◌, Bool, true, false, refl, sym, subst, ◌∙◌, ap, ◌∷◌}
+use Rattle.std.proofs.Common.{◌≡◌, ℕ, zero, suc, List, [], ◌∷◌, length, Bool, true, false, refl, sym, subst, ◌∙◌, ap, ◌∷◌}
 use Rattle.std.specs.Prelude.{Some, None, Contains, nat_eq, slice_get, slice_index_or}
 use Rattle.std.proofs.lemmas.Bool.{and_parts, eqb-true, true≢false}
 use lib.Pointwise.{pointwise}
@@ -9,7 +9,9 @@ use Rattle.lrc_trace.specs.declared.act.Act.{Act}
 use Rattle.lrc_trace.specs.contracts.act.ActPartialEq.TheImpl.{eq-value as act_eq}
 use Rattle.lrc_trace.specs.Order.{HappensBefore}
 use Rattle.lrc_exec.specs.declared.spot.Flat.{Flat}
-use Rattle.lrc_exec.specs.Plain.{Plain}
+use Rattle.lrc_exec.specs.Plain.{Plain, start_of, thread_in}
+use Rattle.lrc_consistency_laws.specs.Follows.{deeds_of}
+use Rattle.lrc_consistency_laws.proofs.Matching.{Matches}
 use Rattle.lrc_exec.specs.contracts.state.StatePartialEq.TheImpl.{eq-value as state_eq}
 use Rattle.lrc_exec.specs.States.{plain_at}
 use Rattle.lrc_explore.proofs.Alike.{acts_same}
@@ -28,7 +30,7 @@ use Rattle.lrc_known.specs.Effect.{knowers_in, word_of, IsKnowledgeOf}
 use Rattle.lrc_known.proofs.Sets.{describes_moved}
 use Rattle.lrc_lazy_search.specs.declared.state.LazyState.{LazyState}
 use Rattle.lrc_lazy_search.specs.contracts.state.LazyStatePartialEq.TheImpl.{eq-value}
-use Rattle.lrc_lazy_machine.specs.Standing.{Stands}
+use Rattle.lrc_lazy_machine.specs.Standing.{advanced, with_memory, Comes, Stands}
 
 -- two lists that compare equal have at each place nothing, or items that compare equal
 pub data Both {A : Type 0} (E : A → A → Bool) (xs ys : List A) (k : ℕ) : Type 0 where
@@ -117,20 +119,24 @@ pub stands_same : (program : Program) (nodes : ℕ) (flat : Flat) (acts : List A
 stands_same program nodes flat acts a b e s =
     let p = and_parts (state_eq.it a.state b.state) _ e in
     let q = and_parts (knowledge_eq.it a.knowledge b.knowledge) (pointwise act_eq.it a.notes.items b.notes.items) p.1 in
-    let moved = subst (λ (m : Plain). Stands program nodes acts m a.knowledge) (state_same flat a.state b.state p.0) s in
-    let known : IsKnowledgeOf nodes program.locks acts b.knowledge = λ word.
-    describes_moved (HappensBefore acts) (HappensBefore acts) (KnowsWrite nodes program.locks acts word) (KnowsWrite nodes program.locks acts word)
+    let machine = state_same flat a.state b.state p.0 in
+    let known : IsKnowledgeOf nodes program.locks s.gone acts b.knowledge = λ word.
+    describes_moved (HappensBefore acts) (HappensBefore acts) (KnowsWrite nodes program.locks s.gone acts word) (KnowsWrite nodes program.locks s.gone acts word)
     (λ k i v h. h) (λ k i v h. h) (λ z k i m u v x y h. h) (λ z k i m u v x y h. h) (word_of a.knowledge word) (word_of b.knowledge word)
     (s.known word) (knowledge_same a.knowledge b.knowledge q.0 word) in
     record {
-      run = moved.run;
-      memory = moved.memory;
-      matches = moved.matches;
-      long = moved.long;
-      holders = moved.holders;
-      size = moved.size;
-      leads = moved.leads;
-      are = moved.are;
+      run = s.run;
+      gone = s.gone;
+      departed = s.departed;
+      memory = s.memory;
+      matches = subst (λ (m : Plain). Matches acts (length acts) (with_memory (advanced s.gone m) s.memory)) machine s.matches;
+      long = s.long;
+      holders = sym (ap (λ (m : Plain). length m.holders) machine) ∙ s.holders;
+      size = sym (ap (λ (m : Plain). length m.arrivals) machine) ∙ s.size;
+      leads = λ n lt.
+          subst (λ o. Comes (Some (start_of program nodes n)) (deeds_of n acts) o) (ap (λ (m : Plain). thread_in m n) machine) (s.leads n lt);
+      stopped = λ n lt none. s.stopped n lt (ap (λ (m : Plain). thread_in m n) machine ∙ none);
+      are = s.are;
       known = known;
     }
 

@@ -20,12 +20,13 @@ use Rattle.lrc_lazy.specs.Lazy.{IsLazyRun, IsLazyOutcome, IsOver, MayComeNext}
 use Rattle.lrc_known.specs.Effect.{IsKnowledgeAfter}
 use Rattle.lrc_lazy_machine.proofs.Beginning.{first_notes}
 use Rattle.lrc_lazy_search.specs.declared.state.LazyState.{LazyState}
-use Rattle.lrc_lazy_machine.specs.Standing.{Stands, CanMake, effect_at}
+use Rattle.lrc_lazy_machine.specs.Standing.{IsRenewed, Stands, CanMake, effect_at}
 use Rattle.lrc_lazy_search.specs.Fit.{IsFit}
-use Rattle.lrc_lazy_search.specs.Searching.{Steps, IsInFront, IsAhead, still, onward, HasKey, HasNexts, HasEnough, by_one, by_all}
+use Rattle.lrc_lazy_search.specs.Searching.{Steps, IsInFront, IsFresh, IsAhead, still, onward, renewed, HasKey, HasNexts, HasEnough, by_one, by_all}
 use Rattle.lrc_lazy_search.specs.Searching.{IsReached, IsSearched, AreSearched, AreSound, IsBegun}
 use Rattle.lrc_lazy_front.proofs.Deeds.{lazy_front}
 use Rattle.lrc_lazy_front.proofs.Front.{in_front}
+use Rattle.lrc_lazy_machine.proofs.Renewing.{stands_renewed}
 use Rattle.lrc_lazy_machine.proofs.Stepping.{stands_on, can_make, run_made, over_there, none_there}
 use Rattle.lrc_lazy_search.proofs.Same.{stands_same, notes_same}
 
@@ -131,9 +132,26 @@ module _ (program : Program) (flat : Flat) (words : flat.words ≡ program.words
     ending : Ending acts left notes
     few : length left ≤ most
 
+  -- without the barriers that are gone a state stands for the same run
+  left_fresh : (acts : List Act) (key after : LazyState) → IsOf acts key → IsFresh flat key after → IsOf acts after
+  left_fresh acts key after of fresh = record {
+    stands = stands_renewed program nodes acts (plain_at flat key.state) key.knowledge of.stands (plain_at flat after.state) after.knowledge
+        (subst (λ l. IsRenewed nodes l (plain_at flat key.state) key.knowledge (plain_at flat after.state) after.knowledge) locks fresh.renewed);
+    noted = of.noted ∙ sym fresh.notes;
+  }
+
   -- ahead of a state some run with the same outcome goes
   left_ahead : {key ahead : LazyState} {most : ℕ} {notes : List Act} → IsAhead flat key ahead → Left key most notes → Left ahead most notes
   left_ahead still l = l
+  left_ahead (renewed {mid = mid} {after = after} before fresh) l =
+      let m = left_ahead before l in
+      record {
+        acts = m.acts;
+        of = left_fresh m.acts mid after m.of fresh;
+        left = m.left;
+        ending = m.ending;
+        few = m.few;
+      }
   left_ahead {most = most} {notes = notes} (onward {mid = mid} {after = after} node deed before forced steps valid) l =
       let m = left_ahead before l in
       let found = front_next m.acts m.left notes mid node m.of forced.front m.ending in

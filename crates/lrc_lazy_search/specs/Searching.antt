@@ -18,7 +18,7 @@ use Rattle.lrc_known.specs.Effect.{IsKnowledgeAfter}
 use Rattle.lrc_swapped.specs.Swapped.{IsNoAcquire}
 use Rattle.lrc_lazy_search.specs.declared.state.LazyState.{LazyState}
 use Rattle.lrc_lazy_search.specs.contracts.state.LazyStatePartialEq.TheImpl.{eq-value}
-use Rattle.lrc_lazy_machine.specs.Standing.{with_memory, Stands, MayGive, CanMake, effect_at}
+use Rattle.lrc_lazy_machine.specs.Standing.{with_memory, IsRenewed, Stands, MayGive, CanMake, effect_at}
 
 -- ---- steps
 
@@ -59,9 +59,16 @@ pub record IsForced (flat : Flat) (key : LazyState) (node : ℕ) (deed : Deed) :
   pub only : (other : Deed) → CanMake flat.words (plain_at flat key.state) key.knowledge node other → other ≡ deed
   pub no_arrive : deed ≢ Arrive
 
--- deeds of this kind, one after another, lead from the state to one ahead
+-- the state without more barriers that are gone
+pub record IsFresh (flat : Flat) (key after : LazyState) : Type 0 where
+  pub renewed : IsRenewed flat.nodes flat.locks (plain_at flat key.state) key.knowledge (plain_at flat after.state) after.knowledge
+  pub valid : IsStateOf flat after.state
+  pub notes : after.notes.items ≡ key.notes.items
+
+-- deeds of this kind, one after another, lead from the state to one ahead, and barriers that are gone are left out
 pub data IsAhead (flat : Flat) (key : LazyState) : LazyState → Type 0 where
   still : IsAhead flat key key
+  renewed : {mid after : LazyState} → IsAhead flat key mid → IsFresh flat mid after → IsAhead flat key after
   onward : {mid after : LazyState} (node : ℕ) (deed : Deed) → IsAhead flat key mid → IsForced flat mid node deed → Steps flat mid node deed after
       → IsStateOf flat after.state → IsAhead flat key after
 

@@ -1,6 +1,6 @@
 // States of the machine that makes lazy runs.
 
-ghost use Rattle.std.specs.Prelude.{◌≡◌, ◌<◌, ◌^◌, ◌*◌, ℕ, IfOk, OnOk, length, map};
+ghost use Rattle.std.specs.Prelude.{◌≡◌, ◌<◌, ◌^◌, ◌*◌, ◌-◌, ℕ, IfOk, OnOk, length, map};
 ghost use Rattle.lrc_trace.specs.declared.act.Deed.TheVariants.{Read};
 ghost use Rattle.lrc_known.specs.declared.word.Effect.TheVariants.{Writes};
 ghost use Rattle.lrc_known.specs.Effect.{IsKnowledgeAfter, IsSmall, word_of};
@@ -33,9 +33,9 @@ impl LazyState {
     ghost use Rattle.lrc_exec.specs.Spots.{IsFlat};
     ghost use Rattle.lrc_exec.specs.States.{IsFirst, plain_at, IsStateOf};
     ghost use Rattle.lrc_known.specs.Effect.{word_of, IsKnowledgeAfter};
-    ghost use Rattle.lrc_lazy_machine.specs.Standing.{with_memory, CanMake};
+    ghost use Rattle.lrc_lazy_machine.specs.Standing.{with_memory, departures_of, CanMake};
     ghost use Rattle.lrc_lazy_search.specs.Fit.{IsFit};
-    ghost use Rattle.lrc_lazy_search.specs.Searching.{HasAll, AreNext, AreEnough, IsAhead, IsForced, IsInFront, Makes, Steps, IsPoked};
+    ghost use Rattle.lrc_lazy_search.specs.Searching.{HasAll, AreNext, AreEnough, IsAhead, IsForced, IsFresh, IsInFront, Makes, Steps, IsPoked};
 
     /// Returns the beginning of a program whose text begins at this place of the code.
     pub fn start(alloc: Global, flat: &Flat, place: usize) -> Result<LazyState, AllocError>
@@ -316,8 +316,20 @@ impl LazyState {
     }
 
     /// Makes deeds as long as the lowest node that can do something other than acquire a lock can do only one deed,
-    /// which is no arrive. It makes no more than `LONGEST` deeds. It fails if memory runs out.
+    /// which is no arrive. It makes no more than `LONGEST` deeds. Then it leaves out the barriers that are gone. It fails
+    /// if memory runs out.
     pub fn go_ahead(&mut self, alloc: Global, flat: &Flat) -> Result<(), AllocError>
+        requires flat { IsFlat flat.now }
+        requires state { IsStateOf flat.now self.old.state }
+        requires room { (node : ℕ) → slice_index self.old.state.arrivals.items node < 2 ^ 63 }
+        ensures { OnOk result (IsAhead flat.now self.old self.new) }
+    {
+        self.go_on(alloc, flat)?;
+        self.renew(alloc, flat)
+    }
+
+    // Makes such deeds.
+    fn go_on(&mut self, alloc: Global, flat: &Flat) -> Result<(), AllocError>
         requires flat { IsFlat flat.now }
         requires state { IsStateOf flat.now self.old.state }
         requires room { (node : ℕ) → slice_index self.old.state.arrivals.items node < 2 ^ 63 }
@@ -328,6 +340,51 @@ impl LazyState {
                 return Ok(());
             }
         }
+        Ok(())
+    }
+
+    // How often a node has departed from a barrier.
+    fn departures(&self, flat: &Flat, node: usize) -> u64
+        requires state { IsStateOf flat.now self.now.state }
+        requires node { node < flat.now.nodes }
+        ensures { result ≡ departures_of (plain_at flat.now self.now.state) node }
+    {
+        let _nodes = flat.nodes;
+        let arrived = self.state.arrivals[node];
+        let spot = &self.state.spots[node];
+        if spot.arrived && !spot.stopped {
+            arrived.saturating_sub(1)
+        } else {
+            arrived
+        }
+    }
+
+    // How often each node has departed at least.
+    fn gone(&self, flat: &Flat) -> u64
+        requires { IsStateOf flat.now self.now.state }
+        ensures { (node : ℕ) → node < flat.now.nodes
+            → result ≤ departures_of (plain_at flat.now self.now.state) node }
+    {
+        let mut gone = u64::MAX;
+        for node in 0..flat.nodes {
+            gone = gone.min(self.departures(flat, node as usize));
+        }
+        gone
+    }
+
+    /// Leaves out the barriers from which all nodes have departed, so that a state after a round of a loop may be one
+    /// before it. It fails if memory runs out.
+    pub fn renew(&mut self, alloc: Global, flat: &Flat) -> Result<(), AllocError>
+        requires { IsStateOf flat.now self.old.state }
+        ensures { OnOk result (IsFresh flat.now self.old self.new) }
+    {
+        let gone = self.gone(flat);
+        if gone == 0 {
+            return Ok(());
+        }
+        let barriers = flat.nodes as usize + flat.locks as usize;
+        self.state.arrivals = lowered(alloc, &self.state.arrivals, gone)?;
+        self.knowledge = self.knowledge.without(alloc, barriers, gone as usize)?;
         Ok(())
     }
 
@@ -390,6 +447,16 @@ impl LazyState {
         }
         Ok(())
     }
+}
+
+// Counts that are lower by so many.
+fn lowered(alloc: Global, counts: &[u64], by: u64) -> Result<Vec<u64>, AllocError>
+    ensures { IfOk result (λ left. left.items ≡ map (λ count. count - by) counts.now) }
+{
+    counts
+        .iter()
+        .map(|count| count.saturating_sub(by))
+        .collect(alloc)
 }
 
 // Reads of a word, with these values.

@@ -66,6 +66,10 @@ dead_zeros (false ∷ live) (suc count) = ap (λ l. 0 ∷ l) (dead_zeros live co
 
 -- ---- spots
 
+-- a blank one stays
+pub blank_forgot : (table : List (List Bool)) (s : Spot) → s ≡ spot_stopped s.me → forgot table s ≡ spot_stopped s.me
+blank_forgot table s e = ap (forgot table) e ∙ ap (λ l. record (spot_stopped s.me) { privates = l }) (dead_zeros (slice_index_or table 0 []) 32)
+
 -- those of a vector, each written anew
 pub all_forgotten : (table : List (List Bool)) (spots : Vec Spot Global) (old new : List Spot) → old ≡ spots.items → length old ≡ vec_len spots
     → new ≡ map (forgot table) old → (with_items spots new).items ≡ map (forgot table) spots.items
@@ -92,7 +96,7 @@ module _ (flat : Flat) (table : List (List Bool)) (live : AreLive flat.code.now 
       small : (name : ℕ) → name < length (slice_index_or table spot.place []) → name < 32
       small name lt = omega (arith, lt, size)
 
-  spot_like : (spot : Spot) → spot.place ≤ length flat.code.now → (b : Bool) → spot.stopped ≡ b
+  pub spot_like : (spot : Spot) → spot.place ≤ length flat.code.now → (b : Bool) → spot.stopped ≡ b
       → BothAlike AgreeWhereItMatters (spot_thread flat (forgot table spot)) (spot_thread flat spot)
   spot_like spot within true e =
       let none : spot_thread flat spot ≡ None = ap (λ b. if b then None else Some (record (thread_at flat spot) { arrived = spot.arrived })) e in
@@ -136,16 +140,12 @@ module _ (flat : Flat) (table : List (List Bool)) (live : AreLive flat.code.now 
       blank = λ k d lt.
           let old_lt : k < length old.spots.items = omega (arith, lt, long) in
           subst (λ (s : Spot). s.stopped ≡ true → s ≡ spot_stopped s.me) (sym (at_new k d old_lt))
-          (λ e. blank_forgot (get_or old.spots.items k d) (valid.blank k d old_lt e));
+          (λ e. blank_forgot table (get_or old.spots.items k d) (valid.blank k d old_lt e));
     }
       where
         same_me : (xs : List Spot) → map (λ (spot : Spot). spot.me) (map (forgot table) xs) ≡ map (λ (spot : Spot). spot.me) xs
         same_me [] = refl
         same_me (x ∷ xs) = ap (λ l. x.me ∷ l) (same_me xs)
-
-        blank_forgot : (s : Spot) → s ≡ spot_stopped s.me → forgot table s ≡ spot_stopped s.me
-        blank_forgot s e =
-            ap (forgot table) e ∙ ap (λ l. record (spot_stopped s.me) { privates = l }) (dead_zeros (slice_index_or table 0 []) 32)
 
     pub counted_forgot : IsCounted old → IsCounted new
     counted_forgot counted =

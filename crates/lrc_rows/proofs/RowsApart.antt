@@ -1,5 +1,5 @@
 -- No two rows stand for equal states.
-use Rattle.std.proofs.Common.{◌≡◌, ℕ, ◌<◌, List, Bool, true, false, inl, inr, length, refl, sym, subst, ◌∙◌, ap, arith}
+use Rattle.std.proofs.Common.{◌≡◌, ℕ, ◌<◌, List, Bool, true, false, inl, inr, refl, sym, subst, ◌∙◌, ap, arith}
 use Rattle.std.specs.Prelude.{Option, Some, None, nat_eq, slice_get, slice_index}
 use Rattle.std.specs.Option.{option_eq}
 use Rattle.std.proofs.lemmas.Bool.{and_parts, cases_lt, eqb-true}
@@ -23,7 +23,6 @@ use Rattle.lrc_explore.proofs.Alike.{acts_same}
 use Rattle.lrc_explore.proofs.Keeping.{item_at}
 use Rattle.lrc_explore.proofs.KeptAlike.{both_true, equal_items, nat_itself, one_place}
 use Rattle.lrc_explore.proofs.Same.{option_same, pointwise_same, spot_same}
-use Rattle.lrc_explore.proofs.Ways.{IsNotedCopy}
 use Rattle.lrc_explore.proofs.Widening.{apart_in, not_true}
 use Rattle.lrc_rows.specs.declared.parts.Shared.{Shared}
 use Rattle.lrc_rows.specs.declared.parts.Notes.{Notes}
@@ -45,17 +44,6 @@ shared_same a b e =
 
 pub notes_same : (a b : Notes) → notes_eq.it a b ≡ true → a.acts.items ≡ b.acts.items
 notes_same a b e = acts_same a.acts.items b.acts.items e
-
-pub row_is : (a b : Row) → row_eq.it a b ≡ true → a ≡ b
-row_is a b e =
-    let p = and_parts (pointwise nat_eq a.threads b.threads) _ e in
-    let q = and_parts (nat_eq a.shared b.shared) (nat_eq a.notes b.notes) p.1 in
-    let threads : a.threads ≡ b.threads = pointwise_same nat_eq (λ x y h. eqb-true x y h) a.threads b.threads p.0 in
-    let shared : a.shared ≡ b.shared = eqb-true a.shared b.shared q.0 in
-    let notes : a.notes ≡ b.notes = eqb-true a.notes b.notes q.1 in
-    ap (λ x. record a { threads = x }) threads
-    ∙ ap (λ x. record a { threads = b.threads; shared = x }) shared
-    ∙ ap (λ x. record b { notes = x }) notes
 
 -- ---- and the other way round
 

@@ -1,5 +1,5 @@
 -- Rows of numbers, and the states with notes that they stand for.
-use Rattle.std.specs.Prelude.{◌≡◌, ℕ, ◌<◌, ◌≤◌, List, Option, Some, length, slice_get, slice_index}
+use Rattle.std.specs.Prelude.{◌≡◌, ℕ, ◌<◌, ◌≤◌, ◌⊎◌, List, Option, Some, length, slice_get, slice_index}
 use Rattle.std.specs.List.{IsDistinct}
 use Rattle.lrc_trace.specs.declared.act.Act.{Act}
 use Rattle.lrc_exec.specs.declared.spot.Spot.{Spot}
@@ -38,7 +38,12 @@ pub record AreThreadsAt (keys : List Spot) (nodes : ℕ) (numbers : List ℕ) (s
 abbrev pub HaveThreads : List Spot → (nodes : ℕ) → (numbers : List ℕ) → Type 0
 HaveThreads keys nodes numbers = (spots : List Spot) × AreThreadsAt keys nodes numbers spots
 
--- the state with its notes that a row stands for. How often a node has arrived is not kept: once where it waits, and else never
+-- each thread was there before, or is one of these
+abbrev pub AddsThreads : (old new spots : List Spot) → Type 0
+AddsThreads old new spots = (k : ℕ) (x : Spot) → slice_get new k ≡ Some x → (slice_get old k ≡ Some x) ⊎ ((j : ℕ) × (slice_get spots j ≡ Some x))
+
+-- the state with its notes that a row stands for. How often a node has arrived is not kept: once where it waits, and
+-- else never
 pub record StandsFor (all : Rows) (row : Row) (key : Noted) : Type 0 where
   pub few : all.nodes ≤ 16
   pub threads : AreThreadsAt all.threads.keys all.nodes row.threads key.state.spots.items

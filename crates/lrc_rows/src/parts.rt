@@ -1,9 +1,9 @@
 // The parts of states, each once, by numbers in the order in which they first came.
 
-ghost use Rattle.std.specs.Prelude.{◌≡◌, ◌≤◌, IfOk, OnOk, Some, length, map, slice_get};
+ghost use Rattle.std.specs.Prelude.{◌≡◌, ◌≤◌, [], ◌∷◌, IfOk, OnOk, Some, length, map, slice_get};
 ghost use Rattle.lrc_explore.specs.Kept.{AreSpotsDistinct, Grows};
 ghost use Rattle.lrc_steps.specs.Taking.{count_of};
-ghost use Rattle.lrc_rows.specs.Rows.{AreNotesAt, AreNotesDistinct, AreSharedDistinct, AreThreadsAt, HaveThreads, IsSharedAt};
+ghost use Rattle.lrc_rows.specs.Rows.{AddsThreads, AreNotesAt, AreNotesDistinct, AreSharedDistinct, AreThreadsAt, HaveThreads, IsSharedAt};
 
 use indexmap::IndexSet;
 use lrc_exec::spot::Spot;
@@ -38,6 +38,7 @@ pub fn thread_number(threads: &mut IndexSet<Spot>, thread: Spot) -> Result<u32, 
     ensures grows { OnOk result (Grows threads.old.keys threads.new.keys) }
     ensures distinct { OnOk result (AreSpotsDistinct threads.new.keys) }
     ensures there { IfOk result (λ number. slice_get threads.new.keys number ≡ Some thread) }
+    ensures only { OnOk result (AddsThreads threads.old.keys threads.new.keys (thread ∷ [])) }
 {
     let (place, _new) = threads.insert_full(thread)?;
     let number = short(place)?;
@@ -75,6 +76,7 @@ pub fn threads_of(threads: &mut IndexSet<Spot>, spots: &[Spot]) -> Result<[u32; 
     ensures there { IfOk result (λ numbers. AreThreadsAt threads.new.keys
         (length spots.now) numbers spots.now) }
     ensures few { OnOk result (length spots.now ≤ 16) }
+    ensures only { OnOk result (AddsThreads threads.old.keys threads.new.keys spots.now) }
 {
     if spots.len() > 16 {
         return Err(AllocError);

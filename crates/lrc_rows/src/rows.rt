@@ -1,7 +1,10 @@
 // Rows, each once: a state with its notes is kept as the numbers of its parts.
 //
-// A row takes 72 bytes, and some 13 in the set that keeps it. What a node is at, what the nodes share and what was noted is kept once
-// for all the rows that have it.
+// A row takes 72 bytes, and some 13 in the set that keeps it. What a node is at, what the nodes share and what was
+// noted is kept once for all the rows that have it.
+
+ghost use Rattle.std.specs.Prelude.{◌≡◌};
+ghost use Rattle.lrc_rows.specs.RowHash.{mix, mixed};
 
 use crate::parts::{Notes, Shared, counted, notes_number, shared_number, threads_at, threads_of};
 use indexmap::IndexSet;
@@ -9,14 +12,48 @@ use lrc_exec::spot::Spot;
 use lrc_exec::state::State;
 use lrc_explore::noted::Noted;
 use std::alloc::{AllocError, Global};
+use std::hash::{Hash, Hasher};
 
-/// A state with its notes, by the number of each node's thread, of what the nodes share, and of what was noted. Past the nodes that there
-/// are the numbers are 0.
-#[derive(Clone, Copy, PartialEq, Eq, Hash)]
+/// A state with its notes, by the number of each node's thread, of what the nodes share, and of what was noted. Past
+/// the nodes that there are the numbers are 0.
+#[derive(Clone, Copy, PartialEq, Eq)]
 pub struct Row {
     pub threads: [u32; 16],
     pub shared: u32,
     pub notes: u32,
+}
+
+// A row is hashed as one number: most of the time of a search is that of looking rows up.
+impl Hash for Row {
+    ghost use Rattle.std.specs.Hash.{u64};
+    ghost use Rattle.lrc_rows.specs.RowHash.{mixed, respects};
+
+    ghost hash_input = { λ row. u64 (mixed row) };
+
+    ghost respects_eq = { respects };
+
+    fn hash<H: Hasher>(&self, state: &mut H) {
+        state.write_u64(mixed(self));
+    }
+}
+
+// The numbers of a row, mixed to one of 64 bits.
+#[tactic(auto, using(std::proofs::lemmas::List::Sums::fold_more))]
+fn mixed(row: &Row) -> u64
+    ensures { result ≡ mixed row.now }
+{
+    let mut all = 0;
+    for number in &row.threads {
+        all = mix(all, *number);
+    }
+    mix(mix(all, row.shared), row.notes)
+}
+
+// A number with another mixed in.
+fn mix(all: u64, number: u32) -> u64
+    ensures { result ≡ mix all number }
+{
+    (all ^ u64::from(number)).wrapping_mul(0x9e37_79b9_7f4a_7c15)
 }
 
 /// Rows of so many nodes, each once, in the order in which they were added, and the distinct parts of them.
@@ -30,16 +67,17 @@ pub struct Rows {
 }
 
 impl Rows {
-    ghost use Rattle.std.specs.Prelude.{◌≡◌, ◌<◌, ◌≤◌, ◌^◌, IfOk, OnOk, Some, length, slice_get};
+    ghost use Rattle.std.specs.Prelude.{◌≡◌, ◌<◌, ◌≤◌, ◌^◌, [], IfOk, OnOk, Some, length, slice_get};
     ghost use Rattle.lrc_explore.specs.declared.noted.Noted.{Noted as Key};
     ghost use Rattle.lrc_explore.specs.Kept.{IsAddedAt};
     ghost use Rattle.lrc_steps.specs.Taking.{IsCounted};
-    ghost use Rattle.lrc_rows.specs.Rows.{AreRowsDistinct, IsRowAt, IsRowPlace, StandsFor, WidensRows, row_count};
+    ghost use Rattle.lrc_rows.specs.Rows.{AddsThreads, AreRowsDistinct, IsRowAt, IsRowPlace, StandsFor, WidensRows, row_count};
 
     /// No rows.
     pub fn new(alloc: Global, nodes: usize) -> Rows
         ensures empty { row_count result ≡ 0 }
         ensures nodes { result.nodes ≡ nodes }
+        ensures threads { result.threads.keys ≡ [] }
         ensures distinct { AreRowsDistinct result }
     {
         Rows {
@@ -97,6 +135,8 @@ impl Rows {
         ensures there { IfOk result (λ added. IsRowAt self.new added.0 noted) }
         ensures added { IfOk result (λ added. IsAddedAt (row_count self.old)
             (row_count self.new) added.0 added.1) }
+        ensures only { OnOk result (AddsThreads self.old.threads.keys self.new.threads.keys
+            noted.state.spots.items) }
     {
         let state = noted.state;
         let acts = noted.notes;
@@ -126,6 +166,7 @@ impl Rows {
             → IsRowAt self.new added.0 key) }
         ensures added { IfOk result (λ added. IsAddedAt (row_count self.old)
             (row_count self.new) added.0 added.1) }
+        ensures parts { self.new ≡ record self.old { rows = self.new.rows } }
     {
         let (place, added) = self.rows.insert_full(row)?;
         Ok((place, added))

@@ -22,6 +22,7 @@ use Rattle.lrc_world.specs.declared.keep.Keep.TheVariants.{All as Whole}
 use Rattle.lrc_world.specs.declared.run.Run.{Run}
 use Rattle.lrc_world.specs.Report.{IsOver}
 use Rattle.lrc_world.specs.Runs.{IsRunBy}
+use Rattle.lrc_world.specs.Turned.{turned_of}
 use Rattle.lrc_world.proofs.Theorem.{all_kept}
 use Rattle.lrc_weave.proofs.Places.{some_same}
 use Rattle.lrc_run.specs.declared.fault.RunFault.TheVariants.{BadNodes, BadSteps}
@@ -66,7 +67,8 @@ module _ (program : Program) (nodes : ℕ) (options : OptionsRecord) (picker : P
 
   -- a report of events after which nothing is left to do is that of a run
   module _ (run : Run) (woven : IsWovenReport program nodes options run.events.items run.report) (over : run.is_over ≡ true)
-      (races : AreNamedRaces run.report.acts.items run.report.races.items) (some : 1 ≤ nodes) where
+      (races : AreNamedRaces run.report.acts.items run.report.races.items) (some : 1 ≤ nodes)
+      (turned : run.turned.items ≡ turned_of program nodes options run.events.items) where
     one_world : woven.reported.0 ≡ woven.over.0
     one_world = some_same (run_of program nodes options run.events.items) woven.reported.0 woven.over.0 woven.reported.1 woven.over.1
 
@@ -78,6 +80,7 @@ module _ (program : Program) (nodes : ℕ) (options : OptionsRecord) (picker : P
           made = woven.reported.0;
           makes = woven.reported.1;
           report = record { acts = is.acts; ends = is.ends; logs = is.logs; first = is.first };
+          turned = turned;
           races = races;
           over = (λ _. subst IsOver (sym one_world) woven.over.2, λ _. over);
           kept = all_kept program nodes options run.events.items run.report.acts.items woven.reported.0 woven.reported.1 is.acts (omega (arith, some))
@@ -86,14 +89,15 @@ module _ (program : Program) (nodes : ℕ) (options : OptionsRecord) (picker : P
 
   -- a run of which all is told
   pub threaded_run : (logs : List (List EntryRecord)) (told : ToldRun) (run : Run) (wires : List MailboxRecord) → 1 ≤ nodes
-      → IsTold program nodes options logs told → Reports logs told run.report → run.events ≡ told.events → run.is_over ≡ true
-      → AreMatched logs wires → All IsAllGiven wires → length wires ≡ nodes → AreWires wires → AreOf picker wires
+      → IsTold program nodes options logs told → Reports logs told run.report → run.events ≡ told.events → run.turned ≡ told.turned
+      → run.is_over ≡ true → AreMatched logs wires → All IsAllGiven wires → length wires ≡ nodes → AreWires wires → AreOf picker wires
       → IsThreadedRun program nodes options picker run wires
-  threaded_run logs told run wires some is reports same over matched taken count legal picked = record {
+  threaded_run logs told run wires some is reports same marked over matched taken count legal picked = record {
     made = run_of_report run
         (subst (λ events. IsWovenReport program nodes options events.items run.report) (sym same) (is.woven run.report reports)) over
         (subst (λ acts. AreNamedRaces acts.items run.report.races.items) (sym reports.acts)
-        (subst (λ races. AreNamedRaces told.acts.items races.items) (sym reports.races) is.races)) some;
+        (subst (λ races. AreNamedRaces told.acts.items races.items) (sym reports.races) is.races)) some
+        (ap (λ turned. turned.items) marked ∙ is.turned ∙ ap (λ events. turned_of program nodes options events.items) (sym same));
     over = over;
     posted = record {
       count = count;

@@ -16,6 +16,7 @@ use Rattle.lrc_world.specs.declared.report.Report.{Report}
 use Rattle.lrc_world.specs.declared.run.Run.{Run}
 use Rattle.lrc_world.specs.Report.{AreAll, IsReportOf}
 use Rattle.lrc_world.specs.Runs.{IsRunBy}
+use Rattle.lrc_world.specs.Turned.{turned_of}
 use Rattle.lrc_world.specs.World.{sends_long}
 use Rattle.lrc_threads.specs.Threads.{is_any_ready_after, traces_of_logs}
 use Rattle.lrc_threads.specs.Worker.{AreShort}
@@ -81,7 +82,9 @@ pub record Reports (logs : List (List EntryRecord)) (told : ToldRun) (report : R
   pub races : report.races ≡ told.races
   pub first : report.first_race ≡ told.first_race
 
--- what is told beside the turns of nodes makes a report of them, in which the races are those named
+-- What is told beside the turns of nodes makes a report of them, in which the races are those named. The events that make the turns are told
+-- with their nodes.
 pub record IsTold (program : Program) (nodes : ℕ) (options : OptionsRecord) (logs : List (List EntryRecord)) (told : ToldRun) : Type 0 where
   pub woven : (report : Report) → Reports logs told report → IsWovenReport program nodes options told.events.items report
+  pub turned : told.turned.items ≡ turned_of program nodes options told.events.items
   pub races : AreNamedRaces told.acts.items told.races.items

@@ -120,11 +120,13 @@ fn finished(
 fn reported(parts: Parts, wires: Wires, told: ToldRun) -> ThreadedRun
     ensures report { Reports (turns_of_logs parts.logs.items) told result.made.report }
     ensures events { result.made.events ≡ told.events }
+    ensures turned { result.made.turned ≡ told.turned }
     ensures over { result.made.is_over ≡ true }
     ensures wires { result.wires ≡ wires }
 {
     let ToldRun {
         events,
+        turned,
         acts,
         ends,
         races,
@@ -139,6 +141,7 @@ fn reported(parts: Parts, wires: Wires, told: ToldRun) -> ThreadedRun
     };
     let made = Run {
         events,
+        turned,
         is_over: true,
         report,
     };

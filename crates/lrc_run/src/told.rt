@@ -26,12 +26,14 @@ use lrc_trace::trace::Trace;
 use lrc_weave::{WeaveFault, WovenRun, weave_run};
 use lrc_world::ends::ends;
 use lrc_world::first::first_of;
+use lrc_world::turned::{Turned, turned_events};
 use std::alloc::{AllocError, Global};
 
 /// What is reported of a run, except the turns of its nodes.
 #[derive(Drop)]
 pub(crate) struct ToldRun {
     pub events: Vec<Event>,
+    pub turned: Vec<Turned>,
     pub acts: Vec<Act>,
     pub ends: Vec<End>,
     pub races: Vec<Race>,
@@ -46,9 +48,9 @@ struct Findings {
     first_race: Option<usize>,
 }
 
-/// Returns what is reported of the nodes' turns, and the events that make them. No event is played again: the acts are
-/// those of the turns, and the races those of the nodes' traces. It fails with `Mismatch` only if the mailboxes'
-/// histories do not agree with the turns, or something was left to do or to give.
+/// Returns what is reported of the nodes' turns, and the events that make them, each with its node. No event is played
+/// again: the acts are those of the turns, and the races those of the nodes' traces. It fails with `Mismatch` only if
+/// the mailboxes' histories do not agree with the turns, or something was left to do or to give.
 pub(crate) fn told(
     alloc: Global,
     program: &Program,
@@ -72,13 +74,17 @@ pub(crate) fn told(
         (options_of setting.now)
         (turns_of_logs parts.now.logs.items) wires.now }
 {
-    let run = weave_run(alloc, parts.logs.as_slice(), wires)?;
+    let logs = parts.logs.as_slice();
+    let run = weave_run(alloc, logs, wires)?;
     if parts.is_any_ready || run.in_flight > 0 || !are_all_given(wires) {
         return Err(WeaveFault::Mismatch);
     }
     let acts = run.acts.as_slice();
-    let found = findings_of(alloc, setting.nodes, acts, parts.traces.as_slice())?;
-    Ok(with_findings(run, found))
+    let traces = parts.traces.as_slice();
+    let found = findings_of(alloc, setting.nodes, acts, traces)?;
+    let events = run.events.as_slice();
+    let turned = turned_events(alloc, logs, events)?;
+    Ok(with_findings(run, turned, found))
 }
 
 // Whether nothing is in flight in any mailbox.
@@ -114,9 +120,10 @@ fn findings_of(
     })
 }
 
-// A run, and what is found in it.
-fn with_findings(run: WovenRun, found: Findings) -> ToldRun
+// A run with the turns that its events make, and what is found in it.
+fn with_findings(run: WovenRun, turned: Vec<Turned>, found: Findings) -> ToldRun
     ensures events { result.events ≡ run.events }
+    ensures turned { result.turned ≡ turned }
     ensures acts { result.acts ≡ run.acts }
     ensures ends { result.ends ≡ found.ends }
     ensures races { result.races ≡ found.races }
@@ -130,6 +137,7 @@ fn with_findings(run: WovenRun, found: Findings) -> ToldRun
     } = found;
     ToldRun {
         events,
+        turned,
         acts,
         ends,
         races,

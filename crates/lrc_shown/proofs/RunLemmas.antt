@@ -11,14 +11,12 @@ use Rattle.lrc_args.specs.declared.choice.RunOptions.{RunOptions}
 use Rattle.lrc_args.specs.declared.choice.Shape.{Shape}
 use Rattle.lrc_args.specs.declared.choice.Way.{Way}
 use Rattle.lrc_args.specs.declared.choice.Way.TheVariants as ways
-use Rattle.lrc_run.specs.Run.{turns_of_nodes}
 use Rattle.lrc_world.specs.Report.{IsWornBy}
 use Rattle.lrc_world.specs.Runs.{IsRunBy}
-use Rattle.lrc_world.specs.Turned.{HaveLogs}
 use Rattle.lrc_world.specs.declared.keep.Keep.{Keep}
 use Rattle.lrc_world.specs.declared.keep.Keep.TheVariants.{All}
 use Rattle.lrc_world.specs.declared.run.Run.{Run}
-use Rattle.lrc_shown.specs.Runs.{IsLedFault, IsPlayedFault, IsRunOfWay, IsRunWith, options_of}
+use Rattle.lrc_shown.specs.Runs.{IsLedFault, IsPlayedFault, IsRunOfWay, IsRunWith, options_of, turns_in}
 use Rattle.lrc_shown.specs.Shown.{IsRunFor, keep_for}
 use Rattle.lrc_answer.specs.declared.fault.Fault.{Fault}
 use Rattle.lrc_answer.specs.declared.fault.Fault.TheVariants.{Worn, NoMemory}
@@ -31,6 +29,7 @@ of_events AreIts AreOthers program nodes options keep run is others = record {
   made = is.made;
   makes = is.makes;
   report = is.report;
+  turned = is.turned;
   races = is.races;
   over = is.over;
   kept = is.kept;
@@ -87,7 +86,7 @@ module _ (program : Program) (options : RunOptions) (keep : Keep) (run : Run) (i
       let few : options.nodes.count ≤ 16 = options.nodes.few in
       omega arith
 
--- its logs are those of its events, where all turns are kept
-pub have_logs : (program : Program) (options : RunOptions) (run : Run) → IsRunWith program options All run
-    → HaveLogs program options.nodes.count (options_of options) run.events.items (turns_of_nodes run.report)
-have_logs program options run is = (is.made, is.makes, sym is.report.logs)
+-- the turns that its events make are kept, where all are
+pub turned_whole : (program : Program) (options : RunOptions) (run : Run) → IsRunWith program options All run
+    → run.turned.items ≡ turns_in program options run.events.items
+turned_whole program options run is = is.turned

@@ -34,7 +34,6 @@ use lrc_svg::document_part;
 use lrc_title::title_of;
 use lrc_trace::act::Act;
 use lrc_world::run::Run;
-use lrc_world::turned::turned_events;
 use std::alloc::{AllocError, Global};
 
 /// Returns a chart of a run of the program in this text.
@@ -135,8 +134,7 @@ fn order_of(alloc: Global, run: &Run) -> Result<Vec<u8>, AllocError>
         → IsRunWith program options Whole run.now
         → order.items ≡ map (λ turn. turn.node) (turns_in program options run.now.events.items)) }
 {
-    let turns = turned_events(alloc, &run.report.logs, &run.events)?;
-    turns.iter().map(|turn| turn.node).collect(alloc)
+    run.turned.iter().map(|turn| turn.node).collect(alloc)
 }
 
 // A chart of a run of the program that this text is of, under a title.

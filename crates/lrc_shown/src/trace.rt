@@ -33,7 +33,7 @@ use lrc_protocol::Event;
 use lrc_trace::act::Act;
 use lrc_turns_text::messages_part;
 use lrc_world::run::Run;
-use lrc_world::turned::{Turned, turned_events};
+use lrc_world::turned::Turned;
 use std::alloc::{AllocError, Global};
 
 /// Returns a trace of a run of the program in this text, in the chosen form.
@@ -98,20 +98,12 @@ fn form_part(
 {
     let acts = run.report.acts.as_slice();
     let logs = run.report.logs.as_slice();
-    let events = run.events.as_slice();
+    let turns = run.turned.as_slice();
     let nodes = options.nodes.count as u8;
     match form {
         Form::Acts => acts_part(alloc, acts, lines),
-        Form::Messages => {
-            let turns = turned_events(alloc, logs, events)?;
-            let order = turns.as_slice();
-            messages_of(alloc, logs, order, lines)
-        }
-        Form::Events => {
-            let turns = turned_events(alloc, logs, events)?;
-            let made = turns.as_slice();
-            events_of(alloc, made)
-        }
+        Form::Messages => messages_of(alloc, logs, turns, lines),
+        Form::Events => events_of(alloc, turns),
         Form::Json => json_of(alloc, text, program, acts, lines, nodes),
         Form::Rapid => rapid_part(alloc, acts, lines, program.locks, nodes),
         Form::States(_) => unreachable!(),

@@ -20,7 +20,9 @@ use Rattle.lrc_world.specs.Driven.{DriverStandsAt, IsDrivenOn, DrivesTo, IsStill
 use Rattle.lrc_world.specs.Led.{Schedule, Led, begins, plays, passes, WearsOut}
 use Rattle.lrc_world.specs.Report.{IsOver, IsWornFrom}
 use Rattle.lrc_world.specs.Rounds.{schedule_of_rounds, at_node, delivering, IsDue, turn, delivery, asleep, all_went, all_delivered, ready_at, delivery_of}
+use Rattle.lrc_world.specs.Turned.{kept_turns, turned_from}
 use Rattle.lrc_world.specs.World.{Starts, Shows, seen_flying, seen_sent}
+use Rattle.lrc_world.proofs.Noted.{kept_none, noted_more}
 use Rattle.lrc_world.proofs.Lists.{same_length}
 
 -- ---- from one moment to another
@@ -56,13 +58,15 @@ module _ (s : Schedule) where
       (subst (λ x. DrivesTo s mid end b c (Err x)) (sym is) (other_end mid to end b c fault h))
 
   -- before any event
-  pub at_start : (starts : Starts) (start : Run) (d : Driver) (world : World) → Shows starts world start → d.world ≡ world → d.events.items ≡ []
-      → DriverStandsAt s starts start s.first d
-  at_start starts start d world shows is none = record {
+  pub at_start : (starts : Starts) (start : Run) (d : Driver) (world : World) → Shows starts world start → world.turned.items ≡ [] → d.world ≡ world
+      → d.events.items ≡ [] → DriverStandsAt s starts start s.first d
+  at_start starts start d world shows unturned is none = record {
     run = start;
     standing = s.first;
     led = subst (λ events. Led s start events start s.first) (sym none) begins;
     shows = subst (λ w. Shows starts w start) (sym is) shows;
+    turned = ap (λ (w : World). w.turned.items) is ∙ unturned ∙ sym (kept_none starts.keep)
+        ∙ ap (λ events. kept_turns starts.keep (turned_from (Some start) events)) (sym none);
     here = inl refl;
   }
 
@@ -103,6 +107,7 @@ module _ (s : Schedule) where
           standing = to;
           led = passes d1.led (subst (λ x. s.Passes d1.run x to) (sym here) (pass starts d1.run d1.shows));
           shows = d1.shows;
+          turned = d1.turned;
           here = inl refl;
         } in passed)
         (λ (full : MOST_EVENTS ≤ length d.events.items).
@@ -111,6 +116,7 @@ module _ (s : Schedule) where
           standing = d1.standing;
           led = d1.led;
           shows = d1.shows;
+          turned = d1.turned;
           here = inr full;
         } in rests)
         d1.here;
@@ -140,6 +146,9 @@ module _ (s : Schedule) where
             led = subst (λ events. Led s start events next.0 to) (sym p.events)
                 (plays (led_here starts start d p.room) (due starts d.run d.shows) next.1);
             shows = next.2;
+            turned = noted_more starts start d.run old.events.items event old.world new.world d.shows (led_played start old.events.items d.run d.standing d.led)
+                d.turned (p.turned starts d.run d.shows)
+                ∙ ap (λ events. kept_turns starts.keep (turned_from (Some start) events)) (sym p.events);
             here = inl refl;
           };
       few = λ few. let long = ap length p.events ∙ length_push old.events.items event in omega (arith, p.room, long);
@@ -163,7 +172,7 @@ module _ (s : Schedule) where
 
     stays_full : MOST_EVENTS ≤ length old.events.items → IsDrivenOn s from to old old
     stays_full full = record {
-      drives = λ starts start d. record { run = d.run; standing = d.standing; led = d.led; shows = d.shows; here = inr full };
+      drives = λ starts start d. record { run = d.run; standing = d.standing; led = d.led; shows = d.shows; turned = d.turned; here = inr full };
       few = λ few. few;
       more = omega arith;
     }

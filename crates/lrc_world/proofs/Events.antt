@@ -1,5 +1,5 @@
 -- One event more.
-use Rattle.std.proofs.Common.{◌≡◌, ◌∙◌, ℕ, ◌+◌, List, [], ◌∷◌, ◌++◌, Some, Result, Ok, Err, IfErr, IsErrAnd, refl}
+use Rattle.std.proofs.Common.{◌≡◌, ◌∙◌, ℕ, ◌+◌, List, [], ◌∷◌, ◌++◌, Some, Result, Ok, Err, IfErr, IsErrAnd, OnOk, refl}
 use Rattle.std.proofs.Common.{◌↔◌, Bool, true, sym, ap, subst, take, drop, zero, suc, arith, length, ◌≤◌, ◌<◌}
 use Rattle.std.specs.Prelude.{slice_get, slice_index_or}
 use Rattle.std.proofs.lemmas.List.Sums.{fold-append}
@@ -12,32 +12,43 @@ use Rattle.lrc_world.specs.declared.world.World.{World}
 use Rattle.lrc_world.specs.declared.report.TurnFault.{TurnFault}
 use Rattle.lrc_world.specs.declared.report.TurnFault.TheVariants.{NoMemory, Worn}
 use Rattle.lrc_world.specs.declared.keep.Keep.{Keep}
-use Rattle.lrc_world.specs.World.{Starts, Shows, PlaysTo, starts_of}
+use Rattle.lrc_world.specs.Turned.{kept_turns, turned_of, turner}
+use Rattle.lrc_world.specs.World.{NotesTurn, Starts, Shows, PlaysTo, starts_of}
+use Rattle.lrc_world.proofs.Noted.{noted_more}
 use Rattle.lrc_world.specs.Report.{AreAll, IsOver, IsWornBy, IsWornFault}
 
--- the run of the events so far, which the world shows
+-- the run of the events so far, which the world shows, and the turns that they made
 abbrev pub Runs : Keep → Program → ℕ → OptionsRecord → List Event → World → Type 0
 Runs keep program nodes options events world =
     (run : Run) × (run_of program nodes options events ≡ Some run) × Shows (starts_of program nodes options keep) world run
+    × (world.turned.items ≡ kept_turns keep (turned_of program nodes options events))
 
 module _ (program : Program) (nodes : ℕ) (options : OptionsRecord) (events : List Event) (k : ℕ) (event : Event) (at : slice_get events k ≡ Some event) where
+  taken_next : take (k + 1) events ≡ take k events ++ event ∷ []
+  taken_next = let next : k + 1 ≡ suc k = omega arith in ap (λ n. take n events) next ∙ take_ahead events k event at
+
   one_more : (run : Run) → run_of program nodes options (take k events) ≡ Some run
       → run_of program nodes options (take (k + 1) events) ≡ event_on run event
   one_more run so_far =
-      let next : k + 1 ≡ suc k = omega arith in
-      ap (λ n. run_of program nodes options (take n events)) next
-      ∙ ap (run_of program nodes options) (take_ahead events k event at)
+      ap (run_of program nodes options) taken_next
       ∙ fold-append step_of (Some (fresh_world program nodes options)) (take k events) (event ∷ [])
       ∙ ap (λ w. step_of w event) so_far
 
   pub goes_on : (keep : Keep) (old new : World) (result : Result (Unit {0}) TurnFault) (u : Unit {0})
       → Runs keep program nodes options (take k events) old
-      → ((starts : Starts) (run : Run) → Shows starts old run → PlaysTo starts new (event_on run event) result) → result ≡ Ok u
+      → ((starts : Starts) (run : Run) → Shows starts old run → PlaysTo starts new (event_on run event) result)
+      → ((starts : Starts) (run : Run) → Shows starts old run → OnOk result (NotesTurn old new event (turner run event))) → result ≡ Ok u
       → Runs keep program nodes options (take (k + 1) events) new
-  goes_on keep old new result u runs plays ok =
+  goes_on keep old new result u runs plays notes ok =
       let first = starts_of program nodes options keep in
       let p = subst (PlaysTo first new (event_on runs.0 event)) ok (plays first runs.0 runs.2) in
-      (p.0, one_more runs.0 runs.1 ∙ p.1, p.2)
+      let noted = subst (λ r. OnOk r (NotesTurn old new event (turner runs.0 event))) ok (notes first runs.0 runs.2) in (
+        p.0,
+        one_more runs.0 runs.1 ∙ p.1,
+        p.2,
+        noted_more first (fresh_world program nodes options) runs.0 (take k events) event old new runs.2 runs.1 runs.3 noted
+            ∙ ap (λ es. kept_turns keep (turned_of program nodes options es)) (sym taken_next),
+      )
 
 pub split_at : {X : Type 0} (xs : List X) (k : ℕ) (x : X) → slice_get xs k ≡ Some x → xs ≡ take k xs ++ x ∷ drop (suc k) xs
 split_at [] k x at = cc

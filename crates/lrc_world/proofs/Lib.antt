@@ -5,6 +5,7 @@ pub mod Worlds
 pub mod NodeTurns
 pub mod Lists
 pub mod Played
+pub mod Noted
 pub mod Marks
 pub mod Events
 pub mod EndsLemmas

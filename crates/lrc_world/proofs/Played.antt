@@ -1,6 +1,6 @@
 -- A turn of one node, in the whole world.
 use Rattle.std.proofs.Common.{◌≡◌, ◌∙◌, ℕ, List, ◌++◌, Bool, true, false, option_map, Option, Some, None, Result, Ok}
-use Rattle.std.proofs.Common.{Err, refl, sym, ap, subst, map, length, ◌<◌, arith, inl, inr, IsErrAnd}
+use Rattle.std.proofs.Common.{Err, refl, sym, ap, subst, map, length, ◌<◌, ◌≤◌, arith, inl, inr, IsErrAnd}
 use Rattle.std.specs.Prelude.{slice_get, slice_set, slice_index_or}
 use Rattle.std.specs.List.{enumerate_from, list_any}
 use Rattle.std.specs.Option.{option_to_list}
@@ -24,7 +24,7 @@ use Rattle.lrc_world.specs.declared.report.TurnFault.{TurnFault}
 use Rattle.lrc_world.specs.declared.report.TurnFault.TheVariants.{Worn, NoMemory}
 use Rattle.lrc_world.specs.World.{Starts, cut, kept_node, trimmed, after_turn, Shows, PlaysTo, AddsTurn, AddsTo, NodeLogsLast, IsTurn, TurnsBy, TurnsTo, IsTaken}
 use Rattle.lrc_world.specs.World.{ReceivesTo, turn_made, Seen, seen_flying, seen_sent, shown_new, entry_is_long, log_is_long, sends_long}
-use Rattle.lrc_world.proofs.Lists.{map-map, map-both, map-get, none_of, none-set, some-set, none-end, set-set, some-end, same_length}
+use Rattle.lrc_world.proofs.Lists.{map-map, map-both, map-get, none_of, none-set, some-set, none-end, set-length, set-set, some-end, same_length}
 
 -- a turn that is added to a world
 module _ (starts : Starts) (old mid new : World) (run : Run) (flight : List Sent) (n : ℕ) (input : Input) (came : ℕ) (l : Logged) (entry : EntryRecord)
@@ -69,6 +69,7 @@ module _ (starts : Starts) (old mid new : World) (run : Run) (flight : List Sent
     acts = a.acts ∙ ap (λ xs. xs ++ option_to_list entry.turn.act) (acts ∙ shows.acts);
     short = none-set log_is_long run.nodes n after shows.short
         (ap (list_any entry_is_long) entered.log_is ∙ none-end entry_is_long l.log entry short_before a.short);
+    few = subst (λ k. k ≤ 256) (sym (set-length run.nodes n after)) shows.few;
   }
 
   long : entry_is_long entry ≡ true → sends_long (with_turn run flight n entry after) ≡ true
@@ -92,6 +93,7 @@ unmoved starts old mid run shows flight acts kept nodes = record {
   flight = ap (λ q. map seen_flying q.items) flight ∙ shows.flight;
   acts = ap (λ v. v.items) acts ∙ shows.acts;
   short = shows.short;
+  few = shows.few;
 }
 
 -- a node that made a turn answered so
@@ -109,7 +111,7 @@ turn_of_ok olds news n input came None u t = absurd t
 turn_of_ok olds news n input came (Some l) u t = (l, refl, t)
 
 -- a turn is one of the node with its whole log
-whole : (starts : Starts) (old mid : World) (run : Run) (n : ℕ) (input : Input) (came : ℕ) (outcome : Result (Unit {0}) NodeFault)
+pub whole : (starts : Starts) (old mid : World) (run : Run) (n : ℕ) (input : Input) (came : ℕ) (outcome : Result (Unit {0}) NodeFault)
     → Shows starts old run → TurnsTo old.nodes.items mid.nodes.items n input came outcome
     → TurnsBy old.nodes.items mid.nodes.items n input came (slice_get run.nodes n) outcome
 whole starts old mid run n input came outcome shows turns =
@@ -270,24 +272,41 @@ delivered starts old taking mid new run place to others result shows t nodes act
     (λ e last. subst (λ n. AddsTo mid new n e result) (sym t.receiver) (follows e (subst (λ n. NodeLogsLast mid n e) t.receiver last))) in
     subst (λ o. PlaysTo starts new o result) (sym (ap (delivers run others) t.there)) whole
 
--- the message that its bytes spell is taken by its receiver
-pub taken_at : (starts : Starts) (old mid : World) (run : Run) (place : ℕ) (f : Flying) (envelope : EnvelopeRecord) (to : ℕ)
+-- A message that its bytes spell, which is given to its receiver.
+pub record IsGiven (old mid : World) (run : Run) (place to : ℕ) (outcome : Result (Unit {0}) NodeFault) : Type 0 where
+  pub sent : Sent
+  pub there : slice_get run.flight place ≡ Some sent
+  pub receiver : to ≡ sent.envelope.to
+  pub turns : TurnsTo old.nodes.items mid.nodes.items sent.envelope.to (taken sent.envelope) sent.stamp outcome
+
+-- the message that its bytes spell is the one of the run
+pub given_at : (starts : Starts) (old mid : World) (run : Run) (place : ℕ) (f : Flying) (envelope : EnvelopeRecord) (to : ℕ)
     (outcome : Result (Unit {0}) NodeFault) → Shows starts old run
     → place < length old.flight.items → f ≡ slice_index_or old.flight.items place f → envelope_of f.bytes.items ≡ Ok envelope
-    → to ≡ envelope.to → TurnsTo old.nodes.items mid.nodes.items to (taken envelope) f.stamp outcome → mid.flight ≡ old.flight → mid.acts ≡ old.acts → mid.keep ≡ old.keep
-    → ReceivesTo starts old mid run place (received to (turn_made outcome))
-taken_at starts old mid run place f envelope to outcome shows within is spelled here turns flight acts kept =
+    → to ≡ envelope.to → TurnsTo old.nodes.items mid.nodes.items to (taken envelope) f.stamp outcome → IsGiven old mid run place to outcome
+given_at starts old mid run place f envelope to outcome shows within is spelled here turns =
     let s = sent_at old.flight.items run.flight place f shows.flight within is in
     let two : Ok envelope ≡ Ok s.0.envelope = sym spelled ∙ ap (λ (x : Seen). x.0) s.2 in
     let envelope_is : envelope ≡ s.0.envelope = cc in
     let stamp_is : f.stamp ≡ s.0.stamp = ap (λ (x : Seen). x.1.0) s.2 in
-    let by : TurnsTo old.nodes.items mid.nodes.items s.0.envelope.to (taken s.0.envelope) s.0.stamp outcome =
-    subst (λ e. TurnsTo old.nodes.items mid.nodes.items e.to (taken e) s.0.stamp outcome) envelope_is
-    (subst (λ t. TurnsTo old.nodes.items mid.nodes.items envelope.to (taken envelope) t outcome) stamp_is
-    (subst (λ n. TurnsTo old.nodes.items mid.nodes.items n (taken envelope) f.stamp outcome) here turns)) in
-    subst (λ n. ReceivesTo starts old mid run place (received n (turn_made outcome))) (sym (here ∙ ap (λ (e : EnvelopeRecord). e.to) envelope_is))
-    (receives starts old mid run place s.0 shows s.1 flight acts kept (slice_get run.nodes s.0.envelope.to) refl outcome
-    (whole starts old mid run s.0.envelope.to (taken s.0.envelope) s.0.stamp outcome shows by))
+    record {
+      sent = s.0;
+      there = s.1;
+      receiver = here ∙ ap (λ (e : EnvelopeRecord). e.to) envelope_is;
+      turns = subst (λ e. TurnsTo old.nodes.items mid.nodes.items e.to (taken e) s.0.stamp outcome) envelope_is
+          (subst (λ t. TurnsTo old.nodes.items mid.nodes.items envelope.to (taken envelope) t outcome) stamp_is
+          (subst (λ n. TurnsTo old.nodes.items mid.nodes.items n (taken envelope) f.stamp outcome) here turns));
+    }
+
+-- it is taken by its receiver
+pub taken_at : (starts : Starts) (old mid : World) (run : Run) (place to : ℕ) (outcome : Result (Unit {0}) NodeFault) → Shows starts old run
+    → IsGiven old mid run place to outcome → mid.flight ≡ old.flight → mid.acts ≡ old.acts → mid.keep ≡ old.keep
+    → ReceivesTo starts old mid run place (received to (turn_made outcome))
+taken_at starts old mid run place to outcome shows given flight acts kept =
+    let sent = given.sent in
+    subst (λ n. ReceivesTo starts old mid run place (received n (turn_made outcome))) (sym given.receiver)
+    (receives starts old mid run place sent shows given.there flight acts kept (slice_get run.nodes sent.envelope.to) refl outcome
+    (whole starts old mid run sent.envelope.to (taken sent.envelope) sent.stamp outcome shows given.turns))
 
 -- it was in flight
 pub taken_within : (starts : Starts) (old taking : World) (run : Run) (place to : ℕ) → Shows starts old run → (t : IsTaken old taking run place to)

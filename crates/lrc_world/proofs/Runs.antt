@@ -1,5 +1,5 @@
 -- A run, from what its functions say of it.
-use Rattle.std.proofs.Common.{◌≡◌, ◌∙◌, ◌↔◌, ◌≤◌, ℕ, List, IfOk, Result, Ok, Some, true, subst, ap, arith, map}
+use Rattle.std.proofs.Common.{◌≡◌, ◌∙◌, ◌↔◌, ◌≤◌, ℕ, List, IfOk, Result, Ok, Some, true, subst, sym, ap, arith, map}
 use Rattle.lrc_lang.specs.declared.program.Program.{Program}
 use Rattle.lrc_race.specs.Races.{AreRacesOf}
 use Rattle.lrc_protocol.specs.declared.event.Event.{Event}
@@ -15,7 +15,7 @@ use Rattle.lrc_world.specs.Led.{AreLed}
 use Rattle.lrc_world.specs.declared.keep.Keep.TheVariants.{All}
 use Rattle.lrc_world.specs.Report.{IsKeptReport, IsOver, IsReportOf}
 use Rattle.lrc_world.specs.Runs.{IsRunBy}
-use Rattle.lrc_world.specs.Turned.{AreAllTurned}
+use Rattle.lrc_world.specs.Turned.{AreAllTurned, kept_turns, turned_of}
 use Rattle.lrc_world.specs.World.{Starts, Shows, starts_of}
 use Rattle.lrc_world.proofs.Races.{kept_races}
 use Rattle.lrc_world.proofs.Theorem.{all_kept}
@@ -28,8 +28,9 @@ pub run_is : (AreIts : List Event → Type 0) (program : Program) (nodes : ℕ) 
     → ((starts : Starts) (made : Made) → Shows starts world made → (run.is_over ≡ true) ↔ IsOver made)
     → ((starts : Starts) (made : Made) → Shows starts world made → IsKeptReport starts.keep run.report made)
     → AreRacesOf (map (λ node. node.trace) world.nodes.items) run.report.races.items
+    → run.turned.items ≡ kept_turns keep (turned_of program nodes options events)
     → IsRunBy AreIts program nodes options keep run
-run_is AreIts program nodes options keep events run world made same its makes some shows over report races =
+run_is AreIts program nodes options keep events run world made same its makes some shows over report races turned =
     let told = report (starts_of program nodes options keep) made shows in
     let plays = ap (run_of program nodes options) same ∙ makes in
     record {
@@ -37,6 +38,7 @@ run_is AreIts program nodes options keep events run world made same its makes so
       made = made;
       makes = plays;
       report = told;
+      turned = turned ∙ ap (λ es. kept_turns keep (turned_of program nodes options es)) (sym same);
       races = kept_races program nodes options events made makes world keep shows run.report.acts.items run.report.races.items told.acts races;
       over = over (starts_of program nodes options keep) made shows;
       kept = all_kept program nodes options run.events.items run.report.acts.items made plays told.acts (omega (arith, some)) shows.short

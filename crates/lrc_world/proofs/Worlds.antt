@@ -1,5 +1,5 @@
 -- The world at the start, and lists of messages.
-use Rattle.std.proofs.Common.{◌≡◌, ◌<◌, ◌≤◌, ℕ, List, [], ◌∷◌, false, Some, All, refl, sym, ap, subst, arith, map, ◌++◌, ◌+◌}
+use Rattle.std.proofs.Common.{◌≡◌, ◌<◌, ◌≤◌, ℕ, List, [], ◌∷◌, false, Some, All, refl, sym, ap, subst, arith, length, map, ◌++◌, ◌+◌}
 use Rattle.std.specs.List.{list_any, range_with_len}
 use Rattle.lrc_lock.proofs.Starts.{made_more}
 use Rattle.lrc_lang.specs.declared.program.Program.{Program}
@@ -20,6 +20,11 @@ all_quiet f (x ∷ xs) = all_quiet f xs
 
 pub fresh_short : (program : Program) (nodes : ℕ) (options : OptionsRecord) → sends_long (fresh_world program nodes options) ≡ false
 fresh_short program nodes options = all_quiet (fresh_node program nodes options) (range_with_len 0 nodes)
+
+-- there are as many nodes as are asked for
+pub fresh_few : (program : Program) (nodes : ℕ) (options : OptionsRecord) → nodes ≤ 16 → length (fresh_world program nodes options).nodes ≤ 256
+fresh_few program nodes options few =
+    let count = (run-whole program nodes options [] (fresh_world program nodes options) refl).count in omega (arith, count, few)
 
 -- one node at the beginning of a program, with no turns
 abbrev pub fresh_one : Program → ℕ → OptionsRecord → ℕ → TracedLog

@@ -1,5 +1,5 @@
 -- What is driven, as its functions say it.
-use Rattle.std.specs.Prelude.{◌≡◌, ◌⊎◌, ◌<◌, ◌≤◌, ℕ, false, [], ◌∷◌, ◌++◌, Result, Ok, Err, OnOk, length}
+use Rattle.std.specs.Prelude.{◌≡◌, ◌⊎◌, ◌<◌, ◌≤◌, ℕ, false, [], ◌∷◌, ◌++◌, Result, Ok, Err, OnOk, Some, length}
 use Rattle.lrc_protocol.specs.declared.event.Event.{Event}
 use Rattle.lrc_protocol.specs.Run.{World as Run, event_on}
 use Rattle.lrc_world.specs.declared.report.TurnFault.{TurnFault}
@@ -13,7 +13,8 @@ use Rattle.lrc_world.specs.Led.{Schedule, Led, WearsOut}
 use Rattle.lrc_world.specs.Random.{wandering}
 use Rattle.lrc_world.specs.Report.{IsOver}
 use Rattle.lrc_world.specs.Rounds.{ready_at, schedule_of_rounds}
-use Rattle.lrc_world.specs.World.{Starts, Shows, PlaysTo}
+use Rattle.lrc_world.specs.Turned.{kept_turns, turned_from, turner}
+use Rattle.lrc_world.specs.World.{NotesTurn, Starts, Shows, PlaysTo}
 
 -- this node is not ready
 abbrev pub IsAsleep : ℕ → World → Type 0
@@ -28,12 +29,13 @@ abbrev pub IsRunOver : ℕ → World → Type 0
 IsRunOver nodes world = (starts : Starts) (run : Run) → Shows starts world run → length run.nodes ≡ nodes → IsOver run
 
 -- What is driven stands here, unless it has as many events as there may be: its events are led so from a world on, and its world
--- shows the run after them.
+-- shows the run after them and has kept the turns that they made.
 pub record DriverStandsAt (schedule : Schedule) (starts : Starts) (start : Run) (at : schedule.Standing) (driver : Driver) : Type 0 where
   pub run : Run
   pub standing : schedule.Standing
   pub led : Led schedule start driver.events.items run standing
   pub shows : Shows starts driver.world run
+  pub turned : driver.world.turned.items ≡ kept_turns starts.keep (turned_from (Some start) driver.events.items)
   pub here : (standing ≡ at) ⊎ (MOST_EVENTS ≤ length driver.events.items)
 
 -- what is driven from one standing to another: events are added, of which there are no more than there may be
@@ -67,6 +69,7 @@ pub record PlaysOne (old new : Driver) (event : Event) (result : Result (Unit {0
   pub room : length old.events.items < MOST_EVENTS
   pub events : OnOk result (new.events.items ≡ old.events.items ++ event ∷ [])
   pub plays : (starts : Starts) (run : Run) → Shows starts old.world run → PlaysTo starts new.world (event_on run event) result
+  pub turned : (starts : Starts) (run : Run) → Shows starts old.world run → OnOk result (NotesTurn old.world new.world event (turner run event))
 
 -- there was no room for it, and nothing changed
 pub record IsFull (old new : Driver) (result : Result (Unit {0}) TurnFault) : Type 0 where

@@ -17,7 +17,7 @@ use Rattle.lrc_world.specs.Random.{WanderingWearsOut, wandering}
 use Rattle.lrc_world.specs.Report.{AreAll, IsKeptReport, IsOver, IsWornBy, IsWornFault}
 use Rattle.lrc_world.specs.Rounds.{RoundsWearOut, schedule_of_rounds}
 use Rattle.lrc_node.specs.Options.{options_of}
-use Rattle.lrc_world.specs.Turned.{AreAllTurned}
+use Rattle.lrc_world.specs.Turned.{AreAllTurned, kept_turns, turned_of}
 
 -- The events are the first ones of a program's run that is led so. None of them is skipped. Unless there are 100,000,000, of which there
 -- are no more, no node is ready and no message in flight after them.
@@ -34,13 +34,15 @@ AreInOrder (Rounds picker) program nodes options events = AreLedToEnd (schedule_
 AreInOrder (Random seed) program nodes options events = AreLedToEnd (wandering nodes seed) program nodes options events
 
 -- A run of a program. Its events are as they are to be. The protocol machine makes the same run of them: the report tells its acts, how
--- each node ended, what is kept of the turns, and the first race. The races are those that the acts name. It is over where no node is
--- ready and no message in flight. And it keeps what every run promises: the sequential-consistency theorem is among that.
+-- each node ended, what is kept of the turns, and the first race. The races are those that the acts name. Where all turns are kept, so are
+-- the events that are not skipped, each with the node whose turn it makes. It is over where no node is ready and no message in flight. And
+-- it keeps what every run promises: the sequential-consistency theorem is among that.
 pub record IsRunBy (AreIts : List Event → Type 0) (program : Program) (nodes : ℕ) (options : OptionsRecord) (keep : Keep) (run : Run) : Type 0 where
   pub events : AreIts run.events.items
   pub made : World
   pub makes : run_of program nodes options run.events.items ≡ Some made
   pub report : IsKeptReport keep run.report made
+  pub turned : run.turned.items ≡ kept_turns keep (turned_of program nodes options run.events.items)
   pub races : AreNamedRaces run.report.acts.items run.report.races.items
   pub over : (run.is_over ≡ true) ↔ IsOver made
   pub kept : AreKept program nodes options run.events.items run.report.acts.items run.report.ends.items

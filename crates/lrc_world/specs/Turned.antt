@@ -6,6 +6,8 @@ use Rattle.lrc_protocol.specs.declared.event.Event.TheVariants as events
 use Rattle.lrc_protocol.specs.Node.{OptionsRecord}
 use Rattle.lrc_protocol.specs.Run.{Input, EntryRecord, Logged, Logging, logs, World as Run, Flying as Sent, event_on, fresh_world, run_of}
 use Rattle.lrc_protocol.specs.Run as log
+use Rattle.lrc_world.specs.declared.keep.Keep.{Keep}
+use Rattle.lrc_world.specs.declared.keep.Keep.TheVariants.{All, Newest}
 use Rattle.lrc_world.specs.declared.turned.Turned.{Turned}
 
 -- the node, where what came of an input to it is a turn
@@ -45,6 +47,11 @@ turned_from (Some world) (event ∷ more) = turned_by event (turner world event)
 -- those of a program's run
 abbrev pub turned_of : Program → ℕ → OptionsRecord → List Event → List Turned
 turned_of program nodes options events = turned_from (Some (fresh_world program nodes options)) events
+
+-- which of them are kept: all, or none where of each node only the newest turn is
+abbrev pub kept_turns : Keep → List Turned → List Turned
+kept_turns All turned = turned
+kept_turns Newest turned = []
 
 -- the events that made turns
 abbrev pub events_in : List Turned → List Event

@@ -1,5 +1,5 @@
 -- What is kept of a run, beside the run of the protocol machine: messages in flight are bytes.
-use Rattle.std.specs.Prelude.{◌≡◌, ◌⊎◌, ℕ, Bool, true, false, Option, Some, None, List, [], ◌∷◌, ◌++◌}
+use Rattle.std.specs.Prelude.{◌≡◌, ◌⊎◌, ◌≤◌, ℕ, Bool, true, false, Option, Some, None, List, [], ◌∷◌, ◌++◌}
 use Rattle.std.specs.Prelude.{Result, Ok, Err, length, map, nat_lt, slice_get, slice_set}
 use Rattle.std.specs.List.{enumerate_from, list_any}
 use Rattle.std.specs.Option.{option_to_list}
@@ -11,6 +11,7 @@ use Rattle.lrc_wire.specs.declared.fault.WireFault.{WireFault}
 use Rattle.lrc_wire.specs.declared.limits.TheConstants.{MOST_BODY_BYTES}
 use Rattle.lrc_wire.specs.declared.version.Version.TheVariants.{Two}
 use Rattle.lrc_protocol.specs.Run.{EntryRecord, Logged, Input, taken, logged, refused, too_large, logs, World as Run, Flying as Sent, delivers}
+use Rattle.lrc_protocol.specs.declared.event.Event.{Event}
 use Rattle.lrc_protocol.specs.Follows.{inputs_of}
 use Rattle.lrc_lang.specs.declared.program.Program.{Program}
 use Rattle.lrc_protocol.specs.Node.{Node, OptionsRecord, fresh_node}
@@ -25,6 +26,7 @@ use Rattle.lrc_world.specs.declared.keep.Keep.TheVariants.{All, Newest}
 use Rattle.lrc_world.specs.declared.report.TurnFault.{TurnFault}
 use Rattle.lrc_world.specs.declared.report.TurnFault.TheVariants.{Worn, NoMemory}
 use Rattle.lrc_world.specs.declared.world.World.{World}
+use Rattle.lrc_world.specs.Turned.{kept_turns, turned_by}
 
 -- ---- messages in flight
 
@@ -90,7 +92,7 @@ abbrev pub kept_node : Starts → ℕ × Logged → TracedLog
 kept_node starts at = record { logged = sound (cut starts.keep at.1); trace = trace_of (starts.start at.0) at.1.log }
 
 -- the nodes with what is kept of their logs, and their traces, the messages in flight and the acts are those of the run, in which each node's log leads
--- to it from how it starts, and no message was too long
+-- to it from how it starts, no message was too long, and there are no more nodes than a byte can number
 pub record Shows (starts : Starts) (world : World) (run : Run) : Type 0 where
   pub keep : world.keep ≡ starts.keep
   pub nodes : world.nodes.items ≡ map (kept_node starts) (enumerate_from 0 run.nodes)
@@ -98,6 +100,7 @@ pub record Shows (starts : Starts) (world : World) (run : Run) : Type 0 where
   pub flight : map seen_flying world.flight.items ≡ map seen_sent run.flight
   pub acts : world.acts.items ≡ run.acts
   pub short : sends_long run ≡ false
+  pub few : length run.nodes ≤ 256
 
 -- What was played comes to this, if it comes to a run: the world shows it; or a number or a message was too large; or no memory
 -- is left.
@@ -105,6 +108,10 @@ abbrev pub PlaysTo : Starts → World → Option Run → Result (Unit {0}) TurnF
 PlaysTo starts new outcome (Ok done) = (run : Run) × (outcome ≡ Some run) × Shows starts new run
 PlaysTo starts new outcome (Err Worn) = (outcome ≡ None) ⊎ ((run : Run) × (outcome ≡ Some run) × (sends_long run ≡ true))
 PlaysTo starts new outcome (Err NoMemory) = Unit {0}
+
+-- the turn that an event made of a node, if it made one, was added to the kept ones
+abbrev pub NotesTurn : World → World → Event → Option ℕ → Type 0
+NotesTurn old new event node = new.turned.items ≡ old.turned.items ++ kept_turns old.keep (turned_by event node)
 
 -- the newest entry in a node's log is this
 abbrev pub NodeLogsLast : World → ℕ → EntryRecord → Type 0

@@ -15,6 +15,7 @@ ghost use Rattle.lrc_world.specs.World.{Starts, Shows};
 use crate::keep::Keep;
 use crate::report::{Report, TurnFault};
 use crate::rounds::{Driver, Lead};
+use crate::turned::Turned;
 use crate::world::World;
 use lrc_envelope::Picker;
 use lrc_exec::code::Code;
@@ -45,13 +46,16 @@ pub enum Order<'e> {
 pub struct Run {
     /// The events of the run, including skipped ones.
     pub events: Vec<Event>,
+    /// The events that were not skipped, each with the node that made the turn; none if only the newest turns are kept.
+    pub turned: Vec<Turned>,
     /// Whether nothing is left to do after the events: no node is ready, and no message is in flight.
     pub is_over: bool,
     /// The result of the run.
     pub report: Report,
 }
 
-/// Runs a program in the given order. The logs in the result hold the turns that `keep` says.
+/// Runs a program in the given order. The logs in the result hold the turns that `keep` says. If it keeps all, the
+/// result has the events that made them.
 ///
 /// In rounds and at random the run goes on while a node is ready or a message is in flight, and there are fewer than
 /// 100,000,000 events.
@@ -130,6 +134,7 @@ fn run_after(world: World<'_>, events: Vec<Event>) -> Result<Run, AllocError>
     requires raceless { AreRacesOf (map (λ node. node.trace) world.nodes.items) []
         → IsRaceFree world.acts.items }
     ensures events { IfOk result (λ run. run.events ≡ events) }
+    ensures turned { IfOk result (λ run. run.turned ≡ world.entry.turned) }
     ensures over { IfOk result (λ run. (starts : Starts) (made : AnyRun)
         → Shows starts world.entry made
         → (run.is_over ≡ true) ↔ IsOver made) }
@@ -140,9 +145,10 @@ fn run_after(world: World<'_>, events: Vec<Event>) -> Result<Run, AllocError>
         AreRacesOf (map (λ node. node.trace) world.entry.nodes.items) run.report.races.items) }
 {
     let is_over = world.is_over();
-    let report = world.report()?;
+    let (report, turned) = world.report()?;
     Ok(Run {
         events,
+        turned,
         is_over,
         report,
     })

@@ -15,7 +15,8 @@ ghost use Rattle.lrc_protocol.specs.Turn.{is_ready};
 ghost use Rattle.lrc_world.specs.Report.{IsKeptReport, IsOver, end_of_logged};
 ghost use Rattle.lrc_world.specs.Random.{drawn_event, picked};
 ghost use Rattle.lrc_world.specs.Rounds.{delivery_of, is_delivered, newest_place, ready_at};
-ghost use Rattle.lrc_world.specs.World.{Starts, starts_of, Shows, PlaysTo, AddsTo, NodeLogsLast, ReceivesTo, TurnsTo, turn_made, IsSendFault, trimmed};
+ghost use Rattle.lrc_world.specs.Turned.{kept_turns, taker, turner};
+ghost use Rattle.lrc_world.specs.World.{Starts, starts_of, Shows, PlaysTo, AddsTo, NodeLogsLast, NotesTurn, ReceivesTo, TurnsTo, turn_made, IsSendFault, trimmed};
 ghost use Rattle.lrc_world.specs.World.{seen_flying, seen_sent, shown_new, is_long};
 ghost use Rattle.lrc_node.specs.Logged.{TracedLog, sound};
 ghost use Rattle.lrc_trace.specs.Conflict.{IsRaceFree};
@@ -24,6 +25,7 @@ use crate::first::first_of;
 use crate::flying::Flying;
 use crate::keep::Keep;
 use crate::report::{Report, TurnFault};
+use crate::turned::Turned;
 use lrc_envelope::{Envelope, Picker};
 use lrc_exec::code::Code;
 use lrc_node::{End, Entry, Logged, Node, NodeFault, Options};
@@ -35,7 +37,8 @@ use lrc_wire::{EncodeFault, WireFault, decode, spell_over};
 use std::alloc::{AllocError, Global};
 use std::collections::VecDeque;
 
-/// All nodes with the turns kept of their logs, the messages in flight (oldest first), and the acts so far.
+/// All nodes with the turns kept of their logs, the messages in flight (oldest first), and the acts so far. If all turns
+/// are kept, also the events that made them.
 #[derive(Drop)]
 pub(crate) struct World<'c> {
     alloc: Global,
@@ -43,6 +46,7 @@ pub(crate) struct World<'c> {
     nodes: Vec<Logged<'c>>,
     flight: VecDeque<Flying>,
     acts: Vec<Act>,
+    turned: Vec<Turned>,
     // The bytes of messages that were delivered, whose memory later ones take.
     spare: Vec<Vec<u8>>,
 }
@@ -57,8 +61,9 @@ impl<'c> World<'c> {
         keep: Keep,
     ) -> Result<World<'c>, AllocError>
         requires few { nodes ≤ 16 }
-        ensures { IfOk result (λ world. Shows (starts_of code.now nodes options.now keep) world
-            (fresh_world code.now nodes options.now)) }
+        ensures shows { IfOk result (λ world. Shows (starts_of code.now nodes options.now keep)
+            world (fresh_world code.now nodes options.now)) }
+        ensures turned { IfOk result (λ world. world.turned.items ≡ []) }
     {
         let mut made = Vec::with_capacity(alloc, nodes as usize)?;
         for me in 0..nodes {
@@ -71,19 +76,22 @@ impl<'c> World<'c> {
             nodes: made,
             flight: VecDeque::new(alloc),
             acts: Vec::new(alloc),
+            turned: Vec::new(alloc),
             spare: Vec::new(alloc),
         })
     }
 
     /// Plays an event. It is skipped if it names no ready node and no message that its receiver takes.
     pub(crate) fn play(&mut self, event: Event) -> Result<(), TurnFault>
-        ensures { (starts : Starts) (run : Run) → Shows starts self.old run
+        ensures plays { (starts : Starts) (run : Run) → Shows starts self.old run
             → PlaysTo starts self.new (event_on run event) result }
+        ensures turned { (starts : Starts) (run : Run) → Shows starts self.old run
+            → OnOk result (NotesTurn self.old self.new event (turner run event)) }
     {
         match event {
-            Event::Run(node) => self.go_on(node as usize),
-            Event::Deliver(place) => self.deliver(place as usize),
-            Event::Repeat(place) => self.repeat(place as usize),
+            Event::Run(node) => self.go_on(node),
+            Event::Deliver(place) => self.deliver(place),
+            Event::Repeat(place) => self.repeat(place),
         }
     }
 
@@ -168,57 +176,79 @@ impl<'c> World<'c> {
     }
 
     // The node goes on, if it is there and ready.
-    fn go_on(&mut self, node: usize) -> Result<(), TurnFault>
-        ensures { (starts : Starts) (run : Run) → Shows starts self.old run
+    fn go_on(&mut self, node: u32) -> Result<(), TurnFault>
+        ensures plays { (starts : Starts) (run : Run) → Shows starts self.old run
             → PlaysTo starts self.new (event_on run (events.Run node)) result }
+        ensures turned { (starts : Starts) (run : Run) → Shows starts self.old run
+            → OnOk result (NotesTurn self.old self.new (events.Run node)
+            (turner run (events.Run node))) }
     {
-        let outcome = run_at(&mut self.nodes, node);
+        // There are no more nodes than a byte can number.
+        let Ok(number) = u8::try_from(node) else {
+            return Ok(());
+        };
+        let outcome = run_at(&mut self.nodes, node as usize);
         if is_made(outcome)? {
-            self.follow(node)
+            let event = Event::Run(node);
+            self.follow(Turned {
+                event,
+                node: number,
+            })
         } else {
             Ok(())
         }
     }
 
     // The message at the place is delivered, if it is there and its receiver takes it.
-    fn deliver(&mut self, place: usize) -> Result<(), TurnFault>
-        ensures { (starts : Starts) (run : Run) → Shows starts self.old run
+    fn deliver(&mut self, place: u32) -> Result<(), TurnFault>
+        ensures plays { (starts : Starts) (run : Run) → Shows starts self.old run
             → PlaysTo starts self.new (event_on run (events.Deliver place)) result }
+        ensures turned { (starts : Starts) (run : Run) → Shows starts self.old run
+            → OnOk result (NotesTurn self.old self.new (events.Deliver place)
+            (turner run (events.Deliver place))) }
     {
-        match self.receive(place)? {
-            Some(to) => {
-                forget(&mut self.flight, &mut self.spare, place);
-                self.follow(to)
+        match self.receive(place as usize)? {
+            Some(node) => {
+                forget(&mut self.flight, &mut self.spare, place as usize);
+                let event = Event::Deliver(place);
+                self.follow(Turned { event, node })
             }
             None => Ok(()),
         }
     }
 
     // The same, but the message stays in flight.
-    fn repeat(&mut self, place: usize) -> Result<(), TurnFault>
-        ensures { (starts : Starts) (run : Run) → Shows starts self.old run
+    fn repeat(&mut self, place: u32) -> Result<(), TurnFault>
+        ensures plays { (starts : Starts) (run : Run) → Shows starts self.old run
             → PlaysTo starts self.new (event_on run (events.Repeat place)) result }
+        ensures turned { (starts : Starts) (run : Run) → Shows starts self.old run
+            → OnOk result (NotesTurn self.old self.new (events.Repeat place)
+            (turner run (events.Repeat place))) }
     {
-        match self.receive(place)? {
-            Some(to) => {
-                mark(&mut self.flight, place);
-                self.follow(to)
+        match self.receive(place as usize)? {
+            Some(node) => {
+                mark(&mut self.flight, place as usize);
+                let event = Event::Repeat(place);
+                self.follow(Turned { event, node })
             }
             None => Ok(()),
         }
     }
 
     // The receiver of the message at the place takes it, if both are there and the receiver expects it. Which node that was.
-    fn receive(&mut self, place: usize) -> Result<Option<usize>, TurnFault>
-        ensures { (starts : Starts) (run : Run) → Shows starts self.old run
+    fn receive(&mut self, place: usize) -> Result<Option<u8>, TurnFault>
+        ensures receives { (starts : Starts) (run : Run) → Shows starts self.old run
             → ReceivesTo starts self.old self.new run place result }
+        ensures taker { (starts : Starts) (run : Run) → Shows starts self.old run
+            → IfOk result (λ node. node ≡ taker run (slice_get run.flight place)) }
+        ensures turned { self.new.turned ≡ self.old.turned }
     {
         let Some(flying) = self.flight.get(place) else {
             return Ok(None);
         };
         let envelope = envelope_in(self.alloc, &flying.bytes)?;
-        let to = envelope.to as usize;
-        let outcome = take_at(&mut self.nodes, to, envelope, flying.stamp);
+        let to = envelope.to;
+        let outcome = take_at(&mut self.nodes, to as usize, envelope, flying.stamp);
         if is_made(outcome)? {
             Ok(Some(to))
         } else {
@@ -226,18 +256,19 @@ impl<'c> World<'c> {
         }
     }
 
-    /// Returns the report of the run, with the kept part of the logs. The races come from the traces that the nodes
-    /// keep. The first race is searched only if there are any.
-    pub(crate) fn report(self) -> Result<Report, AllocError>
+    /// Returns the report of the run, with the kept part of the logs, and the kept turns. The races come from the traces
+    /// that the nodes keep. The first race is searched only if there are any.
+    pub(crate) fn report(self) -> Result<(Report, Vec<Turned>), AllocError>
         requires acts { All (λ act. act.node < NODES) self.acts.items }
         requires traces { (nodes : ℕ) × AreTracesOf nodes
             (map (λ node. node.trace) self.nodes.items) }
         requires raceless { AreRacesOf (map (λ node. node.trace) self.nodes.items) []
             → IsRaceFree self.acts.items }
         ensures report { (starts : Starts) (run : Run) → Shows starts self.entry run
-            → IfOk result (λ report. IsKeptReport starts.keep report run) }
-        ensures races { IfOk result (λ report. AreRacesOf
-            (map (λ node. node.trace) self.entry.nodes.items) report.races.items) }
+            → IfOk result (λ told. IsKeptReport starts.keep told.0 run) }
+        ensures races { IfOk result (λ told. AreRacesOf
+            (map (λ node. node.trace) self.entry.nodes.items) told.0.races.items) }
+        ensures turned { IfOk result (λ told. told.1 ≡ self.entry.turned) }
     {
         let World {
             alloc,
@@ -245,26 +276,32 @@ impl<'c> World<'c> {
             nodes,
             flight: _,
             acts,
+            turned,
             spare: _,
         } = self;
         let ends = ends_of(alloc, &nodes)?;
         let (logs, traces) = parts_of(alloc, nodes)?;
         let races = races(alloc, &traces)?;
         let first_race = first_of(alloc, &races, &acts)?;
-        Ok(Report {
+        let report = Report {
             acts,
             ends,
             races,
             logs,
             first_race,
-        })
+        };
+        Ok((report, turned))
     }
 
-    // Adds what the node's newest turn did: its act, and its messages in flight. Of the node's log is left what is to be kept.
-    fn follow(&mut self, node: usize) -> Result<(), TurnFault>
-        ensures { (entry : EntryRecord) → NodeLogsLast self.old node entry
-            → AddsTo self.old self.new node entry result }
+    // Adds the node's newest turn, with the event that made it, and what it did: its act, and its messages in flight. Of the
+    // node's log is left what is to be kept.
+    fn follow(&mut self, turn: Turned) -> Result<(), TurnFault>
+        ensures adds { (entry : EntryRecord) → NodeLogsLast self.old turn.node entry
+            → AddsTo self.old self.new turn.node entry result }
+        ensures turned { OnOk result (NotesTurn self.old self.new turn.event (Some turn.node)) }
     {
+        note_turn(self.keep, &mut self.turned, turn)?;
+        let node = turn.node as usize;
         let Some(logged) = self.nodes.get(node) else {
             return Ok(());
         };
@@ -315,6 +352,17 @@ fn note(acts: &mut Vec<Act>, act: Option<Act>) -> Result<(), AllocError>
     match act {
         Some(act) => acts.push(act)?,
         None => {}
+    }
+    Ok(())
+}
+
+// Adds a turn with its event, if all turns are kept.
+fn note_turn(keep: Keep, turned: &mut Vec<Turned>, turn: Turned) -> Result<(), AllocError>
+    ensures { OnOk result (turned.new.items ≡ turned.old.items ++ kept_turns keep (turn ∷ [])) }
+{
+    match keep {
+        Keep::All => turned.push(turn)?,
+        Keep::Newest => {}
     }
     Ok(())
 }

@@ -95,6 +95,44 @@ fn barrier_loop(rt: HostRuntime) {
     passes(&rt, first_wrong(rt.alloc(), BARRIER_LOOP));
 }
 
+const BARRIERS_WITHOUT_END: &[Row] = &[
+    Row {
+        name: "barriers_without_end of 2 nodes",
+        text: b"words 2; locks 0; while 1 { x = [me]; [me] = 1 - x; barrier; }",
+        nodes: 2,
+        outcomes: &[],
+    },
+    Row {
+        name: "barriers_without_end of 3 nodes",
+        text: b"words 3; locks 0; while 1 { x = [me]; [me] = 1 - x; barrier; }",
+        nodes: 3,
+        outcomes: &[],
+    },
+    Row {
+        name: "barriers_without_end under a lock",
+        text: b"words 1; locks 1; while 1 { acquire 0; x = [0]; [0] = 1 - x; release 0; barrier; }",
+        nodes: 3,
+        outcomes: &[],
+    },
+    Row {
+        name: "barriers_without_end with a race",
+        text: b"words 1; locks 0; while 1 { x = [0]; [0] = 1 - x; barrier; }",
+        nodes: 3,
+        outcomes: &[],
+    },
+    Row {
+        name: "barriers_without_end between neighbours",
+        text: b"words 2; locks 0; while 1 { x = [1 - me]; barrier; [me] = 1 - x; barrier; }",
+        nodes: 2,
+        outcomes: &[],
+    },
+];
+
+#[test]
+fn barriers_without_end(rt: HostRuntime) {
+    passes(&rt, first_wrong(rt.alloc(), BARRIERS_WITHOUT_END));
+}
+
 const COUNTER: &[Row] = &[Row {
     name: "counter",
     text: b"words 1; locks 1; acquire 0; x = [0]; [0] = x + 1; release 0; print x;",

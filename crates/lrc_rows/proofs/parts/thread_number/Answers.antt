@@ -2,10 +2,14 @@ use Rattle.std.proofs.Common.{◌≡◌, ◌∙◌, sym, subst, ap}
 use Rattle.std.specs.Prelude.{Some, slice_get}
 use Rattle.lrc_explore.proofs.Keeping.{put_grows}
 use Rattle.lrc_explore.proofs.Same.{spot_same}
+use Rattle.lrc_rows.proofs.Numbering.{only_put}
 use Rattle.lrc_rows.proofs.parts.thread_number.Goals as goal
 
 pub returns-clause-grows : goal.returns-clause-grows
 returns-clause-grows c = put_grows _ c.args.threads.now.keys c.insert_full.new.self.keys _ c.in_ok-place.ensures.keys
+
+pub returns-clause-only : goal.returns-clause-only
+returns-clause-only c = only_put _ c.args.threads.now.keys c.insert_full.new.self.keys c.args.thread c.in_ok-place.ensures.keys
 
 pub returns-clause-there : goal.returns-clause-there
 returns-clause-there c =

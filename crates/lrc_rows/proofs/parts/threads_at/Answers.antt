@@ -1,7 +1,7 @@
-use Rattle.std.proofs.Common.{◌≡◌, ◌<◌, ◌∙◌, length, sym, subst, ap, arith}
-use Rattle.std.specs.Prelude.{Some, slice_get, slice_index}
-use Rattle.std.proofs.lemmas.Option.{slice_get-get_or, slice_get_within}
-use Rattle.lrc_explore.proofs.Keeping.{item_at, item_in}
+use Rattle.std.proofs.Common.{◌<◌, ◌∙◌, length, sym, subst, arith}
+use Rattle.std.specs.Prelude.{slice_index}
+use Rattle.std.proofs.lemmas.Option.{slice_get_within}
+use Rattle.lrc_explore.proofs.Keeping.{item_at}
 use Rattle.lrc_rows.proofs.parts.threads_at.Goals as goal
 
 pub bounds-keys-numbers : goal.bounds-keys-numbers

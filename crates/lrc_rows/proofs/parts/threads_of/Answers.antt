@@ -1,14 +1,15 @@
-use Rattle.std.proofs.Common.{◌<◌, ◌∙◌, length, refl, sym, arith}
+use Rattle.std.proofs.Common.{◌<◌, ◌∙◌, inl, length, refl, sym, arith}
 use Rattle.std.proofs.lemmas.List.{length-set}
 use Rattle.std.proofs.lemmas.Option.{slice_get-get_or}
 use Rattle.lrc_explore.proofs.Keeping.{grows_again, grows_not}
-use Rattle.lrc_rows.proofs.Numbering.{numbered_more, past_more, zeros}
+use Rattle.lrc_rows.proofs.Numbering.{numbered_more, only_more, past_more, zeros}
 use Rattle.lrc_rows.proofs.parts.threads_of.Goals as goal
 
 pub loop-node-init : goal.loop-node-init
 loop-node-init c = record {
   grows = grows_not c.args.threads.now.keys c.args.threads.now.keys refl;
   distinct = c.requires;
+  only = λ k x at. inl at;
   long = refl;
   each = λ k lt. absurd (omega (arith, lt));
   past = λ k le. zeros 16 k;
@@ -28,6 +29,7 @@ loop-node-preserved c =
     record {
       grows = grows_again i.grows e.grows;
       distinct = e.distinct;
+      only = only_more c.args.threads.now.keys old new spots _ node (slice_get-get_or spots node _ within) i.only e.only;
       long = length-set numbers node number ∙ i.long;
       each = numbered_more old new numbers number spots node e.grows (let n = i.long in omega (arith, within, n, c.if-spots-gt16.false)) within i.each
           (e.there ∙ sym (slice_get-get_or spots node _ within));

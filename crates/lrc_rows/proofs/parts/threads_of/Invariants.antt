@@ -2,12 +2,14 @@
 use Rattle.std.proofs.Common.{◌≡◌, ℕ, ◌<◌, ◌≤◌, length}
 use Rattle.std.specs.Prelude.{slice_get, slice_index}
 use Rattle.lrc_explore.specs.Kept.{AreSpotsDistinct, Grows}
+use Rattle.lrc_rows.specs.Rows.{AddsThreads}
 use Rattle.lrc_rows.proofs.parts.threads_of.Given as goal
 
 abbrev pub invariant-loop-node : goal.invariant-loop-node
 invariant-loop-node l = record {
   grows : Grows l.initial.threads.keys l.threads.keys;
   distinct : AreSpotsDistinct l.threads.keys;
+  only : AddsThreads l.initial.threads.keys l.threads.keys l.spots;
   long : length l.numbers ≡ 16;
   each : (k : ℕ) → k < l.node → slice_get l.threads.keys (slice_index l.numbers k) ≡ slice_get l.spots k;
   past : (k : ℕ) → l.node ≤ k → slice_index l.numbers k ≡ 0;

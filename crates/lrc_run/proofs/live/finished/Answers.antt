@@ -16,7 +16,7 @@ returns-in-Ok-clause-run c = λ picker picked.
     subst (λ (wires : List MailboxRecord). IsThreadedRun program nodes options picker run wires)
     (sym c.reported.ensures.wires)
     (threaded_run program nodes options picker logs c.in-Ok.told run c.args.wires c.args.setting.now.nodes.some
-    c.in-Ok.ensures.told c.reported.ensures.report c.reported.ensures.events c.reported.ensures.over
+    c.in-Ok.ensures.told c.reported.ensures.report c.reported.ensures.events c.reported.ensures.turned c.reported.ensures.over
     (subst (λ (wires : List MailboxRecord). AreMatched logs wires) c.mailboxes.ensures.all c.in-Ok.ensures.matched)
     (subst (λ (wires : List MailboxRecord). All IsAllGiven wires) c.mailboxes.ensures.all c.in-Ok.ensures.taken)
     c.requires.mailboxes

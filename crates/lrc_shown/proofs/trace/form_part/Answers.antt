@@ -1,20 +1,18 @@
-use Rattle.std.proofs.Common.{◌≡◌, ◌∙◌, ◌<◌, ◌≤◌, ℕ, All, IfOk, List, arith, map, ap, sym, subst}
+use Rattle.std.proofs.Common.{◌≡◌, ◌∙◌, ◌<◌, ℕ, All, IfOk, List, map, sym, subst}
 use Rattle.lrc_clock.specs.Keeping.{KeepsTime}
 use Rattle.lrc_trace.specs.declared.act.Act.{Act}
 use Rattle.lrc_events.specs.Writing.{events_text}
 use Rattle.lrc_acts_text.specs.ActsText.{acts_text}
 use Rattle.lrc_acts_text.specs.Json.{json_of_acts}
 use Rattle.lrc_acts_text.specs.Rapid.{rapid_text}
-use Rattle.lrc_protocol.specs.declared.event.Event.{Event}
 use Rattle.lrc_turns_text.specs.TurnsText.{messages_text}
 use Rattle.lrc_args.specs.declared.choice.Form.{Form}
-use Rattle.lrc_world.specs.Turned.{HaveLogs, turned_of}
 use Rattle.lrc_world.specs.declared.turned.Turned.{Turned}
 use Rattle.lrc_answer.specs.Labels.{labels_in}
 use Rattle.lrc_world.specs.declared.keep.Keep.TheVariants.{All as Whole}
-use Rattle.lrc_shown.specs.Runs.{options_of, turns_in}
+use Rattle.lrc_shown.specs.Runs.{turns_in}
 use Rattle.lrc_shown.specs.Shown.{IsWrittenAs}
-use Rattle.lrc_shown.proofs.RunLemmas.{acts_in_range, have_logs}
+use Rattle.lrc_shown.proofs.RunLemmas.{acts_in_range, turned_whole}
 use Rattle.lrc_shown.proofs.trace.form_part.Goals as goal
 
 pub json_of-requires-clause-acts : goal.json_of-requires-clause-acts
@@ -45,17 +43,8 @@ returns-in-Json c =
     × KeepsTime c.args.options.now.nodes.count acts times × (part.items ≡ json_of_acts (labels_in c.args.text.now c.args.program.now) acts c.args.lines.now times)))
     c.as_slice-acts.ensures.value c.json_of.ensures)
 
-pub returns-in_ok-turns-in-Messages : goal.returns-in_ok-turns-in-Messages
-returns-in_ok-turns-in-Messages c =
-    let few : c.args.options.now.nodes.count ≤ 16 = c.args.options.now.nodes.few in
-    let turns : c.in_ok-turns-in-Messages.turns.items ≡ turns_in c.args.program.now c.args.options.now c.args.run.now.events.items =
-    c.in_ok-turns-in-Messages.ensures c.args.program.now c.args.options.now.nodes.count (options_of c.args.options.now) (omega arith)
-    (subst (λ (events : List Event). HaveLogs c.args.program.now c.args.options.now.nodes.count (options_of c.args.options.now) events
-    (map (λ log. log.items) c.as_slice-logs.result.now)) (sym c.as_slice-events.ensures.value)
-    (subst (λ logs. HaveLogs c.args.program.now c.args.options.now.nodes.count (options_of c.args.options.now) c.args.run.now.events.items
-    (map (λ log. log.items) logs)) (sym c.as_slice-logs.ensures.value)
-    (have_logs c.args.program.now c.args.options.now c.args.run.now c.requires.ran)))
-    ∙ ap (turned_of c.args.program.now c.args.options.now.nodes.count (options_of c.args.options.now)) c.as_slice-events.ensures.value in
+pub returns-in-Messages : goal.returns-in-Messages
+returns-in-Messages c =
     subst (λ (form : Form). IfOk c.messages_of.result (λ part. IsWrittenAs form c.args.text.now c.args.program.now c.args.options.now
     c.args.run.now c.args.lines.now part.items)) (sym c.in-Messages.is)
     (subst (λ logs. IfOk c.messages_of.result (λ part. part.items ≡ messages_text (map (λ log. log.items) logs)
@@ -63,20 +52,11 @@ returns-in_ok-turns-in-Messages c =
     c.as_slice-logs.ensures.value
     (subst (λ (made : List Turned). IfOk c.messages_of.result (λ part. part.items
     ≡ messages_text (map (λ log. log.items) c.as_slice-logs.result.now) (map (λ turn. turn.node) made) c.args.lines.now))
-    (c.as_slice-order.ensures.value ∙ turns) c.messages_of.ensures))
+    (c.as_slice-turns.ensures.value ∙ turned_whole c.args.program.now c.args.options.now c.args.run.now c.requires.ran) c.messages_of.ensures))
 
-pub returns-in_ok-turns-in-Events : goal.returns-in_ok-turns-in-Events
-returns-in_ok-turns-in-Events c =
-    let few : c.args.options.now.nodes.count ≤ 16 = c.args.options.now.nodes.few in
-    let turns : c.in_ok-turns-in-Events.turns.items ≡ turns_in c.args.program.now c.args.options.now c.args.run.now.events.items =
-    c.in_ok-turns-in-Events.ensures c.args.program.now c.args.options.now.nodes.count (options_of c.args.options.now) (omega arith)
-    (subst (λ (events : List Event). HaveLogs c.args.program.now c.args.options.now.nodes.count (options_of c.args.options.now) events
-    (map (λ log. log.items) c.as_slice-logs.result.now)) (sym c.as_slice-events.ensures.value)
-    (subst (λ logs. HaveLogs c.args.program.now c.args.options.now.nodes.count (options_of c.args.options.now) c.args.run.now.events.items
-    (map (λ log. log.items) logs)) (sym c.as_slice-logs.ensures.value)
-    (have_logs c.args.program.now c.args.options.now c.args.run.now c.requires.ran)))
-    ∙ ap (turned_of c.args.program.now c.args.options.now.nodes.count (options_of c.args.options.now)) c.as_slice-events.ensures.value in
+pub returns-in-Events : goal.returns-in-Events
+returns-in-Events c =
     subst (λ (form : Form). IfOk c.events_of.result (λ part. IsWrittenAs form c.args.text.now c.args.program.now c.args.options.now
     c.args.run.now c.args.lines.now part.items)) (sym c.in-Events.is)
     (subst (λ (made : List Turned). IfOk c.events_of.result (λ part. part.items ≡ events_text (map (λ turn. turn.event) made)))
-    (c.as_slice-made.ensures.value ∙ turns) c.events_of.ensures)
+    (c.as_slice-turns.ensures.value ∙ turned_whole c.args.program.now c.args.options.now c.args.run.now c.requires.ran) c.events_of.ensures)

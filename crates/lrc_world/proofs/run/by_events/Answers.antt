@@ -1,20 +1,32 @@
-use Rattle.std.proofs.Common.{◌≡◌, ◌∙◌, sym, ap, rules, arith, take}
+use Rattle.std.proofs.Common.{◌≡◌, ◌∙◌, sym, ap, refl, subst, rules, arith, take}
 use Rattle.std.proofs.lemmas.Result.{IfOk-from_err}
-use Rattle.lrc_world.specs.World.{starts_of}
-use Rattle.lrc_protocol.specs.Run.{run_of}
+use Rattle.lrc_world.specs.Turned.{kept_turns, turned_of}
+use Rattle.lrc_world.specs.World.{Shows, starts_of}
+use Rattle.lrc_protocol.specs.Run.{fresh_world, run_of}
 use Rattle.lrc_world.specs.declared.report.TurnFault.TheVariants.{NoMemory}
 use Rattle.lrc_world.specs.Report.{IsWornBy, IsWornFault}
 use Rattle.lrc_world.proofs.Events.{goes_on, faults_at, fault_up, take_whole, get_at}
+use Rattle.lrc_world.proofs.Noted.{kept_none}
 use Rattle.lrc_world.proofs.Runs.{run_is}
 use Rattle.lrc_world.proofs.Races.{kept_raceless, kept_traces}
 use Rattle.lrc_world.proofs.Worlds.{acts_of_nodes}
 use Rattle.lrc_world.proofs.run.by_events.Goals as goal
 
+pub loop-event-init : goal.loop-event-init
+loop-event-init c = (
+  fresh_world c.args.program.now c.args.nodes c.args.options.now,
+  refl,
+  subst (λ p. Shows (starts_of p c.args.nodes c.args.options.now c.args.keep) c.in_ok-world.world (fresh_world p c.args.nodes c.args.options.now))
+      c.in_ok-code.ensures c.in_ok-world.ensures.shows,
+  c.in_ok-world.ensures.turned ∙ sym (kept_none c.args.keep),
+)
+
 pub loop-event-preserved : goal.loop-event-preserved
 loop-event-preserved c =
     goes_on c.args.program.now c.args.nodes c.args.options.now c.args.events.now c.loop-event.event-index _
     (get_at c.args.events.now c.loop-event.event-index _ (omega (arith, c.loop-event-test.true)))
-    c.args.keep c.loop-event.world c.play.new.self c.play.result c.in_ok-play.field-0 c.loop-event.invariant c.play.ensures (search rules)
+    c.args.keep c.loop-event.world c.play.new.self c.play.result c.in_ok-play.field-0 c.loop-event.invariant c.play.ensures.plays c.play.ensures.turned
+    (search rules)
 
 pub run_after-requires-clause-acts : goal.run_after-requires-clause-acts
 run_after-requires-clause-acts c =
@@ -43,6 +55,8 @@ returns-clause-run c =
     run_is (λ played. played ≡ c.args.events.now) c.args.program.now c.args.nodes c.args.options.now c.args.keep c.args.events.now
     c.in_ok-run.run' c.loop-event.world runs.0 same same made c.requires.0 runs.2
     c.in_ok-run.ensures.over c.in_ok-run.ensures.report c.in_ok-run.ensures.races
+    (ap (λ v. v.items) c.in_ok-run.ensures.turned ∙ runs.3
+    ∙ ap (λ es. kept_turns c.args.keep (turned_of c.args.program.now c.args.nodes c.args.options.now es)) all)
 
 pub returns-in_err-play-clause-run : goal.returns-in_err-play-clause-run
 returns-in_err-play-clause-run c = IfOk-from_err c.from_residual-in_err-play.result _ c.from_residual-in_err-play.ensures.0
@@ -53,7 +67,7 @@ returns-in_err-play-clause-fault c =
     (IsWornFault (IsWornBy c.args.program.now c.args.nodes c.args.options.now c.args.events.now)) c.from_residual-in_err-play.ensures.1
     (faults_at c.args.program.now c.args.nodes c.args.options.now c.args.events.now c.loop-event.event-index _
     (get_at c.args.events.now c.loop-event.event-index _ (omega (arith, c.loop-event-test.true)))
-    c.args.keep c.loop-event.world c.play.new.self c.in_err-play.field-0.0 c.loop-event.invariant c.in_err-play.ensures)
+    c.args.keep c.loop-event.world c.play.new.self c.in_err-play.field-0.0 c.loop-event.invariant c.in_err-play.ensures.plays)
 
 pub returns-in_err-code-clause-run : goal.returns-in_err-code-clause-run
 returns-in_err-code-clause-run c = IfOk-from_err c.from_residual.result _ c.from_residual.ensures.0

@@ -1,4 +1,4 @@
-use Rattle.std.proofs.Common.{◌≡◌, ℕ, [], length, Err, ap, subst, sym, arith}
+use Rattle.std.proofs.Common.{◌≡◌, ◌∙◌, ℕ, [], length, Err, ap, subst, sym, arith}
 use Rattle.std.proofs.lemmas.Result.{IfOk-from_err}
 use Rattle.lrc_lang.specs.declared.program.Program.{Program}
 use Rattle.lrc_protocol.specs.Node.{OptionsRecord}
@@ -23,11 +23,11 @@ use Rattle.lrc_world.proofs.run.led.Goals as goal
 
 -- the driver before any event
 first : (s : Schedule) (program code : Program) (nodes : ℕ) (options : OptionsRecord) (keep : Keep) (d : Driver) (world : World) → code ≡ program
-    → Shows (starts_of code nodes options keep) world (fresh_world code nodes options) → d.world ≡ world → d.events.items ≡ []
+    → Shows (starts_of code nodes options keep) world (fresh_world code nodes options) → world.turned.items ≡ [] → d.world ≡ world → d.events.items ≡ []
     → DriverStandsAt s (starts_of program nodes options keep) (fresh_world program nodes options) s.first d
-first s program code nodes options keep d world coded shows is none =
+first s program code nodes options keep d world coded shows unturned is none =
     at_start s (starts_of program nodes options keep) (fresh_world program nodes options) d world
-    (subst (λ p. Shows (starts_of p nodes options keep) world (fresh_world p nodes options)) coded shows) is none
+    (subst (λ p. Shows (starts_of p nodes options keep) world (fresh_world p nodes options)) coded shows) unturned is none
 
 -- why it is not led on
 worn_out : (s : Schedule) (program : Program) (nodes : ℕ) (options : OptionsRecord) (keep : Keep) (old new : Driver) (fault : TurnFault)
@@ -41,7 +41,7 @@ run_after-requires-clause-acts c =
     let s = schedule_of c.args.nodes c.args.lead in
     let start = fresh_world c.args.program.now c.args.nodes c.args.options.now in
     let d = first s c.args.program.now c.in_ok-code.code c.args.nodes c.args.options.now c.args.keep c.new-driver.result c.in_ok-world.world
-    c.in_ok-code.ensures c.in_ok-world.ensures c.new-driver.ensures.world c.new-driver.ensures.events in
+    c.in_ok-code.ensures c.in_ok-world.ensures.shows c.in_ok-world.ensures.turned c.new-driver.ensures.world c.new-driver.ensures.events in
     let r = c.in_ok-lead.ensures.goes.1.drives (starts_of c.args.program.now c.args.nodes c.args.options.now c.args.keep) start d in
     acts_of_nodes c.args.program.now c.args.nodes c.args.options.now c.lead.new.self.events.items
     (starts_of c.args.program.now c.args.nodes c.args.options.now c.args.keep) r.run c.lead.new.self.world
@@ -52,7 +52,7 @@ run_after-requires-clause-traces c =
     let s = schedule_of c.args.nodes c.args.lead in
     let start = fresh_world c.args.program.now c.args.nodes c.args.options.now in
     let d = first s c.args.program.now c.in_ok-code.code c.args.nodes c.args.options.now c.args.keep c.new-driver.result c.in_ok-world.world
-    c.in_ok-code.ensures c.in_ok-world.ensures c.new-driver.ensures.world c.new-driver.ensures.events in
+    c.in_ok-code.ensures c.in_ok-world.ensures.shows c.in_ok-world.ensures.turned c.new-driver.ensures.world c.new-driver.ensures.events in
     let r = c.in_ok-lead.ensures.goes.1.drives (starts_of c.args.program.now c.args.nodes c.args.options.now c.args.keep) start d in
     kept_traces c.args.program.now c.args.nodes c.args.options.now c.lead.new.self.events.items r.run
     (led_played s start c.lead.new.self.events.items r.run r.standing r.led) c.lead.new.self.world c.args.keep r.shows
@@ -62,7 +62,7 @@ run_after-requires-clause-raceless c =
     let s = schedule_of c.args.nodes c.args.lead in
     let start = fresh_world c.args.program.now c.args.nodes c.args.options.now in
     let d = first s c.args.program.now c.in_ok-code.code c.args.nodes c.args.options.now c.args.keep c.new-driver.result c.in_ok-world.world
-    c.in_ok-code.ensures c.in_ok-world.ensures c.new-driver.ensures.world c.new-driver.ensures.events in
+    c.in_ok-code.ensures c.in_ok-world.ensures.shows c.in_ok-world.ensures.turned c.new-driver.ensures.world c.new-driver.ensures.events in
     let r = c.in_ok-lead.ensures.goes.1.drives (starts_of c.args.program.now c.args.nodes c.args.options.now c.args.keep) start d in
     kept_raceless c.args.program.now c.args.nodes c.args.options.now c.lead.new.self.events.items r.run
     (led_played s start c.lead.new.self.events.items r.run r.standing r.led) c.lead.new.self.world c.args.keep r.shows
@@ -74,7 +74,7 @@ returns-clause-run c =
     let start = fresh_world c.args.program.now c.args.nodes c.args.options.now in
     let starts = starts_of c.args.program.now c.args.nodes c.args.options.now c.args.keep in
     let d = first s c.args.program.now c.in_ok-code.code c.args.nodes c.args.options.now c.args.keep c.new-driver.result c.in_ok-world.world
-    c.in_ok-code.ensures c.in_ok-world.ensures c.new-driver.ensures.world c.new-driver.ensures.events in
+    c.in_ok-code.ensures c.in_ok-world.ensures.shows c.in_ok-world.ensures.turned c.new-driver.ensures.world c.new-driver.ensures.events in
     let r = c.in_ok-lead.ensures.goes.1.drives starts start d in
     let runs = led_played s start c.lead.new.self.events.items r.run r.standing r.led in
     let same = ap (λ v. v.items) c.in_ok-run.ensures.events in
@@ -95,13 +95,13 @@ returns-clause-run c =
     run_is (AreLedToEnd s c.args.program.now c.args.nodes c.args.options.now) c.args.program.now c.args.nodes c.args.options.now c.args.keep
     c.lead.new.self.events.items c.in_ok-run.run' c.lead.new.self.world r.run same
     (subst (AreLedToEnd s c.args.program.now c.args.nodes c.args.options.now) (sym same) to_end) runs c.requires.0 r.shows
-    c.in_ok-run.ensures.over c.in_ok-run.ensures.report c.in_ok-run.ensures.races
+    c.in_ok-run.ensures.over c.in_ok-run.ensures.report c.in_ok-run.ensures.races (ap (λ v. v.items) c.in_ok-run.ensures.turned ∙ r.turned)
 
 pub returns-in_err-lead-clause-fault : goal.returns-in_err-lead-clause-fault
 returns-in_err-lead-clause-fault c =
     let s = schedule_of c.args.nodes c.args.lead in
     let d = first s c.args.program.now c.in_ok-code.code c.args.nodes c.args.options.now c.args.keep c.new-driver.result c.in_ok-world.world
-    c.in_ok-code.ensures c.in_ok-world.ensures c.new-driver.ensures.world c.new-driver.ensures.events in
+    c.in_ok-code.ensures c.in_ok-world.ensures.shows c.in_ok-world.ensures.turned c.new-driver.ensures.world c.new-driver.ensures.events in
     fault_up c.from_residual-in_err-lead.result c.in_err-lead.field-0.0
     (IsWornFault (WearsOut s (fresh_world c.args.program.now c.args.nodes c.args.options.now))) c.from_residual-in_err-lead.ensures.1
     (worn_out s c.args.program.now c.args.nodes c.args.options.now c.args.keep c.new-driver.result c.lead.new.self c.in_err-lead.field-0.0 d

@@ -20,9 +20,9 @@ returns-clause-all c =
     let new = c.gather.new.self in
     let found = c.gather.new.outcomes.keys in
     let e = c.gather.ensures in
-    let say = λ (f : AreFound task new) (m : IsMore old new) (s : AreSound task found) (d : AreGathered task new.states found (row_count new.states)).
-    all_found task new f (start_grown task old.states new.states m.states c.in_ok-begin.ensures.start) (λ k lt key at. (d k lt key at).expanded) in
-    ok_four {A = AreFound task new} {B = IsMore old new} {C = AreSound task found} {D = AreGathered task new.states found (row_count new.states)}
+    let say = λ (f : AreFound task new) (m : IsMore old new) (s : AreSound task found) (d : AreGathered task new.table.rows found (row_count new.table.rows)).
+    all_found task new f (start_grown task old.table.rows new.table.rows m.rows c.in_ok-begin.ensures.start) (λ k lt key at. (d k lt key at).expanded) in
+    ok_four {A = AreFound task new} {B = IsMore old new} {C = AreSound task found} {D = AreGathered task new.table.rows found (row_count new.table.rows)}
     {P = AreAllFound task new} c.gather.result say e.found e.more e.sound e.done
 
 pub returns-clause-exact : goal.returns-clause-exact
@@ -32,9 +32,9 @@ returns-clause-exact c =
     let new = c.gather.new.self in
     let found = c.gather.new.outcomes.keys in
     let e = c.gather.ensures in
-    let say = λ (f : AreFound task new) (m : IsMore old new) (s : AreSound task found) (d : AreGathered task new.states found (row_count new.states)) (notes : List Act).
-    exact task new.states found f.reached (start_grown task old.states new.states m.states c.in_ok-begin.ensures.start) s d c.requires.noting notes in
-    ok_four {A = AreFound task new} {B = IsMore old new} {C = AreSound task found} {D = AreGathered task new.states found (row_count new.states)}
+    let say = λ (f : AreFound task new) (m : IsMore old new) (s : AreSound task found) (d : AreGathered task new.table.rows found (row_count new.table.rows)) (notes : List Act).
+    exact task new.table.rows found f.reached (start_grown task old.table.rows new.table.rows m.rows c.in_ok-begin.ensures.start) s d c.requires.noting notes in
+    ok_four {A = AreFound task new} {B = IsMore old new} {C = AreSound task found} {D = AreGathered task new.table.rows found (row_count new.table.rows)}
     {P = (notes : List Act) → (HasOutcome found notes ↔ IsOutcome task.program.now task.flat.nodes notes)} c.gather.result say e.found e.more e.sound e.done
 
 pub returns-clause-fits : goal.returns-clause-fits
@@ -44,9 +44,9 @@ returns-clause-fits c =
     let new = c.gather.new.self in
     let found = c.gather.new.outcomes.keys in
     let e = c.gather.ensures in
-    let say = λ (f : AreFound task new) (m : IsMore old new) (d : AreGathered task new.states found (row_count new.states))
-    (few : row_count new.states ≤ task.most).
-    fits_settled_noted task new.states task.most f.reached (start_grown task old.states new.states m.states c.in_ok-begin.ensures.start)
+    let say = λ (f : AreFound task new) (m : IsMore old new) (d : AreGathered task new.table.rows found (row_count new.table.rows))
+    (few : row_count new.table.rows ≤ task.most).
+    fits_settled_noted task new.table.rows task.most f.reached (start_grown task old.table.rows new.table.rows m.rows c.in_ok-begin.ensures.start)
     (λ k lt key at. (d k lt key at).expanded) few c.requires.noting in
-    ok_four {A = AreFound task new} {B = IsMore old new} {C = AreGathered task new.states found (row_count new.states)} {D = row_count new.states ≤ task.most}
+    ok_four {A = AreFound task new} {B = IsMore old new} {C = AreGathered task new.table.rows found (row_count new.table.rows)} {D = row_count new.table.rows ≤ task.most}
     {P = FitsSettledNoted task.program.now task.flat.nodes task.most} c.gather.result say e.found e.more e.done e.fits

@@ -8,7 +8,7 @@ use Rattle.lrc_breadth.proofs.task.Found.seek.Goals as goal
 
 pub returns-then-len-task-clause-faults : goal.returns-then-len-task-clause-faults
 returns-then-len-task-clause-faults c =
-    too_many_states c.args.task.now c.loop-place.self.states c.loop-place.invariant.0.found.reached
+    too_many_states c.args.task.now c.loop-place.self.table.rows c.loop-place.invariant.0.found.reached
     (omega (arith, c.if-len-task.true, c.len-in-loop-place.ensures.len))
 
 pub returns-in-Meeting-clause-more : goal.returns-in-Meeting-clause-more
@@ -24,7 +24,7 @@ loop-place-preserved c =
     let stuck = c.loop-place.stuck in
     let i = c.loop-place.invariant.0 in
     let e = c.in_ok-p.ensures in
-    let lt : place < row_count old.states = omega (arith, c.loop-place-test.true, c.len.ensures.len) in (
+    let lt : place < row_count old.table.rows = omega (arith, c.loop-place-test.true, c.len.ensures.len) in (
       elim c.match-branch-2.branch [
         | in-Stuck w ↦
             let v = subst (IsVisit task new place) w.in-Stuck.is e.visit in
@@ -40,7 +40,7 @@ loop-place-preserved c =
 pub returns-clause-end : goal.returns-clause-end
 returns-clause-end c =
     let i = c.loop-place.invariant.0 in
-    let all = c.loop-place.self.states in
+    let all = c.loop-place.self.table.rows in
     let past = c.loop-place-test.false in
     let long = c.len.ensures.len in (
       (λ k key lt at. i.calm k key (omega (arith, lt, past, long)) at),

@@ -26,7 +26,7 @@ returns-in-Through-None-clause-fits c =
     let is : c.args.end ≡ Through None = c.in-Through-None.is ∙ ap Through none in
     let end : IsEnd task found (Through None) = subst (IsEnd task found) is c.requires.end in
     let few = subst (FitsEnd task found) is c.requires.few in
-    λ free. fits_settled task found.states task.most c.requires.found.reached c.requires.start end.1 few
+    λ free. fits_settled task found.table.rows task.most c.requires.found.reached c.requires.start end.1 few
 
 pub returns-in-Through-Some-clause-fits : goal.returns-in-Through-Some-clause-fits
 returns-in-Through-Some-clause-fits c =
@@ -36,7 +36,7 @@ returns-in-Through-Some-clause-fits c =
     let end : IsEnd task found (Through c.in-Through-Some.stuck) = subst (IsEnd task found) is c.requires.end in
     let few = subst (FitsEnd task found) is c.requires.few in
     ok_all c.stuck_told.result (λ (v : Verdict). FindsNoRace v → FitsSettled task.program.now task.flat.nodes task.most)
-    (λ v free. fits_settled task found.states task.most c.requires.found.reached c.requires.start end.1 few)
+    (λ v free. fits_settled task found.table.rows task.most c.requires.found.reached c.requires.start end.1 few)
 
 pub returns-in-Meeting-clause-fits : goal.returns-in-Meeting-clause-fits
 returns-in-Meeting-clause-fits c =

@@ -2,7 +2,7 @@ use Rattle.std.proofs.Common.{◌∙◌, arith, subst, sym}
 use Rattle.std.proofs.lemmas.Option.{same_Some}
 use Rattle.lrc_explore.proofs.Keeping.{item_in, stands_on as stays}
 use Rattle.lrc_lazy_search.specs.declared.state.LazyState.{LazyState}
-use Rattle.lrc_lazy_search.specs.Searching.{still}
+use Rattle.lrc_lazy_search.specs.Searching.{renewed, still}
 use Rattle.lrc_lazy_search.proofs.Adding.{reached_more, reached_next}
 use Rattle.lrc_lazy_search.proofs.Making.{can_below}
 use Rattle.lrc_lazy_search.proofs.Searched.{reached_fit}
@@ -59,7 +59,7 @@ put-requires-clause-reached c =
     let key = c.index-as_slice-place.result in
     let there = item_in keys c.as_slice.result.now c.args.place key c.as_slice.ensures.keys c.requires.within c.index-as_slice-place.is in
     reached_more (omega (arith, c.requires.within))
-    (reached_next sought.program.now sought.flat c.requires.sought.words c.requires.sought.locks key c.in_ok-next.next c.args.place
+    (reached_next sought.program.now sought.flat c.requires.sought.words c.requires.sought.locks key c.renew.new.self c.args.place
     (c.requires.ways.kept.reached c.args.place key there)
     (record {
       node = c.args.node;
@@ -67,7 +67,7 @@ put-requires-clause-reached c =
       after = c.in_ok-next.next;
       steps = c.in_ok-next.ensures.steps;
       valid = c.in_ok-next.ensures.state;
-      goes = still;
+      goes = renewed still c.in_ok-renew.ensures;
     }))
 
 pub put-requires-clause-comes : goal.put-requires-clause-comes
@@ -75,7 +75,7 @@ put-requires-clause-comes c =
     let keys = c.args.self.now.states.keys in
     let key = c.index-as_slice-place.result in
     let there = item_in keys c.as_slice.result.now c.args.place key c.as_slice.ensures.keys c.requires.within c.index-as_slice-place.is in
-    record { before = c.requires.within; parent = key; there = there; steps = c.in_ok-next.ensures.steps }
+    record { before = c.requires.within; parent = key; there = there; next = c.in_ok-next.next; steps = c.in_ok-next.ensures.steps; fresh = c.in_ok-renew.ensures }
 
 pub returns-clause-ways : goal.returns-clause-ways
 returns-clause-ways c = record {
@@ -93,7 +93,13 @@ returns-clause-has c = λ wanted at.
     let new = c.put.new.self.states.keys in
     let same = same_Some key wanted (sym (stays c.args.place key c.in_ok-added.ensures.grows there) ∙ at) in
     subst (λ (x : LazyState). HasAfter sought.flat new x c.args.node c.args.deed) same
-    (record { after = c.in_ok-next.next; steps = c.in_ok-next.ensures.steps; has = c.in_ok-added.ensures.has })
+    (record {
+      after = c.in_ok-next.next;
+      steps = c.in_ok-next.ensures.steps;
+      left = c.renew.new.self;
+      fresh = c.in_ok-renew.ensures;
+      has = c.in_ok-added.ensures.has;
+    })
 
 pub returns-clause-found : goal.returns-clause-found
 returns-clause-found c =

@@ -1,23 +1,10 @@
-use Rattle.std.proofs.Common.{arith}
-use Rattle.lrc_lazy_search.specs.Searching.{still}
-use Rattle.lrc_lazy_search.proofs.Ahead.{ahead_on, ahead_state, ahead_counts}
-use Rattle.lrc_lazy_search.proofs.Making.{fit_of}
+use Rattle.lrc_explore.proofs.Faults.{ok_says}
+use Rattle.lrc_lazy_search.specs.Searching.{renewed}
+use Rattle.lrc_lazy_search.proofs.Ahead.{ahead_state}
 use Rattle.lrc_lazy_search.proofs.state.LazyState.go_ahead.Goals as goal
 
-pub loop-init : goal.loop-init
-loop-init c = still
+pub renew-requires : goal.renew-requires
+renew-requires c = ahead_state c.requires.state c.in_ok-go_on.ensures
 
-pub step_ahead-requires-clause-fit : goal.step_ahead-requires-clause-fit
-step_ahead-requires-clause-fit c = fit_of c.args.flat.now c.loop.self (ahead_state c.requires.state c.loop.invariant)
-
-pub step_ahead-requires-clause-room : goal.step_ahead-requires-clause-room
-step_ahead-requires-clause-room c = λ n.
-    let few = c.requires.room n in
-    let same = ahead_counts c.loop.invariant n in
-    omega (arith, few, same)
-
-pub returns-then-not-branch : goal.returns-then-not-branch
-returns-then-not-branch c = ahead_on c.loop.invariant c.in_ok-step_ahead.ensures
-
-pub loop-preserved : goal.loop-preserved
-loop-preserved c = ahead_on c.loop.invariant c.in_ok-step_ahead.ensures
+pub returns : goal.returns
+returns c = ok_says c.renew.result (λ fresh. renewed c.in_ok-go_on.ensures fresh) c.renew.ensures

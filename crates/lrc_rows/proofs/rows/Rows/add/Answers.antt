@@ -1,8 +1,8 @@
-use Rattle.std.proofs.Common.{◌≤◌, length, refl, subst}
+use Rattle.std.proofs.Common.{◌≡◌, ◌∙◌, ◌≤◌, length, refl, sym, ap, subst}
+use Rattle.std.specs.Prelude.{slice_get}
 use Rattle.lrc_explore.proofs.Keeping.{grows_not}
-use Rattle.lrc_rows.specs.declared.rows.Row.{Row}
 use Rattle.lrc_rows.specs.declared.rows.Rows.{Rows}
-use Rattle.lrc_rows.specs.Rows.{AreThreadsAt, WidensRows}
+use Rattle.lrc_rows.specs.Rows.{AddsThreads, AreThreadsAt, WidensRows}
 use Rattle.lrc_rows.proofs.RowLaws.{rows_again}
 use Rattle.lrc_rows.proofs.rows.Rows.add.Goals as goal
 
@@ -46,3 +46,10 @@ returns-clause-there c =
       notes = c.in_ok-notes.ensures.there;
       counted = c.requires.counted;
     })
+
+pub returns-clause-only : goal.returns-clause-only
+returns-clause-only c = λ k x at.
+    let old = c.args.self.now.threads.keys in
+    let mid = c.threads_of.new.threads.keys in
+    let same : c.put.new.self.threads.keys ≡ mid = ap (λ (r : Rows). r.threads.keys) c.in_ok-place.ensures.parts in
+    subst (λ l. AddsThreads old mid l) c.deref.ensures.value c.in_ok-threads.ensures.only k x (ap (λ l. slice_get l k) (sym same) ∙ at)

@@ -1,12 +1,7 @@
-use Rattle.std.proofs.Common.{◌≡◌, ◌<◌, ◌∙◌, length, map, sym, subst, ap}
-use Rattle.std.specs.Prelude.{Some, slice_get}
-use Rattle.std.proofs.lemmas.Option.{same_Some, slice_get_within}
-use Rattle.std.proofs.lemmas.Result.{IfOk-from_err}
+use Rattle.std.proofs.Common.{◌<◌, ◌∙◌, length, map, sym, subst, ap}
+use Rattle.std.proofs.lemmas.Option.{slice_get_within}
 use Rattle.lrc_explore.proofs.Keeping.{item_in}
 use Rattle.lrc_steps.specs.Taking.{count_of}
-use Rattle.lrc_rows.specs.declared.rows.Row.{Row}
-use Rattle.lrc_rows.specs.declared.rows.Rows.{Rows}
-use Rattle.lrc_rows.specs.Rows.{AreThreadsAt, HaveThreads, IsRowPlace, StandsFor}
 use Rattle.lrc_rows.proofs.RowLaws.{row_within, stands_at}
 use Rattle.lrc_rows.proofs.rows.Rows.noted.Goals as goal
 

@@ -2,12 +2,11 @@ use Rattle.std.proofs.Common.{◌≡◌, refl, sym, subst}
 use Rattle.std.specs.Prelude.{Some, slice_get}
 use Rattle.lrc_explore.proofs.Adding.{added_at}
 use Rattle.lrc_explore.proofs.Keeping.{grows_not, put_grows}
-use Rattle.lrc_rows.specs.declared.rows.Row.{Row}
 use Rattle.lrc_rows.specs.declared.rows.Rows.{Rows}
 use Rattle.lrc_rows.specs.contracts.rows.RowPartialEq.TheImpl.{eq-value as row_eq}
+use Rattle.lrc_rows.specs.RowHash.{row_is}
 use Rattle.lrc_rows.specs.Rows.{WidensRows}
 use Rattle.lrc_rows.proofs.RowLaws.{stands_grown}
-use Rattle.lrc_rows.proofs.RowsApart.{row_is}
 use Rattle.lrc_rows.proofs.rows.Rows.put.Goals as goal
 
 pub returns-clause-widens : goal.returns-clause-widens

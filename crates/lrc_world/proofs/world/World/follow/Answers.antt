@@ -39,34 +39,38 @@ module _ (world : World) (n : ℕ) (entry : EntryRecord) (last : NodeLogsLast wo
   not_sent new (Ok done) fault is why = absurd is
   not_sent new (Err f) fault is why = subst (IsSendFault entry.turn.out) (sym is) why
 
-pub returns-in_default : goal.returns-in_default
-returns-in_default c = λ entry last.
-    let past : length c.args.self.now.nodes.items ≤ c.args.node = search rules in
-    absurd (not_gone c.args.self.now c.args.node entry last past)
+pub returns-in_err-note_turn-clause-adds : goal.returns-in_err-note_turn-clause-adds
+returns-in_err-note_turn-clause-adds c = λ entry last.
+    not_sent c.args.self.now c.args.turn.node entry last _ c.from_residual.result NoMemory c.from_residual.ensures.1 tt
 
-pub returns-in_default-last : goal.returns-in_default-last
-returns-in_default-last c = λ entry last.
-    absurd (not_none c.args.self.now c.args.node entry last _ c.in_default-last.ensures.value
-    (newest_at c.args.self.now c.args.node entry last c.deref.result.now c.in-Some.logged.now c.log.result.now c.deref.ensures.value
+pub returns-in_default-clause-adds : goal.returns-in_default-clause-adds
+returns-in_default-clause-adds c = λ entry last.
+    let past : length c.args.self.now.nodes.items ≤ c.args.turn.node = search rules in
+    absurd (not_gone c.args.self.now c.args.turn.node entry last past)
+
+pub returns-in_default-last-clause-adds : goal.returns-in_default-last-clause-adds
+returns-in_default-last-clause-adds c = λ entry last.
+    absurd (not_none c.args.self.now c.args.turn.node entry last _ c.in_default-last.ensures.value
+    (newest_at c.args.self.now c.args.turn.node entry last c.deref.result.now c.in-Some.logged.now c.log.result.now c.deref.ensures.value
     c.in-Some.ensures.lookup.3.0 c.in-Some.ensures.lookup.1 c.log.ensures))
 
-pub returns-in_err-send : goal.returns-in_err-send
-returns-in_err-send c = λ entry last.
+pub returns-in_err-send-clause-adds : goal.returns-in_err-send-clause-adds
+returns-in_err-send-clause-adds c = λ entry last.
     let read = c.in-Some-last.entry.now in
     let outs : c.deref-2.result.now ≡ read.turn.out = search rules in
     let same : read ≡ entry =
     same_Some read entry (c.in-Some-last.ensures.value
-    ∙ newest_at c.args.self.now c.args.node entry last c.deref.result.now c.in-Some.logged.now c.log.result.now c.deref.ensures.value
+    ∙ newest_at c.args.self.now c.args.turn.node entry last c.deref.result.now c.in-Some.logged.now c.log.result.now c.deref.ensures.value
     c.in-Some.ensures.lookup.3.0 c.in-Some.ensures.lookup.1 c.log.ensures) in
-    not_sent c.args.self.now c.args.node entry last _ c.from_residual.result c.in_err-send.field-0.0 c.from_residual.ensures.1
+    not_sent c.args.self.now c.args.turn.node entry last _ c.from_residual-in_err-send.result c.in_err-send.field-0.0 c.from_residual-in_err-send.ensures.1
     (subst (λ out. IsSendFault out c.in_err-send.field-0.0) (outs ∙ ap (λ (e : EntryRecord). e.turn.out) same) c.in_err-send.ensures.err)
 
-pub returns-in_err-note : goal.returns-in_err-note
-returns-in_err-note c = λ entry last.
-    not_sent c.args.self.now c.args.node entry last _ c.from_residual-in_err-note.result NoMemory c.from_residual-in_err-note.ensures.1 tt
+pub returns-in_err-note-clause-adds : goal.returns-in_err-note-clause-adds
+returns-in_err-note-clause-adds c = λ entry last.
+    not_sent c.args.self.now c.args.turn.node entry last _ c.from_residual-in_err-note.result NoMemory c.from_residual-in_err-note.ensures.1 tt
 
-pub returns : goal.returns
-returns c = λ entry last.
+pub returns-clause-adds : goal.returns-clause-adds
+returns-clause-adds c = λ entry last.
     let read = c.in-Some-last.entry.now in
     let sent : map seen_flying c.send.new.flight.items ≡ map seen_flying c.args.self.now.flight.items ++ map (shown_new read.stamp) read.turn.out =
     search rules in
@@ -74,7 +78,7 @@ returns c = λ entry last.
     let short : list_any is_long read.turn.out ≡ false = search rules in
     let same : read ≡ entry =
     same_Some read entry (c.in-Some-last.ensures.value
-    ∙ newest_at c.args.self.now c.args.node entry last c.deref.result.now c.in-Some.logged.now c.log.result.now c.deref.ensures.value
+    ∙ newest_at c.args.self.now c.args.turn.node entry last c.deref.result.now c.in-Some.logged.now c.log.result.now c.deref.ensures.value
     c.in-Some.ensures.lookup.3.0 c.in-Some.ensures.lookup.1 c.log.ensures) in
     record {
       keep = refl;

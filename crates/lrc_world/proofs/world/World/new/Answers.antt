@@ -4,11 +4,11 @@ use Rattle.lrc_node.specs.Node.{TracedNode}
 use Rattle.lrc_node.specs.Logged.{TracedLog}
 use Rattle.lrc_world.specs.World.{Starts, starts_of, seen_flying}
 use Rattle.lrc_world.proofs.Kept.{all_fresh, fresh_replayed}
-use Rattle.lrc_world.proofs.Worlds.{fresh_one, fresh_short, fresh_next}
+use Rattle.lrc_world.proofs.Worlds.{fresh_few, fresh_one, fresh_short, fresh_next}
 use Rattle.lrc_world.proofs.world.World.new.Goals as goal
 
-pub returns : goal.returns
-returns c =
+pub returns-clause-shows : goal.returns-clause-shows
+returns-clause-shows c =
     let all : c.loop-me.me ≡ c.args.nodes = omega arith in
     let starts : Starts = starts_of c.args.code.now c.args.nodes c.args.options.now c.args.keep in
     record {
@@ -20,6 +20,7 @@ returns c =
       flight = ap (map seen_flying) c.new-2.ensures.items;
       acts = c.new-3.ensures.items;
       short = fresh_short c.args.code.now c.args.nodes c.args.options.now;
+      few = fresh_few c.args.code.now c.args.nodes c.args.options.now c.requires.few;
     }
 
 pub loop-me-preserved : goal.loop-me-preserved

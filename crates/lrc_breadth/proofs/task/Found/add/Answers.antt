@@ -1,0 +1,23 @@
+use Rattle.std.proofs.Common.{◌∙◌, ◌++◌, [], ◌∷◌, sym, ap, arith}
+use Rattle.std.specs.Prelude.{if◌then◌else◌}
+use Rattle.lrc_steps.specs.declared.step.Step.TheVariants.{Together}
+use Rattle.lrc_breadth.specs.declared.task.Found.{Found}
+use Rattle.lrc_breadth.specs.declared.task.Origin.{Origin}
+use Rattle.lrc_breadth.proofs.Keys.{found_put}
+use Rattle.lrc_breadth.proofs.MeansOf.{table_of}
+use Rattle.lrc_breadth.proofs.task.Found.add.Goals as goal
+
+pub add-requires-clause-table : goal.add-requires-clause-table
+add-requires-clause-table c = c.requires.found.table c.means.result c.means.ensures
+
+pub returns-in_ok-push-clause-found : goal.returns-in_ok-push-clause-found
+returns-in_ok-push-clause-found c =
+    let e = c.in_ok-_place.ensures in
+    let task = c.args.task.now in
+    let old = c.args.self.now in
+    let origin : Origin = record { parent = 0; step = Together } in
+    let new : Found = record { table = c.add.new.self; origins = c.push.new.self } in
+    found_put task old new c.args.key origin c.in_ok-_place._place c.in_ok-_place.added c.requires.found c.requires.reached
+    (λ some. absurd (omega (arith, some, c.requires.none)), λ none. c.requires.first) e.widens
+    (table_of task c.means.result c.add.new.self c.means.ensures e.table) e.added e.there
+    (c.in_ok-push.ensures.items ∙ ap (λ b. if b then old.origins.items ++ origin ∷ [] else old.origins.items) (sym c.if-added.true))

@@ -1,0 +1,6 @@
+-- Those so far are as they should be.
+use Rattle.lrc_known.specs.Made.{AreEach, IsKnownWithout}
+use Rattle.lrc_known.proofs.word.word_without.Given as goal
+
+abbrev pub invariant-loop-knower : goal.invariant-loop-knower
+invariant-loop-knower l = AreEach (IsKnownWithout l.word l.first l.dropped) l.left.items l.knower

@@ -1,0 +1,24 @@
+use Rattle.std.proofs.Common.{◌≡◌, ◌∙◌, ◌-◌, List, ℕ, ap, map, refl}
+use Rattle.lrc_lazy_search.specs.declared.state.LazyState.{LazyState}
+use Rattle.lrc_lazy_search.proofs.Fresh.{fresh_after, fresh_itself}
+use Rattle.lrc_lazy_search.proofs.state.LazyState.renew.Goals as goal
+
+pub returns-then-gone-eq0 : goal.returns-then-gone-eq0
+returns-then-gone-eq0 c = fresh_itself c.args.flat.now c.args.self.now c.requires
+
+pub returns : goal.returns
+returns c =
+    let old = c.args.self.now in
+    let after : LazyState = record {
+      state = record {
+        memory = old.state.memory;
+        holders = old.state.holders;
+        arrivals = c.in_ok-self.field-0;
+        spots = old.state.spots;
+      };
+      knowledge = c.in_ok-self-2.field-0;
+      notes = old.notes;
+    } in
+    let gone = c.gone-gone.result in
+    fresh_after c.args.flat.now old after gone c.requires c.gone-gone.ensures refl refl refl
+    (c.in_ok-self.ensures ∙ ap (λ (xs : List ℕ). map (λ count. count - gone) xs) c.deref.ensures.value) c.in_ok-self-2.ensures refl

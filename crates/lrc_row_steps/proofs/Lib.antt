@@ -1,0 +1,3 @@
+pub mod Stepping
+pub mod Seen
+pub mod Contended

@@ -1,0 +1,12 @@
+pub mod Acting
+pub mod Alone
+pub mod Departed
+pub mod Entries
+pub mod Gone
+pub mod Keeping
+pub mod NextActs
+pub mod Noting
+pub mod RowNodes
+pub mod Seeing
+pub mod Sharing
+pub mod Together

@@ -1,0 +1,43 @@
+use Rattle.std.proofs.Common.{◌≤◌, ◌∙◌, [], ◌∷◌, List, length, map, refl, sym, ap, subst}
+use Rattle.std.specs.Prelude.{All}
+use Rattle.lrc_exec.specs.declared.spot.Spot.{Spot}
+use Rattle.lrc_explore.proofs.Keeping.{grows_not}
+use Rattle.lrc_rows.specs.Rows.{AreRowsDistinct, WidensRows}
+use Rattle.lrc_row_steps.specs.Nexts.{next_in}
+use Rattle.lrc_row_table.specs.declared.table.Table.{Table}
+use Rattle.lrc_row_table.proofs.Keeping.{placed_more, placed_one, table_on}
+use Rattle.lrc_row_table.proofs.table.Table.number.Goals as goal
+
+pub complete-requires-clause-placed : goal.complete-requires-clause-placed
+complete-requires-clause-placed c =
+    let flat = c.args.means.now.flat in
+    let spot = c.args.spot in
+    let P : List Spot → Type 0 = λ l. All (λ (s : Spot). s.place ≤ length flat.code.now) l in
+    subst P (sym c.as_slice.ensures.keys)
+    (placed_more flat c.args.self.now.rows.threads.keys c.thread_number.new.threads.keys (spot ∷ []) c.in_ok-number.ensures.only c.requires.table.placed
+    (placed_one flat spot c.requires.placed))
+
+pub returns-clause-table : goal.returns-clause-table
+returns-clause-table c =
+    let flat = c.args.means.now.flat in
+    let spot = c.args.spot in
+    let old = c.args.self.now in
+    let known = c.requires.table in
+    let new : Table = record old { rows = record old.rows { threads = c.thread_number.new.threads }; nexts = c.complete.new.nexts } in
+    let wide : WidensRows old.rows new.rows = record {
+      nodes = refl;
+      threads = c.in_ok-number.ensures.grows;
+      shared = grows_not old.rows.shared.keys old.rows.shared.keys refl;
+      notes = grows_not old.rows.notes.keys old.rows.notes.keys refl;
+      rows = grows_not old.rows.rows.keys old.rows.rows.keys refl;
+    } in
+    let distinct : AreRowsDistinct new.rows = record {
+      threads = c.in_ok-number.ensures.distinct;
+      shared = known.distinct.shared;
+      notes = known.distinct.notes;
+      rows = known.distinct.rows;
+    } in
+    table_on c.args.means.now old new known wide distinct
+    (placed_more flat old.rows.threads.keys c.thread_number.new.threads.keys (spot ∷ []) c.in_ok-number.ensures.only known.placed
+    (placed_one flat spot c.requires.placed))
+    (c.in_ok-complete.ensures ∙ ap (map (next_in flat)) c.as_slice.ensures.keys) refl refl

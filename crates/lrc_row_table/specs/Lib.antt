@@ -1,0 +1,3 @@
+pub mod Going
+pub mod Shared
+pub mod Tables
