@@ -3,13 +3,12 @@
 ghost use Rattle.std.specs.Prelude.{◌≡◌, ◌≤◌, ◌<◌, ◌^◌, Err, IfOk, MatchOption, None, OnOk, Some, count_by, length};
 ghost use Rattle.lrc_protocol.specs.Run.{turns_of_logs};
 ghost use Rattle.lrc_envelope.specs.declared.picker.Picker.{Picker as AnyPicker};
-ghost use Rattle.lrc_exec.specs.Nodes.{AreNodes};
 ghost use Rattle.lrc_node.specs.Logged.{seen_input};
+ghost use Rattle.lrc_node.specs.Options.{options_of};
 ghost use Rattle.lrc_threads.specs.Threads.{IsFirstFailure};
 ghost use Rattle.lrc_threads.specs.declared.stop.Stop.TheVariants as stops;
 ghost use Rattle.lrc_weave.specs.declared.fault.WeaveFault.TheVariants as weaving;
 ghost use Rattle.lrc_weave.specs.Logs.{AreLogs};
-ghost use Rattle.lrc_setting.specs.Ranges.{AreSteps};
 ghost use Rattle.lrc_world.specs.Report.{IsWornBy};
 ghost use Rattle.lrc_run.specs.Halts.{AreEventsOf, AreUnmatched, IsHalt, IsLeft, IsPlayedOut, IsUntoldWearing, IsWearing, logs_left};
 ghost use Rattle.lrc_run.specs.Unfinished.{input_of, is_take, next_taken, put_at, unfinished};
@@ -17,31 +16,36 @@ ghost use Rattle.lrc_run.specs.Unfinished.{input_of, is_take, next_taken, put_at
 use crate::halt::{Halt, Left, WornOut};
 use crate::sent::are_takes_sent;
 use bytes::Bytes;
+use lrc_lang::program::Program;
 use lrc_node::{Entry, Input};
 use lrc_post::{Mailbox, Wire};
 use lrc_protocol::Event;
-use lrc_threads::{Failure, Setting, Stop};
+use lrc_setting::setting::Setting;
+use lrc_threads::{Failure, Stop};
 use lrc_weave::{WeaveFault, events_of, events_with};
 use lrc_wire::{WireFault, decode};
 use lrc_world::keep::Keep;
-use lrc_world::report::SimFault;
-use lrc_world::run::Order;
-use lrc_world::simulate::run_checked;
+use lrc_world::report::TurnFault;
+use lrc_world::run::{Order, run_in};
 use std::alloc::{AllocError, Global};
 
 /// Returns why a run with this first failure has no report.
-pub(crate) fn halt_at(alloc: Global, setting: &Setting<'_>, left: Left, failure: Failure) -> Halt
-    requires range { AreNodes setting.now.nodes × AreSteps setting.now.options.steps }
-    requires few { length left.logs.items ≤ 16 }
-    requires turns { AreLogs setting.now.program.now setting.now.nodes setting.now.options
+pub(crate) fn halt_at(
+    alloc: Global,
+    program: &Program,
+    setting: &Setting,
+    left: Left,
+    failure: Failure,
+) -> Halt
+    requires turns { AreLogs program.now setting.now.nodes.count (options_of setting.now)
         (logs_left left) }
     requires first { IsFirstFailure left.stops.items failure }
-    ensures { (picker : AnyPicker) → IsLeft setting.now.program.now setting.now.nodes
-        setting.now.options picker left
-        → IsHalt setting.now.program.now setting.now.nodes setting.now.options picker result }
+    ensures { (picker : AnyPicker) → IsLeft program.now setting.now.nodes.count
+        (options_of setting.now) picker left
+        → IsHalt program.now setting.now.nodes.count (options_of setting.now) picker result }
 {
     match failure.stop {
-        Stop::Worn => worn_out(alloc, setting, left, failure.node),
+        Stop::Worn => worn_out(alloc, program, setting, left, failure.node),
         // No thread fails because the post is closed.
         Stop::Closed | Stop::NoMemory => Halt::Refused(left),
     }
@@ -49,18 +53,17 @@ pub(crate) fn halt_at(alloc: Global, setting: &Setting<'_>, left: Left, failure:
 
 // The same, where this node wore out. All turns are made once more as one run, with what wore it out behind them. That run wears out too,
 // since the nodes made these turns; and where it does not, what they left does not tell of one run.
-fn worn_out(alloc: Global, setting: &Setting<'_>, left: Left, node: usize) -> Halt
-    requires range { AreNodes setting.now.nodes × AreSteps setting.now.options.steps }
-    requires few { length left.logs.items ≤ 16 }
-    requires turns { AreLogs setting.now.program.now setting.now.nodes setting.now.options
+fn worn_out(alloc: Global, program: &Program, setting: &Setting, left: Left, node: usize) -> Halt
+    requires turns { AreLogs program.now setting.now.nodes.count (options_of setting.now)
         (logs_left left) }
     requires first { IsFirstFailure left.stops.items (record { node = node; stop = stops.Worn }) }
-    ensures { (picker : AnyPicker) → IsLeft setting.now.program.now setting.now.nodes
-        setting.now.options picker left
-        → IsHalt setting.now.program.now setting.now.nodes setting.now.options picker result }
+    ensures { (picker : AnyPicker) → IsLeft program.now setting.now.nodes.count
+        (options_of setting.now) picker left
+        → IsHalt program.now setting.now.nodes.count (options_of setting.now) picker result }
 {
     match wearing(
         alloc,
+        program,
         setting,
         left.logs.as_slice(),
         left.wires.mailboxes(),
@@ -76,55 +79,49 @@ fn worn_out(alloc: Global, setting: &Setting<'_>, left: Left, node: usize) -> Ha
 // they tell of no such events.
 fn wearing(
     alloc: Global,
-    setting: &Setting<'_>,
+    program: &Program,
+    setting: &Setting,
     logs: &[Vec<Entry>],
     wires: &[Mailbox],
     node: usize,
 ) -> Result<Vec<Event>, WeaveFault>
-    requires few { length logs.now ≤ 16 }
-    requires turns { AreLogs setting.now.program.now setting.now.nodes setting.now.options
+    requires turns { AreLogs program.now setting.now.nodes.count (options_of setting.now)
         (turns_of_logs logs.now) }
-    requires range { AreNodes setting.now.nodes × AreSteps setting.now.options.steps }
-    ensures worn { IfOk result (λ events. IsWearing setting.now.program.now setting.now.nodes
-        setting.now.options
+    ensures worn { IfOk result (λ events. IsWearing program.now setting.now.nodes.count
+        (options_of setting.now)
         (turns_of_logs logs.now) wires.now node events.items) }
     ensures mismatch { result ≡ Err weaving.Mismatch
-        → IsUntoldWearing setting.now.program.now setting.now.nodes setting.now.options
+        → IsUntoldWearing program.now setting.now.nodes.count (options_of setting.now)
         (turns_of_logs logs.now) wires.now node }
 {
     if !are_takes_sent(alloc, logs)? {
         return Err(WeaveFault::Mismatch);
     }
     let events = events_until(alloc, logs, wires, node)?;
-    wears_out(alloc, setting, events.as_slice())?;
+    wears_out(alloc, program, setting, events.as_slice())?;
     Ok(events)
 }
 
 // Whether a run of these events wears out: an error where it does not.
-fn wears_out(alloc: Global, setting: &Setting<'_>, events: &[Event]) -> Result<(), WeaveFault>
-    requires range { AreNodes setting.now.nodes × AreSteps setting.now.options.steps }
-    ensures worn { OnOk result (IsWornBy setting.now.program.now setting.now.nodes
-        setting.now.options events.now) }
+fn wears_out(
+    alloc: Global,
+    program: &Program,
+    setting: &Setting,
+    events: &[Event],
+) -> Result<(), WeaveFault>
+    ensures worn { OnOk result (IsWornBy program.now setting.now.nodes.count
+        (options_of setting.now) events.now) }
     ensures few { length events.now < 2 ^ 64 }
     ensures mismatch { result ≡ Err weaving.Mismatch
-        → IsPlayedOut setting.now.program.now setting.now.nodes setting.now.options events.now }
+        → IsPlayedOut program.now setting.now.nodes.count (options_of setting.now) events.now }
 {
     // For the proof: there are fewer than 2^64.
     let _count = count_of(events);
-    let nodes = u32::from(setting.nodes);
-    let order = Order::Events(events);
-    match run_checked(
-        alloc,
-        setting.program,
-        nodes,
-        &setting.options,
-        order,
-        Keep::Newest,
-    ) {
-        Err(SimFault::Worn) => Ok(()),
+    match run_in(alloc, program, setting, Order::Events(events), Keep::Newest) {
+        Err(TurnFault::Worn) => Ok(()),
         // The nodes made these turns on their threads, so this does not come.
         Ok(_) => Err(WeaveFault::Mismatch),
-        Err(_fault) => Err(WeaveFault::NoMemory),
+        Err(TurnFault::NoMemory) => Err(WeaveFault::NoMemory),
     }
 }
 

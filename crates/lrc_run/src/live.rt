@@ -3,11 +3,9 @@
 ghost use Rattle.std.specs.Prelude.{◌≡◌, IfErr, IfOk, length, true};
 ghost use Rattle.lrc_protocol.specs.Run.{turns_of_logs};
 ghost use Rattle.lrc_envelope.specs.declared.picker.Picker.{Picker as AnyPicker};
-ghost use Rattle.lrc_exec.specs.Nodes.{AreNodes};
 ghost use Rattle.lrc_post.specs.Post.{AreOf};
 ghost use Rattle.lrc_threads.specs.Threads.{HaveNoFailure};
 ghost use Rattle.lrc_weave.specs.Logs.{AreLogs};
-ghost use Rattle.lrc_setting.specs.Ranges.{AreSteps};
 ghost use Rattle.lrc_node.specs.Options.{options_of};
 ghost use Rattle.lrc_run.specs.Halts.{AreLeft, IsHalt};
 ghost use Rattle.lrc_run.specs.Run.{AreWhole, IsThreadedRun, Reports};
@@ -18,10 +16,9 @@ use crate::told::{ToldRun, told};
 use lrc_envelope::Picker;
 use lrc_exec::code::Code;
 use lrc_lang::program::Program;
-use lrc_node::options_of;
 use lrc_post::{Post, Wires};
 use lrc_setting::setting::Setting;
-use lrc_threads::{Gate, Parts, Setting as ThreadSetting, first_failure, parts_of, pasts_of};
+use lrc_threads::{Gate, Parts, first_failure, parts_of, pasts_of};
 use lrc_weave::WeaveFault;
 use lrc_world::report::Report;
 use lrc_world::run::Run;
@@ -57,33 +54,10 @@ pub fn run_on_threads<G: Gate + Sync, R: Threads + Wait + Sync>(
     ensures halt { IfErr result (IsHalt program.now setting.now.nodes.count
         (options_of setting.now) picker) }
 {
-    let known = ThreadSetting {
-        program,
-        nodes: setting.nodes.number(),
-        options: options_of(setting),
-    };
-    lived(rt, alloc, &known, picker, gate)
-}
-
-// The same, by what each thread is told.
-fn lived<G: Gate + Sync, R: Threads + Wait + Sync>(
-    rt: &R,
-    alloc: Global,
-    setting: &ThreadSetting<'_>,
-    picker: Picker,
-    gate: &G,
-) -> Result<ThreadedRun, Halt>
-    requires range { AreNodes setting.now.nodes × AreSteps setting.now.options.steps }
-    ensures run { IfOk result (λ run. IsThreadedRun setting.now.program.now setting.now.nodes
-        setting.now.options picker
-        run.made run.wires) }
-    ensures halt { IfErr result (IsHalt setting.now.program.now setting.now.nodes
-        setting.now.options picker) }
-{
-    let (parts, wires) = live(rt, alloc, setting, picker, gate)?;
+    let (parts, wires) = live(rt, alloc, program, setting, picker, gate)?;
     match first_failure(parts.stops.as_slice()) {
-        None => finished(alloc, setting, parts, wires),
-        Some(failure) => Err(halt_at(alloc, setting, left_of(parts, wires), failure)),
+        None => finished(alloc, program, setting, parts, wires),
+        Some(failure) => Err(halt_at(alloc, program, setting, left_of(parts, wires), failure)),
     }
 }
 
@@ -92,21 +66,21 @@ fn lived<G: Gate + Sync, R: Threads + Wait + Sync>(
 fn live<G: Gate + Sync, R: Threads + Wait + Sync>(
     rt: &R,
     alloc: Global,
-    setting: &ThreadSetting<'_>,
+    program: &Program,
+    setting: &Setting,
     picker: Picker,
     gate: &G,
 ) -> Result<(Parts, Wires), AllocError>
-    requires range { AreNodes setting.now.nodes × AreSteps setting.now.options.steps }
-    ensures left { IfOk result (λ lived. AreLeft setting.now.program.now setting.now.nodes
-        setting.now.options picker
+    ensures left { IfOk result (λ lived. AreLeft program.now setting.now.nodes.count
+        (options_of setting.now) picker
         (turns_of_logs lived.0.logs.items) lived.0.stops.items lived.1) }
     ensures whole { IfOk result (λ lived. HaveNoFailure lived.0.stops.items
-        → AreWhole setting.now.program.now setting.now.nodes setting.now.options
+        → AreWhole program.now setting.now.nodes.count (options_of setting.now)
         (turns_of_logs lived.0.logs.items) lived.0.traces.items lived.0.is_any_ready) }
 {
-    let post = Post::new(alloc, setting.nodes, picker)?;
-    let code = Code::new(alloc, setting.program)?;
-    let pasts = pasts_of(rt, alloc, setting, &code, &post, gate)?;
+    let post = Post::new(alloc, setting.nodes.number(), picker)?;
+    let code = Code::new(alloc, program)?;
+    let pasts = pasts_of(rt, alloc, program, setting, &code, &post, gate)?;
     let wires = post.into_wires();
     let parts = parts_of(alloc, pasts)?;
     Ok((parts, wires))
@@ -115,28 +89,27 @@ fn live<G: Gate + Sync, R: Threads + Wait + Sync>(
 // The run of nodes none of whose threads failed, if what they left tells of one to its end.
 fn finished(
     alloc: Global,
-    setting: &ThreadSetting<'_>,
+    program: &Program,
+    setting: &Setting,
     parts: Parts,
     wires: Wires,
 ) -> Result<ThreadedRun, Halt>
-    requires range { AreNodes setting.now.nodes × AreSteps setting.now.options.steps }
-    requires turns { AreLogs setting.now.program.now setting.now.nodes setting.now.options
+    requires turns { AreLogs program.now setting.now.nodes.count (options_of setting.now)
         (turns_of_logs parts.logs.items) }
-    requires mailboxes { length wires ≡ setting.now.nodes }
+    requires mailboxes { length wires ≡ setting.now.nodes.count }
     requires unfailed { HaveNoFailure parts.stops.items }
-    requires whole { AreWhole setting.now.program.now setting.now.nodes setting.now.options
+    requires whole { AreWhole program.now setting.now.nodes.count (options_of setting.now)
         (turns_of_logs parts.logs.items) parts.traces.items parts.is_any_ready }
     ensures run { (picker : AnyPicker) → AreOf picker wires
-        → IfOk result (λ run. IsThreadedRun setting.now.program.now setting.now.nodes
-        setting.now.options picker
-        run.made run.wires) }
-    ensures halt { (picker : AnyPicker) → AreLeft setting.now.program.now setting.now.nodes
-        setting.now.options picker
+        → IfOk result (λ run. IsThreadedRun program.now setting.now.nodes.count
+        (options_of setting.now) picker run.made run.wires) }
+    ensures halt { (picker : AnyPicker) → AreLeft program.now setting.now.nodes.count
+        (options_of setting.now) picker
         (turns_of_logs parts.logs.items) parts.stops.items wires
-        → IfErr result (IsHalt setting.now.program.now setting.now.nodes setting.now.options
+        → IfErr result (IsHalt program.now setting.now.nodes.count (options_of setting.now)
         picker) }
 {
-    match told(alloc, setting, &parts, wires.mailboxes()) {
+    match told(alloc, program, setting, &parts, wires.mailboxes()) {
         Ok(told) => Ok(reported(parts, wires, told)),
         Err(WeaveFault::Mismatch) => Err(Halt::Mismatch(left_of(parts, wires))),
         Err(WeaveFault::NoMemory) => Err(Halt::NoMemory),

@@ -1,6 +1,6 @@
 // What is told of a run by what its nodes left.
 
-ghost use Rattle.std.specs.Prelude.{◌≡◌, ◌≤◌, ◌<◌, ◌↔◌, [], All, Any, Err, IfOk, IsTrue, MatchOption, OnOk, false, length};
+ghost use Rattle.std.specs.Prelude.{◌≡◌, ◌<◌, ◌↔◌, [], All, Any, Err, IfOk, IsTrue, MatchOption, OnOk, false, length};
 ghost use Rattle.lrc_protocol.specs.Run.{turns_of_logs};
 ghost use Rattle.lrc_trace.specs.Conflict.{IsFirstRace, IsRaceFree};
 ghost use Rattle.lrc_judge.specs.declared.TheConstants.{NODES};
@@ -10,13 +10,16 @@ ghost use Rattle.lrc_weave.specs.declared.fault.WeaveFault.TheVariants.{Mismatch
 ghost use Rattle.lrc_weave.specs.Logs.{AreLogs};
 ghost use Rattle.lrc_weave.specs.Matched.{AreMatched};
 ghost use Rattle.lrc_world.specs.Ends.{ends_of};
+ghost use Rattle.lrc_node.specs.Options.{options_of};
 ghost use Rattle.lrc_run.specs.Run.{AreWhole, IsTold, IsUntold};
 
+use lrc_lang::program::Program;
 use lrc_node::End;
 use lrc_post::Mailbox;
 use lrc_protocol::Event;
 use lrc_race::races;
-use lrc_threads::{Parts, Setting};
+use lrc_setting::setting::{Nodes, Setting};
+use lrc_threads::Parts;
 use lrc_trace::act::Act;
 use lrc_trace::race::Race;
 use lrc_trace::trace::Trace;
@@ -50,24 +53,25 @@ struct Findings {
 /// the mailboxes' histories do not agree with the turns, or something was left to do or to give.
 pub(crate) fn told(
     alloc: Global,
-    setting: &Setting<'_>,
+    program: &Program,
+    setting: &Setting,
     parts: &Parts,
     wires: &[Mailbox],
 ) -> Result<ToldRun, WeaveFault>
-    requires few { setting.now.nodes ≤ 16 }
-    requires turns { AreLogs setting.now.program.now setting.now.nodes setting.now.options
+    requires turns { AreLogs program.now setting.now.nodes.count (options_of setting.now)
         (turns_of_logs parts.now.logs.items) }
-    requires whole { AreWhole setting.now.program.now setting.now.nodes setting.now.options
+    requires whole { AreWhole program.now setting.now.nodes.count (options_of setting.now)
         (turns_of_logs parts.now.logs.items) parts.now.traces.items
         parts.now.is_any_ready }
-    requires wires { length wires.now ≡ setting.now.nodes }
-    ensures told { IfOk result (IsTold setting.now.program.now setting.now.nodes setting.now.options
+    requires wires { length wires.now ≡ setting.now.nodes.count }
+    ensures told { IfOk result (IsTold program.now setting.now.nodes.count
+        (options_of setting.now)
         (turns_of_logs parts.now.logs.items)) }
     ensures matched { OnOk result (AreMatched (turns_of_logs parts.now.logs.items)
         wires.now) }
     ensures taken { OnOk result (All IsAllGiven wires.now) }
-    ensures mismatch { result ≡ Err Mismatch → IsUntold setting.now.program.now setting.now.nodes
-        setting.now.options
+    ensures mismatch { result ≡ Err Mismatch → IsUntold program.now setting.now.nodes.count
+        (options_of setting.now)
         (turns_of_logs parts.now.logs.items) wires.now }
 {
     let logs = parts.logs.as_slice();
@@ -94,19 +98,19 @@ fn are_all_given(wires: &[Mailbox]) -> bool
 // How the nodes ended, and the races.
 fn findings_of(
     alloc: Global,
-    nodes: u8,
+    nodes: Nodes,
     acts: &[Act],
     traces: &[Trace],
 ) -> Result<Findings, AllocError>
     requires acts { All (λ act. act.node < NODES) acts.now }
-    requires traces { AreTracesOf nodes traces.now }
+    requires traces { AreTracesOf nodes.count traces.now }
     requires raceless { AreRacesOf traces.now [] → IsRaceFree acts.now }
-    ensures ends { IfOk result (λ found. found.ends.items ≡ ends_of nodes acts.now) }
+    ensures ends { IfOk result (λ found. found.ends.items ≡ ends_of nodes.count acts.now) }
     ensures races { IfOk result (λ found. AreRacesOf traces.now found.races.items) }
     ensures first { IfOk result (λ found. MatchOption found.first_race (IsRaceFree acts.now)
         (IsFirstRace acts.now)) }
 {
-    let ends = ends(alloc, nodes, acts)?;
+    let ends = ends(alloc, nodes.number(), acts)?;
     let races = races(alloc, traces)?;
     let first_race = first_of(alloc, races.as_slice(), acts)?;
     Ok(Findings {

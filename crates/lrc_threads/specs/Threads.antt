@@ -1,5 +1,5 @@
 -- What the threads of a run owe.
-use Rattle.std.specs.Prelude.{◌≡◌, ◌<◌, ℕ, ◌+◌, Bool, Option, None, Some, List, length, map, slice_get}
+use Rattle.std.specs.Prelude.{◌≡◌, ◌<◌, ℕ, Bool, Option, None, Some, List, length, map, slice_get}
 use Rattle.std.specs.List.{enumerate_from, list_any}
 use Rattle.lrc_lang.specs.declared.program.Program.{Program}
 use Rattle.lrc_trace.specs.Trace.{TraceRecord}
@@ -12,21 +12,23 @@ use Rattle.lrc_threads.specs.declared.nodes.PastOf.{PastOf}
 use Rattle.lrc_threads.specs.declared.stop.Stop.{Stop}
 use Rattle.lrc_threads.specs.Worker.{Leaves, is_ready_after}
 
--- a thread owes the past of this node
-pub record IsOwed (program : Program) (nodes : ℕ) (options : OptionsRecord) (n : ℕ) (owed : PastOf) : Type 0 where
-  pub its_program : owed.program.now ≡ program
-  pub its_nodes : owed.member.nodes ≡ nodes
-  pub its_options : owed.member.options ≡ options
-  pub its_number : owed.member.me ≡ n
-
--- threads owe the pasts of the nodes from one on
-abbrev pub AreOwedFrom : Program → ℕ → OptionsRecord → ℕ → List PastOf → Type 0
-AreOwedFrom program nodes options first owed =
-    (place : ℕ) (one : PastOf) → slice_get owed place ≡ Some one → IsOwed program nodes options (first + place) one
-
 -- this is what is left of a node that started like this and lived on a thread
 abbrev pub IsPast : Node → Past → Type 0
 IsPast start past = Leaves start past.log.items past.trace past.is_ready past.stop
+
+-- the node whose past a thread owes, before its first turn
+abbrev pub node_of : PastOf → Node
+node_of owed = fresh_node owed.program.now owed.member.nodes owed.member.options owed.member.me
+
+-- these are the pasts that threads owe, in order
+pub record ArePastsOwed (owed : List PastOf) (pasts : List Past) : Type 0 where
+  pub count : length pasts ≡ length owed
+  pub each : (n : ℕ) (one : PastOf) (past : Past) → slice_get owed n ≡ Some one → slice_get pasts n ≡ Some past → IsPast (node_of one) past
+
+-- threads owe the pasts of the first nodes of a program, from node 0 up
+abbrev pub AreOwed : Program → ℕ → OptionsRecord → List PastOf → Type 0
+AreOwed program nodes options owed =
+    (n : ℕ) (one : PastOf) → slice_get owed n ≡ Some one → node_of one ≡ fresh_node program nodes options n
 
 -- pasts of the nodes of a program, as many as there are, from node 0 up
 abbrev pub AreFirstPasts : Program → ℕ → OptionsRecord → List Past → Type 0

@@ -2,15 +2,17 @@
 
 ghost use Rattle.std.specs.Prelude.{◌≡◌, ◌<◌, ◌≤◌, [], IfOk, length, map, vec_capacity};
 ghost use Rattle.lrc_protocol.specs.Node.{fresh_node};
-ghost use Rattle.lrc_threads.specs.Threads.{AreFirstPasts, AreOwedFrom, ArePastsOf, IsPast};
+ghost use Rattle.lrc_node.specs.Options.{options_of};
+ghost use Rattle.lrc_threads.specs.Threads.{AreFirstPasts, ArePastsOf, ArePastsOwed, IsPast, node_of};
 
 use crate::coded::Coded;
 use crate::gate::Gate;
 use crate::life::Past;
-use crate::setting::{Member, Setting};
+use crate::member::Member;
 use crate::thread::{on_thread, unborn};
 use lrc_lang::program::Program;
 use lrc_post::Post;
+use lrc_setting::setting::Setting;
 use std::alloc::{AllocError, Global};
 use std::sync::Wait;
 use std::thread;
@@ -24,7 +26,7 @@ struct PastOf<'p> {
 }
 
 impl<'p> Promise<Past> for PastOf<'p> {
-    ghost kept_by = { λ p r. IsPast (fresh_node p.program.now p.member.nodes p.member.options p.member.me) r };
+    ghost kept_by = { λ owed past. IsPast (node_of owed) past };
 }
 
 /// Runs all nodes of a program and returns what is left of them, from node 0 up. Each node lives on a separate thread
@@ -34,38 +36,39 @@ impl<'p> Promise<Past> for PastOf<'p> {
 pub fn pasts_of<C: Coded + Sync, G: Gate + Sync, R: Threads + Wait + Sync>(
     rt: &R,
     alloc: Global,
-    setting: &Setting<'_>,
+    program: &Program,
+    setting: &Setting,
     code: &C,
     post: &Post,
     gate: &G,
 ) -> Result<Vec<Past>, AllocError>
-    requires code { C.program_of code.now ≡ setting.now.program.now }
-    requires few { setting.now.nodes ≤ 16 }
-    ensures { IfOk result (λ pasts. ArePastsOf setting.now.program.now setting.now.nodes
-        setting.now.options pasts.items) }
+    requires code { C.program_of code.now ≡ program.now }
+    ensures { IfOk result (λ pasts. ArePastsOf program.now setting.now.nodes.count
+        (options_of setting.now) pasts.items) }
 {
-    // The scope's closure captures these, and not the setting, whose type names a lifetime.
-    let (program, nodes, options) = (setting.program, setting.nodes, &setting.options);
     thread::scope(
         thread::scope_env(),
         rt,
         |scope| -> Result<Vec<Past>, AllocError>
-            requires { (C.program_of code.now ≡ program.now) × (nodes ≤ 16) }
-            ensures { IfOk result (λ pasts. ArePastsOf program.entry.now nodes options.entry.now
-                pasts.items) }
+            requires { C.program_of code.now ≡ program.now }
+            ensures { IfOk result (λ pasts. ArePastsOf program.entry.now
+                setting.entry.now.nodes.count
+                (options_of setting.entry.now) pasts.items) }
         {
+            let nodes = setting.nodes.number();
             let room = Vec::with_capacity(alloc, usize::from(nodes))?;
             let mut threads = Vec::with_capacity(alloc, usize::from(nodes))?;
             for me in 0..nodes {
                 let body = move || -> Past
-                    requires { (me < nodes) × (nodes ≤ 16) }
-                    ensures { IsPast (fresh_node (C.program_of code.entry.now) nodes
-                        options.entry.now me) result }
+                    requires { me < setting.now.nodes.count }
+                    ensures { IsPast (fresh_node (C.program_of code.entry.now)
+                        setting.entry.now.nodes.count
+                        (options_of setting.entry.now) me) result }
                 {
-                    let member = Member::new(nodes, options, me);
+                    let member = Member::new(setting, me);
                     on_thread(rt, alloc, code.code(), member, post, gate)
                 };
-                let member = Member::new(nodes, options, me);
+                let member = Member::new(setting, me);
                 let owed = PastOf { program, member };
                 let Ok(thread) = scope.spawn_with(owed, body) else {
                     post.close(rt);
@@ -76,32 +79,23 @@ pub fn pasts_of<C: Coded + Sync, G: Gate + Sync, R: Threads + Wait + Sync>(
                     break;
                 }
             }
-            let setting = Setting {
-                program,
-                nodes,
-                options: *options,
-            };
-            Ok(filled(alloc, &setting, joined(rt, &setting, room, threads)))
+            let pasts = joined(rt, room, threads);
+            Ok(filled(alloc, program, setting, pasts))
         },
     )
 }
 
-// What is left of threads that are joined in order. There is room for what the nodes did.
+// What is left of threads that are joined in order, as they promised. There is room for it.
 fn joined<R: Threads>(
     rt: &R,
-    setting: &Setting<'_>,
     room: Vec<Past>,
     threads: Vec<PromisedHandle<Past, PastOf<'_>>>,
 ) -> Vec<Past>
     requires none { room.items ≡ [] }
-    requires room { setting.now.nodes ≤ vec_capacity room }
-    requires few { length threads.items ≤ setting.now.nodes }
-    requires owed { AreOwedFrom setting.now.program.now setting.now.nodes setting.now.options 0
-        (map (λ handle. handle.promise) threads.items) }
-    ensures pasts { AreFirstPasts setting.now.program.now setting.now.nodes setting.now.options
+    requires room { length threads.items ≤ vec_capacity room }
+    ensures owed { ArePastsOwed (map (λ handle. handle.promise) threads.entry.items)
         result.items }
-    ensures few { length result.items ≤ setting.now.nodes }
-    ensures room { setting.now.nodes ≤ vec_capacity result }
+    ensures room { vec_capacity result ≡ vec_capacity room }
 {
     let mut pasts = room;
     for thread in threads {
@@ -110,20 +104,20 @@ fn joined<R: Threads>(
     pasts
 }
 
-// What is left of all nodes, of which some may have had no thread. There is room for it.
-fn filled(alloc: Global, setting: &Setting<'_>, before: Vec<Past>) -> Vec<Past>
-    requires few { length before.items ≤ setting.now.nodes }
-    requires room { setting.now.nodes ≤ vec_capacity before }
-    requires pasts { AreFirstPasts setting.now.program.now setting.now.nodes setting.now.options
+// What is left of all nodes of a program, of which some may have had no thread. There is room for it.
+fn filled(alloc: Global, program: &Program, setting: &Setting, before: Vec<Past>) -> Vec<Past>
+    requires few { length before.items ≤ setting.now.nodes.count }
+    requires room { setting.now.nodes.count ≤ vec_capacity before }
+    requires pasts { AreFirstPasts program.now setting.now.nodes.count (options_of setting.now)
         before.items }
-    ensures { ArePastsOf setting.now.program.now setting.now.nodes setting.now.options
+    ensures { ArePastsOf program.now setting.now.nodes.count (options_of setting.now)
         result.items }
 {
     let mut pasts = before;
-    let nodes = setting.nodes;
+    let nodes = setting.nodes.number();
     let first = pasts.len() as u8;
     for me in first..nodes {
-        let member = Member::new(nodes, &setting.options, me);
+        let member = Member::new(setting, me);
         pasts.push_reserved(unborn(alloc, &member));
     }
     pasts

@@ -12,7 +12,7 @@ ghost use Rattle.lrc_threads.specs.Worker.{no_turn_yet};
 use crate::gate::Gate;
 use crate::life::Past;
 use crate::mail::Line;
-use crate::setting::Member;
+use crate::member::Member;
 use crate::stop::Stop;
 use crate::worker::work;
 use lrc_exec::code::Code;

@@ -176,9 +176,12 @@ all_by_nodes nodes (w ∷ history) all =
     here (Put from to stamp bytes) is = lt-ltb from nodes (is from to stamp bytes refl)
     here (Took me place) is = refl
 
-pub input_is : (before stamp : ℕ) (old new : List (Option Flying)) (a b : Input) → a ≡ b → (E : Type 0) (result : Result Bool E)
-    → IfOk result (λ is. IsLeft before stamp a old new is) → IfOk result (λ is. IsLeft before stamp b old new is)
-input_is before stamp old new a b same E result so = subst (λ i. IfOk result (λ is. IsLeft before stamp i old new is)) same so
+-- the same of a turn with this stamp and input
+pub turn_is : (before came stamp : ℕ) (given input : Input) (old new : List (Option Flying)) → came ≡ stamp → given ≡ input → (E : Type 0)
+    (result : Result Bool E) → IfOk result (λ is. IsLeft before came given old new is) → IfOk result (λ is. IsLeft before stamp input old new is)
+turn_is before came stamp given input old new stamp_is input_is E result so =
+    subst (λ i. IfOk result (λ is. IsLeft before stamp i old new is)) input_is
+    (subst (λ n. IfOk result (λ is. IsLeft before n given old new is)) stamp_is so)
 
 -- each put of each mailbox by one of so many nodes
 abbrev by_nodes_in : ℕ → MailboxRecord → Bool

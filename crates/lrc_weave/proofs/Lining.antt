@@ -147,17 +147,18 @@ module _ {V : Type 0} (f : V → Line) where
 -- ---- the messages of a turn
 
 module _ (stamp : ℕ) (out : List EnvelopeRecord) (k : ℕ) (e : EnvelopeRecord) (old mid new : List Line) (b : Bool) (within : k < length out)
-    (is : e ≡ slice_index_or out k e) (before : AreAllNext (map (sent_as stamp) (take k out)) old mid true)
-    (this : AreAllNext (sent_as stamp e ∷ []) mid new b) where
+    (is : e ≡ slice_index_or out k e) (before : AreAllNext (map (sent_as stamp) (take k out)) old mid true) (came : ℕ)
+    (this : AreAllNext (sent_as came e ∷ []) mid new b) (came_is : came ≡ stamp) where
+  next_is : (c : Bool) → b ≡ c → AreAllNext (sent_as stamp e ∷ []) mid new c
+  next_is c is_so = subst (λ n. AreAllNext (sent_as n e ∷ []) mid new c) came_is (subst (AreAllNext (sent_as came e ∷ []) mid new) is_so this)
+
   pub turn_more : b ≡ true → AreAllNext (map (sent_as stamp) (take (k + 1) out)) old new true
   turn_more is_so =
-      all_more (map (sent_as stamp)) (map-append (sent_as stamp)) out k e old mid new (read out k e within is) before
-      (subst (AreAllNext (sent_as stamp e ∷ []) mid new) is_so this)
+      all_more (map (sent_as stamp)) (map-append (sent_as stamp)) out k e old mid new (read out k e within is) before (next_is true is_so)
 
   pub turn_not : b ≡ false → AreAllNext (map (sent_as stamp) out) old new false
   turn_not none =
-      all_no_more (map (sent_as stamp)) (map-append (sent_as stamp)) out k e old mid new (read out k e within is) before
-      (subst (AreAllNext (sent_as stamp e ∷ []) mid new) none this)
+      all_no_more (map (sent_as stamp)) (map-append (sent_as stamp)) out k e old mid new (read out k e within is) before (next_is false none)
 
 pub turn_all : (stamp : ℕ) (out : List EnvelopeRecord) (k : ℕ) (old new : List Line) → k ≡ length out
     → AreAllNext (map (sent_as stamp) (take k out)) old new true → AreAllNext (map (sent_as stamp) out) old new true
@@ -172,14 +173,10 @@ sent_not log old new apart = (
   λ sent. absurd (apart.2 [] (sent apart.0 apart.1 ∙ sym (append-nil (map Some (sent_to apart.0 log))))),
 )
 
-module _ (log : List EntryRecord) (old mid new : List Line) (k : ℕ) (entry : EntryRecord) (stamp : ℕ) (out : List EnvelopeRecord) (b : Bool)
-    (within : k < length log) (is : entry ≡ slice_index_or log k entry) (before : AreAllNext (all_sent (take k log)) old mid true)
-    (this : AreAllNext (map (sent_as stamp) out) mid new b) (stamp_is : stamp ≡ entry.stamp) (out_is : out ≡ entry.turn.out) where
-  one : map (sent_as stamp) out ≡ all_sent (entry ∷ [])
-  one = ap (λ n. map (sent_as n) out) stamp_is ∙ ap (map (sent_as entry.stamp)) out_is ∙ sym (append-nil (sent_by entry))
-
+module _ (log : List EntryRecord) (old mid new : List Line) (k : ℕ) (entry : EntryRecord) (b : Bool) (within : k < length log)
+    (is : entry ≡ slice_index_or log k entry) (before : AreAllNext (all_sent (take k log)) old mid true) (this : AreAllNext (sent_by entry) mid new b) where
   this_is : (c : Bool) → b ≡ c → AreAllNext (all_sent (entry ∷ [])) mid new c
-  this_is c e = subst (λ ms. AreAllNext ms mid new c) one (subst (AreAllNext (map (sent_as stamp) out) mid new) e this)
+  this_is c e = subst (λ ms. AreAllNext ms mid new c) (sym (append-nil (sent_by entry))) (subst (AreAllNext (sent_by entry) mid new) e this)
 
   pub log_more : b ≡ true → AreAllNext (all_sent (take (k + 1) log)) old new true
   log_more is_so =

@@ -6,7 +6,7 @@ use Rattle.std.proofs.lemmas.List.{length-map}
 use Rattle.std.proofs.lemmas.Option.{get_or_from_slice_get, slice_get_within}
 use Rattle.lrc_post.specs.declared.parcel.Wire.{Wire}
 use Rattle.lrc_post.specs.Mailbox.{MailboxRecord}
-use Rattle.lrc_protocol.specs.Run.{Input, EntryRecord, Flying}
+use Rattle.lrc_protocol.specs.Run.{EntryRecord, Flying}
 use Rattle.lrc_weave.specs.Logs.{sent_to}
 use Rattle.lrc_weave.specs.Matched.{message_of, puts_by, takes_in, Takes, AreAlike, AreMatched}
 use Rattle.lrc_weave.specs.Compared.{is_by_node, AreByNodes, AreOwn, AreAllOwn, AreSent, line_at, puts_by_each, taken_in, IsLeft}
@@ -17,17 +17,17 @@ use Rattle.lrc_weave.proofs.Comparing.{TakenSo, so_step, so_not, UpTo, up_to_mor
 
 -- ---- the takes of a log
 
-module _ (history : List Wire) (log : List EntryRecord) (k before : ℕ) (rest new : List Wire) (entry : EntryRecord) (stamp : ℕ) (input : Input) (b : Bool)
-    (within : k < length log) (is : entry ≡ slice_index_or log k entry) (so : TakenSo history log k before rest)
-    (this : IsLeft before stamp input (taken_in history rest) (taken_in history new) b) (stamp_is : stamp ≡ entry.stamp) (input_is : input ≡ entry.input) where
+module _ (history : List Wire) (log : List EntryRecord) (k before : ℕ) (rest new : List Wire) (entry : EntryRecord) (b : Bool) (within : k < length log)
+    (is : entry ≡ slice_index_or log k entry) (so : TakenSo history log k before rest) (old later : List Wire) (old_is : old ≡ history)
+    (later_is : later ≡ history) (this : IsLeft before entry.stamp entry.input (taken_in old rest) (taken_in later new) b) where
   left : (c : Bool) → b ≡ c → IsLeft before entry.stamp entry.input (taken_in history rest) (taken_in history new) c
   left c e =
-      subst (λ n. IsLeft before n entry.input (taken_in history rest) (taken_in history new) c) stamp_is
-      (subst (λ i. IsLeft before stamp i (taken_in history rest) (taken_in history new) c) input_is
-      (subst (IsLeft before stamp input (taken_in history rest) (taken_in history new)) e this))
+      subst (λ h. IsLeft before entry.stamp entry.input (taken_in h rest) (taken_in history new) c) old_is
+      (subst (λ h. IsLeft before entry.stamp entry.input (taken_in old rest) (taken_in h new) c) later_is
+      (subst (IsLeft before entry.stamp entry.input (taken_in old rest) (taken_in later new)) e this))
 
-  pub takes_more : b ≡ true → TakenSo history log (k + 1) stamp new
-  takes_more is_so =
+  pub takes_more : b ≡ true → (stamp : ℕ) → stamp ≡ entry.stamp → TakenSo history log (k + 1) stamp new
+  takes_more is_so stamp stamp_is =
       subst (λ n. TakenSo history log (k + 1) n new) (sym stamp_is)
       (so_step history log k before rest new entry (read log k entry within is) so (left true is_so))
 

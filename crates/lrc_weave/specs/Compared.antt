@@ -8,7 +8,10 @@ use Rattle.lrc_post.specs.declared.parcel.Wire.TheVariants.{Put, Took}
 use Rattle.lrc_post.specs.Mailbox.{MailboxRecord}
 use Rattle.lrc_protocol.specs.Run.{Input, run, taken, EntryRecord, Flying}
 use Rattle.lrc_weave.specs.Logs.{sent_to}
-use Rattle.lrc_weave.specs.Matched.{is_put_by, place_taken, message_at, own_in, own_of}
+use Rattle.lrc_weave.specs.declared.lines.Lines.{Lines}
+use Rattle.lrc_weave.specs.declared.putting.PutsByNode.{PutsByNode}
+use Rattle.lrc_weave.specs.declared.takes.TakesLeft.{TakesLeft}
+use Rattle.lrc_weave.specs.Matched.{is_put_by, message_of, place_taken, message_at, own_in, own_of}
 
 -- a message as a turn with this stamp sends it
 abbrev pub sent_as : ℕ → EnvelopeRecord → Flying
@@ -35,6 +38,18 @@ puts_by_each nodes history = map (λ node. filter (is_put_by node) history) (ran
 abbrev pub with_put : List (List Wire) → Wire → List (List Wire)
 with_put lines (Put from to stamp bytes) = slice_set lines from (slice_index_or lines from [] ++ Put from to stamp bytes ∷ [])
 with_put lines (Took me place) = lines
+
+-- the puts of a mailbox, a line for each node
+abbrev pub puts_in : PutsByNode → List (List Wire)
+puts_in puts = map (λ line. map (λ wire. wire.now) line.items) puts.lines.items
+
+-- the puts of a node that are still to be compared, a line for each mailbox
+abbrev pub puts_left : Lines → List (List Wire)
+puts_left lines = map (λ line. map (λ wire. wire.now) line.now) lines.lines.items
+
+-- their messages
+abbrev pub messages_left : Lines → List (List (Option Flying))
+messages_left lines = map (λ line. map (λ wire. message_of wire.now) line.now) lines.lines.items
 
 -- the line of what a node put into the mailbox of an owner
 abbrev pub line_at : List (List (Option Flying)) → ℕ → List (Option Flying)
@@ -72,6 +87,10 @@ IsTakenAs message envelope before stamp =
 -- what was taken according to the rest of a history
 abbrev pub taken_in : List Wire → List Wire → List (Option Flying)
 taken_in history rest = map (message_at history) (filter_map place_taken rest)
+
+-- the messages of the takes that are still to be compared
+abbrev pub taken_left : TakesLeft → List (Option Flying)
+taken_left left = taken_in left.history.now left.rest.now
 
 -- a turn whose node's turn before had that stamp takes the first of these messages, and those are left; a run takes none
 abbrev pub Leaves : ℕ → ℕ → Input → List (Option Flying) → List (Option Flying) → Type 0

@@ -9,10 +9,12 @@ mod events;
 mod fault;
 mod history;
 pub mod laws;
+mod lines;
 mod order;
 mod owner;
 mod putting;
 mod spelled;
+mod takes;
 mod woven;
 
 pub use fault::WeaveFault;

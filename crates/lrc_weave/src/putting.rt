@@ -1,19 +1,24 @@
 // What each node put into each mailbox.
 
-ghost use Rattle.std.specs.Prelude.{◌≡◌, ◌<◌, [], All, IfOk, OnOk, length, map, replicate, slice_index_or};
-ghost use Rattle.lrc_weave.specs.Compared.{puts_by_each, with_put};
+ghost use Rattle.std.specs.Prelude.{◌≡◌, IfOk, OnOk, map, replicate, []};
+ghost use Rattle.lrc_weave.specs.Compared.{puts_by_each, puts_in, with_put};
 
 use lrc_post::{Mailbox, Wire};
 use std::alloc::{AllocError, Global};
 
-/// Returns for each mailbox the puts of each of the `nodes` nodes, in order.
+/// The puts of one mailbox: for each node a line of those that it made, in order.
+#[derive(Drop)]
+pub(crate) struct PutsByNode<'w> {
+    pub lines: Vec<Vec<&'w Wire>>,
+}
+
+/// Returns for each mailbox the puts of each of the `nodes` nodes.
 pub(crate) fn all_puts(
     alloc: Global,
     nodes: usize,
     wires: &[Mailbox],
-) -> Result<Vec<Vec<Vec<&Wire>>>, AllocError>
-    ensures { IfOk result (λ all. map (λ lines.
-        map (λ line. map (λ wire. wire.now) line.items) lines.items) all.items
+) -> Result<Vec<PutsByNode<'_>>, AllocError>
+    ensures { IfOk result (λ all. map puts_in all.items
         ≡ map (λ mailbox. puts_by_each nodes mailbox.history) wires.now) }
 {
     let mut all = Vec::new(alloc);
@@ -23,59 +28,40 @@ pub(crate) fn all_puts(
     Ok(all)
 }
 
-/// Returns the lines of one node: what it put into each mailbox.
-pub(crate) fn lines_of<'p, 'w>(
-    alloc: Global,
-    puts: &'p [Vec<Vec<&'w Wire>>],
-    node: usize,
-) -> Result<Vec<&'p [&'w Wire]>, AllocError>
-    requires { All (λ own. node < length own.items) puts.now }
-    ensures { IfOk result (λ lines. map (λ line. map (λ wire. wire.now) line.now) lines.items
-        ≡ map (λ own. slice_index_or
-        (map (λ line. map (λ wire. wire.now) line.items) own.items) node []) puts.now) }
-{
-    let mut lines = Vec::new(alloc);
-    for own in puts {
-        lines.push(own[node].as_slice())?;
-    }
-    Ok(lines)
-}
-
 // The puts of one mailbox.
-fn puts_of(alloc: Global, nodes: usize, history: &[Wire]) -> Result<Vec<Vec<&Wire>>, AllocError>
-    ensures { IfOk result (λ lines. map (λ line. map (λ wire. wire.now) line.items) lines.items
-        ≡ puts_by_each nodes history.now) }
+fn puts_of(alloc: Global, nodes: usize, history: &[Wire]) -> Result<PutsByNode<'_>, AllocError>
+    ensures { IfOk result (λ puts. puts_in puts ≡ puts_by_each nodes history.now) }
 {
-    let mut lines = empty_lines(alloc, nodes)?;
+    let mut puts = PutsByNode::none(alloc, nodes)?;
     for wire in history {
-        push_put(&mut lines, wire)?;
+        puts.add(wire)?;
     }
-    Ok(lines)
+    Ok(puts)
 }
 
-// So many lines with nothing in them.
-fn empty_lines<'w>(alloc: Global, nodes: usize) -> Result<Vec<Vec<&'w Wire>>, AllocError>
-    ensures { IfOk result (λ lines. map (λ line. map (λ wire. wire.now) line.items) lines.items
-        ≡ replicate nodes []) }
-{
-    let mut lines = Vec::with_capacity(alloc, nodes)?;
-    for _node in 0..nodes {
-        lines.push(Vec::new(alloc))?;
+impl<'w> PutsByNode<'w> {
+    // So many lines with nothing in them.
+    fn none(alloc: Global, nodes: usize) -> Result<PutsByNode<'w>, AllocError>
+        ensures { IfOk result (λ puts. puts_in puts ≡ replicate nodes []) }
+    {
+        let mut lines = Vec::with_capacity(alloc, nodes)?;
+        for _node in 0..nodes {
+            lines.push(Vec::new(alloc))?;
+        }
+        Ok(PutsByNode { lines })
     }
-    Ok(lines)
-}
 
-// Puts an entry behind those of its node, if it is a put by a node that has a line.
-fn push_put<'w>(lines: &mut Vec<Vec<&'w Wire>>, wire: &'w Wire) -> Result<(), AllocError>
-    ensures { OnOk result (map (λ line. map (λ wire. wire.now) line.items) lines.new.items
-        ≡ with_put (map (λ line. map (λ wire. wire.now) line.items) lines.old.items) wire.now) }
-{
-    let Wire::Put { from, .. } = wire else {
-        return Ok(());
-    };
-    let Some(line) = lines.get_mut(usize::from(*from)) else {
-        return Ok(());
-    };
-    line.push(wire)?;
-    Ok(())
+    // Puts an entry behind those of its node, if it is a put by a node that has a line.
+    fn add(&mut self, wire: &'w Wire) -> Result<(), AllocError>
+        ensures { OnOk result (puts_in self.new ≡ with_put (puts_in self.old) wire.now) }
+    {
+        let Wire::Put { from, .. } = wire else {
+            return Ok(());
+        };
+        let Some(line) = self.lines.get_mut(usize::from(*from)) else {
+            return Ok(());
+        };
+        line.push(wire)?;
+        Ok(())
+    }
 }

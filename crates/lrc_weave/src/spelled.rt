@@ -13,35 +13,49 @@ use lrc_wire::{EncodeFault, WireFault, decode, encode, spell_over};
 use std::alloc::{AllocError, Global};
 use std::mem;
 
-/// Returns whether bytes encode a message, in either version of the format. It overwrites the spare bytes with the
-/// encoded message.
-pub(crate) fn is_spelled(
-    spare: &mut Vec<u8>,
-    bytes: &[u8],
-    envelope: &Envelope,
-) -> Result<bool, AllocError>
-    ensures { IfOk result (λ is. IsTrue is ↔ (envelope_of bytes.now ≡ Ok envelope.now)) }
-{
-    match write_over(spare, envelope) {
-        Ok(()) => {}
-        Err(EncodeFault::TooLong) => return is_long(*spare.allocator(), bytes),
-        Err(EncodeFault::NoMemory) => return Err(AllocError),
-    }
-    if *bytes == *spare.as_slice() {
-        return Ok(true);
-    }
-    is_read_as(*spare.allocator(), bytes, spare.as_slice())
+/// Compares messages with bytes. It keeps the memory of the message that it wrote last.
+#[derive(Drop)]
+pub(crate) struct Speller {
+    written: Vec<u8>,
 }
 
-// Writes a message in place of spare bytes, whose memory it takes.
-fn write_over(spare: &mut Vec<u8>, envelope: &Envelope) -> Result<(), EncodeFault>
-    ensures written { OnOk result (Spells Two envelope.now spare.new.items) }
-    ensures too_long { IsErrOf result EncodeFault.TooLong
-        ↔ (MOST_BODY_BYTES < length (body Two runs_of envelope.now.message)) }
-{
-    let nothing = Vec::new(*spare.allocator());
-    *spare = spell_over(mem::replace(spare, nothing), envelope)?;
-    Ok(())
+impl Speller {
+    /// Returns a speller that has written nothing.
+    pub(crate) fn new(alloc: Global) -> Speller {
+        Speller {
+            written: Vec::new(alloc),
+        }
+    }
+
+    /// Returns whether bytes encode a message, in either version of the format.
+    pub(crate) fn is_spelled(
+        &mut self,
+        bytes: &[u8],
+        envelope: &Envelope,
+    ) -> Result<bool, AllocError>
+        ensures { IfOk result (λ is. IsTrue is ↔ (envelope_of bytes.now ≡ Ok envelope.now)) }
+    {
+        match self.write(envelope) {
+            Ok(()) => {}
+            Err(EncodeFault::TooLong) => return is_long(*self.written.allocator(), bytes),
+            Err(EncodeFault::NoMemory) => return Err(AllocError),
+        }
+        if *bytes == *self.written.as_slice() {
+            return Ok(true);
+        }
+        is_read_as(*self.written.allocator(), bytes, self.written.as_slice())
+    }
+
+    // Writes a message in place of the last one, whose memory it takes.
+    fn write(&mut self, envelope: &Envelope) -> Result<(), EncodeFault>
+        ensures written { OnOk result (Spells Two envelope.now self.new.written.items) }
+        ensures too_long { IsErrOf result EncodeFault.TooLong
+            ↔ (MOST_BODY_BYTES < length (body Two runs_of envelope.now.message)) }
+    {
+        let nothing = Vec::new(*self.written.allocator());
+        self.written = spell_over(mem::replace(&mut self.written, nothing), envelope)?;
+        Ok(())
+    }
 }
 
 // That bytes spell no message that is too long to be written. Where they spell one in the older version of the format, as no node

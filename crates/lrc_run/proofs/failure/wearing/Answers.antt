@@ -2,6 +2,7 @@ use Rattle.std.proofs.Common.{◌≡◌, ◌∙◌, ◌<◌, ◌^◌, IsErrAnd, 
 use Rattle.lrc_protocol.specs.declared.event.Event.{Event}
 use Rattle.lrc_weave.specs.declared.fault.WeaveFault.{WeaveFault}
 use Rattle.lrc_weave.specs.declared.fault.WeaveFault.TheVariants.{Mismatch}
+use Rattle.lrc_node.specs.Options.{options_of}
 use Rattle.lrc_run.specs.Halts.{IsPlayedOut}
 use Rattle.lrc_run.proofs.Halting.{same_fault}
 use Rattle.lrc_run.proofs.Sources.{untrue}
@@ -19,15 +20,19 @@ returns-then-not-branch-clause-mismatch c = λ is.
 
 pub returns-in_err-events-clause-mismatch : goal.returns-in_err-events-clause-mismatch
 returns-in_err-events-clause-mismatch c = λ is.
-    let setting = c.args.setting.now in
+    let program = c.args.program.now in
+    let nodes = c.args.setting.now.nodes.count in
+    let options = options_of c.args.setting.now in
     let so : IsTrue c.in_ok-are_takes_sent.field-0 = search rules in
     inr (inl (c.in_err-events.ensures.mismatch (same_fault c.from_residual-in_err-events.result c.in_err-events.field-0.0
     c.from_residual-in_err-events.ensures.1 is)
-    setting.program.now setting.nodes setting.options c.requires.turns (c.in_ok-are_takes_sent.ensures.0 so)))
+    program nodes options c.requires.turns (c.in_ok-are_takes_sent.ensures.0 so)))
 
 pub returns-in_err-wears_out-clause-mismatch : goal.returns-in_err-wears_out-clause-mismatch
 returns-in_err-wears_out-clause-mismatch c = λ is.
-    let setting = c.args.setting.now in
+    let program = c.args.program.now in
+    let nodes = c.args.setting.now.nodes.count in
+    let options = options_of c.args.setting.now in
     let events : List Event = c.in_ok-events.events.items in
     let so : IsTrue c.in_ok-are_takes_sent.field-0 = search rules in
     let played = c.in_err-wears_out.ensures.mismatch (ap Err (fault_is c.from_residual-in_err-wears_out.result c.in_err-wears_out.field-0.0
@@ -35,19 +40,21 @@ returns-in_err-wears_out-clause-mismatch c = λ is.
     inr (inr (
       events,
       record {
-        events_are = c.in_ok-events.ensures.events setting.program.now setting.nodes setting.options c.requires.turns
+        events_are = c.in_ok-events.ensures.events program nodes options c.requires.turns
             (c.in_ok-are_takes_sent.ensures.0 so);
         few = subst (λ (events : List Event). length events < 2 ^ 64) c.as_slice.ensures.value c.in_err-wears_out.ensures.few;
-        played = subst (IsPlayedOut setting.program.now setting.nodes setting.options) c.as_slice.ensures.value played;
+        played = subst (IsPlayedOut program nodes options) c.as_slice.ensures.value played;
       },
     ))
 
 pub returns-clause-worn : goal.returns-clause-worn
 returns-clause-worn c =
-    let setting = c.args.setting.now in
+    let program = c.args.program.now in
+    let nodes = c.args.setting.now.nodes.count in
+    let options = options_of c.args.setting.now in
     let so : IsTrue c.in_ok-are_takes_sent.field-0 = search rules in
     record {
-      events_are = c.in_ok-events.ensures.events setting.program.now setting.nodes setting.options c.requires.turns (c.in_ok-are_takes_sent.ensures.0 so);
+      events_are = c.in_ok-events.ensures.events program nodes options c.requires.turns (c.in_ok-are_takes_sent.ensures.0 so);
       few = search rules;
       wears = search rules;
     }

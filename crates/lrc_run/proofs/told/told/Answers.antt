@@ -4,6 +4,7 @@ use Rattle.lrc_judge.specs.Races.{AreNamedRaces}
 use Rattle.lrc_trace.specs.Conflict.{IsFirstRace, IsRaceFree}
 use Rattle.lrc_world.specs.Ends.{ends_of}
 use Rattle.lrc_world.specs.Turned.{HaveLogs, turned_of}
+use Rattle.lrc_node.specs.Options.{options_of}
 use Rattle.lrc_run.specs.Run.{IsUntold, IsWovenReport}
 use Rattle.lrc_run.proofs.Telling.{acts_told, left_over, over_told, raceless_told, races_told, report_told, run_told, traces_told}
 use Rattle.lrc_run.proofs.Telling.{weave_told, woven_told}
@@ -13,39 +14,43 @@ use Rattle.lrc_run.proofs.told.told.Goals as goal
 
 pub findings_of-requires : goal.findings_of-requires
 findings_of-requires c =
-    let s = c.args.setting.now in
+    let program = c.args.program.now in
+    let nodes = c.args.setting.now.nodes.count in
+    let options = options_of c.args.setting.now in
     let parts = c.args.parts.now in
     let run = c.in_ok-run.run' in
     let logs = map (λ log. log.items) parts.logs.items in
-    let m = run_told (λ log. log.items) c.as_slice-logs.result.now parts.logs.items (search rules) s.program.now s.nodes s.options run.events.items
+    let m = run_told (λ log. log.items) c.as_slice-logs.result.now parts.logs.items (search rules) program nodes options run.events.items
     run.acts.items run.in_flight c.requires.turns c.in_ok-run.ensures.makes in
     let acts : c.as_slice-acts.result.now ≡ run.acts.items = search rules in
     let traces : c.as_slice-traces.result.now ≡ parts.traces.items = search rules in
     let its = traces ∙ c.requires.whole.traces_are in
     record {
       acts = subst (All (λ act. act.node < 16)) (sym acts)
-          (acts_told s.program.now s.nodes s.options logs run.events.items run.acts.items run.in_flight m c.requires.few);
-      traces = traces_told s.program.now s.nodes s.options logs run.events.items run.acts.items run.in_flight m c.as_slice-traces.result.now its;
+          (acts_told program nodes options logs run.events.items run.acts.items run.in_flight m c.args.setting.now.nodes.few);
+      traces = traces_told program nodes options logs run.events.items run.acts.items run.in_flight m c.as_slice-traces.result.now its;
       raceless = λ none. subst IsRaceFree (sym acts)
-          (raceless_told s.program.now s.nodes s.options logs run.events.items run.acts.items run.in_flight m c.as_slice-traces.result.now its none);
+          (raceless_told program nodes options logs run.events.items run.acts.items run.in_flight m c.as_slice-traces.result.now its none);
     }
 
 pub returns-then-parts-clause-mismatch : goal.returns-then-parts-clause-mismatch
 returns-then-parts-clause-mismatch c = λ answered.
-    let s = c.args.setting.now in
+    let program = c.args.program.now in
+    let nodes = c.args.setting.now.nodes.count in
+    let options = options_of c.args.setting.now in
     let parts = c.args.parts.now in
     let run = c.in_ok-run.run' in
     let logs = map (λ log. log.items) parts.logs.items in
-    let m = run_told (λ log. log.items) c.as_slice-logs.result.now parts.logs.items (search rules) s.program.now s.nodes s.options run.events.items
+    let m = run_told (λ log. log.items) c.as_slice-logs.result.now parts.logs.items (search rules) program nodes options run.events.items
     run.acts.items run.in_flight c.requires.turns c.in_ok-run.ensures.makes in
-    let woven = weave_told (λ log. log.items) c.as_slice-logs.result.now parts.logs.items (search rules) s.program.now s.nodes s.options run.events.items
+    let woven = weave_told (λ log. log.items) c.as_slice-logs.result.now parts.logs.items (search rules) program nodes options run.events.items
     c.requires.turns c.in_ok-run.ensures.woven in
-    let unfinished : (parts.is_any_ready ≡ true) ⊎ (1 ≤ run.in_flight) → IsUntold s.program.now s.nodes s.options logs c.args.wires.now = λ left.
+    let unfinished : (parts.is_any_ready ≡ true) ⊎ (1 ≤ run.in_flight) → IsUntold program nodes options logs c.args.wires.now = λ left.
     inr (inl (
       run.events.items,
       woven.0,
       woven.1,
-      left_over s.program.now s.nodes s.options logs run.events.items run.acts.items run.in_flight m parts.is_any_ready c.requires.whole.ready_is left,
+      left_over program nodes options logs run.events.items run.acts.items run.in_flight m parts.is_any_ready c.requires.whole.ready_is left,
     )) in
     elim c.then-parts.branch [
       | then-parts-via-then-parts w ↦ unfinished (inl (search rules))
@@ -55,14 +60,16 @@ returns-then-parts-clause-mismatch c = λ answered.
 
 pub returns-clause-told : goal.returns-clause-told
 returns-clause-told c =
-    let s = c.args.setting.now in
+    let program = c.args.program.now in
+    let nodes = c.args.setting.now.nodes.count in
+    let options = options_of c.args.setting.now in
     let parts = c.args.parts.now in
     let run = c.in_ok-run.run' in
     let found = c.in_ok-found.found in
     let logs = map (λ log. log.items) parts.logs.items in
-    let m = run_told (λ log. log.items) c.as_slice-logs.result.now parts.logs.items (search rules) s.program.now s.nodes s.options run.events.items
+    let m = run_told (λ log. log.items) c.as_slice-logs.result.now parts.logs.items (search rules) program nodes options run.events.items
     run.acts.items run.in_flight c.requires.turns c.in_ok-run.ensures.makes in
-    let woven = weave_told (λ log. log.items) c.as_slice-logs.result.now parts.logs.items (search rules) s.program.now s.nodes s.options run.events.items
+    let woven = weave_told (λ log. log.items) c.as_slice-logs.result.now parts.logs.items (search rules) program nodes options run.events.items
     c.requires.turns c.in_ok-run.ensures.woven in
     let told = c.with_findings.result in
     let acts : c.as_slice-acts.result.now ≡ run.acts.items = search rules in
@@ -72,29 +79,29 @@ returns-clause-told c =
     let landed : run.in_flight ≤ 0 = search rules in
     let events : c.as_slice-events.result.now ≡ run.events.items = search rules in
     let read : c.as_slice-logs.result.now ≡ parts.logs.items = search rules in
-    let have : HaveLogs s.program.now s.nodes s.options c.as_slice-events.result.now (map (λ log. log.items) c.as_slice-logs.result.now) =
-    subst (λ events. HaveLogs s.program.now s.nodes s.options events (map (λ log. log.items) c.as_slice-logs.result.now)) (sym events)
-    (subst (λ read. HaveLogs s.program.now s.nodes s.options run.events.items (map (λ log. log.items) read)) (sym read) (m.world, m.runs, m.logs_are)) in
+    let have : HaveLogs program nodes options c.as_slice-events.result.now (map (λ log. log.items) c.as_slice-logs.result.now) =
+    subst (λ events. HaveLogs program nodes options events (map (λ log. log.items) c.as_slice-logs.result.now)) (sym events)
+    (subst (λ read. HaveLogs program nodes options run.events.items (map (λ log. log.items) read)) (sym read) (m.world, m.runs, m.logs_are)) in
     let first : MatchOption found.first_race (IsRaceFree run.acts.items) (IsFirstRace run.acts.items) =
     subst (λ acts. MatchOption found.first_race (IsRaceFree acts) (IsFirstRace acts)) acts c.in_ok-found.ensures.first in
     record {
       woven = λ report reports.
-          let ends : report.ends.items ≡ ends_of s.nodes run.acts.items =
-          ap (λ ends. ends.items) (reports.ends ∙ c.with_findings.ensures.ends) ∙ c.in_ok-found.ensures.ends ∙ ap (ends_of s.nodes) acts in
-          subst (λ events. IsWovenReport s.program.now s.nodes s.options events.items report) (sym c.with_findings.ensures.events)
-          (woven_told s.program.now s.nodes s.options logs run.events.items run.acts.items run.in_flight m report
-          (report_told s.program.now s.nodes s.options logs run.events.items run.acts.items run.in_flight m report
+          let ends : report.ends.items ≡ ends_of nodes run.acts.items =
+          ap (λ ends. ends.items) (reports.ends ∙ c.with_findings.ensures.ends) ∙ c.in_ok-found.ensures.ends ∙ ap (ends_of nodes) acts in
+          subst (λ events. IsWovenReport program nodes options events.items report) (sym c.with_findings.ensures.events)
+          (woven_told program nodes options logs run.events.items run.acts.items run.in_flight m report
+          (report_told program nodes options logs run.events.items run.acts.items run.in_flight m report
           (ap (λ acts. acts.items) (reports.acts ∙ c.with_findings.ensures.acts)) ends reports.turns
           (subst (λ first. MatchOption first (IsRaceFree run.acts.items) (IsFirstRace run.acts.items)) (sym (reports.first ∙ c.with_findings.ensures.first)) first))
           reports.turns woven
-          (over_told s.program.now s.nodes s.options logs run.events.items run.acts.items run.in_flight m parts.is_any_ready c.requires.whole.ready_is none landed)
+          (over_told program nodes options logs run.events.items run.acts.items run.in_flight m parts.is_any_ready c.requires.whole.ready_is none landed)
           c.requires.whole.short);
       turned = ap (λ turned. turned.items) c.with_findings.ensures.turned
-          ∙ c.in_ok-turned.ensures s.program.now s.nodes s.options (omega (arith, c.requires.few)) have
-          ∙ ap (λ events. turned_of s.program.now s.nodes s.options events) events
-          ∙ ap (λ events. turned_of s.program.now s.nodes s.options events.items) (sym c.with_findings.ensures.events);
+          ∙ c.in_ok-turned.ensures program nodes options (omega (arith, c.args.setting.now.nodes.few)) have
+          ∙ ap (λ events. turned_of program nodes options events) events
+          ∙ ap (λ events. turned_of program nodes options events.items) (sym c.with_findings.ensures.events);
       races = subst (λ acts. AreNamedRaces acts.items told.races.items) (sym c.with_findings.ensures.acts)
           (subst (λ races. AreNamedRaces run.acts.items races.items) (sym c.with_findings.ensures.races)
-          (races_told s.program.now s.nodes s.options logs run.events.items run.acts.items run.in_flight m c.as_slice-traces.result.now found.races.items
+          (races_told program nodes options logs run.events.items run.acts.items run.in_flight m c.as_slice-traces.result.now found.races.items
           its c.in_ok-found.ensures.races));
     }

@@ -1,4 +1,5 @@
 use Rattle.std.proofs.Common.{◌≡◌, ◌≤◌, length, vec_capacity}
+use Rattle.lrc_node.specs.Options.{options_of}
 use Rattle.lrc_threads.specs.Threads.{AreFirstPasts}
 use Rattle.lrc_threads.proofs.nodes.filled.Given as goal
 
@@ -6,7 +7,7 @@ use Rattle.lrc_threads.proofs.nodes.filled.Given as goal
 abbrev pub invariant-loop-me : goal.invariant-loop-me
 invariant-loop-me l = record {
   count : length l.pasts.items ≡ l.me;
-  few : l.me ≤ l.nodes;
-  room : l.nodes ≤ vec_capacity l.pasts;
-  pasts : AreFirstPasts l.setting.program.now l.setting.nodes l.setting.options l.pasts.items;
+  few : l.me ≤ l.setting.nodes.count;
+  room : l.setting.nodes.count ≤ vec_capacity l.pasts;
+  pasts : AreFirstPasts l.program l.setting.nodes.count (options_of l.setting) l.pasts.items;
 }

@@ -3,7 +3,7 @@ use Rattle.lrc_post.specs.declared.parcel.Wire.{Wire}
 use Rattle.lrc_weave.specs.Matched.{message_of}
 use Rattle.lrc_weave.specs.Compared.{IsTakenAs}
 use Rattle.lrc_weave.proofs.Spellings.{taken_from}
-use Rattle.lrc_weave.proofs.history.is_taken_from.Goals as goal
+use Rattle.lrc_weave.proofs.takes.is_taken_from.Goals as goal
 
 pub returns-in-Put : goal.returns-in-Put
 returns-in-Put c =

@@ -1,5 +1,5 @@
 use Rattle.std.proofs.Common.{◌≡◌, [], map, replicate}
-use Rattle.lrc_weave.proofs.putting.empty_lines.Given as goal
+use Rattle.lrc_weave.proofs.putting.PutsByNode.none.Given as goal
 
 abbrev pub invariant-loop-node : goal.invariant-loop-node
 invariant-loop-node l = map (λ line. map (λ wire. wire.now) line.items) l.lines.items ≡ replicate l._node []

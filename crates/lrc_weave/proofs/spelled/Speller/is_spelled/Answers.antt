@@ -2,7 +2,7 @@ use Rattle.std.proofs.Common.{rules, refl}
 use Rattle.std.proofs.lemmas.Bool.Decides.{Decides-eqb}
 use Rattle.std.proofs.lemmas.Slice.Eq.{slice_eq-Decides}
 use Rattle.lrc_weave.proofs.Spellings.{read_same}
-use Rattle.lrc_weave.proofs.spelled.is_spelled.Goals as goal
+use Rattle.lrc_weave.proofs.spelled.Speller.is_spelled.Goals as goal
 
 pub returns-then-eq : goal.returns-then-eq
 returns-then-eq c = (
