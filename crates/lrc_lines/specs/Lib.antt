@@ -3,6 +3,7 @@ pub mod Makes
 pub mod Places
 pub mod Seen
 pub mod Standing
+pub mod Statements
 pub mod Tasks
 pub mod Walks
 pub mod Ways

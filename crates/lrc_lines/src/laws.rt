@@ -1,6 +1,6 @@
 // Laws of lines and walks. These functions do nothing: each contract states a law.
 
-ghost use Rattle.std.specs.Prelude.{◌≡◌, ◌<◌, ℕ, All, List, Some, slice_get, take};
+ghost use Rattle.std.specs.Prelude.{◌≡◌, ◌<◌, ℕ, All, List, Some, length, map, slice_get, slice_index_or, take};
 ghost use Rattle.lrc_lang.specs.declared.program.Program.{Program};
 ghost use Rattle.lrc_lang.specs.Lines.{HasLines};
 ghost use Rattle.lrc_lang.specs.Tree.{program_of};
@@ -12,6 +12,7 @@ ghost use Rattle.lrc_lines.specs.Begins.{BeginOnLines};
 ghost use Rattle.lrc_lines.specs.Makes.{MakesNext};
 ghost use Rattle.lrc_lines.specs.Places.{StandsAmong, in_order};
 ghost use Rattle.lrc_lines.specs.Standing.{Agrees};
+ghost use Rattle.lrc_lines.specs.Statements.{act_statements, numbers_of};
 ghost use Rattle.lrc_lines.specs.Walks.{end_line, line_at, act_lines, walk_behind};
 
 /// The lines of a text are those on which its statements begin: one for each statement in the order of the text, which
@@ -46,4 +47,17 @@ pub fn each_line_is_of_what_makes_the_act()
         (deed : Deed)
         → FollowsText program nodes acts → Does acts i node deed → node < nodes
         → MakesNext (walk_behind program nodes lines (take i acts) node) deed }
+{}
+
+/// The lines of acts are those of their statements.
+pub fn lines_are_those_of_the_statements()
+    ensures { (program : Program) (nodes : ℕ) (lines : List ℕ) (acts : List Act)
+        → length lines ≡ length (numbers_of program) → act_lines program nodes lines acts
+        ≡ map (λ number. slice_index_or lines number 0) (act_statements program nodes acts) }
+{}
+
+/// The lines of a text are as many as its statements have numbers.
+pub fn there_is_a_line_for_each_statement()
+    ensures { (text : List ℕ) (program : Program) (lines : List ℕ)
+        → HasLines text (program_of program) lines → length lines ≡ length (numbers_of program) }
 {}
