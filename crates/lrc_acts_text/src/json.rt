@@ -3,6 +3,7 @@
 ghost use Rattle.std.specs.Prelude.{◌≡◌, ◌++◌, IfOk, OnErr, OnOk, length, map};
 ghost use Rattle.lrc_labels.specs.Reading.{label_seen};
 ghost use Rattle.lrc_text.specs.Front.{BeginsWith};
+ghost use Rattle.lrc_timeline.specs.Timeline.{times_in};
 ghost use Rattle.lrc_trace.specs.Interval.{closes};
 ghost use Rattle.lrc_acts_text.specs.Json.{access_members, act_json, deed_json, deed_members, entry_text, lock_members};
 ghost use Rattle.lrc_acts_text.specs.Json.{json_line, json_of_acts, place_json, time_json, with_commas};
@@ -12,6 +13,7 @@ use lrc_labels::label::Label;
 use lrc_labels::{push_lock_member, push_word_member};
 use lrc_text::{deed_name, push_number};
 use lrc_time::Time;
+use lrc_timeline::timeline::Timeline;
 use lrc_trace::act::{Act, Deed};
 use std::alloc::{AllocError, Global};
 
@@ -22,12 +24,12 @@ pub fn json_part(
     labels: &[Label<'_>],
     acts: &[Act],
     lines: &[u32],
-    times: &[Time],
+    times: &Timeline,
 ) -> Result<Vec<u8>, AllocError>
     requires lined { length lines.now ≡ length acts.now }
-    requires timed { length times.now ≡ length acts.now }
+    requires timed { length (times_in times.now) ≡ length acts.now }
     ensures { IfOk result (λ part. part.items
-        ≡ json_of_acts (map label_seen labels.now) acts.now lines.now times.now) }
+        ≡ json_of_acts (map label_seen labels.now) acts.now lines.now (times_in times.now)) }
 {
     let mut text = Vec::new(alloc);
     let mut closes = Tally::new();
@@ -37,7 +39,8 @@ pub fn json_part(
             line: lines[position],
             interval: 1 + closes.of(act.node),
         };
-        push_json_line(&mut text, labels, *act, place, &times[position])?;
+        let time = times.at(position).unwrap();
+        push_json_line(&mut text, labels, *act, place, time)?;
         closes.note(act.node, closes_interval(act.deed));
     }
     Ok(text)

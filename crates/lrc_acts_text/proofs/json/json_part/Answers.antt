@@ -1,12 +1,14 @@
-use Rattle.std.proofs.Common.{◌≡◌, ◌∙◌, ◌<◌, ◌≤◌, ◌+◌, ◌++◌, [], ℕ, List, ap, ap₂, map, sym, subst, arith, get_or, length}
-use Rattle.std.specs.Prelude.{slice_index, slice_index_or}
-use Rattle.std.proofs.lemmas.List.{get_or_default, take_all}
+use Rattle.std.proofs.Common.{◌≡◌, ◌∙◌, ◌<◌, ◌≤◌, ◌+◌, ◌++◌, [], ℕ, List, ap, ap₂, map, sym, subst, arith, get_or, length, Bor}
+use Rattle.std.specs.Prelude.{option_map, slice_index, slice_index_or}
+use Rattle.std.proofs.lemmas.List.{take_all}
+use Rattle.std.proofs.lemmas.Option.{get_or_from_slice_get}
 use Rattle.std.proofs.lemmas.Result.{IfOk-from_err}
 use Rattle.lrc_trace.specs.declared.act.Act.{Act}
 use Rattle.lrc_trace.specs.declared.act.Deed.TheVariants.{Quiet}
 use Rattle.lrc_trace.specs.Interval.{closes, interval_at}
 use Rattle.lrc_labels.specs.Reading.{label_seen}
 use Rattle.lrc_text.specs.Each.{each}
+use Rattle.lrc_timeline.specs.Timeline.{times_in}
 use Rattle.lrc_acts_text.specs.Json.{json_line}
 use Rattle.lrc_acts_text.specs.Tally.{tallied}
 use Rattle.lrc_text.proofs.Each.{each_more}
@@ -35,18 +37,18 @@ pub loop-position-preserved : goal.loop-position-preserved
 loop-position-preserved c =
     let labels = map label_seen c.args.labels.now in
     let acts = c.args.acts.now in
-    let times = c.args.times.now in
+    let times = times_in c.args.times.now in
     let n = c.loop-position.position in
     let act = get_or acts n no_act in
     let within : n < length acts = c.loop-position-test.true in
-    let timed : n < length times = omega (arith, within, c.requires.timed) in
     let closed = c.loop-position.invariant.closed in
     let counts = c.loop-position.closes.counts in
     let of : ℕ → Act → List ℕ =
     λ position act. json_line labels position act (slice_index c.args.lines.now position) (interval_at acts act.node position) (slice_index_or times position []) in
     let interval : 1 + c.of.result ≡ interval_at acts act.node n =
     ap (λ m. 1 + m) (c.of.ensures.value ∙ tally_is closes acts n no_act within counts c.of.ensures.in_range closed) in
-    let time = c.index-times-position.is ∙ get_or_default times n c.index-times-position.result [] timed in
+    let there = sym c.at.ensures ∙ ap (option_map (λ (t : Bor (List ℕ)). t.now)) c.unwrap-time.ensures in
+    let time = sym (get_or_from_slice_get times n c.unwrap-time.result.now [] there) in
     let counts_is = c.note.ensures ∙ ap (tallied counts act.node) c.closes_interval.ensures in
     record {
       lines = c.in_ok-push_json_line.ensures
@@ -64,7 +66,7 @@ returns c =
     let all : length acts ≤ c.loop-position.position = c.loop-position-test.false in
     let of : ℕ → Act → List ℕ =
     λ position act. json_line labels position act (slice_index c.args.lines.now position) (interval_at acts act.node position)
-    (slice_index_or c.args.times.now position []) in
+    (slice_index_or (times_in c.args.times.now) position []) in
     c.loop-position.invariant.lines ∙ ap (each of) (take_all c.loop-position.position acts all)
 
 pub returns-in_err-push_json_line : goal.returns-in_err-push_json_line
