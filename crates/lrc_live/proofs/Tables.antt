@@ -74,6 +74,9 @@ and_true : (b : Bool) → (b && true) ≡ b
 and_true true = refl
 and_true false = refl
 
+other_name : (a b : ℕ) → (a ≡ b → ⊥) → nat_eq a b ≡ false
+other_name a b apart = grind arith
+
 pub without : (names : List Bool) (own name : ℕ) → has (slice_set names own false) name ≡ (has names name && not (nat_eq own name))
 without names own name = elim (cases_eq own name) [
   | inl same ↦
@@ -86,9 +89,6 @@ without names own name = elim (cases_eq own name) [
       get_or-set_other names own name false false (λ e. apart (sym e))
       ∙ sym (ap (λ b. has names name && not b) (other_name own name apart) ∙ and_true (has names name))
 ]
-  where
-    other_name : (a b : ℕ) → (a ≡ b → ⊥) → nat_eq a b ≡ false
-    other_name a b apart = grind arith
 
 pub with_name : (names : List Bool) (own name : ℕ) → own < length names → has (slice_set names own true) name ≡ (nat_eq own name || has names name)
 with_name names own name lt = elim (cases_eq own name) [
@@ -99,19 +99,6 @@ with_name names own name lt = elim (cases_eq own name) [
       get_or-set_other names own name true false (λ e. apart (sym e))
       ∙ sym (ap (λ b. b || has names name) (other_name own name apart))
 ]
-  where
-    other_name : (a b : ℕ) → (a ≡ b → ⊥) → nat_eq a b ≡ false
-    other_name a b apart = grind arith
-
--- ---- one or the other
-
-pub or_on : (a b c : Bool) → (a || (b || c)) ≡ ((a || b) || c)
-or_on true b c = refl
-or_on false b c = refl
-
-pub or_none : (a : Bool) → (a || false) ≡ a
-or_none true = refl
-or_none false = refl
 
 pub has_none : (count name : ℕ) → has (replicate count false) name ≡ false
 has_none zero name = refl

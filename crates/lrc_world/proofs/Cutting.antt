@@ -14,18 +14,20 @@ use Rattle.lrc_node.specs.declared.fault.NodeFault.TheVariants as NodeFaults
 use Rattle.lrc_node.specs.declared.fault.NodeFault.TheVariants.{Failed, NotReady, Unexpected}
 use Rattle.lrc_node.proofs.Newest.{newest-push, newest-stamp}
 use Rattle.lrc_world.specs.declared.keep.Keep.{Keep}
-use Rattle.lrc_world.specs.declared.keep.Keep.TheVariants.{All, Newest}
+use Rattle.lrc_world.specs.declared.keep.Keep.TheVariants.{All, Newest, Turns}
 use Rattle.lrc_world.specs.World.{after_turn, cut, kept_log, IsTurn, TurnsBy}
 use Rattle.lrc_world.proofs.Lists.{map-get}
 
 same_stamp : (keep : Keep) (log : List EntryRecord) → last_stamp (kept_log keep log) ≡ last_stamp log
 same_stamp All log = refl
+same_stamp Turns log = refl
 same_stamp Newest log = newest-stamp log
 
 -- what is kept of a log with one turn more
 pub kept-push : (keep : Keep) (log : List EntryRecord) (entry : EntryRecord)
     → kept_log keep (kept_log keep log ++ entry ∷ []) ≡ kept_log keep (log ++ entry ∷ [])
 kept-push All log entry = refl
+kept-push Turns log entry = refl
 kept-push Newest log entry = newest-push (newest log) entry ∙ sym (newest-push log entry)
 
 -- ---- what comes of an input

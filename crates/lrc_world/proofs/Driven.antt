@@ -20,7 +20,7 @@ use Rattle.lrc_world.specs.Driven.{DriverStandsAt, IsDrivenOn, DrivesTo, IsStill
 use Rattle.lrc_world.specs.Led.{Schedule, Led, begins, plays, passes, WearsOut}
 use Rattle.lrc_world.specs.Report.{IsOver, IsWornFrom}
 use Rattle.lrc_world.specs.Rounds.{schedule_of_rounds, at_node, delivering, IsDue, turn, delivery, asleep, all_went, all_delivered, ready_at, delivery_of}
-use Rattle.lrc_world.specs.Turned.{kept_turns, turned_from}
+use Rattle.lrc_world.specs.Turned.{when_all, turned_from}
 use Rattle.lrc_world.specs.World.{Starts, Shows, seen_flying, seen_sent}
 use Rattle.lrc_world.proofs.Noted.{kept_none, noted_more}
 use Rattle.lrc_world.proofs.Lists.{same_length}
@@ -66,7 +66,7 @@ module _ (s : Schedule) where
     led = subst (λ events. Led s start events start s.first) (sym none) begins;
     shows = subst (λ w. Shows starts w start) (sym is) shows;
     turned = ap (λ (w : World). w.turned.items) is ∙ unturned ∙ sym (kept_none starts.keep)
-        ∙ ap (λ events. kept_turns starts.keep (turned_from (Some start) events)) (sym none);
+        ∙ ap (λ events. when_all starts.keep (turned_from (Some start) events)) (sym none);
     here = inl refl;
   }
 
@@ -148,7 +148,7 @@ module _ (s : Schedule) where
             shows = next.2;
             turned = noted_more starts start d.run old.events.items event old.world new.world d.shows (led_played start old.events.items d.run d.standing d.led)
                 d.turned (p.turned starts d.run d.shows)
-                ∙ ap (λ events. kept_turns starts.keep (turned_from (Some start) events)) (sym p.events);
+                ∙ ap (λ events. when_all starts.keep (turned_from (Some start) events)) (sym p.events);
             here = inl refl;
           };
       few = λ few. let long = ap length p.events ∙ length_push old.events.items event in omega (arith, p.room, long);

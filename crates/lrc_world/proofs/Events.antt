@@ -12,7 +12,7 @@ use Rattle.lrc_world.specs.declared.world.World.{World}
 use Rattle.lrc_world.specs.declared.report.TurnFault.{TurnFault}
 use Rattle.lrc_world.specs.declared.report.TurnFault.TheVariants.{NoMemory, Worn}
 use Rattle.lrc_world.specs.declared.keep.Keep.{Keep}
-use Rattle.lrc_world.specs.Turned.{kept_turns, turned_of, turner}
+use Rattle.lrc_world.specs.Turned.{when_all, turned_of, turner}
 use Rattle.lrc_world.specs.World.{NotesTurn, Starts, Shows, PlaysTo, starts_of}
 use Rattle.lrc_world.proofs.Noted.{noted_more}
 use Rattle.lrc_world.specs.Report.{AreAll, IsOver, IsWornBy, IsWornFault}
@@ -21,7 +21,7 @@ use Rattle.lrc_world.specs.Report.{AreAll, IsOver, IsWornBy, IsWornFault}
 abbrev pub Runs : Keep → Program → ℕ → OptionsRecord → List Event → World → Type 0
 Runs keep program nodes options events world =
     (run : Run) × (run_of program nodes options events ≡ Some run) × Shows (starts_of program nodes options keep) world run
-    × (world.turned.items ≡ kept_turns keep (turned_of program nodes options events))
+    × (world.turned.items ≡ when_all keep (turned_of program nodes options events))
 
 module _ (program : Program) (nodes : ℕ) (options : OptionsRecord) (events : List Event) (k : ℕ) (event : Event) (at : slice_get events k ≡ Some event) where
   taken_next : take (k + 1) events ≡ take k events ++ event ∷ []
@@ -47,7 +47,7 @@ module _ (program : Program) (nodes : ℕ) (options : OptionsRecord) (events : L
         one_more runs.0 runs.1 ∙ p.1,
         p.2,
         noted_more first (fresh_world program nodes options) runs.0 (take k events) event old new runs.2 runs.1 runs.3 noted
-            ∙ ap (λ es. kept_turns keep (turned_of program nodes options es)) (sym taken_next),
+            ∙ ap (λ es. when_all keep (turned_of program nodes options es)) (sym taken_next),
       )
 
 pub split_at : {X : Type 0} (xs : List X) (k : ℕ) (x : X) → slice_get xs k ≡ Some x → xs ≡ take k xs ++ x ∷ drop (suc k) xs

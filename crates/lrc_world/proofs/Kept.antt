@@ -12,7 +12,7 @@ use Rattle.lrc_protocol.proofs.Traces.{traced_entry}
 use Rattle.lrc_protocol.proofs.Worlds.{IsEntry, get_set_same, get_set_other}
 use Rattle.lrc_node.specs.Logged.{TracedLog, sound}
 use Rattle.lrc_world.specs.declared.keep.Keep.{Keep}
-use Rattle.lrc_world.specs.declared.keep.Keep.TheVariants.{All, Newest}
+use Rattle.lrc_world.specs.declared.keep.Keep.TheVariants.{All, Newest, Turns}
 use Rattle.lrc_world.specs.World.{Starts, kept_node, after_turn, cut, kept_log, trimmed}
 use Rattle.lrc_world.proofs.Cutting.{kept-push}
 
@@ -108,6 +108,7 @@ module _ (starts : Starts) where
 
   fresh_log : (keep : Keep) → [] ≡ kept_log keep []
   fresh_log All = refl
+  fresh_log Turns = refl
   fresh_log Newest = refl
 
   fresh_whole : (me : ℕ) → fresh_kept me ≡ kept_node starts (me, unlogged (starts.start me))

@@ -21,3 +21,4 @@ pub mod Unskipped
 pub mod Walked
 pub mod Runs
 pub mod Ranges
+pub mod ActsInTurn

@@ -1,5 +1,5 @@
 -- One node's turn, in the list of all nodes.
-use Rattle.std.proofs.Common.{◌≡◌, ◌∙◌, ℕ, zero, suc, ◌<◌, ◌≤◌, arith, map, List, [], ◌∷◌, ◌++◌, Option}
+use Rattle.std.proofs.Common.{◌≡◌, ◌∙◌, ◌⊎◌, ⊎_elim, ℕ, zero, suc, ◌<◌, ◌≤◌, arith, map, List, [], ◌∷◌, ◌++◌, Option}
 use Rattle.std.proofs.Common.{Some, None, Result, Ok, Err, refl, sym, ap, subst, length}
 use Rattle.std.specs.Prelude.{slice_get, slice_set, slice_index_or, option_map}
 use Rattle.std.proofs.lemmas.List.{set-get_or}
@@ -11,7 +11,7 @@ use Rattle.lrc_node.specs.declared.fault.NodeFault.TheVariants.{Failed, NotReady
 use Rattle.lrc_trace.specs.Trace.{TraceRecord}
 use Rattle.lrc_node.specs.Logged.{LoggedNode, TracedLog, newest, sound, Logs, LogsTo, NotesIn}
 use Rattle.lrc_world.specs.declared.keep.Keep.{Keep}
-use Rattle.lrc_world.specs.declared.keep.Keep.TheVariants.{All, Newest}
+use Rattle.lrc_world.specs.declared.keep.Keep.TheVariants.{All, Newest, Turns}
 use Rattle.lrc_world.specs.World.{TurnsBy, TurnsTo, after_turn, trimmed}
 use Rattle.lrc_node.proofs.Leading.{entry_of}
 use Rattle.lrc_world.proofs.Lists.{map-get, same_length}
@@ -94,9 +94,11 @@ unturned items n input came past nodes e =
 -- ---- what is forgotten
 
 -- all is kept
-pub keeps_all : (items : List TracedLog) (n : ℕ) (keep : Keep) → keep ≡ All → (l : TracedLog) → slice_get items n ≡ Some l
+pub keeps_all : (items : List TracedLog) (n : ℕ) (keep : Keep) → (keep ≡ All) ⊎ (keep ≡ Turns) → (l : TracedLog) → slice_get items n ≡ Some l
     → items ≡ slice_set items n (trimmed keep l)
-keeps_all items n keep is l there = sym (unchanged items n l (trimmed keep l) there (ap (λ k. trimmed k l) is))
+keeps_all items n keep is l there =
+    let whole : trimmed keep l ≡ l = ⊎_elim (λ e. ap (λ k. trimmed k l) e) (λ e. ap (λ k. trimmed k l) e) is in
+    sym (unchanged items n l (trimmed keep l) there whole)
 
 -- the newest turn is
 pub keeps_newest : (items : List TracedLog) (n : ℕ) (x new : TracedLog) (keep : Keep) → keep ≡ Newest → n < length items → x ≡ slice_index_or items n x

@@ -10,11 +10,11 @@ use Rattle.lrc_node.specs.declared.fault.NodeFault.{NodeFault}
 use Rattle.lrc_node.specs.declared.fault.NodeFault.TheVariants as NodeFaults
 use Rattle.lrc_node.specs.declared.fault.NodeFault.TheVariants.{Failed, NotReady, Unexpected}
 use Rattle.lrc_world.specs.declared.keep.Keep.{Keep}
-use Rattle.lrc_world.specs.declared.keep.Keep.TheVariants.{All, Newest}
+use Rattle.lrc_world.specs.declared.keep.Keep.TheVariants.{All, Newest, Turns}
 use Rattle.lrc_world.specs.declared.report.TurnFault.{TurnFault}
 use Rattle.lrc_world.specs.declared.turned.Turned.{Turned}
 use Rattle.lrc_world.specs.declared.world.World.{World}
-use Rattle.lrc_world.specs.Turned.{kept_turns, node_by, node_if, taker, turned_by, turned_from, turner}
+use Rattle.lrc_world.specs.Turned.{when_all, node_by, node_if, taker, turned_by, turned_from, turner}
 use Rattle.lrc_world.specs.World.{NotesTurn, Shows, Starts, TurnsBy, TurnsTo, seen_flying, seen_sent, turn_made}
 use Rattle.lrc_world.proofs.Lists.{same_length}
 use Rattle.lrc_world.proofs.Made.{turned_last, turned_more}
@@ -22,41 +22,43 @@ use Rattle.lrc_world.proofs.Played.{whole}
 
 -- ---- lists of them
 
-pub kept_none : (keep : Keep) → kept_turns keep [] ≡ []
+pub kept_none : {A : Type 0} (keep : Keep) → when_all {A = A} keep [] ≡ []
 kept_none All = refl
+kept_none Turns = refl
 kept_none Newest = refl
 
-pub kept_both : (keep : Keep) (some more : List Turned) → kept_turns keep (some ++ more) ≡ kept_turns keep some ++ kept_turns keep more
+pub kept_both : {A : Type 0} (keep : Keep) (some more : List A) → when_all keep (some ++ more) ≡ when_all keep some ++ when_all keep more
 kept_both All some more = refl
+kept_both Turns some more = refl
 kept_both Newest some more = refl
 
 -- where no turn was made, none is kept
 pub notes_none : (old new : World) (event : Event) (maker : Option ℕ) → maker ≡ None → new.turned ≡ old.turned → NotesTurn old new event maker
 notes_none old new event maker none same =
     ap (λ v. v.items) same ∙ sym (append-nil old.turned.items) ∙ ap (λ ts. old.turned.items ++ ts) (sym (kept_none old.keep))
-    ∙ ap (λ n. old.turned.items ++ kept_turns old.keep (turned_by event n)) (sym none)
+    ∙ ap (λ n. old.turned.items ++ when_all old.keep (turned_by event n)) (sym none)
 
 -- a turn that is noted behind others is noted by the world that had kept just those
 pub notes_same : (old new : World) (keep : Keep) (turned : List Turned) (event : Event) (maker other : Option ℕ) (result : Result (Unit {0}) TurnFault)
     → keep ≡ old.keep → turned ≡ old.turned.items → maker ≡ other
-    → OnOk result (new.turned.items ≡ turned ++ kept_turns keep (turned_by event maker)) → OnOk result (NotesTurn old new event other)
+    → OnOk result (new.turned.items ≡ turned ++ when_all keep (turned_by event maker)) → OnOk result (NotesTurn old new event other)
 notes_same old new keep turned event maker other (Ok done) kept same is notes =
-    notes ∙ ap (λ ts. ts ++ kept_turns keep (turned_by event maker)) same
-    ∙ ap (λ k. old.turned.items ++ kept_turns k (turned_by event maker)) kept
-    ∙ ap (λ n. old.turned.items ++ kept_turns old.keep (turned_by event n)) is
+    notes ∙ ap (λ ts. ts ++ when_all keep (turned_by event maker)) same
+    ∙ ap (λ k. old.turned.items ++ when_all k (turned_by event maker)) kept
+    ∙ ap (λ n. old.turned.items ++ when_all old.keep (turned_by event n)) is
 notes_same old new keep turned event maker other (Err fault) kept same is notes = tt
 
 -- one event more
 pub noted_more : (starts : Starts) (start run : Run) (before : List Event) (event : Event) (old new : World) → Shows starts old run
-    → played start before ≡ Some run → old.turned.items ≡ kept_turns starts.keep (turned_from (Some start) before)
+    → played start before ≡ Some run → old.turned.items ≡ when_all starts.keep (turned_from (Some start) before)
     → NotesTurn old new event (turner run event)
-    → new.turned.items ≡ kept_turns starts.keep (turned_from (Some start) (before ++ event ∷ []))
+    → new.turned.items ≡ when_all starts.keep (turned_from (Some start) (before ++ event ∷ []))
 noted_more starts start run before event old new shows plays so_far notes =
-    notes ∙ ap (λ keep. old.turned.items ++ kept_turns keep (turned_by event (turner run event))) shows.keep
-    ∙ ap (λ ts. ts ++ kept_turns starts.keep (turned_by event (turner run event))) so_far
+    notes ∙ ap (λ keep. old.turned.items ++ when_all keep (turned_by event (turner run event))) shows.keep
+    ∙ ap (λ ts. ts ++ when_all starts.keep (turned_by event (turner run event))) so_far
     ∙ sym (kept_both starts.keep (turned_from (Some start) before) (turned_by event (turner run event)))
-    ∙ ap (λ o. kept_turns starts.keep (turned_from (Some start) before ++ turned_last o event)) (sym plays)
-    ∙ ap (kept_turns starts.keep) (sym (turned_more (Some start) before event))
+    ∙ ap (λ o. when_all starts.keep (turned_from (Some start) before ++ turned_last o event)) (sym plays)
+    ∙ ap (when_all starts.keep) (sym (turned_more (Some start) before event))
 
 -- ---- who made a turn
 

@@ -4,7 +4,7 @@ use Rattle.lrc_lang.specs.declared.program.Program.{Program}
 use Rattle.lrc_race.specs.Races.{AreRacesOf}
 use Rattle.lrc_protocol.specs.declared.event.Event.{Event}
 use Rattle.lrc_protocol.specs.Node.{OptionsRecord}
-use Rattle.lrc_protocol.specs.Run.{World as Made, run_of}
+use Rattle.lrc_protocol.specs.Run.{World as Made, run_of, turns_of_logs}
 use Rattle.lrc_world.specs.declared.keep.Keep.{Keep}
 use Rattle.lrc_world.specs.declared.rounds.Lead.{Lead}
 use Rattle.lrc_world.specs.declared.rounds.Lead.TheVariants.{Random, Rounds}
@@ -12,10 +12,11 @@ use Rattle.lrc_world.specs.declared.run.Run.{Run}
 use Rattle.lrc_world.specs.declared.world.World.{World}
 use Rattle.lrc_world.specs.Driven.{schedule_of}
 use Rattle.lrc_world.specs.Led.{AreLed}
-use Rattle.lrc_world.specs.declared.keep.Keep.TheVariants.{All}
+use Rattle.lrc_world.specs.declared.keep.Keep.TheVariants.{Turns}
+use Rattle.lrc_world.specs.Origins.{AreOriginsOf}
 use Rattle.lrc_world.specs.Report.{IsKeptReport, IsOver, IsReportOf}
 use Rattle.lrc_world.specs.Runs.{IsRunBy}
-use Rattle.lrc_world.specs.Turned.{AreAllTurned, kept_turns, turned_of}
+use Rattle.lrc_world.specs.Turned.{AreAllTurned, when_all, turned_of}
 use Rattle.lrc_world.specs.World.{Starts, Shows, starts_of}
 use Rattle.lrc_world.proofs.Races.{kept_races}
 use Rattle.lrc_world.proofs.Theorem.{all_kept}
@@ -28,9 +29,10 @@ pub run_is : (AreIts : List Event → Type 0) (program : Program) (nodes : ℕ) 
     → ((starts : Starts) (made : Made) → Shows starts world made → (run.is_over ≡ true) ↔ IsOver made)
     → ((starts : Starts) (made : Made) → Shows starts world made → IsKeptReport starts.keep run.report made)
     → AreRacesOf (map (λ node. node.trace) world.nodes.items) run.report.races.items
-    → run.turned.items ≡ kept_turns keep (turned_of program nodes options events)
+    → AreOriginsOf keep program nodes (turns_of_logs run.report.logs.items) run.turned.items run.report.acts.items run.origins
+    → run.turned.items ≡ when_all keep (turned_of program nodes options events)
     → IsRunBy AreIts program nodes options keep run
-run_is AreIts program nodes options keep events run world made same its makes some shows over report races turned =
+run_is AreIts program nodes options keep events run world made same its makes some shows over report races origins turned =
     let told = report (starts_of program nodes options keep) made shows in
     let plays = ap (run_of program nodes options) same ∙ makes in
     record {
@@ -38,7 +40,8 @@ run_is AreIts program nodes options keep events run world made same its makes so
       made = made;
       makes = plays;
       report = told;
-      turned = turned ∙ ap (λ es. kept_turns keep (turned_of program nodes options es)) (sym same);
+      turned = turned ∙ ap (λ es. when_all keep (turned_of program nodes options es)) (sym same);
+      origins = origins;
       races = kept_races program nodes options events made makes world keep shows run.report.acts.items run.report.races.items told.acts races;
       over = over (starts_of program nodes options keep) made shows;
       kept = all_kept program nodes options run.events.items run.report.acts.items made plays told.acts (omega (arith, some)) shows.short
@@ -57,6 +60,6 @@ ran r run P is holds = subst (λ x. IfOk x P) is holds
 
 -- the report of a run that keeps all turns
 pub report_of : (AreIts : List Event → Type 0) (program : Program) (nodes : ℕ) (options : OptionsRecord) (run : Run)
-    → IsRunBy AreIts program nodes options All run → IsReportOf program nodes options run.events.items run.report
+    → IsRunBy AreIts program nodes options Turns run → IsReportOf program nodes options run.events.items run.report
 report_of AreIts program nodes options run is =
     (is.made, is.makes, record { acts = is.report.acts; ends = is.report.ends; logs = is.report.logs; first = is.report.first })

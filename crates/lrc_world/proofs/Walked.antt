@@ -106,7 +106,7 @@ module _ (now end : Run) (logs : List (List EntryRecord)) (come flight : List �
       ap (λ xs. slice_get xs (come_of come n)) (get_or_past logs n [] past)
 
   -- the turn that is made is the next one
-  made_next : (next : Run) (rest : List Event) (fl : List Sent) (n : ℕ) (input : Input) (made : Made now next fl n input) → played next rest ≡ Some end
+  pub made_next : (next : Run) (rest : List Event) (fl : List Sent) (n : ℕ) (input : Input) (made : Made now next fl n input) → played next rest ≡ Some end
       → next_entry logs come n ≡ Some made.entry
   made_next next rest fl n input made e =
       let here : slice_get next.nodes n ≡ Some made.after =
@@ -182,7 +182,7 @@ module _ (now end : Run) (logs : List (List EntryRecord)) (come flight : List �
       ap (λ xs. remove xs place) at.receivers ∙ sym (map-remove (λ (s : Sent). s.envelope.to) now.flight place)
   left_is (events.Repeat place) n = at.receivers ∙ sym (mark_kept now.flight 0 place)
 
-  at_made : (next : Run) (rest : List Event) (event : Event) (n : ℕ) (input : Input) → Made now next (left_in now event) n input
+  pub at_made : (next : Run) (rest : List Event) (event : Event) (n : ℕ) (input : Input) → Made now next (left_in now event) n input
       → played next rest ≡ Some end
       → IsAt (come_with logs come (Some n)) (flight_with logs come (flight_after flight event (Some n)) (Some n)) next
   at_made next rest event n input made plays =
@@ -226,7 +226,7 @@ no_more now end logs come flight has same at is n None there = none_next now end
 no_more now end logs come flight has same at is n (Some l) there =
     next_is now end logs come flight has same at n l l [] there (ap (λ (w : Run). slice_get w.nodes n) (sym is) ∙ there) (sym (append-nil l.log))
 
-same_nodes : (now next : Run) (fl : List Sent) (n : ℕ) (input : Input) → Made now next fl n input → length next.nodes ≡ length now.nodes
+pub same_nodes : (now next : Run) (fl : List Sent) (n : ℕ) (input : Input) → Made now next fl n input → length next.nodes ≡ length now.nodes
 same_nodes now next fl n input made = ap (λ (w : Run). length w.nodes) made.next_is ∙ length-set now.nodes n made.after
 
 module _ (end : Run) (logs : List (List EntryRecord)) (has : map (λ (l : Logged). l.log) end.nodes ≡ logs) where
@@ -307,7 +307,7 @@ module _ (program : Program) (nodes : ℕ) (options : OptionsRecord) (events : L
   log_count has =
       ap length (sym has.2) ∙ length-map has.0.nodes (λ (l : Logged). l.log) ∙ (run-whole program nodes options events has.0 has.1).count
 
-  at_start : HaveLogs program nodes options events logs → IsAt (replicate (length logs) 0) [] (fresh_world program nodes options)
+  pub at_start : HaveLogs program nodes options events logs → IsAt (replicate (length logs) 0) [] (fresh_world program nodes options)
   at_start has =
       let fresh : List Node = map (fresh_node program nodes options) (range_with_len 0 nodes) in
       let count : length fresh ≡ nodes = length-map (range_with_len 0 nodes) (fresh_node program nodes options) ∙ length-range_with_len 0 nodes in

@@ -48,6 +48,6 @@ acts_in_range program nodes options events run acts runs same few =
     (λ k d lt. let own = (run-whole program nodes options events run runs).in_range k d lt in omega (arith, own, few))
 
 pub acts_of_nodes : (program : Program) (nodes : ℕ) (options : OptionsRecord) (events : List Event) (starts : Starts) (run : Run) (world : World)
-    → run_of program nodes options events ≡ Some run → Shows starts world run → nodes ≤ 16 → All (λ (act : Act). act.node < 16) world.acts.items
-acts_of_nodes program nodes options events starts run world runs shows few =
-    acts_in_range program nodes options events run world.acts.items runs shows.acts few
+    → run_of program nodes options events ≡ Some run → Shows starts world run → All (λ (act : Act). act.node < nodes) world.acts.items
+acts_of_nodes program nodes options events starts run world runs shows =
+    subst (All (λ (act : Act). act.node < nodes)) (sym shows.acts) (run-whole program nodes options events run runs).in_range

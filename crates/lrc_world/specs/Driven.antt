@@ -13,7 +13,7 @@ use Rattle.lrc_world.specs.Led.{Schedule, Led, WearsOut}
 use Rattle.lrc_world.specs.Random.{wandering}
 use Rattle.lrc_world.specs.Report.{IsOver}
 use Rattle.lrc_world.specs.Rounds.{ready_at, schedule_of_rounds}
-use Rattle.lrc_world.specs.Turned.{kept_turns, turned_from, turner}
+use Rattle.lrc_world.specs.Turned.{when_all, turned_from, turner}
 use Rattle.lrc_world.specs.World.{NotesTurn, Starts, Shows, PlaysTo}
 
 -- this node is not ready
@@ -35,7 +35,7 @@ pub record DriverStandsAt (schedule : Schedule) (starts : Starts) (start : Run) 
   pub standing : schedule.Standing
   pub led : Led schedule start driver.events.items run standing
   pub shows : Shows starts driver.world run
-  pub turned : driver.world.turned.items ≡ kept_turns starts.keep (turned_from (Some start) driver.events.items)
+  pub turned : driver.world.turned.items ≡ when_all starts.keep (turned_from (Some start) driver.events.items)
   pub here : (standing ≡ at) ⊎ (MOST_EVENTS ≤ length driver.events.items)
 
 -- what is driven from one standing to another: events are added, of which there are no more than there may be

@@ -11,3 +11,4 @@ pub mod Promises
 pub mod Epochs
 pub mod Turned
 pub mod Walk
+pub mod Origins

@@ -4,7 +4,7 @@ use Rattle.lrc_lang.specs.declared.program.Program.{Program}
 use Rattle.lrc_judge.specs.Races.{AreNamedRaces}
 use Rattle.lrc_protocol.specs.declared.event.Event.{Event}
 use Rattle.lrc_protocol.specs.Node.{OptionsRecord}
-use Rattle.lrc_protocol.specs.Run.{World, run_of}
+use Rattle.lrc_protocol.specs.Run.{World, run_of, turns_of_logs}
 use Rattle.lrc_setting.specs.declared.setting.Setting.{Setting}
 use Rattle.lrc_world.specs.declared.keep.Keep.{Keep}
 use Rattle.lrc_world.specs.declared.report.TurnFault.{TurnFault}
@@ -12,12 +12,13 @@ use Rattle.lrc_world.specs.declared.run.Order.{Order}
 use Rattle.lrc_world.specs.declared.run.Order.TheVariants.{Events, Rounds, Random}
 use Rattle.lrc_world.specs.declared.run.Run.{Run}
 use Rattle.lrc_world.specs.Led.{Schedule, AreLed}
+use Rattle.lrc_world.specs.Origins.{AreOriginsOf}
 use Rattle.lrc_world.specs.Promises.{AreKept}
 use Rattle.lrc_world.specs.Random.{WanderingWearsOut, wandering}
 use Rattle.lrc_world.specs.Report.{AreAll, IsKeptReport, IsOver, IsWornBy, IsWornFault}
 use Rattle.lrc_world.specs.Rounds.{RoundsWearOut, schedule_of_rounds}
 use Rattle.lrc_node.specs.Options.{options_of}
-use Rattle.lrc_world.specs.Turned.{AreAllTurned, kept_turns, turned_of}
+use Rattle.lrc_world.specs.Turned.{AreAllTurned, when_all, turned_of}
 
 -- The events are the first ones of a program's run that is led so. None of them is skipped. Unless there are 100,000,000, of which there
 -- are no more, no node is ready and no message in flight after them.
@@ -34,15 +35,17 @@ AreInOrder (Rounds picker) program nodes options events = AreLedToEnd (schedule_
 AreInOrder (Random seed) program nodes options events = AreLedToEnd (wandering nodes seed) program nodes options events
 
 -- A run of a program. Its events are as they are to be. The protocol machine makes the same run of them: the report tells its acts, how
--- each node ended, what is kept of the turns, and the first race. The races are those that the acts name. Where all turns are kept, so are
--- the events that are not skipped, each with the node whose turn it makes. It is over where no node is ready and no message in flight. And
--- it keeps what every run promises: the sequential-consistency theorem is among that.
+-- each node ended, what is kept of the turns, and the first race. The races are those that the acts name. Where all is kept, so are the
+-- events that are not skipped, each with the node whose turn it makes; and of each act its turn, its statement, and its node's time just
+-- after it. It is over where no node is ready and no message in flight. And it keeps what every run promises: the sequential-consistency
+-- theorem is among that.
 pub record IsRunBy (AreIts : List Event → Type 0) (program : Program) (nodes : ℕ) (options : OptionsRecord) (keep : Keep) (run : Run) : Type 0 where
   pub events : AreIts run.events.items
   pub made : World
   pub makes : run_of program nodes options run.events.items ≡ Some made
   pub report : IsKeptReport keep run.report made
-  pub turned : run.turned.items ≡ kept_turns keep (turned_of program nodes options run.events.items)
+  pub turned : run.turned.items ≡ when_all keep (turned_of program nodes options run.events.items)
+  pub origins : AreOriginsOf keep program nodes (turns_of_logs run.report.logs.items) run.turned.items run.report.acts.items run.origins
   pub races : AreNamedRaces run.report.acts.items run.report.races.items
   pub over : (run.is_over ≡ true) ↔ IsOver made
   pub kept : AreKept program nodes options run.events.items run.report.acts.items run.report.ends.items

@@ -7,7 +7,7 @@ use Rattle.lrc_protocol.specs.Node.{OptionsRecord}
 use Rattle.lrc_protocol.specs.Run.{Input, EntryRecord, Logged, Logging, logs, World as Run, Flying as Sent, event_on, fresh_world, run_of}
 use Rattle.lrc_protocol.specs.Run as log
 use Rattle.lrc_world.specs.declared.keep.Keep.{Keep}
-use Rattle.lrc_world.specs.declared.keep.Keep.TheVariants.{All, Newest}
+use Rattle.lrc_world.specs.declared.keep.Keep.TheVariants.{All, Newest, Turns}
 use Rattle.lrc_world.specs.declared.turned.Turned.{Turned}
 
 -- the node, where what came of an input to it is a turn
@@ -48,10 +48,11 @@ turned_from (Some world) (event ∷ more) = turned_by event (turner world event)
 abbrev pub turned_of : Program → ℕ → OptionsRecord → List Event → List Turned
 turned_of program nodes options events = turned_from (Some (fresh_world program nodes options)) events
 
--- which of them are kept: all, or none where of each node only the newest turn is
-abbrev pub kept_turns : Keep → List Turned → List Turned
-kept_turns All turned = turned
-kept_turns Newest turned = []
+-- what is kept of something that is kept only where all of a run is
+abbrev pub when_all : {A : Type 0} → Keep → List A → List A
+when_all All items = items
+when_all Turns items = []
+when_all Newest items = []
 
 -- the events that made turns
 abbrev pub events_in : List Turned → List Event

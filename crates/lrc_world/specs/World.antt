@@ -22,11 +22,11 @@ use Rattle.lrc_node.specs.declared.fault.NodeFault.TheVariants.{Failed, NotReady
 use Rattle.lrc_node.specs.Logged.{TracedLog, newest, sound}
 use Rattle.lrc_world.specs.declared.flying.Flying.{Flying}
 use Rattle.lrc_world.specs.declared.keep.Keep.{Keep}
-use Rattle.lrc_world.specs.declared.keep.Keep.TheVariants.{All, Newest}
+use Rattle.lrc_world.specs.declared.keep.Keep.TheVariants.{All, Newest, Turns}
 use Rattle.lrc_world.specs.declared.report.TurnFault.{TurnFault}
 use Rattle.lrc_world.specs.declared.report.TurnFault.TheVariants.{Worn, NoMemory}
 use Rattle.lrc_world.specs.declared.world.World.{World}
-use Rattle.lrc_world.specs.Turned.{kept_turns, turned_by}
+use Rattle.lrc_world.specs.Turned.{when_all, turned_by}
 
 -- ---- messages in flight
 
@@ -69,7 +69,14 @@ IsSendFault out NoMemory = Unit {0}
 -- what is kept of a log: all of it, or the newest turn
 abbrev pub kept_log : Keep → List EntryRecord → List EntryRecord
 kept_log All log = log
+kept_log Turns log = log
 kept_log Newest log = newest log
+
+-- what is kept, with all of each log
+abbrev pub with_turns : Keep → Keep
+with_turns Newest = Turns
+with_turns Turns = Turns
+with_turns All = All
 
 -- a node with that alone of its log
 abbrev pub cut : Keep → Logged → Logged
@@ -111,7 +118,7 @@ PlaysTo starts new outcome (Err NoMemory) = Unit {0}
 
 -- the turn that an event made of a node, if it made one, was added to the kept ones
 abbrev pub NotesTurn : World → World → Event → Option ℕ → Type 0
-NotesTurn old new event node = new.turned.items ≡ old.turned.items ++ kept_turns old.keep (turned_by event node)
+NotesTurn old new event node = new.turned.items ≡ old.turned.items ++ when_all old.keep (turned_by event node)
 
 -- the newest entry in a node's log is this
 abbrev pub NodeLogsLast : World → ℕ → EntryRecord → Type 0

@@ -1,6 +1,6 @@
 // What holds of every run. Each function is a theorem: its body is empty, and its clauses are the law.
 
-ghost use Rattle.std.specs.Prelude.{◌≡◌, ℕ, List, Some, Contains, slice_get};
+ghost use Rattle.std.specs.Prelude.{◌≡◌, ℕ, List, Some, Contains, length, map, slice_get};
 ghost use Rattle.lrc_lang.specs.declared.program.Program.{Program};
 ghost use Rattle.lrc_trace.specs.Conflict.{Accesses};
 ghost use Rattle.lrc_trace.specs.declared.trace.Segment.{Segment};
@@ -9,6 +9,8 @@ ghost use Rattle.lrc_protocol.specs.Node.{OptionsRecord, fresh_node};
 ghost use Rattle.lrc_protocol.specs.Run.{Logged, World as Run, run_of};
 ghost use Rattle.lrc_protocol.specs.Traced.{trace_of};
 ghost use Rattle.lrc_world.specs.Epochs.{IsOfAccess};
+ghost use Rattle.lrc_world.specs.Origins.{act_turns, acts_in_turn};
+ghost use Rattle.lrc_world.specs.Turned.{turned_of};
 
 /// The epoch of a segment in a node's trace is the number of departs that the node made before the segment's accesses.
 pub fn epochs_count_departs()
@@ -27,4 +29,19 @@ pub fn epochs_count_departs()
         → (segment : Segment) × Contains
         (trace_of (fresh_node program nodes options n) l.log).segments segment
         × IsOfAccess run.acts n position segment }
+{}
+
+/// The acts of a run are those of its turns, in their order. So an act's turn is the one at its place among the turns
+/// that make acts.
+pub fn acts_are_those_of_the_turns()
+    ensures acts { (program : Program) (nodes : ℕ) (options : OptionsRecord) (events : List Event)
+        (run : Run)
+        → run_of program nodes options events ≡ Some run
+        → acts_in_turn (map (λ l. l.log) run.nodes) (turned_of program nodes options events)
+        ≡ run.acts }
+    ensures each { (program : Program) (nodes : ℕ) (options : OptionsRecord) (events : List Event)
+        (run : Run)
+        → run_of program nodes options events ≡ Some run
+        → length (act_turns (map (λ l. l.log) run.nodes) (turned_of program nodes options events))
+        ≡ length run.acts }
 {}

@@ -3,16 +3,18 @@
 ghost use Rattle.std.specs.Prelude.{◌≡◌, ◌↔◌, ℕ, ◌<◌, [], All, IfErr, IfOk, map, true};
 ghost use Rattle.lrc_exec.specs.Nodes.{AreNodes};
 ghost use Rattle.lrc_judge.specs.declared.TheConstants.{NODES};
-ghost use Rattle.lrc_protocol.specs.Run.{World as AnyRun, fresh_world};
+ghost use Rattle.lrc_protocol.specs.Run.{World as AnyRun, fresh_world, turns_of_logs};
 ghost use Rattle.lrc_race.specs.Races.{AreRacesOf, AreTracesOf};
 ghost use Rattle.lrc_trace.specs.Conflict.{IsRaceFree};
 ghost use Rattle.lrc_world.specs.Driven.{schedule_of};
 ghost use Rattle.lrc_world.specs.Led.{WearsOut};
+ghost use Rattle.lrc_world.specs.Origins.{AreOriginsOf};
 ghost use Rattle.lrc_world.specs.Report.{IsKeptReport, IsOver, IsWornBy, IsWornFault};
 ghost use Rattle.lrc_world.specs.Runs.{AreLedToEnd, IsRun, IsRunBy, IsTurnFault};
 ghost use Rattle.lrc_world.specs.World.{Starts, Shows};
 
 use crate::keep::Keep;
+use crate::origins::{Origins, origins_of};
 use crate::report::{Report, TurnFault};
 use crate::rounds::{Driver, Lead};
 use crate::turned::Turned;
@@ -46,8 +48,10 @@ pub enum Order<'e> {
 pub struct Run {
     /// The events of the run, including skipped ones.
     pub events: Vec<Event>,
-    /// The events that were not skipped, each with the node that made the turn; none if only the newest turns are kept.
+    /// The events that were not skipped, each with the node that made the turn; none unless all is kept.
     pub turned: Vec<Turned>,
+    /// Where the acts come from; nothing unless all is kept.
+    pub origins: Origins,
     /// Whether nothing is left to do after the events: no node is ready, and no message is in flight.
     pub is_over: bool,
     /// The result of the run.
@@ -55,7 +59,7 @@ pub struct Run {
 }
 
 /// Runs a program in the given order. The logs in the result hold the turns that `keep` says. If it keeps all, the
-/// result has the events that made them.
+/// result also has the events that made them, and the turn, the statement and the time of each act.
 ///
 /// In rounds and at random the run goes on while a node is ready or a message is in flight, and there are fewer than
 /// 100,000,000 events.
@@ -98,7 +102,7 @@ fn by_events(
         world.play(*event)?;
     }
     let played = Vec::from_slice(alloc, events)?;
-    let run = run_after(world, played)?;
+    let run = run_after(alloc, program, nodes, keep, world, played)?;
     Ok(run)
 }
 
@@ -123,18 +127,28 @@ fn led(
     let mut driver = Driver::new(alloc, world);
     driver.lead(nodes, lead)?;
     let Driver { world, events } = driver;
-    let run = run_after(world, events)?;
+    let run = run_after(alloc, program, nodes, keep, world, events)?;
     Ok(run)
 }
 
 // What came of these events, after which all stands so.
-fn run_after(world: World<'_>, events: Vec<Event>) -> Result<Run, AllocError>
-    requires acts { All (λ act. act.node < NODES) world.acts.items }
+fn run_after(
+    alloc: Global,
+    program: &Program,
+    nodes: u8,
+    keep: Keep,
+    world: World<'_>,
+    events: Vec<Event>,
+) -> Result<Run, AllocError>
+    requires nodes { AreNodes nodes }
+    requires acts { All (λ act. act.node < nodes) world.acts.items }
     requires traces { (nodes : ℕ) × AreTracesOf nodes (map (λ node. node.trace) world.nodes.items) }
     requires raceless { AreRacesOf (map (λ node. node.trace) world.nodes.items) []
         → IsRaceFree world.acts.items }
     ensures events { IfOk result (λ run. run.events ≡ events) }
     ensures turned { IfOk result (λ run. run.turned ≡ world.entry.turned) }
+    ensures origins { IfOk result (λ run. AreOriginsOf keep program.now nodes
+        (turns_of_logs run.report.logs.items) run.turned.items run.report.acts.items run.origins) }
     ensures over { IfOk result (λ run. (starts : Starts) (made : AnyRun)
         → Shows starts world.entry made
         → (run.is_over ≡ true) ↔ IsOver made) }
@@ -146,9 +160,19 @@ fn run_after(world: World<'_>, events: Vec<Event>) -> Result<Run, AllocError>
 {
     let is_over = world.is_over();
     let (report, turned) = world.report()?;
+    let origins = origins_of(
+        alloc,
+        keep,
+        program,
+        nodes,
+        &report.logs,
+        &turned,
+        &report.acts,
+    )?;
     Ok(Run {
         events,
         turned,
+        origins,
         is_over,
         report,
     })

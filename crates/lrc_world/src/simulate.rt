@@ -53,7 +53,7 @@ pub fn simulate(
         ↔ (AreNodes nodes × ¬ AreSteps options.now.steps) }
 {
     let order = Order::Events(events);
-    match run_checked(alloc, program, nodes, options, order, Keep::All) {
+    match run_checked(alloc, program, nodes, options, order, Keep::Turns) {
         Ok(run) => Ok(run.report),
         Err(fault) => Err(fault),
     }
@@ -92,7 +92,7 @@ pub fn drive(
         ↔ (AreNodes nodes × ¬ AreSteps options.now.steps) }
 {
     let order = Order::Rounds(picker);
-    match run_checked(alloc, program, nodes, options, order, Keep::All) {
+    match run_checked(alloc, program, nodes, options, order, Keep::Turns) {
         Ok(run) => Ok((run.events, run.report)),
         Err(fault) => Err(fault),
     }
@@ -132,7 +132,7 @@ pub fn wander(
         ↔ (AreNodes nodes × ¬ AreSteps options.now.steps) }
 {
     let order = Order::Random(seed);
-    match run_checked(alloc, program, nodes, options, order, Keep::All) {
+    match run_checked(alloc, program, nodes, options, order, Keep::Turns) {
         Ok(run) => Ok((run.events, run.report)),
         Err(fault) => Err(fault),
     }

@@ -140,16 +140,34 @@ impl Walk {
             ≡ self.old.flight.items ++ receivers_of
             (next_entry (turns_of_logs logs.now) self.old.come.items node)) }
     {
-        let Some(entry) = next_entry(logs, self.come.as_slice(), node) else {
-            return Ok(());
-        };
-        send(&mut self.flight, entry.turn.out.as_slice())?;
-        let Some(come) = self.come[node].checked_add(1) else {
-            return Err(AllocError);
-        };
-        self.come[node] = come;
-        Ok(())
+        match pass_next(logs, &mut self.come, node)? {
+            Some(entry) => send(&mut self.flight, entry.turn.out.as_slice()),
+            None => Ok(()),
+        }
     }
+}
+
+/// Goes on past the next turn of a node, if it has one, and returns that. `come` says how many turns of each node have
+/// come.
+pub(crate) fn pass_next<'l>(
+    logs: &'l [Vec<Entry>],
+    come: &mut Vec<usize>,
+    node: usize,
+) -> Result<Option<&'l Entry>, AllocError>
+    requires { length come.old.items ≡ length logs.now }
+    ensures entry { IfOk result (λ entry. option_map (λ entry. entry.now) entry
+        ≡ next_entry (turns_of_logs logs.now) come.old.items node) }
+    ensures come { OnOk result (come.new.items ≡ come_after come.old.items node
+        (next_entry (turns_of_logs logs.now) come.old.items node)) }
+{
+    let Some(entry) = next_entry(logs, come.as_slice(), node) else {
+        return Ok(None);
+    };
+    let Some(count) = come[node].checked_add(1) else {
+        return Err(AllocError);
+    };
+    come[node] = count;
+    Ok(Some(entry))
 }
 
 // Adds an event with the node whose turn it makes, if it makes one.

@@ -15,7 +15,7 @@ ghost use Rattle.lrc_protocol.specs.Turn.{is_ready};
 ghost use Rattle.lrc_world.specs.Report.{IsKeptReport, IsOver, end_of_logged};
 ghost use Rattle.lrc_world.specs.Random.{drawn_event, picked};
 ghost use Rattle.lrc_world.specs.Rounds.{delivery_of, is_delivered, newest_place, ready_at};
-ghost use Rattle.lrc_world.specs.Turned.{kept_turns, taker, turner};
+ghost use Rattle.lrc_world.specs.Turned.{when_all, taker, turner};
 ghost use Rattle.lrc_world.specs.World.{Starts, starts_of, Shows, PlaysTo, AddsTo, NodeLogsLast, NotesTurn, ReceivesTo, TurnsTo, turn_made, IsSendFault, trimmed};
 ghost use Rattle.lrc_world.specs.World.{seen_flying, seen_sent, shown_new, is_long};
 ghost use Rattle.lrc_node.specs.Logged.{TracedLog, sound};
@@ -37,8 +37,8 @@ use lrc_wire::{EncodeFault, WireFault, decode, spell_over};
 use std::alloc::{AllocError, Global};
 use std::collections::VecDeque;
 
-/// All nodes with the turns kept of their logs, the messages in flight (oldest first), and the acts so far. If all turns
-/// are kept, also the events that made them.
+/// All nodes with the turns kept of their logs, the messages in flight (oldest first), and the acts so far. If all is
+/// kept, also the events that made turns.
 #[derive(Drop)]
 pub(crate) struct World<'c> {
     alloc: Global,
@@ -266,6 +266,7 @@ impl<'c> World<'c> {
             → IsRaceFree self.acts.items }
         ensures report { (starts : Starts) (run : Run) → Shows starts self.entry run
             → IfOk result (λ told. IsKeptReport starts.keep told.0 run) }
+        ensures acts { IfOk result (λ told. told.0.acts ≡ self.entry.acts) }
         ensures races { IfOk result (λ told. AreRacesOf
             (map (λ node. node.trace) self.entry.nodes.items) told.0.races.items) }
         ensures turned { IfOk result (λ told. told.1 ≡ self.entry.turned) }
@@ -356,13 +357,13 @@ fn note(acts: &mut Vec<Act>, act: Option<Act>) -> Result<(), AllocError>
     Ok(())
 }
 
-// Adds a turn with its event, if all turns are kept.
+// Adds a turn with its event, if all is kept.
 fn note_turn(keep: Keep, turned: &mut Vec<Turned>, turn: Turned) -> Result<(), AllocError>
-    ensures { OnOk result (turned.new.items ≡ turned.old.items ++ kept_turns keep (turn ∷ [])) }
+    ensures { OnOk result (turned.new.items ≡ turned.old.items ++ when_all keep (turn ∷ [])) }
 {
     match keep {
         Keep::All => turned.push(turn)?,
-        Keep::Newest => {}
+        Keep::Newest | Keep::Turns => {}
     }
     Ok(())
 }
@@ -485,7 +486,7 @@ fn trim(keep: Keep, nodes: &mut Vec<Logged<'_>>, node: usize)
         → nodes.new.items ≡ slice_set nodes.old.items node (trimmed keep l) }
 {
     match keep {
-        Keep::All => {}
+        Keep::All | Keep::Turns => {}
         Keep::Newest => {
             if node < nodes.len() {
                 nodes[node].forget();

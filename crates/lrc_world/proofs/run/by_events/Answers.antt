@@ -1,6 +1,6 @@
 use Rattle.std.proofs.Common.{◌≡◌, ◌∙◌, sym, ap, refl, subst, rules, arith, take}
 use Rattle.std.proofs.lemmas.Result.{IfOk-from_err}
-use Rattle.lrc_world.specs.Turned.{kept_turns, turned_of}
+use Rattle.lrc_world.specs.Turned.{when_all, turned_of}
 use Rattle.lrc_world.specs.World.{Shows, starts_of}
 use Rattle.lrc_protocol.specs.Run.{fresh_world, run_of}
 use Rattle.lrc_world.specs.declared.report.TurnFault.TheVariants.{NoMemory}
@@ -32,7 +32,7 @@ pub run_after-requires-clause-acts : goal.run_after-requires-clause-acts
 run_after-requires-clause-acts c =
     let runs = c.loop-event.invariant in
     acts_of_nodes c.args.program.now c.args.nodes c.args.options.now (take c.loop-event.event-index c.args.events.now)
-    (starts_of c.args.program.now c.args.nodes c.args.options.now c.args.keep) runs.0 c.loop-event.world runs.1 runs.2 c.requires.1
+    (starts_of c.args.program.now c.args.nodes c.args.options.now c.args.keep) runs.0 c.loop-event.world runs.1 runs.2
 
 pub run_after-requires-clause-traces : goal.run_after-requires-clause-traces
 run_after-requires-clause-traces c =
@@ -54,9 +54,9 @@ returns-clause-run c =
     let same = ap (λ v. v.items) c.in_ok-run.ensures.events ∙ c.in_ok-played.ensures.items in
     run_is (λ played. played ≡ c.args.events.now) c.args.program.now c.args.nodes c.args.options.now c.args.keep c.args.events.now
     c.in_ok-run.run' c.loop-event.world runs.0 same same made c.requires.0 runs.2
-    c.in_ok-run.ensures.over c.in_ok-run.ensures.report c.in_ok-run.ensures.races
+    c.in_ok-run.ensures.over c.in_ok-run.ensures.report c.in_ok-run.ensures.races c.in_ok-run.ensures.origins
     (ap (λ v. v.items) c.in_ok-run.ensures.turned ∙ runs.3
-    ∙ ap (λ es. kept_turns c.args.keep (turned_of c.args.program.now c.args.nodes c.args.options.now es)) all)
+    ∙ ap (λ es. when_all c.args.keep (turned_of c.args.program.now c.args.nodes c.args.options.now es)) all)
 
 pub returns-in_err-play-clause-run : goal.returns-in_err-play-clause-run
 returns-in_err-play-clause-run c = IfOk-from_err c.from_residual-in_err-play.result _ c.from_residual-in_err-play.ensures.0

@@ -45,7 +45,7 @@ run_after-requires-clause-acts c =
     let r = c.in_ok-lead.ensures.goes.1.drives (starts_of c.args.program.now c.args.nodes c.args.options.now c.args.keep) start d in
     acts_of_nodes c.args.program.now c.args.nodes c.args.options.now c.lead.new.self.events.items
     (starts_of c.args.program.now c.args.nodes c.args.options.now c.args.keep) r.run c.lead.new.self.world
-    (led_played s start c.lead.new.self.events.items r.run r.standing r.led) r.shows c.requires.1
+    (led_played s start c.lead.new.self.events.items r.run r.standing r.led) r.shows
 
 pub run_after-requires-clause-traces : goal.run_after-requires-clause-traces
 run_after-requires-clause-traces c =
@@ -95,7 +95,7 @@ returns-clause-run c =
     run_is (AreLedToEnd s c.args.program.now c.args.nodes c.args.options.now) c.args.program.now c.args.nodes c.args.options.now c.args.keep
     c.lead.new.self.events.items c.in_ok-run.run' c.lead.new.self.world r.run same
     (subst (AreLedToEnd s c.args.program.now c.args.nodes c.args.options.now) (sym same) to_end) runs c.requires.0 r.shows
-    c.in_ok-run.ensures.over c.in_ok-run.ensures.report c.in_ok-run.ensures.races (ap (λ v. v.items) c.in_ok-run.ensures.turned ∙ r.turned)
+    c.in_ok-run.ensures.over c.in_ok-run.ensures.report c.in_ok-run.ensures.races c.in_ok-run.ensures.origins (ap (λ v. v.items) c.in_ok-run.ensures.turned ∙ r.turned)
 
 pub returns-in_err-lead-clause-fault : goal.returns-in_err-lead-clause-fault
 returns-in_err-lead-clause-fault c =
