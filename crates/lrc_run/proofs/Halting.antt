@@ -9,7 +9,7 @@ use Rattle.lrc_judge.specs.Races.{AreNamedRaces}
 use Rattle.lrc_post.specs.Mailbox.{MailboxRecord, IsAllGiven}
 use Rattle.lrc_post.specs.Post.{AreOf, AreWires}
 use Rattle.lrc_protocol.specs.Node.{OptionsRecord, fresh_node}
-use Rattle.lrc_protocol.specs.Run.{EntryRecord, run_of}
+use Rattle.lrc_protocol.specs.Run.{EntryRecord, Logged, run_of}
 use Rattle.lrc_threads.specs.declared.life.Failure.{Failure}
 use Rattle.lrc_threads.specs.declared.stop.Stop.{Stop}
 use Rattle.lrc_threads.specs.declared.stop.Stop.TheVariants as stops
@@ -18,11 +18,14 @@ use Rattle.lrc_weave.specs.declared.fault.WeaveFault.{WeaveFault}
 use Rattle.lrc_weave.specs.declared.fault.WeaveFault.TheVariants as weaving
 use Rattle.lrc_weave.specs.Logs.{AreLogs}
 use Rattle.lrc_weave.specs.Matched.{AreMatched}
-use Rattle.lrc_world.specs.declared.keep.Keep.TheVariants.{All as Whole}
+use Rattle.lrc_world.specs.declared.keep.Keep.{Keep}
+use Rattle.lrc_world.specs.declared.keep.Keep.TheVariants.{All as All', Newest, Turns}
 use Rattle.lrc_world.specs.declared.run.Run.{Run}
 use Rattle.lrc_world.specs.Report.{IsOver}
 use Rattle.lrc_world.specs.Runs.{IsRunBy}
-use Rattle.lrc_world.specs.Turned.{turned_of}
+use Rattle.lrc_world.specs.Origins.{AreOriginsOf}
+use Rattle.lrc_world.specs.Turned.{turned_of, when_all}
+use Rattle.lrc_world.specs.World.{kept_log, with_turns}
 use Rattle.lrc_world.proofs.Theorem.{all_kept}
 use Rattle.lrc_weave.proofs.Places.{some_same}
 use Rattle.lrc_run.specs.declared.fault.RunFault.TheVariants.{BadNodes, BadSteps}
@@ -31,7 +34,8 @@ use Rattle.lrc_run.specs.declared.halt.Halt.TheVariants.{Worn, Refused, Mismatch
 use Rattle.lrc_run.specs.declared.halt.Left.{Left}
 use Rattle.lrc_run.specs.declared.told.ToldRun.{ToldRun}
 use Rattle.lrc_run.specs.Halts.{AreLeft, Differ, IsHalt, IsLeft, IsMismatch, IsRefused, IsRunFault, StoppedWith, fault_of, logs_left}
-use Rattle.lrc_run.specs.Run.{IsThreadedRun, IsTold, IsWovenReport, MakeTurnsOf, Reports}
+use Rattle.lrc_run.specs.Run.{IsThreadedRun, IsTold, IsWovenReport, MakeTurnsOf, Reports, turns_of_nodes}
+use Rattle.lrc_run.proofs.Telling.{same_origins}
 
 module _ (program : Program) (nodes : ℕ) (options : OptionsRecord) (picker : Picker) where
   -- what is answered of it is a fault of the run
@@ -68,19 +72,27 @@ module _ (program : Program) (nodes : ℕ) (options : OptionsRecord) (picker : P
   -- a report of events after which nothing is left to do is that of a run
   module _ (run : Run) (woven : IsWovenReport program nodes options run.events.items run.report) (over : run.is_over ≡ true)
       (races : AreNamedRaces run.report.acts.items run.report.races.items) (some : 1 ≤ nodes)
-      (turned : run.turned.items ≡ turned_of program nodes options run.events.items) where
+      (keep : Keep) (turned : run.turned.items ≡ when_all (with_turns keep) (turned_of program nodes options run.events.items))
+      (origins : AreOriginsOf (with_turns keep) program nodes (turns_of_nodes run.report) run.turned.items run.report.acts.items run.origins) where
     one_world : woven.reported.0 ≡ woven.over.0
     one_world = some_same (run_of program nodes options run.events.items) woven.reported.0 woven.over.0 woven.reported.1 woven.over.1
 
-    run_of_report : IsRunBy (MakeTurnsOf run.report) program nodes options Whole run
+    -- of each node all turns are kept
+    all_turns : (kept : Keep) (ls : List Logged) → map (λ (l : Logged). l.log) ls ≡ map (λ (l : Logged). kept_log (with_turns kept) l.log) ls
+    all_turns Newest ls = refl
+    all_turns Turns ls = refl
+    all_turns All' ls = refl
+
+    run_of_report : IsRunBy (MakeTurnsOf run.report) program nodes options (with_turns keep) run
     run_of_report =
         let is = woven.reported.2 in
         record {
           events = (woven.flight, woven.woven);
           made = woven.reported.0;
           makes = woven.reported.1;
-          report = record { acts = is.acts; ends = is.ends; logs = is.logs; first = is.first };
+          report = record { acts = is.acts; ends = is.ends; logs = is.logs ∙ all_turns keep woven.reported.0.nodes; first = is.first };
           turned = turned;
+          origins = origins;
           races = races;
           over = (λ _. subst IsOver (sym one_world) woven.over.2, λ _. over);
           kept = all_kept program nodes options run.events.items run.report.acts.items woven.reported.0 woven.reported.1 is.acts (omega (arith, some))
@@ -88,16 +100,21 @@ module _ (program : Program) (nodes : ℕ) (options : OptionsRecord) (picker : P
         }
 
   -- a run of which all is told
-  pub threaded_run : (logs : List (List EntryRecord)) (told : ToldRun) (run : Run) (wires : List MailboxRecord) → 1 ≤ nodes
-      → IsTold program nodes options logs told → Reports logs told run.report → run.events ≡ told.events → run.turned ≡ told.turned
-      → run.is_over ≡ true → AreMatched logs wires → All IsAllGiven wires → length wires ≡ nodes → AreWires wires → AreOf picker wires
-      → IsThreadedRun program nodes options picker run wires
-  threaded_run logs told run wires some is reports same marked over matched taken count legal picked = record {
+  pub threaded_run : (logs : List (List EntryRecord)) (told : ToldRun) (run : Run) (wires : List MailboxRecord) (keep kept : Keep) → 1 ≤ nodes
+      → kept ≡ with_turns keep → IsTold program nodes options kept logs told → Reports logs told run.report → run.events ≡ told.events
+      → run.turned ≡ told.turned → run.origins ≡ told.origins → run.is_over ≡ true → AreMatched logs wires → All IsAllGiven wires
+      → length wires ≡ nodes → AreWires wires → AreOf picker wires → IsThreadedRun program nodes options picker keep run wires
+  threaded_run logs told run wires keep kept some is_kept is reports same marked from over matched taken count legal picked = record {
     made = run_of_report run
         (subst (λ events. IsWovenReport program nodes options events.items run.report) (sym same) (is.woven run.report reports)) over
         (subst (λ acts. AreNamedRaces acts.items run.report.races.items) (sym reports.acts)
-        (subst (λ races. AreNamedRaces told.acts.items races.items) (sym reports.races) is.races)) some
-        (ap (λ turned. turned.items) marked ∙ is.turned ∙ ap (λ events. turned_of program nodes options events.items) (sym same));
+        (subst (λ races. AreNamedRaces told.acts.items races.items) (sym reports.races) is.races)) some keep
+        (ap (λ turned. turned.items) marked ∙ is.turned ∙ ap (λ events. when_all kept (turned_of program nodes options events.items)) (sym same)
+        ∙ ap (λ k. when_all k (turned_of program nodes options run.events.items)) is_kept)
+        (subst (λ k. AreOriginsOf k program nodes (turns_of_nodes run.report) run.turned.items run.report.acts.items run.origins) is_kept
+        (same_origins kept program nodes nodes logs (turns_of_nodes run.report) told.turned.items run.turned.items told.acts.items
+        run.report.acts.items told.origins run.origins refl (sym reports.turns) (ap (λ turned. turned.items) (sym marked))
+        (ap (λ acts. acts.items) (sym reports.acts)) (sym from) is.origins));
     over = over;
     posted = record {
       count = count;

@@ -1,12 +1,12 @@
 -- Messages that were taken, and the turns that sent them.
-use Rattle.std.proofs.Common.{◌≡◌, ◌∙◌, ◌+◌, ◌<◌, ◌↔◌, ℕ, zero, suc, false, true, IsTrue, List, [], ◌∷◌, Option, Some, refl, sym, ap, subst, arith, below_more, get_or, length, map, max}
+use Rattle.std.proofs.Common.{◌≡◌, ◌∙◌, ◌+◌, ◌<◌, ◌↔◌, ℕ, zero, suc, false, true, IsTrue, List, [], ◌∷◌, Some, refl, sym, ap, subst, arith, below_more, get_or, length, map, max}
 use Rattle.std.specs.Prelude.{option_map, slice_get, take}
 use Rattle.std.proofs.lemmas.Option.{same_Some, slice_get-get_or, slice_get-map, slice_get_within}
 use Rattle.lrc_envelope.specs.Envelope.{EnvelopeRecord}
 use Rattle.lrc_protocol.specs.Follows.{log_of}
 use Rattle.lrc_protocol.specs.Run.{EntryRecord, Flying, last_stamp}
 use Rattle.lrc_weave.specs.Sent.{AreTakesSent, IsSent}
-use Rattle.lrc_run.specs.Sources.{AreSentTo, HasSource, IsAmong, IsNextTo, IsSentIn, IsTakeSent}
+use Rattle.lrc_run.specs.Sources.{AreSentTo, HasSource}
 use Rattle.lrc_weave.proofs.Places.{taken_more}
 use Rattle.lrc_weave.proofs.Rising.{last_is}
 use Rattle.std.specs.Bool.{Decides}

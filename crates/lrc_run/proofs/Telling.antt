@@ -28,7 +28,11 @@ use Rattle.lrc_weave.proofs.Places.{some_same}
 use Rattle.lrc_weave.specs.Logs.{AreLogs}
 use Rattle.lrc_weave.specs.Whole.{MakesRun}
 use Rattle.lrc_weave.specs.Woven.{AreWoven}
+use Rattle.lrc_world.specs.declared.keep.Keep.{Keep}
+use Rattle.lrc_world.specs.declared.origins.Origins.{Origins}
 use Rattle.lrc_world.specs.declared.report.Report.{Report}
+use Rattle.lrc_world.specs.declared.turned.Turned.{Turned}
+use Rattle.lrc_world.specs.Origins.{AreOriginsOf}
 use Rattle.lrc_world.specs.Ends.{ends_of}
 use Rattle.lrc_world.specs.Report.{AreAll, IsReportOf, end_of_logged}
 use Rattle.lrc_world.specs.World.{entry_is_long, is_long, log_is_long, sends_long}
@@ -99,6 +103,9 @@ module _ (program : Program) (nodes : ℕ) (options : OptionsRecord) (logs : Lis
 
   pub acts_told : nodes ≤ 16 → All (λ (act : Act). act.node < 16) acts
   acts_told few = acts_in_range program nodes options events m.world acts m.runs (sym m.acts_are) few
+
+  pub acts_own : All (λ (act : Act). act.node < nodes) acts
+  acts_own = subst (All (λ (act : Act). act.node < nodes)) m.acts_are (run-whole program nodes options events m.world m.runs).in_range
 
   -- ---- what is left to do
 
@@ -188,6 +195,17 @@ module _ (program : Program) (nodes : ℕ) (options : OptionsRecord) (logs : Lis
     over = over;
     short = short_told short;
   }
+
+-- where the acts come from of a run that is the same
+pub same_origins : (keep : Keep) (program : Program) (n nodes : ℕ) (read logs : List (List EntryRecord)) (found turned : List Turned)
+    (seen acts : List Act) (made origins : Origins) → n ≡ nodes → read ≡ logs → found ≡ turned → seen ≡ acts → made ≡ origins
+    → AreOriginsOf keep program n read found seen made → AreOriginsOf keep program nodes logs turned acts origins
+same_origins keep program n nodes read logs found turned seen acts made origins count logged marked acting same are =
+    subst (λ m. AreOriginsOf keep program m logs turned acts origins) count
+    (subst (λ l. AreOriginsOf keep program n l turned acts origins) logged
+    (subst (λ t. AreOriginsOf keep program n read t acts origins) marked
+    (subst (λ a. AreOriginsOf keep program n read found a origins) acting
+    (subst (AreOriginsOf keep program n read found seen) same are))))
 
 -- the run of logs that are read as a slice
 pub run_told : {A : Type 0} (seen : A → List EntryRecord) (found all : List A) → found ≡ all → (program : Program) (nodes : ℕ) (options : OptionsRecord)

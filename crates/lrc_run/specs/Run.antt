@@ -11,13 +11,14 @@ use Rattle.lrc_protocol.specs.Node.{OptionsRecord}
 use Rattle.lrc_protocol.specs.Run.{EntryRecord, Flying, World, run_of, turns_of_logs}
 use Rattle.lrc_weave.specs.Matched.{AreMatched}
 use Rattle.lrc_weave.specs.Woven.{AreWoven}
-use Rattle.lrc_world.specs.declared.keep.Keep.TheVariants.{All as Whole}
+use Rattle.lrc_world.specs.declared.keep.Keep.{Keep}
 use Rattle.lrc_world.specs.declared.report.Report.{Report}
 use Rattle.lrc_world.specs.declared.run.Run.{Run}
+use Rattle.lrc_world.specs.Origins.{AreOriginsOf}
 use Rattle.lrc_world.specs.Report.{AreAll, IsReportOf}
 use Rattle.lrc_world.specs.Runs.{IsRunBy}
-use Rattle.lrc_world.specs.Turned.{turned_of}
-use Rattle.lrc_world.specs.World.{sends_long}
+use Rattle.lrc_world.specs.Turned.{turned_of, when_all}
+use Rattle.lrc_world.specs.World.{sends_long, with_turns}
 use Rattle.lrc_threads.specs.Threads.{is_any_ready_after, traces_of_logs}
 use Rattle.lrc_threads.specs.Worker.{AreShort}
 use Rattle.lrc_run.specs.declared.told.ToldRun.{ToldRun}
@@ -51,9 +52,9 @@ MakeTurnsOf report events = (flight : List Flying) × AreWoven (turns_of_nodes r
 
 -- A run on threads. It is what every run is (`IsRunBy`, which has the report, the races and the sequential-consistency theorem), with all
 -- turns, of the events that make them in the order of their stamps. Nothing is left to do after it. And what the mailboxes kept tells the same.
-pub record IsThreadedRun (program : Program) (nodes : ℕ) (options : OptionsRecord) (picker : Picker) (run : Run) (wires : List MailboxRecord)
-    : Type 0 where
-  pub made : IsRunBy (MakeTurnsOf run.report) program nodes options Whole run
+pub record IsThreadedRun (program : Program) (nodes : ℕ) (options : OptionsRecord) (picker : Picker) (keep : Keep) (run : Run)
+    (wires : List MailboxRecord) : Type 0 where
+  pub made : IsRunBy (MakeTurnsOf run.report) program nodes options (with_turns keep) run
   pub over : run.is_over ≡ true
   pub posted : AreWiresOf nodes picker run.report wires
 
@@ -82,9 +83,11 @@ pub record Reports (logs : List (List EntryRecord)) (told : ToldRun) (report : R
   pub races : report.races ≡ told.races
   pub first : report.first_race ≡ told.first_race
 
--- What is told beside the turns of nodes makes a report of them, in which the races are those named. The events that make the turns are told
--- with their nodes.
-pub record IsTold (program : Program) (nodes : ℕ) (options : OptionsRecord) (logs : List (List EntryRecord)) (told : ToldRun) : Type 0 where
+-- What is told beside the turns of nodes makes a report of them, in which the races are those named. Where all is kept, the events that make
+-- the turns are told with their nodes, and where the acts come from.
+pub record IsTold (program : Program) (nodes : ℕ) (options : OptionsRecord) (keep : Keep) (logs : List (List EntryRecord)) (told : ToldRun)
+    : Type 0 where
   pub woven : (report : Report) → Reports logs told report → IsWovenReport program nodes options told.events.items report
-  pub turned : told.turned.items ≡ turned_of program nodes options told.events.items
+  pub turned : told.turned.items ≡ when_all keep (turned_of program nodes options told.events.items)
+  pub origins : AreOriginsOf keep program nodes logs told.turned.items told.acts.items told.origins
   pub races : AreNamedRaces told.acts.items told.races.items

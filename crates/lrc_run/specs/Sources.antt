@@ -1,7 +1,6 @@
 -- The turns that sent what nodes took.
 use Rattle.std.specs.Prelude.{◌≡◌, ◌+◌, ℕ, Some, List, max, slice_get, take}
 use Rattle.lrc_envelope.specs.Envelope.{EnvelopeRecord}
-use Rattle.lrc_protocol.specs.Follows.{log_of}
 use Rattle.lrc_protocol.specs.Run.{taken, EntryRecord, last_stamp}
 
 -- a message is among some

@@ -20,6 +20,7 @@ use lrc_post::{Post, Wires};
 use lrc_setting::setting::Setting;
 use lrc_threads::{Gate, Parts, first_failure, parts_of, pasts_of};
 use lrc_weave::WeaveFault;
+use lrc_world::keep::Keep;
 use lrc_world::report::Report;
 use lrc_world::run::Run;
 use std::alloc::{AllocError, Global};
@@ -36,7 +37,8 @@ pub struct ThreadedRun {
 }
 
 /// Runs a program with each node on a separate thread, and a post between them. `picker` chooses which of its messages
-/// a node is given next. Before each of its turns a node passes the gate.
+/// a node is given next. Before each of its turns a node passes the gate. The run keeps all turns of its nodes, and
+/// whatever else `keep` says.
 ///
 /// If there is no report, the error hands back what is left of the nodes, and the reason. Either the lowest node that
 /// failed wore out, by the turns handed back, or had no memory. Or no node failed, and the turns and the mailboxes'
@@ -47,16 +49,17 @@ pub fn run_on_threads<G: Gate + Sync, R: Threads + Wait + Sync>(
     program: &Program,
     setting: &Setting,
     picker: Picker,
+    keep: Keep,
     gate: &G,
 ) -> Result<ThreadedRun, Halt>
     ensures run { IfOk result (λ run. IsThreadedRun program.now setting.now.nodes.count
-        (options_of setting.now) picker run.made run.wires) }
+        (options_of setting.now) picker keep run.made run.wires) }
     ensures halt { IfErr result (IsHalt program.now setting.now.nodes.count
         (options_of setting.now) picker) }
 {
     let (parts, wires) = live(rt, alloc, program, setting, picker, gate)?;
     match first_failure(parts.stops.as_slice()) {
-        None => finished(alloc, program, setting, parts, wires),
+        None => finished(alloc, program, setting, keep, parts, wires),
         Some(failure) => Err(halt_at(alloc, program, setting, left_of(parts, wires), failure)),
     }
 }
@@ -91,6 +94,7 @@ fn finished(
     alloc: Global,
     program: &Program,
     setting: &Setting,
+    keep: Keep,
     parts: Parts,
     wires: Wires,
 ) -> Result<ThreadedRun, Halt>
@@ -102,14 +106,15 @@ fn finished(
         (turns_of_logs parts.logs.items) parts.traces.items parts.is_any_ready }
     ensures run { (picker : AnyPicker) → AreOf picker wires
         → IfOk result (λ run. IsThreadedRun program.now setting.now.nodes.count
-        (options_of setting.now) picker run.made run.wires) }
+        (options_of setting.now) picker keep run.made run.wires) }
     ensures halt { (picker : AnyPicker) → AreLeft program.now setting.now.nodes.count
         (options_of setting.now) picker
         (turns_of_logs parts.logs.items) parts.stops.items wires
         → IfErr result (IsHalt program.now setting.now.nodes.count (options_of setting.now)
         picker) }
 {
-    match told(alloc, program, setting, &parts, wires.mailboxes()) {
+    let kept = keep.with_turns();
+    match told(alloc, program, setting, kept, &parts, wires.mailboxes()) {
         Ok(told) => Ok(reported(parts, wires, told)),
         Err(WeaveFault::Mismatch) => Err(Halt::Mismatch(left_of(parts, wires))),
         Err(WeaveFault::NoMemory) => Err(Halt::NoMemory),
@@ -121,12 +126,14 @@ fn reported(parts: Parts, wires: Wires, told: ToldRun) -> ThreadedRun
     ensures report { Reports (turns_of_logs parts.logs.items) told result.made.report }
     ensures events { result.made.events ≡ told.events }
     ensures turned { result.made.turned ≡ told.turned }
+    ensures origins { result.made.origins ≡ told.origins }
     ensures over { result.made.is_over ≡ true }
     ensures wires { result.wires ≡ wires }
 {
     let ToldRun {
         events,
         turned,
+        origins,
         acts,
         ends,
         races,
@@ -142,6 +149,7 @@ fn reported(parts: Parts, wires: Wires, told: ToldRun) -> ThreadedRun
     let made = Run {
         events,
         turned,
+        origins,
         is_over: true,
         report,
     };

@@ -4,6 +4,7 @@ ghost use Rattle.std.specs.Prelude.{◌≡◌, ◌↔◌, ◌⊎◌, Err, IfErr,
 ghost use Rattle.lrc_exec.specs.Nodes.{AreNodes};
 ghost use Rattle.lrc_setting.specs.Ranges.{AreSteps};
 ghost use Rattle.lrc_node.specs.Options.{options_of};
+ghost use Rattle.lrc_world.specs.declared.keep.Keep.TheVariants.{Turns};
 ghost use Rattle.lrc_world.specs.declared.run.Run.{Run as AnyRun};
 ghost use Rattle.lrc_run.specs.Halts.{IsRunFault};
 ghost use Rattle.lrc_run.specs.Run.{IsThreadedRun};
@@ -16,6 +17,7 @@ use lrc_node::Options;
 use lrc_post::Wires;
 use lrc_setting::setting::Setting;
 use lrc_threads::{Gate, OpenGate};
+use lrc_world::keep::Keep;
 use lrc_world::report::{Report, SimFault};
 use lrc_world::setting::setting_of;
 use std::alloc::Global;
@@ -43,7 +45,7 @@ pub fn run<R: Threads + Wait + Sync>(
     picker: Picker,
 ) -> Result<(Report, Wires), RunFault>
     ensures run { IfOk result (λ done. (made : AnyRun) × (done.0 ≡ made.report)
-        × IsThreadedRun program.now nodes options.now picker made done.1) }
+        × IsThreadedRun program.now nodes options.now picker Turns made done.1) }
     ensures fault { IfErr result (IsRunFault program.now nodes options.now picker) }
     ensures bad_nodes { (result ≡ Err RunFault.BadNodes) ↔ (¬ AreNodes nodes) }
     ensures bad_steps { (result ≡ Err RunFault.BadSteps)
@@ -63,14 +65,14 @@ pub fn run_gated<G: Gate + Sync, R: Threads + Wait + Sync>(
     gate: &G,
 ) -> Result<(Report, Wires), RunFault>
     ensures run { IfOk result (λ done. (made : AnyRun) × (done.0 ≡ made.report)
-        × IsThreadedRun program.now nodes options.now picker made done.1) }
+        × IsThreadedRun program.now nodes options.now picker Turns made done.1) }
     ensures fault { IfErr result (IsRunFault program.now nodes options.now picker) }
     ensures bad_nodes { (result ≡ Err RunFault.BadNodes) ↔ (¬ AreNodes nodes) }
     ensures bad_steps { (result ≡ Err RunFault.BadSteps)
         ↔ (AreNodes nodes × ¬ AreSteps options.now.steps) }
 {
     let setting = check(nodes, options)?;
-    match run_on_threads(rt, alloc, program, &setting, picker, gate) {
+    match run_on_threads(rt, alloc, program, &setting, picker, Keep::Turns, gate) {
         Ok(run) => Ok(told_of(run)),
         Err(halt) => Err(RunFault::from(halt)),
     }

@@ -1,6 +1,6 @@
 // What is told of a run by what its nodes left.
 
-ghost use Rattle.std.specs.Prelude.{◌≡◌, ◌<◌, ◌↔◌, [], All, Any, Err, IfOk, IsTrue, MatchOption, OnOk, false, length};
+ghost use Rattle.std.specs.Prelude.{◌≡◌, ◌<◌, ◌≤◌, ◌↔◌, ℕ, [], All, Any, Err, IfOk, IsTrue, MatchOption, OnOk, false, length};
 ghost use Rattle.lrc_protocol.specs.Run.{turns_of_logs};
 ghost use Rattle.lrc_trace.specs.Conflict.{IsFirstRace, IsRaceFree};
 ghost use Rattle.lrc_judge.specs.declared.TheConstants.{NODES};
@@ -9,12 +9,15 @@ ghost use Rattle.lrc_post.specs.Mailbox.{IsAllGiven};
 ghost use Rattle.lrc_weave.specs.declared.fault.WeaveFault.TheVariants.{Mismatch};
 ghost use Rattle.lrc_weave.specs.Logs.{AreLogs};
 ghost use Rattle.lrc_weave.specs.Matched.{AreMatched};
+ghost use Rattle.lrc_lang.specs.declared.program.Program.{Program as AnyProgram};
+ghost use Rattle.lrc_protocol.specs.Node.{OptionsRecord};
 ghost use Rattle.lrc_world.specs.Ends.{ends_of};
+ghost use Rattle.lrc_world.specs.Turned.{HaveLogs, turned_of, when_all};
 ghost use Rattle.lrc_node.specs.Options.{options_of};
 ghost use Rattle.lrc_run.specs.Run.{AreWhole, IsTold, IsUntold};
 
 use lrc_lang::program::Program;
-use lrc_node::End;
+use lrc_node::{End, Entry};
 use lrc_post::Mailbox;
 use lrc_protocol::Event;
 use lrc_race::races;
@@ -26,6 +29,8 @@ use lrc_trace::trace::Trace;
 use lrc_weave::{WeaveFault, WovenRun, weave_run};
 use lrc_world::ends::ends;
 use lrc_world::first::first_of;
+use lrc_world::keep::Keep;
+use lrc_world::origins::{Origins, origins_of};
 use lrc_world::turned::{Turned, turned_events};
 use std::alloc::{AllocError, Global};
 
@@ -34,6 +39,7 @@ use std::alloc::{AllocError, Global};
 pub(crate) struct ToldRun {
     pub events: Vec<Event>,
     pub turned: Vec<Turned>,
+    pub origins: Origins,
     pub acts: Vec<Act>,
     pub ends: Vec<End>,
     pub races: Vec<Race>,
@@ -48,13 +54,15 @@ struct Findings {
     first_race: Option<usize>,
 }
 
-/// Returns what is reported of the nodes' turns, and the events that make them, each with its node. No event is played
-/// again: the acts are those of the turns, and the races those of the nodes' traces. It fails with `Mismatch` only if
-/// the mailboxes' histories do not agree with the turns, or something was left to do or to give.
+/// Returns what is reported of the nodes' turns, and the events that make them; if all is kept, also their nodes, and
+/// where the acts come from. No event is played again: the acts are those of the turns, and the races those of the
+/// nodes' traces. It fails with `Mismatch` only if the mailboxes' histories do not agree with the turns, or something
+/// was left to do or to give.
 pub(crate) fn told(
     alloc: Global,
     program: &Program,
     setting: &Setting,
+    keep: Keep,
     parts: &Parts,
     wires: &[Mailbox],
 ) -> Result<ToldRun, WeaveFault>
@@ -65,7 +73,7 @@ pub(crate) fn told(
         parts.now.is_any_ready }
     requires wires { length wires.now ≡ setting.now.nodes.count }
     ensures told { IfOk result (IsTold program.now setting.now.nodes.count
-        (options_of setting.now)
+        (options_of setting.now) keep
         (turns_of_logs parts.now.logs.items)) }
     ensures matched { OnOk result (AreMatched (turns_of_logs parts.now.logs.items)
         wires.now) }
@@ -83,8 +91,28 @@ pub(crate) fn told(
     let traces = parts.traces.as_slice();
     let found = findings_of(alloc, setting.nodes, acts, traces)?;
     let events = run.events.as_slice();
-    let turned = turned_events(alloc, logs, events)?;
-    Ok(with_findings(run, turned, found))
+    let turned = turned_if(alloc, keep, logs, events)?;
+    let nodes = setting.nodes.number();
+    let origins = origins_of(alloc, keep, program, nodes, logs, &turned, acts)?;
+    Ok(with_findings(run, turned, origins, found))
+}
+
+// The turns that the events of a run make, where all is kept of it.
+fn turned_if(
+    alloc: Global,
+    keep: Keep,
+    logs: &[Vec<Entry>],
+    events: &[Event],
+) -> Result<Vec<Turned>, AllocError>
+    ensures { IfOk result (λ turned. (program : AnyProgram) (nodes : ℕ) (options : OptionsRecord)
+        → nodes ≤ 256
+        → HaveLogs program nodes options events.now (turns_of_logs logs.now)
+        → turned.items ≡ when_all keep (turned_of program nodes options events.now)) }
+{
+    match keep {
+        Keep::All => turned_events(alloc, logs, events),
+        Keep::Newest | Keep::Turns => Ok(Vec::new(alloc)),
+    }
 }
 
 // Whether nothing is in flight in any mailbox.
@@ -120,10 +148,11 @@ fn findings_of(
     })
 }
 
-// A run with the turns that its events make, and what is found in it.
-fn with_findings(run: WovenRun, turned: Vec<Turned>, found: Findings) -> ToldRun
+// A run with the turns that its events make, where its acts come from, and what is found in it.
+fn with_findings(run: WovenRun, turned: Vec<Turned>, origins: Origins, found: Findings) -> ToldRun
     ensures events { result.events ≡ run.events }
     ensures turned { result.turned ≡ turned }
+    ensures origins { result.origins ≡ origins }
     ensures acts { result.acts ≡ run.acts }
     ensures ends { result.ends ≡ found.ends }
     ensures races { result.races ≡ found.races }
@@ -138,6 +167,7 @@ fn with_findings(run: WovenRun, turned: Vec<Turned>, found: Findings) -> ToldRun
     ToldRun {
         events,
         turned,
+        origins,
         acts,
         ends,
         races,

@@ -13,10 +13,11 @@ returns-in-Ok-clause-run c = λ picker picked.
     let options = options_of c.args.setting.now in
     let logs = map (λ log. log.items) c.args.parts.logs.items in
     let run = c.reported.result.made in
-    subst (λ (wires : List MailboxRecord). IsThreadedRun program nodes options picker run wires)
+    subst (λ (wires : List MailboxRecord). IsThreadedRun program nodes options picker c.args.keep run wires)
     (sym c.reported.ensures.wires)
-    (threaded_run program nodes options picker logs c.in-Ok.told run c.args.wires c.args.setting.now.nodes.some
-    c.in-Ok.ensures.told c.reported.ensures.report c.reported.ensures.events c.reported.ensures.turned c.reported.ensures.over
+    (threaded_run program nodes options picker logs c.in-Ok.told run c.args.wires c.args.keep c.with_turns-kept.result c.args.setting.now.nodes.some
+    c.with_turns-kept.ensures c.in-Ok.ensures.told c.reported.ensures.report c.reported.ensures.events c.reported.ensures.turned
+    c.reported.ensures.origins c.reported.ensures.over
     (subst (λ (wires : List MailboxRecord). AreMatched logs wires) c.mailboxes.ensures.all c.in-Ok.ensures.matched)
     (subst (λ (wires : List MailboxRecord). All IsAllGiven wires) c.mailboxes.ensures.all c.in-Ok.ensures.taken)
     c.requires.mailboxes

@@ -1,6 +1,7 @@
 use Rattle.std.proofs.Common.{ℕ, subst, sym}
 use Rattle.lrc_protocol.specs.Node.{OptionsRecord}
 use Rattle.lrc_run.specs.Halts.{IsRunFault, fault_of}
+use Rattle.lrc_world.specs.declared.keep.Keep.TheVariants.{Turns}
 use Rattle.lrc_run.specs.Run.{IsThreadedRun}
 use Rattle.lrc_run.proofs.Halting.{of_halt}
 use Rattle.lrc_node.specs.Options.{options_of}
@@ -14,9 +15,9 @@ returns-in-Ok-clause-run g c =
     let picker = c.args.picker in (
       run.made,
       c.told_of.ensures.report,
-      subst (λ wires. IsThreadedRun program c.args.nodes c.args.options.now picker run.made wires) (sym c.told_of.ensures.wires)
-          (subst (λ (n : ℕ). IsThreadedRun program n c.args.options.now picker run.made run.wires) c.in_ok-setting.ensures.0
-          (subst (λ (o : OptionsRecord). IsThreadedRun program setting.nodes.count o picker run.made run.wires) c.in_ok-setting.ensures.1
+      subst (λ wires. IsThreadedRun program c.args.nodes c.args.options.now picker Turns run.made wires) (sym c.told_of.ensures.wires)
+          (subst (λ (n : ℕ). IsThreadedRun program n c.args.options.now picker Turns run.made run.wires) c.in_ok-setting.ensures.0
+          (subst (λ (o : OptionsRecord). IsThreadedRun program setting.nodes.count o picker Turns run.made run.wires) c.in_ok-setting.ensures.1
           c.in-Ok.ensures.run)),
     )
 

@@ -3,11 +3,11 @@ use Rattle.std.specs.Prelude.{All, MatchOption}
 use Rattle.lrc_judge.specs.Races.{AreNamedRaces}
 use Rattle.lrc_trace.specs.Conflict.{IsFirstRace, IsRaceFree}
 use Rattle.lrc_world.specs.Ends.{ends_of}
-use Rattle.lrc_world.specs.Turned.{HaveLogs, turned_of}
+use Rattle.lrc_world.specs.Turned.{HaveLogs, turned_of, when_all}
 use Rattle.lrc_node.specs.Options.{options_of}
 use Rattle.lrc_run.specs.Run.{IsUntold, IsWovenReport}
-use Rattle.lrc_run.proofs.Telling.{acts_told, left_over, over_told, raceless_told, races_told, report_told, run_told, traces_told}
-use Rattle.lrc_run.proofs.Telling.{weave_told, woven_told}
+use Rattle.lrc_run.proofs.Telling.{acts_own, acts_told, left_over, over_told, raceless_told, races_told, report_told, run_told, traces_told}
+use Rattle.lrc_run.proofs.Telling.{same_origins, weave_told, woven_told}
 use Rattle.lrc_run.proofs.told.told.Goals.{then-parts-via-then-parts, then-parts-via-else-parts+then-run-gt0}
 use Rattle.lrc_run.proofs.told.told.Goals.{then-parts-via-else-parts+else-run-gt0+then-not-are_all_given}
 use Rattle.lrc_run.proofs.told.told.Goals as goal
@@ -32,6 +32,22 @@ findings_of-requires c =
       raceless = λ none. subst IsRaceFree (sym acts)
           (raceless_told program nodes options logs run.events.items run.acts.items run.in_flight m c.as_slice-traces.result.now its none);
     }
+
+pub origins_of-requires-clause-acts : goal.origins_of-requires-clause-acts
+origins_of-requires-clause-acts c =
+    let program = c.args.program.now in
+    let nodes = c.args.setting.now.nodes.count in
+    let options = options_of c.args.setting.now in
+    let parts = c.args.parts.now in
+    let run = c.in_ok-run.run' in
+    let logs = map (λ log. log.items) parts.logs.items in
+    let m = run_told (λ log. log.items) c.as_slice-logs.result.now parts.logs.items (search rules) program nodes options run.events.items
+    run.acts.items run.in_flight c.requires.turns c.in_ok-run.ensures.makes in
+    let acts : c.as_slice-acts.result.now ≡ run.acts.items = search rules in
+    let count : c.number-nodes.result ≡ nodes = search rules in
+    subst (λ n. All (λ act. act.node < n) c.as_slice-acts.result.now) (sym count)
+    (subst (All (λ act. act.node < nodes)) (sym acts)
+    (acts_own program nodes options logs run.events.items run.acts.items run.in_flight m))
 
 pub returns-then-parts-clause-mismatch : goal.returns-then-parts-clause-mismatch
 returns-then-parts-clause-mismatch c = λ answered.
@@ -98,8 +114,13 @@ returns-clause-told c =
           c.requires.whole.short);
       turned = ap (λ turned. turned.items) c.with_findings.ensures.turned
           ∙ c.in_ok-turned.ensures program nodes options (omega (arith, c.args.setting.now.nodes.few)) have
-          ∙ ap (λ events. turned_of program nodes options events) events
-          ∙ ap (λ events. turned_of program nodes options events.items) (sym c.with_findings.ensures.events);
+          ∙ ap (λ events. when_all c.args.keep (turned_of program nodes options events)) events
+          ∙ ap (λ events. when_all c.args.keep (turned_of program nodes options events.items)) (sym c.with_findings.ensures.events);
+      origins = same_origins c.args.keep program c.number-nodes.result nodes (map (λ log. log.items) c.as_slice-logs.result.now) logs
+          c.deref.result.now told.turned.items c.as_slice-acts.result.now told.acts.items c.in_ok-origins.origins told.origins
+          (search rules) (ap (map (λ log. log.items)) read)
+          (c.deref.ensures.value ∙ ap (λ turned. turned.items) (sym c.with_findings.ensures.turned))
+          (acts ∙ ap (λ acts. acts.items) (sym c.with_findings.ensures.acts)) (sym c.with_findings.ensures.origins) c.in_ok-origins.ensures;
       races = subst (λ acts. AreNamedRaces acts.items told.races.items) (sym c.with_findings.ensures.acts)
           (subst (λ races. AreNamedRaces run.acts.items races.items) (sym c.with_findings.ensures.races)
           (races_told program nodes options logs run.events.items run.acts.items run.in_flight m c.as_slice-traces.result.now found.races.items
