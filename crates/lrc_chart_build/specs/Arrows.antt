@@ -1,5 +1,5 @@
 -- The messages of a picture: of each row those that its turn sends.
-use Rattle.std.specs.Prelude.{ℕ, ◌==◌, Bool, true, false, not, Option, None, Some, List, [], ◌∷◌, slice_get}
+use Rattle.std.specs.Prelude.{ℕ, ◌==◌, Bool, not, Option, None, Some, List, [], ◌∷◌, slice_get}
 use Rattle.std.specs.List.{flat_map, position}
 use Rattle.lrc_text.specs.Each.{each}
 use Rattle.lrc_envelope.specs.Envelope.{EnvelopeRecord}

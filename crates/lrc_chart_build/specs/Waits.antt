@@ -1,5 +1,5 @@
 -- What a turn without an act is for: what its node begins to wait for, and the pages that become invalid at it.
-use Rattle.std.specs.Prelude.{ℕ, ◌==◌, Bool, true, false, Option, None, Some, List, [], ◌∷◌, ◌++◌, codes, decimal, if◌then◌else◌, take}
+use Rattle.std.specs.Prelude.{ℕ, ◌==◌, Bool, false, Option, None, Some, List, [], ◌∷◌, ◌++◌, codes, decimal, if◌then◌else◌, take}
 use Rattle.std.specs.List.{flat_map, list_any}
 use Rattle.lrc_trace.specs.declared.act.Act.{Act}
 use Rattle.lrc_text.specs.Each.{each}

@@ -3,7 +3,7 @@
 use lrc_chart_rows::TurnOf;
 use lrc_judge::first_pairs::Pair;
 use lrc_labels::label::Label;
-use lrc_time::Time;
+use lrc_timeline::timeline::Timeline;
 use lrc_trace::act::Act;
 use std::marker::Model;
 
@@ -14,7 +14,7 @@ use std::marker::Model;
 pub struct Known<'a> {
     pub acts: &'a [Act],
     pub lines: &'a [u32],
-    pub times: &'a [Time],
+    pub times: &'a Timeline,
     pub pairs: &'a [Pair],
     pub labels: &'a [Label<'a>],
 }
@@ -22,11 +22,12 @@ pub struct Known<'a> {
 impl<'a> Model for Known<'a> {
     ghost use Rattle.std.specs.Prelude.{map};
     ghost use Rattle.lrc_labels.specs.Reading.{label_seen};
+    ghost use Rattle.lrc_timeline.specs.Timeline.{times_in};
     ghost use Rattle.lrc_chart_build.specs.Course.{KnownRecord};
 
     ghost Value = { KnownRecord };
 
-    ghost view = { λ k. record { acts = k.acts.now; lines = k.lines.now; times = k.times.now; pairs = k.pairs.now; labels = map label_seen k.labels.now } };
+    ghost view = { λ k. record { acts = k.acts.now; lines = k.lines.now; times = times_in k.times.now; pairs = k.pairs.now; labels = map label_seen k.labels.now } };
 }
 
 /// A run: its turns in order, its acts with what is known about them, and the node that each node waits for at the end

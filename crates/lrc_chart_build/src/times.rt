@@ -1,7 +1,8 @@
 // Times of acts in words.
 
-ghost use Rattle.std.specs.Prelude.{◌≡◌, ◌++◌, IfOk, OnOk, option_map, slice_get};
+ghost use Rattle.std.specs.Prelude.{◌≡◌, ◌++◌, IfOk, OnOk, option_map};
 ghost use Rattle.lrc_clock.specs.Times.{acts_at};
+ghost use Rattle.lrc_timeline.specs.Timeline.{times_in};
 ghost use Rattle.lrc_chart_build.specs.Words.{changes_since, entries_text, hint_text, hint_words, is_act_of, last_act, new_time_text, same_time};
 
 use crate::course::Known;
@@ -10,15 +11,9 @@ use crate::words::line_at;
 use lrc_acts_text::push_entries;
 use lrc_text::push_number;
 use lrc_time::Time;
+use lrc_timeline::timeline::Timeline;
 use lrc_trace::act::Act;
 use std::alloc::{AllocError, Global};
-
-// The time at a position.
-fn time_at(times: &[Time], position: usize) -> Option<&Time>
-    ensures { option_map (λ time. time.now) result ≡ slice_get times.now position }
-{
-    times.get(position)
-}
 
 fn acts_at(acts: &[Act], node: u8, position: usize) -> bool
     ensures { result ≡ acts_at acts.now node position }
@@ -62,11 +57,11 @@ fn is_same(a: Option<&Time>, b: Option<&Time>) -> bool
 }
 
 // Whether the time at a position is another one than at the position before.
-fn changes_since(times: &[Time], position: usize, before: Option<usize>) -> bool
-    ensures { result ≡ changes_since times.now position before }
+fn changes_since(times: &Timeline, position: usize, before: Option<usize>) -> bool
+    ensures { result ≡ changes_since (times_in times.now) position before }
 {
     match before {
-        Some(before) => !is_same(time_at(times, before), time_at(times, position)),
+        Some(before) => !is_same(times.at(before), times.at(position)),
         None => true,
     }
 }
@@ -96,7 +91,7 @@ pub fn new_time_text(
     if let Some(position) = act {
         let last = last_act(known.acts, node, before);
         if changes_since(known.times, position, last) {
-            push_entries_if(&mut text, time_at(known.times, position))?;
+            push_entries_if(&mut text, known.times.at(position))?;
         }
     }
     Ok(text)
@@ -128,7 +123,7 @@ pub fn hint_text(
     let mut text = Vec::new(alloc);
     if let Some(position) = act {
         let line = line_at(known.lines, position);
-        push_hint(&mut text, position, line, time_at(known.times, position))?;
+        push_hint(&mut text, position, line, known.times.at(position))?;
     }
     Ok(text)
 }

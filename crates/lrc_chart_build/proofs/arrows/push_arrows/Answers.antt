@@ -1,4 +1,4 @@
-use Rattle.std.proofs.Common.{◌∙◌, ◌++◌, ℕ, List, ap, ap₂, get_or, map, refl}
+use Rattle.std.proofs.Common.{◌∙◌, ◌++◌, ℕ, List, ap₂, get_or, map, refl}
 use Rattle.std.specs.Prelude.{Bool, Option}
 use Rattle.lrc_chart_build.specs.Arrows.{arrow_if, is_later, place_of_turn}
 use Rattle.lrc_chart_build.specs.Seen.{SeenArrow, seen_arrow}

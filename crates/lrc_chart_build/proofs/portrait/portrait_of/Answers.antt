@@ -1,4 +1,4 @@
-use Rattle.std.proofs.Common.{rules, ◌≡◌, ◌∙◌, ◌<◌, ◌≤◌, ℕ, Bool, Bor, List, Option, [], ap, ap₂, length, option_map, refl, subst}
+use Rattle.std.proofs.Common.{rules, ◌≡◌, ◌∙◌, ◌<◌, ◌≤◌, ℕ, Bool, Bor, List, Option, [], ap, ap₂, length, option_map, subst}
 use Rattle.std.specs.Prelude.{if◌then◌else◌}
 use Rattle.lrc_turns_text.specs.Turns.{Made}
 use Rattle.lrc_chart_rows.specs.Rows.{rows_of}
