@@ -66,7 +66,7 @@ fn portrait_in(
     let known = Known {
         acts,
         lines,
-        times: times.as_slice(),
+        times: &times,
         pairs: pairs.as_slice(),
         labels: &[],
     };

@@ -1,7 +1,9 @@
 // The times of acts, by what happens before what.
 
-ghost use Rattle.std.specs.Prelude.{◌≡◌, ◌<◌, ◌≤◌, ◌+◌, ◌∷◌, ◌++◌, [], IfOk, OnOk, if◌then◌else◌, is_some};
+ghost use Rattle.std.specs.Prelude.{◌≡◌, ◌<◌, ◌≤◌, ◌+◌, All, IfOk, if◌then◌else◌, is_some};
+ghost use Rattle.lrc_judge.specs.declared.TheConstants.{NODES};
 ghost use Rattle.lrc_time.specs.Time.{zeros};
+ghost use Rattle.lrc_timeline.specs.Timeline.{times_in};
 ghost use Rattle.lrc_trace.specs.Interval.{closes};
 ghost use Rattle.lrc_chart_build.specs.Course.{is_act_at, shown_act};
 ghost use Rattle.lrc_chart_acts.specs.Times.{count_closed, is_closed, time_if, time_known, times_known};
@@ -10,6 +12,7 @@ use lrc_chart_build::Place;
 use lrc_explain::act_at;
 use lrc_judge::order::Order;
 use lrc_time::Time;
+use lrc_timeline::timeline::Timeline;
 use lrc_trace::act::{Act, Deed};
 use std::alloc::{AllocError, Global};
 
@@ -94,26 +97,6 @@ fn time_if(order: &Order, acts: &[Act], nodes: u8, places: &[Place], position: u
     }
 }
 
-// Adds the time of the act at a position.
-fn push_time(
-    times: &mut Vec<Time>,
-    order: &Order,
-    acts: &[Act],
-    nodes: u8,
-    places: &[Place],
-    position: usize,
-) -> Result<(), AllocError>
-    requires some { 1 ≤ nodes }
-    requires few { nodes ≤ 16 }
-    requires position { position < 4294967295 }
-    ensures { OnOk result (times.new.items ≡ times.old.items
-        ++ (if is_some (shown_act places.now position) then time_known order.now acts.now nodes
-        position else zeros nodes) ∷ []) }
-{
-    times.push(time_if(order, acts, nodes, places, position))?;
-    Ok(())
-}
-
 /// Returns the times of the acts that are shown, and zeros for the other acts. It fails if memory runs out, or if there
 /// are 4,294,967,295 acts or more.
 pub(crate) fn times_known(
@@ -122,17 +105,19 @@ pub(crate) fn times_known(
     acts: &[Act],
     nodes: u8,
     places: &[Place],
-) -> Result<Vec<Time>, AllocError>
+) -> Result<Timeline, AllocError>
     requires some { 1 ≤ nodes }
     requires few { nodes ≤ 16 }
-    ensures { IfOk result (λ times. times.items ≡ times_known order.now acts.now nodes places.now) }
+    requires acts { All (λ act. act.node < NODES) acts.now }
+    ensures { IfOk result
+        (λ times. times_in times ≡ times_known order.now acts.now nodes places.now) }
 {
     if acts.len() >= u32::MAX as usize {
         return Err(AllocError);
     }
-    let mut times = Vec::new(alloc);
-    for position in 0..acts.len() {
-        push_time(&mut times, order, acts, nodes, places, position)?;
+    let mut times = Timeline::none(alloc);
+    for (position, act) in acts.iter().enumerate() {
+        times.push(act.node, &time_if(order, acts, nodes, places, position))?;
     }
     Ok(times)
 }

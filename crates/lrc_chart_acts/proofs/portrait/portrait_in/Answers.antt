@@ -2,6 +2,7 @@ use Rattle.std.proofs.Common.{◌∙◌, [], List, ap, refl, subst, sym}
 use Rattle.std.proofs.lemmas.Result.{IfOk-weaker}
 use Rattle.lrc_judge.specs.FirstPairs.{AreFirstPairs}
 use Rattle.lrc_judge.specs.declared.lanes.Pair.{Pair}
+use Rattle.lrc_timeline.specs.Timeline.{times_in}
 use Rattle.lrc_chart_build.specs.Course.{KnownRecord}
 use Rattle.lrc_chart_build.specs.declared.part.Place.{Place}
 use Rattle.lrc_chart_acts.specs.Picture.{IsPictureOfActs}
@@ -16,8 +17,8 @@ returns c =
     let known : KnownRecord = record {
       acts = acts;
       lines = c.args.lines.now;
-      times = c.as_slice.result.now;
-      pairs = c.as_slice-2.result.now;
+      times = times_in c.in_ok-times.times;
+      pairs = c.as_slice.result.now;
       labels = [];
     } in
     IfOk-weaker c.picture_of.result _ _
@@ -28,8 +29,8 @@ returns c =
       known_is = record {
         acts_are = refl;
         lines_are = refl;
-        times = c.as_slice.ensures.value ∙ c.in_ok-times.ensures ∙ ap (times_known order acts nodes) shown;
-        pairs = subst (λ (pairs : List Pair). AreFirstPairs acts pairs) (sym c.as_slice-2.ensures.value) c.in_ok-pairs.ensures;
+        times = c.in_ok-times.ensures ∙ ap (times_known order acts nodes) shown;
+        pairs = subst (λ (pairs : List Pair). AreFirstPairs acts pairs) (sym c.as_slice.ensures.value) c.in_ok-pairs.ensures;
         labels = refl;
       };
       picture_is = subst (λ (l : List Place). IsPictureOfActs c.args.title.now nodes order known l picture) shown is;
