@@ -296,13 +296,25 @@ impl<'c> World<'c> {
 
     // Adds the node's newest turn, with the event that made it, and what it did: its act, and its messages in flight. Of the
     // node's log is left what is to be kept.
+    #[inline(always)]
     fn follow(&mut self, turn: Turned) -> Result<(), TurnFault>
         ensures adds { (entry : EntryRecord) → NodeLogsLast self.old turn.node entry
             → AddsTo self.old self.new turn.node entry result }
         ensures turned { OnOk result (NotesTurn self.old self.new turn.event (Some turn.node)) }
     {
+        self.add_newest(usize::from(turn.node))?;
         note_turn(self.keep, &mut self.turned, turn)?;
-        let node = turn.node as usize;
+        Ok(())
+    }
+
+    // Adds what the node's newest turn did, and leaves of its log what is to be kept.
+    #[inline(never)]
+    fn add_newest(&mut self, node: usize) -> Result<(), TurnFault>
+        ensures adds { (entry : EntryRecord) → NodeLogsLast self.old node entry
+            → AddsTo self.old self.new node entry result }
+        ensures keep { self.new.keep ≡ self.old.keep }
+        ensures turned { self.new.turned ≡ self.old.turned }
+    {
         let Some(logged) = self.nodes.get(node) else {
             return Ok(());
         };
@@ -358,6 +370,7 @@ fn note(acts: &mut Vec<Act>, act: Option<Act>) -> Result<(), AllocError>
 }
 
 // Adds a turn with its event, if all is kept.
+#[inline(always)]
 fn note_turn(keep: Keep, turned: &mut Vec<Turned>, turn: Turned) -> Result<(), AllocError>
     ensures { OnOk result (turned.new.items ≡ turned.old.items ++ when_all keep (turn ∷ [])) }
 {
