@@ -7,6 +7,7 @@ use lrc_lang::program::Program;
 use lrc_page::Size;
 use lrc_run::{Halt, OpenGate, Stop, WornOut, run_on_threads};
 use lrc_setting::setting::{Nodes, Setting, Steps};
+use lrc_world::keep::Keep;
 use std::alloc::Global;
 use std::sync::Wait;
 use std::thread::Threads;
@@ -60,7 +61,15 @@ fn halts_so<R: Threads + Wait + Sync>(rt: &R, alloc: Global, program: &Program, 
         size: Size::Words64,
         first: u32::MAX,
     };
-    match run_on_threads(rt, alloc, program, &setting, Picker::Oldest, &OpenGate) {
+    match run_on_threads(
+        rt,
+        alloc,
+        program,
+        &setting,
+        Picker::Oldest,
+        Keep::Turns,
+        &OpenGate,
+    ) {
         Err(Halt::Worn(worn)) => is_left_so(&worn, row),
         Ok(_) | Err(Halt::Refused(_) | Halt::Mismatch(_) | Halt::NoMemory) => false,
     }

@@ -12,6 +12,8 @@ mod halts;
 #[cfg(test)]
 mod letters;
 #[cfg(test)]
+mod origins;
+#[cfg(test)]
 mod refusals;
 #[cfg(test)]
 mod rows;

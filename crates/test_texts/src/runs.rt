@@ -4,8 +4,9 @@ use lrc_acts_text::{acts_part, json_part, rapid_part};
 use lrc_labels::label::Label;
 use lrc_labels::read_labels;
 use lrc_time::Time;
+use lrc_timeline::timeline::Timeline;
 use lrc_trace::act::{Act, Deed};
-use std::alloc::Global;
+use std::alloc::{AllocError, Global};
 
 // Whether this is the text of the acts, of which each is of a line.
 fn says_acts(alloc: Global, acts: &[Act], lines: &[u32], text: &[u8]) -> bool {
@@ -134,6 +135,28 @@ fn times() -> [Time; 8] {
     ]
 }
 
+// The timeline of acts of two nodes with these times.
+fn timeline(alloc: Global, acts: &[Act], times: &[Time]) -> Result<Timeline, AllocError> {
+    let mut line = Timeline::none(alloc);
+    for (act, time) in acts.iter().zip(times.iter()) {
+        line.push(act.node % 2, time)?;
+    }
+    Ok(line)
+}
+
+// How many times are kept of the first acts.
+fn times_kept(alloc: Global) -> usize {
+    match timeline(alloc, &PASSED_ON[..8], &times()) {
+        Ok(line) => line.kept(),
+        Err(_) => 0,
+    }
+}
+
+#[test]
+fn a_time_is_kept_once(rt: HostRuntime) {
+    assert!(rt; times_kept(rt.alloc()) == 5);
+}
+
 // Whether this is what the acts are as JSON.
 fn says_json(
     alloc: Global,
@@ -143,10 +166,13 @@ fn says_json(
     times: &[Time],
     text: &[u8],
 ) -> bool {
+    let Ok(times) = timeline(alloc, acts, times) else {
+        return false;
+    };
     if lines.len() != acts.len() || times.len() != acts.len() {
         return false;
     }
-    match json_part(alloc, labels, acts, lines, times) {
+    match json_part(alloc, labels, acts, lines, &times) {
         Ok(part) => part.as_slice() == text,
         Err(_) => false,
     }
