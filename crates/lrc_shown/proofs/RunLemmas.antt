@@ -1,18 +1,25 @@
 -- What is known of a run that was made.
-use Rattle.std.proofs.Common.{◌≡◌, ◌<◌, ◌≤◌, ℕ, List, All as Every, IfOk, Option, None, Some, Result, Ok, Err, arith, get_or, refl, sym, subst}
-use Rattle.std.specs.Borrow.{Bor}
+use Rattle.std.proofs.Common.{◌≡◌, ◌≢◌, ◌∙◌, ◌<◌, ◌≤◌, ℕ, List, ap, All as Every, IfOk, Option, None, Some, Result, Ok, Err, arith, get_or, refl, sym, subst}
+use Rattle.lrc_clock.specs.Keeping.{KeepsTime}
 use Rattle.lrc_lang.specs.declared.program.Program.{Program}
+use Rattle.lrc_lines.specs.Statements.{act_statements}
+use Rattle.lrc_timeline.specs.Timeline.{times_in}
 use Rattle.lrc_trace.specs.declared.act.Act.{Act}
 use Rattle.lrc_events.specs.EventsText.{ReadsEvents}
 use Rattle.lrc_protocol.specs.declared.event.Event.{Event}
 use Rattle.lrc_protocol.specs.Node.{OptionsRecord}
 use Rattle.lrc_order_laws.proofs.TimesOfRuns.{acts_of_nodes}
+use Rattle.lrc_args.specs.declared.choice.Form.{Form}
+use Rattle.lrc_args.specs.declared.choice.Form.TheVariants.{States}
+use Rattle.lrc_args.specs.declared.choice.Part.{Part}
 use Rattle.lrc_args.specs.declared.choice.RunOptions.{RunOptions}
 use Rattle.lrc_args.specs.declared.choice.Shape.{Shape}
+use Rattle.lrc_args.specs.declared.choice.Shape.TheVariants.{Trace}
 use Rattle.lrc_args.specs.declared.choice.Way.{Way}
 use Rattle.lrc_args.specs.declared.choice.Way.TheVariants as ways
 use Rattle.lrc_world.specs.Report.{IsWornBy}
 use Rattle.lrc_world.specs.Runs.{IsRunBy}
+use Rattle.lrc_world.specs.World.{with_turns}
 use Rattle.lrc_world.specs.declared.keep.Keep.{Keep}
 use Rattle.lrc_world.specs.declared.keep.Keep.TheVariants.{All}
 use Rattle.lrc_world.specs.declared.run.Run.{Run}
@@ -30,6 +37,7 @@ of_events AreIts AreOthers program nodes options keep run is others = record {
   makes = is.makes;
   report = is.report;
   turned = is.turned;
+  origins = is.origins;
   races = is.races;
   over = is.over;
   kept = is.kept;
@@ -65,9 +73,10 @@ run_for (ways.Events file) shape program options None run is = absurd is
 run_for (ways.Events file) shape program options (Some text) run is = (keep_for shape, λ e. e, run_with _ program options (keep_for shape) run is)
 run_for (ways.Rounds order) shape program options events_text run is = (keep_for shape, λ e. e, run_with _ program options (keep_for shape) run is)
 run_for (ways.Random seed) shape program options events_text run is = (keep_for shape, λ e. e, run_with _ program options (keep_for shape) run is)
-run_for (ways.Threads order) shape program options events_text run is = (All, λ _. refl, run_with _ program options All run is.1.made)
+run_for (ways.Threads order) shape program options events_text run is =
+    (with_turns (keep_for shape), λ e. ap with_turns e, run_with _ program options (with_turns (keep_for shape)) run is.1.made)
 
--- where the turns are told of, all are kept
+-- where all of a run is told of, all is kept
 pub whole_run : (shape : Shape) (program : Program) (options : RunOptions) (run : Run) → IsRunFor shape program options run → keep_for shape ≡ All
     → IsRunWith program options All run
 whole_run shape program options run is whole = subst (λ keep. IsRunWith program options keep run) (is.1 whole) is.2
@@ -86,7 +95,22 @@ module _ (program : Program) (options : RunOptions) (keep : Keep) (run : Run) (i
       let few : options.nodes.count ≤ 16 = options.nodes.few in
       omega arith
 
--- the turns that its events make are kept, where all are
+module _ (program : Program) (options : RunOptions) (run : Run) (acts : List Act) (is : IsRunWith program options All run)
+    (same : acts ≡ run.report.acts.items) where
+  -- the statements of its acts are kept
+  pub statements_of : (found : List ℕ) → found ≡ run.origins.statements.items → found ≡ act_statements program options.nodes.count acts
+  statements_of found read = read ∙ is.origins.statements ∙ ap (act_statements program options.nodes.count) (sym same)
+
+  -- and their times
+  pub times_of : KeepsTime options.nodes.count acts (times_in run.origins.times)
+  times_of = subst (λ (acts : List Act). KeepsTime options.nodes.count acts (times_in run.origins.times)) (sym same) is.origins.times
+
+-- the form of a trace that tells of all of a run
+pub tells_all : (form : Form) → ((part : Part) → form ≢ States part) → keep_for (Trace form) ≡ All
+tells_all (States part) other = absurd (other part refl)
+tells_all _ other = refl
+
+-- the turns that its events make are kept, where all is
 pub turned_whole : (program : Program) (options : RunOptions) (run : Run) → IsRunWith program options All run
     → run.turned.items ≡ turns_in program options run.events.items
 turned_whole program options run is = is.turned

@@ -39,7 +39,7 @@ abbrev pub turns_in : Program → RunOptions → List Event → List Turned
 turns_in program options events = turned_of program options.nodes.count (options_of options) events
 
 -- The run that goes on in some way, with so much of the turns of its nodes: by the events that a text names, in rounds, or in a random
--- order; or on threads, with all turns, and what the post between the nodes kept tells the same.
+-- order; or on threads, with all turns at least, and what the post between the nodes kept tells the same.
 abbrev pub IsRunOfWay : Way → Program → RunOptions → Option (List ℕ) → Keep → Run → Type 0
 IsRunOfWay (ways.Events file) program options None keep run = ⊥
 IsRunOfWay (ways.Events file) program options (Some events_text) keep run =
@@ -49,7 +49,7 @@ IsRunOfWay (ways.Rounds order) program options events_text keep run =
 IsRunOfWay (ways.Random seed) program options events_text keep run =
     IsRunIn (Random seed) program options.nodes.count (options_of options) keep run
 IsRunOfWay (ways.Threads order) program options events_text keep run =
-    (wires : List MailboxRecord) × IsThreadedRun program options.nodes.count (options_of options) order run wires
+    (wires : List MailboxRecord) × IsThreadedRun program options.nodes.count (options_of options) order keep run wires
 
 -- ---- faults
 

@@ -11,7 +11,7 @@ use Rattle.lrc_report.specs.ReportText.{run_status_of, run_text}
 use Rattle.lrc_run.specs.Run.{turns_of_nodes}
 use Rattle.lrc_stats.specs.StatsText.{stats_text}
 use Rattle.lrc_world.specs.declared.keep.Keep.{Keep}
-use Rattle.lrc_world.specs.declared.keep.Keep.TheVariants.{All, Newest}
+use Rattle.lrc_world.specs.declared.keep.Keep.TheVariants.{All, Newest, Turns}
 use Rattle.lrc_world.specs.declared.run.Run.{Run}
 use Rattle.lrc_why_run.specs.Answers.{AnswersRun}
 use Rattle.lrc_turns_text.specs.TurnsText.{messages_text}
@@ -82,18 +82,19 @@ IsShowFault (Step part) choice text program run TooManyTurns = HasTooManyTurns p
 IsShowFault (Why asking) choice text program run (NoAct position) = IsUntold asking (length run.report.acts.items) (NoAct position)
 IsShowFault shape choice text program run fault = ⊥
 
--- What is kept of the turns of the nodes while a run goes on that is shown so: what a report, one with reasons, and reasons of acts show
--- says nothing of them.
+-- What is kept of a run that is shown so. A report, one with reasons, and reasons of acts say nothing of turns; states are made again of the
+-- events; and counts say nothing of the events or of where the acts come from.
 abbrev pub keep_for : Shape → Keep
 keep_for shapes.Report = Newest
+keep_for (Trace (States part)) = Newest
 keep_for (Trace form) = All
 keep_for Explain = Newest
-keep_for Stats = All
+keep_for Stats = Turns
 keep_for (Chart charting) = All
 keep_for (Step part) = Newest
 keep_for (Why asking) = Newest
 
--- a run of the program that has kept all turns, where what is shown so tells of them
+-- a run of the program of which all is kept, where what is shown so tells of it
 abbrev pub IsRunFor : Shape → Program → RunOptions → Run → Type 0
 IsRunFor shape program options run = (keep : Keep) × (keep_for shape ≡ All → keep ≡ All) × IsRunWith program options keep run
 

@@ -17,7 +17,7 @@ use crate::stated::stepped;
 use crate::trace::traced;
 use lrc_answer::fault::Fault;
 use lrc_answer::printout::{Printout, in_one};
-use lrc_args::choice::{RunChoice, RunOptions, Shape};
+use lrc_args::choice::{Form, RunChoice, RunOptions, Shape};
 use lrc_exec::code::Code;
 use lrc_explain::explain;
 use lrc_labels::read_labels;
@@ -52,17 +52,22 @@ pub fn show(
     shown(alloc, shape, choice, text, &program, &run)
 }
 
-// What is kept of the turns of the nodes while a run goes on that is shown so.
-fn keep_for(shape: Shape) -> Keep
+// What is kept of a run that is shown so.
+pub(crate) fn keep_for(shape: Shape) -> Keep
     ensures { result ≡ keep_for shape }
 {
     match shape {
-        Shape::Report | Shape::Explain | Shape::Step(_) | Shape::Why(_) => Keep::Newest,
-        Shape::Trace(_) | Shape::Stats | Shape::Chart(_) => Keep::All,
+        Shape::Report
+        | Shape::Explain
+        | Shape::Step(_)
+        | Shape::Why(_)
+        | Shape::Trace(Form::States(_)) => Keep::Newest,
+        Shape::Stats => Keep::Turns,
+        Shape::Trace(_) | Shape::Chart(_) => Keep::All,
     }
 }
 
-/// Shows a run of the program in this text. If the form shows turns of the nodes, the run has kept all of them.
+/// Shows a run of the program in this text. The run has kept what is shown of it.
 pub(crate) fn shown(
     alloc: Global,
     shape: Shape,

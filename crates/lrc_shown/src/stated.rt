@@ -14,16 +14,19 @@ ghost use Rattle.lrc_world.specs.declared.keep.Keep.{Keep as AnyKeep};
 
 use crate::runs::setting_of;
 use crate::shown::explained;
-use crate::trace::lines_in;
 use lrc_answer::fault::Fault;
 use lrc_args::choice::{Part, RunOptions};
+use lrc_exec::code::Code;
 use lrc_judge::order::{Order, happens_before};
+use lrc_lang::lines::lines_of;
 use lrc_lang::program::Program;
+use lrc_lines::walks::lines_of_acts;
 use lrc_node::options_of;
 use lrc_states::{Range, StatesFault, Told, states_parts};
 use lrc_step_page::step_document;
 use lrc_step_races::{Part as ShownActs, races_part};
 use lrc_step_reasons::reasons_part;
+use lrc_trace::act::Act;
 use lrc_world::run::Run;
 use std::alloc::{AllocError, Global};
 
@@ -227,4 +230,22 @@ pub(crate) fn stepped(
     let name = name_of(alloc, options.file.as_bytes())?;
     let document = step_document(alloc, &name, text, states, &explained, races, reasons)?;
     Ok(document)
+}
+
+// For each act, the line of the text that holds the act's statement.
+fn lines_in(
+    alloc: Global,
+    text: &[u8],
+    program: &Program,
+    nodes: u8,
+    acts: &[Act],
+) -> Result<Vec<u32>, AllocError>
+    requires { IsTextOf text.now program.now }
+    ensures lines { IfOk result (λ lines. AreLinesIn text.now program.now nodes acts.now
+        lines.items) }
+    ensures each { IfOk result (λ lines. length lines.items ≡ length acts.now) }
+{
+    let places = lines_of(alloc, text)?;
+    let code = Code::new(alloc, program)?;
+    lines_of_acts(alloc, &code, &places, nodes, acts)
 }

@@ -9,7 +9,7 @@ ghost use Rattle.lrc_text.specs.Parts.{whole_text};
 ghost use Rattle.lrc_args.specs.declared.choice.Way.TheVariants.{Threads as OnThreads};
 
 use crate::runs::setting_of;
-use crate::shown::shown;
+use crate::shown::{keep_for, shown};
 use lrc_answer::fault::Fault;
 use lrc_answer::printout::Printout;
 use lrc_args::choice::{RunChoice, RunOptions, Shape};
@@ -17,6 +17,7 @@ use lrc_envelope::Picker;
 use lrc_lang::parse;
 use lrc_lang::program::Program;
 use lrc_run::{Halt, OpenGate, ThreadedRun, run_on_threads};
+use lrc_world::keep::Keep;
 use lrc_world::run::Run;
 use std::alloc::Global;
 use std::mem;
@@ -39,7 +40,7 @@ pub fn show_on_threads<R: Threads + Wait + Sync>(
     ensures err { IfErr result (RefusesRun choice.now shape text.now None) }
 {
     let program = parse(alloc, text)?;
-    let run = threaded(rt, alloc, &choice.options, order, &program)?;
+    let run = threaded(rt, alloc, &choice.options, order, &program, keep_for(shape))?;
     let printout = shown(alloc, shape, choice, text, &program, &run);
     // The program ends with its answer, so all that the run kept is not walked to be freed.
     mem::forget(run);
@@ -53,14 +54,15 @@ fn threaded<R: Threads + Wait + Sync>(
     options: &RunOptions<'_>,
     order: Picker,
     program: &Program,
+    keep: Keep,
 ) -> Result<Run, Fault>
     ensures run { IfOk result (λ run. (wires : List MailboxRecord)
-        × IsThreadedRun program.now options.now.nodes.count (options_of options.now) order run
-        wires) }
+        × IsThreadedRun program.now options.now.nodes.count (options_of options.now) order keep
+        run wires) }
     ensures err { IfErr result (IsThreadedFault program.now options.now order) }
 {
     let setting = setting_of(options);
-    match run_on_threads(rt, alloc, program, &setting, order, &OpenGate) {
+    match run_on_threads(rt, alloc, program, &setting, order, keep, &OpenGate) {
         Ok(run) => Ok(made(run)),
         Err(halt) => Err(said(halt)),
     }

@@ -1,16 +1,20 @@
 // Traces of a run.
 
-ghost use Rattle.std.specs.Prelude.{◌≡◌, ◌≢◌, ◌≤◌, ◌<◌, ℕ, All, IfErr, IfOk, List, length, map};
+ghost use Rattle.std.specs.Prelude.{◌≡◌, ◌≢◌, ℕ, IfErr, IfOk, List, length, map};
 ghost use Rattle.lrc_protocol.specs.Run.{turns_of_logs};
 ghost use Rattle.lrc_answer.specs.Texts.{IsTextOf};
 ghost use Rattle.lrc_answer.specs.Labels.{labels_in};
 ghost use Rattle.lrc_shown.specs.Lines.{AreLinesIn};
 ghost use Rattle.lrc_shown.specs.Runs.{IsRunWith};
 ghost use Rattle.lrc_world.specs.declared.keep.Keep.TheVariants.{All as Whole};
-ghost use Rattle.lrc_shown.specs.Shown.{IsFormShown, IsTraceFault, IsTraceShown, IsWrittenAs};
+ghost use Rattle.lrc_shown.specs.Shown.{IsFormShown, IsRunFor, IsTraceFault, IsTraceShown, IsWrittenAs};
 ghost use Rattle.lrc_args.specs.declared.choice.Form.TheVariants.{States};
 ghost use Rattle.lrc_args.specs.declared.choice.Part.{Part as ShownPart};
-ghost use Rattle.lrc_clock.specs.Keeping.{KeepsTime};
+ghost use Rattle.lrc_args.specs.declared.choice.Shape.TheVariants.{Trace};
+ghost use Rattle.lrc_lang.specs.declared.program.Program.{Program as AnyProgram};
+ghost use Rattle.lrc_lines.specs.Statements.{act_statements};
+ghost use Rattle.lrc_timeline.specs.Timeline.{times_in};
+ghost use Rattle.lrc_trace.specs.declared.act.Act.{Act as AnyAct};
 ghost use Rattle.lrc_events.specs.Writing.{events_text};
 ghost use Rattle.lrc_acts_text.specs.Json.{json_of_acts};
 ghost use Rattle.lrc_text.specs.Parts.{whole_text};
@@ -21,16 +25,13 @@ use lrc_acts_text::{acts_part, json_part, rapid_part};
 use lrc_answer::fault::Fault;
 use lrc_answer::printout::in_one;
 use lrc_args::choice::{Form, RunOptions};
-use lrc_clock::times::times_of_acts;
 use lrc_events::events_part;
-use lrc_exec::code::Code;
 use lrc_labels::read_labels;
 use lrc_lang::lines::lines_of;
 use lrc_lang::program::Program;
-use lrc_lines::walks::lines_of_acts;
+use lrc_lines::statements::lines_of_statements;
 use lrc_node::Entry;
 use lrc_protocol::Event;
-use lrc_trace::act::Act;
 use lrc_turns_text::messages_part;
 use lrc_world::run::Run;
 use lrc_world::turned::Turned;
@@ -46,7 +47,7 @@ pub(crate) fn traced(
     run: &Run,
 ) -> Result<Vec<Vec<u8>>, Fault>
     requires text { IsTextOf text.now program.now }
-    requires ran { IsRunWith program.now options.now Whole run.now }
+    requires ran { IsRunFor (Trace form) program.now options.now run.now }
     ensures ok { IfOk result (λ parts. IsTraceShown form text.now program.now options.now run.now
         (whole_text parts.items)) }
     ensures err { IfErr result (IsTraceFault form text.now program.now options.now run.now) }
@@ -74,8 +75,7 @@ fn trace_parts(
     ensures { IfOk result (λ parts. IsFormShown form text.now program.now options.now run.now
         (whole_text parts.items)) }
 {
-    let nodes = options.nodes.count as u8;
-    let lines = lines_in(alloc, text, program, nodes, &run.report.acts)?;
+    let lines = lines_kept(alloc, text, &run.origins.statements)?;
     let part = form_part(alloc, form, text, program, options, run, &lines)?;
     in_one(alloc, part)
 }
@@ -104,7 +104,7 @@ fn form_part(
         Form::Acts => acts_part(alloc, acts, lines),
         Form::Messages => messages_of(alloc, logs, turns, lines),
         Form::Events => events_of(alloc, turns),
-        Form::Json => json_of(alloc, text, program, acts, lines, nodes),
+        Form::Json => json_of(alloc, text, program, run, lines),
         Form::Rapid => rapid_part(alloc, acts, lines, program.locks, nodes),
         Form::States(_) => unreachable!(),
     }
@@ -135,41 +135,35 @@ fn events_of(alloc: Global, turns: &[Turned]) -> Result<Vec<u8>, AllocError>
     events_part(alloc, &events)
 }
 
-// The acts as JSON, each with the time that its node has just after it, and with the labels of the program's text.
+// The acts of a run as JSON, each with the time that its node has just after it, and with the labels of the program's text.
 fn json_of(
     alloc: Global,
     text: &[u8],
     program: &Program,
-    acts: &[Act],
+    run: &Run,
     lines: &[u32],
-    nodes: u8,
 ) -> Result<Vec<u8>, AllocError>
-    requires some { 1 ≤ nodes }
-    requires few { nodes ≤ 16 }
-    requires acts { All (λ act. act.node < nodes) acts.now }
-    requires lined { length lines.now ≡ length acts.now }
-    ensures { IfOk result (λ part. (times : List (List ℕ)) × KeepsTime nodes acts.now times
-        × (part.items ≡ json_of_acts (labels_in text.now program.now) acts.now lines.now times)) }
+    requires lined { length lines.now ≡ length run.now.report.acts.items }
+    requires timed { length (times_in run.now.origins.times) ≡ length run.now.report.acts.items }
+    ensures { IfOk result (λ part. part.items ≡ json_of_acts (labels_in text.now program.now)
+        run.now.report.acts.items lines.now (times_in run.now.origins.times)) }
 {
-    let times = times_of_acts(alloc, acts, nodes)?;
     let labels = read_labels(alloc, text, program.words, program.locks)?;
-    json_part(alloc, &labels.said, acts, lines, &times)
+    let acts = run.report.acts.as_slice();
+    json_part(alloc, &labels.said, acts, lines, &run.origins.times)
 }
 
-/// Returns, for each act, the line of the text that holds the act's statement.
-pub(crate) fn lines_in(
+/// Returns, for each act of a run of which all is kept, the line of the text that holds the act's statement.
+pub(crate) fn lines_kept(
     alloc: Global,
     text: &[u8],
-    program: &Program,
-    nodes: u8,
-    acts: &[Act],
+    statements: &[u32],
 ) -> Result<Vec<u32>, AllocError>
-    requires { IsTextOf text.now program.now }
-    ensures lines { IfOk result (λ lines. AreLinesIn text.now program.now nodes acts.now
-        lines.items) }
-    ensures each { IfOk result (λ lines. length lines.items ≡ length acts.now) }
+    ensures lines { IfOk result (λ lines. (program : AnyProgram) (nodes : ℕ) (acts : List AnyAct)
+        → IsTextOf text.now program → statements.now ≡ act_statements program nodes acts
+        → AreLinesIn text.now program nodes acts lines.items) }
+    ensures each { IfOk result (λ lines. length lines.items ≡ length statements.now) }
 {
     let places = lines_of(alloc, text)?;
-    let code = Code::new(alloc, program)?;
-    lines_of_acts(alloc, &code, &places, nodes, acts)
+    lines_of_statements(alloc, &places, statements)
 }

@@ -1,4 +1,4 @@
-use Rattle.std.proofs.Common.{◌≤◌, List, ℕ, Option, length, option_map, subst}
+use Rattle.std.proofs.Common.{◌≤◌, List, ℕ, Option, length, subst}
 use Rattle.lrc_chart_build.specs.Course.{rows_shown}
 use Rattle.lrc_chart_build.specs.Portrait.{IsPortrait, MOST_SHOWN}
 use Rattle.lrc_chart_build.specs.declared.part.Part.{Part}

@@ -2,7 +2,6 @@ use Rattle.std.proofs.Common.{ℕ, subst}
 use Rattle.lrc_protocol.specs.Node.{OptionsRecord}
 use Rattle.lrc_world.specs.Runs.{IsRunIn, IsTurnFault, WearsOutIn}
 use Rattle.lrc_node.specs.Options.{options_of as options_in}
-use Rattle.lrc_world.specs.declared.report.TurnFault.TheVariants.{Worn}
 use Rattle.lrc_shown.proofs.runs.in_order.Goals as goal
 
 pub returns-in-Ok-clause-run : goal.returns-in-Ok-clause-run

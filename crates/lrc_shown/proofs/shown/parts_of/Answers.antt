@@ -2,14 +2,14 @@ use Rattle.std.proofs.Common.{◌<◌, All, IfErr, List, ap, subst, sym}
 use Rattle.std.proofs.lemmas.Result.{IfErr-weaker}
 use Rattle.lrc_trace.specs.declared.act.Act.{Act}
 use Rattle.lrc_args.specs.declared.choice.Shape.{Shape}
-use Rattle.lrc_shown.specs.Shown.{IsShowFault, keep_for}
+use Rattle.lrc_shown.specs.Shown.{IsRunFor, IsShowFault, keep_for}
 use Rattle.lrc_shown.proofs.RunLemmas.{acts_of_few, whole_run}
 use Rattle.lrc_shown.proofs.StatedLemmas.{step_unshown, trace_unshown}
 use Rattle.lrc_shown.proofs.shown.parts_of.Goals as goal
 
 pub traced-requires-clause-ran : goal.traced-requires-clause-ran
 traced-requires-clause-ran c =
-    whole_run c.args.shape c.args.program.now c.args.choice.now.options c.args.run.now c.requires.ran (ap keep_for c.in-Trace.is)
+    subst (λ (shape : Shape). IsRunFor shape c.args.program.now c.args.choice.now.options c.args.run.now) c.in-Trace.is c.requires.ran
 
 pub charted-requires-clause-ran : goal.charted-requires-clause-ran
 charted-requires-clause-ran c =

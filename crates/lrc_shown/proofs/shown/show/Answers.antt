@@ -3,7 +3,6 @@ use Rattle.std.specs.Borrow.{Bor}
 use Rattle.lrc_world.specs.declared.keep.Keep.{Keep}
 use Rattle.lrc_answer.proofs.FaultLemmas.{fault_up, text_fault}
 use Rattle.lrc_shown.specs.Runs.{IsRunOfWay}
-use Rattle.lrc_shown.specs.Shown.{keep_for}
 use Rattle.lrc_shown.proofs.ShowingLemmas.{printed_of, unshown_of}
 use Rattle.lrc_shown.proofs.RunLemmas.{run_for}
 use Rattle.lrc_shown.proofs.shown.show.Goals as goal

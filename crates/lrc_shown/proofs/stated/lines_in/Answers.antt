@@ -1,7 +1,7 @@
 use Rattle.std.proofs.Common.{◌∙◌, [], length, ap}
 use Rattle.std.proofs.lemmas.Result.{IfOk-weaker}
 use Rattle.lrc_shown.proofs.LineLemmas.{lines_count}
-use Rattle.lrc_shown.proofs.trace.lines_in.Goals as goal
+use Rattle.lrc_shown.proofs.stated.lines_in.Goals as goal
 
 pub returns-clause-each : goal.returns-clause-each
 returns-clause-each c =

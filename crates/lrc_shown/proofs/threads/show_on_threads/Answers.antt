@@ -1,5 +1,6 @@
 use Rattle.std.proofs.Common.{None, sym, subst, inl, inr}
 use Rattle.lrc_args.specs.declared.choice.Way.{Way}
+use Rattle.lrc_args.specs.declared.choice.Way.TheVariants.{Threads}
 use Rattle.lrc_answer.proofs.FaultLemmas.{fault_up, text_fault}
 use Rattle.lrc_shown.specs.Runs.{IsRunFault, IsRunOfWay}
 use Rattle.lrc_shown.specs.Shown.{keep_for}
@@ -26,14 +27,16 @@ pub shown-printout-requires-clause-ran : goal.shown-printout-requires-clause-ran
 shown-printout-requires-clause-ran g c =
     run_for c.args.choice.now.way c.args.shape c.in_ok-program.program c.args.choice.now.options None c.in_ok-run.run'
     (subst (λ (way : Way). IsRunOfWay way c.in_ok-program.program c.args.choice.now.options None (keep_for c.args.shape) c.in_ok-run.run')
-    (sym c.requires) c.in_ok-run.ensures.run)
+    (sym c.requires) (subst (λ keep. IsRunOfWay (Threads c.args.order) c.in_ok-program.program c.args.choice.now.options None keep c.in_ok-run.run')
+    c.keep_for.ensures c.in_ok-run.ensures.run))
 
 pub returns-clause-ok : goal.returns-clause-ok
 returns-clause-ok g c =
     printed_of c.args.choice.now c.args.shape c.args.text.now None c.in_ok-program.program c.in_ok-run.run' c.shown-printout.result
     c.in_ok-program.ensures.program
     (subst (λ (way : Way). IsRunOfWay way c.in_ok-program.program c.args.choice.now.options None (keep_for c.args.shape) c.in_ok-run.run')
-    (sym c.requires) c.in_ok-run.ensures.run)
+    (sym c.requires) (subst (λ keep. IsRunOfWay (Threads c.args.order) c.in_ok-program.program c.args.choice.now.options None keep c.in_ok-run.run')
+    c.keep_for.ensures c.in_ok-run.ensures.run))
     c.shown-printout.ensures.text c.shown-printout.ensures.status
 
 pub returns-clause-err : goal.returns-clause-err
@@ -41,5 +44,6 @@ returns-clause-err g c =
     unshown_of c.args.choice.now c.args.shape c.args.text.now None c.in_ok-program.program c.in_ok-run.run' c.shown-printout.result
     c.in_ok-program.ensures.program
     (subst (λ (way : Way). IsRunOfWay way c.in_ok-program.program c.args.choice.now.options None (keep_for c.args.shape) c.in_ok-run.run')
-    (sym c.requires) c.in_ok-run.ensures.run)
+    (sym c.requires) (subst (λ keep. IsRunOfWay (Threads c.args.order) c.in_ok-program.program c.args.choice.now.options None keep c.in_ok-run.run')
+    c.keep_for.ensures c.in_ok-run.ensures.run))
     c.shown-printout.ensures.err

@@ -13,11 +13,11 @@ returns-in-Ok-clause-run g c =
     let run = c.in-Ok.run' in
     let setting = c.setting_of-setting.result in (
       run.wires,
-      subst (λ (made : Run). IsThreadedRun program c.args.options.now.nodes.count (options_of c.args.options.now) c.args.order made run.wires)
+      subst (λ (made : Run). IsThreadedRun program c.args.options.now.nodes.count (options_of c.args.options.now) c.args.order c.args.keep made run.wires)
           (sym c.made.ensures)
-          (subst (λ (o : OptionsRecord). IsThreadedRun program c.args.options.now.nodes.count o c.args.order run.made run.wires)
+          (subst (λ (o : OptionsRecord). IsThreadedRun program c.args.options.now.nodes.count o c.args.order c.args.keep run.made run.wires)
           c.setting_of-setting.ensures.options
-          (subst (λ (n : ℕ). IsThreadedRun program n (options_in setting) c.args.order run.made run.wires) c.setting_of-setting.ensures.nodes
+          (subst (λ (n : ℕ). IsThreadedRun program n (options_in setting) c.args.order c.args.keep run.made run.wires) c.setting_of-setting.ensures.nodes
           c.in-Ok.ensures.run)),
     )
 

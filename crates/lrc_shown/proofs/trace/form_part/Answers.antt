@@ -1,24 +1,20 @@
-use Rattle.std.proofs.Common.{◌≡◌, ◌∙◌, ◌<◌, ℕ, All, IfOk, List, map, sym, subst}
-use Rattle.lrc_clock.specs.Keeping.{KeepsTime}
+use Rattle.std.proofs.Common.{◌≡◌, ◌∙◌, IfOk, List, map, sym, subst}
+use Rattle.std.proofs.lemmas.Result.{IfOk-weaker}
 use Rattle.lrc_trace.specs.declared.act.Act.{Act}
 use Rattle.lrc_events.specs.Writing.{events_text}
 use Rattle.lrc_acts_text.specs.ActsText.{acts_text}
-use Rattle.lrc_acts_text.specs.Json.{json_of_acts}
 use Rattle.lrc_acts_text.specs.Rapid.{rapid_text}
 use Rattle.lrc_turns_text.specs.TurnsText.{messages_text}
 use Rattle.lrc_args.specs.declared.choice.Form.{Form}
 use Rattle.lrc_world.specs.declared.turned.Turned.{Turned}
-use Rattle.lrc_answer.specs.Labels.{labels_in}
-use Rattle.lrc_world.specs.declared.keep.Keep.TheVariants.{All as Whole}
+use Rattle.lrc_timeline.specs.Timeline.{times_in}
 use Rattle.lrc_shown.specs.Runs.{turns_in}
 use Rattle.lrc_shown.specs.Shown.{IsWrittenAs}
-use Rattle.lrc_shown.proofs.RunLemmas.{acts_in_range, turned_whole}
+use Rattle.lrc_shown.proofs.RunLemmas.{turned_whole}
 use Rattle.lrc_shown.proofs.trace.form_part.Goals as goal
 
-pub json_of-requires-clause-acts : goal.json_of-requires-clause-acts
-json_of-requires-clause-acts c =
-    subst (λ (acts : List Act). All (λ act. act.node < c.args.options.now.nodes.count) acts) (sym c.as_slice-acts.ensures.value)
-    (acts_in_range c.args.program.now c.args.options.now Whole c.args.run.now c.requires.ran)
+pub json_of-requires-clause-timed : goal.json_of-requires-clause-timed
+json_of-requires-clause-timed c = c.requires.ran.origins.times.timed
 
 pub returns-in-Acts : goal.returns-in-Acts
 returns-in-Acts c =
@@ -39,9 +35,7 @@ pub returns-in-Json : goal.returns-in-Json
 returns-in-Json c =
     subst (λ (form : Form). IfOk c.json_of.result (λ part. IsWrittenAs form c.args.text.now c.args.program.now c.args.options.now
     c.args.run.now c.args.lines.now part.items)) (sym c.in-Json.is)
-    (subst (λ (acts : List Act). IfOk c.json_of.result (λ part. (times : List (List ℕ))
-    × KeepsTime c.args.options.now.nodes.count acts times × (part.items ≡ json_of_acts (labels_in c.args.text.now c.args.program.now) acts c.args.lines.now times)))
-    c.as_slice-acts.ensures.value c.json_of.ensures)
+    (IfOk-weaker c.json_of.result _ _ (λ part is. (times_in c.args.run.now.origins.times, c.requires.ran.origins.times, is)) c.json_of.ensures)
 
 pub returns-in-Messages : goal.returns-in-Messages
 returns-in-Messages c =

@@ -1,9 +1,8 @@
-use Rattle.std.proofs.Common.{IfErr, IfOk, subst, sym}
+use Rattle.std.proofs.Common.{IfErr, subst, sym}
 use Rattle.std.proofs.lemmas.Result.{IfErr-weaker}
-use Rattle.lrc_text.specs.Parts.{whole_text}
 use Rattle.lrc_args.specs.declared.choice.Form.{Form}
-use Rattle.lrc_shown.specs.Shown.{IsTraceFault, IsTraceShown}
-use Rattle.lrc_shown.proofs.StatedLemmas.{form_traced, states_untraced}
+use Rattle.lrc_shown.specs.Shown.{IsTraceFault}
+use Rattle.lrc_shown.proofs.StatedLemmas.{states_untraced}
 use Rattle.lrc_shown.proofs.trace.traced.Goals as goal
 
 pub returns-in-States-clause-err : goal.returns-in-States-clause-err
