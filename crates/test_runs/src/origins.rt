@@ -163,7 +163,11 @@ fn has_none(run: &Run) -> bool {
 }
 
 fn turns_of(run: &Run) -> usize {
-    run.report.logs.iter().map(|log| log.len()).sum()
+    let mut turns = 0usize;
+    for log in &run.report.logs {
+        turns = turns.wrapping_add(log.len());
+    }
+    turns
 }
 
 fn keeps_turns_alone(alloc: Global) -> bool {
