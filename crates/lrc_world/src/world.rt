@@ -82,6 +82,7 @@ impl<'c> World<'c> {
     }
 
     /// Plays an event. It is skipped if it names no ready node and no message that its receiver takes.
+    #[inline(always)]
     pub(crate) fn play(&mut self, event: Event) -> Result<(), TurnFault>
         ensures plays { (starts : Starts) (run : Run) → Shows starts self.old run
             → PlaysTo starts self.new (event_on run event) result }
@@ -176,6 +177,7 @@ impl<'c> World<'c> {
     }
 
     // The node goes on, if it is there and ready.
+    #[inline(always)]
     fn go_on(&mut self, node: u32) -> Result<(), TurnFault>
         ensures plays { (starts : Starts) (run : Run) → Shows starts self.old run
             → PlaysTo starts self.new (event_on run (events.Run node)) result }
@@ -200,6 +202,7 @@ impl<'c> World<'c> {
     }
 
     // The message at the place is delivered, if it is there and its receiver takes it.
+    #[inline(never)]
     fn deliver(&mut self, place: u32) -> Result<(), TurnFault>
         ensures plays { (starts : Starts) (run : Run) → Shows starts self.old run
             → PlaysTo starts self.new (event_on run (events.Deliver place)) result }
@@ -218,6 +221,7 @@ impl<'c> World<'c> {
     }
 
     // The same, but the message stays in flight.
+    #[inline(never)]
     fn repeat(&mut self, place: u32) -> Result<(), TurnFault>
         ensures plays { (starts : Starts) (run : Run) → Shows starts self.old run
             → PlaysTo starts self.new (event_on run (events.Repeat place)) result }
@@ -375,9 +379,17 @@ fn note_turn(keep: Keep, turned: &mut Vec<Turned>, turn: Turned) -> Result<(), A
     ensures { OnOk result (turned.new.items ≡ turned.old.items ++ when_all keep (turn ∷ [])) }
 {
     match keep {
-        Keep::All => turned.push(turn)?,
-        Keep::Newest | Keep::Turns => {}
+        Keep::All => add_turn(turned, turn),
+        Keep::Newest | Keep::Turns => Ok(()),
     }
+}
+
+// Adds a turn with its event.
+#[inline(never)]
+fn add_turn(turned: &mut Vec<Turned>, turn: Turned) -> Result<(), AllocError>
+    ensures { OnOk result (turned.new.items ≡ turned.old.items ++ turn ∷ []) }
+{
+    turned.push(turn)?;
     Ok(())
 }
 
