@@ -1,11 +1,14 @@
 -- Parcels that are put one after the other, taken off the end of a list that was turned round.
-use Rattle.std.proofs.Common.{◌≡◌, ℕ, ◌∙◌, List, [], ◌∷◌, ◌++◌, reverse, map, sym, ap, subst, append_assoc}
+use Rattle.std.proofs.Common.{◌≡◌, ℕ, ◌<◌, ◌≤◌, ◌∙◌, List, [], ◌∷◌, ◌++◌, reverse, map, sym, ap, subst, append_assoc}
 use Rattle.std.specs.Prelude.{All}
-use Rattle.std.proofs.lemmas.List.{reverse-append, map-append}
+use Rattle.std.proofs.lemmas.List.{append-nil, reverse-append, map-append}
 use Rattle.std.proofs.lemmas.List.Elements.{All-head, All-tail}
+use Rattle.lrc_post.specs.declared.fault.PostFault.{PostFault}
+use Rattle.lrc_post.specs.declared.fault.PostFault.TheVariants.{Closed}
 use Rattle.lrc_post.specs.declared.parcel.Parcel.{Parcel}
 use Rattle.lrc_post.specs.Wires.{put_of}
 use Rattle.lrc_post.specs.Mailbox.{MailboxRecord, with_puts}
+use Rattle.lrc_post.specs.Post.{IsHandedBack}
 
 -- the parcel taken off the end comes next
 next_parcel : (all put left rest : List Parcel) (p : Parcel) → all ≡ put ++ reverse left → left ≡ rest ++ p ∷ []
@@ -41,3 +44,27 @@ puts_more before between after from put p first then_one =
     ∙ ap (λ h. record before { history = h })
     (append_assoc before.history (map (put_of from) put) (put_of from p ∷ [])
     ∙ ap (λ h. before.history ++ h) (sym (map-append (put_of from) put (p ∷ []))))
+
+-- once none is left, all were put, each for one of this many nodes
+pub all_put : (nodes : ℕ) (all put left : List Parcel) → all ≡ put ++ reverse left → left ≡ []
+    → All (λ (x : Parcel). x.to < nodes) put → All (λ (x : Parcel). x.to < nodes) all
+all_put nodes all put left is none there =
+    subst (All (λ (x : Parcel). x.to < nodes)) (sym (is ∙ ap (λ xs. put ++ reverse xs) none ∙ append-nil put)) there
+
+-- the parcel taken off the end is refused, goes back to the end, and the list is turned round again
+pub handed_back : (nodes : ℕ) (fault : PostFault) (all put left rest pushed back : List Parcel) (p refused : Parcel)
+    → all ≡ put ++ reverse left → All (λ (x : Parcel). x.to < nodes) put → left ≡ rest ++ p ∷ []
+    → refused ≡ p → pushed ≡ rest ++ refused ∷ [] → back ≡ reverse pushed → (nodes ≤ p.to → fault ≡ Closed)
+    → IsHandedBack nodes fault all back
+handed_back nodes fault all put left rest pushed back p refused is there popped same again turned nowhere =
+    let is_back : back ≡ p ∷ reverse rest =
+    turned ∙ ap reverse again ∙ reverse-append rest (refused ∷ []) ∙ ap (λ q. q ∷ reverse rest) same in
+    record {
+      put = put;
+      refused = p;
+      rest = reverse rest;
+      handed_back = is_back;
+      all = next_parcel all put left rest p is popped ∙ ap (λ xs. put ++ xs) (sym is_back);
+      there = there;
+      nowhere = nowhere;
+    }

@@ -35,8 +35,7 @@ impl Model for Mailbox {
 }
 
 impl Mailbox {
-    /// Creates an empty, open mailbox for a node, with room for an entry from each of `nodes` nodes. It fails if there
-    /// is no memory for that.
+    /// Creates an empty, open mailbox for a node, the same whatever the number of nodes is. It fails if memory runs out.
     pub fn new(alloc: Global, owner: u8, nodes: u8, picker: Picker) -> Result<Self, AllocError>
         ensures { IfOk result (λ mailbox. mailbox
             ≡ record { owner = owner; picker = picker; closed = false; history = [] }) }
@@ -160,6 +159,7 @@ impl Mailbox {
         ensures given { self.old.owner ≡ me → IfOk result
             (λ parcel. GivesParcel self.old parcel self.new) }
         ensures err { OnErr result (self.new ≡ self.old) }
+        ensures fault { IfErr result (λ fault. fault ≡ NoMemory) }
     {
         if self.owner() == me {
             self.give()

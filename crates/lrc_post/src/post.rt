@@ -1,7 +1,8 @@
 // The post between the threads of a run: each node's mailbox under a lock of its own.
 
-ghost use Rattle.std.specs.Prelude.{◌≡◌, ◌≤◌, [], IfOk, IfErr, IfSome, length};
+ghost use Rattle.std.specs.Prelude.{◌≡◌, ◌<◌, ◌≤◌, [], All, IfOk, IfErr, IfSome, IsErrAnd, None, Ok, OnOk, length};
 ghost use Rattle.std.specs.Vec.{vec_capacity};
+ghost use Rattle.lrc_post.specs.declared.fault.PostFault.TheVariants.{Closed, NoMemory};
 ghost use Rattle.lrc_post.specs.Post.{AreOf, IsHandedBack};
 
 use crate::fault::{PostFault, Unput};
@@ -32,6 +33,7 @@ pub struct Post {
     alloc: Global,
     ghost empty: { wires.items ≡ [] },
     ghost room: { nodes ≤ vec_capacity wires },
+    ghost each: { length desks.items ≡ nodes },
 }
 
 impl Post {
@@ -59,9 +61,11 @@ impl Post {
 
     /// Puts parcels, in order, each into the mailbox of its `to`. The call stops at the first refused parcel: it hands
     /// back that parcel and all after it, and the parcels before it stay put. The fault is `Closed` if that mailbox is
-    /// closed or does not exist, and otherwise `NoMemory`.
+    /// closed or does not exist, and otherwise `NoMemory`. No parcel is put for a node that does not exist.
     pub fn put_all<R: Wait>(&self, rt: &R, from: u8, mut parcels: Vec<Parcel>) -> Result<(), Unput>
-        ensures back { IfErr result (λ u. IsHandedBack parcels.items u.parcels.items) }
+        ensures there { OnOk result (All (λ p. p.to < self.now.nodes) parcels.items) }
+        ensures back { IfErr result (λ u. IsHandedBack self.now.nodes u.fault parcels.items
+            u.parcels.items) }
     {
         parcels.reverse();
         while let Some(parcel) = parcels.pop() {
@@ -74,10 +78,12 @@ impl Post {
         Ok(())
     }
 
-    /// Returns the next parcel for a node, or none if no parcel is in flight for it or its mailbox is closed. If memory
-    /// runs out, the mailbox does not change.
+    /// Returns the next parcel for a node, or none if no parcel is in flight for it, its mailbox is closed or there is no
+    /// such node. It fails only if memory runs out, and then the mailbox does not change.
     pub fn poll<R: Wait>(&self, rt: &R, me: u8) -> Result<Option<Parcel>, PostFault>
         ensures mine { IfOk result (λ parcel. IfSome parcel (λ p. p.to ≡ me)) }
+        ensures nowhere { self.now.nodes ≤ me → result ≡ Ok None }
+        ensures fault { IfErr result (λ fault. fault ≡ NoMemory) }
     {
         let Some(desk) = self.desks.get(usize::from(me)) else {
             return Ok(None);
@@ -93,9 +99,11 @@ impl Post {
     }
 
     /// Returns the next parcel for a node, as `poll` does, but waits until there is one or the mailbox is closed. It
-    /// returns none only if the mailbox is closed or there is no such node.
+    /// returns none only if the mailbox is closed or there is no such node, and fails only if memory runs out.
     pub fn take<R: Wait>(&self, rt: &R, me: u8) -> Result<Option<Parcel>, PostFault>
         ensures mine { IfOk result (λ parcel. IfSome parcel (λ p. p.to ≡ me)) }
+        ensures nowhere { self.now.nodes ≤ me → result ≡ Ok None }
+        ensures fault { IfErr result (λ fault. fault ≡ NoMemory) }
     {
         let Some(desk) = self.desks.get(usize::from(me)) else {
             return Ok(None);
@@ -150,7 +158,10 @@ impl Post {
 
     // Puts one parcel and wakes its owner.
     fn put<R: Wait>(&self, rt: &R, from: u8, parcel: Parcel) -> Result<(), (PostFault, Parcel)>
+        ensures there { OnOk result (parcel.to < self.now.nodes) }
         ensures back { IfErr result (λ refused. refused.1 ≡ parcel) }
+        ensures nowhere { self.now.nodes ≤ parcel.to → IsErrAnd result
+            (λ refused. refused.0 ≡ Closed) }
     {
         let Some(desk) = self.desks.get(usize::from(parcel.to)) else {
             return Err((PostFault::Closed, parcel));

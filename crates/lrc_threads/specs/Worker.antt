@@ -164,7 +164,10 @@ pub record IsPastOf (start : Node) (log : List EntryRecord) (trace : TraceRecord
   pub ready_is : ready ≡ is_ready_after start log
 
 -- A node that started like this is worn out, and this is its log: after the turns of the log, none of whose messages is too long, its
--- next one is too large by an input; or the newest turn of the log, which it made by an input, has a message that is too long.
+-- next one is too large by an input; or the newest turn of the log, which it made by an input, has a message that is too long. In
+-- `outgrown` the input and the stamp are any that the node would take, since a thread cannot know which message came last. So of one
+-- thread this says only that its log is that of its turns, and that to go on, or some message with some stamp, is too much for the node.
+-- What a whole run promises of a node that wore out is more: `IsWearing` of lrc_run.
 pub data IsWorn (start : Node) : List EntryRecord → Type 0 where
   outgrown : {k : Logged} (input : Input) (came : ℕ)
       → Turns (no_turn_yet start) k → MayCome input came → logs k input came ≡ too_large → IsWorn start k.log

@@ -1,9 +1,11 @@
-// What a thread passes before each of its turns.
+// What a thread passes before it may make a turn.
 
-/// What a node's thread passes before each of its turns. A wait there changes only when the turn is made.
+/// What a node's thread passes before the node goes on by itself, and before it looks at a message that was taken. A
+/// wait there changes only when that is done. Tests show that no turn is made without a pass; no contract says it.
 pub trait Gate {
-    /// Lets a node pass that is about to make a turn. Its turns are counted from 0. The count stays at 4,294,967,295
-    /// once it reaches that.
+    /// Lets a node pass that may make a turn now. `turn` is the number of turns that it has made, and stays at
+    /// 4,294,967,295 once it reaches that. The same number comes again after a message that makes no turn, because it
+    /// cannot be read or the node does not expect it.
     fn pass(&self, node: usize, turn: u32);
 }
 

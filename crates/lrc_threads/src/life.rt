@@ -15,9 +15,10 @@ use std::alloc::{AllocError, Global};
 pub struct Past {
     /// The turns of the node, with their stamps.
     pub log: Vec<Entry>,
-    /// The accesses of the node, by interval.
+    /// The accesses of the node, by interval. They are those of the log's turns if `stop` is none; otherwise nothing is
+    /// promised of them.
     pub trace: Trace,
-    /// Whether the node would go on if an event named it.
+    /// Whether the node would go on if an event named it. If `stop` is not none, this is not promised.
     pub is_ready: bool,
     /// Why the thread stopped, or none if it went on until the post was closed.
     pub stop: Option<Stop>,
@@ -37,9 +38,9 @@ pub struct Failure {
 pub struct Parts {
     /// The turns of each node with their stamps, from node 0 up.
     pub logs: Vec<Vec<Entry>>,
-    /// The accesses of each node by interval, from node 0 up.
+    /// The accesses of each node by interval, from node 0 up, as its [`Past`] has them.
     pub traces: Vec<Trace>,
-    /// Whether some node would go on if an event named it.
+    /// Whether the [`Past`] of some node says that it would go on if an event named it.
     pub is_any_ready: bool,
     /// Why each node's thread stopped, from node 0 up, or none if it went on until the post was closed.
     pub stops: Vec<Option<Stop>>,

@@ -11,8 +11,8 @@ use Rattle.lrc_weave.specs.Woven.{AreWoven}
 abbrev pub is_this : EnvelopeRecord → Flying → Bool
 is_this envelope flying = has_name envelope (message_name flying.envelope)
 
--- The event by which a node makes one turn more by an input, where these messages are in flight: a Run of the node, or the delivery
--- of the message.
+-- The event that makes one turn more by an input, where these messages are in flight: a Run of this node; or the delivery of the
+-- message, which makes a turn of its receiver, whatever node this is.
 abbrev pub MakesFurther : ℕ → List Flying → Input → Event → Type 0
 MakesFurther node flight run event = event ≡ Run node
 MakesFurther node flight (taken envelope) event = (place : ℕ) × (position (is_this envelope) flight ≡ Some place) × (event ≡ Deliver place)
@@ -22,7 +22,8 @@ abbrev pub LacksFurther : List Flying → Input → Type 0
 LacksFurther flight run = ⊥
 LacksFurther flight (taken envelope) = position (is_this envelope) flight ≡ None
 
--- these events make all turns of the logs, and behind them the last one makes one turn more of a node, by an input
+-- these events make all turns of the logs, and behind them the last one makes one turn more, by an input: of this node, or of the
+-- message's receiver
 abbrev pub AreWovenWith : List (List EntryRecord) → ℕ → Input → List Event → Type 0
 AreWovenWith logs node input events = (before : List Event) × (flight : List Flying) × (event : Event) × AreWoven logs before flight
     × MakesFurther node flight input event × (events ≡ before ++ event ∷ [])

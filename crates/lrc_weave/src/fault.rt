@@ -9,7 +9,9 @@ use thiserror::Error;
 /// Why logs and mailboxes cannot be woven.
 #[derive(Clone, Copy, Debug, PartialEq, Eq, Error)]
 pub enum WeaveFault {
-    /// The mailboxes record other messages than the logs, or another order of what a node sent or took.
+    /// The mailboxes record other messages than the logs, or another order of what a node sent or took. Of `events_of`
+    /// and `events_with`, which see no mailboxes: a message was taken that no log sent before, or the message of the
+    /// turn to add is not in flight.
     #[error("logs and mailboxes differ")]
     Mismatch,
     /// Memory ran out.

@@ -41,8 +41,7 @@ pub struct WovenRun {
 /// node. The last take of a message is a delivery, and each take before it a repetition.
 ///
 /// It fails with `Mismatch` exactly if, for some mailbox, the puts of a sender are not those of its log, or the takes
-/// are not those of the owner's log, with their stamps and in their order. This includes every log with a message that
-/// is too long to be encoded. There is one mailbox for each node.
+/// are not those of the owner's log, with their stamps and in their order. There is one mailbox for each node.
 pub fn weave(
     alloc: Global,
     logs: &[Vec<Entry>],
@@ -137,10 +136,11 @@ pub fn events_of(alloc: Global, logs: &[Vec<Entry>]) -> Result<Vec<Event>, Weave
     }
 }
 
-/// Returns the events that make all turns of the logs, as [`events_of`] does, followed by the event with which this
-/// node makes one more turn, from this input. If the input is a message, this is its last delivery. It fails with
-/// `Mismatch` only if a message was taken that none of the logs sent before, or if the input is a message that is not
-/// in flight after all turns.
+/// Returns the events that make all turns of the logs, as [`events_of`] does, followed by the event that makes one more
+/// turn, from this input. If the input is a message, the event is its last delivery, and the turn is one of the
+/// message's receiver, whatever `node` is. Otherwise this node goes on by itself. It fails with `Mismatch` only if a
+/// message was taken that none of the logs sent before, or if the input is a message that is not in flight after all
+/// turns.
 pub fn events_with(
     alloc: Global,
     logs: &[Vec<Entry>],
