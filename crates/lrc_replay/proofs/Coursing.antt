@@ -1,24 +1,22 @@
 -- What the code keeps of the acts so far, with one act more.
 use Rattle.std.proofs.Common.{◌≡◌, ◌∙◌, ℕ, zero, suc, ◌+◌, ◌<◌, arith, List, [], ◌∷◌, ◌++◌, Bool, true, false, cond, Option, Some, None}
-use Rattle.std.proofs.Common.{refl, sym, ap, ap₂, subst, map, length, get_or, set, take, append-nil, append_assoc, zero-add, inl, inr, replicate, ◌≤◌}
+use Rattle.std.proofs.Common.{refl, sym, ap, ap₂, subst, map, length, get_or, set, append-nil, append_assoc, zero-add, replicate, ◌≤◌}
 use Rattle.std.proofs.lemmas.List.Elements.{All-append}
-use Rattle.std.specs.Prelude.{All, ◌==◌, ◌&&◌, fold, if◌then◌else◌, slice_get, slice_index, slice_index_or, slice_set, Result, Ok, Err, OnOk}
-use Rattle.std.specs.List.{count_by, flat_map, range_with_len}
+use Rattle.std.specs.Prelude.{All, ◌==◌, ◌&&◌, if◌then◌else◌, slice_index, slice_index_or, slice_set, Result, Ok, Err, OnOk}
+use Rattle.std.specs.List.{flat_map, range_with_len}
 use Rattle.std.specs.Option.{option_to_list}
-use Rattle.std.proofs.lemmas.Option.{get_or_from_slice_get, slice_get_within}
-use Rattle.std.proofs.lemmas.Bool.{cases_eq, cases_lt, eq-eqb, ne_eqb}
+use Rattle.std.proofs.lemmas.Bool.{eq-eqb, ne_eqb}
 use Rattle.std.proofs.lemmas.List.{get_or-map, length_push, length-map, map-append, map-set, take_all}
 use Rattle.std.proofs.lemmas.List.FromFn.{get_or-map-range_with_len, length-map-range_with_len, map-range_with_len_more}
 use Rattle.std.proofs.lemmas.List.Sums.{fold-append, sum_by-append}
 use Rattle.lrc_trace.specs.declared.act.Act.{Act}
-use Rattle.lrc_trace.specs.declared.act.Deed.{Deed}
 use Rattle.lrc_trace.specs.declared.act.Deed.TheVariants as deeds
 use Rattle.lrc_trace.specs.Interval.{closes, interval_at}
 use Rattle.lrc_trace.specs.Run.{count_of}
 use Rattle.lrc_exec.specs.Meaning.{Thread}
 use Rattle.lrc_exec.specs.Plain.{start_of}
 use Rattle.lrc_lines.specs.Seen.{walks_of}
-use Rattle.lrc_lines.specs.Walks.{led, line_at, line_behind, Walk, walk_behind, walks_behind}
+use Rattle.lrc_lines.specs.Walks.{line_at, line_behind, Walk, walk_behind, walks_behind}
 use Rattle.lrc_lines.proofs.Several.{line_found, more_other, more_own}
 use Rattle.lrc_private.specs.declared.way.Way.{Way}
 use Rattle.lrc_private.specs.Ways.{thread_led, thread_of}

@@ -1,10 +1,11 @@
 -- The acts of a run and their turns.
-use Rattle.std.proofs.Common.{◌≡◌, ◌∙◌, ◌⊎◌, ⊎_elim, ℕ, ◌+◌, ◌<◌, suc, zero, arith, List, [], ◌∷◌, ◌++◌, Bool, cond, Option, Some, None}
+use Rattle.std.proofs.Common.{◌≡◌, ◌∙◌, ◌⊎◌, ⊎_elim, ℕ, ◌+◌, ◌<◌, suc, zero, arith, List, [], ◌∷◌, ◌++◌, Bool, true, false, cond, Option, Some, None}
 use Rattle.std.proofs.Common.{refl, sym, ap, subst, append-nil, append_assoc, inl, inr, map, length, drop, replicate}
 use Rattle.std.proofs.lemmas.Bool.{cases_eq, cases_lt, eq-eqb, ne_eqb}
+use Rattle.std.proofs.lemmas.List.Sums.{sum_by-cons}
 use Rattle.std.proofs.lemmas.List.{get_or-replicate, get_or-set_other, get_or-set_same, get_or_past, length-replicate, length-set}
 use Rattle.std.proofs.lemmas.Option.{none-some, same_Some}
-use Rattle.std.specs.Prelude.{fold, if◌then◌else◌, is_some, slice_get}
+use Rattle.std.specs.Prelude.{fold, ◌==◌, if◌then◌else◌, is_some, slice_get, take}
 use Rattle.std.specs.Option.{option_to_list}
 use Rattle.lrc_lang.specs.declared.program.Program.{Program}
 use Rattle.lrc_trace.specs.declared.act.Act.{Act}
@@ -105,6 +106,9 @@ record HasTurn (logs : List (List EntryRecord)) (come : List ℕ) (before : ℕ)
   pub found : slice_get places k ≡ Some (before + place)
   pub is : IsTurnFrom logs come turned place act
 
+abbrev one_if : Bool → ℕ
+one_if b = cond b 1 0
+
 module _ (logs : List (List EntryRecord)) (come : List ℕ) (turn : Turned) (more : List Turned) (entry : EntryRecord)
     (long : length come ≡ length logs) (next : next_entry logs come turn.node ≡ Some entry) where
   abbrev after : List ℕ
@@ -117,6 +121,9 @@ module _ (logs : List (List EntryRecord)) (come : List ℕ) (turn : Turned) (mor
       absurd (none-some entry (sym (ap (λ log. slice_get log (come_of come turn.node)) none) ∙ next)))
       (cases_lt turn.node (length come))
 
+  split : (place m : ℕ) → turns_before (turn ∷ more) (suc place) m ≡ one_if (turn.node == m) + turns_before more place m
+  split place m = sum_by-cons (λ (t : Turned). cond (t.node == m) 1 0) turn (take place more)
+
   counts : (place m : ℕ) → come_of after m + turns_before more place m ≡ come_of come m + turns_before (turn ∷ more) (suc place) m
   counts place m = ⊎_elim
       (λ is.
@@ -124,15 +131,15 @@ module _ (logs : List (List EntryRecord)) (come : List ℕ) (turn : Turned) (mor
       get_or-set_same come turn.node (come_of come turn.node + 1) 0 inside in
       let here : come_of after m ≡ come_of after turn.node = ap (come_of after) (sym is) in
       let was : come_of come m ≡ come_of come turn.node = ap (come_of come) (sym is) in
-      let one : turns_before (turn ∷ more) (suc place) m ≡ 1 + turns_before more place m =
-      ap (λ b. cond b 1 0 + turns_before more place m) (eq-eqb turn.node m is) in
-      omega (arith, grown, here, was, one))
+      let one : one_if (turn.node == m) ≡ one_if true = ap one_if (eq-eqb turn.node m is) in
+      let both = split place m in
+      omega (arith, grown, here, was, one, both))
       (λ other.
       let same : come_of after m ≡ come_of come m =
       get_or-set_other come turn.node m (come_of come turn.node + 1) 0 (λ e. other (sym e)) in
-      let none : turns_before (turn ∷ more) (suc place) m ≡ turns_before more place m =
-      ap (λ b. cond b 1 0 + turns_before more place m) (ne_eqb turn.node m other) in
-      omega (arith, same, none))
+      let none : one_if (turn.node == m) ≡ one_if false = ap one_if (ne_eqb turn.node m other) in
+      let both = split place m in
+      omega (arith, same, none, both))
       (cases_eq turn.node m)
 
   later : (place : ℕ) (act : Act) → IsTurnFrom logs after more place act → IsTurnFrom logs come (turn ∷ more) (suc place) act
@@ -162,7 +169,7 @@ module _ (logs : List (List EntryRecord)) (come : List ℕ) (turn : Turned) (mor
       → Has before j act → HasTurn logs come before places (turn ∷ more) k act
   moved before k j places act at found =
       let place : before + 1 + found.place ≡ before + suc found.place = omega arith in
-      record { place = suc found.place; found = at ∙ found.found ∙ ap Some place; is = later found.place act found.is; }
+      record { place = suc found.place; found = at ∙ found.found ∙ ap Some place; is = later found.place act found.is }
 
   by_act : (before : ℕ) (o : Option Act) → entry.turn.act ≡ o
       → ((j : ℕ) (act : Act) → slice_get (acts_along logs after more) j ≡ Some act → Has before j act)
@@ -171,7 +178,7 @@ module _ (logs : List (List EntryRecord)) (come : List ℕ) (turn : Turned) (mor
   by_act before None makes rest k act there = moved before k k (turns_along logs after (before + 1) more) act refl (rest k act there)
   by_act before (Some first) makes rest zero act there =
       let place : before ≡ before + 0 = omega arith in
-      record { place = 0; found = ap Some place; is = now act (makes ∙ there); }
+      record { place = 0; found = ap Some place; is = now act (makes ∙ there) }
   by_act before (Some first) makes rest (suc k) act there =
       moved before (suc k) k (before ∷ turns_along logs after (before + 1) more) act refl (rest k act there)
 
@@ -203,8 +210,9 @@ turn_at logs (turn ∷ more) come before long leads k act there =
 none_came : (count node : ℕ) → come_of (replicate count 0) node ≡ 0
 none_came count node = ⊎_elim (λ below. get_or-replicate count node 0 0 below)
     (λ past.
-    let long : length (replicate count 0) ≡ count = length-replicate count 0 in
-    get_or_past (replicate count 0) node 0 (omega (arith, past, long)))
+    let none : ℕ = 0 in
+    let long : length (replicate count none) ≡ count = length-replicate count none in
+    get_or_past (replicate count none) node 0 (omega (arith, past, long)))
     (cases_lt node count)
 
 turns_of : (logs : List (List EntryRecord)) (turned : List Turned) → Leads logs (replicate (length logs) 0) turned
@@ -215,14 +223,17 @@ turns_of logs turned leads = λ k act there.
     let place : 0 + found.place ≡ found.place = omega arith in
     let none : come_of (replicate (length logs) 0) is.turn.node ≡ 0 = none_came (length logs) is.turn.node in
     let count : turns_before turned found.place is.turn.node ≡ come_of (replicate (length logs) 0) is.turn.node + turns_before turned found.place is.turn.node =
-    omega (arith, none) in
-    (found.place, found.found ∙ ap Some place, record {
-      turn = is.turn;
-      there = is.there;
-      entry = is.entry;
-      logged = ap (slice_get (log_of logs is.turn.node)) count ∙ is.logged;
-      makes = is.makes;
-    })
+    omega (arith, none) in (
+      found.place,
+      found.found ∙ ap Some place,
+      record {
+        turn = is.turn;
+        there = is.there;
+        entry = is.entry;
+        logged = ap (slice_get (log_of logs is.turn.node)) count ∙ is.logged;
+        makes = is.makes;
+      },
+    )
 
 module _ (program : Program) (nodes : ℕ) (options : OptionsRecord) (events : List Event) (run : Run)
     (runs : run_of program nodes options events ≡ Some run) where
