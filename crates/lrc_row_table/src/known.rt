@@ -59,6 +59,8 @@ impl Table {
         ensures table { OnOk result ((means : TheMeans) → IsTable means self.old
             → IsTable means self.new) }
         ensures widens { OnOk result (WidensRows self.old.rows self.new.rows) }
+        ensures has { IfOk result (λ added.
+            slice_get self.new.rows.rows.keys added.0 ≡ Some row) }
         ensures there { IfOk result (λ added. (key : Key) → StandsFor self.old.rows row key
             → IsRowAt self.new.rows added.0 key) }
         ensures added { IfOk result (λ added. IsAddedAt (row_count self.old.rows)
