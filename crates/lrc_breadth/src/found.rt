@@ -129,6 +129,7 @@ pub fn settled_start(
 }
 
 /// Returns what is kept of the start, which settled by these acts.
+#[tactic(auto, using(crate::proofs::Keys::bare_by))]
 fn key_of(alloc: Global, task: &Task<'_>, state: State, acts: &[Act]) -> Result<Noted, AllocError>
     requires task { IsTask task.now }
     requires state { IsStateOf task.now.flat state }
