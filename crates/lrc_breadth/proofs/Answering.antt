@@ -1,8 +1,9 @@
 -- What is answered.
-use Rattle.std.proofs.Common.{◌≡◌, ℕ, List, [], ◌∷◌, ◌++◌, sym, ◌∙◌, subst, append-nil}
+use Rattle.std.proofs.Common.{◌≡◌, ℕ, Bool, List, [], ◌∷◌, ◌++◌, sym, ◌∙◌, subst, append-nil}
 use Rattle.std.specs.Prelude.{Some, None, Result, Ok, Err, OnOk}
 use Rattle.lrc_lang.specs.declared.program.Program.{Program}
 use Rattle.lrc_trace.specs.declared.act.Act.{Act}
+use Rattle.lrc_exec.specs.Spots.{IsFlatOf}
 use Rattle.lrc_consistency_laws.specs.Follows.{nodes_of_acts}
 use Rattle.lrc_consistency_laws.specs.Racing.{HasNoRace}
 use Rattle.lrc_explore.specs.declared.search.ExploreFault.{ExploreFault}
@@ -44,11 +45,24 @@ pub free_answer : (task : Task) (found : Found) → AreFound task found → HasS
 free_answer task found f start end =
     (no_race task found.table.rows f.reached start end.1 end.0, never_stuck task found.table.rows f.reached start end.1 end.2)
 
-pub fault_of_task : (task : Task) (program : Program) (nodes most : ℕ) (fault : ExploreFault) → IsTask task → task.program.now ≡ program
-    → task.flat.nodes ≡ nodes → task.most ≡ most → task.looked ≡ looked_at most → IsFault task fault → IsFaultOf program nodes most fault
-fault_of_task task program nodes most fault is p n m l f = record {
+pub fault_of_task : (task : Task) (program : Program) (nodes most : ℕ) (noting : Bool) (fault : ExploreFault) → IsTask task → task.program.now ≡ program
+    → IsFlatOf program nodes task.flat task.start → task.most ≡ most → task.looked ≡ looked_at most → task.noting ≡ noting → IsFault task fault
+    → IsFaultOf program nodes most noting fault
+fault_of_task task program nodes most noting fault is p flat m l n f = record {
   nodes_in_range = f.nodes;
-  many = λ e. record { task = task; is = is; program_is = p; nodes_are = n; most_is = m; looked_is = l; many = f.many e };
+  many = λ e. record {
+    task = task;
+    is = is;
+    program_is = p;
+    code = flat.code;
+    words = flat.words;
+    locks = flat.locks;
+    nodes_are = flat.nodes;
+    most_is = m;
+    looked_is = l;
+    noting_is = n;
+    many = f.many e;
+  };
 }
 
 -- what four facts on success say together

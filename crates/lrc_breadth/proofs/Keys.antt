@@ -1,11 +1,12 @@
 -- Keys that are put to those that were found.
 use Rattle.std.proofs.Common.{◌≡◌, ℕ, zero, suc, ◌+◌, ◌<◌, ◌≤◌, List, [], ◌∷◌, ◌++◌, Bool, true, false, inl, inr, length, get_or, map, take, refl, sym, ap, ◌∙◌, subst, arith, add-one}
-use Rattle.std.specs.Prelude.{Some, slice_get, if◌then◌else◌}
+use Rattle.std.specs.Prelude.{All, Some, slice_get, if◌then◌else◌}
 use Rattle.std.proofs.lemmas.Bool.{cases_lt, cases_eq}
 use Rattle.std.proofs.lemmas.List.{length-map, length_push}
 use Rattle.lrc_trace.specs.declared.act.Act.{Act}
 use Rattle.lrc_trace.proofs.Positions.{slice_get-seam}
 use Rattle.lrc_exec.specs.Plain.{Plain}
+use Rattle.lrc_exec.specs.declared.spot.Spot.{Spot}
 use Rattle.lrc_exec.specs.Spots.{spot_thread}
 use Rattle.lrc_explore.specs.declared.noted.Noted.{Noted}
 use Rattle.lrc_rows.specs.declared.rows.Rows.{Rows}
@@ -32,8 +33,10 @@ use Rattle.lrc_breadth.specs.Reached.{AreFound, AreReached, CannotTake, ComesFro
 use Rattle.lrc_breadth.specs.Reached.{IsFrom, IsKept, IsKeyOf, IsMore, IsReached, IsTableOf, SettlesStart}
 use Rattle.lrc_row_steps.specs.Nexts.{notes_on}
 use Rattle.lrc_live.specs.Like.{AreLike, TakesLike}
+use Rattle.lrc_live.specs.Live.{forgot}
 use Rattle.lrc_live.proofs.Alike.{takes_once}
 use Rattle.lrc_live.proofs.Like.{like_alike, like_back, like_is, like_on, like_same}
+use Rattle.lrc_row_table.proofs.Forgotten.{all_forgot}
 use Rattle.lrc_breadth.proofs.MeansOf.{table_distinct}
 use Rattle.lrc_breadth.proofs.Reaching.{Further, further, notes_onward, notes_start}
 
@@ -184,6 +187,11 @@ module _ (task : Task) (old new : Found) (key : Noted) (origin : Origin) (place 
   }
 
 -- ---- the key of the start
+
+-- what was forgotten is 0
+pub bare_by : (live table : List (List Bool)) (old new : List Spot) → table ≡ live → new ≡ map (forgot table) old
+    → All (λ (spot : Spot). forgot live spot ≡ spot) new
+bare_by live table old new same is = subst (λ t. All (λ (spot : Spot). forgot t spot ≡ spot) new) same (all_forgot table old new is)
 
 module _ (task : Task) (state : State) (acts : List Act) (key : Noted) (s : SettlesStart task [] acts state) (k : IsKeyOf task state acts key) where
   made : s.acts ≡ acts

@@ -48,6 +48,7 @@ module _ (a b : Means) (flat : a.flat ≡ b.flat) (live : a.live.now ≡ b.live.
     distinct = is.distinct;
     nodes = is.nodes ∙ ap (λ (f : Flat). f.nodes) flat;
     placed = subst (λ (f : Flat). All (λ spot. spot.place ≤ length f.code.now) table.rows.threads.keys) flat is.placed;
+    bare = subst (λ l. All (λ spot. forgot l spot ≡ spot) table.rows.threads.keys) live is.bare;
     nexts = is.nexts ∙ ap (λ f. map (next_in f) table.rows.threads.keys) flat;
     afters = λ k asked after at. after_by table.rows.threads.keys asked after (is.afters k asked after at);
     changes = is.changes;

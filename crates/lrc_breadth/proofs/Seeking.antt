@@ -1,6 +1,6 @@
 -- A search that goes through what was found.
 use Rattle.std.proofs.Common.{◌≡◌, ℕ, ◌+◌, ◌<◌, ◌≤◌, List, [], true, inl, inr, refl, sym, ap, ◌∙◌, subst, arith}
-use Rattle.std.specs.Prelude.{◌↔◌, Option, Some, None, slice_get}
+use Rattle.std.specs.Prelude.{◌↔◌, All, Option, Some, None, slice_get}
 use Rattle.std.specs.Option.{option_or}
 use Rattle.std.proofs.lemmas.Bool.{cases_eq}
 use Rattle.lrc_trace.specs.declared.act.Act.{Act}
@@ -20,6 +20,7 @@ use Rattle.lrc_explore.proofs.Stores.{before, listed, listed_apart}
 use Rattle.lrc_explore.proofs.Ways.{IsNotedCopy}
 use Rattle.lrc_rows.proofs.RowLaws.{row_copy, row_grown, row_store, row_within}
 use Rattle.lrc_rows.proofs.RowsApart.{row_apart}
+use Rattle.lrc_exec.specs.declared.spot.Spot.{Spot}
 use Rattle.lrc_exec.specs.declared.state.State.{State}
 use Rattle.lrc_explore.specs.declared.search.ExploreFault.{ExploreFault}
 use Rattle.lrc_explore.specs.declared.search.ExploreFault.TheVariants.{BadNodes, TooMany}
@@ -32,8 +33,11 @@ use Rattle.lrc_breadth.specs.declared.task.Task.{Task}
 use Rattle.lrc_breadth.specs.declared.task.Found.{Found}
 use Rattle.lrc_breadth.specs.Reached.{AreCalm, AreExpanded, AreFound, AreNowhereStuck, AreReached, HasStart, IsExpanded, IsMore, IsReached, IsTask}
 use Rattle.lrc_breadth.specs.Answers.{AddsOnly, AreGathered, AreSound, HasMoreSettled, IsFault, IsLongFault, starts_long, settles_long, has_more, IsGathered, IsGatheredAt, IsSeen, IsStuckFirst}
+use Rattle.lrc_live.specs.Live.{forgot}
 use Rattle.lrc_live.proofs.Like.{like_back, rest_like}
+use Rattle.lrc_row_table.proofs.Forgotten.{threads_of_row}
 use Rattle.lrc_breadth.proofs.Keys.{expanded_copy, expanded_grown, more_again, more_same}
+use Rattle.lrc_breadth.proofs.MeansOf.{means_are, means_of}
 use Rattle.lrc_breadth.proofs.Reaching.{all_reached, fine_key}
 
 -- what is at an old place was there
@@ -49,7 +53,8 @@ same_plain task all k a b x y = copy_same task.flat a.state b.state (row_copy al
 
 abbrev pub IsStuckSoFar : Task → Rows → (index : ℕ) → Option ℕ → Type 0
 IsStuckSoFar task all index None = AreNowhereStuck task all index
-IsStuckSoFar task all index (Some place) = (key : Noted) × IsRowAt all place key × IsStuck (plain_at task.flat key.state)
+IsStuckSoFar task all index (Some place) =
+    (key : Noted) × IsRowAt all place key × IsStuck (plain_at task.flat key.state) × AreNowhereStuck task all place
 
 pub record Seeking (task : Task) (first now : Found) (place : ℕ) (stuck : Option ℕ) : Type 0 where
   pub found : AreFound task now
@@ -98,15 +103,26 @@ module _ (task : Task) (first old new : Found) (place : ℕ) (stuck : Option ℕ
     | inr apart ↦ nowhere k key (omega (arith, lt, apart)) (old_at k key (omega (arith, lt, apart)) at)
   ]
 
+  -- the first state that is stuck is it still
+  still_first : (at : ℕ) → IsStuckSoFar task old.table.rows place (Some at) → IsStuckSoFar task new.table.rows (place + 1) (Some at)
+  still_first at is = (
+    is.0,
+    row_grown old.table.rows new.table.rows at is.0 m.rows is.1,
+    is.2,
+    λ k key lt there.
+        let here = row_within old.table.rows at is.0 is.1 in
+        is.3 k key lt (was_there old.table.rows new.table.rows k key m.rows s.found.reached.full (omega (arith, lt, here)) there),
+  )
+
   past_on : (seen : IsSeen task new place) → (IsStuck (plain_at task.flat seen.key.state) → ⊥) → (o : Option ℕ) → IsStuckSoFar task old.table.rows place o
       → IsStuckSoFar task new.table.rows (place + 1) o
   past_on seen never None nowhere = nowhere_on seen never nowhere
-  past_on seen never (Some at) is = (is.0, row_grown old.table.rows new.table.rows at is.0 m.rows is.1, is.2)
+  past_on seen never (Some at) is = still_first at is
 
   stuck_on : (seen : IsSeen task new place) → IsStuck (plain_at task.flat seen.key.state) → (o : Option ℕ) → IsStuckSoFar task old.table.rows place o
       → IsStuckSoFar task new.table.rows (place + 1) (option_or o (Some place))
-  stuck_on seen halted None nowhere = (seen.key, seen.there, halted)
-  stuck_on seen halted (Some at) is = (is.0, row_grown old.table.rows new.table.rows at is.0 m.rows is.1, is.2)
+  stuck_on seen halted None nowhere = (seen.key, seen.there, halted, λ k key lt at. nowhere k key lt (old_at k key lt at))
+  stuck_on seen halted (Some at) is = still_first at is
 
   pub seeking_past : (seen : IsSeen task new place) → (IsStuck (plain_at task.flat seen.key.state) → ⊥) → Seeking task first new (place + 1) stuck
   seeking_past seen never = record {
@@ -219,20 +235,31 @@ exact task all found reached start sound done noting notes =
 
 -- ---- too many states
 
-pub has_more_settled : (task : Task) (all : Rows) (most : ℕ) → AreReached task all → most < row_count all → HasMoreSettled task most
-has_more_settled task all most reached many =
+-- what a row stands for keeps no value that is dead
+bare_key : (task : Task) (found : Found) (place : ℕ) (key : Noted) → AreFound task found → IsRowAt found.table.rows place key
+    → All (λ (spot : Spot). forgot task.live.items spot ≡ spot) key.state.spots.items
+bare_key task found place key f at =
+    let keys = found.table.rows.threads.keys in
+    threads_of_row (λ (spot : Spot). forgot task.live.items spot ≡ spot) keys found.table.rows.nodes at.row.threads key.state.spots.items at.stands.threads
+    (f.table (means_of task) (means_are task)).bare
+
+pub has_more_settled : (task : Task) (found : Found) (most : ℕ) → AreFound task found → most < row_count found.table.rows → HasMoreSettled task most
+has_more_settled task found most f many =
+    let all = found.table.rows in
+    let reached = f.reached in
     let items = listed IsRowAt row_count WidensRows IsNotedCopy row_store all reached.full in
     record {
       keys = items.list;
       many = subst (λ n. most < n) (sym items.long) many;
       distinct = listed_apart IsRowAt row_count WidensRows IsNotedCopy row_store noted_eq.it all (row_apart all reached.distinct) items;
       each = λ k key there. reached.each k key (items.at k key there);
+      bare = λ k key there. bare_key task found k key f (items.at k key there);
     }
 
-pub too_many_states : (task : Task) (all : Rows) → AreReached task all → task.most < row_count all → IsFault task TooMany
-too_many_states task all reached many = record {
+pub too_many_states : (task : Task) (found : Found) → AreFound task found → task.most < row_count found.table.rows → IsFault task TooMany
+too_many_states task found f many = record {
   nodes = λ e. cc;
-  many = λ e. has_more (has_more_settled task all task.most reached many);
+  many = λ e. has_more (has_more_settled task found task.most f many);
 }
 
 -- a fault of a step

@@ -68,8 +68,8 @@ module _ (task : Task) (found : Found) (place : ℕ) (origin : Origin) (key : No
       (subst (λ m. TakesLike m was.origin.step was.from.acts (plain_at task.flat here_is.0.state)) before_is was.from.takes)
 
   pub led_on : (acts later_acts : List Act) (o : Option State) → LeadTo task found origin.parent acts
-      → MatchOption o (CannotTake task key.state origin.step) (HasTakenTo task key.state origin.step acts later_acts) → LeadTo task found place later_acts
-  led_on acts later_acts None led cannot = absurd (cannot was.from.acts takes_it.there takes_it.takes)
+      → MatchOption o (CannotTake task key.state origin.step × (later_acts ≡ acts)) (HasTakenTo task key.state origin.step acts later_acts) → LeadTo task found place later_acts
+  led_on acts later_acts None led cannot = absurd (cannot.0 was.from.acts takes_it.there takes_it.takes)
   led_on acts later_acts (Some state) led t =
       let r = f.reached.each origin.parent key there in
       let copy = row_copy found.table.rows origin.parent led.key key led.there there in

@@ -1,8 +1,9 @@
 -- What a search through the settled states answers.
-use Rattle.std.specs.Prelude.{◌≢◌, min, ◌≡◌, ℕ, ◌+◌, ◌-◌, ◌*◌, ◌^◌, ◌<◌, ◌≤◌, ◌⊎◌, true, List, Option, Some, None, Contains, length, slice_get}
+use Rattle.std.specs.Prelude.{◌≢◌, min, ◌≡◌, ℕ, ◌+◌, ◌-◌, ◌*◌, ◌^◌, ◌<◌, ◌≤◌, ◌⊎◌, Bool, true, All, List, Option, Some, None, Contains, length, slice_get}
 use Rattle.std.specs.List.{IsDistinct}
 use Rattle.lrc_lang.specs.declared.program.Program.{Program}
 use Rattle.lrc_trace.specs.declared.act.Act.{Act}
+use Rattle.lrc_exec.specs.Flat.{IsCodeOf}
 use Rattle.lrc_exec.specs.Plain.{Plain}
 use Rattle.lrc_consistency_laws.specs.Racing.{HasNoRace}
 use Rattle.lrc_explore.specs.declared.noted.Noted.{Noted}
@@ -31,6 +32,7 @@ use Rattle.lrc_exec.specs.declared.state.State.{State}
 use Rattle.lrc_explore.specs.declared.outcomes.Outcome.{Outcome}
 use Rattle.lrc_explore.specs.Outcome.{HasOutcome}
 use Rattle.lrc_live.specs.Like.{AreLike}
+use Rattle.lrc_live.specs.Live.{forgot}
 use Rattle.lrc_breadth.specs.Reached.{AreCalm, AreExpanded, AreNowhereStuck, IsExpanded, IsReached, IsTask}
 
 -- so many free acts are looked at where there may be so many states
@@ -53,12 +55,14 @@ pub record SettlesLong (program : Program) (nodes most : ℕ) : Type 0 where
   pub alike : AreLike machine like
   pub long : ComputesLong like most
 
--- more states than a bound, no two of them equal, each of which stands for a settled state of the program
+-- more states than a bound, no two of them equal, each of which stands for a settled state of the program. What no longer matters is 0 in
+-- them: two that stand for the same state differ in the place of the code where some node is, or in their notes
 pub record HasMoreSettled (task : Task) (most : ℕ) : Type 0 where
   pub keys : List Noted
   pub many : most < length keys
   pub distinct : IsDistinct eq-value.it keys
   pub each : (k : ℕ) (key : Noted) → slice_get keys k ≡ Some key → IsReached task key
+  pub bare : (k : ℕ) (key : Noted) → slice_get keys k ≡ Some key → All (λ spot. forgot task.live.items spot ≡ spot) key.state.spots.items
 
 -- each settled state of the program is one of so many, but for how often nodes have arrived and for private values that nothing depends
 -- on any more
@@ -90,19 +94,23 @@ pub record IsLongFault (task : Task) (state : State) (fault : ExploreFault) : Ty
   pub nodes : fault ≢ BadNodes
   pub many : fault ≡ TooMany → ComputesLong (plain_at task.flat state) task.looked
 
--- so it is of a program
-pub record MetTooMany (program : Program) (nodes most : ℕ) : Type 0 where
+-- so it is of a program's code, where notes are kept or not
+pub record MetTooMany (program : Program) (nodes most : ℕ) (noting : Bool) : Type 0 where
   pub task : Task
   pub is : IsTask task
   pub program_is : task.program.now ≡ program
+  pub code : IsCodeOf task.flat.code.now task.start program.statements.items
+  pub words : task.flat.words ≡ program.words
+  pub locks : task.flat.locks ≡ program.locks
   pub nodes_are : task.flat.nodes ≡ nodes
   pub most_is : task.most ≡ most
   pub looked_is : task.looked ≡ looked_at most
+  pub noting_is : task.noting ≡ noting
   pub many : IsTooMany task
 
-pub record IsFaultOf (program : Program) (nodes most : ℕ) (fault : ExploreFault) : Type 0 where
+pub record IsFaultOf (program : Program) (nodes most : ℕ) (noting : Bool) (fault : ExploreFault) : Type 0 where
   pub nodes_in_range : fault ≢ BadNodes
-  pub many : fault ≡ TooMany → MetTooMany program nodes most
+  pub many : fault ≡ TooMany → MetTooMany program nodes most noting
 
 -- what was seen at the state at a place
 pub record IsSeen (task : Task) (found : Found) (place : ℕ) : Type 0 where
@@ -136,10 +144,11 @@ IsGatheredAt task all outcomes place = (key : Noted) → IsRowAt all place key �
 abbrev pub AreGathered : Task → Rows → List Outcome → (index : ℕ) → Type 0
 AreGathered task all outcomes index = (k : ℕ) → k < index → IsGatheredAt task all outcomes k
 
--- where a search ended: at a state where two nodes meet; or past all states, none of which is stuck before this one
+-- where a search ended: at a state where two nodes meet; or past all states, and the first at which the program is stuck is this one
 abbrev pub IsStuckFirst : Task → Rows → Option ℕ → Type 0
 IsStuckFirst task all None = AreNowhereStuck task all (row_count all)
-IsStuckFirst task all (Some place) = (key : Noted) × IsRowAt all place key × IsStuck (plain_at task.flat key.state)
+IsStuckFirst task all (Some place) =
+    (key : Noted) × IsRowAt all place key × IsStuck (plain_at task.flat key.state) × AreNowhereStuck task all place
 
 abbrev pub IsEnd : Task → Found → End → Type 0
 IsEnd task found (end.Meeting place p q) = (key : Noted) × IsRowAt found.table.rows place key × Meet (plain_at task.flat key.state) p q

@@ -1,5 +1,5 @@
 -- States that a search through the settled states has found.
-use Rattle.std.specs.Prelude.{◌≡◌, ℕ, ◌<◌, ◌≤◌, true, false, List, [], ◌++◌, Some, length, slice_get}
+use Rattle.std.specs.Prelude.{◌≡◌, ℕ, ◌<◌, ◌≤◌, All, true, false, List, [], ◌++◌, Some, length, slice_get}
 use Rattle.lrc_trace.specs.declared.act.Act.{Act}
 use Rattle.lrc_exec.specs.Plain.{Plain, plain_start}
 use Rattle.lrc_exec.specs.Spots.{IsFlat}
@@ -26,7 +26,7 @@ use Rattle.lrc_row_table.specs.declared.known.Means.{Means}
 use Rattle.lrc_row_table.specs.declared.table.Table.{Table}
 use Rattle.lrc_row_table.specs.Tables.{IsTable}
 use Rattle.lrc_live.specs.Like.{AreLike, TakesLike}
-use Rattle.lrc_live.specs.Live.{AreLive}
+use Rattle.lrc_live.specs.Live.{AreLive, forgot}
 use Rattle.lrc_breadth.specs.declared.task.Found.{Found}
 
 -- the code is the program's, and of each place of it the names are known that matter there
@@ -164,11 +164,12 @@ pub record IsNext (task : Task) (all : Rows) (origin : Origin) (row : Row) : Typ
 abbrev pub LeadsTo : Task → Rows → (place : ℕ) → Step → Row → Type 0
 LeadsTo task all place step = IsNext task all (record { parent = place; step = step })
 
--- the key stands for a state, and has the notes of these acts if notes are kept
+-- the key stands for a state, keeps no value that is dead, and has the notes of these acts if notes are kept
 pub record IsKeyOf (task : Task) (state : State) (acts : List Act) (key : Noted) : Type 0 where
   pub valid : IsStateOf task.flat key.state
   pub counted : IsCounted key.state
   pub alike : AreLike (plain_at task.flat key.state) (plain_at task.flat state)
+  pub bare_spots : All (λ spot. forgot task.live.items spot ≡ spot) key.state.spots.items
   pub noted : task.noting ≡ true → key.notes.items ≡ notes_on [] acts
   pub bare : task.noting ≡ false → key.notes.items ≡ []
 

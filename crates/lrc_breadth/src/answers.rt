@@ -1,8 +1,9 @@
 // What is answered of a program.
 
-ghost use Rattle.std.specs.Prelude.{◌≡◌, ◌≢◌, ◌≤◌, ◌++◌, ◌↔◌, List, IfOk, IfErr, MatchResult, Err};
+ghost use Rattle.std.specs.Prelude.{◌≡◌, ◌≢◌, ◌≤◌, ◌++◌, ◌↔◌, List, IfOk, IfErr, MatchResult, Err, true, false};
 ghost use Rattle.lrc_trace.specs.declared.act.Act.{Act as ActType};
 ghost use Rattle.lrc_exec.specs.Nodes.{AreNodes};
+ghost use Rattle.lrc_exec.specs.Spots.{IsFlatOf};
 ghost use Rattle.lrc_consistency_laws.specs.Follows.{nodes_of_acts};
 ghost use Rattle.lrc_explore.specs.Outcome.{HasOutcome, IsOutcome};
 ghost use Rattle.lrc_breadth.specs.Answers.{FitsSettled, FitsSettledNoted, IsAnswer, IsFaultOf, MetTooMany, looked_at};
@@ -22,8 +23,8 @@ use std::alloc::{AllocError, Global};
 
 /// Searches the settled states of a program on this many nodes. It tells whether an order races, and if none does,
 /// whether one gets stuck. It fails with `BadNodes` exactly if the number of nodes is not 1 to 16. It gives up with
-/// `TooMany` if there are more states to tell apart than `most`, or if a thread makes 1,000,000 + 20 * `most` free acts
-/// one after another. It fails if memory runs out.
+/// `TooMany` only if there are more states to tell apart than `most`, or if a thread makes 1,000,000 + 20 * `most` free
+/// acts one after another. It fails if memory runs out.
 pub fn explore(
     alloc: Global,
     program: &Program,
@@ -35,7 +36,7 @@ pub fn explore(
         → FitsSettled program.now nodes most) }
     ensures bad_nodes { (result ≡ Err ExploreFault.BadNodes) ↔ (¬ AreNodes nodes) }
     ensures too_many { IfErr result (λ fault. fault ≡ ExploreFault.TooMany
-        → MetTooMany program.now nodes most) }
+        → MetTooMany program.now nodes most false) }
 {
     let count = count_of(nodes)?;
     let code = Code::new(alloc, program)?;
@@ -51,7 +52,7 @@ fn explore_code(
 ) -> Result<Verdict, ExploreFault>
     ensures answer { IfOk result (IsAnswer code.now nodes) }
     ensures fits { IfOk result (λ verdict. FindsNoRace verdict → FitsSettled code.now nodes most) }
-    ensures faults { IfErr result (IsFaultOf code.now nodes most) }
+    ensures faults { IfErr result (IsFaultOf code.now nodes most false) }
 {
     let task = task_of(alloc, code, nodes, most, false)?;
     let mut found = Found::none(alloc, nodes as usize);
@@ -71,7 +72,7 @@ pub fn outcomes(
     ensures fits { IfOk result (λ _. FitsSettledNoted program.now nodes most) }
     ensures bad_nodes { (result ≡ Err ExploreFault.BadNodes) ↔ (¬ AreNodes nodes) }
     ensures too_many { IfErr result (λ fault. fault ≡ ExploreFault.TooMany
-        → MetTooMany program.now nodes most) }
+        → MetTooMany program.now nodes most true) }
 {
     let count = count_of(nodes)?;
     let code = Code::new(alloc, program)?;
@@ -88,7 +89,7 @@ fn outcomes_of(
     ensures exact { IfOk result (λ found. (notes : List ActType)
         → (HasOutcome found.keys notes ↔ IsOutcome code.now nodes notes)) }
     ensures fits { IfOk result (λ _. FitsSettledNoted code.now nodes most) }
-    ensures faults { IfErr result (IsFaultOf code.now nodes most) }
+    ensures faults { IfErr result (IsFaultOf code.now nodes most true) }
 {
     let task = task_of(alloc, code, nodes, most, true)?;
     let mut found = Found::none(alloc, nodes as usize);
@@ -110,6 +111,7 @@ pub fn task_of<'c>(
 ) -> Result<Task<'c>, AllocError>
     ensures task { IfOk result IsTask }
     ensures program { IfOk result (λ task. task.program.now ≡ code.now) }
+    ensures flat { IfOk result (λ task. IsFlatOf code.now nodes task.flat task.start) }
     ensures nodes { IfOk result (λ task. task.flat.nodes ≡ nodes) }
     ensures most { IfOk result (λ task. task.most ≡ most) }
     ensures looked { IfOk result (λ task. task.looked ≡ looked_at most) }

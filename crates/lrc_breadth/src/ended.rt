@@ -20,9 +20,9 @@ pub struct Ended {
     pub outcomes: IndexSet<Outcome>,
 }
 
-/// Finds all settled states of a program, and the outcomes of those at which no node can make an act. It fails with
-/// `TooMany` if there are more states to tell apart than the task allows, or if a thread makes as many free acts as are
-/// to be looked at. It fails if memory runs out.
+/// Finds all settled states of a program, and the outcomes of those at which no node can make an act. It gives up with
+/// `TooMany` only if there are more states to tell apart than the task allows, or if a thread makes as many free acts as
+/// are to be looked at. It fails if memory runs out.
 pub fn all_ended(alloc: Global, task: &Task<'_>) -> Result<Ended, ExploreFault>
     requires task { IsTask task.now }
     requires noting { task.now.noting ≡ true }
@@ -55,7 +55,7 @@ impl Found {
     ghost use Rattle.lrc_breadth.specs.Reached.{AreFound, IsTask};
 
     /// Returns the acts of a run with these notes after which no node can make an act, or none if there is no such run.
-    /// They are those that lead to the first such state that was found.
+    /// It fails if memory runs out.
     pub fn run_with(
         &self,
         alloc: Global,

@@ -35,8 +35,8 @@ fn or_too_many(done: bool) -> Result<(), ExploreFault>
     }
 }
 
-/// Returns the state that a step leads to, or none if the step cannot be taken. It appends the acts to `acts`. It fails
-/// if memory runs out, or if a node makes so many free acts that the limit is reached.
+/// Returns the state that a step leads to, and appends the acts to `acts`. If the step cannot be taken, it returns none
+/// and appends nothing. It fails if memory runs out, or if a node makes so many free acts that the limit is reached.
 pub fn taken(
     alloc: Global,
     task: &Task<'_>,
@@ -48,7 +48,8 @@ pub fn taken(
     requires state { IsStateOf task.now.flat state.now }
     requires counted { IsCounted state.now }
     requires settled { IsSettled (plain_at task.now.flat state.now) }
-    ensures taken { IfOk result (λ after. MatchOption after (CannotTake task.now state.now step)
+    ensures taken { IfOk result (λ after. MatchOption after
+        (CannotTake task.now state.now step × (acts.new.items ≡ acts.old.items))
         (HasTakenTo task.now state.now step acts.old.items acts.new.items)) }
     ensures faults { IfErr result (IsLongFault task.now state.now) }
 {
@@ -71,7 +72,7 @@ fn taken_alone(
     requires counted { IsCounted state.now }
     requires settled { IsSettled (plain_at task.now.flat state.now) }
     ensures taken { IfOk result (λ after. MatchOption after
-        (CannotTake task.now state.now (Alone node))
+        (CannotTake task.now state.now (Alone node) × (acts.new.items ≡ acts.old.items))
         (HasTakenTo task.now state.now (Alone node) acts.old.items acts.new.items)) }
     ensures faults { IfErr result (IsLongFault task.now state.now) }
 {
@@ -94,7 +95,8 @@ fn taken_together(
     requires task { IsTask task.now }
     requires state { IsStateOf task.now.flat state.now }
     requires counted { IsCounted state.now }
-    ensures taken { IfOk result (λ after. MatchOption after (CannotTake task.now state.now Together)
+    ensures taken { IfOk result (λ after. MatchOption after
+        (CannotTake task.now state.now Together × (acts.new.items ≡ acts.old.items))
         (HasTakenTo task.now state.now Together acts.old.items acts.new.items)) }
     ensures faults { IfErr result (IsLongFault task.now state.now) }
 {
@@ -127,6 +129,7 @@ pub fn settled_start(
 }
 
 /// Returns what is kept of the start, which settled by these acts.
+#[tactic(auto, using(crate::proofs::Keys::bare_by))]
 fn key_of(alloc: Global, task: &Task<'_>, state: State, acts: &[Act]) -> Result<Noted, AllocError>
     requires task { IsTask task.now }
     requires state { IsStateOf task.now.flat state }
@@ -165,7 +168,8 @@ fn note_all(notes: &mut Vec<Act>, acts: &[Act]) -> Result<(), AllocError>
 }
 
 impl Found {
-    ghost use Rattle.std.specs.Prelude.{◌≡◌, ◌<◌, IfOk, IfErr, MatchOption, OnOk};
+    ghost use Rattle.std.specs.Prelude.{◌≡◌, ◌<◌, All, IfOk, IfErr, MatchOption, OnOk};
+    ghost use Rattle.lrc_live.specs.Live.{forgot};
     ghost use Rattle.lrc_explore.specs.declared.noted.Noted.{Noted as Key};
     ghost use Rattle.lrc_rows.specs.Rows.{IsRowAt, StandsFor, row_count};
     ghost use Rattle.lrc_breadth.specs.declared.task.Task.{Task as TheTask};
@@ -204,6 +208,8 @@ impl Found {
         requires found { AreFound task.now self.old }
         requires none { row_count self.old.table.rows ≡ 0 }
         requires reached { IsReached task.now key }
+        requires bare { All (λ spot. forgot task.now.live.items spot ≡ spot)
+            key.state.spots.items }
         requires first { IsFirstKey task.now key }
         ensures found { OnOk result (AreFound task.now self.new) }
         ensures has { OnOk result (IsKept self.new.table.rows key) }

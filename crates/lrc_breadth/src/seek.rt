@@ -29,7 +29,8 @@ impl Found {
     ghost use Rattle.lrc_breadth.specs.Reached.{AreExpanded, AreFound, IsExpandedAt, IsMore, IsTask};
     ghost use Rattle.lrc_breadth.specs.Answers.{AreGathered, AreSound, FitsEnd, IsEnd, IsFault, IsGatheredAt, IsVisit};
 
-    /// Visits the states in the order of finding, up to one where two nodes meet.
+    /// Looks for a state where two nodes meet. If there is none, all states are found, and the answer tells the first of
+    /// them at which the program is stuck, if any.
     pub fn seek(&mut self, alloc: Global, task: &Task<'_>) -> Result<End, ExploreFault>
         requires task { IsTask task.now }
         requires found { AreFound task.now self.old }

@@ -13,8 +13,8 @@ impl Found {
     ghost use Rattle.lrc_breadth.specs.Answers.{IsFault};
     ghost use Rattle.lrc_breadth.specs.Told.{Comes, IsParentLed, LeadTo};
 
-    /// Returns the acts that lead from the beginning to a state: those by which the start settles, and those of each
-    /// step on the way. It fails if memory runs out.
+    /// Returns acts that lead from the beginning to a settled state of the program that the state at this place stands
+    /// for. If notes are kept, they have its notes. It fails if memory runs out.
     pub fn acts_to(
         &self,
         alloc: Global,

@@ -176,7 +176,7 @@ IsActsChartFault acts charting text _ = ⊥
 abbrev pub HasOutcomeFault : Exploring → Program → (number : ℕ) → Fault → Type 0
 HasOutcomeFault exploring program number (NoOutcome missed) = (missed ≡ number) × HasFewerOutcomes program exploring.nodes.count number
 HasOutcomeFault exploring program number (TooManyStates most) =
-    (most ≡ exploring.most.count) × MeetsTooMany program exploring.nodes.count most exploring.outcomes
+    (most ≡ exploring.most.count) × MeetsTooMany program exploring.nodes.count most true
 HasOutcomeFault exploring program number NoMemory = Unit {0}
 HasOutcomeFault exploring program number _ = ⊥
 

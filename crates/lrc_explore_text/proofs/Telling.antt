@@ -1,6 +1,6 @@
 -- What is told of a program.
 use Rattle.std.proofs.Common.{◌≡◌, ℕ, ◌+◌, ◌-◌, List, ◌++◌, Bool, true, false, Result, Ok, Err, IfOk, length, length-append, sym, subst, ◌∙◌, ap, arith}
-use Rattle.std.specs.Prelude.{◌≢◌, Some, codes}
+use Rattle.std.specs.Prelude.{◌≢◌, IfErr, Some, codes}
 use Rattle.std.proofs.lemmas.Option.{same_Some}
 use Rattle.lrc_lang.specs.declared.program.Program.{Program}
 use Rattle.lrc_labels.specs.Reading.{Label}
@@ -11,11 +11,12 @@ use Rattle.lrc_text.specs.RaceText.{first_race_text, races_text}
 use Rattle.lrc_exec.specs.Plain.{plain}
 use Rattle.lrc_consistency_laws.specs.Racing.{HasNoRace}
 use Rattle.lrc_explore.specs.declared.search.ExploreFault.{ExploreFault}
+use Rattle.lrc_explore.specs.declared.search.ExploreFault.TheVariants.{TooMany}
 use Rattle.lrc_explore.specs.Stuck.{GetsStuck}
 use Rattle.lrc_causes.specs.Told.{TellsRace}
-use Rattle.lrc_breadth.specs.Answers.{FitsSettled, FitsSettledNoted}
+use Rattle.lrc_breadth.specs.Answers.{FitsSettled, FitsSettledNoted, MetTooMany}
 use Rattle.lrc_explore_text.specs.declared.explored.Printout.{Printout}
-use Rattle.lrc_explore_text.specs.Explored.{Explores, MeetsFew, tells_orders, tells_outcomes}
+use Rattle.lrc_explore_text.specs.Explored.{Explores, MeetsFew, MeetsTooMany, tells_orders, tells_outcomes}
 use Rattle.lrc_explore_text.specs.LastRaces.{AreRacesAt}
 use Rattle.lrc_explore_text.specs.Orders.{TellsOrders, ends_text, order_text, racy, stuck}
 use Rattle.lrc_explore_text.specs.Outcomes.{TellsOutcomes}
@@ -42,6 +43,11 @@ module _ (program : Program) (nodes most : ℕ) (outcomes : Bool) (r : Result Pr
 
   pub fits_in : outcomes ≡ false → IfOk r (λ p. p.status ≢ 3 → FitsSettled program nodes most) → IfOk r (λ p. MeetsFew program nodes most outcomes p.status)
   fits_in is h = subst (λ b. IfOk r (λ p. MeetsFew program nodes most b p.status)) (sym is) h
+
+  -- why it gives up
+  pub gives_up : (b : Bool) → outcomes ≡ b → IfErr r (λ fault. fault ≡ TooMany → MetTooMany program nodes most b)
+      → IfErr r (λ fault. fault ≡ TooMany → MeetsTooMany program nodes most outcomes)
+  gives_up b is h = subst (λ o. IfErr r (λ fault. fault ≡ TooMany → MetTooMany program nodes most o)) (sym is) h
 
 -- ---- one order
 

@@ -11,9 +11,9 @@ pub data Explores (labels : List Label) (program : Program) (nodes : ℕ) (lines
   tells_orders : {out : List ℕ} {status : ℕ} → TellsOrders labels program nodes lines out status → Explores labels program nodes lines false out status
   tells_outcomes : {out : List ℕ} → TellsOutcomes program nodes out → Explores labels program nodes lines true out 0
 
--- the search met more states than it may, or looked at more acts
+-- the search met more states than it may, or looked at more acts; where outcomes are asked for, its states are told apart by their notes too
 abbrev pub MeetsTooMany : Program → (nodes most : ℕ) → (outcomes : Bool) → Type 0
-MeetsTooMany program nodes most outcomes = MetTooMany program nodes most
+MeetsTooMany program nodes most outcomes = MetTooMany program nodes most outcomes
 
 -- all settled states are among as many as the search may meet, but for how often nodes have arrived, unless it ends at a race, whose status
 -- is 3; where outcomes are asked for, so they are with what was printed

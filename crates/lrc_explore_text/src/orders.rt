@@ -1,6 +1,6 @@
 // Whether an order races or gets stuck, as it is printed.
 
-ghost use Rattle.std.specs.Prelude.{◌≡◌, ◌≢◌, ◌<◌, ◌-◌, ◌++◌, ℕ, List, IfErr, IfOk, IsSome, Some, All, length, map};
+ghost use Rattle.std.specs.Prelude.{◌≡◌, ◌≢◌, ◌<◌, ◌-◌, ◌++◌, ℕ, List, IfErr, IfOk, IsSome, Some, All, false, length, map};
 ghost use Rattle.lrc_judge.specs.declared.TheConstants.{NODES};
 ghost use Rattle.lrc_labels.specs.Reading.{label_seen};
 ghost use Rattle.lrc_text.specs.Parts.{whole_text};
@@ -47,7 +47,7 @@ pub(crate) fn orders_told(
         → FitsSettled program.now nodes most) }
     ensures nodes { IfErr result (λ fault. fault ≢ ExploreFault.BadNodes) }
     ensures too_many { IfErr result (λ fault. fault ≡ ExploreFault.TooMany
-        → MetTooMany program.now nodes most) }
+        → MetTooMany program.now nodes most false) }
 {
     let verdict = explore(alloc, program, nodes, most)?;
     let printout = verdict_told(alloc, labels, program, lines, nodes as u8, &verdict)?;

@@ -22,8 +22,9 @@ use std::alloc::{AllocError, Global};
 
 /// Returns what is printed of the outcome with this number, counted from 1, among the outcomes of a program: the acts
 /// of a run that has it. Returns none if there are fewer outcomes. `lines` has the lines of the program's statements,
-/// and of the text's end behind them. There must be 1 to 16 nodes. Fails if there are more than `most` states to tell
-/// apart, or if memory runs out.
+/// and of the text's end behind them. There must be 1 to 16 nodes. Gives up with `TooMany` only if there are more than
+/// `most` states to tell apart, or if a thread makes 1,000,000 + 20 * `most` free acts one after another. Fails if
+/// memory runs out.
 pub fn outcome_run_told(
     alloc: Global,
     program: &Program,
@@ -39,7 +40,7 @@ pub fn outcome_run_told(
     ensures fits { IfOk result (λ _. FitsSettledNoted program.now nodes most) }
     ensures nodes { IfErr result (λ fault. fault ≢ ExploreFault.BadNodes) }
     ensures too_many { IfErr result (λ fault. fault ≡ ExploreFault.TooMany
-        → MetTooMany program.now nodes most) }
+        → MetTooMany program.now nodes most true) }
 {
     let count = nodes as u8;
     let run = outcome_run(alloc, program, count, most, number)?;
@@ -64,7 +65,7 @@ fn outcome_run(
     ensures run { IfOk result (λ run. IsRunOfNumber program.now nodes number
         (option_map (λ acts. acts.items) run)) }
     ensures fits { IfOk result (λ _. FitsSettledNoted program.now nodes most) }
-    ensures faults { IfErr result (IsFaultOf program.now nodes most) }
+    ensures faults { IfErr result (IsFaultOf program.now nodes most true) }
 {
     let code = Code::new(alloc, program)?;
     run_in(alloc, &code, nodes, most, number)
@@ -82,7 +83,7 @@ fn run_in(
     ensures run { IfOk result (λ run. IsRunOfNumber code.now nodes number
         (option_map (λ acts. acts.items) run)) }
     ensures fits { IfOk result (λ _. FitsSettledNoted code.now nodes most) }
-    ensures faults { IfErr result (IsFaultOf code.now nodes most) }
+    ensures faults { IfErr result (IsFaultOf code.now nodes most true) }
 {
     let task = task_of(alloc, code, nodes, most, true)?;
     run_of(alloc, &task, number)

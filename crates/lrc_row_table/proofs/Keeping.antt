@@ -12,6 +12,7 @@ use Rattle.lrc_explore.specs.declared.noted.Noted.{Noted}
 use Rattle.lrc_explore.specs.Kept.{AreSpotsDistinct, Grows}
 use Rattle.lrc_explore.proofs.Keeping.{grows_not, stands_on}
 use Rattle.lrc_steps.specs.Gone.{freed}
+use Rattle.lrc_live.specs.Live.{forgot}
 use Rattle.lrc_rows.specs.declared.parts.Shared.{Shared}
 use Rattle.lrc_rows.specs.declared.rows.Row.{Row}
 use Rattle.lrc_rows.specs.Rows.{AddsThreads, AreNotesDistinct, AreRowsDistinct, AreSharedDistinct, IsSharedAt, WidensRows}
@@ -74,22 +75,23 @@ change_grown old new change number threads shared afters same c =
 
 -- ---- threads more
 
--- all threads are of places of the code
-pub placed_more : (flat : Flat) (old new spots : List Spot) → AddsThreads old new spots → All (λ (spot : Spot). spot.place ≤ length flat.code.now) old
-    → All (λ (spot : Spot). spot.place ≤ length flat.code.now) spots → All (λ (spot : Spot). spot.place ≤ length flat.code.now) new
-placed_more flat old new spots only were are k d lt =
+-- what holds of the threads that there were, and of those that are added
+pub threads_more : (P : Spot → Type 0) (old new spots : List Spot) → AddsThreads old new spots → All P old → All P spots → All P new
+threads_more P old new spots only were are k d lt =
     elim (only k (get_or new k d) (slice_get-get_or new k d lt)) [
       | inl was ↦
-          subst (λ (s : Spot). s.place ≤ length flat.code.now) (get_or_from_slice_get old k (get_or new k d) d was)
-          (were k d (slice_get_within old k (get_or new k d) was))
+          subst P (get_or_from_slice_get old k (get_or new k d) d was) (were k d (slice_get_within old k (get_or new k d) was))
       | inr (j, is) ↦
-          subst (λ (s : Spot). s.place ≤ length flat.code.now) (get_or_from_slice_get spots j (get_or new k d) d is)
-          (are j d (slice_get_within spots j (get_or new k d) is))
+          subst P (get_or_from_slice_get spots j (get_or new k d) d is) (are j d (slice_get_within spots j (get_or new k d) is))
     ]
 
-pub placed_one : (flat : Flat) (spot : Spot) → spot.place ≤ length flat.code.now → All (λ (s : Spot). s.place ≤ length flat.code.now) (spot ∷ [])
-placed_one flat spot within zero d lt = within
-placed_one flat spot within (suc k) d lt = absurd (omega (arith, lt))
+pub threads_one : (P : Spot → Type 0) (spot : Spot) → P spot → All P (spot ∷ [])
+threads_one P spot is zero d lt = is
+threads_one P spot is (suc k) d lt = absurd (omega (arith, lt))
+
+-- all threads are of places of the code
+abbrev pub IsPlaced : Flat → Spot → Type 0
+IsPlaced flat spot = spot.place ≤ length flat.code.now
 
 take_front : (xs ys : List Spot) → take (length xs) (xs ++ ys) ≡ xs
 take_front [] ys = refl
@@ -105,6 +107,7 @@ nexts_before flat old new nexts g is =
 -- a table of more threads, of which it is known what they do next
 module _ (means : Means) (old new : Table) (known : IsTable means old) (w : WidensRows old.rows new.rows) (distinct : AreRowsDistinct new.rows)
     (placed : All (λ (spot : Spot). spot.place ≤ length means.flat.code.now) new.rows.threads.keys)
+    (bare : All (λ (spot : Spot). forgot means.live.now spot ≡ spot) new.rows.threads.keys)
     (nexts : new.nexts.items ≡ map (next_in means.flat) new.rows.threads.keys) where
   same_next : (k : ℕ) (spot : Spot) → slice_get old.rows.threads.keys k ≡ Some spot → next_of new k ≡ next_of old k
   same_next k spot at =
@@ -119,6 +122,7 @@ module _ (means : Means) (old new : Table) (known : IsTable means old) (w : Wide
     distinct = distinct;
     nodes = w.nodes ∙ known.nodes;
     placed = placed;
+    bare = bare;
     nexts = nexts;
     afters = λ k asked after at.
         after_grown means old.rows.threads.keys new.rows.threads.keys asked after w.threads
@@ -141,6 +145,7 @@ module _ (means : Means) (old new : Table) (threads : new.rows.threads.keys ≡ 
     distinct = distinct;
     nodes = nodes ∙ known.nodes;
     placed = subst (λ keys. All (λ (spot : Spot). spot.place ≤ length means.flat.code.now) keys) (sym threads) known.placed;
+    bare = subst (λ keys. All (λ (spot : Spot). forgot means.live.now spot ≡ spot) keys) (sym threads) known.bare;
     nexts = nexts ∙ known.nexts ∙ ap (map (next_in means.flat)) (sym threads);
     afters = λ k asked after at. subst (λ keys. IsAfter means keys asked after) (sym threads) (afters k asked after at);
     changes = changes;

@@ -2,6 +2,7 @@ pub mod Acting
 pub mod Alone
 pub mod Departed
 pub mod Entries
+pub mod Forgotten
 pub mod Gone
 pub mod Keeping
 pub mod NextActs

@@ -62,12 +62,13 @@ pub record IsChange (table : Table) (change : Change) (number : ℕ) : Type 0 wh
 abbrev pub AreChanges : Table → Type 0
 AreChanges table = (k : ℕ) (change : Change) (number : ℕ) → slice_get table.changes.entries k ≡ Some (change, number) → IsChange table change number
 
--- of each thread it is known what it does next; what was noted of what comes of threads is so, and of what then becomes
--- of what is shared
+-- no thread keeps a value that is dead, and of each it is known what it does next; what was noted of what comes of
+-- threads is so, and of what then becomes of what is shared
 pub record IsTable (means : Means) (table : Table) : Type 0 where
   pub distinct : AreRowsDistinct table.rows
   pub nodes : table.rows.nodes ≡ means.flat.nodes
   pub placed : All (λ spot. spot.place ≤ length means.flat.code.now) table.rows.threads.keys
+  pub bare : All (λ spot. forgot means.live.now spot ≡ spot) table.rows.threads.keys
   pub nexts : table.nexts.items ≡ map (next_in means.flat) table.rows.threads.keys
   pub afters : (k : ℕ) (asked : Asked) (after : After) → slice_get table.afters.entries k ≡ Some (asked, after)
       → IsAfter means table.rows.threads.keys asked after

@@ -23,22 +23,25 @@ pub struct Means<'c> {
 }
 
 impl Table {
-    ghost use Rattle.std.specs.Prelude.{◌≡◌, ◌≤◌, IfOk, OnOk, Some, length, slice_get};
+    ghost use Rattle.std.specs.Prelude.{◌≡◌, ◌≤◌, All, IfOk, OnOk, Some, length, slice_get};
     ghost use Rattle.lrc_exec.specs.States.{IsStateOf};
     ghost use Rattle.lrc_explore.specs.declared.noted.Noted.{Noted as Key};
     ghost use Rattle.lrc_explore.specs.Kept.{IsAddedAt};
     ghost use Rattle.lrc_steps.specs.Taking.{IsCounted};
+    ghost use Rattle.lrc_live.specs.Live.{forgot};
     ghost use Rattle.lrc_rows.specs.Rows.{AreRowsDistinct, IsRowAt, StandsFor, WidensRows, row_count};
     ghost use Rattle.lrc_row_table.specs.declared.known.Means.{Means as TheMeans};
     ghost use Rattle.lrc_row_table.specs.Tables.{AreMeans, IsTable, KeepsRows};
 
-    /// Adds the row of a state with its notes, if it is new. Returns its place, and whether it is new. It fails if
-    /// memory runs out.
+    /// Adds the row of a state with its notes, if it is new. Returns its place, and whether it is new. Its dead values
+    /// must be 0. It fails if memory runs out.
     pub fn add(&mut self, means: &Means<'_>, noted: Noted) -> Result<(usize, bool), AllocError>
         requires means { AreMeans means.now }
         requires table { IsTable means.now self.old }
         requires state { IsStateOf means.now.flat noted.state }
         requires counted { IsCounted noted.state }
+        requires bare { All (λ spot. forgot means.now.live.now spot ≡ spot)
+            noted.state.spots.items }
         ensures table { OnOk result (IsTable means.now self.new) }
         ensures widens { OnOk result (WidensRows self.old.rows self.new.rows) }
         ensures there { IfOk result (λ added. IsRowAt self.new.rows added.0 noted) }
@@ -56,6 +59,8 @@ impl Table {
         ensures table { OnOk result ((means : TheMeans) → IsTable means self.old
             → IsTable means self.new) }
         ensures widens { OnOk result (WidensRows self.old.rows self.new.rows) }
+        ensures has { IfOk result (λ added.
+            slice_get self.new.rows.rows.keys added.0 ≡ Some row) }
         ensures there { IfOk result (λ added. (key : Key) → StandsFor self.old.rows row key
             → IsRowAt self.new.rows added.0 key) }
         ensures added { IfOk result (λ added. IsAddedAt (row_count self.old.rows)
@@ -65,11 +70,12 @@ impl Table {
         Ok((place, added))
     }
 
-    // Returns the number of a thread, which is added if it is new.
+    // Returns the number of a thread, which is added if it is new. Its dead values must be 0.
     pub(crate) fn number(&mut self, means: &Means<'_>, spot: Spot) -> Result<u32, AllocError>
         requires means { AreMeans means.now }
         requires table { IsTable means.now self.old }
         requires placed { spot.place ≤ length means.now.flat.code.now }
+        requires bare { forgot means.now.live.now spot ≡ spot }
         ensures table { OnOk result (IsTable means.now self.new) }
         ensures keeps { OnOk result (KeepsRows self.old self.new) }
         ensures there { IfOk result (λ number.

@@ -42,6 +42,13 @@ HaveThreads keys nodes numbers = (spots : List Spot) × AreThreadsAt keys nodes 
 abbrev pub AddsThreads : (old new spots : List Spot) → Type 0
 AddsThreads old new spots = (k : ℕ) (x : Spot) → slice_get new k ≡ Some x → (slice_get old k ≡ Some x) ⊎ ((j : ℕ) × (slice_get spots j ≡ Some x))
 
+-- so it is of what is shared, and of notes, where one is added
+abbrev pub AddsShared : (old new : List Shared) → Shared → Type 0
+AddsShared old new shared = (k : ℕ) (x : Shared) → slice_get new k ≡ Some x → (slice_get old k ≡ Some x) ⊎ (x ≡ shared)
+
+abbrev pub AddsNotes : (old new : List Notes) → Notes → Type 0
+AddsNotes old new notes = (k : ℕ) (x : Notes) → slice_get new k ≡ Some x → (slice_get old k ≡ Some x) ⊎ (x ≡ notes)
+
 -- the state with its notes that a row stands for. How often a node has arrived is not kept: once where it waits, and
 -- else never
 pub record StandsFor (all : Rows) (row : Row) (key : Noted) : Type 0 where

@@ -3,7 +3,7 @@
 ghost use Rattle.std.specs.Prelude.{◌≡◌, ◌≤◌, [], ◌∷◌, IfOk, OnOk, Some, length, map, slice_get};
 ghost use Rattle.lrc_explore.specs.Kept.{AreSpotsDistinct, Grows};
 ghost use Rattle.lrc_steps.specs.Taking.{count_of};
-ghost use Rattle.lrc_rows.specs.Rows.{AddsThreads, AreNotesAt, AreNotesDistinct, AreSharedDistinct, AreThreadsAt, HaveThreads, IsSharedAt};
+ghost use Rattle.lrc_rows.specs.Rows.{AddsNotes, AddsShared, AddsThreads, AreNotesAt, AreNotesDistinct, AreSharedDistinct, AreThreadsAt, HaveThreads, IsSharedAt};
 
 use indexmap::IndexSet;
 use lrc_exec::spot::Spot;
@@ -51,6 +51,7 @@ pub fn shared_number(all: &mut IndexSet<Shared>, shared: Shared) -> Result<u32, 
     ensures distinct { OnOk result (AreSharedDistinct all.new.keys) }
     ensures there { IfOk result (λ number. IsSharedAt all.new.keys number shared.memory.items
         shared.holders.items) }
+    ensures only { OnOk result (AddsShared all.old.keys all.new.keys shared) }
 {
     let (place, _new) = all.insert_full(shared)?;
     let number = short(place)?;
@@ -62,6 +63,7 @@ pub fn notes_number(all: &mut IndexSet<Notes>, notes: Notes) -> Result<u32, Allo
     ensures grows { OnOk result (Grows all.old.keys all.new.keys) }
     ensures distinct { OnOk result (AreNotesDistinct all.new.keys) }
     ensures there { IfOk result (λ number. AreNotesAt all.new.keys number notes.acts.items) }
+    ensures only { OnOk result (AddsNotes all.old.keys all.new.keys notes) }
 {
     let (place, _new) = all.insert_full(notes)?;
     let number = short(place)?;

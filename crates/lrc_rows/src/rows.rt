@@ -78,6 +78,8 @@ impl Rows {
         ensures empty { row_count result ≡ 0 }
         ensures nodes { result.nodes ≡ nodes }
         ensures threads { result.threads.keys ≡ [] }
+        ensures shared { result.shared.keys ≡ [] }
+        ensures notes { result.notes.keys ≡ [] }
         ensures distinct { AreRowsDistinct result }
     {
         Rows {
@@ -162,6 +164,7 @@ impl Rows {
         requires { AreRowsDistinct self.old }
         ensures widens { OnOk result (WidensRows self.old self.new) }
         ensures distinct { OnOk result (AreRowsDistinct self.new) }
+        ensures has { IfOk result (λ added. slice_get self.new.rows.keys added.0 ≡ Some row) }
         ensures there { IfOk result (λ added. (key : Key) → StandsFor self.old row key
             → IsRowAt self.new added.0 key) }
         ensures added { IfOk result (λ added. IsAddedAt (row_count self.old)

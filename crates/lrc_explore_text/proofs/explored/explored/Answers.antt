@@ -1,6 +1,6 @@
-use Rattle.std.specs.Prelude.{map}
+use Rattle.std.specs.Prelude.{false, map, true}
 use Rattle.lrc_labels.specs.Reading.{label_seen}
-use Rattle.lrc_explore_text.proofs.Telling.{fits_in, fits_noted, of_orders, of_outcomes}
+use Rattle.lrc_explore_text.proofs.Telling.{fits_in, fits_noted, gives_up, of_orders, of_outcomes}
 use Rattle.lrc_explore_text.proofs.explored.explored.Goals as goal
 
 pub returns-then-outcomes-clause-ok : goal.returns-then-outcomes-clause-ok
@@ -20,3 +20,11 @@ returns-then-outcomes-clause-fits c =
 pub returns-else-outcomes-clause-fits : goal.returns-else-outcomes-clause-fits
 returns-else-outcomes-clause-fits c =
     fits_in c.args.program.now c.args.nodes c.args.most c.args.outcomes c.orders_told.result c.if-outcomes.false c.orders_told.ensures.fits
+
+pub returns-then-outcomes-clause-too_many : goal.returns-then-outcomes-clause-too_many
+returns-then-outcomes-clause-too_many c =
+    gives_up c.args.program.now c.args.nodes c.args.most c.args.outcomes c.outcomes_told.result true c.if-outcomes.true c.outcomes_told.ensures.too_many
+
+pub returns-else-outcomes-clause-too_many : goal.returns-else-outcomes-clause-too_many
+returns-else-outcomes-clause-too_many c =
+    gives_up c.args.program.now c.args.nodes c.args.most c.args.outcomes c.orders_told.result false c.if-outcomes.false c.orders_told.ensures.too_many

@@ -1,11 +1,19 @@
-use Rattle.std.proofs.Common.{◌≡◌, sym, subst}
+use Rattle.std.proofs.Common.{◌≡◌, ◌⊎◌, inl, inr, refl, sym, subst}
 use Rattle.std.specs.Prelude.{Some, slice_get}
+use Rattle.lrc_explore.proofs.Gathering.{put_all}
 use Rattle.lrc_explore.proofs.Keeping.{put_grows}
+use Rattle.lrc_rows.specs.declared.parts.Notes.{Notes}
 use Rattle.lrc_rows.proofs.RowsApart.{notes_same}
 use Rattle.lrc_rows.proofs.parts.notes_number.Goals as goal
 
 pub returns-clause-grows : goal.returns-clause-grows
 returns-clause-grows c = put_grows _ c.args.all.now.keys c.insert_full.new.self.keys _ c.in_ok-place.ensures.keys
+
+pub returns-clause-only : goal.returns-clause-only
+returns-clause-only c =
+    let old = c.args.all.now.keys in
+    put_all (λ k (x : Notes). (slice_get old k ≡ Some x) ⊎ (x ≡ c.args.notes)) _ old c.insert_full.new.self.keys _ c.in_ok-place.ensures.keys
+    (λ k x at. inl at) (inr refl)
 
 pub returns-clause-there : goal.returns-clause-there
 returns-clause-there c =

@@ -1,5 +1,7 @@
-use Rattle.std.proofs.Common.{◌∙◌, ◌++◌, [], ◌∷◌, sym, ap, arith}
-use Rattle.std.specs.Prelude.{if◌then◌else◌}
+use Rattle.std.proofs.Common.{◌≡◌, ◌∙◌, ◌++◌, [], ◌∷◌, sym, ap, subst, arith}
+use Rattle.std.specs.Prelude.{All, if◌then◌else◌}
+use Rattle.lrc_exec.specs.declared.spot.Spot.{Spot}
+use Rattle.lrc_live.specs.Live.{forgot}
 use Rattle.lrc_steps.specs.declared.step.Step.TheVariants.{Together}
 use Rattle.lrc_breadth.specs.declared.task.Found.{Found}
 use Rattle.lrc_breadth.specs.declared.task.Origin.{Origin}
@@ -9,6 +11,10 @@ use Rattle.lrc_breadth.proofs.task.Found.add.Goals as goal
 
 pub add-requires-clause-table : goal.add-requires-clause-table
 add-requires-clause-table c = c.requires.found.table c.means.result c.means.ensures
+
+pub add-requires-clause-bare : goal.add-requires-clause-bare
+add-requires-clause-bare c =
+    subst (λ l. All (λ (spot : Spot). forgot l spot ≡ spot) c.args.key.state.spots.items) (sym c.means.ensures.live) c.requires.bare
 
 pub returns-in_ok-push-clause-found : goal.returns-in_ok-push-clause-found
 returns-in_ok-push-clause-found c =

@@ -23,6 +23,9 @@ add-requires-clause-first c =
     let k = subst (λ l. IsKeyOf task state l key) c.deref.ensures.value c.in_ok-key.ensures in
     start_first task state acts key s k
 
+pub add-requires-clause-bare : goal.add-requires-clause-bare
+add-requires-clause-bare c = c.in_ok-key.ensures.bare_spots
+
 pub returns-clause-start : goal.returns-clause-start
 returns-clause-start c =
     let task = c.args.task.now in

@@ -5,7 +5,7 @@ use Rattle.lrc_breadth.proofs.task.Found.gather.Goals as goal
 
 pub returns-then-len-task-clause-faults : goal.returns-then-len-task-clause-faults
 returns-then-len-task-clause-faults c =
-    too_many_states c.args.task.now c.loop-place.self.table.rows c.loop-place.invariant.0.found.reached
+    too_many_states c.args.task.now c.loop-place.self c.loop-place.invariant.0.found
     (omega (arith, c.if-len-task.true, c.len-in-loop-place.ensures.len))
 
 pub loop-place-preserved : goal.loop-place-preserved

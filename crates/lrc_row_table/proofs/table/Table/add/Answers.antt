@@ -1,9 +1,10 @@
-use Rattle.std.proofs.Common.{◌≤◌, ◌∙◌, List, length, map, refl, sym, ap, subst}
+use Rattle.std.proofs.Common.{◌≡◌, ◌≤◌, ◌∙◌, List, length, map, refl, sym, ap, subst}
 use Rattle.std.specs.Prelude.{All}
 use Rattle.lrc_exec.specs.declared.spot.Spot.{Spot}
+use Rattle.lrc_live.specs.Live.{forgot}
 use Rattle.lrc_row_steps.specs.Nexts.{next_in}
 use Rattle.lrc_row_table.specs.declared.table.Table.{Table}
-use Rattle.lrc_row_table.proofs.Keeping.{placed_more, table_on}
+use Rattle.lrc_row_table.proofs.Keeping.{IsPlaced, table_on, threads_more}
 use Rattle.lrc_row_table.proofs.table.Table.add.Goals as goal
 
 pub complete-requires-clause-placed : goal.complete-requires-clause-placed
@@ -11,7 +12,7 @@ complete-requires-clause-placed c =
     let flat = c.args.means.now.flat in
     let P : List Spot → Type 0 = λ l. All (λ (spot : Spot). spot.place ≤ length flat.code.now) l in
     subst P (sym c.as_slice.ensures.keys)
-    (placed_more flat c.args.self.now.rows.threads.keys c.add.new.self.threads.keys c.args.noted.state.spots.items c.in_ok-place.ensures.only
+    (threads_more (IsPlaced flat) c.args.self.now.rows.threads.keys c.add.new.self.threads.keys c.args.noted.state.spots.items c.in_ok-place.ensures.only
     c.requires.table.placed c.requires.state.within)
 
 pub returns-clause-table : goal.returns-clause-table
@@ -19,8 +20,12 @@ returns-clause-table c =
     let flat = c.args.means.now.flat in
     let old = c.args.self.now in
     let new : Table = record old { rows = c.add.new.self; nexts = c.complete.new.nexts } in
+    let IsBare : Spot → Type 0 = λ s. forgot c.args.means.now.live.now s ≡ s in
     let placed =
-    placed_more flat old.rows.threads.keys c.add.new.self.threads.keys c.args.noted.state.spots.items c.in_ok-place.ensures.only
+    threads_more (IsPlaced flat) old.rows.threads.keys c.add.new.self.threads.keys c.args.noted.state.spots.items c.in_ok-place.ensures.only
     c.requires.table.placed c.requires.state.within in
-    table_on c.args.means.now old new c.requires.table c.in_ok-place.ensures.widens c.in_ok-place.ensures.distinct placed
+    let bare =
+    threads_more IsBare old.rows.threads.keys c.add.new.self.threads.keys c.args.noted.state.spots.items c.in_ok-place.ensures.only
+    c.requires.table.bare c.requires.bare in
+    table_on c.args.means.now old new c.requires.table c.in_ok-place.ensures.widens c.in_ok-place.ensures.distinct placed bare
     (c.in_ok-complete.ensures ∙ ap (map (next_in flat)) c.as_slice.ensures.keys) refl refl

@@ -1,15 +1,22 @@
-use Rattle.std.proofs.Common.{◌≡◌, ◌∙◌, [], ◌∷◌, ◌++◌, refl, ap}
+use Rattle.std.proofs.Common.{◌≡◌, ◌∙◌, [], ◌∷◌, ◌++◌, refl, sym, ap, subst}
 use Rattle.std.specs.Prelude.{Some, slice_get}
 use Rattle.indexmap.specs.IndexMap.{get}
 use Rattle.indexmap.proofs.CallerLemmas.{insert_entry-new}
 use Rattle.lrc_exec.specs.declared.spot.Spot.{Spot}
 use Rattle.lrc_explore.proofs.Keeping.{grows_not, stands_on}
+use Rattle.lrc_live.specs.Live.{forgot}
 use Rattle.lrc_row_table.specs.declared.table.After.{After}
 use Rattle.lrc_row_table.specs.declared.table.Table.{Table}
 use Rattle.lrc_row_table.specs.contracts.table.AskedPartialEq.TheImpl.{eq-value as asked_eq}
 use Rattle.lrc_row_table.specs.Tables.{IsAfter}
+use Rattle.lrc_row_table.proofs.Forgotten.{forgot_once}
 use Rattle.lrc_row_table.proofs.Keeping.{afters_more, changes_same, last_there, table_same}
 use Rattle.lrc_row_table.proofs.table.Table.keep_after.Goals as goal
+
+pub number-requires-clause-bare : goal.number-requires-clause-bare
+number-requires-clause-bare c =
+    let live = c.args.means.now.live.now in
+    subst (λ (s : Spot). forgot live s ≡ s) (sym c.forget_spot.ensures) (forgot_once live c.args.settled.spot)
 
 pub returns-clause-table : goal.returns-clause-table
 returns-clause-table c =

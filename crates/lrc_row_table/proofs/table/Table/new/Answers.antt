@@ -10,6 +10,7 @@ returns-clause-table c = λ means nodes.
       distinct = e.distinct;
       nodes = e.nodes ∙ sym nodes;
       placed = λ k d lt. absurd (omega (arith, lt, ap (λ l. length l) e.threads));
+      bare = λ k d lt. absurd (omega (arith, lt, ap (λ l. length l) e.threads));
       nexts = c.new-2.ensures.items ∙ ap (map (next_in means.flat)) (sym e.threads);
       afters = λ k asked after at.
           let within = slice_get_within c.new-3.result.entries k (asked, after) at in

@@ -1,11 +1,12 @@
-use Rattle.std.proofs.Common.{◌≤◌, ◌∙◌, [], ◌∷◌, List, length, map, refl, sym, ap, subst}
+use Rattle.std.proofs.Common.{◌≡◌, ◌≤◌, ◌∙◌, [], ◌∷◌, List, length, map, refl, sym, ap, subst}
 use Rattle.std.specs.Prelude.{All}
 use Rattle.lrc_exec.specs.declared.spot.Spot.{Spot}
 use Rattle.lrc_explore.proofs.Keeping.{grows_not}
+use Rattle.lrc_live.specs.Live.{forgot}
 use Rattle.lrc_rows.specs.Rows.{AreRowsDistinct, WidensRows}
 use Rattle.lrc_row_steps.specs.Nexts.{next_in}
 use Rattle.lrc_row_table.specs.declared.table.Table.{Table}
-use Rattle.lrc_row_table.proofs.Keeping.{placed_more, placed_one, table_on}
+use Rattle.lrc_row_table.proofs.Keeping.{IsPlaced, table_on, threads_more, threads_one}
 use Rattle.lrc_row_table.proofs.table.Table.number.Goals as goal
 
 pub complete-requires-clause-placed : goal.complete-requires-clause-placed
@@ -14,12 +15,14 @@ complete-requires-clause-placed c =
     let spot = c.args.spot in
     let P : List Spot → Type 0 = λ l. All (λ (s : Spot). s.place ≤ length flat.code.now) l in
     subst P (sym c.as_slice.ensures.keys)
-    (placed_more flat c.args.self.now.rows.threads.keys c.thread_number.new.threads.keys (spot ∷ []) c.in_ok-number.ensures.only c.requires.table.placed
-    (placed_one flat spot c.requires.placed))
+    (threads_more (IsPlaced flat) c.args.self.now.rows.threads.keys c.thread_number.new.threads.keys (spot ∷ []) c.in_ok-number.ensures.only
+    c.requires.table.placed (threads_one (IsPlaced flat) spot c.requires.placed))
 
 pub returns-clause-table : goal.returns-clause-table
 returns-clause-table c =
     let flat = c.args.means.now.flat in
+    let live = c.args.means.now.live.now in
+    let IsBare : Spot → Type 0 = λ s. forgot live s ≡ s in
     let spot = c.args.spot in
     let old = c.args.self.now in
     let known = c.requires.table in
@@ -38,6 +41,8 @@ returns-clause-table c =
       rows = known.distinct.rows;
     } in
     table_on c.args.means.now old new known wide distinct
-    (placed_more flat old.rows.threads.keys c.thread_number.new.threads.keys (spot ∷ []) c.in_ok-number.ensures.only known.placed
-    (placed_one flat spot c.requires.placed))
+    (threads_more (IsPlaced flat) old.rows.threads.keys c.thread_number.new.threads.keys (spot ∷ []) c.in_ok-number.ensures.only known.placed
+    (threads_one (IsPlaced flat) spot c.requires.placed))
+    (threads_more IsBare old.rows.threads.keys c.thread_number.new.threads.keys (spot ∷ []) c.in_ok-number.ensures.only known.bare
+    (threads_one IsBare spot c.requires.bare))
     (c.in_ok-complete.ensures ∙ ap (map (next_in flat)) c.as_slice.ensures.keys) refl refl

@@ -28,6 +28,11 @@ returns-clause-distinct c = record {
   rows = c.in_ok-place.ensures.unique;
 }
 
+pub returns-clause-has : goal.returns-clause-has
+returns-clause-has c =
+    let s = c.in_ok-place.ensures.stored in
+    subst (λ r. slice_get c.insert_full.new.self.keys c.in_ok-place.place ≡ Some r) (sym (row_is c.args.row s.0 s.2)) s.1
+
 pub returns-clause-there : goal.returns-clause-there
 returns-clause-there c key stands =
     let old = c.args.self.now in
