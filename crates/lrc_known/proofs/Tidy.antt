@@ -57,6 +57,21 @@ least_at bound (x ∷ xs) (suc k) v up lt e = let low = up.0 in let more = least
 least : (bound : ℕ) (xs : List ℕ) (v : ℕ) → AreRisingFrom bound xs → Contains xs v → bound ≤ v
 least bound xs v up c = least_at bound xs c.0 v up c.1 c.2
 
+-- each is less than all behind it
+all_from : (bound : ℕ) (xs : List ℕ) (k d : ℕ) → AreRisingFrom bound xs → k < length xs → bound ≤ slice_index_or xs k d
+all_from bound [] k d up lt = absurd (omega (arith, lt))
+all_from bound (x ∷ xs) zero d up lt = up.0
+all_from bound (x ∷ xs) (suc k) d up lt = let low = up.0 in let more = all_from (x + 1) xs k d up.1 (omega (arith, lt)) in omega (arith, low, more)
+
+rising_from : (bound : ℕ) (xs : List ℕ) (i k d : ℕ) → AreRisingFrom bound xs → i < k → k < length xs → slice_index_or xs i d < slice_index_or xs k d
+rising_from bound [] i k d up less lt = absurd (omega (arith, lt))
+rising_from bound (x ∷ xs) i zero d up less lt = absurd (omega (arith, less))
+rising_from bound (x ∷ xs) zero (suc k) d up less lt = let more = all_from (x + 1) xs k d up.1 (omega (arith, lt)) in omega (arith, more)
+rising_from bound (x ∷ xs) (suc i) (suc k) d up less lt = rising_from (x + 1) xs i k d up.1 (omega (arith, less)) (omega (arith, lt))
+
+pub rising_once : (values : List ℕ) (i k d : ℕ) → IsRising values → i < k → k < length values → slice_index_or values i d < slice_index_or values k d
+rising_once values i k d = rising_from 0 values i k d
+
 head_in : (x : ℕ) (xs : List ℕ) → Contains (x ∷ xs) x
 head_in x xs = (0, omega arith, refl)
 

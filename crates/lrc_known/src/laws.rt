@@ -1,6 +1,6 @@
 // What is kept is exact. Each function is a theorem: its body is empty, and its clause is the law.
 
-ghost use Rattle.std.specs.Prelude.{◌≡◌, ◌↔◌, ◌<◌, ◌+◌, ◌++◌, ◌∷◌, [], ℕ, List, length, true};
+ghost use Rattle.std.specs.Prelude.{◌≡◌, ◌↔◌, ◌<◌, ◌+◌, ◌++◌, ◌∷◌, [], ℕ, List, length, slice_index_or, true};
 ghost use Rattle.lrc_trace.specs.declared.act.Act.{Act};
 ghost use Rattle.lrc_trace.specs.declared.act.Deed.TheVariants.{Acquire, Read};
 ghost use Rattle.lrc_trace.specs.Run.{act_of};
@@ -9,7 +9,7 @@ ghost use Rattle.lrc_known.specs.declared.known.Knowledge.{Knowledge};
 ghost use Rattle.lrc_known.specs.contracts.known.KnowledgePartialEq.TheImpl.{eq-value};
 ghost use Rattle.lrc_known.specs.Word.{Gives, IsSame};
 ghost use Rattle.lrc_known.specs.Effect.{effect_of, word_of, AreCounts, AreOf, IsKnowledgeAfter, IsKnowledgeOf, IsKnowledgeWithout};
-ghost use Rattle.lrc_known.specs.Tidy.{IsTidy};
+ghost use Rattle.lrc_known.specs.Tidy.{IsRising, IsTidy};
 
 /// Before the first act nothing is known.
 pub fn at_first_nothing_is_known()
@@ -53,4 +53,10 @@ pub fn knowledge_is_kept_in_one_way()
     ensures { (one other : Knowledge) → IsTidy one → IsTidy other
         → ((word : ℕ) → IsSame (word_of one word) (word_of other word))
         → eq-value.it one other ≡ true }
+{}
+
+/// Of values that rise each is less than all behind it, so none comes twice.
+pub fn values_that_rise_come_once()
+    ensures { (values : List ℕ) (i k d : ℕ) → IsRising values → i < k → k < length values
+        → slice_index_or values i d < slice_index_or values k d }
 {}

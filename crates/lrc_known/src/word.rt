@@ -270,7 +270,8 @@ fn values_written(
     ensures values { IfOk result (λ all. (v : ℕ)
         → (Contains all.items v ↔
         (Contains (values_of word.now knower) v ⊎ ((knower ≡ writer) × (v ≡ value))))) }
-    ensures rising { IfOk result (λ all. IsRising (values_of word.now knower) → IsRising all.items) }
+    ensures rising { IfOk result (λ all. IsRising (values_of word.now knower)
+        → IsRising all.items) }
 {
     if knower == writer {
         values_with(alloc, values_of(word, knower), value)
