@@ -1,17 +1,13 @@
 -- What is tidy before is tidy after.
-use Rattle.std.proofs.Common.{◌≡◌, ℕ, List, [], length, Bool, true, false, inl, inr, refl, sym, subst, ◌∙◌, ap, arith}
+use Rattle.std.proofs.Common.{◌≡◌, ℕ, List, [], length, Bool, true, false, refl, sym, subst, ◌∙◌, ap, arith}
 use Rattle.std.specs.Prelude.{Option, Some, None, Contains, slice_get, slice_index_or}
 use Rattle.std.proofs.lemmas.Option.{slice_get_within}
-use Rattle.lrc_known.specs.declared.known.Last.{Last}
-use Rattle.lrc_known.specs.declared.known.Last.TheVariants.{Nothing, Value, Unordered}
 use Rattle.lrc_known.specs.declared.known.Known.{Known}
 use Rattle.lrc_known.specs.declared.known.KnownWord.{KnownWord}
 use Rattle.lrc_known.specs.declared.known.Knowledge.{Knowledge}
-use Rattle.lrc_known.specs.declared.word.Effect.{Effect}
-use Rattle.lrc_known.specs.declared.word.Effect.TheVariants.{Writes}
-use Rattle.lrc_known.specs.Word.{last_in, values_in, row_in, last_of, values_of, last_then}
+use Rattle.lrc_known.specs.Word.{last_in, values_in, row_in, values_of}
 use Rattle.lrc_known.specs.Made.{AreEach, IsCopyOf}
-use Rattle.lrc_known.specs.Effect.{knowers_in, word_of, IsAfter}
+use Rattle.lrc_known.specs.Effect.{knowers_in, word_of}
 use Rattle.lrc_known.specs.Tidy.{AreCut, EndsIn, IsCut, IsRising, IsTidy, IsTidyKnown, IsTidyWord, IsWrittenAs}
 use Rattle.lrc_known.proofs.Made.{get_at}
 
@@ -91,25 +87,3 @@ knowledge_tidy old new made count all is tidy = record {
   each = λ k word at. all.each k word (is.kept k word at) tidy;
   ends = is.ends;
 }
-
-pub nothing_tidy : (knowledge : Knowledge) → knowledge.words.items ≡ [] → IsTidy knowledge
-nothing_tidy knowledge e =
-    let none = ap length e in
-    record {
-      each = λ k word at. let lt = slice_get_within knowledge.words.items k word at in absurd (omega (arith, lt, none));
-      ends = λ k word at len. absurd (omega (arith, len, none));
-    }
-
--- what is written is known
-pub written_some : (effect : Effect) (word writer value : ℕ) (old new : List Known) → effect ≡ Writes writer word value → IsAfter effect word old new → new ≡ [] → ⊥
-written_some effect word writer value old new e is none = elim (subst (λ f. IsAfter f word old new) e is) [
-  | inl (same, w) ↦
-      let blank : last_of new writer ≡ Nothing = ap (λ l. last_of l writer) none in
-      never (last_of old writer) value (sym w.last ∙ blank)
-  | inr (other, s) ↦ other refl
-]
-  where
-    never : (last : Last) (v : ℕ) → last_then last v ≡ Nothing → ⊥
-    never Nothing v e = cc
-    never (Value u) v e = cc
-    never Unordered v e = cc
