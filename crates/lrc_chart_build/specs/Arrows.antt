@@ -4,7 +4,8 @@ use Rattle.std.specs.List.{flat_map, position}
 use Rattle.lrc_text.specs.Each.{each}
 use Rattle.lrc_envelope.specs.Envelope.{EnvelopeRecord}
 use Rattle.lrc_envelope.specs.declared.message.Message.{Message}
-use Rattle.lrc_messages.specs.MessageText.{kind_name, message_kind, message_text}
+use Rattle.lrc_wire.specs.Kinds.{message_kind}
+use Rattle.lrc_messages.specs.MessageText.{kind_name, message_text}
 use Rattle.lrc_turns_text.specs.Turns.{Made}
 use Rattle.lrc_chart_rows.specs.Takers.{takers}
 use Rattle.lrc_chart_build.specs.Seen.{SeenArrow, SeenLost}

@@ -28,9 +28,9 @@ use std::thread::Threads;
 /// Carries out a choice that starts no threads, with the text of its FILE, and the text of events if the choice names
 /// one. Returns the exit status.
 ///
-/// The output goes to `out`. On a fault its line goes to `err`, nothing goes to `out`, and the status is 1. After a
-/// failed write nothing more is written, and the status is 1. The parts of a text are written one by one, and neither
-/// writer is flushed.
+/// The output goes to `out`. On a fault its line goes to `err`, and the status is 1. Nothing goes to `out` then, except
+/// that `judge` with `--pairs` may have written some pairs. After a failed write nothing more is written, and the
+/// status is 1. The parts of a text are written one by one, and neither writer is flushed.
 pub fn perform<W: Write, E: Write>(
     alloc: Global,
     choice: &Choice<'_>,

@@ -64,7 +64,7 @@ fn lines_at(alloc: Global, lines: &[u32], statements: &[u32]) -> Result<Vec<u32>
 }
 
 /// Returns the line of each act, from the number of its statement. `lines` has the line of each statement in the order
-/// of the text, and last that of the text's end. It fails if memory runs out.
+/// of the text, and last that of the text's end; a number past it has line 0. It fails if memory runs out.
 pub fn lines_of_statements(
     alloc: Global,
     lines: &[u32],
@@ -74,7 +74,8 @@ pub fn lines_of_statements(
         → length lines.now ≡ length (numbers_of program)
         → statements.now ≡ act_statements program nodes acts
         → found.items ≡ act_lines program nodes lines.now acts) }
-    ensures each { IfOk result (λ found. length found.items ≡ length statements.now) }
+    ensures numbers { IfOk result (λ found. found.items
+        ≡ map (λ number. slice_index_or lines.now number 0) statements.now) }
 {
     lines_at(alloc, lines, statements)
 }

@@ -9,8 +9,8 @@ use Rattle.lrc_envelope.specs.declared.message.Message.{Message}
 use Rattle.lrc_envelope.specs.declared.message.Message.TheVariants.{LockRequest, LockForward, LockGrant, Arrive, Depart, Clean, Discard}
 use Rattle.lrc_envelope.specs.declared.message.Message.TheVariants.{ChangesRequest, ChangesReply, PageRequest, PageReply}
 use Rattle.lrc_acts_text.specs.Json.{with_commas}
-use Rattle.lrc_messages.specs.declared.kind.MessageKind.{MessageKind}
-use Rattle.lrc_messages.specs.declared.kind.MessageKind.TheVariants as kinds
+use Rattle.lrc_wire.specs.declared.kind.MessageKind.{MessageKind}
+use Rattle.lrc_wire.specs.declared.kind.MessageKind.TheVariants as kinds
 use Rattle.lrc_messages.specs.Lists.{separated, separated_or_dash}
 
 -- ---- parts of several kinds
@@ -46,20 +46,6 @@ abbrev pub nonzero_words : List ℕ → List Change
 nonzero_words values = changes_between (replicate (length values) 0) values
 
 -- ---- the kinds
-
--- the kind of each message
-abbrev pub message_kind : Message → MessageKind
-message_kind (LockRequest m) = kinds.LockRequest
-message_kind (LockForward m) = kinds.LockForward
-message_kind (LockGrant m) = kinds.LockGrant
-message_kind (Arrive m) = kinds.Arrive
-message_kind (Depart m) = kinds.Depart
-message_kind (Clean episode) = kinds.Clean
-message_kind (Discard episode) = kinds.Discard
-message_kind (ChangesRequest m) = kinds.ChangesRequest
-message_kind (ChangesReply m) = kinds.ChangesReply
-message_kind (PageRequest page) = kinds.PageRequest
-message_kind (PageReply m) = kinds.PageReply
 
 -- the name of each kind
 unfoldable pub kind_name : MessageKind → List ℕ

@@ -10,5 +10,5 @@ mod message;
 mod news;
 
 pub use envelope::{push_all_sent, push_sent, push_size, push_taken};
-pub use kind::MessageKind;
+pub use kind::kind_name;
 pub use message::push_message;

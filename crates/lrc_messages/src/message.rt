@@ -6,7 +6,7 @@ ghost use Rattle.lrc_messages.specs.MessageText.{arrive_text, changes_reply_text
 ghost use Rattle.lrc_messages.specs.MessageText.{lock_forward_text, lock_grant_text, lock_request_text, message_text, page_reply_text};
 
 use crate::changes::{push_parts, push_words};
-use crate::kind::MessageKind;
+use crate::kind::kind_name;
 use crate::lists::push_indices;
 use crate::news::{push_collect, push_news, push_time};
 use lrc_envelope::{
@@ -14,6 +14,7 @@ use lrc_envelope::{
     PageReply,
 };
 use lrc_text::push_number;
+use lrc_wire::MessageKind;
 use std::alloc::{AllocError, Global};
 
 // Adds a kind, and a number behind a word.
@@ -26,7 +27,7 @@ fn push_named(
     ensures ok { OnOk result (text.new.items ≡ text.old.items ++ named kind word.now number) }
     ensures err { OnErr result (BeginsWith text.new.items text.old.items) }
 {
-    text.extend_from_slice(kind.name())?;
+    text.extend_from_slice(kind_name(kind))?;
     push_number(text, word, number)
 }
 

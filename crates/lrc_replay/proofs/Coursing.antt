@@ -292,6 +292,10 @@ pub notes_are : (plan : Plan) (acts : List Act) (course : Course) → IsCourse p
 notes_are plan acts course is =
     ap (flat_map option_to_list) is.notes ∙ flat_map_map (last_note (notes_behind plan [] acts)) (range_with_len 0 plan.program.words)
 
+-- there is a way for each node
+pub ways_counted : (plan : Plan) (acts : List Act) (course : Course) → IsCourse plan acts course → length course.ways.items ≡ plan.nodes
+ways_counted plan acts course is = long plan acts (record { node = 0; deed = deeds.Quiet }) course.ways.items is.ways
+
 -- the private names of a node that is there
 pub privates_are : (plan : Plan) (acts : List Act) (course : Course) (k node : ℕ) (way : Way) → IsCourse plan acts course → k ≡ node
     → k < length course.ways.items → way ≡ get_or course.ways.items k way

@@ -1,6 +1,6 @@
 // What the acts so far have led to.
 
-ghost use Rattle.std.specs.Prelude.{◌≡◌, ◌+◌, ◌++◌, ◌∷◌, [], All, IfOk, IfSome, List, OnOk, length, map, slice_index, slice_set};
+ghost use Rattle.std.specs.Prelude.{◌≡◌, ◌↔◌, ◌≤◌, ◌+◌, ◌++◌, ◌∷◌, [], All, IfOk, IfSome, List, None, OnOk, length, map, slice_index, slice_set};
 ghost use Rattle.lrc_lines.specs.Walks.{walk_behind};
 ghost use Rattle.lrc_exec.specs.Plain.{start_of};
 ghost use Rattle.lrc_private.specs.Ways.{IsOnWay, thread_of};
@@ -91,9 +91,11 @@ impl<'c> Course<'c> {
 
     /// Returns the values of the private names of a node, by their numbers, or none if there is no such node.
     pub fn privates(&self, node: u8) -> Option<&[u64; 32]>
-        ensures { (plan : AnyPlan) (acts : List AnyAct) → IsCourse plan acts self.now
+        ensures values { (plan : AnyPlan) (acts : List AnyAct) → IsCourse plan acts self.now
             → IfSome result (λ values. values.now
             ≡ (walk_behind plan.program plan.nodes plan.lines acts node).thread.privates) }
+        ensures none { (plan : AnyPlan) (acts : List AnyAct) → IsCourse plan acts self.now
+            → (result ≡ None) ↔ (plan.nodes ≤ node) }
     {
         let node = usize::from(node);
         if node < self.ways.len() {
@@ -113,7 +115,7 @@ impl<'c> Course<'c> {
         self.notes.all(alloc)
     }
 
-    /// Adds the act of a turn, if it makes one.
+    /// Adds the act of a turn, if it makes one. After an error the course is of no further use.
     pub fn follow(&mut self, act: Option<Act>) -> Result<(), AllocError>
         requires { All IsOnWay self.old.ways.items }
         ensures on { All IsOnWay self.new.ways.items }

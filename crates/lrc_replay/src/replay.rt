@@ -78,7 +78,7 @@ impl<'c> Replay<'c> {
     }
 
     /// Makes the turn of an event and returns it, or none if the event makes none. What the turn sends is not in flight
-    /// yet.
+    /// yet. It fails if memory runs out or a number would be too large; then the replay is of no further use.
     pub fn make(&mut self, event: Event) -> Result<Option<Turn>, AllocError>
         ensures { (world next : World) → IsReplay self.old world → event_on world event ≡ Some next
             → IfOk result (λ turn. IsMade world event next turn self.new) }
@@ -90,7 +90,7 @@ impl<'c> Replay<'c> {
         }
     }
 
-    /// Puts what a turn sends in flight.
+    /// Puts what a turn sends in flight. After an error the replay is of no further use.
     pub fn post(&mut self, out: Vec<Envelope>) -> Result<(), AllocError>
         ensures nodes { OnOk result (self.new.nodes ≡ self.old.nodes) }
         ensures flight { OnOk result (self.new.flight.items ≡ self.old.flight.items ++ out.items) }

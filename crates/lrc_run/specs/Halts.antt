@@ -1,5 +1,5 @@
 -- Where a run on threads stopped, and what its nodes had done by then.
-use Rattle.std.specs.Prelude.{◌≡◌, ◌<◌, ◌^◌, ◌⊎◌, ℕ, Option, Some, None, List, length, slice_get}
+use Rattle.std.specs.Prelude.{◌≡◌, ◌<◌, ◌^◌, ◌⊎◌, ℕ, false, Option, Some, None, List, length, slice_get}
 use Rattle.lrc_lang.specs.declared.program.Program.{Program}
 use Rattle.lrc_envelope.specs.declared.picker.Picker.{Picker}
 use Rattle.lrc_exec.specs.Nodes.{AreNodes}
@@ -14,6 +14,7 @@ use Rattle.lrc_weave.specs.Further.{AreWovenWith, AreWovenWithout}
 use Rattle.lrc_weave.specs.Woven.{AreWoven}
 use Rattle.lrc_setting.specs.Ranges.{AreSteps}
 use Rattle.lrc_world.specs.Report.{IsWornBy}
+use Rattle.lrc_world.specs.World.{sends_long}
 use Rattle.lrc_threads.specs.declared.stop.Stop.{Stop}
 use Rattle.lrc_threads.specs.declared.stop.Stop.TheVariants as stops
 use Rattle.lrc_threads.specs.Threads.{HaveNoFailure, IsFirstFailure}
@@ -77,9 +78,9 @@ abbrev pub AreUnmatched : List (List EntryRecord) → Option Input → Type 0
 AreUnmatched logs unfinished = (program : Program) (nodes : ℕ) (options : OptionsRecord)
     → AreLogs program nodes options logs → AreTakesSent logs → LacksEvent logs unfinished
 
--- events are played to their end
+-- events are played to their end, and no message is too long
 abbrev pub IsPlayedOut : Program → ℕ → OptionsRecord → List Event → Type 0
-IsPlayedOut program nodes options events = (run : World) × (run_of program nodes options events ≡ Some run)
+IsPlayedOut program nodes options events = (run : World) × (run_of program nodes options events ≡ Some run) × (sends_long run ≡ false)
 
 -- ---- why there is no report
 

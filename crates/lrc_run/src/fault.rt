@@ -19,7 +19,8 @@ pub enum RunFault {
     #[error("message numbers used up")]
     Worn,
     /// The nodes' turns and the mailboxes' histories do not record the same messages. Or a node could still have gone
-    /// on, or a message was still on its way, or was still to be given once more.
+    /// on, or a message was still on its way, or was still to be given once more. Or a node wore out, and the turns do
+    /// not tell why.
     #[error("logs and wires differ")]
     Mismatch,
     /// Memory ran out, or there was none for a thread.

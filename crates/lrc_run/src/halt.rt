@@ -29,7 +29,8 @@ pub struct WornOut {
     pub left: Left,
     /// The node that wore out.
     pub node: usize,
-    /// The events that make all turns of the nodes in one order, followed by the event that the node did not finish.
+    /// The events that make all turns of the nodes in one order, and last an event of this node: the one that it did not
+    /// finish, or a turn by itself if it had finished its last one.
     pub events: Vec<Event>,
 }
 

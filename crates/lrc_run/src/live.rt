@@ -37,12 +37,12 @@ pub struct ThreadedRun {
 }
 
 /// Runs a program with each node on a separate thread, and a post between them. `picker` chooses which of its messages
-/// a node is given next. Before each of its turns a node passes the gate. The run keeps all turns of its nodes, and
-/// whatever else `keep` says.
+/// a node is given next. Before each of its turns a node passes the gate (tested, not proved). The run keeps all turns
+/// of its nodes, and whatever else `keep` says.
 ///
-/// If there is no report, the error hands back what is left of the nodes, and the reason. Either the lowest node that
-/// failed wore out, by the turns handed back, or had no memory. Or no node failed, and the turns and the mailboxes'
-/// histories are not one run to its end.
+/// If there is no report, the error tells why, and, unless memory ran out before or after the threads, it hands back
+/// what is left of the nodes. The lowest node that failed wore out, as the turns tell, or had no memory. Or the turns do
+/// not tell why it wore out. Or no node failed, and the turns and the mailboxes' histories are not one run to its end.
 pub fn run_on_threads<G: Gate + Sync, R: Threads + Wait + Sync>(
     rt: &R,
     alloc: Global,

@@ -34,8 +34,8 @@ use std::thread::Threads;
 /// acts. Every run is plain up to its first race. If no order gives the plain machine a race, no run has one.
 ///
 /// It fails with `BadNodes` first and `BadSteps` next, if a number is out of range. Of several faults of nodes, that of
-/// the lowest node is returned. `Mismatch`, and lack of memory after the threads have ended, come only if no node had a
-/// fault.
+/// the lowest node is returned. If no node had a fault, or if the turns do not tell why that node wore out, it may fail
+/// with `Mismatch`. Memory may run out at any point.
 pub fn run<R: Threads + Wait + Sync>(
     rt: &R,
     alloc: Global,
@@ -54,7 +54,8 @@ pub fn run<R: Threads + Wait + Sync>(
     run_gated(rt, alloc, program, nodes, options, picker, &OpenGate)
 }
 
-/// Runs a program as [`run`] does, but each node passes a gate before each of its turns, on its thread.
+/// Runs a program as [`run`] does, but each node passes a gate before each of its turns, on its thread. That it does is
+/// tested, not proved.
 pub fn run_gated<G: Gate + Sync, R: Threads + Wait + Sync>(
     rt: &R,
     alloc: Global,

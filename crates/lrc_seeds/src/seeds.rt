@@ -12,8 +12,8 @@ use lrc_setting::setting::Nodes;
 use lrc_trace::act::Act;
 use std::alloc::{AllocError, Global};
 
-/// Returns for each of these outcomes the least of so many seeds, from 0 on, whose run has it, if there is one. It
-/// plays no more seeds than are needed, and fails if memory runs out.
+/// Returns for each of these outcomes the least of so many seeds, from 0 on, whose run has it, if there is one. It fails
+/// if memory runs out.
 pub fn least_seeds(
     alloc: Global,
     program: &Program,

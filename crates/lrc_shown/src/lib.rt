@@ -1,5 +1,5 @@
 //! Runs a program and shows the run in the form that was chosen: as a report, a report with reasons, a trace, a chart,
-//! counts, or the reasons for certain acts.
+//! counts, the reasons for certain acts, or a page for a browser.
 #![tactic(auto)]
 
 pub mod any;

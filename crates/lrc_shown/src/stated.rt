@@ -30,7 +30,7 @@ use lrc_trace::act::Act;
 use lrc_world::run::Run;
 use std::alloc::{AllocError, Global};
 
-/// Returns the turns of a part of a run with the states of its nodes, one part for each line.
+/// Returns the turns of a part of a run with the states of its nodes, in parts that make the text together.
 pub(crate) fn stated(
     alloc: Global,
     part: Part,

@@ -30,8 +30,8 @@ use std::alloc::{AllocError, Global};
 /// The largest number of turns that are shown.
 pub const MOST_TURNS: usize = 2_000;
 
-/// Returns the turns of a run with the states of its nodes, one part for each line. Fails if more than 2,000 turns
-/// would be shown, or if memory runs out.
+/// Returns the turns of a run with the states of its nodes, in parts that make the text together. Fails if more than
+/// 2,000 turns would be shown, or if memory runs out.
 pub fn states_parts(
     alloc: Global,
     told: &Told<'_>,

@@ -6,8 +6,8 @@ use Rattle.lrc_wire.specs.declared.version.Version.TheVariants.{Two}
 use Rattle.lrc_envelope.specs.Envelope.{EnvelopeRecord}
 use Rattle.lrc_wire.specs.Runs.{runs_of}
 use Rattle.lrc_wire.specs.Spelling.{body, bytes_of}
-use Rattle.lrc_messages.specs.contracts.kind.MessageKindPartialEq.TheImpl.{eq-value as kind_eq}
-use Rattle.lrc_messages.specs.MessageText.{message_kind}
+use Rattle.lrc_wire.specs.contracts.kind.MessageKindPartialEq.TheImpl.{eq-value as kind_eq}
+use Rattle.lrc_wire.specs.Kinds.{message_kind}
 use Rattle.lrc_protocol.specs.Run.{EntryRecord}
 use Rattle.lrc_stats.specs.declared.sent.Sent.{Sent}
 use Rattle.lrc_stats.specs.declared.sent.Wanted.{Wanted}

@@ -2,8 +2,8 @@
 use Rattle.std.specs.Prelude.{ℕ, ◌-◌, List, [], ◌∷◌, ◌++◌, codes, decimal}
 use Rattle.std.specs.List.{flat_map}
 use Rattle.lrc_protocol.specs.Run.{EntryRecord}
-use Rattle.lrc_messages.specs.declared.kind.MessageKind.{MessageKind}
-use Rattle.lrc_messages.specs.declared.kind.MessageKind.TheVariants as kinds
+use Rattle.lrc_wire.specs.declared.kind.MessageKind.{MessageKind}
+use Rattle.lrc_wire.specs.declared.kind.MessageKind.TheVariants as kinds
 use Rattle.lrc_messages.specs.MessageText.{kind_name}
 use Rattle.lrc_stats.specs.declared.deed_kind.DeedKind.{DeedKind}
 use Rattle.lrc_stats.specs.declared.sent.Sent.{Sent}

@@ -7,9 +7,8 @@ ghost use Rattle.lrc_stats.specs.Sent.{bytes_in, is_wanted, sent_by_turn, sent_m
 
 use crate::turns::add;
 use lrc_envelope::Envelope;
-use lrc_messages::MessageKind;
 use lrc_node::Entry;
-use lrc_wire::{EncodeFault, encode};
+use lrc_wire::{EncodeFault, MessageKind, encode};
 use std::alloc::{AllocError, Global};
 
 /// What is counted of a message.

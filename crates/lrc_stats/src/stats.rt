@@ -12,9 +12,10 @@ use crate::deed_kind::DeedKind;
 use crate::learned::{Learned, collections, learned_by_all};
 use crate::sent::{Sent, Wanted, sent_messages, total_of};
 use crate::turns::{misses, turns_made, turns_making};
-use lrc_messages::MessageKind;
+use lrc_messages::kind_name;
 use lrc_node::Entry;
 use lrc_text::push_number;
+use lrc_wire::MessageKind;
 use std::alloc::{AllocError, Global};
 
 /// Returns the counts of a run, one on each line. `events` is the number of its events, and `logs` are the logs of its
@@ -158,7 +159,7 @@ fn push_kinds(text: &mut Vec<u8>, sent: &[Sent]) -> Result<(), AllocError>
 fn push_kind(text: &mut Vec<u8>, kind: MessageKind, sent: &[Sent]) -> Result<(), AllocError>
     ensures { OnOk result (text.new.items ≡ text.old.items ++ kind_line sent.now kind) }
 {
-    push_sent(text, kind.name(), Wanted::Kind(kind), sent)
+    push_sent(text, kind_name(kind), Wanted::Kind(kind), sent)
 }
 
 #[tactic(auto, unfolding(crate::specs::StatsText::sent_line))]

@@ -1,4 +1,5 @@
-//! Writes the JSON objects that lines about turns contain: messages, labels, acts, and the last write to a word.
+//! Writes the JSON objects that lines about turns contain: messages, labels, acts, and the last write to a word. (The
+//! size of a message that is too long to be sent is written as `no`. No run has such a message.)
 #![tactic(auto)]
 
 mod objects;

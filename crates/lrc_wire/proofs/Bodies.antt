@@ -6,11 +6,12 @@ use Rattle.std.proofs.lemmas.List.Elements.{All-weaker}
 use Rattle.lrc_store.specs.Interval.{IntervalRecord, IsInterval}
 use Rattle.lrc_envelope.specs.declared.limits.TheConstants.{MOST_LOCKS, MOST_NODES}
 use Rattle.lrc_wire.specs.declared.version.Version.{Version}
-use Rattle.lrc_wire.specs.declared.kind.Kind.{Kind}
-use Rattle.lrc_wire.specs.declared.kind.Kind.TheVariants as kinds
+use Rattle.lrc_wire.specs.declared.kind.MessageKind.{MessageKind}
+use Rattle.lrc_wire.specs.declared.kind.MessageKind.TheVariants as kinds
 use Rattle.lrc_envelope.specs.declared.message.Message.{Message}
 use Rattle.lrc_envelope.specs.declared.message.Message.TheVariants.{LockRequest, LockForward, LockGrant, Arrive, Depart, Clean, Discard}
 use Rattle.lrc_envelope.specs.declared.message.Message.TheVariants.{ChangesRequest, ChangesReply, PageRequest, PageReply}
+use Rattle.lrc_wire.specs.Kinds.{message_kind}
 use Rattle.lrc_wire.specs.Versions.{pages_in}
 use Rattle.lrc_envelope.specs.Records.{NewsRecord, LockRequestRecord, LockForwardRecord, LockGrantRecord, ArriveRecord}
 use Rattle.lrc_envelope.specs.Records.{DepartRecord, ChangesRequestRecord, ChangesReplyRecord, PageReplyRecord}
@@ -175,21 +176,7 @@ page_reply_agrees v =
 
 -- ---- bodies
 
--- the kind of a message
-abbrev pub kind_named : Message → Kind
-kind_named (LockRequest m) = kinds.LockRequest
-kind_named (LockForward m) = kinds.LockForward
-kind_named (LockGrant m) = kinds.LockGrant
-kind_named (Arrive m) = kinds.Arrive
-kind_named (Depart m) = kinds.Depart
-kind_named (Clean m) = kinds.Clean
-kind_named (Discard m) = kinds.Discard
-kind_named (ChangesRequest m) = kinds.ChangesRequest
-kind_named (ChangesReply m) = kinds.ChangesReply
-kind_named (PageRequest m) = kinds.PageRequest
-kind_named (PageReply m) = kinds.PageReply
-
-pub kind_of-kind : (message : Message) → kind_of (kind message) ≡ Some (kind_named message)
+pub kind_of-kind : (message : Message) → kind_of (kind message) ≡ Some (message_kind message)
 kind_of-kind (LockRequest m) = refl
 kind_of-kind (LockForward m) = refl
 kind_of-kind (LockGrant m) = refl
@@ -203,20 +190,20 @@ kind_of-kind (PageRequest m) = refl
 kind_of-kind (PageReply m) = refl
 
 -- a field as a message of its kind
-as_takes : {A : Type 0} (v : Version) (make : A → Message) (k : Kind) (reads : List ℕ → Field A) (spelled : A → List ℕ) (P : A → Type 0)
+as_takes : {A : Type 0} (v : Version) (make : A → Message) (k : MessageKind) (reads : List ℕ → Field A) (spelled : A → List ℕ) (P : A → Type 0)
     → Agrees reads spelled P
-    → ((x : A) → body v runs_of (make x) ≡ spelled x) → ((x : A) → P x → IsMessage v (make x)) → ((x : A) → kind_named (make x) ≡ k)
+    → ((x : A) → body v runs_of (make x) ≡ spelled x) → ((x : A) → P x → IsMessage v (make x)) → ((x : A) → message_kind (make x) ≡ k)
     → (bytes : List ℕ) (message : Message) (rest : List ℕ) → IsBytes bytes → as_message make (reads bytes) ≡ Ok (message, rest)
-    → Takes bytes (body v runs_of message) rest × IsMessage v message × (kind_named message ≡ k)
+    → Takes bytes (body v runs_of message) rest × IsMessage v message × (message_kind message ≡ k)
 unfolding as_message
 as_takes v make k reads spelled P agrees same is named bytes message rest fits e =
     let a = step reads spelled P agrees bytes (λ m. Ok (make m.0, m.1)) (message, rest) fits e in
     subst (λ (y : Message × List ℕ). Takes bytes (body v runs_of y.0) y.1 × IsMessage v y.0
-    × (kind_named y.0 ≡ k)) (ok_is (make a.value, a.rest) (message, rest) a.then)
+    × (message_kind y.0 ≡ k)) (ok_is (make a.value, a.rest) (message, rest) a.then)
     (rw same a.took, is a.value a.fits, named a.value)
 
-body_takes : (v : Version) (k : Kind) (bytes : List ℕ) (message : Message) (rest : List ℕ) → IsBytes bytes → body_at v k bytes ≡ Ok (message, rest)
-    → Takes bytes (body v runs_of message) rest × IsMessage v message × (kind_named message ≡ k)
+body_takes : (v : Version) (k : MessageKind) (bytes : List ℕ) (message : Message) (rest : List ℕ) → IsBytes bytes → body_at v k bytes ≡ Ok (message, rest)
+    → Takes bytes (body v runs_of message) rest × IsMessage v message × (message_kind message ≡ k)
 unfolding body_at
 body_takes v kinds.LockRequest bytes message rest fits e =
     as_takes v (λ m. LockRequest m) kinds.LockRequest lock_request_at spelled_lock_request Is_lock_request lock_request_agrees (λ m. refl) (λ m h. h)
@@ -252,7 +239,7 @@ body_takes v kinds.PageReply bytes message rest fits e =
     (λ m. refl) bytes message rest fits e
 
 body_again : (v : Version) (message : Message) (rest : List ℕ) → IsMessage v message
-    → body_at v (kind_named message) (body v runs_of message ++ rest) ≡ Ok (message, rest)
+    → body_at v (message_kind message) (body v runs_of message ++ rest) ≡ Ok (message, rest)
 unfolding body_at as_message
 body_again v (LockRequest m) rest h = let a = (lock_request_agrees).again m rest h in rw a refl
 body_again v (LockForward m) rest h = let a = lock_forward_agrees.again m rest (h.0, (h.1, h.2)) in rw a refl
@@ -266,8 +253,8 @@ body_again v (ChangesReply m) rest h = let a = (changes_reply_agrees v).again m 
 body_again v (PageRequest m) rest h = let a = (page_agrees v).again m rest h in rw a refl
 body_again v (PageReply m) rest h = let a = (page_reply_agrees v).again m rest h in rw a refl
 
-pub body_agrees : (v : Version) (k : Kind) → Agrees (body_at v k) (body v runs_of) (λ message. IsMessage v message × (kind_named message ≡ k))
+pub body_agrees : (v : Version) (k : MessageKind) → Agrees (body_at v k) (body v runs_of) (λ message. IsMessage v message × (message_kind message ≡ k))
 body_agrees v k = record {
   takes = λ bytes message rest fits e. let t = body_takes v k bytes message rest fits e in (t.0, (t.1, t.2));
-  again = λ message rest h. subst (λ (k : Kind). body_at v k (body v runs_of message ++ rest) ≡ Ok (message, rest)) h.1 (body_again v message rest h.0);
+  again = λ message rest h. subst (λ (k : MessageKind). body_at v k (body v runs_of message ++ rest) ≡ Ok (message, rest)) h.1 (body_again v message rest h.0);
 }

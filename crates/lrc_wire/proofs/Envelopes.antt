@@ -14,8 +14,8 @@ use Rattle.lrc_envelope.specs.declared.limits.TheConstants.{MOST_NODES}
 use Rattle.lrc_wire.specs.declared.limits.TheConstants.{MOST_BODY_BYTES, HEADER_BYTES}
 use Rattle.lrc_wire.specs.declared.version.Version.{Version}
 use Rattle.lrc_wire.specs.declared.version.Version.TheVariants.{One, Two}
-use Rattle.lrc_wire.specs.declared.kind.Kind.{Kind}
-use Rattle.lrc_wire.specs.declared.kind.Kind.TheVariants as kinds
+use Rattle.lrc_wire.specs.declared.kind.MessageKind.{MessageKind}
+use Rattle.lrc_wire.specs.declared.kind.MessageKind.TheVariants as kinds
 use Rattle.lrc_wire.specs.declared.fault.WireFault.{WireFault}
 use Rattle.lrc_wire.specs.declared.fault.WireFault.TheVariants.{Short, Long, BadVersion, BadKind, BadCount}
 use Rattle.lrc_envelope.specs.declared.message.Message.{Message}
@@ -28,19 +28,20 @@ use Rattle.lrc_wire.specs.Ranges.{HasBits, FitPart, IsMessage, IsFit}
 use Rattle.lrc_wire.specs.Runs.{runs_of}
 use Rattle.lrc_wire.specs.Spelling.{byte, number, kind, part, parts, body, header, Cut, IsMaximalCut, Spells}
 use Rattle.lrc_wire.specs.Reading.{◌>>=◌, Field, HeaderRecord, byte_at, number_at, tested, version_at}
+use Rattle.lrc_wire.specs.Kinds.{message_kind}
 use Rattle.lrc_wire.specs.Reading.{kind_of, kind_at, header_at, body_at, whole_body_of, envelope_of}
 use Rattle.lrc_wire.proofs.Bytes.{IsBytes, Takes}
 use Rattle.lrc_wire.proofs.Steps.{bind_ok, guard_ok, unless_ok, ok_is}
 use Rattle.lrc_wire.proofs.Agrees.{Agrees, Agrees-as, Agrees-tested, step, byte_agrees, number32_agrees}
 use Rattle.lrc_wire.proofs.Sequences.{whole, then_fields, last_field}
 use Rattle.lrc_wire.proofs.Fields.{node_agrees}
-use Rattle.lrc_wire.proofs.Bodies.{kind_named, kind_of-kind, body_agrees}
+use Rattle.lrc_wire.proofs.Bodies.{kind_of-kind, body_agrees}
 use Rattle.lrc_wire.proofs.Runs.{runs_of-are, runs_are}
 
 -- ---- kinds
 
 -- the number of a kind
-numbered : Kind → ℕ
+numbered : MessageKind → ℕ
 numbered kinds.LockRequest = 1
 numbered kinds.LockForward = 2
 numbered kinds.LockGrant = 3
@@ -53,14 +54,14 @@ numbered kinds.ChangesReply = 9
 numbered kinds.PageRequest = 10
 numbered kinds.PageReply = 11
 
-by_number : (n : ℕ) (x k : Kind) {y : Option Kind} → cond (eqb n (numbered x)) (Some x) y ≡ Some k → (y ≡ Some k → n ≡ numbered k) → n ≡ numbered k
+by_number : (n : ℕ) (x k : MessageKind) {y : Option MessageKind} → cond (eqb n (numbered x)) (Some x) y ≡ Some k → (y ≡ Some k → n ≡ numbered k) → n ≡ numbered k
 by_number n x k {y} e other = by_test (eqb n (numbered x)) refl e
   where
     by_test : (b : Bool) → eqb n (numbered x) ≡ b → cond b (Some x) y ≡ Some k → n ≡ numbered k
     by_test true is e = let same : x ≡ k = cc in eqb-true n (numbered x) is ∙ ap numbered same
     by_test false is e = other e
 
-kind_numbered : (n : ℕ) (k : Kind) → kind_of n ≡ Some k → n ≡ numbered k
+kind_numbered : (n : ℕ) (k : MessageKind) → kind_of n ≡ Some k → n ≡ numbered k
 unfolding numbered
 kind_numbered n k e =
     by_number n kinds.LockRequest k e (λ e. by_number n kinds.LockForward k e (λ e. by_number n kinds.LockGrant k e (λ e.
@@ -68,7 +69,7 @@ kind_numbered n k e =
     by_number n kinds.Discard k e (λ e. by_number n kinds.ChangesRequest k e (λ e. by_number n kinds.ChangesReply k e (λ e.
     by_number n kinds.PageRequest k e (λ e. by_number n kinds.PageReply k e (λ e. absurd cc)))))))))))
 
-kind_of-numbered : (k : Kind) → kind_of (numbered k) ≡ Some k
+kind_of-numbered : (k : MessageKind) → kind_of (numbered k) ≡ Some k
 unfolding numbered
 kind_of-numbered kinds.LockRequest = refl
 kind_of-numbered kinds.LockForward = refl
@@ -82,8 +83,8 @@ kind_of-numbered kinds.ChangesReply = refl
 kind_of-numbered kinds.PageRequest = refl
 kind_of-numbered kinds.PageReply = refl
 
-kind_is : (message : Message) → kind message ≡ numbered (kind_named message)
-kind_is message = kind_numbered (kind message) (kind_named message) (kind_of-kind message)
+kind_is : (message : Message) → kind message ≡ numbered (message_kind message)
+kind_is message = kind_numbered (kind message) (message_kind message) (kind_of-kind message)
 
 -- a byte that is the code of a value
 code_named : {K : Type 0} (o : Option K) (fault : WireFault) (k : K) → ok_or o fault ≡ Ok k → o ≡ Some k
@@ -162,7 +163,7 @@ pub record IsHeader (h : HeaderRecord) : Type 0 where
   pub number : HasBits 32 h.number
   pub body_len : h.body_len ≤ MOST_BODY_BYTES
 
-abbrev header_fields : HeaderRecord → Version × (Kind × (ℕ × (ℕ × (ℕ × ℕ))))
+abbrev header_fields : HeaderRecord → Version × (MessageKind × (ℕ × (ℕ × (ℕ × ℕ))))
 header_fields h = (h.version, (h.kind, (h.from, (h.to, (h.number, h.body_len)))))
 
 abbrev FitFields : HeaderRecord → Type 0
@@ -185,7 +186,7 @@ header_long v e = refl
 
 -- what the header of an envelope says
 abbrev header_of : Version → EnvelopeRecord → HeaderRecord
-header_of v e = record { version = v; kind = kind_named e.message; from = e.from; to = e.to; number = e.number; body_len = length (body v runs_of e.message) }
+header_of v e = record { version = v; kind = message_kind e.message; from = e.from; to = e.to; number = e.number; body_len = length (body v runs_of e.message) }
 
 header_is : (v : Version) (e : EnvelopeRecord) → header v runs_of e ≡ spelled_header (header_of v e)
 unfolding header
@@ -248,8 +249,8 @@ spells v e bytes h = record { fits = h.fits; cut = runs_of; cuts = runs_of-are; 
 
 -- ---- bodies of a stated length
 
-whole_body_takes : (v : Version) (k : Kind) (len : ℕ) (bytes : List ℕ) (message : Message) → IsBytes bytes → whole_body_of v k len bytes ≡ Ok message
-    → (bytes ≡ body v runs_of message) × (length bytes ≡ len) × IsMessage v message × (kind_named message ≡ k)
+whole_body_takes : (v : Version) (k : MessageKind) (len : ℕ) (bytes : List ℕ) (message : Message) → IsBytes bytes → whole_body_of v k len bytes ≡ Ok message
+    → (bytes ≡ body v runs_of message) × (length bytes ≡ len) × IsMessage v message × (message_kind message ≡ k)
 unfolding whole_body_of
 whole_body_takes v k len bytes message fits e =
     let a = unless_ok (ltb (length bytes) len) Short
@@ -257,30 +258,30 @@ whole_body_takes v k len bytes message fits e =
     let b = unless_ok (ltb len (length bytes)) Long (body_at v k bytes >>= λ m. cond (eqb (length m.1) 0) (Ok m.0) (Err Long)) message a.1 in
     let long : length bytes ≡ len = omega (arith, ltb-false (length bytes) len a.0, ltb-false len (length bytes) b.0) in
     let c = step (body_at v k) (body v runs_of) (λ message. IsMessage v message
-    × (kind_named message ≡ k)) (body_agrees v k) bytes (λ m. cond (eqb (length m.1) 0) (Ok m.0) (Err Long)) message fits b.1 in
+    × (message_kind message ≡ k)) (body_agrees v k) bytes (λ m. cond (eqb (length m.1) 0) (Ok m.0) (Err Long)) message fits b.1 in
     let g = guard_ok (eqb (length c.rest) 0) Long c.value message c.then in
     let nothing : c.rest ≡ [] = nil_from_length c.rest (eqb-true (length c.rest) 0 g.0) in
     let all : bytes ≡ body v runs_of c.value = c.took.parts ∙ ap (λ (rest : List ℕ). body v runs_of c.value ++ rest) nothing
     ∙ append-nil (body v runs_of c.value) in
-    subst (λ (m : Message). (bytes ≡ body v runs_of m) × (length bytes ≡ len) × IsMessage v m × (kind_named m ≡ k)) g.1 (all, long, c.fits.0, c.fits.1)
+    subst (λ (m : Message). (bytes ≡ body v runs_of m) × (length bytes ≡ len) × IsMessage v m × (message_kind m ≡ k)) g.1 (all, long, c.fits.0, c.fits.1)
 
 whole_body_again : (v : Version) (message : Message) → IsMessage v message
-    → whole_body_of v (kind_named message) (length (body v runs_of message)) (body v runs_of message) ≡ Ok message
+    → whole_body_of v (message_kind message) (length (body v runs_of message)) (body v runs_of message) ≡ Ok message
 unfolding whole_body_of
 whole_body_again v message fits =
     let b : List ℕ = body v runs_of message in
     let same : ltb (length b) (length b) ≡ false = le-ltb (length b) (length b) (omega arith) in
-    let read : body_at v (kind_named message) b ≡ Ok (message, []) = ap (body_at v (kind_named message)) (sym (append-nil b))
-    ∙ (body_agrees v (kind_named message)).again message [] (fits, refl) in
+    let read : body_at v (message_kind message) b ≡ Ok (message, []) = ap (body_at v (message_kind message)) (sym (append-nil b))
+    ∙ (body_agrees v (message_kind message)).again message [] (fits, refl) in
     rw (same, read) refl
 
 -- ---- all of the bytes
 
-abbrev header_with : HeaderRecord → Kind → ℕ → HeaderRecord
+abbrev header_with : HeaderRecord → MessageKind → ℕ → HeaderRecord
 header_with h k len = record { version = h.version; kind = k; from = h.from; to = h.to; number = h.number; body_len = len }
 
-same_header : (h : HeaderRecord) (k : Kind) (len : ℕ) → k ≡ h.kind → len ≡ h.body_len → header_with h k len ≡ h
-same_header h k len ke le = ap (λ (x : Kind). header_with h x len) ke ∙ ap (λ (n : ℕ). header_with h h.kind n) le
+same_header : (h : HeaderRecord) (k : MessageKind) (len : ℕ) → k ≡ h.kind → len ≡ h.body_len → header_with h k len ≡ h
+same_header h k len ke le = ap (λ (x : MessageKind). header_with h x len) ke ∙ ap (λ (n : ℕ). header_with h h.kind n) le
 
 pub envelope_takes : (bytes : List ℕ) (e : EnvelopeRecord) → IsBytes bytes → envelope_of bytes ≡ Ok e → (v : Version) × Spells v e bytes
 unfolding envelope_of
@@ -312,7 +313,7 @@ envelope_takes bytes e fits h =
     let w = whole_body_takes v b.0.0.kind b.0.0.body_len b.0.1 c.0 t.0.rest_fits c.1 in
     let made : EnvelopeRecord = record { from = b.0.0.from; to = b.0.0.to; number = b.0.0.number; message = c.0 } in
     let len : length (body v runs_of c.0) ≡ b.0.0.body_len = ap length (sym w.0) ∙ w.1 in
-    let head : header_of v made ≡ b.0.0 = same_header b.0.0 (kind_named c.0) (length (body v runs_of c.0)) w.3 len in
+    let head : header_of v made ≡ b.0.0 = same_header b.0.0 (message_kind c.0) (length (body v runs_of c.0)) w.3 len in
     let spelled : bytes ≡ header v runs_of made ++ body v runs_of c.0 = t.0.parts ∙ ap (λ (x : HeaderRecord). spelled_header x ++ b.0.1) (sym head)
     ∙ ap (λ (x : List ℕ). x ++ b.0.1) (sym (header_is v made)) ∙ ap (λ (x : List ℕ). header v runs_of made ++ x) w.0 in (
       v,

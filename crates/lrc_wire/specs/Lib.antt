@@ -1,3 +1,4 @@
+pub mod Kinds
 pub mod Versions
 pub mod Runs
 pub mod Ranges

@@ -9,8 +9,8 @@ use Rattle.lrc_page.specs.declared.changes.Change.{Change}
 use Rattle.lrc_store.specs.Interval.{IntervalRecord, index_of}
 use Rattle.lrc_wire.specs.declared.fault.WireFault.{WireFault}
 use Rattle.lrc_wire.specs.declared.fault.WireFault.TheVariants.{Short, Long, BadVersion, BadKind, BadNode, BadCount, NotAscending, NoMemory}
-use Rattle.lrc_wire.specs.declared.kind.Kind.{Kind}
-use Rattle.lrc_wire.specs.declared.kind.Kind.TheVariants as kinds
+use Rattle.lrc_wire.specs.declared.kind.MessageKind.{MessageKind}
+use Rattle.lrc_wire.specs.declared.kind.MessageKind.TheVariants as kinds
 use Rattle.lrc_wire.specs.declared.version.Version.{Version}
 use Rattle.lrc_wire.specs.declared.version.Version.TheVariants.{One, Two}
 use Rattle.lrc_envelope.specs.declared.limits.TheConstants.{MOST_LOCKS, MOST_NODES}
@@ -310,7 +310,7 @@ page_reply_at version bytes = do
   Ok (record { page = page.0; values = values.0 }, values.1)
 
 -- the kind of each number
-abbrev pub kind_of : ℕ → Option Kind
+abbrev pub kind_of : ℕ → Option MessageKind
 kind_of n =
     if n == 1 then Some kinds.LockRequest
     else if n == 2 then Some kinds.LockForward
@@ -329,7 +329,7 @@ kind_of n =
 unfoldable pub as_message : {A : Type 0} → (A → Message) → Field A → Field Message
 as_message make field = field >>= λ m. Ok (make m.0, m.1)
 
-unfoldable pub body_at : Version → Kind → List ℕ → Field Message
+unfoldable pub body_at : Version → MessageKind → List ℕ → Field Message
 body_at version kinds.LockRequest bytes = as_message (λ m. LockRequest m) (lock_request_at bytes)
 body_at version kinds.LockForward bytes = as_message (λ m. LockForward m) (lock_forward_at bytes)
 body_at version kinds.LockGrant bytes = as_message (λ m. LockGrant m) (lock_grant_at version bytes)
@@ -344,7 +344,7 @@ body_at version kinds.PageReply bytes = as_message (λ m. PageReply m) (page_rep
 
 -- ---- envelopes
 
-unfoldable pub kind_at : List ℕ → Field Kind
+unfoldable pub kind_at : List ℕ → Field MessageKind
 kind_at bytes = do
   n ← byte_at bytes
   kind ← ok_or (kind_of n.0) BadKind
@@ -359,7 +359,7 @@ version_at bytes = do
 -- what a header says of the message behind it
 pub record HeaderRecord : Type 0 where
   pub version : Version
-  pub kind : Kind
+  pub kind : MessageKind
   pub from : ℕ
   pub to : ℕ
   pub number : ℕ
@@ -376,7 +376,7 @@ header_at bytes = do
   Ok (record { version = version.0; kind = kind.0; from = from.0; to = to.0; number = number.0; body_len = body_len.0 }, body_len.1)
 
 -- a body of so many bytes, and no byte after it
-unfoldable pub whole_body_of : Version → Kind → ℕ → List ℕ → Result Message WireFault
+unfoldable pub whole_body_of : Version → MessageKind → ℕ → List ℕ → Result Message WireFault
 whole_body_of version kind len bytes =
     if nat_lt (length bytes) len then Err Short
     else if nat_lt len (length bytes) then Err Long

@@ -14,7 +14,7 @@ mod version;
 mod writing;
 
 pub use fault::{EncodeFault, WireFault};
-pub use kind::Kind;
+pub use kind::MessageKind;
 pub use limits::{HEADER_BYTES, MOST_BODY_BYTES, MOST_RUNS};
 pub use reading::decode;
 pub use version::Version;

@@ -7,7 +7,7 @@ ghost use Rattle.lrc_wire.specs.Spelling.{Spells};
 ghost use Rattle.lrc_wire.specs.Reading.{Gives, whole_body_of, envelope_of};
 
 use crate::fault::WireFault;
-use crate::kind::Kind;
+use crate::kind::MessageKind;
 use crate::limits::HEADER_BYTES;
 use crate::version::Version;
 use bodies::read_body;
@@ -41,7 +41,7 @@ fn room(count: u32, bytes: &[u8], each: usize) -> usize
 fn whole_body(
     alloc: Global,
     version: Version,
-    kind: Kind,
+    kind: MessageKind,
     len: u32,
     mut bytes: &[u8],
 ) -> Result<Message, WireFault>

@@ -1,11 +1,12 @@
 -- Where the acts of a run come from: of each act its turn, its statement, and its node's time just after it.
-use Rattle.std.specs.Prelude.{◌≡◌, ℕ, ◌+◌, ◌++◌, Bool, false, Option, Some, None, List, [], ◌∷◌, if◌then◌else◌, is_some, length, replicate}
+use Rattle.std.specs.Prelude.{◌≡◌, ℕ, ◌+◌, ◌++◌, ◌==◌, Bool, false, Option, Some, None, List, [], ◌∷◌, if◌then◌else◌, is_some, length, replicate, slice_get, take}
+use Rattle.std.specs.List.{count_by}
 use Rattle.std.specs.Option.{option_to_list}
 use Rattle.lrc_lang.specs.declared.program.Program.{Program}
 use Rattle.lrc_trace.specs.declared.act.Act.{Act}
 use Rattle.lrc_clock.specs.Keeping.{KeepsTime}
 use Rattle.lrc_lines.specs.Statements.{act_statements}
-use Rattle.lrc_protocol.specs.Follows.{next_entry}
+use Rattle.lrc_protocol.specs.Follows.{log_of, next_entry}
 use Rattle.lrc_protocol.specs.Run.{EntryRecord}
 use Rattle.lrc_timeline.specs.Timeline.{brought_behind, timed, times_in}
 use Rattle.lrc_world.specs.declared.keep.Keep.{Keep}
@@ -42,6 +43,23 @@ turns_along logs come before (turn ∷ more) =
 -- of each act of a run with these logs the position of its turn
 abbrev pub act_turns : List (List EntryRecord) → List Turned → List ℕ
 act_turns logs turned = turns_along logs (replicate (length logs) 0) 0 turned
+
+-- how many of the turns before a place are of a node
+abbrev pub turns_before : List Turned → (place node : ℕ) → ℕ
+turns_before turned place node = count_by (λ turn. turn.node == node) (take place turned)
+
+-- The turn at this place makes the act: in its node's log it stands behind as many turns as the node has before this place.
+pub record IsTurnOf (logs : List (List EntryRecord)) (turned : List Turned) (place : ℕ) (act : Act) : Type 0 where
+  pub turn : Turned
+  pub there : slice_get turned place ≡ Some turn
+  pub entry : EntryRecord
+  pub logged : slice_get (log_of logs turn.node) (turns_before turned place turn.node) ≡ Some entry
+  pub makes : entry.turn.act ≡ Some act
+
+-- each of the acts is made by the turn at the place of the same index
+abbrev pub AreTurnsOf : List (List EntryRecord) → List Turned → (places : List ℕ) → List Act → Type 0
+AreTurnsOf logs turned places acts = (k : ℕ) (act : Act) → slice_get acts k ≡ Some act
+    → (place : ℕ) × (slice_get places k ≡ Some place) × IsTurnOf logs turned place act
 
 -- Where all is kept, these are the origins of the acts of a run of so many nodes with these logs and turns; and otherwise there are none. A time
 -- is kept once for as long as it is its node's.

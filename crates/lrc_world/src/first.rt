@@ -9,8 +9,7 @@ use lrc_trace::act::Act;
 use lrc_trace::race::Race;
 use std::alloc::{AllocError, Global};
 
-/// Returns the least position of an act that races with an earlier act, in a run with these races. It searches only if
-/// there are any races.
+/// Returns the least position of an act that races with an earlier act, in a run with these races.
 pub fn first_of(alloc: Global, races: &[Race], acts: &[Act]) -> Result<Option<usize>, AllocError>
     requires acts { All (λ act. act.node < NODES) acts.now }
     requires raceless { races.now ≡ [] → IsRaceFree acts.now }

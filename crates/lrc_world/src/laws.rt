@@ -9,7 +9,7 @@ ghost use Rattle.lrc_protocol.specs.Node.{OptionsRecord, fresh_node};
 ghost use Rattle.lrc_protocol.specs.Run.{Logged, World as Run, run_of};
 ghost use Rattle.lrc_protocol.specs.Traced.{trace_of};
 ghost use Rattle.lrc_world.specs.Epochs.{IsOfAccess};
-ghost use Rattle.lrc_world.specs.Origins.{act_turns, acts_in_turn};
+ghost use Rattle.lrc_world.specs.Origins.{AreTurnsOf, act_turns, acts_in_turn};
 ghost use Rattle.lrc_world.specs.Turned.{turned_of};
 
 /// The epoch of a segment in a node's trace is the number of departs that the node made before the segment's accesses.
@@ -31,8 +31,9 @@ pub fn epochs_count_departs()
         × IsOfAccess run.acts n position segment }
 {}
 
-/// The acts of a run are those of its turns, in their order. So an act's turn is the one at its place among the turns
-/// that make acts.
+/// The acts of a run are those of its turns, in their order. The positions that are kept of the acts' turns are exactly
+/// those of the turns that make them: in its node's log the turn at such a position stands behind as many turns as the
+/// node has before it in the run, and its act is this one. There is one position for each act.
 pub fn acts_are_those_of_the_turns()
     ensures acts { (program : Program) (nodes : ℕ) (options : OptionsRecord) (events : List Event)
         (run : Run)
@@ -40,6 +41,12 @@ pub fn acts_are_those_of_the_turns()
         → acts_in_turn (map (λ l. l.log) run.nodes) (turned_of program nodes options events)
         ≡ run.acts }
     ensures each { (program : Program) (nodes : ℕ) (options : OptionsRecord) (events : List Event)
+        (run : Run)
+        → run_of program nodes options events ≡ Some run
+        → AreTurnsOf (map (λ l. l.log) run.nodes) (turned_of program nodes options events)
+        (act_turns (map (λ l. l.log) run.nodes) (turned_of program nodes options events))
+        run.acts }
+    ensures many { (program : Program) (nodes : ℕ) (options : OptionsRecord) (events : List Event)
         (run : Run)
         → run_of program nodes options events ≡ Some run
         → length (act_turns (map (λ l. l.log) run.nodes) (turned_of program nodes options events))

@@ -23,7 +23,7 @@ pub struct Report {
     pub ends: Vec<End>,
     /// The races, each once, by word, nodes and intervals.
     pub races: Vec<Race>,
-    /// The turns of each node with their stamps, from node 0 up.
+    /// The turns that are kept of each node, with their stamps, from node 0 up.
     pub logs: Vec<Vec<Entry>>,
     /// The least position of an act that races with an earlier act, or none if the run has no race.
     pub first_race: Option<usize>,

@@ -144,6 +144,7 @@ impl<'c> Driver<'c> {
     }
 
     // Plays an event, if there is room for it.
+    #[inline(always)]
     fn play(&mut self, event: Event) -> Result<(), TurnFault>
         ensures { PlaysOne self.old self.new event result ⊎ IsFull self.old self.new result }
     {

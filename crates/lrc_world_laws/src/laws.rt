@@ -25,8 +25,8 @@ ghost use Rattle.lrc_world_laws.specs.Ended.{IsEnded};
 ghost use Rattle.lrc_world_laws.specs.Same.{SaysTheSame};
 
 /// A program, a number of nodes, options and a picker determine the events of a run in rounds that goes on until
-/// nothing is left to do or there are 100,000,000 events. So `drive` of `lrc_world` makes the same events each time,
-/// whatever it keeps of the turns.
+/// nothing is left to do or there are 100,000,000 events. So `drive` of `lrc_world` makes the same events each time, and
+/// so does `run_in`, whatever it keeps.
 pub fn rounds_are_determined()
     ensures { (program : Program) (nodes : ℕ) (options : OptionsRecord) (picker : Picker)
         (events others : List Event)
@@ -37,7 +37,7 @@ pub fn rounds_are_determined()
 
 /// A program, a number of nodes, options and a seed determine the events of a run in a random order that goes on until
 /// nothing is left to do or there are 100,000,000 events. So `wander` of `lrc_world` makes the same events each time,
-/// whatever it keeps of the turns.
+/// and so does `run_in`, whatever it keeps.
 pub fn wandering_is_determined()
     ensures { (program : Program) (nodes : ℕ) (options : OptionsRecord) (seed : ℕ)
         (events others : List Event)
@@ -61,8 +61,8 @@ pub fn runs_that_end_never_wear_out()
         → ¬ WanderingWearsOut program nodes options seed }
 {}
 
-/// Two runs of the same events differ at most in their turns, whatever each keeps of them. Acts determine the list of
-/// their races. So a run that keeps only the newest turns returns what a run that keeps all of them returns.
+/// Two runs of the same events differ at most in what they keep: turns, and where acts come from. Acts determine the
+/// list of their races. So a run that keeps only the newest turns has the report of a run that keeps all, but for logs.
 pub fn what_is_kept_changes_the_turns_alone()
     ensures same { (program : Program) (nodes : ℕ) (options : OptionsRecord) (order another : Order)
         (keep other : Keep) (run again : MadeRun)

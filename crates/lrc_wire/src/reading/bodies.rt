@@ -11,7 +11,7 @@ use super::pages::read_page_values;
 use super::parts::read_parts;
 use super::times::read_time;
 use crate::fault::WireFault;
-use crate::kind::Kind;
+use crate::kind::MessageKind;
 use crate::version::Version;
 use lrc_envelope::{
     Arrive, ChangesReply, ChangesRequest, Clean, Depart, Discard, LockForward, LockGrant,
@@ -140,25 +140,27 @@ fn read_page_reply(
 pub(super) fn read_body(
     alloc: Global,
     version: Version,
-    kind: Kind,
+    kind: MessageKind,
     bytes: &mut &[u8],
 ) -> Result<Message, WireFault>
     ensures { Gives (λ message. (message, bytes.new.now)) result
         (body_at version kind bytes.old.now) }
 {
     match kind {
-        Kind::LockRequest => read_lock_request(bytes).map(Message::LockRequest),
-        Kind::LockForward => read_lock_forward(bytes).map(Message::LockForward),
-        Kind::LockGrant => read_lock_grant(alloc, version, bytes).map(Message::LockGrant),
-        Kind::Arrive => read_arrive(alloc, version, bytes).map(Message::Arrive),
-        Kind::Depart => read_depart(alloc, version, bytes).map(Message::Depart),
-        Kind::Clean => read_clean(bytes).map(Message::Clean),
-        Kind::Discard => read_discard(bytes).map(Message::Discard),
-        Kind::ChangesRequest => {
+        MessageKind::LockRequest => read_lock_request(bytes).map(Message::LockRequest),
+        MessageKind::LockForward => read_lock_forward(bytes).map(Message::LockForward),
+        MessageKind::LockGrant => read_lock_grant(alloc, version, bytes).map(Message::LockGrant),
+        MessageKind::Arrive => read_arrive(alloc, version, bytes).map(Message::Arrive),
+        MessageKind::Depart => read_depart(alloc, version, bytes).map(Message::Depart),
+        MessageKind::Clean => read_clean(bytes).map(Message::Clean),
+        MessageKind::Discard => read_discard(bytes).map(Message::Discard),
+        MessageKind::ChangesRequest => {
             read_changes_request(alloc, version, bytes).map(Message::ChangesRequest)
         }
-        Kind::ChangesReply => read_changes_reply(alloc, version, bytes).map(Message::ChangesReply),
-        Kind::PageRequest => read_page_request(version, bytes).map(Message::PageRequest),
-        Kind::PageReply => read_page_reply(alloc, version, bytes).map(Message::PageReply),
+        MessageKind::ChangesReply => {
+            read_changes_reply(alloc, version, bytes).map(Message::ChangesReply)
+        }
+        MessageKind::PageRequest => read_page_request(version, bytes).map(Message::PageRequest),
+        MessageKind::PageReply => read_page_reply(alloc, version, bytes).map(Message::PageReply),
     }
 }

@@ -6,7 +6,7 @@ ghost use Rattle.lrc_wire.specs.Reading.{Gives, version_at, kind_at, header_at};
 use super::fields::read_node;
 use super::numbers::{read_u8, read_u32};
 use crate::fault::WireFault;
-use crate::kind::{self, Kind};
+use crate::kind::{self, MessageKind};
 use crate::limits::MOST_BODY_BYTES;
 use crate::version::Version;
 use lrc_envelope::MOST_NODES;
@@ -16,7 +16,7 @@ use std::marker::Model;
 #[derive(Drop)]
 pub(super) struct Header {
     pub version: Version,
-    pub kind: Kind,
+    pub kind: MessageKind,
     pub from: u8,
     pub to: u8,
     pub number: u32,
@@ -43,7 +43,7 @@ fn read_version(bytes: &mut &[u8]) -> Result<Version, WireFault>
 }
 
 #[tactic(auto, unfolding(crate::specs::Reading::kind_at))]
-fn read_kind(bytes: &mut &[u8]) -> Result<Kind, WireFault>
+fn read_kind(bytes: &mut &[u8]) -> Result<MessageKind, WireFault>
     ensures { Gives (λ kind. (kind, bytes.new.now)) result (kind_at bytes.old.now) }
 {
     kind::numbered(read_u8(bytes)?).ok_or(WireFault::BadKind)

@@ -2,7 +2,7 @@ use Rattle.std.proofs.Common.{◌≡◌, ◌∙◌, ◌++◌, ℕ, List, ap, sub
 use Rattle.std.specs.Prelude.{OnOk, codes}
 use Rattle.std.proofs.lemmas.Result.{IfOk-from_err}
 use Rattle.lrc_text.proofs.Fronts.{begins_still}
-use Rattle.lrc_messages.specs.declared.kind.MessageKind.TheVariants as kinds
+use Rattle.lrc_wire.specs.declared.kind.MessageKind.TheVariants as kinds
 use Rattle.lrc_envelope.specs.Records.{ArriveRecord}
 use Rattle.lrc_messages.specs.MessageText.{collect_text, named, news_text}
 use Rattle.lrc_text.proofs.Pushed.{and_then, err_is, then_err, then_ok}

@@ -1,7 +1,7 @@
 use Rattle.std.proofs.Common.{◌≡◌, ◌∙◌, ◌++◌, ℕ, List, ap, subst}
 use Rattle.std.specs.Prelude.{OnOk, codes}
 use Rattle.std.proofs.lemmas.Result.{IfOk-from_err}
-use Rattle.lrc_messages.specs.declared.kind.MessageKind.TheVariants as kinds
+use Rattle.lrc_wire.specs.declared.kind.MessageKind.TheVariants as kinds
 use Rattle.lrc_envelope.specs.Records.{LockGrantRecord}
 use Rattle.lrc_messages.specs.MessageText.{named, news_text}
 use Rattle.lrc_text.proofs.Pushed.{err_is, then_err, then_ok}

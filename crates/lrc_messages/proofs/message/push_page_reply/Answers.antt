@@ -2,7 +2,7 @@ use Rattle.std.proofs.Common.{◌≡◌, ◌∙◌, ◌++◌, ℕ, List, ap, sub
 use Rattle.std.specs.Prelude.{OnOk, codes}
 use Rattle.std.proofs.lemmas.Result.{IfOk-from_err}
 use Rattle.lrc_text.proofs.Fronts.{begins_still}
-use Rattle.lrc_messages.specs.declared.kind.MessageKind.TheVariants as kinds
+use Rattle.lrc_wire.specs.declared.kind.MessageKind.TheVariants as kinds
 use Rattle.lrc_envelope.specs.Records.{PageReplyRecord}
 use Rattle.lrc_messages.specs.Lists.{separated_or_dash}
 use Rattle.lrc_messages.specs.MessageText.{change_text, named, nonzero_words}

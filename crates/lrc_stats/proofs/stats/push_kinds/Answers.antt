@@ -1,7 +1,7 @@
 use Rattle.std.proofs.Common.{◌∙◌, ◌++◌, ℕ, List, ap, sym, get_or, take}
 use Rattle.std.specs.List.{flat_map}
 use Rattle.std.proofs.lemmas.List.{flat_map_more, take_more}
-use Rattle.lrc_messages.specs.declared.kind.MessageKind.{MessageKind}
+use Rattle.lrc_wire.specs.declared.kind.MessageKind.{MessageKind}
 use Rattle.lrc_stats.specs.StatsText.{kind_line, message_kinds}
 use Rattle.lrc_stats.proofs.stats.push_kinds.Goals as goal
 

@@ -2,13 +2,13 @@ use Rattle.std.proofs.Common.{◌≡◌, ◌≤◌, ◌∙◌, ℕ, List, Ok, Er
 use Rattle.std.proofs.lemmas.Bool.{le-ltb}
 use Rattle.std.proofs.lemmas.Result.{err_from_is_err_and}
 use Rattle.lrc_wire.specs.declared.fault.WireFault.TheVariants.{Long}
-use Rattle.lrc_wire.specs.declared.kind.Kind.{Kind}
+use Rattle.lrc_wire.specs.declared.kind.MessageKind.{MessageKind}
 use Rattle.lrc_wire.specs.declared.version.Version.{Version}
 use Rattle.lrc_wire.specs.Reading.{◌>>=◌, body_at, whole_body_of}
 use Rattle.lrc_wire.proofs.reading.whole_body.Goals as goal
 
 -- a body of as many bytes as it is to have
-as_body : (version : Version) (kind : Kind) (len : ℕ) (bytes : List ℕ) → len ≤ length bytes → length bytes ≤ len
+as_body : (version : Version) (kind : MessageKind) (len : ℕ) (bytes : List ℕ) → len ≤ length bytes → length bytes ≤ len
     → whole_body_of version kind len bytes ≡ (body_at version kind bytes >>= λ message. cond (eqb (length message.1) 0) (Ok message.0) (Err Long))
 unfolding whole_body_of
 as_body version kind len bytes long short = rw (le-ltb (length bytes) len long, le-ltb len (length bytes) short) refl

@@ -12,7 +12,7 @@ returns c plan world turns l is there =
     let node = c.args.node in
     let privates = (walk_behind plan.program plan.nodes plan.lines world.acts node).thread.privates in
     let state : c.in-Some.state.now ≡ l.node = search rules in
-    let values : c.in-Some-privates.values.now ≡ privates = c.in-Some-privates.ensures plan world.acts is.course in
+    let values : c.in-Some-privates.values.now ≡ privates = c.in-Some-privates.ensures.values plan world.acts is.course in
     let names : map named_seen c.deref.result.now ≡ names_behind plan world.acts node =
     ap (map named_seen) c.deref.ensures.value ∙ c.in_ok-names.ensures ∙ ap (λ (p : Plan). names_set p.names c.in-Some-privates.values.now) is.plan_is
     ∙ ap (names_set plan.names) values in
