@@ -22,7 +22,7 @@ AreBlankFrom word count = (k : ℕ) → count ≤ k → KnowsNothing word k
 
 -- ---- words
 
--- words at the end of which nobody knows anything
+-- the words from there on are those of which nobody knows anything
 abbrev pub AreUnknownFrom : List KnownWord → ℕ → Type 0
 AreUnknownFrom words count = (k : ℕ) → count ≤ k → knowers_in (slice_get words k) ≡ []
 

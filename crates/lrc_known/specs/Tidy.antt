@@ -51,13 +51,13 @@ pub record IsWrittenAs (word : List Known) (k : ℕ) (known : Known) : Type 0 wh
   pub values : known.values.items ≡ values_of word k
   pub above : known.above.items ≡ row_of word k
 
--- the end of a word that knows nothing is cut off
+-- the last ones are cut off, those who know nothing
 pub record IsCut (word cut : List Known) : Type 0 where
   pub same : IsSame word cut
   pub kept : (k : ℕ) (known : Known) → slice_get cut k ≡ Some known → slice_get word k ≡ Some known
   pub ends : EndsIn IsSomething cut
 
--- the words at the end of which nobody knows anything are cut off
+-- the last words are cut off, those of which nobody knows anything
 pub record AreCut (words cut : List KnownWord) : Type 0 where
   pub same : (k : ℕ) → knowers_in (slice_get cut k) ≡ knowers_in (slice_get words k)
   pub kept : (k : ℕ) (word : KnownWord) → slice_get cut k ≡ Some word → slice_get words k ≡ Some word

@@ -139,7 +139,7 @@ fn count_of_known(words: &[KnownWord]) -> usize
     0
 }
 
-// Cuts off the words at the end of which nobody knows anything.
+// Cuts off the last words, those of which nobody knows anything.
 fn cut_words(words: &mut Vec<KnownWord>)
     ensures { AreCut words.old.items words.new.items }
 {
