@@ -4,3 +4,4 @@ pub mod Searched
 pub mod Adding
 pub mod Ahead
 pub mod Fresh
+pub mod Neat

@@ -23,3 +23,6 @@ returns-clause-steps c =
           (subst (λ e. IsKnowledgeAfter e key.knowledge c.in_ok-knowledge.knowledge) c.effect_of-effect.ensures.effect c.in_ok-knowledge.ensures);
       notes = c.in_ok-note.ensures ∙ ap (λ n. notes_with n (act_of node deed)) (c.in_ok-notes.ensures ∙ c.deref.ensures.value);
     }
+
+pub returns-clause-neat : goal.returns-clause-neat
+returns-clause-neat c = λ neat. record { blank = c.in_ok-state.ensures.blank }

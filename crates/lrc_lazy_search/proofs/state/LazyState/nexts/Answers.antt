@@ -4,7 +4,7 @@ use Rattle.lrc_lazy_search.proofs.state.LazyState.nexts.Goals as goal
 
 pub returns-in_ok-nexts_of-in-Some-clause-enough : goal.returns-in_ok-nexts_of-in-Some-clause-enough
 returns-in_ok-nexts_of-in-Some-clause-enough c =
-    of_one c.in-Some.node (c.in_front.ensures.front c.in-Some.node c.in-Some.is) c.in_ok-nexts_of-in-Some.ensures.all
+    of_one c.in-Some.node (c.in_front.ensures.front c.in-Some.node c.in-Some.is) (c.in_front.ensures.first c.in-Some.node c.in-Some.is) c.in_ok-nexts_of-in-Some.ensures.all
 
 pub returns-in-None-clause-enough : goal.returns-in-None-clause-enough
 returns-in-None-clause-enough c =
