@@ -9,3 +9,5 @@ pub mod After
 pub mod Beginning
 pub mod Dropping
 pub mod Cutting
+pub mod Tidy
+pub mod Keeping

@@ -286,7 +286,7 @@ module _ (word left : List Known) (first dropped count : ℕ) (all : AreEach (Is
 
 -- ---- sets of values
 
-contains_cons : (x v : ℕ) (xs : List ℕ) → Contains (x ∷ xs) v → (x ≡ v) ⊎ Contains xs v
+pub contains_cons : (x v : ℕ) (xs : List ℕ) → Contains (x ∷ xs) v → (x ≡ v) ⊎ Contains xs v
 contains_cons x v xs c = elim (Contains-append_cases (x ∷ []) xs v c) [
   | inl (k, lt, e) ↦ let zero_is : k ≡ 0 = omega (arith, lt) in inl (sym (ap (λ m. slice_index_or (x ∷ []) m v) zero_is) ∙ e)
   | inr more ↦ inr more

@@ -1,13 +1,15 @@
 // What is kept is exact. Each function is a theorem: its body is empty, and its clause is the law.
 
-ghost use Rattle.std.specs.Prelude.{◌≡◌, ◌↔◌, ◌<◌, ◌+◌, ◌++◌, ◌∷◌, [], ℕ, List, length};
+ghost use Rattle.std.specs.Prelude.{◌≡◌, ◌↔◌, ◌<◌, ◌+◌, ◌++◌, ◌∷◌, [], ℕ, List, length, slice_index_or, true};
 ghost use Rattle.lrc_trace.specs.declared.act.Act.{Act};
 ghost use Rattle.lrc_trace.specs.declared.act.Deed.TheVariants.{Acquire, Read};
 ghost use Rattle.lrc_trace.specs.Run.{act_of};
 ghost use Rattle.lrc_trace.specs.Reading.{MayRead};
 ghost use Rattle.lrc_known.specs.declared.known.Knowledge.{Knowledge};
-ghost use Rattle.lrc_known.specs.Word.{Gives};
+ghost use Rattle.lrc_known.specs.contracts.known.KnowledgePartialEq.TheImpl.{eq-value};
+ghost use Rattle.lrc_known.specs.Word.{Gives, IsSame};
 ghost use Rattle.lrc_known.specs.Effect.{effect_of, word_of, AreCounts, AreOf, IsKnowledgeAfter, IsKnowledgeOf, IsKnowledgeWithout};
+ghost use Rattle.lrc_known.specs.Tidy.{IsRising, IsTidy};
 
 /// Before the first act nothing is known.
 pub fn at_first_nothing_is_known()
@@ -36,11 +38,25 @@ pub fn barriers_that_are_gone_can_be_dropped()
         → IsKnowledgeOf nodes locks (gone + count) run new }
 {}
 
-/// A read may give exactly the values that are stored for its node.
+/// What a read may give is told by what is kept for its node: 0 if no write is known, the value of the last one if they
+/// are ordered, and else 0 or any of the values.
 pub fn a_read_may_give_what_is_kept()
     ensures { (nodes locks gone : ℕ) (run : List Act) (node word value : ℕ)
         (knowledge : Knowledge) → AreOf nodes locks run → node < nodes
         → IsKnowledgeOf nodes locks gone run knowledge
         → (MayRead (run ++ act_of node (Read word value) ∷ []) (length run) word value
         ↔ Gives (word_of knowledge word) node value) }
+{}
+
+/// What is kept is written in one way: two that are tidy and say the same of every word compare equal.
+pub fn knowledge_is_kept_in_one_way()
+    ensures { (one other : Knowledge) → IsTidy one → IsTidy other
+        → ((word : ℕ) → IsSame (word_of one word) (word_of other word))
+        → eq-value.it one other ≡ true }
+{}
+
+/// Of values that rise each is less than all behind it, so none comes twice.
+pub fn values_that_rise_come_once()
+    ensures { (values : List ℕ) (i k d : ℕ) → IsRising values → i < k → k < length values
+        → slice_index_or values i d < slice_index_or values k d }
 {}

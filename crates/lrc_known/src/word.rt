@@ -1,9 +1,12 @@
 // What is kept of the writes of one word that are known, and how an act changes it.
 
-ghost use Rattle.std.specs.Prelude.{◌≡◌, ◌≤◌, ◌<◌, ◌⊎◌, ◌↔◌, ◌^◌, ◌-◌, ℕ, IfOk, OnOk, Contains, length, slice_index_or, false, true};
+ghost use Rattle.std.specs.Prelude.{◌≡◌, ◌≢◌, ◌≤◌, ◌<◌, ◌⊎◌, ◌↔◌, ◌^◌, ◌+◌, ◌-◌, ℕ, IfOk, OnOk, Contains, Some, [], length, max, slice_get, slice_index_or, false, true};
 ghost use Rattle.lrc_known.specs.Word.{above_by, above_learned, above_then, above_written, is_above, is_ordered, last_by, last_of, last_then, number_before, row_of, source_by, source_of, values_of, IsLearned, IsSame, IsWithout, IsWritten};
 ghost use Rattle.lrc_known.specs.Made.{last_learned, last_written, values_taught, IsCopyOf, IsKnownWithout, IsLearnedBy, IsNothing, IsWrittenBy, KnowsNothing};
+ghost use Rattle.lrc_known.specs.declared.known.Known.{Known as KnownType};
+ghost use Rattle.lrc_known.specs.declared.word.Effect.TheVariants.{Writes};
 ghost use Rattle.lrc_known.specs.Effect.{IsAfter, IsSmall};
+ghost use Rattle.lrc_known.specs.Tidy.{EndsIn, IsCut, IsRising, IsSomething, IsTidyKnown, IsTidyWord, IsWrittenAs};
 
 use crate::known::{Known, Last};
 use std::alloc::{AllocError, Global};
@@ -176,8 +179,9 @@ fn row_learned(
     knower: usize,
 ) -> Result<Vec<bool>, AllocError>
     requires { learner < 2 ^ 64 - 1 }
-    ensures { IfOk result (λ row. (z : ℕ)
+    ensures above { IfOk result (λ row. (z : ℕ)
         → slice_index_or row.items z false ≡ above_learned word.now learner teacher knower z) }
+    ensures ends { IfOk result (λ row. EndsIn (λ b. b ≡ true) row.items) }
 {
     let own = row_of(word, knower);
     let taught = row_of(word, teacher);
@@ -186,6 +190,7 @@ fn row_learned(
     for other in 0..width {
         row.push(is_above_learned(word, learner, teacher, knower, other))?;
     }
+    cut_row(&mut row);
     Ok(row)
 }
 
@@ -198,7 +203,8 @@ fn learned_by(
     knower: usize,
 ) -> Result<Known, AllocError>
     requires { learner < 2 ^ 64 - 1 }
-    ensures { IfOk result (IsLearnedBy word.now learner teacher knower) }
+    ensures learned { IfOk result (IsLearnedBy word.now learner teacher knower) }
+    ensures tidy { IfOk result (λ known. IsTidyWord word.now → IsTidyKnown known) }
 {
     let last = last_learned(word, learner, teacher, knower);
     let own = values_of(word, knower);
@@ -220,13 +226,15 @@ fn learned(
     teacher: usize,
 ) -> Result<Vec<Known>, AllocError>
     requires { learner < 2 ^ 64 - 1 }
-    ensures { IfOk result (λ after. IsLearned word.now learner teacher after.items) }
+    ensures learned { IfOk result (λ after. IsLearned word.now learner teacher after.items) }
+    ensures tidy { IfOk result (λ after. IsTidyWord word.now → IsTidyWord after.items) }
 {
     let count = past(word.len(), learner);
     let mut after = Vec::new(alloc);
     for knower in 0..count {
         after.push(learned_by(alloc, word, learner, teacher, knower)?)?;
     }
+    cut_word(&mut after);
     Ok(after)
 }
 
@@ -259,9 +267,11 @@ fn values_written(
     value: u64,
     knower: usize,
 ) -> Result<Vec<u64>, AllocError>
-    ensures { IfOk result (λ all. (v : ℕ)
+    ensures values { IfOk result (λ all. (v : ℕ)
         → (Contains all.items v ↔
         (Contains (values_of word.now knower) v ⊎ ((knower ≡ writer) × (v ≡ value))))) }
+    ensures rising { IfOk result (λ all. IsRising (values_of word.now knower)
+        → IsRising all.items) }
 {
     if knower == writer {
         values_with(alloc, values_of(word, knower), value)
@@ -299,8 +309,9 @@ fn row_written(
     knower: usize,
 ) -> Result<Vec<bool>, AllocError>
     requires { writer < 2 ^ 64 - 1 }
-    ensures { IfOk result (λ row. (z : ℕ)
+    ensures above { IfOk result (λ row. (z : ℕ)
         → slice_index_or row.items z false ≡ above_written word.now writer knower z) }
+    ensures ends { IfOk result (λ row. EndsIn (λ b. b ≡ true) row.items) }
 {
     let own = row_of(word, knower);
     let width = past(own.len(), writer);
@@ -308,6 +319,7 @@ fn row_written(
     for other in 0..width {
         row.push(is_above_written(word, writer, knower, other))?;
     }
+    cut_row(&mut row);
     Ok(row)
 }
 
@@ -320,7 +332,8 @@ fn written_by(
     knower: usize,
 ) -> Result<Known, AllocError>
     requires { writer < 2 ^ 64 - 1 }
-    ensures { IfOk result (IsWrittenBy word.now writer value knower) }
+    ensures written { IfOk result (IsWrittenBy word.now writer value knower) }
+    ensures tidy { IfOk result (λ known. IsTidyWord word.now → IsTidyKnown known) }
 {
     let last = last_written(word, writer, value, knower);
     let values = values_written(alloc, word, writer, value, knower)?;
@@ -340,19 +353,22 @@ fn written(
     value: u64,
 ) -> Result<Vec<Known>, AllocError>
     requires { writer < 2 ^ 64 - 1 }
-    ensures { IfOk result (λ after. IsWritten word.now writer value after.items) }
+    ensures written { IfOk result (λ after. IsWritten word.now writer value after.items) }
+    ensures tidy { IfOk result (λ after. IsTidyWord word.now → IsTidyWord after.items) }
 {
     let count = past(word.len(), writer);
     let mut after = Vec::new(alloc);
     for knower in 0..count {
         after.push(written_by(alloc, word, writer, value, knower)?)?;
     }
+    cut_word(&mut after);
     Ok(after)
 }
 
 // The same as one knows.
 fn copy_of(alloc: Global, word: &[Known], knower: usize) -> Result<Known, AllocError>
-    ensures { IfOk result (IsCopyOf word.now knower) }
+    ensures same { IfOk result (IsCopyOf word.now knower) }
+    ensures written { IfOk result (IsWrittenAs word.now knower) }
 {
     Ok(Known {
         last: last_of(word, knower),
@@ -363,7 +379,8 @@ fn copy_of(alloc: Global, word: &[Known], knower: usize) -> Result<Known, AllocE
 
 // The same.
 fn same(alloc: Global, word: &[Known]) -> Result<Vec<Known>, AllocError>
-    ensures { IfOk result (λ after. IsSame word.now after.items) }
+    ensures same { IfOk result (λ after. IsSame word.now after.items) }
+    ensures tidy { IfOk result (λ after. IsTidyWord word.now → IsTidyWord after.items) }
 {
     let mut after = Vec::new(alloc);
     for knower in 0..word.len() {
@@ -381,7 +398,10 @@ pub fn word_after(
     number: usize,
 ) -> Result<Vec<Known>, AllocError>
     requires { IsSmall effect }
-    ensures { IfOk result (λ after. IsAfter effect number word.now after.items) }
+    ensures after { IfOk result (λ after. IsAfter effect number word.now after.items) }
+    ensures tidy { IfOk result (λ after. IsTidyWord word.now → IsTidyWord after.items) }
+    ensures written { (writer value : ℕ) → effect ≡ Writes writer number value
+        → IfOk result (λ after. after.items ≢ []) }
 {
     match effect {
         Effect::Passes => same(alloc, word),
@@ -427,7 +447,9 @@ fn number_before(first: usize, dropped: usize, knower: usize) -> usize
 
 // How long a row is up to the last one whose last write is known.
 fn width_of(row: &[bool]) -> usize
-    ensures { (z : ℕ) → result ≤ z → slice_index_or row.now z false ≡ false }
+    ensures blank { (z : ℕ) → result ≤ z → slice_index_or row.now z false ≡ false }
+    ensures within { result ≤ length row.now }
+    ensures known { (k : ℕ) → result ≡ k + 1 → slice_index_or row.now k false ≡ true }
 {
     let mut width = row.len();
     while width > 0 {
@@ -439,9 +461,20 @@ fn width_of(row: &[bool]) -> usize
     0
 }
 
+// Cuts off the end of a row, behind the last one whose last write is known.
+fn cut_row(row: &mut Vec<bool>)
+    ensures same { (z : ℕ)
+        → slice_index_or row.new.items z false ≡ slice_index_or row.old.items z false }
+    ensures ends { EndsIn (λ b. b ≡ true) row.new.items }
+{
+    let width = width_of(row.as_slice());
+    row.truncate(width);
+}
+
 // Whether one knows nothing.
 fn knows_nothing(known: &Known) -> bool
-    ensures { result ≡ true → IsNothing known.now }
+    ensures nothing { result ≡ true → IsNothing known.now }
+    ensures something { IsNothing known.now → result ≡ true }
 {
     match known.last {
         Last::Nothing => known.values.is_empty() && known.above.is_empty(),
@@ -451,7 +484,10 @@ fn knows_nothing(known: &Known) -> bool
 
 // How many there are up to the last one who knows something.
 fn count_who_know(word: &[Known]) -> usize
-    ensures { (k : ℕ) → result ≤ k → KnowsNothing word.now k }
+    ensures blank { (k : ℕ) → result ≤ k → KnowsNothing word.now k }
+    ensures within { result ≤ length word.now }
+    ensures known { (k : ℕ) (known : KnownType) → result ≡ k + 1
+        → slice_get word.now k ≡ Some known → IsSomething known }
 {
     let mut count = word.len();
     while count > 0 {
@@ -463,6 +499,14 @@ fn count_who_know(word: &[Known]) -> usize
     0
 }
 
+// Cuts off the end of those who know, behind the last one who knows something.
+fn cut_word(word: &mut Vec<Known>)
+    ensures { IsCut word.old.items word.new.items }
+{
+    let count = count_who_know(word.as_slice());
+    word.truncate(count);
+}
+
 // Whose last writes one knows, of those who are left.
 fn row_without(
     alloc: Global,
@@ -470,16 +514,16 @@ fn row_without(
     first: usize,
     dropped: usize,
 ) -> Result<Vec<bool>, AllocError>
-    ensures { IfOk result (λ left. (z : ℕ) → slice_index_or left.items z false
+    ensures above { IfOk result (λ left. (z : ℕ) → slice_index_or left.items z false
         ≡ slice_index_or row.now (number_before first dropped z) false) }
+    ensures ends { IfOk result (λ left. EndsIn (λ b. b ≡ true) left.items) }
 {
     let width = count_without(row.len(), first, dropped);
     let mut left = Vec::new(alloc);
     for other in 0..width {
         left.push(row[number_before(first, dropped, other)])?;
     }
-    let known = width_of(&left);
-    left.truncate(known);
+    cut_row(&mut left);
     Ok(left)
 }
 
@@ -492,7 +536,8 @@ fn known_without(
     knower: usize,
 ) -> Result<Known, AllocError>
     requires { number_before first dropped knower < 2 ^ 64 }
-    ensures { IfOk result (IsKnownWithout word.now first dropped knower) }
+    ensures left { IfOk result (IsKnownWithout word.now first dropped knower) }
+    ensures tidy { IfOk result (λ known. IsTidyWord word.now → IsTidyKnown known) }
 {
     let before = number_before(first, dropped, knower);
     Ok(Known {
@@ -510,22 +555,23 @@ pub fn word_without(
     first: usize,
     dropped: usize,
 ) -> Result<Vec<Known>, AllocError>
-    ensures { IfOk result (λ left. IsWithout first dropped word.now left.items) }
+    ensures left { IfOk result (λ left. IsWithout first dropped word.now left.items) }
+    ensures tidy { IfOk result (λ after. IsTidyWord word.now → IsTidyWord after.items) }
 {
     let count = count_without(word.len(), first, dropped);
     let mut left = Vec::new(alloc);
     for knower in 0..count {
         left.push(known_without(alloc, word, first, dropped, knower)?)?;
     }
-    let known = count_who_know(&left);
-    left.truncate(known);
+    cut_word(&mut left);
     Ok(left)
 }
 
 // The values of both.
 fn joined(alloc: Global, own: &[u64], more: &[u64]) -> Result<Vec<u64>, AllocError>
-    ensures { IfOk result (λ all. (v : ℕ)
+    ensures values { IfOk result (λ all. (v : ℕ)
         → (Contains all.items v ↔ (Contains own.now v ⊎ Contains more.now v))) }
+    ensures rising { IfOk result (λ all. IsRising own.now → IsRising all.items) }
 {
     let mut all = copied(alloc, own)?;
     for place in 0..more.len() {
@@ -534,10 +580,12 @@ fn joined(alloc: Global, own: &[u64], more: &[u64]) -> Result<Vec<u64>, AllocErr
     Ok(all)
 }
 
-/// Returns a list of exactly these values and one more. It fails if memory runs out.
+/// Returns a list of exactly these values and this one. Where the values rise, so does the list: no value is there twice.
+/// It fails if memory runs out.
 pub fn values_with(alloc: Global, values: &[u64], value: u64) -> Result<Vec<u64>, AllocError>
-    ensures { IfOk result (λ all. (v : ℕ)
+    ensures values { IfOk result (λ all. (v : ℕ)
         → (Contains all.items v ↔ (Contains values.now v ⊎ (v ≡ value)))) }
+    ensures rising { IfOk result (λ all. IsRising values.now → IsRising all.items) }
 {
     let mut all = copied(alloc, values)?;
     with_value(&mut all, value)?;
@@ -546,8 +594,9 @@ pub fn values_with(alloc: Global, values: &[u64], value: u64) -> Result<Vec<u64>
 
 // Puts a value before the first that is greater, if it is not there.
 fn with_value(values: &mut Vec<u64>, value: u64) -> Result<(), AllocError>
-    ensures { OnOk result ((v : ℕ) → (Contains values.new.items v
+    ensures values { OnOk result ((v : ℕ) → (Contains values.new.items v
         ↔ (Contains values.old.items v ⊎ (v ≡ value)))) }
+    ensures rising { OnOk result (IsRising values.old.items → IsRising values.new.items) }
 {
     for place in 0..values.len() {
         if values[place] == value {
@@ -579,11 +628,12 @@ fn wider(one: usize, other: usize) -> usize
     if one < other { other } else { one }
 }
 
-/// Returns a count that is at least `count` and greater than `number`.
+/// Returns the least count that is at least `count` and greater than `number`.
 pub fn past(count: usize, number: usize) -> usize
     requires { number < 2 ^ 64 - 1 }
     ensures count { count ≤ result }
     ensures number { number < result }
+    ensures least { result ≡ max count (number + 1) }
 {
     if number < count { count } else { number + 1 }
 }

@@ -1,8 +1,7 @@
-use Rattle.std.proofs.Common.{◌≡◌, ◌∙◌, ap, sym, arith, false}
+use Rattle.std.proofs.Common.{◌≡◌, ◌∙◌, ap, arith, false}
 use Rattle.std.specs.Prelude.{slice_index_or}
 use Rattle.std.proofs.lemmas.List.{get_or_past}
 use Rattle.lrc_known.specs.Word.{number_before}
-use Rattle.lrc_known.proofs.Cutting.{row_cut}
 use Rattle.lrc_known.proofs.Made.{each_push, row_is}
 use Rattle.lrc_known.proofs.word.row_without.Goals as goal
 
@@ -14,13 +13,11 @@ loop-other-preserved c =
     c.loop-other.other _ c.in_ok-push.ensures.items c.loop-other.invariant
     (ap (λ n. slice_index_or row n false) c.number_before.ensures)
 
-pub returns : goal.returns
-returns c =
+pub returns-clause-above : goal.returns-clause-above
+returns-clause-above c =
     let row = c.args.row.now in
-    let left = c.loop-other.left.items in
     λ z.
-    ap (λ l. slice_index_or l z false) c.truncate.ensures.items
-    ∙ row_cut left c.width_of-known.result (λ k le. ap (λ l. slice_index_or l k false) (sym c.deref.ensures.value) ∙ c.width_of-known.ensures k le) z
-    ∙ row_is (λ z. slice_index_or row (number_before c.args.first c.args.dropped z) false) left c.loop-other.other c.loop-other.invariant
+    c.cut_row.ensures.same z
+    ∙ row_is (λ z. slice_index_or row (number_before c.args.first c.args.dropped z) false) c.loop-other.left.items c.loop-other.other c.loop-other.invariant
     (λ z le. get_or_past row (number_before c.args.first c.args.dropped z) false
     (c.count_without-width.ensures.past z (omega (arith, le, c.loop-other-test.false, c.loop-other.auto.other-end)))) z
