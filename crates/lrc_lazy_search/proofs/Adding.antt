@@ -32,7 +32,6 @@ use Rattle.lrc_lazy_search.specs.Searching.{HasNexts, HasEnough, by_one, by_all,
 use Rattle.lrc_lazy_search.specs.Task.{IsTask, IsInOrder}
 use Rattle.lrc_lazy_machine.proofs.Beginning.{stands_first, first_notes}
 use Rattle.lrc_lazy_search.proofs.Ahead.{arrivals_still, fresh_counts}
-use Rattle.lrc_lazy_search.proofs.Neat.{first_left, first_neat}
 use Rattle.lrc_lazy_machine.proofs.Renewing.{stands_renewed}
 use Rattle.lrc_lazy_machine.proofs.Stepping.{stands_on}
 
@@ -145,8 +144,9 @@ none_arrived count node = elim (cases_lt node count) [
 ]
 
 pub first_reached : (task : Task) (key : LazyState) → IsTask task → IsFirst task.flat task.start key.state → IsStateOf task.flat key.state
-    → ((word : ℕ) → word_of key.knowledge word ≡ []) → key.notes.items ≡ [] → IsReached task.program.now task.flat key 0
-first_reached task key is first valid nothing none =
+    → ((word : ℕ) → word_of key.knowledge word ≡ []) → key.notes.items ≡ [] → IsNeat task.flat key → CountsNoneGone task.flat key
+    → IsReached task.program.now task.flat key 0
+first_reached task key is first valid nothing none neat left =
     let machine = first.begun ∙ is.begun in
     record {
       acts = [];
@@ -158,8 +158,8 @@ first_reached task key is first valid nothing none =
           let few = none_arrived task.flat.nodes node in
           let same = ap (λ (m : Plain). slice_index m.arrivals node) machine in
           omega (arith, few, same);
-      neat = first_neat task.flat task.start key first;
-      left = first_left task.flat task.start key first is.some;
+      neat = neat;
+      left = left;
     }
 
 pub key_on : {old new : List LazyState} {key : LazyState} → Grows old new → HasKey old key → HasKey new key
@@ -177,10 +177,10 @@ first_room task key first n =
 -- the first state, or one ahead of it, put to none
 pub first_in_order : (task : Task) (old new : List LazyState) (key ahead : LazyState) (b : Bool) → IsTask task → old ≡ []
     → new ≡ (if b then old else old ++ ahead ∷ []) → IsFirst task.flat task.start key.state → IsStateOf task.flat key.state
-    → ((word : ℕ) → word_of key.knowledge word ≡ []) → key.notes.items ≡ [] → IsAhead task.flat key ahead
-    → IsNeat task.flat ahead → CountsNoneGone task.flat ahead → HasKey new ahead → IsDistinct eq-value.it new → IsInOrder task new
-first_in_order task old new key ahead b is none put first valid nothing notes goes neat left has distinct =
-    let start = first_reached task key is first valid nothing notes in
+    → ((word : ℕ) → word_of key.knowledge word ≡ []) → key.notes.items ≡ [] → IsNeat task.flat key → CountsNoneGone task.flat key
+    → IsAhead task.flat key ahead → IsNeat task.flat ahead → CountsNoneGone task.flat ahead → HasKey new ahead → IsDistinct eq-value.it new → IsInOrder task new
+first_in_order task old new key ahead b is none put first valid nothing notes whole counts goes neat left has distinct =
+    let start = first_reached task key is first valid nothing notes whole counts in
     let reached = reached_ahead task.program.now task.flat is.words is.locks key ahead 0 start goes neat left in
     let machine = first.begun ∙ is.begun in
     record {

@@ -5,3 +5,4 @@ pub mod Adding
 pub mod Ahead
 pub mod Fresh
 pub mod Neat
+pub mod Learned

@@ -12,6 +12,7 @@ use Rattle.lrc_exec.specs.States.{plain_at, IsFirst, IsStateOf}
 use Rattle.lrc_explore.proofs.Effects.{memory_after}
 use Rattle.lrc_explore.proofs.Gathering.{put_all}
 use Rattle.lrc_settled.proofs.Parts.{stepped}
+use Rattle.lrc_known.specs.Tidy.{IsTidy}
 use Rattle.lrc_lazy_machine.specs.Standing.{departures_of, is_waiting}
 use Rattle.lrc_lazy_search.specs.declared.state.LazyState.{LazyState}
 use Rattle.lrc_lazy_search.specs.Searching.{poked, blanked, AreNeat, CountNoneGone, CountsNoneGone, IsBlank, IsNeat}
@@ -38,8 +39,8 @@ blank_after flat before mid made after node d poke make blank zeros =
     ∙ ap (blanked d) (ap (λ (m : Plain). m.memory) s.took.is ∙ ap (memory_after d) (poke ∙ ap (poked d) zeros))
     ∙ zeros_stay d flat.words
 
-pub first_neat : (flat : Flat) (place : ℕ) (key : LazyState) → IsFirst flat place key.state → IsNeat flat key
-first_neat flat place key first = record { blank = ap (λ (m : Plain). m.memory) first.begun }
+pub first_neat : (flat : Flat) (place : ℕ) (key : LazyState) → IsFirst flat place key.state → IsTidy key.knowledge → IsNeat flat key
+first_neat flat place key first tidy = record { blank = ap (λ (m : Plain). m.memory) first.begun; tidy = tidy }
 
 -- ---- barriers that are gone
 

@@ -16,6 +16,7 @@ use Rattle.lrc_explore.specs.Outcome.{HasOutcome}
 use Rattle.lrc_exec.specs.States.{plain_at, IsStateOf}
 use Rattle.lrc_lazy.specs.Lazy.{IsLazyOutcome}
 use Rattle.lrc_known.specs.Effect.{IsKnowledgeAfter}
+use Rattle.lrc_known.specs.Tidy.{IsTidy}
 use Rattle.lrc_swapped.specs.Swapped.{IsNoAcquire}
 use Rattle.lrc_lazy_search.specs.declared.state.LazyState.{LazyState}
 use Rattle.lrc_lazy_search.specs.contracts.state.LazyStatePartialEq.TheImpl.{eq-value}
@@ -27,9 +28,10 @@ use Rattle.lrc_lazy_machine.specs.Standing.{with_memory, departures_of, IsRenewe
 abbrev pub IsBlank : Flat → State → Type 0
 IsBlank flat state = state.memory.items ≡ replicate flat.words 0
 
--- what no field of a state can say twice is written in one way: its words are all 0
+-- its words are all 0, since what is known says what a read gives, and what is known is written in one way alone
 pub record IsNeat (flat : Flat) (key : LazyState) : Type 0 where
   pub blank : IsBlank flat key.state
+  pub tidy : IsTidy key.knowledge
 
 abbrev pub AreNeat : Flat → List LazyState → Type 0
 AreNeat flat keys = (k : ℕ) (key : LazyState) → slice_get keys k ≡ Some key → IsNeat flat key
@@ -43,6 +45,10 @@ pub record CountsNoneGone (flat : Flat) (key : LazyState) : Type 0 where
 
 abbrev pub CountNoneGone : Flat → List LazyState → Type 0
 CountNoneGone flat keys = (k : ℕ) (key : LazyState) → slice_get keys k ≡ Some key → CountsNoneGone flat key
+
+-- no deed stands twice among these
+abbrev pub AreOnce : List Deed → Type 0
+AreOnce deeds = (j k : ℕ) (deed : Deed) → slice_get deeds j ≡ Some deed → slice_get deeds k ≡ Some deed → j ≡ k
 
 -- ---- steps
 
@@ -204,7 +210,7 @@ pub record IsBegun (program : Program) (flat : Flat) (keys : List LazyState) : T
   pub has : HasKey keys ahead
 
 -- A search of the program's code met more states than a bound, no two of them equal, to each of which some lazy run leads. Each is written in
--- the one way, so no two of them say the same.
+-- the one way, so two of them differ in where a node stands in the code, in who holds what, in what is known, or in what was noted.
 pub record MeetsMore (program : Program) (nodes most : ℕ) : Type 0 where
   pub flat : Flat
   pub count : flat.nodes ≡ nodes

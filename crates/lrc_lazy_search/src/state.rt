@@ -1,9 +1,10 @@
 // States of the machine that makes lazy runs.
 
-ghost use Rattle.std.specs.Prelude.{◌≡◌, ◌<◌, ◌^◌, ◌*◌, ◌-◌, ℕ, IfOk, OnOk, length, map};
+ghost use Rattle.std.specs.Prelude.{◌≡◌, ◌<◌, ◌^◌, ◌*◌, ◌+◌, ◌-◌, ℕ, IfOk, OnOk, length, map, max};
 ghost use Rattle.lrc_trace.specs.declared.act.Deed.TheVariants.{Read};
 ghost use Rattle.lrc_known.specs.declared.word.Effect.TheVariants.{Writes};
 ghost use Rattle.lrc_known.specs.Effect.{IsKnowledgeAfter, IsSmall, word_of};
+ghost use Rattle.lrc_known.specs.Tidy.{IsTidy};
 ghost use Rattle.lrc_lazy_search.specs.Fit.{effect_of_flat};
 
 use lrc_exec::spot::Flat;
@@ -18,8 +19,8 @@ use std::alloc::{AllocError, Global};
 const LONGEST: usize = 64;
 
 /// A state of the search: where the nodes are, what they know of the writes, and what was noted on the way. The words
-/// of the state are all 0: what a node knows says what a read gives. It counts no barriers that all nodes had left when
-/// it was renewed.
+/// of the state are all 0: what a node knows says what a read gives. What they know is written in one way alone. It
+/// counts no barriers that all nodes had left when it was renewed.
 #[derive(PartialEq, Eq, Hash, Drop)]
 pub struct LazyState {
     pub state: State,
@@ -34,9 +35,10 @@ impl LazyState {
     ghost use Rattle.lrc_exec.specs.Spots.{IsFlat};
     ghost use Rattle.lrc_exec.specs.States.{IsFirst, plain_at, IsStateOf};
     ghost use Rattle.lrc_known.specs.Effect.{word_of, IsKnowledgeAfter};
+    ghost use Rattle.lrc_known.specs.Tidy.{IsTidy};
     ghost use Rattle.lrc_lazy_machine.specs.Standing.{with_memory, departures_of, CanMake};
     ghost use Rattle.lrc_lazy_search.specs.Fit.{IsFit};
-    ghost use Rattle.lrc_lazy_search.specs.Searching.{blanked, HasAll, AreNeat, AreNext, AreEnough, CountNoneGone, CountsNoneGone, IsAhead, IsBlank, IsFirstInFront, IsForced, IsFresh, IsInFront, IsNeat, Makes, Steps, IsPoked};
+    ghost use Rattle.lrc_lazy_search.specs.Searching.{blanked, HasAll, AreEnough, AreNeat, AreNext, AreOnce, CountNoneGone, CountsNoneGone, IsAhead, IsBlank, IsFirstInFront, IsForced, IsFresh, IsInFront, IsNeat, Makes, Steps, IsPoked};
 
     /// Returns the beginning of a program whose text begins at this place of the code.
     pub fn start(alloc: Global, flat: &Flat, place: usize) -> Result<LazyState, AllocError>
@@ -66,6 +68,7 @@ impl LazyState {
         ensures all { IfOk result (λ deeds. (deed : DeedType)
             → CanMake flat.now.words (plain_at flat.now self.now.state) self.now.knowledge node deed
             → (k : ℕ) × (slice_get deeds.items k ≡ Some deed)) }
+        ensures once { IfOk result (λ deeds. IsNeat flat.now self.now → AreOnce deeds.items) }
     {
         let Some(deed) = self.state.next_deed(flat, node) else {
             return Ok(Vec::new(alloc));
@@ -248,6 +251,7 @@ impl LazyState {
         requires { IsSmall effect }
         ensures known { OnOk result (IsKnowledgeAfter effect self.old.knowledge
             self.new.knowledge) }
+        ensures tidy { OnOk result (IsTidy self.old.knowledge → IsTidy self.new.knowledge) }
         ensures state { self.new.state ≡ self.old.state }
         ensures notes { self.new.notes ≡ self.old.notes }
     {
@@ -520,6 +524,8 @@ fn effect_of(flat: &Flat, arrived: u64, node: usize, deed: Deed) -> Effect
 // Has something kept of a word, be it nothing.
 fn make_room(alloc: Global, knowledge: &mut Knowledge, word: usize) -> Result<(), AllocError>
     ensures room { OnOk result (word < length knowledge.new.words.items) }
+    ensures size { OnOk result (length knowledge.new.words.items
+        ≡ max (length knowledge.old.words.items) (word + 1)) }
     ensures same { OnOk result ((w : ℕ) → word_of knowledge.new w ≡ word_of knowledge.old w) }
 {
     while knowledge.words.len() <= word {
@@ -539,8 +545,9 @@ fn learn_write(
     value: u64,
 ) -> Result<(), AllocError>
     requires { IsSmall (Writes writer word value) }
-    ensures { OnOk result (IsKnowledgeAfter
+    ensures known { OnOk result (IsKnowledgeAfter
         (Writes writer word value) knowledge.old knowledge.new) }
+    ensures tidy { OnOk result (IsTidy knowledge.old → IsTidy knowledge.new) }
 {
     make_room(alloc, knowledge, word)?;
     let effect = Effect::Writes(writer, word, value);

@@ -7,6 +7,7 @@ use Rattle.lrc_explore.specs.Notes.{notes_with}
 use Rattle.lrc_explore.proofs.Faults.{ok_says}
 use Rattle.lrc_known.specs.declared.known.Knowledge.{Knowledge}
 use Rattle.lrc_known.specs.Effect.{IsKnowledgeAfter}
+use Rattle.lrc_known.specs.Tidy.{IsTidy}
 use Rattle.lrc_lazy_search.specs.Fit.{effect_of_flat}
 use Rattle.lrc_lazy_search.specs.Searching.{IsBlank, Makes}
 use Rattle.lrc_lazy_search.proofs.state.LazyState.make.Goals as goal
@@ -39,5 +40,8 @@ returns-clause-neat c =
     let flat = c.args.flat.now in
     let moved = c.move_on.ensures in
     ok_says c.note.result
-    (λ noted neat. record { blank = subst (λ (s : State). IsBlank flat s) (sym c.in_ok-learn.ensures.state) (moved.blank neat.blank) })
+    (λ noted neat. record {
+      blank = subst (λ (s : State). IsBlank flat s) (sym c.in_ok-learn.ensures.state) (moved.blank neat.blank);
+      tidy = c.in_ok-learn.ensures.tidy (subst IsTidy (sym moved.knowledge) neat.tidy);
+    })
     c.note.ensures

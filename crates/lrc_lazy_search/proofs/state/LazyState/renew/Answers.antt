@@ -29,7 +29,7 @@ returns-clause-fresh c =
     } in
     let gone = c.gone-gone.result in
     fresh_after c.args.flat.now old after gone c.requires c.gone-gone.ensures.most refl refl refl
-    (c.in_ok-self.ensures ∙ ap (λ (xs : List ℕ). map (λ count. count - gone) xs) c.deref.ensures.value) c.in_ok-self-2.ensures refl
+    (c.in_ok-self.ensures ∙ ap (λ (xs : List ℕ). map (λ count. count - gone) xs) c.deref.ensures.value) c.in_ok-self-2.ensures.left refl
 
 pub returns-clause-left : goal.returns-clause-left
 returns-clause-left c = λ some.
@@ -48,3 +48,6 @@ returns-clause-left c = λ some.
     let found = c.gone-gone.ensures.least some in
     none_left c.args.flat.now old after gone found.0 c.requires found.1 found.2
     (c.in_ok-self.ensures ∙ ap (λ (xs : List ℕ). map (λ count. count - gone) xs) c.deref.ensures.value) refl
+
+pub returns-clause-neat : goal.returns-clause-neat
+returns-clause-neat c = λ neat. record { blank = neat.blank; tidy = c.in_ok-self-2.ensures.tidy neat.tidy }
