@@ -19,7 +19,7 @@ use Rattle.lrc_explore.proofs.Keeping.{item_at, stands_on as stays}
 use Rattle.lrc_lazy_machine.specs.Standing.{CanMake}
 use Rattle.lrc_lazy_search.specs.declared.state.LazyState.{LazyState}
 use Rattle.lrc_lazy_search.specs.contracts.state.LazyStatePartialEq.TheImpl.{eq-value}
-use Rattle.lrc_lazy_search.specs.Searching.{IsReached, MeetsMore}
+use Rattle.lrc_lazy_search.specs.Searching.{CountsNoneGone, IsNeat, IsReached, MeetsMore}
 use Rattle.lrc_lazy_search.proofs.Adding.{key_on}
 use Rattle.lrc_lazy_search.proofs.Making.{can_below}
 use Rattle.lrc_lazy_search.proofs.Searched.{reached_fit}
@@ -84,11 +84,16 @@ kept_more sought old new origins more settled key origin is origins_are distinct
     }
 
 -- a search met more states than it might
-pub meets_more : (sought : Sought) (keys : List LazyState) (origins : List Origin) (settled : List ℕ) → AreKeptIn sought keys origins settled → sought.most < length keys
+pub meets_more : (sought : Sought) (keys : List LazyState) (origins : List Origin) (settled : List ℕ) → IsSought sought → AreKeptIn sought keys origins settled
+    → sought.most < length keys
     → MeetsMore sought.program.now sought.flat.nodes sought.most
-meets_more sought keys origins settled kept many = record {
+meets_more sought keys origins settled is kept many = record {
   flat = sought.flat;
   count = refl;
+  place = sought.start;
+  code = is.code;
+  words = is.words;
+  locks = is.locks;
   keys = keys;
   many = many;
   distinct = kept.distinct;
@@ -117,8 +122,9 @@ none_arrived count node = elim (cases_lt node count) [
 
 -- no acts lead to it
 pub reached_first : (sought : Sought) (key : LazyState) → IsSought sought → IsFirst sought.flat sought.start key.state → IsStateOf sought.flat key.state
-    → ((word : ℕ) → word_of key.knowledge word ≡ []) → key.notes.items ≡ [] → IsReached sought.program.now sought.flat key 0
-reached_first sought key is first valid nothing none =
+    → ((word : ℕ) → word_of key.knowledge word ≡ []) → key.notes.items ≡ [] → IsNeat sought.flat key → CountsNoneGone sought.flat key
+    → IsReached sought.program.now sought.flat key 0
+reached_first sought key is first valid nothing none neat left =
     let led = leads_first sought key is first nothing none in
     record {
       acts = [];
@@ -129,16 +135,19 @@ reached_first sought key is first valid nothing none =
           let few = none_arrived sought.flat.nodes node in
           let same = ap (λ (m : Plain). slice_index m.arrivals node) (first.begun ∙ is.begun) in
           omega (arith, few, same);
+      neat = neat;
+      left = left;
     }
 
 pub begun_alone : (sought : Sought) (keys : List LazyState) (origins : List Origin) (settled : List ℕ) (key : LazyState) (origin : Origin) → IsSought sought
     → keys ≡ key ∷ [] → origins ≡ origin ∷ [] → settled ≡ [] → IsFirst sought.flat sought.start key.state → IsStateOf sought.flat key.state
-    → ((word : ℕ) → word_of key.knowledge word ≡ []) → key.notes.items ≡ [] → IsDistinct eq-value.it keys → AreKeptIn sought keys origins settled
-begun_alone sought keys origins settled key origin is one one_origin none_settled first valid nothing none distinct =
+    → ((word : ℕ) → word_of key.knowledge word ≡ []) → key.notes.items ≡ [] → IsNeat sought.flat key → CountsNoneGone sought.flat key → IsDistinct eq-value.it keys
+    → AreKeptIn sought keys origins settled
+begun_alone sought keys origins settled key origin is one one_origin none_settled first valid nothing none neat left distinct =
     let long = ap (λ (l : List LazyState). length l) one in
     record {
       reached = put_all (λ k x. IsReached sought.program.now sought.flat x k) false [] keys key one (λ k x at. cc)
-          (reached_first sought key is first valid nothing none);
+          (reached_first sought key is first valid nothing none neat left);
       distinct = distinct;
       begun = record { first = key; there = ap (λ l. slice_get l 0) one; led = leads_first sought key is first nothing none };
       count = ap (λ (l : List Origin). length l) one_origin ∙ sym long;

@@ -5,6 +5,7 @@ use Rattle.lrc_lang.specs.declared.program.Program.{Program}
 use Rattle.lrc_trace.specs.declared.act.Act.{Act}
 use Rattle.lrc_trace.specs.declared.act.Deed.{Deed}
 use Rattle.lrc_exec.specs.declared.spot.Flat.{Flat}
+use Rattle.lrc_exec.specs.Flat.{IsCodeOf}
 use Rattle.lrc_exec.specs.Plain.{plain_start}
 use Rattle.lrc_exec.specs.Spots.{IsFlat}
 use Rattle.lrc_explore.specs.Notes.{notes_of}
@@ -18,12 +19,14 @@ use Rattle.lrc_lazy_run.specs.declared.sought.Sought.{Sought}
 use Rattle.lrc_lazy_run.specs.declared.ways.Origin.{Origin}
 use Rattle.lrc_lazy_run.specs.declared.ways.Ways.{Ways}
 
--- the code is the program's
+-- the code is the program's, and there are nodes
 pub record IsSought (sought : Sought) : Type 0 where
   pub flat : IsFlat sought.flat
+  pub code : IsCodeOf sought.flat.code.now sought.start sought.program.now.statements.items
   pub placed : sought.start ≤ length sought.flat.code.now
   pub words : sought.flat.words ≡ sought.program.now.words
   pub locks : sought.flat.locks ≡ sought.program.now.locks
+  pub some : 0 < sought.flat.nodes
   pub few : sought.flat.nodes ≤ 16
   pub begun : machine_begun sought.flat sought.start ≡ plain_start sought.program.now sought.flat.nodes
 

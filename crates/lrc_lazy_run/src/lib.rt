@@ -1,6 +1,6 @@
 //! Finds a lazy run of a program that has a given outcome, by a search through the states of the machine that makes
-//! lazy runs. The search goes from state to state by steps, so that the run has as few as may be. If that finds no run,
-//! it goes through all states by single acts, and so it is exact.
+//! lazy runs. The search goes from state to state by steps, so that the run has as few as may be, which is tested and
+//! not proved. If that finds no run, it goes through all states by single acts, and so it is exact.
 #![tactic(auto)]
 
 pub mod run;

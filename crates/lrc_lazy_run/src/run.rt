@@ -15,10 +15,10 @@ use lrc_trace::act::Act;
 use std::alloc::Global;
 
 /// Returns the acts of a lazy run of a program after which no node can act, and in which the nodes print and end as
-/// these notes say, or nothing if there is no such run. Of such runs it takes one with the fewest steps. A step is a
-/// read of one of several values, an acquire, or the departs of all nodes, together with the acts behind it that depend
-/// on no other node. It gives up with `TooMany` if there are more states to tell apart than `most`, and fails if memory
-/// runs out.
+/// these notes say, or nothing if there is no such run. Of such runs it takes one with the fewest steps, which is
+/// tested and not proved. A step is a read of one of several values, an acquire, or the departs of all nodes, together
+/// with the acts behind it that depend on no other node. It gives up with `TooMany` only if lazy runs lead to more than
+/// `most` different states, and fails if memory runs out.
 pub fn lazy_run_with(
     alloc: Global,
     program: &Program,

@@ -15,8 +15,8 @@ impl Ways {
     ghost use Rattle.lrc_lazy_run.specs.Ways.{AreWays, CanMakeAt, CanMakeIfAny, HasAllStepsAt, IsEndFor, IsEndIfFound, IsSought};
 
     /// Returns the place of a state at which no node can act and that has these notes, or nothing if no lazy run has
-    /// them. It is the first such state to which steps lead. It gives up with `TooMany` if there are more states than
-    /// the task allows, and fails if memory runs out.
+    /// them. It is the first such state to which steps lead, which is tested and not proved. It gives up with `TooMany`
+    /// if there are more states than the task allows, and fails if memory runs out.
     pub fn find(
         &mut self,
         alloc: Global,

@@ -1,11 +1,12 @@
 -- States that are found from others, and put to those that were found before.
-use Rattle.std.proofs.Common.{◌≡◌, ℕ, zero, suc, ◌+◌, ◌<◌, ◌≤◌, ◌^◌, List, [], ◌∷◌, ◌++◌, length, Bool, false, inl, inr, refl, sym, subst, ◌∙◌, ap, arith, replicate}
+use Rattle.std.proofs.Common.{◌≡◌, ℕ, zero, suc, ◌+◌, ◌<◌, ◌≤◌, ◌^◌, List, [], ◌∷◌, ◌++◌, length, Result, Ok, Err, IfOk, Bool, false, inl, inr, refl, sym, subst, ◌∙◌, ap, arith, replicate}
 use Rattle.std.specs.Prelude.{Option, Some, None, if◌then◌else◌, slice_get, slice_index}
 use Rattle.std.specs.List.{IsDistinct}
 use Rattle.std.proofs.lemmas.Bool.{cases_lt, cases_eq}
 use Rattle.std.proofs.lemmas.Option.{same_Some}
 use Rattle.std.proofs.lemmas.List.{get_or-replicate, get_or_past, length-replicate, length-append}
 use Rattle.lrc_lang.specs.declared.program.Program.{Program}
+use Rattle.lrc_trace.specs.declared.act.Act.{Act}
 use Rattle.lrc_trace.specs.declared.act.Deed.{Deed}
 use Rattle.lrc_trace.specs.Run.{act_of}
 use Rattle.lrc_trace.proofs.Positions.{Does-last, slice_get-seam}
@@ -15,7 +16,7 @@ use Rattle.lrc_consistency_laws.proofs.UpToRace.{in_range}
 use Rattle.lrc_explore.specs.declared.outcomes.Outcome.{Outcome}
 use Rattle.lrc_explore.specs.Kept.{Grows}
 use Rattle.lrc_exec.specs.States.{IsFirst, plain_at, IsStateOf}
-use Rattle.lrc_explore.specs.Notes.{notes_with}
+use Rattle.lrc_explore.specs.Notes.{notes_of, notes_with}
 use Rattle.lrc_explore.specs.Outcome.{HasOutcome}
 use Rattle.lrc_explore.proofs.Counting.{step_counts}
 use Rattle.lrc_explore.proofs.Gathering.{put_all}
@@ -26,7 +27,7 @@ use Rattle.lrc_lazy_search.specs.declared.state.LazyState.{LazyState}
 use Rattle.lrc_lazy_search.specs.declared.search.Task.{Task}
 use Rattle.lrc_lazy_search.specs.contracts.state.LazyStatePartialEq.TheImpl.{eq-value}
 use Rattle.lrc_lazy_machine.specs.Standing.{with_memory, IsRenewed, Stands, CanMake, effect_at}
-use Rattle.lrc_lazy_search.specs.Searching.{Steps, IsFresh, IsAhead, still, onward, renewed, IsNext, AreNext, HasStep, HasAll, AreEnough, of_one, of_all, IsReached, HasKey, AreThere}
+use Rattle.lrc_lazy_search.specs.Searching.{Steps, IsFresh, IsAhead, still, onward, renewed, IsNext, AreNext, CountsNoneGone, HasStep, HasAll, AreEnough, of_one, of_all, IsNeat, IsReached, HasKey, AreThere}
 use Rattle.lrc_lazy_search.specs.Searching.{HasNexts, HasEnough, by_one, by_all, IsSearched, AreSearched, IsBegun}
 use Rattle.lrc_lazy_search.specs.Task.{IsTask, IsInOrder}
 use Rattle.lrc_lazy_machine.proofs.Beginning.{stands_first, first_notes}
@@ -44,12 +45,32 @@ pub next_push : (flat : Flat) (key after : LazyState) (old new : List LazyState)
     → AreNext flat key new
 next_push flat key after old new e all next = put_all (λ k x. IsNext flat key x) false old new after e all next
 
+-- three things that are said of what a call answers
+pub all_say : {T F : Type 0} (P Q R : T → Type 0) (r : Result T F) → IfOk r P → IfOk r Q → IfOk r R → IfOk r (λ x. P x × Q x × R x)
+all_say P Q R (Ok x) p q r = (p, q, r)
+all_say P Q R (Err f) p q r = tt
+
 -- ---- a state to which an act leads
 
+-- a lazy run leads to the state, in so many acts at most
+record Led (program : Program) (flat : Flat) (key : LazyState) (most : ℕ) : Type 0 where
+  acts : List Act
+  stands : Stands program flat.nodes acts (plain_at flat key.state) key.knowledge
+  noted : notes_of flat.nodes acts ≡ key.notes.items
+  valid : IsStateOf flat key.state
+  counted : (node : ℕ) → slice_index key.state.arrivals.items node ≤ most
+
+led_of : {program : Program} {flat : Flat} {key : LazyState} {most : ℕ} → IsReached program flat key most → Led program flat key most
+led_of r = record { acts = r.acts; stands = r.stands; noted = r.noted; valid = r.valid; counted = r.counted }
+
+reached_of : {program : Program} {flat : Flat} {key : LazyState} {most : ℕ} → Led program flat key most → IsNeat flat key → CountsNoneGone flat key
+    → IsReached program flat key most
+reached_of l neat left = record { acts = l.acts; stands = l.stands; noted = l.noted; valid = l.valid; counted = l.counted; neat = neat; left = left }
+
 module _ (program : Program) (flat : Flat) (words : flat.words ≡ program.words) (locks : flat.locks ≡ program.locks) where
-  reached_step : (key after : LazyState) (most bound node : ℕ) (deed : Deed) → IsReached program flat key most → Steps flat key node deed after
-      → IsStateOf flat after.state → ((n : ℕ) → slice_index after.state.arrivals.items n ≤ bound) → IsReached program flat after bound
-  reached_step key after most bound node deed r steps valid counted =
+  led_step : (key after : LazyState) (most bound node : ℕ) (deed : Deed) → Led program flat key most → Steps flat key node deed after
+      → IsStateOf flat after.state → ((n : ℕ) → slice_index after.state.arrivals.items n ≤ bound) → Led program flat after bound
+  led_step key after most bound node deed r steps valid counted =
       let act = act_of node deed in
       let effect = subst (λ l. IsKnowledgeAfter (effect_at flat.nodes l (plain_at flat key.state) node deed) key.knowledge after.knowledge) locks steps.effect in
       let stands = stands_on program flat.nodes r.acts (plain_at flat key.state) key.knowledge r.stands node deed steps.makes.memory steps.makes.later
@@ -63,8 +84,8 @@ module _ (program : Program) (flat : Flat) (words : flat.words ≡ program.words
         counted = counted;
       }
 
-  pub reached_fresh : (key after : LazyState) (most : ℕ) → IsReached program flat key most → IsFresh flat key after → IsReached program flat after most
-  reached_fresh key after most r fresh =
+  led_fresh : (key after : LazyState) (most : ℕ) → Led program flat key most → IsFresh flat key after → Led program flat after most
+  led_fresh key after most r fresh =
       let left = subst (λ l. IsRenewed flat.nodes l (plain_at flat key.state) key.knowledge (plain_at flat after.state) after.knowledge) locks fresh.renewed in
       record {
         acts = r.acts;
@@ -74,26 +95,33 @@ module _ (program : Program) (flat : Flat) (words : flat.words ≡ program.words
         counted = λ n. let few = r.counted n in let fewer = fresh_counts fresh n in omega (arith, few, fewer);
       }
 
-  pub reached_ahead : (key ahead : LazyState) (most : ℕ) → IsReached program flat key most → IsAhead flat key ahead → IsReached program flat ahead most
-  reached_ahead key ahead most r still = r
-  reached_ahead key ahead most r (renewed {mid = mid} before fresh) = reached_fresh mid ahead most (reached_ahead key mid most r before) fresh
-  reached_ahead key ahead most r (onward {mid = mid} node deed before forced steps valid) =
-      let earlier = reached_ahead key mid most r before in
-      reached_step mid ahead most most node deed earlier steps valid (λ n.
+  led_ahead : (key ahead : LazyState) (most : ℕ) → Led program flat key most → IsAhead flat key ahead → Led program flat ahead most
+  led_ahead key ahead most r still = r
+  led_ahead key ahead most r (renewed {mid = mid} before fresh) = led_fresh mid ahead most (led_ahead key mid most r before) fresh
+  led_ahead key ahead most r (onward {mid = mid} node deed before forced steps valid) =
+      let earlier = led_ahead key mid most r before in
+      led_step mid ahead most most node deed earlier steps valid (λ n.
       let few = earlier.counted n in
       let same = arrivals_still flat mid.state ahead.state node deed forced.no_arrive steps.makes n in
       omega (arith, few, same))
 
-  pub reached_next : (key ahead : LazyState) (most : ℕ) → IsReached program flat key most → IsNext flat key ahead → IsReached program flat ahead (most + 1)
-  reached_next key ahead most r n =
+  -- a state that is ahead of one
+  pub reached_ahead : (key ahead : LazyState) (most : ℕ) → IsReached program flat key most → IsAhead flat key ahead → IsNeat flat ahead
+      → CountsNoneGone flat ahead → IsReached program flat ahead most
+  reached_ahead key ahead most r goes neat left = reached_of (led_ahead key ahead most (led_of r) goes) neat left
+
+  -- and one that is next
+  pub reached_next : (key ahead : LazyState) (most : ℕ) → IsReached program flat key most → IsNext flat key ahead → IsNeat flat ahead
+      → CountsNoneGone flat ahead → IsReached program flat ahead (most + 1)
+  reached_next key ahead most r n neat left =
       let steps = n.steps in
-      reached_ahead n.after ahead (most + 1)
-      (reached_step key n.after most (most + 1) n.node n.deed r steps n.valid (λ node.
+      reached_of (led_ahead n.after ahead (most + 1)
+      (led_step key n.after most (most + 1) n.node n.deed (led_of r) steps n.valid (λ node.
       let few = r.counted node in
       let more = step_counts (with_memory (plain_at flat key.state) steps.makes.memory) (with_memory (plain_at flat n.after.state) steps.makes.later)
       n.node node n.deed steps.makes.made in
       omega (arith, few, more)))
-      n.goes
+      n.goes) neat left
 
 pub reached_more : {program : Program} {flat : Flat} {key : LazyState} {less more : ℕ} → less ≤ more → IsReached program flat key less
     → IsReached program flat key more
@@ -103,6 +131,8 @@ reached_more le r = record {
   noted = r.noted;
   valid = r.valid;
   counted = λ node. let few = r.counted node in omega (arith, few, le);
+  neat = r.neat;
+  left = r.left;
 }
 
 -- ---- the beginning
@@ -114,8 +144,9 @@ none_arrived count node = elim (cases_lt node count) [
 ]
 
 pub first_reached : (task : Task) (key : LazyState) → IsTask task → IsFirst task.flat task.start key.state → IsStateOf task.flat key.state
-    → ((word : ℕ) → word_of key.knowledge word ≡ []) → key.notes.items ≡ [] → IsReached task.program.now task.flat key 0
-first_reached task key is first valid nothing none =
+    → ((word : ℕ) → word_of key.knowledge word ≡ []) → key.notes.items ≡ [] → IsNeat task.flat key → CountsNoneGone task.flat key
+    → IsReached task.program.now task.flat key 0
+first_reached task key is first valid nothing none neat left =
     let machine = first.begun ∙ is.begun in
     record {
       acts = [];
@@ -127,6 +158,8 @@ first_reached task key is first valid nothing none =
           let few = none_arrived task.flat.nodes node in
           let same = ap (λ (m : Plain). slice_index m.arrivals node) machine in
           omega (arith, few, same);
+      neat = neat;
+      left = left;
     }
 
 pub key_on : {old new : List LazyState} {key : LazyState} → Grows old new → HasKey old key → HasKey new key
@@ -144,10 +177,11 @@ first_room task key first n =
 -- the first state, or one ahead of it, put to none
 pub first_in_order : (task : Task) (old new : List LazyState) (key ahead : LazyState) (b : Bool) → IsTask task → old ≡ []
     → new ≡ (if b then old else old ++ ahead ∷ []) → IsFirst task.flat task.start key.state → IsStateOf task.flat key.state
-    → ((word : ℕ) → word_of key.knowledge word ≡ []) → key.notes.items ≡ [] → IsAhead task.flat key ahead
-    → HasKey new ahead → IsDistinct eq-value.it new → IsInOrder task new
-first_in_order task old new key ahead b is none put first valid nothing notes goes has distinct =
-    let reached = reached_ahead task.program.now task.flat is.words is.locks key ahead 0 (first_reached task key is first valid nothing notes) goes in
+    → ((word : ℕ) → word_of key.knowledge word ≡ []) → key.notes.items ≡ [] → IsNeat task.flat key → CountsNoneGone task.flat key
+    → IsAhead task.flat key ahead → IsNeat task.flat ahead → CountsNoneGone task.flat ahead → HasKey new ahead → IsDistinct eq-value.it new → IsInOrder task new
+first_in_order task old new key ahead b is none put first valid nothing notes whole counts goes neat left has distinct =
+    let start = first_reached task key is first valid nothing notes whole counts in
+    let reached = reached_ahead task.program.now task.flat is.words is.locks key ahead 0 start goes neat left in
     let machine = first.begun ∙ is.begun in
     record {
       reached = put_all (λ k x. IsReached task.program.now task.flat x k) b old new ahead put
@@ -224,7 +258,7 @@ all_next flat keys key nexts node all there deed can =
 
 pub enough_next : (flat : Flat) (keys : List LazyState) (key : LazyState) (nexts : List LazyState) → AreEnough flat key nexts → AreThere keys nexts
     → HasEnough flat keys key
-enough_next flat keys key nexts (of_one node front all) there = by_one node front (all_next flat keys key nexts node all there)
+enough_next flat keys key nexts (of_one node front first all) there = by_one node front first (all_next flat keys key nexts node all there)
 enough_next flat keys key nexts (of_all none all) there = by_all (λ node. all_next flat keys key nexts node (all node) there)
 
 pub searched_next : (flat : Flat) (keys : List LazyState) (outcomes : List Outcome) (key : LazyState) (nexts : List LazyState)
@@ -246,7 +280,7 @@ none_of flat key nexts node none all deed can =
 
 pub none_next : (flat : Flat) (key : LazyState) (nexts : List LazyState) → nexts ≡ [] → AreEnough flat key nexts
     → (node : ℕ) (deed : Deed) → CanMake flat.words (plain_at flat key.state) key.knowledge node deed → ⊥
-none_next flat key nexts none (of_one first front all) node deed can = absurd (none_of flat key nexts first none all front.deed front.can)
+none_next flat key nexts none (of_one first front lowest all) node deed can = absurd (none_of flat key nexts first none all front.deed front.can)
 none_next flat key nexts none (of_all behind all) node deed can = none_of flat key nexts node none (all node) deed can
 
 -- and where there are some, one can
@@ -266,7 +300,7 @@ next_on flat old new key node g next deed can =
     let n = next deed can in record { after = n.after; steps = n.steps; ahead = n.ahead; goes = n.goes; has = key_on g n.has }
 
 enough_on : (flat : Flat) (old new : List LazyState) (key : LazyState) → Grows old new → HasEnough flat old key → HasEnough flat new key
-enough_on flat old new key g (by_one node front next) = by_one node front (next_on flat old new key node g next)
+enough_on flat old new key g (by_one node front first next) = by_one node front first (next_on flat old new key node g next)
 enough_on flat old new key g (by_all next) = by_all (λ node. next_on flat old new key node g (next node))
 
 pub searched_on : (flat : Flat) (old new : List LazyState) (outcomes more : List Outcome) (key : LazyState) → Grows old new → Grows outcomes more

@@ -4,3 +4,5 @@ pub mod Searched
 pub mod Adding
 pub mod Ahead
 pub mod Fresh
+pub mod Neat
+pub mod Learned

@@ -1,6 +1,7 @@
 -- What a node can do with other words is the same but for what a read gives.
-use Rattle.std.proofs.Common.{◌≡◌, ℕ, ◌<◌, List, [], ◌∷◌, length, map, inl, refl, sym, subst, ◌∙◌, ap, arith, zero, suc}
+use Rattle.std.proofs.Common.{◌≡◌, ℕ, ◌<◌, List, [], ◌∷◌, length, map, inl, inr, refl, sym, subst, ◌∙◌, ap, arith, zero, suc}
 use Rattle.std.specs.Prelude.{◌↔◌, Option, Some, None, Contains, option_map, slice_get, slice_index, slice_set}
+use Rattle.std.proofs.lemmas.Bool.{cases_lt}
 use Rattle.std.proofs.lemmas.List.{get_or-set_same, length-set, length-map}
 use Rattle.std.proofs.lemmas.Option.{same_Some, slice_get_within, get_or_from_slice_get}
 use Rattle.lrc_trace.specs.declared.act.Deed.{Deed}
@@ -20,12 +21,14 @@ use Rattle.lrc_known.specs.declared.known.Last.{Last}
 use Rattle.lrc_known.specs.declared.known.Last.TheVariants.{Nothing, Value, Unordered}
 use Rattle.lrc_known.specs.Word.{Gives, MayGive, last_of, values_of}
 use Rattle.lrc_known.specs.Effect.{word_of}
+use Rattle.lrc_known.specs.Tidy.{IsRising}
 use Rattle.lrc_known.proofs.Made.{get_at}
+use Rattle.lrc_known.proofs.Tidy.{rising_once}
 use Rattle.lrc_lazy_search.specs.declared.state.LazyState.{LazyState}
 use Rattle.lrc_lazy_machine.specs.Standing.{with_memory, CanMake}
 use Rattle.lrc_lazy_search.specs.Fit.{IsFit}
 use Rattle.lrc_swapped.specs.Swapped.{IsNoAcquire}
-use Rattle.lrc_lazy_search.specs.Searching.{poked, IsInFront}
+use Rattle.lrc_lazy_search.specs.Searching.{poked, AreOnce, IsInFront}
 use Rattle.lrc_lazy_machine.proofs.Coming.{read_stays}
 
 -- the same deed, or reads of one word
@@ -210,6 +213,34 @@ module _ (flat : Flat) (key : LazyState) (fit : IsFit flat key) (node : ℕ) whe
         let too = made_too machine can.memory words node d can.after can.made in
         let same : too.deed ≡ deed = same_Some too.deed deed (sym (ap (option_map (λ (s : Deed × Plain). s.0)) too.made) ∙ is) in
         (0, ap Some (one_kind d too.deed too.kind same))
+
+-- ---- no deed comes twice
+
+read_at : (w : ℕ) (xs : List ℕ) (k : ℕ) (d : Deed) → slice_get (map (λ v. Read w v) xs) k ≡ Some d → (k < length xs) × (d ≡ Read w (slice_index xs k))
+read_at w [] k d e = cc
+read_at w (x ∷ xs) zero d e = (omega arith, sym (same_Some (Read w x) d e))
+read_at w (x ∷ xs) (suc k) d e = let r = read_at w xs k d e in let lt = r.0 in (omega (arith, lt), r.1)
+
+read_value : (w u v : ℕ) (d : Deed) → d ≡ Read w u → d ≡ Read w v → u ≡ v
+read_value w u v d left right = let same : Read w u ≡ Read w v = sym left ∙ right in cc
+
+pub reads_once : (w : ℕ) (values : List ℕ) → IsRising values → AreOnce (map (λ v. Read w v) values)
+reads_once w values up j k d at there =
+    let front = read_at w values j d at in
+    let back = read_at w values k d there in
+    let same = read_value w (slice_index values j) (slice_index values k) d front.1 back.1 in
+    elim (cases_lt j k) [
+      | inl lt ↦ let less = rising_once values j k 0 up lt back.0 in absurd (omega (arith, same, less))
+      | inr le ↦ elim (cases_lt k j) [
+        | inl lt ↦ let less = rising_once values k j 0 up lt front.0 in absurd (omega (arith, same, less))
+        | inr ge ↦ omega (arith, le, ge)
+      ]
+    ]
+
+pub one_once : (deed : Deed) → AreOnce (deed ∷ [])
+one_once deed zero zero d at there = refl
+one_once deed zero (suc k) d at there = cc
+one_once deed (suc j) k d at there = cc
 
 -- ---- which nodes can do something other than acquire a lock
 

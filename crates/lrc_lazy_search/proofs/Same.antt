@@ -100,7 +100,7 @@ module _ (xs ys : List Known) (e : pointwise known_eq.it xs ys ≡ true) where
     above = λ k z. rows_at k z (at k);
   }
 
-same_itself : (xs : List Known) → IsSame xs xs
+pub same_itself : (xs : List Known) → IsSame xs xs
 same_itself xs = record { lasts = λ k. refl; values = λ k v. (λ c. c, λ c. c); above = λ k z. refl }
 
 knowledge_same : (a b : Knowledge) → knowledge_eq.it a b ≡ true → (word : ℕ) → IsSame (word_of a word) (word_of b word)

@@ -210,7 +210,7 @@ module _ (program : Program) (flat : Flat) (words : flat.words ≡ program.words
   goes_further key acts x more notes of (by_all next) e =
       let found = its_next acts x more notes e in
       next_left key acts notes (length more) of found.0 (next found.0.node)
-  goes_further key acts x more notes of (by_one node front next) e =
+  goes_further key acts x more notes of (by_one node front first next) e =
       let found = front_next acts (x ∷ more) notes key node of front e in
       next_left key acts notes (length more) of found.0 (subst (HasNexts flat keys key) (sym found.1) next)
 

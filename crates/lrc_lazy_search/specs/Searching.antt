@@ -1,11 +1,12 @@
 -- How the states of the machine that makes lazy runs are searched.
-use Rattle.std.specs.Prelude.{◌≡◌, ◌≢◌, ℕ, ◌<◌, ◌≤◌, true, List, [], Some, length, slice_get, slice_index, slice_set}
+use Rattle.std.specs.Prelude.{◌≡◌, ◌≢◌, ℕ, ◌<◌, ◌≤◌, true, List, [], Some, length, replicate, slice_get, slice_index, slice_set}
 use Rattle.std.specs.List.{IsDistinct}
 use Rattle.lrc_lang.specs.declared.program.Program.{Program}
 use Rattle.lrc_trace.specs.declared.act.Act.{Act}
 use Rattle.lrc_trace.specs.declared.act.Deed.{Deed}
-use Rattle.lrc_trace.specs.declared.act.Deed.TheVariants.{Read, Arrive}
+use Rattle.lrc_trace.specs.declared.act.Deed.TheVariants.{Read, Write, Arrive}
 use Rattle.lrc_trace.specs.Run.{act_of}
+use Rattle.lrc_exec.specs.Flat.{IsCodeOf}
 use Rattle.lrc_exec.specs.Plain.{plain_step}
 use Rattle.lrc_exec.specs.declared.spot.Flat.{Flat}
 use Rattle.lrc_explore.specs.declared.outcomes.Outcome.{Outcome}
@@ -15,10 +16,39 @@ use Rattle.lrc_explore.specs.Outcome.{HasOutcome}
 use Rattle.lrc_exec.specs.States.{plain_at, IsStateOf}
 use Rattle.lrc_lazy.specs.Lazy.{IsLazyOutcome}
 use Rattle.lrc_known.specs.Effect.{IsKnowledgeAfter}
+use Rattle.lrc_known.specs.Tidy.{IsTidy}
 use Rattle.lrc_swapped.specs.Swapped.{IsNoAcquire}
 use Rattle.lrc_lazy_search.specs.declared.state.LazyState.{LazyState}
 use Rattle.lrc_lazy_search.specs.contracts.state.LazyStatePartialEq.TheImpl.{eq-value}
-use Rattle.lrc_lazy_machine.specs.Standing.{with_memory, IsRenewed, Stands, MayGive, CanMake, effect_at}
+use Rattle.lrc_lazy_machine.specs.Standing.{with_memory, departures_of, IsRenewed, Stands, MayGive, CanMake, effect_at}
+
+-- ---- the one way in which a state is written
+
+-- its words are all 0
+abbrev pub IsBlank : Flat → State → Type 0
+IsBlank flat state = state.memory.items ≡ replicate flat.words 0
+
+-- its words are all 0, since what is known says what a read gives, and what is known is written in one way alone
+pub record IsNeat (flat : Flat) (key : LazyState) : Type 0 where
+  pub blank : IsBlank flat key.state
+  pub tidy : IsTidy key.knowledge
+
+abbrev pub AreNeat : Flat → List LazyState → Type 0
+AreNeat flat keys = (k : ℕ) (key : LazyState) → slice_get keys k ≡ Some key → IsNeat flat key
+
+-- Some node has departed from no barrier that the state counts. So it counts none from which all nodes have departed, and how many it leaves
+-- out is determined by the acts that lead to it.
+pub record CountsNoneGone (flat : Flat) (key : LazyState) : Type 0 where
+  pub node : ℕ
+  pub within : node < flat.nodes
+  pub none : departures_of (plain_at flat key.state) node ≡ 0
+
+abbrev pub CountNoneGone : Flat → List LazyState → Type 0
+CountNoneGone flat keys = (k : ℕ) (key : LazyState) → slice_get keys k ≡ Some key → CountsNoneGone flat key
+
+-- no deed stands twice among these
+abbrev pub AreOnce : List Deed → Type 0
+AreOnce deeds = (j k : ℕ) (deed : Deed) → slice_get deeds j ≡ Some deed → slice_get deeds k ≡ Some deed → j ≡ k
 
 -- ---- steps
 
@@ -26,6 +56,12 @@ use Rattle.lrc_lazy_machine.specs.Standing.{with_memory, IsRenewed, Stands, MayG
 abbrev pub poked : Deed → List ℕ → List ℕ
 poked (Read w v) memory = slice_set memory w v
 poked _ memory = memory
+
+-- the words, where a deed that reads or writes one of them makes it 0 again
+abbrev pub blanked : Deed → List ℕ → List ℕ
+blanked (Read w v) memory = slice_set memory w 0
+blanked (Write w v) memory = slice_set memory w 0
+blanked _ memory = memory
 
 pub record IsPoked (flat : Flat) (key : LazyState) (deed : Deed) (state : State) : Type 0 where
   pub is : plain_at flat state ≡ with_memory (plain_at flat key.state) (poked deed key.state.memory.items)
@@ -97,20 +133,26 @@ abbrev pub HasAll : Flat → LazyState → (node : ℕ) → List LazyState → T
 HasAll flat key node all =
     (deed : Deed) → CanMake flat.words (plain_at flat key.state) key.knowledge node deed → HasStep flat key node deed all
 
--- the states are enough to go on with: those of one such node, or, where there is none, those of all nodes
+-- no node below this one can do something other than acquire a lock
+abbrev pub IsFirstInFront : Flat → LazyState → (node : ℕ) → Type 0
+IsFirstInFront flat key node = (lower : ℕ) → lower < node → ¬ IsInFront flat key lower
+
+-- the states are enough to go on with: those of the lowest such node, or, where there is none, those of all nodes
 pub data AreEnough (flat : Flat) (key : LazyState) (all : List LazyState) : Type 0 where
-  of_one : (node : ℕ) → IsInFront flat key node → HasAll flat key node all → AreEnough flat key all
+  of_one : (node : ℕ) → IsInFront flat key node → IsFirstInFront flat key node → HasAll flat key node all → AreEnough flat key all
   of_all : ((node : ℕ) → IsInFront flat key node → ⊥) → ((node : ℕ) → HasAll flat key node all) → AreEnough flat key all
 
 -- ---- the search
 
--- a lazy run leads to the state, in so many acts at most
+-- a lazy run leads to the state, in so many acts at most, and the state is written in the one way
 pub record IsReached (program : Program) (flat : Flat) (key : LazyState) (most : ℕ) : Type 0 where
   pub acts : List Act
   pub stands : Stands program flat.nodes acts (plain_at flat key.state) key.knowledge
   pub noted : notes_of flat.nodes acts ≡ key.notes.items
   pub valid : IsStateOf flat key.state
   pub counted : (node : ℕ) → slice_index key.state.arrivals.items node ≤ most
+  pub neat : IsNeat flat key
+  pub left : CountsNoneGone flat key
 
 abbrev pub AreReached : Program → Flat → List LazyState → Type 0
 AreReached program flat keys = (k : ℕ) (key : LazyState) → slice_get keys k ≡ Some key → IsReached program flat key k
@@ -139,9 +181,9 @@ abbrev pub HasNexts : Flat → List LazyState → LazyState → (node : ℕ) →
 HasNexts flat keys key node =
     (deed : Deed) → CanMake flat.words (plain_at flat key.state) key.knowledge node deed → HasNext flat keys key node deed
 
--- enough of the state's next ones is there: those of one node that can do something other than acquire a lock, or those of all nodes
+-- enough of the state's next ones is there: those of the lowest node that can do something other than acquire a lock, or those of all nodes
 pub data HasEnough (flat : Flat) (keys : List LazyState) (key : LazyState) : Type 0 where
-  by_one : (node : ℕ) → IsInFront flat key node → HasNexts flat keys key node → HasEnough flat keys key
+  by_one : (node : ℕ) → IsInFront flat key node → IsFirstInFront flat key node → HasNexts flat keys key node → HasEnough flat keys key
   by_all : ((node : ℕ) → HasNexts flat keys key node) → HasEnough flat keys key
 
 -- enough of the state's next ones is there, and its outcome where it has none
@@ -167,11 +209,30 @@ pub record IsBegun (program : Program) (flat : Flat) (keys : List LazyState) : T
   pub goes : IsAhead flat first ahead
   pub has : HasKey keys ahead
 
--- a search met more states than a bound, no two of them equal, to each of which some lazy run leads
+-- A search of the program's code met more states than a bound, no two of them equal, to each of which some lazy run leads. Each is written in
+-- the one way, so two of them differ in where a node stands in the code, in who holds what, in what is known, or in what was noted.
 pub record MeetsMore (program : Program) (nodes most : ℕ) : Type 0 where
   pub flat : Flat
   pub count : flat.nodes ≡ nodes
+  pub place : ℕ
+  pub code : IsCodeOf flat.code.now place program.statements.items
+  pub words : flat.words ≡ program.words
+  pub locks : flat.locks ≡ program.locks
   pub keys : List LazyState
   pub many : most < length keys
   pub distinct : IsDistinct eq-value.it keys
   pub reached : AreReached program flat keys
+
+-- No more states than a bound are enough: the beginning is among them, or what lies ahead of it, and enough of the next ones of each; and the
+-- outcomes are there of those that have none.
+pub record FitsLazily (program : Program) (nodes most : ℕ) (outcomes : List Outcome) : Type 0 where
+  pub flat : Flat
+  pub count : flat.nodes ≡ nodes
+  pub place : ℕ
+  pub code : IsCodeOf flat.code.now place program.statements.items
+  pub words : flat.words ≡ program.words
+  pub locks : flat.locks ≡ program.locks
+  pub keys : List LazyState
+  pub few : length keys ≤ most
+  pub begun : IsBegun program flat keys
+  pub searched : AreSearched flat keys outcomes (length keys)

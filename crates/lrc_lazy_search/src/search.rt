@@ -5,7 +5,7 @@ ghost use Rattle.lrc_trace.specs.declared.act.Act.{Act as ActType};
 ghost use Rattle.lrc_exec.specs.Nodes.{AreNodes};
 ghost use Rattle.lrc_explore.specs.Outcome.{HasOutcome};
 ghost use Rattle.lrc_lazy.specs.Lazy.{IsLazyOutcome};
-ghost use Rattle.lrc_lazy_search.specs.Searching.{MeetsMore};
+ghost use Rattle.lrc_lazy_search.specs.Searching.{FitsLazily, MeetsMore};
 ghost use Rattle.lrc_lazy_search.specs.Task.{IsTask};
 
 use crate::state::LazyState;
@@ -19,8 +19,9 @@ use lrc_lang::program::Program;
 use std::alloc::{AllocError, Global};
 
 /// Returns every outcome of the lazy runs of a program on this many nodes, after which no node can make an act. It
-/// fails with `BadNodes` exactly if the number of nodes is not 1 to 16. It gives up with `TooMany` if there are more
-/// states to tell apart than `most`, and fails if memory runs out.
+/// fails with `BadNodes` exactly if the number of nodes is not 1 to 16. It gives up with `TooMany` only if lazy runs
+/// lead to more than `most` different states, and where it answers it looked at no more than `most`. It fails if memory
+/// runs out.
 pub fn lazy_outcomes(
     alloc: Global,
     program: &Program,
@@ -32,6 +33,7 @@ pub fn lazy_outcomes(
     ensures bad_nodes { (result ≡ Err ExploreFault.BadNodes) ↔ (¬ AreNodes nodes) }
     ensures too_many { IfErr result (λ fault. fault ≡ ExploreFault.TooMany
         → MeetsMore program.now nodes most) }
+    ensures fits { IfOk result (λ found. FitsLazily program.now nodes most found.keys) }
 {
     let count = count_of(nodes)?;
     let code = Code::new(alloc, program)?;
@@ -45,11 +47,13 @@ fn lazy_outcomes_of(
     nodes: u8,
     most: usize,
 ) -> Result<IndexSet<Outcome>, ExploreFault>
+    requires { AreNodes nodes }
     ensures exact { IfOk result (λ found. (notes : List ActType)
         → (IsLazyOutcome code.now nodes notes ↔ HasOutcome found.keys notes)) }
     ensures nodes { IfErr result (λ fault. fault ≢ ExploreFault.BadNodes) }
     ensures too_many { IfErr result (λ fault. fault ≡ ExploreFault.TooMany
         → MeetsMore code.now nodes most) }
+    ensures fits { IfOk result (λ found. FitsLazily code.now nodes most found.keys) }
 {
     let task = task_of(code, nodes, most);
     let mut searched = Searched::none(alloc);
@@ -63,6 +67,7 @@ fn lazy_outcomes_of(
 
 // What is searched of a program's code.
 fn task_of<'c>(code: &'c Code<'c>, nodes: u8, most: usize) -> Task<'c>
+    requires { AreNodes nodes }
     ensures task { IsTask result }
     ensures program { result.program.now ≡ code.now }
     ensures nodes { result.flat.nodes ≡ nodes }
@@ -118,7 +123,7 @@ impl Searched {
     ghost use Rattle.lrc_explore.specs.Outcome.{HasOutcome};
     ghost use Rattle.lrc_lazy.specs.Lazy.{IsLazyOutcome};
     ghost use Rattle.lrc_lazy_search.specs.declared.state.LazyState.{LazyState as StateType};
-    ghost use Rattle.lrc_lazy_search.specs.Searching.{AreEnough, AreNext, AreReached, AreSearched, AreSound, AreThere, IsBegun, IsReached, IsSearched, MeetsMore};
+    ghost use Rattle.lrc_lazy_search.specs.Searching.{AreEnough, AreNext, AreReached, AreSearched, AreSound, AreThere, IsBegun, FitsLazily, IsReached, IsSearched, MeetsMore};
     ghost use Rattle.lrc_lazy_search.specs.Task.{IsTask, IsInOrder};
 
     // No states, and no outcomes.
@@ -150,6 +155,8 @@ impl Searched {
         ensures nodes { IfErr result (λ fault. fault ≢ ExploreFault.BadNodes) }
         ensures too_many { IfErr result (λ fault. fault ≡ ExploreFault.TooMany
             → MeetsMore task.now.program.now task.now.flat.nodes task.now.most) }
+        ensures fits { OnOk result (FitsLazily task.now.program.now task.now.flat.nodes
+            task.now.most self.new.outcomes.keys) }
     {
         self.begin(alloc, task)?;
         self.go_through(alloc, task)
@@ -179,6 +186,8 @@ impl Searched {
         ensures nodes { IfErr result (λ fault. fault ≢ ExploreFault.BadNodes) }
         ensures too_many { IfErr result (λ fault. fault ≡ ExploreFault.TooMany
             → MeetsMore task.now.program.now task.now.flat.nodes task.now.most) }
+        ensures fits { OnOk result (FitsLazily task.now.program.now task.now.flat.nodes
+            task.now.most self.new.outcomes.keys) }
     {
         let mut place = 0;
         while place < self.states.len() {

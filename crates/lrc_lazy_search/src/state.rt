@@ -1,9 +1,10 @@
 // States of the machine that makes lazy runs.
 
-ghost use Rattle.std.specs.Prelude.{◌≡◌, ◌<◌, ◌^◌, ◌*◌, ◌-◌, ℕ, IfOk, OnOk, length, map};
+ghost use Rattle.std.specs.Prelude.{◌≡◌, ◌<◌, ◌^◌, ◌*◌, ◌+◌, ◌-◌, ℕ, IfOk, OnOk, length, map, max};
 ghost use Rattle.lrc_trace.specs.declared.act.Deed.TheVariants.{Read};
 ghost use Rattle.lrc_known.specs.declared.word.Effect.TheVariants.{Writes};
 ghost use Rattle.lrc_known.specs.Effect.{IsKnowledgeAfter, IsSmall, word_of};
+ghost use Rattle.lrc_known.specs.Tidy.{IsTidy};
 ghost use Rattle.lrc_lazy_search.specs.Fit.{effect_of_flat};
 
 use lrc_exec::spot::Flat;
@@ -18,8 +19,8 @@ use std::alloc::{AllocError, Global};
 const LONGEST: usize = 64;
 
 /// A state of the search: where the nodes are, what they know of the writes, and what was noted on the way. The words
-/// of the state are all 0: what a node knows says what a read gives. It counts no barriers that all nodes had left when
-/// it was renewed.
+/// of the state are all 0: what a node knows says what a read gives. What they know is written in one way alone. It
+/// counts no barriers that all nodes had left when it was renewed.
 #[derive(PartialEq, Eq, Hash, Drop)]
 pub struct LazyState {
     pub state: State,
@@ -34,9 +35,10 @@ impl LazyState {
     ghost use Rattle.lrc_exec.specs.Spots.{IsFlat};
     ghost use Rattle.lrc_exec.specs.States.{IsFirst, plain_at, IsStateOf};
     ghost use Rattle.lrc_known.specs.Effect.{word_of, IsKnowledgeAfter};
+    ghost use Rattle.lrc_known.specs.Tidy.{IsTidy};
     ghost use Rattle.lrc_lazy_machine.specs.Standing.{with_memory, departures_of, CanMake};
     ghost use Rattle.lrc_lazy_search.specs.Fit.{IsFit};
-    ghost use Rattle.lrc_lazy_search.specs.Searching.{HasAll, AreNext, AreEnough, IsAhead, IsForced, IsFresh, IsInFront, Makes, Steps, IsPoked};
+    ghost use Rattle.lrc_lazy_search.specs.Searching.{blanked, HasAll, AreEnough, AreNeat, AreNext, AreOnce, CountNoneGone, CountsNoneGone, IsAhead, IsBlank, IsFirstInFront, IsForced, IsFresh, IsInFront, IsNeat, Makes, Steps, IsPoked};
 
     /// Returns the beginning of a program whose text begins at this place of the code.
     pub fn start(alloc: Global, flat: &Flat, place: usize) -> Result<LazyState, AllocError>
@@ -45,6 +47,8 @@ impl LazyState {
         ensures state { IfOk result (λ key. IsStateOf flat.now key.state) }
         ensures nothing { IfOk result (λ key. (word : ℕ) → word_of key.knowledge word ≡ []) }
         ensures notes { IfOk result (λ key. key.notes.items ≡ []) }
+        ensures neat { IfOk result (IsNeat flat.now) }
+        ensures left { IfOk result (λ key. 0 < flat.now.nodes → CountsNoneGone flat.now key) }
     {
         Ok(LazyState {
             state: State::start(alloc, flat, place)?,
@@ -64,6 +68,7 @@ impl LazyState {
         ensures all { IfOk result (λ deeds. (deed : DeedType)
             → CanMake flat.now.words (plain_at flat.now self.now.state) self.now.knowledge node deed
             → (k : ℕ) × (slice_get deeds.items k ≡ Some deed)) }
+        ensures once { IfOk result (λ deeds. IsNeat flat.now self.now → AreOnce deeds.items) }
     {
         let Some(deed) = self.state.next_deed(flat, node) else {
             return Ok(Vec::new(alloc));
@@ -106,6 +111,7 @@ impl LazyState {
         requires room { slice_index self.now.state.arrivals.items node < 2 ^ 63 }
         ensures made { IfOk result (Makes flat.now self.now.state node deed) }
         ensures state { IfOk result (IsStateOf flat.now) }
+        ensures blank { IfOk result (IsBlank flat.now) }
     {
         let mut state = self.poked(alloc, flat, deed)?;
         state.make(flat, node, deed);
@@ -134,6 +140,7 @@ impl LazyState {
         requires node { node < flat.now.nodes }
         ensures steps { IfOk result (Steps flat.now self.now node deed) }
         ensures state { IfOk result (λ after. IsStateOf flat.now after.state) }
+        ensures neat { IfOk result (λ after. IsNeat flat.now self.now → IsNeat flat.now after) }
     {
         let _nodes = flat.nodes;
         let arrived = self.state.arrivals[node];
@@ -174,6 +181,7 @@ impl LazyState {
         requires flat { IsFlat flat.now }
         requires fit { IsFit flat.now self.now }
         ensures front { (node : ℕ) → result ≡ Some node → IsInFront flat.now self.now node }
+        ensures first { (node : ℕ) → result ≡ Some node → IsFirstInFront flat.now self.now node }
         ensures none { result ≡ None → (node : ℕ) → ¬ IsInFront flat.now self.now node }
     {
         let count = self.state.spots.len();
@@ -204,6 +212,8 @@ impl LazyState {
         requires state { IsStateOf flat.now self.old.state }
         ensures same { plain_at flat.now self.new.state
             ≡ with_memory (plain_at flat.now self.old.state) self.new.state.memory.items }
+        ensures blanked { self.new.state.memory.items
+            ≡ blanked deed self.old.state.memory.items }
         ensures state { IsStateOf flat.now self.new.state }
         ensures knowledge { self.new.knowledge ≡ self.old.knowledge }
         ensures notes { self.new.notes ≡ self.old.notes }
@@ -227,6 +237,7 @@ impl LazyState {
         requires room { slice_index self.old.state.arrivals.items node < 2 ^ 63 }
         ensures made { Makes flat.now self.old.state node deed self.new.state }
         ensures state { IsStateOf flat.now self.new.state }
+        ensures blank { IsBlank flat.now self.old.state → IsBlank flat.now self.new.state }
         ensures knowledge { self.new.knowledge ≡ self.old.knowledge }
         ensures notes { self.new.notes ≡ self.old.notes }
     {
@@ -240,6 +251,7 @@ impl LazyState {
         requires { IsSmall effect }
         ensures known { OnOk result (IsKnowledgeAfter effect self.old.knowledge
             self.new.knowledge) }
+        ensures tidy { OnOk result (IsTidy self.old.knowledge → IsTidy self.new.knowledge) }
         ensures state { self.new.state ≡ self.old.state }
         ensures notes { self.new.notes ≡ self.old.notes }
     {
@@ -269,6 +281,7 @@ impl LazyState {
         requires node { node < flat.now.nodes }
         ensures steps { OnOk result (Steps flat.now self.old node deed self.new) }
         ensures state { OnOk result (IsStateOf flat.now self.new.state) }
+        ensures neat { OnOk result (IsNeat flat.now self.old → IsNeat flat.now self.new) }
     {
         let _nodes = flat.nodes;
         let effect = effect_of(flat, self.state.arrivals[node], node, deed);
@@ -304,7 +317,8 @@ impl LazyState {
         requires flat { IsFlat flat.now }
         requires fit { IsFit flat.now self.old }
         requires room { (node : ℕ) → slice_index self.old.state.arrivals.items node < 2 ^ 63 }
-        ensures { OnOk result (IsAhead flat.now self.old self.new) }
+        ensures ahead { OnOk result (IsAhead flat.now self.old self.new) }
+        ensures neat { OnOk result (IsNeat flat.now self.old → IsNeat flat.now self.new) }
     {
         let Some(node) = self.in_front(flat) else {
             return Ok(false);
@@ -323,7 +337,9 @@ impl LazyState {
         requires flat { IsFlat flat.now }
         requires state { IsStateOf flat.now self.old.state }
         requires room { (node : ℕ) → slice_index self.old.state.arrivals.items node < 2 ^ 63 }
-        ensures { OnOk result (IsAhead flat.now self.old self.new) }
+        ensures ahead { OnOk result (IsAhead flat.now self.old self.new) }
+        ensures neat { OnOk result (IsNeat flat.now self.old → IsNeat flat.now self.new) }
+        ensures left { OnOk result (0 < flat.now.nodes → CountsNoneGone flat.now self.new) }
     {
         self.go_on(alloc, flat)?;
         self.renew(alloc, flat)
@@ -334,7 +350,8 @@ impl LazyState {
         requires flat { IsFlat flat.now }
         requires state { IsStateOf flat.now self.old.state }
         requires room { (node : ℕ) → slice_index self.old.state.arrivals.items node < 2 ^ 63 }
-        ensures { OnOk result (IsAhead flat.now self.old self.new) }
+        ensures ahead { OnOk result (IsAhead flat.now self.old self.new) }
+        ensures neat { OnOk result (IsNeat flat.now self.old → IsNeat flat.now self.new) }
     {
         for _ in 0..LONGEST {
             if !self.step_ahead(alloc, flat)? {
@@ -360,11 +377,13 @@ impl LazyState {
         }
     }
 
-    // How often each node has departed at least.
+    // How often each node has departed at least. If there are nodes, one of them has departed no more often.
     fn gone(&self, flat: &Flat) -> u64
         requires { IsStateOf flat.now self.now.state }
-        ensures { (node : ℕ) → node < flat.now.nodes
+        ensures most { (node : ℕ) → node < flat.now.nodes
             → result ≤ departures_of (plain_at flat.now self.now.state) node }
+        ensures least { 0 < flat.now.nodes → (node : ℕ) × (node < flat.now.nodes)
+            × (result ≡ departures_of (plain_at flat.now self.now.state) node) }
     {
         let mut gone = u64::MAX;
         for node in 0..flat.nodes {
@@ -377,7 +396,9 @@ impl LazyState {
     /// before it. It fails if memory runs out.
     pub fn renew(&mut self, alloc: Global, flat: &Flat) -> Result<(), AllocError>
         requires { IsStateOf flat.now self.old.state }
-        ensures { OnOk result (IsFresh flat.now self.old self.new) }
+        ensures fresh { OnOk result (IsFresh flat.now self.old self.new) }
+        ensures neat { OnOk result (IsNeat flat.now self.old → IsNeat flat.now self.new) }
+        ensures left { OnOk result (0 < flat.now.nodes → CountsNoneGone flat.now self.new) }
     {
         let gone = self.gone(flat);
         if gone == 0 {
@@ -397,6 +418,9 @@ impl LazyState {
         requires room { (node : ℕ) → slice_index self.now.state.arrivals.items node < 2 ^ 63 - 1 }
         ensures sound { IfOk result (λ all. AreNext flat.now self.now all.items) }
         ensures enough { IfOk result (λ all. AreEnough flat.now self.now all.items) }
+        ensures neat { IfOk result (λ all. IsNeat flat.now self.now → AreNeat flat.now all.items) }
+        ensures left { IfOk result (λ all. 0 < flat.now.nodes
+            → CountNoneGone flat.now all.items) }
     {
         match self.in_front(flat) {
             Some(node) => {
@@ -415,6 +439,9 @@ impl LazyState {
         requires room { (node : ℕ) → slice_index self.now.state.arrivals.items node < 2 ^ 63 - 1 }
         ensures sound { IfOk result (λ all. AreNext flat.now self.now all.items) }
         ensures all { IfOk result (λ all. (node : ℕ) → HasAll flat.now self.now node all.items) }
+        ensures neat { IfOk result (λ all. IsNeat flat.now self.now → AreNeat flat.now all.items) }
+        ensures left { IfOk result (λ all. 0 < flat.now.nodes
+            → CountNoneGone flat.now all.items) }
     {
         let mut all = Vec::new(alloc);
         for node in 0..self.state.spots.len() {
@@ -437,6 +464,10 @@ impl LazyState {
         requires sound { AreNext flat.now self.now all.old.items }
         ensures sound { OnOk result (AreNext flat.now self.now all.new.items) }
         ensures all { OnOk result (HasAll flat.now self.now node all.new.items) }
+        ensures neat { OnOk result (IsNeat flat.now self.now → AreNeat flat.now all.old.items
+            → AreNeat flat.now all.new.items) }
+        ensures left { OnOk result (0 < flat.now.nodes → CountNoneGone flat.now all.old.items
+            → CountNoneGone flat.now all.new.items) }
         ensures kept { OnOk result ((n : ℕ) → HasAll flat.now self.now n all.old.items
             → HasAll flat.now self.now n all.new.items) }
     {
@@ -493,6 +524,8 @@ fn effect_of(flat: &Flat, arrived: u64, node: usize, deed: Deed) -> Effect
 // Has something kept of a word, be it nothing.
 fn make_room(alloc: Global, knowledge: &mut Knowledge, word: usize) -> Result<(), AllocError>
     ensures room { OnOk result (word < length knowledge.new.words.items) }
+    ensures size { OnOk result (length knowledge.new.words.items
+        ≡ max (length knowledge.old.words.items) (word + 1)) }
     ensures same { OnOk result ((w : ℕ) → word_of knowledge.new w ≡ word_of knowledge.old w) }
 {
     while knowledge.words.len() <= word {
@@ -512,8 +545,9 @@ fn learn_write(
     value: u64,
 ) -> Result<(), AllocError>
     requires { IsSmall (Writes writer word value) }
-    ensures { OnOk result (IsKnowledgeAfter
+    ensures known { OnOk result (IsKnowledgeAfter
         (Writes writer word value) knowledge.old knowledge.new) }
+    ensures tidy { OnOk result (IsTidy knowledge.old → IsTidy knowledge.new) }
 {
     make_room(alloc, knowledge, word)?;
     let effect = Effect::Writes(writer, word, value);

@@ -14,7 +14,8 @@ returns-clause-ways c =
     let long = ap (λ (l : List LazyState). length l) one in
     record {
       kept = begun_alone c.args.sought.now keys c.push.new.self.items c.new.result.items c.in_ok-first.first
-          (record { parent = 0; act = record { node = 0; deed = Quiet } }) c.requires one (search rules) (search rules) e.first e.state e.nothing e.notes i.unique;
+          (record { parent = 0; act = record { node = 0; deed = Quiet } }) c.requires one (search rules) (search rules) e.first e.state e.nothing e.notes
+          e.neat (e.left c.requires.some) i.unique;
       few = omega (arith, long);
       small = omega (arith, long);
     }

@@ -58,24 +58,25 @@ put-requires-clause-reached c =
     let keys = c.args.self.now.states.keys in
     let key = c.index-as_slice-place.result in
     let there = item_in keys c.as_slice.result.now c.args.place key c.as_slice.ensures.keys c.requires.within c.index-as_slice-place.is in
+    let reached = c.requires.ways.kept.reached c.args.place key there in
     reached_more (omega (arith, c.requires.within))
-    (reached_next sought.program.now sought.flat c.requires.sought.words c.requires.sought.locks key c.renew.new.self c.args.place
-    (c.requires.ways.kept.reached c.args.place key there)
+    (reached_next sought.program.now sought.flat c.requires.sought.words c.requires.sought.locks key c.renew.new.self c.args.place reached
     (record {
       node = c.args.node;
       deed = c.args.deed;
       after = c.in_ok-next.next;
       steps = c.in_ok-next.ensures.steps;
       valid = c.in_ok-next.ensures.state;
-      goes = renewed still c.in_ok-renew.ensures;
-    }))
+      goes = renewed still c.in_ok-renew.ensures.fresh;
+    })
+    (c.in_ok-renew.ensures.neat (c.in_ok-next.ensures.neat reached.neat)) (c.in_ok-renew.ensures.left c.requires.sought.some))
 
 pub put-requires-clause-comes : goal.put-requires-clause-comes
 put-requires-clause-comes c =
     let keys = c.args.self.now.states.keys in
     let key = c.index-as_slice-place.result in
     let there = item_in keys c.as_slice.result.now c.args.place key c.as_slice.ensures.keys c.requires.within c.index-as_slice-place.is in
-    record { before = c.requires.within; parent = key; there = there; next = c.in_ok-next.next; steps = c.in_ok-next.ensures.steps; fresh = c.in_ok-renew.ensures }
+    record { before = c.requires.within; parent = key; there = there; next = c.in_ok-next.next; steps = c.in_ok-next.ensures.steps; fresh = c.in_ok-renew.ensures.fresh }
 
 pub returns-clause-ways : goal.returns-clause-ways
 returns-clause-ways c = record {
@@ -97,7 +98,7 @@ returns-clause-has c = λ wanted at.
       after = c.in_ok-next.next;
       steps = c.in_ok-next.ensures.steps;
       left = c.renew.new.self;
-      fresh = c.in_ok-renew.ensures;
+      fresh = c.in_ok-renew.ensures.fresh;
       has = c.in_ok-added.ensures.has;
     })
 
@@ -109,5 +110,5 @@ returns-clause-found c =
 pub returns-then-len-sought-clause-too_many : goal.returns-then-len-sought-clause-too_many
 returns-then-len-sought-clause-too_many c = λ _.
     let new = c.put.new.self in
-    meets_more c.args.sought.now new.states.keys new.origins.items new.settled.items c.in_ok-added.ensures.kept
+    meets_more c.args.sought.now new.states.keys new.origins.items new.settled.items c.requires.sought c.in_ok-added.ensures.kept
     (omega (arith, c.if-len-sought.true, c.len.ensures.len))

@@ -10,5 +10,5 @@ returns-clause-order c =
     let i = c.in_ok-insert_full.ensures in
     let s = i.stored in
     first_in_order c.args.task.now c.args.self.now.states.keys c.insert_full.new.self.keys c.in_ok-first.first c.go_ahead.new.self _
-    c.requires.task c.requires.none i.keys e.first e.state e.nothing e.notes c.in_ok-go_ahead.ensures
+    c.requires.task c.requires.none i.keys e.first e.state e.nothing e.notes e.neat (e.left c.requires.task.some) c.in_ok-go_ahead.ensures.ahead (c.in_ok-go_ahead.ensures.neat e.neat) (c.in_ok-go_ahead.ensures.left c.requires.task.some)
     (record { place = c.in_ok-insert_full.field-0.0; stored = s.0; there = s.1; same = s.2 }) i.unique

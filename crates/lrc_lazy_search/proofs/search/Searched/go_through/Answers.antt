@@ -1,4 +1,4 @@
-use Rattle.std.proofs.Common.{arith}
+use Rattle.std.proofs.Common.{arith, refl}
 use Rattle.lrc_lazy_search.proofs.Adding.{searched_more}
 use Rattle.lrc_lazy_search.proofs.Searched.{exact}
 use Rattle.lrc_lazy_search.proofs.search.Searched.go_through.Goals as goal
@@ -10,6 +10,7 @@ loop-place-preserved c =
     let old = c.loop-place.self in
     let new = c.visit.new.self in
     record {
+      within = omega (arith, c.loop-place-test.true, c.if-len-task.false, c.len.ensures, c.len-in-loop-place.ensures);
       order = e.order;
       sound = e.sound;
       searched = searched_more c.args.task.now.flat old.states.keys new.states.keys old.outcomes.keys new.outcomes.keys c.loop-place.place e.grows e.more
@@ -23,3 +24,22 @@ returns-clause-exact c = λ notes.
     let all = c.loop-place.self in
     exact task.program.now task.flat c.requires.task.words c.requires.task.locks all.states.keys all.outcomes.keys i.order.begun
     (λ k key lt at. i.searched k key (omega (arith, lt, c.loop-place-test.false, c.len.ensures)) at) i.sound notes
+
+pub returns-clause-fits : goal.returns-clause-fits
+returns-clause-fits c =
+    let task = c.args.task.now in
+    let is = c.requires.task in
+    let i = c.loop-place.invariant in
+    let all = c.loop-place.self in
+    record {
+      flat = task.flat;
+      count = refl;
+      place = task.start;
+      code = is.code;
+      words = is.words;
+      locks = is.locks;
+      keys = all.states.keys;
+      few = omega (arith, i.within, c.loop-place-test.false, c.len.ensures);
+      begun = i.order.begun;
+      searched = λ k key lt at. i.searched k key (omega (arith, lt, c.loop-place-test.false, c.len.ensures)) at;
+    }

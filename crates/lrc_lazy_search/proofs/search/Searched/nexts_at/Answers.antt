@@ -4,7 +4,7 @@ use Rattle.std.proofs.lemmas.Result.{IfOk-weaker}
 use Rattle.lrc_explore.proofs.Keeping.{item_in}
 use Rattle.lrc_lazy_search.specs.declared.state.LazyState.{LazyState}
 use Rattle.lrc_lazy_search.specs.Searching.{AreNext, AreEnough}
-use Rattle.lrc_lazy_search.proofs.Adding.{reached_next, reached_more}
+use Rattle.lrc_lazy_search.proofs.Adding.{all_say, reached_next, reached_more}
 use Rattle.lrc_lazy_search.proofs.Searched.{reached_fit}
 use Rattle.lrc_lazy_search.proofs.search.Searched.nexts_at.Goals as goal
 
@@ -32,10 +32,11 @@ returns-clause-reached c =
     let there = item_in keys c.as_slice.result.now c.args.place key c.as_slice.ensures.keys c.requires.within c.index-as_slice-place.is in
     let reached = c.requires.order.reached c.args.place key there in
     IfOk-weaker c.nexts.result _ _
-    (λ all sound k after at.
+    (λ all both k after at.
     reached_more (omega (arith, c.requires.within))
-    (reached_next task.program.now task.flat c.requires.task.words c.requires.task.locks key after c.args.place reached (sound k after at)))
-    c.nexts.ensures.sound
+    (reached_next task.program.now task.flat c.requires.task.words c.requires.task.locks key after c.args.place reached (both.0 k after at)
+    (both.1 reached.neat k after at) (both.2 c.requires.task.some k after at)))
+    (all_say _ _ _ c.nexts.result c.nexts.ensures.sound c.nexts.ensures.neat c.nexts.ensures.left)
 
 pub returns-clause-sound : goal.returns-clause-sound
 returns-clause-sound c =

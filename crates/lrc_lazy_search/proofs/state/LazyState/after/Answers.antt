@@ -20,6 +20,9 @@ returns-clause-steps c =
       makes = c.in_ok-state.ensures.made;
       gives = c.requires.can.gives;
       effect = subst (λ n. IsKnowledgeAfter (effect_of_flat flat n node deed) key.knowledge c.in_ok-knowledge.knowledge) arrived
-          (subst (λ e. IsKnowledgeAfter e key.knowledge c.in_ok-knowledge.knowledge) c.effect_of-effect.ensures.effect c.in_ok-knowledge.ensures);
+          (subst (λ e. IsKnowledgeAfter e key.knowledge c.in_ok-knowledge.knowledge) c.effect_of-effect.ensures.effect c.in_ok-knowledge.ensures.after);
       notes = c.in_ok-note.ensures ∙ ap (λ n. notes_with n (act_of node deed)) (c.in_ok-notes.ensures ∙ c.deref.ensures.value);
     }
+
+pub returns-clause-neat : goal.returns-clause-neat
+returns-clause-neat c = λ neat. record { blank = c.in_ok-state.ensures.blank; tidy = c.in_ok-knowledge.ensures.tidy neat.tidy }

@@ -7,8 +7,9 @@ use Rattle.lrc_explore.specs.Notes.{notes_with}
 use Rattle.lrc_explore.proofs.Faults.{ok_says}
 use Rattle.lrc_known.specs.declared.known.Knowledge.{Knowledge}
 use Rattle.lrc_known.specs.Effect.{IsKnowledgeAfter}
+use Rattle.lrc_known.specs.Tidy.{IsTidy}
 use Rattle.lrc_lazy_search.specs.Fit.{effect_of_flat}
-use Rattle.lrc_lazy_search.specs.Searching.{Makes}
+use Rattle.lrc_lazy_search.specs.Searching.{IsBlank, Makes}
 use Rattle.lrc_lazy_search.proofs.state.LazyState.make.Goals as goal
 
 pub returns-clause-steps : goal.returns-clause-steps
@@ -31,5 +32,16 @@ returns-clause-steps c =
           (subst (λ x. IsKnowledgeAfter x key.knowledge kept) c.effect_of-effect.ensures.effect
           (subst (λ (k : Knowledge). IsKnowledgeAfter c.effect_of-effect.result k kept) moved.knowledge e.known));
       notes = noted ∙ ap (λ ns. notes_with ns.items (act_of node deed)) (e.notes ∙ moved.notes);
+    })
+    c.note.ensures
+
+pub returns-clause-neat : goal.returns-clause-neat
+returns-clause-neat c =
+    let flat = c.args.flat.now in
+    let moved = c.move_on.ensures in
+    ok_says c.note.result
+    (λ noted neat. record {
+      blank = subst (λ (s : State). IsBlank flat s) (sym c.in_ok-learn.ensures.state) (moved.blank neat.blank);
+      tidy = c.in_ok-learn.ensures.tidy (subst IsTidy (sym moved.knowledge) neat.tidy);
     })
     c.note.ensures

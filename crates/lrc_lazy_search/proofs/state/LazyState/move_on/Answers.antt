@@ -4,6 +4,7 @@ use Rattle.lrc_exec.specs.Plain.{Plain, plain_step}
 use Rattle.lrc_lazy_machine.specs.Standing.{with_memory}
 use Rattle.lrc_lazy_search.specs.Searching.{poked}
 use Rattle.lrc_lazy_search.proofs.Making.{poked_made, poked_long}
+use Rattle.lrc_lazy_search.proofs.Neat.{blank_after}
 use Rattle.lrc_lazy_search.proofs.state.LazyState.move_on.Goals as goal
 
 pub make-requires-clause-can : goal.make-requires-clause-can
@@ -26,3 +27,9 @@ returns-clause-made c =
       made = sym (ap (λ (m : Plain). plain_step m node) c.poke.ensures.poked.is) ∙ c.make.ensures.made
           ∙ ap (λ (m : Plain). Some (deed, with_memory m c.make.new.self.memory.items)) (sym c.blank.ensures.same);
     }
+
+pub returns-clause-blank : goal.returns-clause-blank
+returns-clause-blank c =
+    let key = c.args.self.now in
+    blank_after c.args.flat.now key.state c.poke.new.self.state c.make.new.self c.blank.new.self.state c.args.node c.args.deed
+    (ap (λ (m : Plain). m.memory) c.poke.ensures.poked.is) c.make.ensures.made c.blank.ensures.blanked

@@ -14,6 +14,7 @@ use Rattle.lrc_lazy_machine.specs.Standing.{with_memory}
 use Rattle.lrc_lazy_search.specs.Searching.{HasStep}
 use Rattle.lrc_lazy_search.proofs.Making.{can_below}
 use Rattle.lrc_lazy_search.proofs.Adding.{step_on, next_push}
+use Rattle.lrc_lazy_search.proofs.Neat.{count_push, neat_push}
 use Rattle.lrc_lazy_search.proofs.state.LazyState.nexts_of.Goals as goal
 
 pub after-requires-clause-node : goal.after-requires-clause-node
@@ -59,7 +60,7 @@ loop-place-preserved c =
     let old = c.loop-place.all.items in
     let new = c.push.new.self.items in
     let steps = c.in_ok-next.ensures.steps in
-    let goes = c.in_ok-go_ahead.ensures in
+    let goes = c.in_ok-go_ahead.ensures.ahead in
     let within : place < length deeds = omega (arith, c.loop-place-test.true, c.loop-place.auto.place-end, c.len-place-end.ensures) in
     let there = item_in deeds deeds place deed refl within c.index.ensures in
     let grown : Grows old new = record { more = ahead ∷ []; is = c.in_ok-push.ensures.items } in
@@ -80,4 +81,7 @@ loop-place-preserved c =
             })
         | inr apart ↦ step_on grown (i.done k other (omega (arith, lt, apart)) at)
       ];
+      neat = λ here before.
+          neat_push flat ahead old new c.in_ok-push.ensures.items (i.neat here before) (c.in_ok-go_ahead.ensures.neat (c.in_ok-next.ensures.neat here));
+      left = λ some before. count_push flat ahead old new c.in_ok-push.ensures.items (i.left some before) (c.in_ok-go_ahead.ensures.left some);
     }

@@ -21,6 +21,8 @@ loop-node-preserved c =
             (e.all deed (subst (λ x. CanMake flat.words (plain_at flat key.state) key.knowledge x deed) same can))
         | inr apart ↦ e.kept n (c.loop-node.invariant.done n (omega (arith, lt, apart))) deed can
       ];
+      neat = λ here. e.neat here (c.loop-node.invariant.neat here);
+      left = λ some. e.left some (c.loop-node.invariant.left some);
     }
 
 pub returns-clause-all : goal.returns-clause-all

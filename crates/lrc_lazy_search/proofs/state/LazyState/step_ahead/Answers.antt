@@ -3,10 +3,10 @@ use Rattle.lrc_lazy_search.proofs.Making.{front_below}
 use Rattle.lrc_lazy_search.proofs.state.LazyState.step_ahead.Goals as goal
 
 pub returns-in_default : goal.returns-in_default
-returns-in_default c = still
+returns-in_default c = record { ahead = still; neat = λ neat. neat }
 
 pub returns-in_default-2 : goal.returns-in_default-2
-returns-in_default-2 c = still
+returns-in_default-2 c = record { ahead = still; neat = λ neat. neat }
 
 pub make-requires-clause-can : goal.make-requires-clause-can
 make-requires-clause-can c = (c.in_ok-deed.ensures c.in-Some-2.deed c.in-Some-2.is).can
@@ -15,6 +15,6 @@ pub make-requires-clause-node : goal.make-requires-clause-node
 make-requires-clause-node c =
     front_below c.args.flat.now c.args.self.now c.in-Some.node c.requires.fit (c.in_front.ensures.front c.in-Some.node c.in-Some.is)
 
-pub returns : goal.returns
-returns c =
+pub returns-clause-ahead : goal.returns-clause-ahead
+returns-clause-ahead c =
     onward c.in-Some.node c.in-Some-2.deed still (c.in_ok-deed.ensures c.in-Some-2.deed c.in-Some-2.is) c.in_ok-make.ensures.steps c.in_ok-make.ensures.state
