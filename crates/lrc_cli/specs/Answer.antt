@@ -41,7 +41,7 @@ use Rattle.lrc_args.specs.declared.choice.ForeignActs.{ForeignActs}
 use Rattle.lrc_args.specs.declared.choice.Exploring.{Exploring}
 use Rattle.lrc_args.specs.declared.choice.Memory.{Memory}
 use Rattle.lrc_args.specs.declared.choice.Memory.TheVariants.{Flat, Lazy}
-use Rattle.lrc_lazy_text.specs.Listed.{MetTooManyLazily, TellsLazyOutcomes}
+use Rattle.lrc_lazy_text.specs.Listed.{FitLazyRuns, MetTooManyLazily, TellsLazyOutcomes}
 use Rattle.lrc_lazy_text.specs.One.{HasFewerLazyOutcomes, TellsNumberedLazyRun}
 use Rattle.lrc_args.specs.declared.choice.OutcomeNumber.{OutcomeNumber}
 use Rattle.lrc_args.specs.declared.choice.Judging.{Judging}
@@ -81,13 +81,15 @@ ShowsOrders exploring labels program places out status = Explores labels program
 abbrev pub tries_asked : Exploring → Option ℕ
 tries_asked exploring = option_map (λ tries. tries.count) exploring.tries
 
--- the text lists the outcomes of all lazy runs
+-- the text lists the outcomes of all lazy runs, and the search met no more states than it may
 abbrev pub ShowsLazyOutcomes : Exploring → Program → List ℕ → ℕ → Type 0
 ShowsLazyOutcomes exploring program out status = TellsLazyOutcomes program exploring.nodes.count (tries_asked exploring) out × (status ≡ 0)
+    × FitLazyRuns program exploring.nodes.count exploring.most.count
 
--- the text shows a lazy run that has the outcome of this number
+-- the text shows a lazy run that has the outcome of this number, and the search for the outcomes met no more states than it may
 abbrev pub ShowsLazyRun : Exploring → Program → (places : List ℕ) → (number : ℕ) → List ℕ → ℕ → Type 0
 ShowsLazyRun exploring program places number out status = TellsNumberedLazyRun program exploring.nodes.count places number out × (status ≡ 0)
+    × FitLazyRuns program exploring.nodes.count exploring.most.count
 
 -- of one flat memory: of the outcome that is asked for, or of every order
 abbrev pub IsFlatAnswer : Option OutcomeNumber → Exploring → List Label → Program → (places : List ℕ) → List ℕ → ℕ → Type 0

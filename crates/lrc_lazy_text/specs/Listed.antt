@@ -11,7 +11,7 @@ use Rattle.lrc_explore.specs.contracts.outcomes.OutcomePartialEq.TheImpl.{eq-val
 use Rattle.lrc_explore.specs.Outcome.{HasOutcome}
 use Rattle.lrc_explore_text.specs.Outcomes.{none_ends, outcome_line}
 use Rattle.lrc_lazy.specs.Lazy.{IsLazyOutcome}
-use Rattle.lrc_lazy_search.specs.Searching.{MeetsMore}
+use Rattle.lrc_lazy_search.specs.Searching.{FitsLazily, MeetsMore}
 use Rattle.lrc_seeds.specs.Seeds.{AreLeastSeeds}
 use Rattle.lrc_lazy_text.specs.declared.listed.ToldOutcome.{ToldOutcome}
 
@@ -66,6 +66,10 @@ pub record TellsLazyOutcomes (program : Program) (nodes : ℕ) (tries : Option �
 -- the search through the lazy runs met more states than it might
 abbrev pub MetTooManyLazily : Program → (nodes most : ℕ) → Type 0
 MetTooManyLazily program nodes most = MeetsMore program nodes most
+
+-- no more states than a bound were enough for the outcomes of the lazy runs
+abbrev pub FitLazyRuns : Program → (nodes most : ℕ) → Type 0
+FitLazyRuns program nodes most = (outcomes : List Outcome) × FitsLazily program nodes most outcomes
 
 -- ---- lines as they are kept
 

@@ -3,7 +3,7 @@
 ghost use Rattle.std.specs.Prelude.{◌≡◌, ◌≢◌, ◌++◌, IfErr, IfOk, OnOk, codes, decimal, length};
 ghost use Rattle.lrc_text.specs.Parts.{whole_text};
 ghost use Rattle.lrc_explore_text.specs.Outcomes.{none_ends};
-ghost use Rattle.lrc_lazy_text.specs.Listed.{AreSeedsFor, AreToldOf, ListsLazyOutcomes, MetTooManyLazily, TellsLazyOutcomes, marked_line, marked_lines, seed_mark, told_pair};
+ghost use Rattle.lrc_lazy_text.specs.Listed.{AreSeedsFor, AreToldOf, FitLazyRuns, ListsLazyOutcomes, MetTooManyLazily, TellsLazyOutcomes, marked_line, marked_lines, seed_mark, told_pair};
 
 use lrc_explore::outcomes::Outcome;
 use lrc_explore::search::ExploreFault;
@@ -23,8 +23,8 @@ struct ToldOutcome {
 }
 
 /// Returns what is printed of the outcomes of the lazy runs of a program, in parts. If `tries` is given, it plays a run
-/// in the random order of each seed below `tries`, and each outcome has behind it the least seed whose run has it. Fails
-/// if there are more than `most` states to tell apart, or if memory runs out.
+/// in the random order of each seed below `tries`, and each outcome has behind it the least seed whose run has it. Gives
+/// up with `TooMany` only if lazy runs lead to more than `most` different states. Fails if memory runs out.
 pub fn lazy_outcomes_told(
     alloc: Global,
     program: &Program,
@@ -34,6 +34,7 @@ pub fn lazy_outcomes_told(
 ) -> Result<Vec<Vec<u8>>, ExploreFault>
     ensures told { IfOk result (λ parts. TellsLazyOutcomes program.now nodes.count tries
         (whole_text parts.items)) }
+    ensures fits { IfOk result (λ _. FitLazyRuns program.now nodes.count most) }
     ensures nodes { IfErr result (λ fault. fault ≢ ExploreFault.BadNodes) }
     ensures too_many { IfErr result (λ fault. fault ≡ ExploreFault.TooMany
         → MetTooManyLazily program.now nodes.count most) }

@@ -1,7 +1,7 @@
 // A lazy run that has one of the outcomes of a program, as it is printed.
 
 ghost use Rattle.std.specs.Prelude.{◌≡◌, ◌≢◌, ◌≤◌, ◌<◌, IfErr, IfOk, length, option_map};
-ghost use Rattle.lrc_lazy_text.specs.Listed.{AreLazyOutcomes, MetTooManyLazily};
+ghost use Rattle.lrc_lazy_text.specs.Listed.{AreLazyOutcomes, FitLazyRuns, MetTooManyLazily};
 ghost use Rattle.lrc_lazy_text.specs.One.{IsLazyRunAt, TellsLazyRunOfNumber};
 
 use lrc_explore::outcomes::Outcome;
@@ -17,8 +17,8 @@ use std::alloc::Global;
 
 /// Returns what is printed of the outcome with this number, counted from 1, among the outcomes of the lazy runs of a
 /// program: the acts of a lazy run that has it. Returns none if there are fewer outcomes. `lines` has the lines of the
-/// program's statements, and of the text's end behind them. Fails if there are more than `most` states to tell apart, or
-/// if memory runs out.
+/// program's statements, and of the text's end behind them. Gives up with `TooMany` only if lazy runs lead to more than
+/// `most` different states. Fails if memory runs out.
 pub fn lazy_run_told(
     alloc: Global,
     program: &Program,
@@ -30,6 +30,7 @@ pub fn lazy_run_told(
     requires { 1 ≤ number }
     ensures told { IfOk result (λ told. TellsLazyRunOfNumber program.now nodes.count lines.now
         number (option_map (λ text. text.items) told)) }
+    ensures fits { IfOk result (λ _. FitLazyRuns program.now nodes.count most) }
     ensures nodes { IfErr result (λ fault. fault ≢ ExploreFault.BadNodes) }
     ensures too_many { IfErr result (λ fault. fault ≡ ExploreFault.TooMany
         → MetTooManyLazily program.now nodes.count most) }

@@ -20,3 +20,6 @@ returns-clause-told c =
       listed = subst (λ (s : List (Option ℕ)). ListsLazyOutcomes nodes outcomes s out) c.deref.ensures.value
           (subst (λ (n : ℕ). ListsLazyOutcomes n outcomes c.deref.result.now out) c.number.ensures c.in_ok-parts.ensures);
     }
+
+pub returns-clause-fits : goal.returns-clause-fits
+returns-clause-fits c = (c.in_ok-found.found.keys, c.in_ok-found.ensures.fits)

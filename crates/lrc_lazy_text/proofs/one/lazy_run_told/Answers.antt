@@ -32,3 +32,9 @@ returns-clause-told c =
           c.in_ok-found.ensures.exact c.as_slice-outcomes.ensures.unique;
       few = subst (IsPlaceOfNumber c.number-count.result outcomes c.args.number) c.in-None.is c.in_ok-place.ensures;
     }
+
+pub returns-in-Some-clause-fits : goal.returns-in-Some-clause-fits
+returns-in-Some-clause-fits c = (c.in_ok-found.found.keys, c.in_ok-found.ensures.fits)
+
+pub returns-clause-fits : goal.returns-clause-fits
+returns-clause-fits c = (c.in_ok-found.found.keys, c.in_ok-found.ensures.fits)
