@@ -306,9 +306,8 @@ impl<'c> World<'c> {
             → AddsTo self.old self.new turn.node entry result }
         ensures turned { OnOk result (NotesTurn self.old self.new turn.event (Some turn.node)) }
     {
-        self.add_newest(usize::from(turn.node))?;
         note_turn(self.keep, &mut self.turned, turn)?;
-        Ok(())
+        self.add_newest(usize::from(turn.node))
     }
 
     // Adds what the node's newest turn did, and leaves of its log what is to be kept.
