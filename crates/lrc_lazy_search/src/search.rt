@@ -20,8 +20,8 @@ use std::alloc::{AllocError, Global};
 
 /// Returns every outcome of the lazy runs of a program on this many nodes, after which no node can make an act. It
 /// fails with `BadNodes` exactly if the number of nodes is not 1 to 16. It gives up with `TooMany` only if lazy runs
-/// lead to more than `most` different states, and where it answers it looked at no more than `most`. It fails if memory
-/// runs out.
+/// lead to more than `most` different states, and where it answers, no more than `most` states are enough. It fails if
+/// memory runs out.
 pub fn lazy_outcomes(
     alloc: Global,
     program: &Program,

@@ -12,7 +12,8 @@ pub fn spelled_texts_are_read_back()
     ensures { (text : List ℕ) → reads (plain []) (spelled text ++ codes "\"") ≡ ended text }
 {}
 
-/// No line contains a markup sign, so no text can end the element that holds the data.
+/// No line about the program, its reasons or its races contains a markup sign, so none of these can end the element that
+/// holds the data.
 pub fn lines_have_no_markup()
     ensures program { (name text : List ℕ) → HasNoMarkup (program_line name text) }
     ensures explain { (lines : List (List ℕ)) → HasNoMarkup (explain_line lines) }
