@@ -5,6 +5,7 @@
 pub mod answers;
 pub mod ended;
 pub mod found;
+pub mod laws;
 pub mod seek;
 pub mod task;
 pub mod told;

@@ -30,11 +30,6 @@ access_is (departs after) = refl
 access_is (traps cause) = refl
 access_is ends = refl
 
-pub none_asked : (ask : Ask) → ((word : ℕ) → ask ≡ asks.Read word → ⊥) → ((word value : ℕ) → ask ≡ asks.Write word value → ⊥) → None ≡ access_asked ask
-none_asked (asks.Read word) not_read not_write = absurd (not_read word refl)
-none_asked (asks.Write word value) not_read not_write = absurd (not_write word value refl)
-none_asked _ not_read not_write = refl
-
 pub own_access : (flat : Flat) (state : State) (node : ℕ) (spot : Spot) → node < length state.spots.items → spot ≡ get_or state.spots.items node spot
     → (ask : Ask) → spot.stopped ≡ false → spot.arrived ≡ false → ask ≡ ask_of (next_of (thread_at flat spot))
     → access_asked ask ≡ next_access (plain_at flat state) node

@@ -8,16 +8,12 @@ pub mod Effects
 pub mod Reduced
 pub mod Reducing
 pub mod Meetings
-pub mod Endings
 pub mod Accesses
 pub mod Same
 pub mod Pairs
 pub mod Standing
-pub mod Breadth
 pub mod Searching
-pub mod Depths
 pub mod Counting
-pub mod Exploring
 pub mod Faults
 pub mod Noting
 pub mod Alike

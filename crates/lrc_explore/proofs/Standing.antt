@@ -54,28 +54,9 @@ all_still flat state bound long still node =
     let none = still node (omega (arith, length-map state.spots.items (spot_thread flat))) in
     let no : None ≡ Some x = sym none ∙ e in cc)
 
-pub not_still : (machine : Plain) (node : ℕ) (deed : Deed) → option_map (λ step. step.0) (plain_step machine node) ≡ Some deed → IsAtRest machine → ⊥
-not_still machine node deed is still =
-    let e : None ≡ Some deed = ap (option_map (λ step. step.0)) (sym (still node)) ∙ is in cc
-
--- a node of a state, where it has stopped or not
-stopped_there : (flat : Flat) (s : Spot) (stopped : Bool) → s.stopped ≡ stopped → stopped ≡ true → spot_thread flat s ≡ None
-stopped_there flat s true e is = ap (λ b. if b then None else Some (record (thread_at flat s) { arrived = s.arrived })) e
-stopped_there flat s false e is = cc
-
 runs_there : (flat : Flat) (s : Spot) (stopped : Bool) → s.stopped ≡ stopped → stopped ≡ false → IsSome (spot_thread flat s)
 runs_there flat s false e is = ap (λ b. is_some (if b then None else Some (record (thread_at flat s) { arrived = s.arrived }))) e
 runs_there flat s true e is = cc
-
--- one node more that has stopped
-pub stopped_more : (flat : Flat) (state : State) (bound : ℕ) (d : Spot) → bound < length state.spots.items
-    → (get_or state.spots.items bound d).stopped ≡ true → StoppedBelow (plain_at flat state) bound → StoppedBelow (plain_at flat state) (bound + 1)
-stopped_more flat state bound d within is stopped node lt = elim (cases_eq node bound) [
-  | inl same ↦
-      ap (thread_in (plain_at flat state)) same ∙ thread_there flat state bound d within
-      ∙ stopped_there flat (get_or state.spots.items bound d) (get_or state.spots.items bound d).stopped refl is
-  | inr before ↦ stopped node (omega arith)
-]
 
 pub unfinished : (flat : Flat) (state : State) (node : ℕ) (d : Spot) → node < length state.spots.items
     → (get_or state.spots.items node d).stopped ≡ false → IsUnfinished (plain_at flat state)

@@ -59,14 +59,6 @@ module _ {S A : Type 0} (At : S → ℕ → A → Type 0) (count : S → ℕ) (W
     pub full_more : (k : ℕ) → k < count new → HasPlace new k
     full_more = full_put added is
 
-    first_put : count old ≡ 0 → (b : Bool) → IsAddedAt (count old) (count new) place b → (b ≡ true) × (place ≡ 0)
-    first_put none true put = (refl, put.0 ∙ none)
-    first_put none false put = let within = laws.within new place item at in absurd (omega (arith, within, put, none))
-
-    -- the first one is new
-    pub first_added : count old ≡ 0 → (added ≡ true) × (place ≡ 0)
-    first_added none = first_put none added is
-
   -- the items of a list are at the places from one on
   abbrev AreFrom : S → ℕ → List A → Type 0
   AreFrom s first list = (k : ℕ) (x : A) → slice_get list k ≡ Some x → At s (first + k) x

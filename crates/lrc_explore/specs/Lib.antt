@@ -1,11 +1,6 @@
 pub mod Meeting
 pub mod Stuck
-pub mod Led
 pub mod Kept
-pub mod Breadth
 pub mod Verdict
-pub mod Search
-pub mod Limit
 pub mod Notes
-pub mod Noted
 pub mod Outcome

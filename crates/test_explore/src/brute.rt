@@ -1,9 +1,10 @@
-// Every order of small programs, one after another on the plain machine, against what the searches say of them.
+// Every order of small programs, one after another on the plain machine, against what the search says of them.
 
 use crate::checks::passes;
+use lrc_breadth::answers::{explore, outcomes};
 use lrc_exec::plain::plain_run;
-use lrc_explore::outcomes::{Outcome, outcomes};
-use lrc_explore::search::{Verdict, explore};
+use lrc_explore::outcomes::Outcome;
+use lrc_explore::search::Verdict;
 use lrc_judge::are_in_range;
 use lrc_judge::first::first_race;
 use lrc_lang::parse;

@@ -1,17 +1,17 @@
 // How many states a search may meet, and that it gives up past so many and no earlier.
 
 use crate::checks::passes;
-use lrc_explore::outcomes::outcomes;
-use lrc_explore::search::{ExploreFault, explore};
+use lrc_breadth::answers::{explore, outcomes};
+use lrc_explore::search::ExploreFault;
 use lrc_lang::parse;
 use lrc_lang::program::Program;
 use std::alloc::Global;
 
-/// One node that makes no access: the start, and a state after each act.
-const STEPS: &[u8] = b"words 1; locks 0; x = 1; y = 2;";
+/// Three writes of a word of its own: a node stands before each of them, and past the last. So it has four states.
+const STEPS: &[u8] = b"words 4; locks 0; [me] = 1; [me] = 2; [me] = 3;";
 
-/// Three assignments: five states of each node.
-const COUNTS: &[u8] = b"words 1; locks 0; x = 1; y = 2; z = 3;";
+/// Four writes: five states of each node.
+const COUNTS: &[u8] = b"words 4; locks 0; [me] = 1; [me] = 2; [me] = 3; [me] = 4;";
 
 /// A program for so many nodes, how many states a search may meet, and why both searches give up, if they do.
 struct Row {
@@ -69,7 +69,7 @@ const NO_NODE: Row = Row {
 };
 
 const ROWS: &[Row] = &[
-    // The start, the state after each of two assignments, and the one after the end.
+    // The start, and the state after each of three writes.
     TOO_MANY,
     Row {
         name: "one node that meets four states",

@@ -1,7 +1,8 @@
 // Programs, and what is found of each: the orders are the least of the shortest.
 
 use crate::checks::passes;
-use lrc_explore::search::{ExploreFault, Verdict, explore};
+use lrc_breadth::answers::explore;
+use lrc_explore::search::{ExploreFault, Verdict};
 use lrc_lang::parse;
 use std::alloc::Global;
 
