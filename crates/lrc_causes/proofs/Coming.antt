@@ -24,7 +24,7 @@ use Rattle.lrc_consistency_laws.specs.Follows.{Goes, quietly, printing, reading,
 use Rattle.lrc_consistency_laws.specs.Follows.{Makes, deeds_of, nodes_of_acts, FollowsText}
 use Rattle.lrc_consistency_laws.specs.InOrder.{ReadsInOrder}
 use Rattle.lrc_consistency_laws.proofs.Ahead.{does_ahead}
-use Rattle.lrc_consistency_laws.proofs.Matching.{IsPaired, Matches}
+use Rattle.lrc_consistency_laws.specs.Matching.{IsPaired, Matches}
 use Rattle.lrc_consistency_laws.proofs.Runs.{CanDo, SoundAt, can_do, Makes_first, makes_first, deeds_of-own, Ready, led}
 use Rattle.lrc_consistency_laws.proofs.Plainly.{one_more, plain_from-joined}
 use Rattle.lrc_consistency_laws.proofs.UpToRace.{in_range}

@@ -12,7 +12,7 @@ use Rattle.lrc_trace.specs.Order.{Precedes, program}
 use Rattle.lrc_trace.proofs.Positions.{Does-node, Does-deed, Does-one_node, Does-one_deed}
 use Rattle.lrc_exec.specs.Meaning.{Thread}
 use Rattle.lrc_exec.specs.Plain.{Plain, thread_in}
-use Rattle.lrc_consistency_laws.proofs.Matching.{Matches}
+use Rattle.lrc_consistency_laws.specs.Matching.{Matches}
 use Rattle.lrc_explore.specs.Meeting.{next_access_in, next_access}
 use Rattle.lrc_explore.proofs.Effects.{after_of, set_alike, length-memory, length-holders, length-arrivals, memory_alike, holders_alike, arrivals_alike}
 use Rattle.lrc_explore.proofs.Effects.{memory_other, holders_other, arrivals_other, arrival_counted, arrivals_rise}

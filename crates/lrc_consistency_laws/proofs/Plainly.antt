@@ -22,7 +22,7 @@ use Rattle.lrc_consistency_laws.proofs.Ahead.{does_ahead, drop_ahead}
 use Rattle.lrc_exec.proofs.NextLaws.{next_of-fine}
 use Rattle.lrc_exec.proofs.PlainLaws.{then_from, plain_from-append}
 use Rattle.lrc_exec.proofs.PlainParts.{thread_within}
-use Rattle.lrc_consistency_laws.proofs.Matching.{Matches}
+use Rattle.lrc_consistency_laws.specs.Matching.{Matches}
 use Rattle.lrc_consistency_laws.proofs.Step.{step}
 use Rattle.lrc_consistency_laws.proofs.Runs.{CanDo, SoundAt, is_sound, deeds_of-own, deeds_of-other, thread_after, other_after, thread_at_start, start_matches}
 

@@ -23,7 +23,7 @@ use Rattle.lrc_consistency_laws.specs.InOrder.{last_value}
 use Rattle.lrc_consistency_laws.proofs.Ahead.{does_ahead, drop_ahead}
 use Rattle.lrc_exec.proofs.NextLaws.{IsFine, next_of-fine}
 use Rattle.lrc_exec.proofs.PlainParts.{thread_within}
-use Rattle.lrc_consistency_laws.proofs.Matching.{IsPaired, ThreadFits, Matches}
+use Rattle.lrc_consistency_laws.specs.Matching.{IsPaired, ThreadFits, Matches}
 use Rattle.lrc_consistency_laws.proofs.Step.{none_since, holder_cases, step}
 
 -- the deeds of a node, past an act of its own and of another

@@ -18,7 +18,8 @@ use Rattle.lrc_consistency_laws.specs.InOrder.{value_after, last_value}
 use Rattle.lrc_consistency_laws.proofs.LastValue.{last_value-more, value_after-same, value_after-other}
 use Rattle.lrc_exec.proofs.NextLaws.{Leads, Stays, IsFine}
 use Rattle.lrc_exec.proofs.PlainParts.{thread_within}
-use Rattle.lrc_consistency_laws.proofs.Matching.{IsPaired, ThreadFits, Matches, arrives-same, departs-same, threads_after}
+use Rattle.lrc_consistency_laws.specs.Matching.{IsPaired, ThreadFits, Matches}
+use Rattle.lrc_consistency_laws.proofs.Matching.{arrives-same, departs-same, threads_after}
 
 -- what a test says of an option
 pub none_since : {A : Type 0} (o : Option A) → is_none o ≡ true → o ≡ None

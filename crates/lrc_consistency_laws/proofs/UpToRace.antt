@@ -19,7 +19,7 @@ use Rattle.lrc_consistency_laws.specs.Follows.{departing, trapping, ending, Make
 use Rattle.lrc_consistency_laws.specs.Kinds.{SameKind, same, reads, PlainUpTo}
 use Rattle.lrc_consistency_laws.proofs.Ahead.{take_ahead}
 use Rattle.lrc_exec.proofs.NextLaws.{IsFine, next_of-fine}
-use Rattle.lrc_consistency_laws.proofs.Matching.{Matches}
+use Rattle.lrc_consistency_laws.specs.Matching.{Matches}
 use Rattle.lrc_consistency_laws.proofs.Lazy.{reads_last}
 use Rattle.lrc_consistency_laws.proofs.Runs.{SoundAt, done, can_do, makes_first, deeds_of-own, Ready, Led, led, start_ready}
 use Rattle.lrc_consistency_laws.proofs.Plainly.{one_more, plain_from-joined}

@@ -16,7 +16,7 @@ use Rattle.lrc_exec.specs.Plain.{start_of}
 use Rattle.lrc_consistency_laws.specs.Follows.{Goes, quietly, printing, reading, writing, acquiring, releasing, arriving}
 use Rattle.lrc_consistency_laws.specs.Follows.{departing, trapping, ending, Makes, deeds_of, FollowsText}
 use Rattle.lrc_exec.proofs.NextLaws.{IsFine, next_of-fine}
-use Rattle.lrc_consistency_laws.proofs.Matching.{IsPaired}
+use Rattle.lrc_consistency_laws.specs.Matching.{IsPaired}
 use Rattle.lrc_consistency_laws.proofs.Runs.{makes_first, deeds_of-own, deeds_of-other}
 use Rattle.lrc_consistency_laws.proofs.UpToRace.{in_range}
 

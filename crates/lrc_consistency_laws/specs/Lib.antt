@@ -2,3 +2,4 @@ pub mod Follows
 pub mod Kinds
 pub mod InOrder
 pub mod Racing
+pub mod Matching

@@ -5,7 +5,7 @@ use Rattle.std.proofs.lemmas.List.{length-replicate}
 use Rattle.lrc_lang.specs.declared.program.Program.{Program}
 use Rattle.lrc_trace.proofs.Positions.{Does-within}
 use Rattle.lrc_exec.specs.Plain.{Plain, plain_start, start_of}
-use Rattle.lrc_consistency_laws.proofs.Matching.{Matches}
+use Rattle.lrc_consistency_laws.specs.Matching.{Matches}
 use Rattle.lrc_consistency_laws.proofs.Plainly.{facts}
 use Rattle.lrc_consistency_laws.proofs.Runs.{start_matches, thread_at_start}
 use Rattle.lrc_explore.specs.Notes.{notes_from, notes_of}

@@ -18,7 +18,7 @@ use Rattle.lrc_exec.proofs.NextLaws.{IsFine, Stays}
 use Rattle.lrc_consistency_laws.specs.Follows.{Goes, quietly, printing, reading, writing, acquiring, releasing, arriving, departing}
 use Rattle.lrc_consistency_laws.specs.Follows.{trapping, ending, Makes, nothing_more, and_then, deeds_of, FollowsText}
 use Rattle.lrc_consistency_laws.specs.InOrder.{value_after_all}
-use Rattle.lrc_consistency_laws.proofs.Matching.{Matches, IsPaired}
+use Rattle.lrc_consistency_laws.specs.Matching.{Matches, IsPaired}
 use Rattle.lrc_consistency_laws.proofs.Runs.{SoundAt, deeds_of-other}
 use Rattle.lrc_consistency_laws.proofs.UpToRace.{in_range}
 use Rattle.lrc_lazy.specs.Lazy.{IsLazyRun}

@@ -8,7 +8,7 @@ use Rattle.lrc_trace.specs.Run.{arrives_before, departs_before}
 use Rattle.lrc_exec.specs.Meaning.{Thread}
 use Rattle.lrc_exec.specs.Plain.{Plain, thread_in, start_of}
 use Rattle.lrc_consistency_laws.specs.Follows.{deeds_of}
-use Rattle.lrc_consistency_laws.proofs.Matching.{Matches, IsPaired}
+use Rattle.lrc_consistency_laws.specs.Matching.{Matches, IsPaired}
 use Rattle.lrc_known.specs.declared.known.Knowledge.{Knowledge}
 use Rattle.lrc_known.proofs.Dropping.{knowledge_without}
 use Rattle.lrc_lazy_machine.specs.Standing.{advanced, with_memory, is_waiting, Comes, IsRenewed, Stands}

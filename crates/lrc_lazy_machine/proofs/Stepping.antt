@@ -18,7 +18,8 @@ use Rattle.lrc_exec.specs.Plain.{Plain, thread_in, plain_step, start_of}
 use Rattle.lrc_exec.proofs.NextLaws.{IsFine, next_of-fine}
 use Rattle.lrc_exec.proofs.PlainParts.{thread_within}
 use Rattle.lrc_consistency_laws.specs.Follows.{Goes, Makes, deeds_of}
-use Rattle.lrc_consistency_laws.proofs.Matching.{Matches, IsPaired, arrives-same, departs-same}
+use Rattle.lrc_consistency_laws.specs.Matching.{Matches, IsPaired}
+use Rattle.lrc_consistency_laws.proofs.Matching.{arrives-same, departs-same}
 use Rattle.lrc_consistency_laws.proofs.Step.{IsNoLock, step, passes_on}
 use Rattle.lrc_consistency_laws.proofs.Runs.{CanDo, can_do, is_sound}
 use Rattle.lrc_consistency_laws.proofs.UpToRace.{in_range}

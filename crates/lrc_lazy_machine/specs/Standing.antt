@@ -8,7 +8,7 @@ use Rattle.lrc_trace.specs.Run.{arrives_before, departs_before}
 use Rattle.lrc_exec.specs.Meaning.{Thread, next_of}
 use Rattle.lrc_exec.specs.Plain.{Plain, thread_in, plain_step, start_of}
 use Rattle.lrc_consistency_laws.specs.Follows.{Goes, deeds_of}
-use Rattle.lrc_consistency_laws.proofs.Matching.{Matches}
+use Rattle.lrc_consistency_laws.specs.Matching.{Matches}
 use Rattle.lrc_lazy.specs.Lazy.{IsLazyRun}
 use Rattle.lrc_known.specs.declared.known.Knowledge.{Knowledge}
 use Rattle.lrc_known.specs.declared.word.Effect.{Effect}

@@ -11,7 +11,7 @@ use Rattle.lrc_trace.specs.Order.{HappensBefore}
 use Rattle.lrc_exec.specs.declared.spot.Flat.{Flat}
 use Rattle.lrc_exec.specs.Plain.{Plain, start_of, thread_in}
 use Rattle.lrc_consistency_laws.specs.Follows.{deeds_of}
-use Rattle.lrc_consistency_laws.proofs.Matching.{Matches}
+use Rattle.lrc_consistency_laws.specs.Matching.{Matches}
 use Rattle.lrc_exec.specs.contracts.state.StatePartialEq.TheImpl.{eq-value as state_eq}
 use Rattle.lrc_exec.specs.States.{plain_at}
 use Rattle.lrc_explore.proofs.Alike.{acts_same}

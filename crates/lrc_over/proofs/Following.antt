@@ -17,7 +17,7 @@ use Rattle.lrc_exec.specs.Plain.{Plain, thread_in, plain_start, plain_step, star
 use Rattle.lrc_exec.proofs.NextLaws.{IsFine, next_of-fine}
 use Rattle.lrc_exec.proofs.PlainParts.{thread_within}
 use Rattle.lrc_consistency_laws.specs.Follows.{Goes, reading, Makes, nothing_more, and_then, deeds_of, FollowsText}
-use Rattle.lrc_consistency_laws.proofs.Matching.{Matches}
+use Rattle.lrc_consistency_laws.specs.Matching.{Matches}
 use Rattle.lrc_consistency_laws.proofs.Plainly.{facts}
 use Rattle.lrc_consistency_laws.proofs.Step.{IsNoLock, step, passes_on}
 use Rattle.lrc_consistency_laws.proofs.Runs.{CanDo, can_do, is_sound, start_matches, thread_at_start}

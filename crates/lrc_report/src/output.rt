@@ -1,8 +1,9 @@
 // Writing a text whole, or knowing that only its front was written. What has failed is not written to any more.
 
-ghost use Rattle.std.specs.Prelude.{◌≡◌, OnErr, OnOk, false, true};
+ghost use Rattle.std.specs.Prelude.{◌≡◌, ◌≢◌, ◌<◌, ℕ, IfErr, IsErrAnd, OnErr, OnOk, false, true};
 ghost use Rattle.std.specs.Io.{WritesAtMost};
 ghost use Rattle.std.specs.Io.KnownBytes.{Appends, WriteAppends};
+ghost use Rattle.std.specs.IoError.{error_kind};
 ghost use Rattle.lrc_report.specs.Output.{AppendsFront};
 ghost use Rattle.lrc_text.specs.Parts.{whole_text};
 
@@ -39,12 +40,9 @@ impl<'w, W: Write> Output<'w, W> {
         ensures fine { OnOk result (self.new.failed ≡ false) }
         ensures failed { OnErr result (self.new.failed ≡ true) }
     {
-        match self.writer.write(text) {
-            Ok(0) => Err(self.fail(io::Error::from(ErrorKind::WriteZero))),
-            Ok(count) => Ok(count),
-            Err(error) if error.kind() == ErrorKind::Interrupted => Ok(0),
-            Err(error) => Err(self.fail(error)),
-        }
+        let next = after(self.writer.write(text));
+        self.failed = next.is_err();
+        next
     }
 
     // Has failed, by this error.
@@ -55,6 +53,22 @@ impl<'w, W: Write> Output<'w, W> {
     {
         self.failed = true;
         error
+    }
+}
+
+// What follows a write, by what the writer answered: the bytes that it took are behind us, a writer that takes none has
+// failed, an interrupted write is tried again, and any other error is a failure.
+fn after(answer: io::Result<usize>) -> io::Result<usize>
+    ensures taken { (count : ℕ) → 0 < count → answer ≡ Ok count → result ≡ Ok count }
+    ensures none_taken { answer ≡ Ok 0 → IsErrAnd result (λ e. error_kind e ≡ ErrorKind.WriteZero) }
+    ensures interrupted { IfErr answer (λ e. error_kind e ≡ ErrorKind.Interrupted → result ≡ Ok 0) }
+    ensures failed { IfErr answer (λ e. error_kind e ≢ ErrorKind.Interrupted → result ≡ Err e) }
+{
+    match answer {
+        Ok(0) => Err(io::Error::from(ErrorKind::WriteZero)),
+        Ok(count) => Ok(count),
+        Err(error) if error.kind() == ErrorKind::Interrupted => Ok(0),
+        Err(error) => Err(error),
     }
 }
 

@@ -3,8 +3,7 @@ use Rattle.std.specs.Prelude.{ℕ, ◌*◌, ◌%◌, ◌^◌, bit_xor, fold}
 use Rattle.std.specs.Prelude.{◌≡◌, true, nat_eq}
 use Rattle.std.proofs.Common.{ap, ◌∙◌}
 use Rattle.std.proofs.lemmas.Bool.{and_parts, eqb-true}
-use lib.Pointwise.{pointwise}
-use Rattle.lrc_explore.proofs.Same.{pointwise_same}
+use lib.Pointwise.{pointwise, bytes_decides}
 use Rattle.std.specs.Hash.{u64}
 use Rattle.lrc_rows.specs.contracts.rows.RowPartialEq.TheImpl.{eq-value as row_eq}
 use Rattle.lrc_rows.specs.declared.rows.Row.{Row}
@@ -18,7 +17,7 @@ pub row_is : (a b : Row) → row_eq.it a b ≡ true → a ≡ b
 row_is a b e =
     let p = and_parts (pointwise nat_eq a.threads b.threads) _ e in
     let q = and_parts (nat_eq a.shared b.shared) (nat_eq a.notes b.notes) p.1 in
-    let threads : a.threads ≡ b.threads = pointwise_same nat_eq (λ x y h. eqb-true x y h) a.threads b.threads p.0 in
+    let threads : a.threads ≡ b.threads = (bytes_decides a.threads b.threads).0 p.0 in
     let shared : a.shared ≡ b.shared = eqb-true a.shared b.shared q.0 in
     let notes : a.notes ≡ b.notes = eqb-true a.notes b.notes q.1 in
     ap (λ x. record a { threads = x }) threads
