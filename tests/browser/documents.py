@@ -107,7 +107,7 @@ class Lines:
 
 def constant(file, name):
     """A constant of bytes, as it stands in a source."""
-    source = (TOP / "crates" / "lrc_step_page" / "src" / file).read_text()
+    source = (TOP / "crates" / "lrc_step" / "src" / file).read_text()
     return re.search(rf'pub const {name}: &\[u8\] = br##"(.*?)"##;', source, re.S)[1].encode()
 
 

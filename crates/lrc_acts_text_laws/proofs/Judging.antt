@@ -18,9 +18,9 @@ use Rattle.lrc_text.specs.RaceText.{first_race_text}
 use Rattle.lrc_acts.specs.JudgeLines.{lazy_line, synchronized_line}
 use Rattle.lrc_acts.specs.Printed.{numbers_from}
 use Rattle.lrc_acts.proofs.OneLemmas.{one}
-use Rattle.lrc_verdict.specs.Judgement as judgement
-use Rattle.lrc_verdict.specs.Judgement.{CountsNodes, IsHead, IsJudgement}
-use Rattle.lrc_verdict.specs.Judgement.{IsNodeCount, Judges, TellsLazyReading, TellsSynchronization, judge_status}
+use Rattle.lrc_judge_text.specs.Judgement as judgement
+use Rattle.lrc_judge_text.specs.Judgement.{CountsNodes, IsHead, IsJudgement}
+use Rattle.lrc_judge_text.specs.Judgement.{IsNodeCount, Judges, TellsLazyReading, TellsSynchronization, judge_status}
 use Rattle.lrc_acts_text_laws.specs.JudgedRun.{IsJudgedRun}
 use Rattle.lrc_acts_text_laws.proofs.Printing.{acts_said}
 

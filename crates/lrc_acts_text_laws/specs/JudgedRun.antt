@@ -1,7 +1,7 @@
 -- What a judge of acts says of a run of a program.
 use Rattle.std.specs.Prelude.{◌≡◌, ℕ, Bool, IfSome, List, Option}
 use Rattle.lrc_trace.specs.declared.act.Act.{Act}
-use Rattle.lrc_verdict.specs.Judgement.{Judges}
+use Rattle.lrc_judge_text.specs.Judgement.{Judges}
 use Rattle.lrc_acts_text_laws.specs.PrintedRun.{IsPrintedRun}
 
 -- These acts are those of a run of a program, and this is said of what is printed of them, with this status behind it: how many nodes

@@ -12,7 +12,7 @@ use Rattle.lrc_protocol.specs.Run.{World, run_of}
 use Rattle.lrc_acts_text.specs.ActsText.{acts_text}
 
 -- These acts are those of a run on at most 16 nodes of the program that some text is of, whatever its events, and this is printed of
--- them: each act with the line of that text that it is of. This is what `trace` prints (`IsTraceShown` of the crate `lrc_shown`).
+-- them: each act with the line of that text that it is of. This is what `trace` prints (`IsTraceShown` of the crate `lrc_cli_runs`).
 pub record IsPrintedRun (nodes : ℕ) (acts : List Act) (printed : List ℕ) : Type 0 where
   pub few : nodes ≤ 16
   pub text : List ℕ

@@ -21,7 +21,7 @@ ghost use Rattle.lrc_acts.specs.Printed.{IsRanged, numbers_from};
 ghost use Rattle.lrc_acts.specs.declared.reading.ActsFault.{ActsFault};
 ghost use Rattle.lrc_acts.specs.declared.reading.ActsFault.TheVariants.{NoMemory, TooLong};
 ghost use Rattle.lrc_acts.specs.declared.reading.LinedActs.{LinedActs};
-ghost use Rattle.lrc_verdict.specs.Judgement.{CountsNodes, IsJudgement};
+ghost use Rattle.lrc_judge_text.specs.Judgement.{CountsNodes, IsJudgement};
 ghost use Rattle.lrc_acts_text.specs.Rapid.{rapid_of};
 ghost use Rattle.lrc_acts_text.specs.RapidOrder.{IsOf, Orders};
 ghost use Rattle.lrc_acts_text_laws.specs.JudgedRun.{IsJudgedRun};

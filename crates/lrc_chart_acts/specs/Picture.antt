@@ -10,8 +10,8 @@ use Rattle.lrc_judge.specs.Order.{IsOrderOf}
 use Rattle.lrc_judge.specs.declared.order.Order.{Order}
 use Rattle.lrc_labels.specs.Cut.{cut, divides}
 use Rattle.lrc_labels.specs.declared.cut.Divider.TheVariants.{LineFeed}
-use Rattle.lrc_verdict.specs.Judgement.{CountsNodes}
-use Rattle.lrc_told_lines.specs.Named.{AreLinesTold}
+use Rattle.lrc_judge_text.specs.Judgement.{CountsNodes}
+use Rattle.lrc_acts_lines.specs.Named.{AreLinesTold}
 use Rattle.lrc_chart_model.specs.declared.picture.Picture.{Picture}
 use Rattle.lrc_chart_build.specs.Bands.{shown_bands}
 use Rattle.lrc_chart_build.specs.Course.{KnownRecord}

@@ -12,13 +12,13 @@ use crate::rows::act_rows;
 use crate::shown::acts_shown;
 use crate::times::times_known;
 use lrc_acts::reading::acts_of;
+use lrc_acts_lines::act_lines;
 use lrc_chart_build::{Known, MOST_ROWS, Part, Place, bands_of, columns_of, races_of};
 use lrc_chart_model::Picture;
 use lrc_judge::first_pairs::first_pairs;
 use lrc_judge::order::{Order, happens_before};
-use lrc_told_lines::act_lines;
+use lrc_judge_text::judge::nodes_of;
 use lrc_trace::act::Act;
-use lrc_verdict::judge::nodes_of;
 use std::alloc::{AllocError, Global};
 
 // What a picture has of these rows, under a title.

@@ -1,7 +1,7 @@
 -- Circles of waiting in a picture.
 use Rattle.std.specs.Prelude.{ℕ, ◌==◌, ◌&&◌, ◌+◌, Bool, true, false, not, Option, None, Some, List, [], ◌∷◌, drop, length, slice_get}
 use Rattle.std.specs.List.{flat_map, list_any, range_with_len}
-use Rattle.lrc_stuck.specs.Circles.{circle_of, circle_words}
+use Rattle.lrc_explain_waits.specs.Circles.{circle_of, circle_words}
 use Rattle.lrc_turns_text.specs.Turns.{Made}
 use Rattle.lrc_chart_model.specs.declared.picture.Kind.{Kind}
 use Rattle.lrc_chart_model.specs.declared.picture.Kind.TheVariants as kinds

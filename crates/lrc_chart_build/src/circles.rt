@@ -2,7 +2,7 @@
 
 ghost use Rattle.std.specs.Prelude.{◌≡◌, ◌<◌, ◌==◌, ◌++◌, IfOk, OnOk, drop, slice_get};
 ghost use Rattle.std.specs.List.{list_any};
-ghost use Rattle.lrc_stuck.specs.Circles.{circle_of, circle_words};
+ghost use Rattle.lrc_explain_waits.specs.Circles.{circle_of, circle_words};
 ghost use Rattle.lrc_text.specs.Parts.{texts_of};
 ghost use Rattle.lrc_chart_build.specs.Circles.{acts_or_waits, circled_nodes, deadlock_lines, is_circled, is_mark_of, line_if, marks_some, nodes_if};
 
@@ -10,7 +10,7 @@ use crate::part::{Place, turn_at};
 use crate::waits::turn_kind;
 use lrc_chart_model::Kind;
 use lrc_chart_rows::TurnOf;
-use lrc_stuck::{circle_of, push_circle};
+use lrc_explain_waits::{circle_of, push_circle};
 use std::alloc::{AllocError, Global};
 
 // Adds the nodes of the circle of which a node is the lowest, if there is one.

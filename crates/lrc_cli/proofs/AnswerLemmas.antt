@@ -1,30 +1,30 @@
 -- What is answered to a choice: what is printed, or a fault.
 use Rattle.std.proofs.Common.{◌≡◌, inl, ℕ, List, Option, Result, Ok, Err, IfErr, IfOk, refl, sym, subst}
-use Rattle.lrc_args.specs.declared.choice.Asking.{Asking}
-use Rattle.lrc_args.specs.declared.choice.ChartedActs.{ChartedActs}
-use Rattle.lrc_args.specs.declared.choice.Charting.{Charting}
-use Rattle.lrc_args.specs.declared.choice.ForeignActs.{ForeignActs}
+use Rattle.lrc_cli_args.specs.declared.choice.Asking.{Asking}
+use Rattle.lrc_cli_args.specs.declared.choice.ChartedActs.{ChartedActs}
+use Rattle.lrc_cli_args.specs.declared.choice.Charting.{Charting}
+use Rattle.lrc_cli_args.specs.declared.choice.ForeignActs.{ForeignActs}
 use Rattle.lrc_chart_acts.specs.Picture.{IsActsPortraitFault}
 use Rattle.lrc_chart_acts.specs.declared.fault.ActsChartFault.{ActsChartFault}
 use Rattle.lrc_chart_acts.specs.declared.fault.ActsChartFault.TheVariants as chart_faults
-use Rattle.lrc_shown.specs.Charted.{part_of}
+use Rattle.lrc_cli_runs.specs.Charted.{part_of}
 use Rattle.lrc_why_text.specs.Answers.{RefusesActs}
 use Rattle.lrc_why_text.specs.declared.fault.WhyFault.{WhyFault}
 use Rattle.lrc_why_text.specs.declared.fault.WhyFault.TheVariants as why_faults
 use Rattle.lrc_cli.specs.Answer.{Answers, IsActsChartFault, IsFault, IsWhyFault, KeepsRaces, Prints, charted_nodes, foreign_nodes, printed}
-use Rattle.lrc_answer.specs.FaultLine.{fault_of_acts_chart, fault_of_why}
-use Rattle.lrc_shown.specs.Reasoned.{asked_of}
-use Rattle.lrc_shown.specs.Showing.{AnswersShowing}
+use Rattle.lrc_cli_answer.specs.FaultLine.{fault_of_acts_chart, fault_of_why}
+use Rattle.lrc_cli_runs.specs.Reasoned.{asked_of}
+use Rattle.lrc_cli_runs.specs.Showing.{AnswersShowing}
 use Rattle.lrc_text.specs.Parts.{whole_text}
-use Rattle.lrc_answer.specs.declared.printout.Printout.{Printout}
+use Rattle.lrc_cli_answer.specs.declared.printout.Printout.{Printout}
 use Rattle.lrc_cli.specs.declared.answer.Answered.{Answered}
 use Rattle.lrc_cli.specs.declared.answer.Answered.TheVariants.{Printed, Judged}
-use Rattle.lrc_args.specs.declared.choice.Choice.{Choice}
-use Rattle.lrc_args.specs.declared.choice.Choice.TheVariants.{Check, Plain, Show, Judge, Explore, Lint, WhyActs, ChartActs}
-use Rattle.lrc_args.specs.declared.choice.RunChoice.{RunChoice}
-use Rattle.lrc_args.specs.declared.choice.Shape.{Shape}
-use Rattle.lrc_answer.specs.declared.fault.Fault.{Fault}
-use Rattle.lrc_answer.specs.declared.fault.Fault.TheVariants.{NoMemory}
+use Rattle.lrc_cli_args.specs.declared.choice.Choice.{Choice}
+use Rattle.lrc_cli_args.specs.declared.choice.Choice.TheVariants.{Check, Plain, Show, Judge, Explore, Lint, WhyActs, ChartActs}
+use Rattle.lrc_cli_args.specs.declared.choice.RunChoice.{RunChoice}
+use Rattle.lrc_cli_args.specs.declared.choice.Shape.{Shape}
+use Rattle.lrc_cli_answer.specs.declared.fault.Fault.{Fault}
+use Rattle.lrc_cli_answer.specs.declared.fault.Fault.TheVariants.{NoMemory}
 
 -- what holds of what is printed and of the fault, in one
 answered : (choice : Choice) (text : List ℕ) (events : Option (List ℕ)) (r : Result Printout Fault)

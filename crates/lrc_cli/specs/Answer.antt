@@ -8,46 +8,46 @@ use Rattle.lrc_lang.specs.Tree.{program_of}
 use Rattle.lrc_lang.specs.declared.program.Program.{Program}
 use Rattle.lrc_trace.specs.declared.act.Act.{Act}
 use Rattle.lrc_text.specs.Parts.{whole_text}
-use Rattle.lrc_breadth.specs.Answers.{FitsSettledNoted}
+use Rattle.lrc_explore.specs.Answers.{FitsSettledNoted}
 use Rattle.lrc_explore_text.specs.Explored.{Explores, MeetsFew, MeetsTooMany}
 use Rattle.lrc_explore_text.specs.OutcomeRun.{HasFewerOutcomes, TellsNumberedRun}
 use Rattle.lrc_labels.specs.Reading.{Label}
-use Rattle.lrc_verdict.specs.Judgement.{Judges}
-use Rattle.lrc_verdict.specs.PairsTold.{HasItsRaces, told_text}
-use Rattle.lrc_lint.specs.Told.{TellsNoProgram}
-use Rattle.lrc_linted.specs.Linted.{LintsProgram}
+use Rattle.lrc_judge_text.specs.Judgement.{Judges}
+use Rattle.lrc_judge_text.specs.PairsTold.{HasItsRaces, told_text}
+use Rattle.lrc_lint_fault.specs.Told.{TellsNoProgram}
+use Rattle.lrc_lint.specs.Linted.{LintsProgram}
 use Rattle.lrc_why_text.specs.Answers.{AnswersActs, RefusesActs}
 use Rattle.lrc_why_text.specs.declared.fault.WhyFault.TheVariants as why_faults
 use Rattle.lrc_world.specs.Ends.{ends_of}
 use Rattle.lrc_report.specs.ReportText.{report_text, status_of}
-use Rattle.lrc_answer.specs.Labels.{labels_in}
-use Rattle.lrc_shown.specs.Reasoned.{asked_of}
-use Rattle.lrc_shown.specs.Showing.{RefusesRun, ShowsRun}
-use Rattle.lrc_answer.specs.Texts.{IsTextFault, IsTextOf}
-use Rattle.lrc_answer.specs.declared.printout.Printout.{Printout}
+use Rattle.lrc_cli_answer.specs.Labels.{labels_in}
+use Rattle.lrc_cli_runs.specs.Reasoned.{asked_of}
+use Rattle.lrc_cli_runs.specs.Showing.{RefusesRun, ShowsRun}
+use Rattle.lrc_cli_answer.specs.Texts.{IsTextFault, IsTextOf}
+use Rattle.lrc_cli_answer.specs.declared.printout.Printout.{Printout}
 use Rattle.lrc_cli.specs.declared.answer.Answered.{Answered}
 use Rattle.lrc_cli.specs.declared.answer.Answered.TheVariants.{Printed, Judged}
-use Rattle.lrc_args.specs.declared.choice.Choice.{Choice}
-use Rattle.lrc_args.specs.declared.choice.Choice.TheVariants.{Check, Plain, Show, Judge, Explore, Lint, WhyActs, ChartActs}
-use Rattle.lrc_args.specs.declared.choice.Asking.{Asking}
-use Rattle.lrc_args.specs.declared.choice.ChartedActs.{ChartedActs}
-use Rattle.lrc_args.specs.declared.choice.Charting.{Charting}
+use Rattle.lrc_cli_args.specs.declared.choice.Choice.{Choice}
+use Rattle.lrc_cli_args.specs.declared.choice.Choice.TheVariants.{Check, Plain, Show, Judge, Explore, Lint, WhyActs, ChartActs}
+use Rattle.lrc_cli_args.specs.declared.choice.Asking.{Asking}
+use Rattle.lrc_cli_args.specs.declared.choice.ChartedActs.{ChartedActs}
+use Rattle.lrc_cli_args.specs.declared.choice.Charting.{Charting}
 use Rattle.lrc_chart_acts.specs.Picture.{IsActsPortrait, IsActsPortraitFault}
 use Rattle.lrc_chart_acts.specs.declared.fault.ActsChartFault.TheVariants as chart_faults
 use Rattle.lrc_chart_model.specs.declared.picture.Picture.{Picture}
-use Rattle.lrc_shown.specs.Charted.{IsDrawn, part_of}
-use Rattle.lrc_title.specs.Title.{title_text_of_acts}
-use Rattle.lrc_args.specs.declared.choice.ForeignActs.{ForeignActs}
-use Rattle.lrc_args.specs.declared.choice.Exploring.{Exploring}
-use Rattle.lrc_args.specs.declared.choice.Memory.{Memory}
-use Rattle.lrc_args.specs.declared.choice.Memory.TheVariants.{Flat, Lazy}
+use Rattle.lrc_cli_runs.specs.Charted.{IsDrawn, part_of}
+use Rattle.lrc_chart_title.specs.Title.{title_text_of_acts}
+use Rattle.lrc_cli_args.specs.declared.choice.ForeignActs.{ForeignActs}
+use Rattle.lrc_cli_args.specs.declared.choice.Exploring.{Exploring}
+use Rattle.lrc_cli_args.specs.declared.choice.Memory.{Memory}
+use Rattle.lrc_cli_args.specs.declared.choice.Memory.TheVariants.{Flat, Lazy}
 use Rattle.lrc_lazy_text.specs.Listed.{FitLazyRuns, MetTooManyLazily, TellsLazyOutcomes}
 use Rattle.lrc_lazy_text.specs.One.{HasFewerLazyOutcomes, TellsNumberedLazyRun}
-use Rattle.lrc_args.specs.declared.choice.OutcomeNumber.{OutcomeNumber}
-use Rattle.lrc_args.specs.declared.choice.Judging.{Judging}
-use Rattle.lrc_answer.specs.declared.fault.Fault.{Fault}
-use Rattle.lrc_answer.specs.declared.fault.Fault.TheVariants.{Acts, LongActs, NoAct, NoOutcome, TooManyStates, NoMemory}
-use Rattle.lrc_answer.specs.declared.fault.Fault.TheVariants as printout_faults
+use Rattle.lrc_cli_args.specs.declared.choice.OutcomeNumber.{OutcomeNumber}
+use Rattle.lrc_cli_args.specs.declared.choice.Judging.{Judging}
+use Rattle.lrc_cli_answer.specs.declared.fault.Fault.{Fault}
+use Rattle.lrc_cli_answer.specs.declared.fault.Fault.TheVariants.{Acts, LongActs, NoAct, NoOutcome, TooManyStates, NoMemory}
+use Rattle.lrc_cli_answer.specs.declared.fault.Fault.TheVariants as printout_faults
 
 -- the text is a program's, and `ok` says so
 abbrev pub IsChecked : List ℕ → List ℕ → ℕ → Type 0

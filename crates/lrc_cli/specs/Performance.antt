@@ -2,11 +2,11 @@
 use Rattle.std.specs.Prelude.{◌≡◌, ◌⊎◌, ℕ, true, List, Option}
 use Rattle.std.specs.Io.KnownBytes.{Appends, Keeps}
 use Rattle.lrc_cli.specs.Answer.{IsFault, Prints, asks_pairs}
-use Rattle.lrc_answer.specs.FaultLine.{fault_line}
+use Rattle.lrc_cli_answer.specs.FaultLine.{fault_line}
 use Rattle.lrc_report.specs.Output.{AppendsFront}
-use Rattle.lrc_args.specs.declared.choice.Choice.{Choice}
-use Rattle.lrc_answer.specs.declared.fault.Fault.{Fault}
-use Rattle.lrc_answer.specs.declared.fault.Fault.TheVariants.{NoMemory}
+use Rattle.lrc_cli_args.specs.declared.choice.Choice.{Choice}
+use Rattle.lrc_cli_answer.specs.declared.fault.Fault.{Fault}
+use Rattle.lrc_cli_answer.specs.declared.fault.Fault.TheVariants.{NoMemory}
 
 -- The text is written, and the result is this status; or a write failed,
 -- not all of the text is written but a front of it, and the result is 1.

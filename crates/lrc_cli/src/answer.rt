@@ -2,28 +2,28 @@
 
 ghost use Rattle.std.specs.Prelude.{◌≡◌, IfErr, IfOk, None, false, is_some, option_map};
 ghost use Rattle.lrc_cli.specs.Answer.{Answers, IsChecked, IsFault, IsPrintoutOfRounds, Prints, printed};
-ghost use Rattle.lrc_answer.specs.Texts.{IsTextFault};
+ghost use Rattle.lrc_cli_answer.specs.Texts.{IsTextFault};
 ghost use Rattle.lrc_report.specs.ReportText.{report_text, status_of};
 ghost use Rattle.lrc_text.specs.Parts.{whole_text};
-ghost use Rattle.lrc_args.specs.Files.{names_events, starts_threads};
-ghost use Rattle.lrc_args.specs.declared.choice.Choice.TheVariants.{Judge, Plain};
+ghost use Rattle.lrc_cli_args.specs.Files.{names_events, starts_threads};
+ghost use Rattle.lrc_cli_args.specs.declared.choice.Choice.TheVariants.{Judge, Plain};
 
 use crate::explored::explored;
 use crate::judged::{judged, judged_with_pairs};
 use crate::linted::linted;
 use crate::pictured::pictured;
 use crate::reasoned::reasoned;
-use lrc_answer::fault::Fault;
-use lrc_answer::printout::{Printout, in_one};
-use lrc_args::choice::{Choice, Judging, PlainRun};
+use lrc_cli_answer::fault::Fault;
+use lrc_cli_answer::printout::{Printout, in_one};
+use lrc_cli_args::choice::{Choice, Judging, PlainRun};
+use lrc_cli_runs::shown::show;
 use lrc_exec::rounds::plain_rounds;
+use lrc_judge_text::pairs::PairsJudgement;
 use lrc_lang::parse;
 use lrc_lang::program::Program;
 use lrc_node::End;
 use lrc_report::report::{report_parts, status_after};
-use lrc_shown::shown::show;
 use lrc_trace::act::Act;
-use lrc_verdict::pairs::PairsJudgement;
 use lrc_world::ends::ends;
 use std::alloc::{AllocError, Global};
 

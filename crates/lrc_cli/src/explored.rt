@@ -3,15 +3,14 @@
 ghost use Rattle.std.specs.Prelude.{◌≡◌, ◌≤◌, IfErr, IfOk, None};
 ghost use Rattle.lrc_cli.specs.Answer.{HasLazyFault, HasLazyRunFault, HasOrdersFault, HasOutcomeFault, IsExploration, IsFault, IsFlatAnswer, IsFlatFault};
 ghost use Rattle.lrc_cli.specs.Answer.{IsLazyAnswer, IsLazyFault, IsSearchFault, Prints, ShowsLazyOutcomes, ShowsLazyRun, ShowsOrders, ShowsOutcome, tries_asked};
-ghost use Rattle.lrc_answer.specs.Labels.{labels_in};
-ghost use Rattle.lrc_answer.specs.Texts.{IsTextOf};
+ghost use Rattle.lrc_cli_answer.specs.Labels.{labels_in};
+ghost use Rattle.lrc_cli_answer.specs.Texts.{IsTextOf};
 ghost use Rattle.lrc_text.specs.Parts.{whole_text};
-ghost use Rattle.lrc_args.specs.declared.choice.Choice.TheVariants.{Explore};
+ghost use Rattle.lrc_cli_args.specs.declared.choice.Choice.TheVariants.{Explore};
 
-use lrc_answer::fault::Fault;
-use lrc_answer::printout::{Printout, in_one};
-use lrc_args::choice::{Exploring, Memory};
-use lrc_explore::search::ExploreFault;
+use lrc_cli_answer::fault::Fault;
+use lrc_cli_answer::printout::{Printout, in_one};
+use lrc_cli_args::choice::{Exploring, Memory};
 use lrc_explore_text::outcome_run::outcome_run_told;
 use lrc_labels::read_labels;
 use lrc_lang::lines::lines_of;
@@ -19,6 +18,7 @@ use lrc_lang::parse;
 use lrc_lang::program::Program;
 use lrc_lazy_text::listed::lazy_outcomes_told;
 use lrc_lazy_text::one::lazy_run_told;
+use lrc_orders::search::ExploreFault;
 use std::alloc::Global;
 
 /// Answers the command `explore` for the text of a program.

@@ -3,14 +3,14 @@
 ghost use Rattle.std.specs.Prelude.{◌≡◌, ◌≤◌, IfErr, IfOk, IfSome, false, true};
 ghost use Rattle.lrc_cli.specs.Answer.{IsActsFault, judged_nodes};
 ghost use Rattle.lrc_text.specs.Parts.{whole_text};
-ghost use Rattle.lrc_verdict.specs.Judgement.{Judges};
-ghost use Rattle.lrc_verdict.specs.PairsTold.{HasItsRaces, told_text};
+ghost use Rattle.lrc_judge_text.specs.Judgement.{Judges};
+ghost use Rattle.lrc_judge_text.specs.PairsTold.{HasItsRaces, told_text};
 
-use lrc_answer::fault::Fault;
-use lrc_answer::printout::Printout;
-use lrc_args::choice::Judging;
-use lrc_verdict::judge::judge;
-use lrc_verdict::pairs::{PairsJudgement, judge_pairs};
+use lrc_cli_answer::fault::Fault;
+use lrc_cli_answer::printout::Printout;
+use lrc_cli_args::choice::Judging;
+use lrc_judge_text::judge::judge;
+use lrc_judge_text::pairs::{PairsJudgement, judge_pairs};
 use std::alloc::Global;
 
 /// Answers the command `judge`, without racing pairs, for a text of acts.

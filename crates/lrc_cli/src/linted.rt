@@ -2,12 +2,12 @@
 
 ghost use Rattle.std.specs.Prelude.{◌≡◌, IfErr, IfOk};
 ghost use Rattle.lrc_cli.specs.Answer.{IsLinted};
-ghost use Rattle.lrc_answer.specs.declared.fault.Fault.TheVariants.{NoMemory};
+ghost use Rattle.lrc_cli_answer.specs.declared.fault.Fault.TheVariants.{NoMemory};
 ghost use Rattle.lrc_text.specs.Parts.{whole_text};
 
-use lrc_answer::fault::Fault;
-use lrc_answer::printout::Printout;
-use lrc_linted::lint;
+use lrc_cli_answer::fault::Fault;
+use lrc_cli_answer::printout::Printout;
+use lrc_lint::lint;
 use std::alloc::Global;
 
 /// Answers the command `lint` for the text of this file. It fails only if memory runs out.

@@ -4,12 +4,12 @@ ghost use Rattle.std.specs.Prelude.{◌≡◌, ◌≤◌, IfErr, IfOk, IfSome};
 ghost use Rattle.lrc_cli.specs.Answer.{IsActsChartFault, IsActsCharted, charted_nodes};
 ghost use Rattle.lrc_text.specs.Parts.{whole_text};
 
-use lrc_answer::fault::Fault;
-use lrc_answer::printout::{Printout, in_one};
-use lrc_args::choice::{ChartedActs, Charting};
 use lrc_chart_acts::portrait_of_acts;
-use lrc_shown::charted::{drawn, part_of};
-use lrc_title::title_of_acts;
+use lrc_chart_title::title_of_acts;
+use lrc_cli_answer::fault::Fault;
+use lrc_cli_answer::printout::{Printout, in_one};
+use lrc_cli_args::choice::{ChartedActs, Charting};
+use lrc_cli_runs::charted::{drawn, part_of};
 use std::alloc::Global;
 
 /// Answers the command `chart` for a text of acts.

@@ -4,10 +4,10 @@ ghost use Rattle.std.specs.Prelude.{◌≡◌, ◌≤◌, IfErr, IfOk, IfSome};
 ghost use Rattle.lrc_cli.specs.Answer.{IsReasoned, IsWhyFault, foreign_nodes};
 ghost use Rattle.lrc_text.specs.Parts.{whole_text};
 
-use lrc_answer::fault::Fault;
-use lrc_answer::printout::Printout;
-use lrc_args::choice::{Asking, ForeignActs};
-use lrc_shown::reasoned::asked_of;
+use lrc_cli_answer::fault::Fault;
+use lrc_cli_answer::printout::Printout;
+use lrc_cli_args::choice::{Asking, ForeignActs};
+use lrc_cli_runs::reasoned::asked_of;
 use lrc_why_text::acts::why_acts;
 use std::alloc::Global;
 

@@ -5,10 +5,10 @@ use Rattle.std.specs.List.{enumerate_from, flat_map, range_with_len}
 use Rattle.std.proofs.lemmas.Bool.{cases_eq}
 use Rattle.std.proofs.lemmas.List.Elements.{Contains-append_cases, Contains-append_left, Contains-append_right}
 use Rattle.std.proofs.lemmas.Option.{same_Some}
-use Rattle.lrc_stuck.specs.declared.missing.Missing.{Missing}
-use Rattle.lrc_stuck.specs.declared.stand.Fate.{Fate}
-use Rattle.lrc_stuck.specs.declared.stand.Stand.{Stand}
-use Rattle.lrc_stuck.specs.Missing.{first_of, missing_if}
+use Rattle.lrc_explain_waits.specs.declared.missing.Missing.{Missing}
+use Rattle.lrc_explain_waits.specs.declared.stand.Fate.{Fate}
+use Rattle.lrc_explain_waits.specs.declared.stand.Stand.{Stand}
+use Rattle.lrc_explain_waits.specs.Missing.{first_of, missing_if}
 
 -- what stands for each of so many items that are made from their positions
 pub each_range : {X Y : Type 0} (of : ℕ → X → List Y) (f : ℕ → X) (a n : ℕ)

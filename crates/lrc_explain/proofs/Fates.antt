@@ -9,9 +9,9 @@ use Rattle.lrc_trace.specs.declared.act.Deed.{Deed}
 use Rattle.lrc_trace.specs.declared.act.Deed.TheVariants.{Trap, End}
 use Rattle.lrc_trace.specs.Run.{Does, act_of}
 use Rattle.lrc_trace.proofs.Positions.{Does-deed, Does-node}
-use Rattle.lrc_stuck.specs.declared.stand.Fate.{Fate}
-use Rattle.lrc_stuck.specs.declared.stand.Fate.TheVariants.{Ended, Trapped, Unfinished}
-use Rattle.lrc_stuck.specs.Stand.{fate_after, fate_of}
+use Rattle.lrc_explain_waits.specs.declared.stand.Fate.{Fate}
+use Rattle.lrc_explain_waits.specs.declared.stand.Fate.TheVariants.{Ended, Trapped, Unfinished}
+use Rattle.lrc_explain_waits.specs.Stand.{fate_after, fate_of}
 use Rattle.lrc_explain.specs.Waiting.{IsUnfinished}
 
 -- what an act of the node does to its fate

@@ -10,9 +10,9 @@ use Rattle.lrc_trace.specs.Run.{Does}
 use Rattle.lrc_trace.specs.Synchronization.{Holds, IsWellSynchronized}
 use Rattle.lrc_trace.proofs.Holding.{Holds-start, Holds-acquired, Holds-kept, one_holder}
 use Rattle.lrc_trace.proofs.Positions.{Does-deed, Does-one_deed, Does-one_node, Does-read}
-use Rattle.lrc_stuck.specs.declared.holder.Holder.{Holder}
-use Rattle.lrc_stuck.specs.Holder.{held_by, holder_of}
-use Rattle.lrc_stuck.proofs.Holding.{holder_more}
+use Rattle.lrc_explain_waits.specs.declared.holder.Holder.{Holder}
+use Rattle.lrc_explain_waits.specs.Holder.{held_by, holder_of}
+use Rattle.lrc_explain_waits.proofs.Holding.{holder_more}
 use Rattle.lrc_explain.specs.Held.{holder_since}
 
 -- a deed acquires the lock, or releases it, or leaves its holder as it is

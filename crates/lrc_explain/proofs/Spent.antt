@@ -11,9 +11,9 @@ use Rattle.lrc_trace.specs.Run.{count_of, is_arrive, is_depart}
 use Rattle.lrc_exec.specs.declared.machine.Ask.{Ask}
 use Rattle.lrc_exec.specs.declared.machine.Ask.TheVariants as asks
 use Rattle.lrc_exec.specs.Ask.{steps_of}
-use Rattle.lrc_stuck.specs.declared.stand.Coming.{Coming}
-use Rattle.lrc_stuck.specs.declared.stand.Coming.TheVariants.{Barrier, StepsUsedUp}
-use Rattle.lrc_stuck.specs.Stand.{coming_by, coming_of, costs, is_used_up, takes_step}
+use Rattle.lrc_explain_waits.specs.declared.stand.Coming.{Coming}
+use Rattle.lrc_explain_waits.specs.declared.stand.Coming.TheVariants.{Barrier, StepsUsedUp}
+use Rattle.lrc_explain_waits.specs.Stand.{coming_by, coming_of, costs, is_used_up, takes_step}
 use Rattle.lrc_explain.specs.Waiting.{AreLeft, HasStepsFor, deed_by, deed_next, departs_in, steps_taken}
 
 -- all acts stand before the end

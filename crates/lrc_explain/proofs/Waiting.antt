@@ -16,17 +16,17 @@ use Rattle.lrc_trace.specs.Synchronization.{Holds, IsWellSynchronized, MayGoOn}
 use Rattle.lrc_exec.specs.declared.machine.Ask.{Ask}
 use Rattle.lrc_exec.specs.declared.machine.Ask.TheVariants as asks
 use Rattle.lrc_lines.specs.Walks.{act_lines}
-use Rattle.lrc_stuck.specs.declared.holder.Holder.{Holder}
-use Rattle.lrc_stuck.specs.declared.missing.Missing.{Missing}
-use Rattle.lrc_stuck.specs.declared.stand.Coming.{Coming}
-use Rattle.lrc_stuck.specs.declared.stand.Fate.{Fate}
-use Rattle.lrc_stuck.specs.declared.stand.Fate.TheVariants.{Ended, Trapped, Unfinished}
-use Rattle.lrc_stuck.specs.declared.stand.Stand.{Stand}
-use Rattle.lrc_stuck.specs.Circle.{WaitsFor}
-use Rattle.lrc_stuck.specs.Circles.{waits_as, waits_by, waits_for, waits_next, waits_of}
-use Rattle.lrc_stuck.specs.Holder.{holder_of}
-use Rattle.lrc_stuck.specs.Missing.{first_of, has_not_come, missing_if, missing_nodes}
-use Rattle.lrc_stuck.specs.Stand.{ask_behind, fate_of, stand_of, stands_of}
+use Rattle.lrc_explain_waits.specs.declared.holder.Holder.{Holder}
+use Rattle.lrc_explain_waits.specs.declared.missing.Missing.{Missing}
+use Rattle.lrc_explain_waits.specs.declared.stand.Coming.{Coming}
+use Rattle.lrc_explain_waits.specs.declared.stand.Fate.{Fate}
+use Rattle.lrc_explain_waits.specs.declared.stand.Fate.TheVariants.{Ended, Trapped, Unfinished}
+use Rattle.lrc_explain_waits.specs.declared.stand.Stand.{Stand}
+use Rattle.lrc_explain_waits.specs.Circle.{WaitsFor}
+use Rattle.lrc_explain_waits.specs.Circles.{waits_as, waits_by, waits_for, waits_next, waits_of}
+use Rattle.lrc_explain_waits.specs.Holder.{holder_of}
+use Rattle.lrc_explain_waits.specs.Missing.{first_of, has_not_come, missing_if, missing_nodes}
+use Rattle.lrc_explain_waits.specs.Stand.{ask_behind, fate_of, stand_of, stands_of}
 use Rattle.lrc_explain.specs.Waiting.{AwaitsHolder, AwaitsLowest, IsMissing, IsNext, KeepsBack, arrives_in, departs_in}
 use Rattle.lrc_explain.proofs.Among.{among, each_range, first_is, is_first, those, within}
 use Rattle.lrc_explain.proofs.Fates.{unfinished_is}

@@ -10,10 +10,10 @@ use Rattle.lrc_judge.specs.declared.lanes.Pair.{Pair}
 use Rattle.lrc_text.specs.RaceText.{first_race_text}
 use Rattle.lrc_text.specs.Each.{each}
 use Rattle.lrc_labels.specs.Reading.{Label}
-use Rattle.lrc_stuck.specs.declared.stand.Stand.{Stand}
-use Rattle.lrc_stuck.specs.Circles.{deadlocks_text}
-use Rattle.lrc_stuck.specs.Stand.{stands_of}
-use Rattle.lrc_stuck.specs.Stuck.{end_text}
+use Rattle.lrc_explain_waits.specs.declared.stand.Stand.{Stand}
+use Rattle.lrc_explain_waits.specs.Circles.{deadlocks_text}
+use Rattle.lrc_explain_waits.specs.Stand.{stands_of}
+use Rattle.lrc_explain_waits.specs.Stuck.{end_text}
 use Rattle.lrc_explain.specs.Access.{node_words}
 use Rattle.lrc_explain.specs.Groups.{groups_text}
 

@@ -10,8 +10,8 @@ use Rattle.lrc_trace.specs.Synchronization.{Holds}
 use Rattle.lrc_exec.specs.declared.machine.Ask.{Ask}
 use Rattle.lrc_exec.specs.declared.machine.Ask.TheVariants.{Acquire, Barrier}
 use Rattle.lrc_exec.specs.Ask.{deed_asked, steps_of}
-use Rattle.lrc_stuck.specs.declared.missing.Missing.{Missing}
-use Rattle.lrc_stuck.specs.Stand.{ask_behind, fate_of}
+use Rattle.lrc_explain_waits.specs.declared.missing.Missing.{Missing}
+use Rattle.lrc_explain_waits.specs.Stand.{ask_behind, fate_of}
 
 -- how often a node has arrived at barriers after all acts, and how often it has departed from them
 abbrev pub arrives_in : List Act → (node : ℕ) → ℕ

@@ -8,16 +8,16 @@ ghost use Rattle.lrc_labels.specs.Reading.{label_seen};
 ghost use Rattle.lrc_text.specs.Parts.{whole_text};
 ghost use Rattle.lrc_text.specs.RaceText.{first_race_text};
 ghost use Rattle.lrc_explain.specs.Explain.{explain_text, fates_text, print_of, print_text, prints_text};
-ghost use Rattle.lrc_stuck.specs.Circles.{deadlocks_text};
+ghost use Rattle.lrc_explain_waits.specs.Circles.{deadlocks_text};
 
 use crate::access::push_node;
 use crate::groups::groups_part;
 use lrc_exec::code::Code;
+use lrc_explain_waits::{Stand, push_deadlocks, push_end, stands_of};
 use lrc_judge::NODES;
 use lrc_judge::first_pairs::first_pairs;
 use lrc_labels::label::Label;
 use lrc_lines::walks::follow_acts;
-use lrc_stuck::{Stand, push_deadlocks, push_end, stands_of};
 use lrc_text::{first_race_part, push_number};
 use lrc_trace::act::{Act, Deed};
 use std::alloc::{AllocError, Global};

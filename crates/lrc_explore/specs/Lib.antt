@@ -1,6 +1,4 @@
-pub mod Meeting
-pub mod Stuck
-pub mod Kept
-pub mod Verdict
-pub mod Notes
-pub mod Outcome
+pub mod Reached
+pub mod Answers
+pub mod Told
+pub mod Ended

@@ -1,12 +1,11 @@
-//! The orders of a program: what it is that one races, that one gets stuck, and what a program's outcomes are. A
-//! program has a race exactly if the plain machine, in some order of its nodes, reaches a state at which two nodes are
-//! about to make conflicting accesses. Here are the definitions, the notes that an outcome is made of, what a search
-//! answers, and the laws of them; the search itself is `lrc_breadth`.
+//! Searches the settled states of a program, breadth first. It finds a race, a state at which the program is stuck, or
+//! every outcome of its orders, and the runs that lead there.
 #![tactic(auto)]
 
+pub mod answers;
+pub mod ended;
+pub mod found;
 pub mod laws;
-pub mod noted;
-pub mod notes;
-pub mod outcomes;
-pub mod search;
-pub mod seen;
+pub mod seek;
+pub mod task;
+pub mod told;

@@ -8,8 +8,8 @@ use Rattle.lrc_judge.specs.declared.TheConstants.{NODES}
 use Rattle.lrc_exec.specs.Plain.{Plain, plain}
 use Rattle.lrc_consistency_laws.proofs.Plainly.{facts}
 use Rattle.lrc_lines.specs.Walks.{lines_behind}
-use Rattle.lrc_explore.specs.Stuck.{GetsStuck}
-use Rattle.lrc_explore.specs.Verdict.{EndsInRace}
+use Rattle.lrc_orders.specs.Stuck.{GetsStuck}
+use Rattle.lrc_orders.specs.Verdict.{EndsInRace}
 use Rattle.lrc_trace.specs.Conflict.{Races}
 use Rattle.lrc_exec.specs.Nodes.{AreNodes}
 

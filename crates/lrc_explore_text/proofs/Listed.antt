@@ -9,7 +9,7 @@ use Rattle.std.specs.Ordering.{nat_cmp}
 use Rattle.std.proofs.lemmas.List.{get_or-map, length-map}
 use Rattle.std.proofs.lemmas.List.Sorted.{IsPermutation-map}
 use Rattle.lrc_text.specs.Parts.{texts_of, whole_text}
-use Rattle.lrc_explore.specs.declared.outcomes.Outcome.{Outcome}
+use Rattle.lrc_orders.specs.declared.outcomes.Outcome.{Outcome}
 use Rattle.lrc_explore_text.specs.Outcomes.{AreLinesOf, ListsOutcomes, none_ends, outcome_line}
 
 abbrev pub Part : Type 0

@@ -9,14 +9,14 @@ use Rattle.std.proofs.lemmas.List.Sorted.{Contains-permutation, IsPermutation-sy
 use Rattle.std.proofs.lemmas.Option.{get_or_from_slice_get, same_Some, slice_get_within}
 use Rattle.lrc_lang.specs.declared.program.Program.{Program}
 use Rattle.lrc_trace.specs.declared.act.Act.{Act}
-use Rattle.lrc_explore.specs.declared.outcomes.Outcome.{Outcome}
-use Rattle.lrc_explore.specs.contracts.outcomes.OutcomePartialEq.TheImpl.{eq-value}
-use Rattle.lrc_explore.proofs.Keeping.{item_at}
-use Rattle.lrc_explore.specs.declared.search.ExploreFault.TheVariants.{NoMemory, TooMany}
-use Rattle.lrc_breadth.specs.Answers.{IsFault}
-use Rattle.lrc_breadth.specs.declared.task.Task.{Task}
-use Rattle.lrc_breadth.specs.declared.ended.Ended.{Ended}
-use Rattle.lrc_breadth.specs.Ended.{AreEnded, IsRunFor, IsRunWith}
+use Rattle.lrc_orders.specs.declared.outcomes.Outcome.{Outcome}
+use Rattle.lrc_orders.specs.contracts.outcomes.OutcomePartialEq.TheImpl.{eq-value}
+use Rattle.lrc_orders.proofs.Keeping.{item_at}
+use Rattle.lrc_orders.specs.declared.search.ExploreFault.TheVariants.{NoMemory, TooMany}
+use Rattle.lrc_explore.specs.Answers.{IsFault}
+use Rattle.lrc_explore.specs.declared.task.Task.{Task}
+use Rattle.lrc_explore.specs.declared.ended.Ended.{Ended}
+use Rattle.lrc_explore.specs.Ended.{AreEnded, IsRunFor, IsRunWith}
 use Rattle.lrc_text.specs.Parts.{texts_of}
 use Rattle.lrc_explore_text.proofs.Listed.{Part}
 use Rattle.lrc_explore_text.specs.OutcomeRun.{HasFewerOutcomes, HasNoLineBefore, IsNumberedAt, IsNumberedRun, IsRunAt, IsRunOfNumber}

@@ -13,11 +13,11 @@ use Rattle.lrc_protocol.specs.Node.{OptionsRecord}
 use Rattle.lrc_world.specs.Report.{IsReportOf}
 use Rattle.lrc_world.specs.declared.report.Report.{Report}
 use Rattle.lrc_world.proofs.Theorem.{reports_consistently}
-use Rattle.lrc_explore.specs.declared.search.Verdict.TheVariants.{RaceFree, Racy}
-use Rattle.lrc_explore.specs.Verdict.{FindsNoRace}
-use Rattle.lrc_breadth.specs.Answers.{IsAnswer}
+use Rattle.lrc_orders.specs.declared.search.Verdict.TheVariants.{RaceFree, Racy}
+use Rattle.lrc_orders.specs.Verdict.{FindsNoRace}
+use Rattle.lrc_explore.specs.Answers.{IsAnswer}
 use Rattle.lrc_consistency_laws.specs.Racing.{HasNoRace}
-use Rattle.lrc_explore.specs.declared.search.Verdict.{Verdict}
+use Rattle.lrc_orders.specs.declared.search.Verdict.{Verdict}
 
 has_no_race : (program : Program) (nodes : ℕ) (verdict : Verdict) → IsAnswer program nodes verdict → FindsNoRace verdict → HasNoRace program nodes
 has_no_race program nodes (RaceFree None) is finds = is.0

@@ -10,11 +10,11 @@ use Rattle.lrc_text.specs.Parts.{whole_text}
 use Rattle.lrc_text.specs.RaceText.{first_race_text, races_text}
 use Rattle.lrc_exec.specs.Plain.{plain}
 use Rattle.lrc_consistency_laws.specs.Racing.{HasNoRace}
-use Rattle.lrc_explore.specs.declared.search.ExploreFault.{ExploreFault}
-use Rattle.lrc_explore.specs.declared.search.ExploreFault.TheVariants.{TooMany}
-use Rattle.lrc_explore.specs.Stuck.{GetsStuck}
-use Rattle.lrc_causes.specs.Told.{TellsRace}
-use Rattle.lrc_breadth.specs.Answers.{FitsSettled, FitsSettledNoted, MetTooMany}
+use Rattle.lrc_orders.specs.declared.search.ExploreFault.{ExploreFault}
+use Rattle.lrc_orders.specs.declared.search.ExploreFault.TheVariants.{TooMany}
+use Rattle.lrc_orders.specs.Stuck.{GetsStuck}
+use Rattle.lrc_explore_causes.specs.Told.{TellsRace}
+use Rattle.lrc_explore.specs.Answers.{FitsSettled, FitsSettledNoted, MetTooMany}
 use Rattle.lrc_explore_text.specs.declared.explored.Printout.{Printout}
 use Rattle.lrc_explore_text.specs.Explored.{Explores, MeetsFew, MeetsTooMany, tells_orders, tells_outcomes}
 use Rattle.lrc_explore_text.specs.LastRaces.{AreRacesAt}

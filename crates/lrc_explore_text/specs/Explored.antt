@@ -2,7 +2,7 @@
 use Rattle.std.specs.Prelude.{◌≢◌, ℕ, Bool, true, false, List}
 use Rattle.lrc_lang.specs.declared.program.Program.{Program}
 use Rattle.lrc_labels.specs.Reading.{Label}
-use Rattle.lrc_breadth.specs.Answers.{FitsSettled, FitsSettledNoted, MetTooMany}
+use Rattle.lrc_explore.specs.Answers.{FitsSettled, FitsSettledNoted, MetTooMany}
 use Rattle.lrc_explore_text.specs.Orders.{TellsOrders}
 use Rattle.lrc_explore_text.specs.Outcomes.{TellsOutcomes}
 

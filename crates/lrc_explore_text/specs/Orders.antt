@@ -8,12 +8,12 @@ use Rattle.lrc_text.specs.RaceText.{first_race_text, races_text}
 use Rattle.lrc_exec.specs.Plain.{plain}
 use Rattle.lrc_acts_text.specs.ActsText.{acts_text}
 use Rattle.lrc_lines.specs.Walks.{act_lines}
-use Rattle.lrc_stuck.specs.Stand.{stands_of}
-use Rattle.lrc_stuck.specs.Stuck.{stuck_text}
+use Rattle.lrc_explain_waits.specs.Stand.{stands_of}
+use Rattle.lrc_explain_waits.specs.Stuck.{stuck_text}
 use Rattle.lrc_consistency_laws.specs.Racing.{HasNoRace}
-use Rattle.lrc_explore.specs.Stuck.{GetsStuck}
-use Rattle.lrc_explore.specs.Verdict.{NeverStuck}
-use Rattle.lrc_causes.specs.Told.{TellsRace}
+use Rattle.lrc_orders.specs.Stuck.{GetsStuck}
+use Rattle.lrc_orders.specs.Verdict.{NeverStuck}
+use Rattle.lrc_explore_causes.specs.Told.{TellsRace}
 use Rattle.lrc_explore_text.specs.LastRaces.{AreRacesAt}
 
 -- a line for each act, with the line of the text that it is of

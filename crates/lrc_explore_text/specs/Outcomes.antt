@@ -8,9 +8,9 @@ use Rattle.lrc_lang.specs.declared.program.Program.{Program}
 use Rattle.lrc_trace.specs.declared.act.Act.{Act}
 use Rattle.lrc_world.specs.Ends.{ends_of}
 use Rattle.lrc_report.specs.ReportText.{report_text}
-use Rattle.lrc_explore.specs.declared.outcomes.Outcome.{Outcome}
-use Rattle.lrc_explore.specs.contracts.outcomes.OutcomePartialEq.TheImpl.{eq-value}
-use Rattle.lrc_explore.specs.Outcome.{HasOutcome, IsOutcome}
+use Rattle.lrc_orders.specs.declared.outcomes.Outcome.{Outcome}
+use Rattle.lrc_orders.specs.contracts.outcomes.OutcomePartialEq.TheImpl.{eq-value}
+use Rattle.lrc_orders.specs.Outcome.{HasOutcome, IsOutcome}
 
 -- a byte, or ` / ` in place of a line feed
 abbrev pub spaced : ℕ → List ℕ

@@ -8,9 +8,9 @@ ghost use Rattle.lrc_explore_text.specs.Explored.{Explores, MeetsFew, MeetsTooMa
 
 use crate::orders::orders_told;
 use crate::outcomes::outcomes_told;
-use lrc_explore::search::ExploreFault;
 use lrc_labels::label::Label;
 use lrc_lang::program::Program;
+use lrc_orders::search::ExploreFault;
 use std::alloc::Global;
 
 /// A printed text, and the exit status of the program after it.

@@ -11,9 +11,9 @@ ghost use Rattle.lrc_protocol.specs.declared.event.Event.{Event};
 ghost use Rattle.lrc_protocol.specs.Node.{OptionsRecord};
 ghost use Rattle.lrc_world.specs.Report.{IsReportOf};
 ghost use Rattle.lrc_world.specs.declared.report.Report.{Report};
-ghost use Rattle.lrc_explore.specs.Verdict.{FindsNoRace};
-ghost use Rattle.lrc_breadth.specs.Answers.{IsAnswer};
-ghost use Rattle.lrc_explore.specs.declared.search.Verdict.{Verdict};
+ghost use Rattle.lrc_orders.specs.Verdict.{FindsNoRace};
+ghost use Rattle.lrc_explore.specs.Answers.{IsAnswer};
+ghost use Rattle.lrc_orders.specs.declared.search.Verdict.{Verdict};
 
 /// If every order was searched and none races, then no report of the distributed memory has a race, and its acts are
 /// those of the plain machine. This holds for all options and events, and so also for runs in rounds, at random and on

@@ -6,10 +6,10 @@ ghost use Rattle.lrc_labels.specs.Reading.{label_seen};
 ghost use Rattle.lrc_text.specs.Parts.{whole_text};
 ghost use Rattle.lrc_exec.specs.Plain.{plain};
 ghost use Rattle.lrc_exec.specs.Nodes.{AreNodes};
-ghost use Rattle.lrc_breadth.specs.Answers.{FitsSettled, IsAnswer, MetTooMany};
-ghost use Rattle.lrc_explore.specs.Stuck.{GetsStuck};
-ghost use Rattle.lrc_explore.specs.Verdict.{EndsInRace, FindsNoRace, NeverStuck};
-ghost use Rattle.lrc_causes.specs.Told.{TellsRace};
+ghost use Rattle.lrc_explore.specs.Answers.{FitsSettled, IsAnswer, MetTooMany};
+ghost use Rattle.lrc_orders.specs.Stuck.{GetsStuck};
+ghost use Rattle.lrc_orders.specs.Verdict.{EndsInRace, FindsNoRace, NeverStuck};
+ghost use Rattle.lrc_explore_causes.specs.Told.{TellsRace};
 ghost use Rattle.lrc_trace.specs.declared.act.Act.{Act as ActType};
 ghost use Rattle.lrc_consistency_laws.specs.Racing.{HasNoRace};
 ghost use Rattle.lrc_explore_text.specs.Orders.{TellsOrders, ends_text, order_text};
@@ -17,14 +17,14 @@ ghost use Rattle.lrc_explore_text.specs.Orders.{TellsOrders, ends_text, order_te
 use crate::explored::Printout;
 use crate::last_races::races_at;
 use lrc_acts_text::acts_part;
-use lrc_breadth::answers::explore;
 use lrc_exec::code::Code;
 use lrc_exec::plain::plain_run;
-use lrc_explore::search::{ExploreFault, Verdict};
+use lrc_explain_waits::stuck_part;
+use lrc_explore::answers::explore;
 use lrc_labels::label::Label;
 use lrc_lang::program::Program;
 use lrc_lines::walks::lines_of_acts;
-use lrc_stuck::stuck_part;
+use lrc_orders::search::{ExploreFault, Verdict};
 use lrc_text::{first_race_part, races_part};
 use lrc_trace::act::Act;
 use std::alloc::{AllocError, Global};
@@ -141,7 +141,7 @@ fn race_told(
     ensures status { IfOk result (λ printout. printout.status ≡ 3) }
 {
     let raced = acts_of(alloc, program, nodes, order)?;
-    let acts = lrc_causes::told::race_told(alloc, program, nodes, &raced)?;
+    let acts = lrc_explore_causes::told::race_told(alloc, program, nodes, &raced)?;
     last_race_told(alloc, labels, program, lines, nodes, &acts)
 }
 

@@ -2,21 +2,21 @@
 
 ghost use Rattle.std.specs.Prelude.{◌≡◌, ◌≢◌, ◌<◌, ◌≤◌, ◌↔◌, Contains, IfErr, IfOk, IsTrue, length, map, option_map, true};
 ghost use Rattle.lrc_exec.specs.Nodes.{AreNodes};
-ghost use Rattle.lrc_breadth.specs.Answers.{FitsSettledNoted, IsFault, IsFaultOf, MetTooMany};
-ghost use Rattle.lrc_breadth.specs.Ended.{AreEnded};
-ghost use Rattle.lrc_breadth.specs.Reached.{IsTask};
+ghost use Rattle.lrc_explore.specs.Answers.{FitsSettledNoted, IsFault, IsFaultOf, MetTooMany};
+ghost use Rattle.lrc_explore.specs.Ended.{AreEnded};
+ghost use Rattle.lrc_explore.specs.Reached.{IsTask};
 ghost use Rattle.lrc_explore_text.specs.OutcomeRun.{IsLineAt, IsPlaceOfNumber, IsRunAt, IsRunOfNumber, TellsRunOfNumber};
 ghost use Rattle.lrc_explore_text.specs.Outcomes.{outcome_line};
 
 use crate::orders::acts_told;
 use crate::outcomes::{outcome_line, sorted_lines};
-use lrc_breadth::answers::task_of;
-use lrc_breadth::ended::{Ended, all_ended};
-use lrc_breadth::task::Task;
 use lrc_exec::code::Code;
-use lrc_explore::outcomes::Outcome;
-use lrc_explore::search::ExploreFault;
+use lrc_explore::answers::task_of;
+use lrc_explore::ended::{Ended, all_ended};
+use lrc_explore::task::Task;
 use lrc_lang::program::Program;
+use lrc_orders::outcomes::Outcome;
+use lrc_orders::search::ExploreFault;
 use lrc_trace::act::Act;
 use std::alloc::{AllocError, Global};
 

@@ -3,17 +3,17 @@
 ghost use Rattle.std.specs.Prelude.{◌≡◌, ◌≢◌, ◌++◌, IfErr, IfOk, OnOk, codes, decimal, map, true};
 ghost use Rattle.std.specs.List.{IsDistinct};
 ghost use Rattle.lrc_exec.specs.Nodes.{AreNodes};
-ghost use Rattle.lrc_explore.specs.contracts.outcomes.OutcomePartialEq.TheImpl.{eq-value};
+ghost use Rattle.lrc_orders.specs.contracts.outcomes.OutcomePartialEq.TheImpl.{eq-value};
 ghost use Rattle.lrc_text.specs.Parts.{texts_of, whole_text};
-ghost use Rattle.lrc_breadth.specs.Answers.{FitsSettledNoted, MetTooMany};
+ghost use Rattle.lrc_explore.specs.Answers.{FitsSettledNoted, MetTooMany};
 ghost use Rattle.lrc_explore_text.specs.Outcomes.{AreLinesOf, ListsOutcomes, TellsOutcomes, none_ends, on_one_line, outcome_line, spaced};
 
 use crate::explored::Printout;
 use indexmap::IndexSet;
-use lrc_breadth::answers::outcomes;
-use lrc_explore::outcomes::Outcome;
-use lrc_explore::search::ExploreFault;
+use lrc_explore::answers::outcomes;
 use lrc_lang::program::Program;
+use lrc_orders::outcomes::Outcome;
+use lrc_orders::search::ExploreFault;
 use lrc_report::report::report_parts;
 use lrc_text::push_number;
 use lrc_trace::act::Act;

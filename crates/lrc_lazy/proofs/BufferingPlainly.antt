@@ -12,8 +12,8 @@ use Rattle.lrc_trace.specs.Run.{act_of}
 use Rattle.lrc_exec.specs.Meaning.{Thread, Next, writes, reads, prints, ends, next_of}
 use Rattle.lrc_exec.specs.Plain.{Plain, start_of, plain_start, plain_from, plain_step, deed_done, thread_in, with_thread}
 use Rattle.lrc_exec.proofs.PlainLaws.{plain_from-begins}
-use Rattle.lrc_explore.specs.Notes.{is_note_of}
-use Rattle.lrc_explore.specs.Outcome.{IsOutcome}
+use Rattle.lrc_orders.specs.Notes.{is_note_of}
+use Rattle.lrc_orders.specs.Outcome.{IsOutcome}
 use Rattle.lrc_lazy.specs.Buffering.{store_buffering, both_print_zero}
 use Rattle.lrc_lazy.proofs.Chains.{Chain, chain}
 

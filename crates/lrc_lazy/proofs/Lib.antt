@@ -1,3 +1,9 @@
+pub mod Moving
+pub mod Order
+pub mod Reading
+pub mod Holding
+pub mod Synchronized
+pub mod Both
 pub mod Readings
 pub mod Onward
 pub mod Plainly
@@ -9,3 +15,13 @@ pub mod Stopping
 pub mod Chains
 pub mod BufferingLazily
 pub mod BufferingPlainly
+pub mod Coming
+pub mod Advancing
+pub mod Renewing
+pub mod Stepping
+pub mod Beginning
+pub mod Deeds
+pub mod Changing
+pub mod Front
+pub mod Following
+pub mod Steps

@@ -6,7 +6,7 @@ use Rattle.lrc_trace.specs.declared.act.Act.{Act}
 use Rattle.lrc_exec.specs.Plain.{Plain, plain_start, plain_from}
 use Rattle.lrc_consistency_laws.specs.Follows.{nodes_of_acts}
 use Rattle.lrc_consistency_laws.specs.Racing.{HasNoRace}
-use Rattle.lrc_explore.specs.Outcome.{IsOutcome}
+use Rattle.lrc_orders.specs.Outcome.{IsOutcome}
 use Rattle.lrc_lazy.specs.Lazy.{IsLazyOutcome}
 use Rattle.lrc_lazy.proofs.Plainly.{machine_of, to_plain, from_plain}
 use Rattle.lrc_lazy.proofs.Resting.{over_to_rest, rest_to_over}

@@ -15,7 +15,7 @@ use Rattle.lrc_consistency_laws.proofs.InOrder.{lazily_without_race}
 use Rattle.lrc_consistency_laws.proofs.Plainly.{facts, one_more, plain_from-joined}
 use Rattle.lrc_consistency_laws.proofs.Racing.{race_free}
 use Rattle.lrc_consistency_laws.proofs.UpToRace.{without_race}
-use Rattle.lrc_explore.specs.Stuck.{IsAtRest}
+use Rattle.lrc_orders.specs.Stuck.{IsAtRest}
 use Rattle.lrc_lazy.specs.Lazy.{IsLazyRun, IsOver}
 use Rattle.lrc_lazy.proofs.Onward.{goes_on}
 

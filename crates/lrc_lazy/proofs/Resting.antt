@@ -17,7 +17,7 @@ use Rattle.lrc_consistency_laws.specs.InOrder.{value_after_all, ReadsInOrder}
 use Rattle.lrc_consistency_laws.proofs.Plainly.{facts}
 use Rattle.lrc_consistency_laws.proofs.Runs.{SoundAt, Ready, led, start_ready}
 use Rattle.lrc_consistency_laws.proofs.UpToRace.{in_range}
-use Rattle.lrc_explore.specs.Stuck.{IsAtRest}
+use Rattle.lrc_orders.specs.Stuck.{IsAtRest}
 use Rattle.lrc_lazy.specs.Lazy.{MayComeNext, IsOver}
 use Rattle.lrc_lazy.proofs.Onward.{other_follows, free_read}
 use Rattle.lrc_lazy.proofs.Plainly.{rests, no_more}

@@ -10,7 +10,7 @@ use Rattle.lrc_trace.specs.Reading.{ReadsLazily}
 use Rattle.lrc_trace.specs.Synchronization.{Holds, IsWellSynchronized, MayGoOn}
 use Rattle.lrc_exec.specs.Plain.{plain}
 use Rattle.lrc_consistency_laws.specs.Follows.{FollowsText}
-use Rattle.lrc_explore.specs.Notes.{notes_of}
+use Rattle.lrc_orders.specs.Notes.{notes_of}
 
 -- Each node's acts are those of the text, each act is made where locks and barriers let it, and each read is lazy: where the writes of
 -- its word that happen before it are ordered, it gives the last one's value, or 0 where there are none; else 0 or any one's.

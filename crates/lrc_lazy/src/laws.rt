@@ -7,8 +7,8 @@ ghost use Rattle.lrc_trace.specs.declared.act.Act.{Act};
 ghost use Rattle.lrc_exec.specs.Plain.{Plain, plain_start, plain_from, plain};
 ghost use Rattle.lrc_consistency_laws.specs.Follows.{nodes_of_acts};
 ghost use Rattle.lrc_consistency_laws.specs.Racing.{HasNoRace};
-ghost use Rattle.lrc_explore.specs.Outcome.{IsOutcome};
-ghost use Rattle.lrc_explore.specs.Stuck.{IsAtRest};
+ghost use Rattle.lrc_orders.specs.Outcome.{IsOutcome};
+ghost use Rattle.lrc_orders.specs.Stuck.{IsAtRest};
 ghost use Rattle.lrc_lazy.specs.Buffering.{store_buffering, both_print_zero};
 ghost use Rattle.lrc_lazy.specs.Lazy.{IsLazyRun, IsOver, AllHaveStoppedOrWait, IsLazyOutcome, HasNoLazyRace, RacesInSomeOrder, RacesInSomeLazyRun};
 

@@ -2,7 +2,7 @@
 use Rattle.std.proofs.Common.{◌≡◌, ℕ, List, refl}
 use Rattle.std.specs.Prelude.{Some}
 use Rattle.lrc_lang.specs.declared.program.Program.{Program}
-use Rattle.lrc_explore.specs.Notes.{notes_of}
+use Rattle.lrc_orders.specs.Notes.{notes_of}
 use Rattle.lrc_lazy.specs.Lazy.{IsLazyRun, IsOver, IsLazyOutcome}
 use Rattle.lrc_protocol.specs.declared.event.Event.{Event}
 use Rattle.lrc_protocol.specs.Node.{OptionsRecord}

@@ -3,7 +3,7 @@
 
 ghost use Rattle.std.specs.Prelude.{◌≡◌, ℕ, List, Some};
 ghost use Rattle.lrc_lang.specs.declared.program.Program.{Program};
-ghost use Rattle.lrc_explore.specs.Notes.{notes_of};
+ghost use Rattle.lrc_orders.specs.Notes.{notes_of};
 ghost use Rattle.lrc_lazy.specs.Lazy.{IsLazyRun, IsOver, IsLazyOutcome};
 ghost use Rattle.lrc_protocol.specs.declared.event.Event.{Event};
 ghost use Rattle.lrc_protocol.specs.Node.{OptionsRecord};

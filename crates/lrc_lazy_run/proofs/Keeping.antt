@@ -10,13 +10,13 @@ use Rattle.lrc_trace.specs.declared.act.Deed.{Deed}
 use Rattle.lrc_trace.proofs.Positions.{slice_get-front, slice_get-seam}
 use Rattle.lrc_exec.specs.declared.spot.Flat.{Flat}
 use Rattle.lrc_exec.specs.Plain.{Plain}
-use Rattle.lrc_explore.specs.Kept.{Grows}
+use Rattle.lrc_orders.specs.Kept.{Grows}
 use Rattle.lrc_exec.specs.States.{IsFirst}
 use Rattle.lrc_exec.specs.States.{IsStateOf, plain_at}
-use Rattle.lrc_known.specs.Effect.{word_of}
-use Rattle.lrc_explore.proofs.Gathering.{put_all}
-use Rattle.lrc_explore.proofs.Keeping.{item_at, stands_on as stays}
-use Rattle.lrc_lazy_machine.specs.Standing.{CanMake}
+use Rattle.lrc_lazy_known.specs.Effect.{word_of}
+use Rattle.lrc_orders.proofs.Gathering.{put_all}
+use Rattle.lrc_orders.proofs.Keeping.{item_at, stands_on as stays}
+use Rattle.lrc_lazy.specs.Standing.{CanMake}
 use Rattle.lrc_lazy_search.specs.declared.state.LazyState.{LazyState}
 use Rattle.lrc_lazy_search.specs.contracts.state.LazyStatePartialEq.TheImpl.{eq-value}
 use Rattle.lrc_lazy_search.specs.Searching.{CountsNoneGone, IsNeat, IsReached, MeetsMore}

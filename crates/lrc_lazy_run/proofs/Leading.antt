@@ -9,14 +9,14 @@ use Rattle.lrc_exec.specs.declared.spot.Flat.{Flat}
 use Rattle.lrc_exec.specs.Plain.{Plain}
 use Rattle.lrc_consistency_laws.proofs.UpToRace.{in_range}
 use Rattle.lrc_exec.specs.States.{IsFirst}
-use Rattle.lrc_explore.specs.Notes.{notes_with}
+use Rattle.lrc_orders.specs.Notes.{notes_with}
 use Rattle.lrc_exec.specs.States.{plain_at}
-use Rattle.lrc_explore.proofs.Noting.{notes_more}
-use Rattle.lrc_known.specs.Effect.{IsKnowledgeAfter, word_of}
-use Rattle.lrc_lazy_machine.specs.Standing.{CanMake, IsRenewed, Stands, effect_at}
-use Rattle.lrc_lazy_machine.proofs.Beginning.{first_notes, stands_first}
-use Rattle.lrc_lazy_machine.proofs.Renewing.{stands_renewed}
-use Rattle.lrc_lazy_machine.proofs.Stepping.{over_there, stands_on}
+use Rattle.lrc_orders.proofs.Noting.{notes_more}
+use Rattle.lrc_lazy_known.specs.Effect.{IsKnowledgeAfter, word_of}
+use Rattle.lrc_lazy.specs.Standing.{CanMake, IsRenewed, Stands, effect_at}
+use Rattle.lrc_lazy.proofs.Beginning.{first_notes, stands_first}
+use Rattle.lrc_lazy.proofs.Renewing.{stands_renewed}
+use Rattle.lrc_lazy.proofs.Stepping.{over_there, stands_on}
 use Rattle.lrc_lazy_search.specs.declared.state.LazyState.{LazyState}
 use Rattle.lrc_lazy_search.specs.Searching.{IsFresh, Steps}
 use Rattle.lrc_lazy_run.specs.declared.sought.Sought.{Sought}

@@ -1,3 +1,5 @@
+pub mod Marking
+pub mod Seeded
 pub mod Keeping
 pub mod Leading
 pub mod Passing

@@ -9,13 +9,13 @@ use Rattle.lrc_trace.specs.declared.act.Act.{Act}
 use Rattle.lrc_trace.specs.declared.act.Deed.{Deed}
 use Rattle.lrc_trace.specs.Run.{act_of}
 use Rattle.lrc_exec.specs.declared.spot.Flat.{Flat}
-use Rattle.lrc_explore.specs.Kept.{Grows}
+use Rattle.lrc_orders.specs.Kept.{Grows}
 use Rattle.lrc_exec.specs.States.{plain_at}
-use Rattle.lrc_explore.proofs.Keeping.{item_at, stands_on as stays}
+use Rattle.lrc_orders.proofs.Keeping.{item_at, stands_on as stays}
 use Rattle.lrc_lazy.specs.Lazy.{IsLazyRun, IsLazyOutcome}
-use Rattle.lrc_lazy_machine.specs.Standing.{CanMake}
-use Rattle.lrc_lazy_machine.proofs.Coming.{lazy_shorter}
-use Rattle.lrc_lazy_machine.proofs.Stepping.{can_make, none_there}
+use Rattle.lrc_lazy.specs.Standing.{CanMake}
+use Rattle.lrc_lazy.proofs.Coming.{lazy_shorter}
+use Rattle.lrc_lazy.proofs.Stepping.{can_make, none_there}
 use Rattle.lrc_lazy_search.specs.declared.state.LazyState.{LazyState}
 use Rattle.lrc_lazy_search.proofs.Adding.{key_on}
 use Rattle.lrc_lazy_search.proofs.Same.{notes_same, stands_same}

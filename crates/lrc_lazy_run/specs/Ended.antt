@@ -2,7 +2,7 @@
 use Rattle.std.specs.Prelude.{◌≡◌, ℕ, List, Option, Some, None}
 use Rattle.lrc_lang.specs.declared.program.Program.{Program}
 use Rattle.lrc_trace.specs.declared.act.Act.{Act}
-use Rattle.lrc_explore.specs.Notes.{notes_of}
+use Rattle.lrc_orders.specs.Notes.{notes_of}
 use Rattle.lrc_lazy.specs.Lazy.{IsLazyRun, IsOver, IsLazyOutcome}
 
 -- the acts are a lazy run of the program, after which no node can act, with these notes

@@ -1,2 +1,3 @@
+pub mod Seeds
 pub mod Ended
 pub mod Ways

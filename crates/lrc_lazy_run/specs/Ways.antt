@@ -8,10 +8,10 @@ use Rattle.lrc_exec.specs.declared.spot.Flat.{Flat}
 use Rattle.lrc_exec.specs.Flat.{IsCodeOf}
 use Rattle.lrc_exec.specs.Plain.{plain_start}
 use Rattle.lrc_exec.specs.Spots.{IsFlat}
-use Rattle.lrc_explore.specs.Notes.{notes_of}
+use Rattle.lrc_orders.specs.Notes.{notes_of}
 use Rattle.lrc_exec.specs.States.{machine_begun, plain_at}
 use Rattle.lrc_lazy.specs.Lazy.{IsLazyOutcome}
-use Rattle.lrc_lazy_machine.specs.Standing.{CanMake, Stands}
+use Rattle.lrc_lazy.specs.Standing.{CanMake, Stands}
 use Rattle.lrc_lazy_search.specs.declared.state.LazyState.{LazyState}
 use Rattle.lrc_lazy_search.specs.contracts.state.LazyStatePartialEq.TheImpl.{eq-value}
 use Rattle.lrc_lazy_search.specs.Searching.{AreReached, HasKey, IsFresh, Steps}

@@ -1,9 +1,14 @@
 //! Finds a lazy run of a program that has a given outcome, by a search through the states of the machine that makes
 //! lazy runs. The search goes from state to state by steps, so that the run has as few as may be, which is tested and
 //! not proved. If that finds no run, it goes through all states by single acts, and so it is exact.
+//!
+//! Beside it, `seeds` plays the runs of this memory in the random orders of seeds, and finds for each outcome the least
+//! seed whose run has it.
 #![tactic(auto)]
 
 pub mod run;
+pub mod seed;
+pub mod seeds;
 mod sought;
 mod walk;
 mod ways;

@@ -4,13 +4,13 @@ ghost use Rattle.std.specs.Prelude.{◌<◌, IfSome, length};
 
 use crate::sought::Sought;
 use crate::ways::Ways;
-use lrc_explore::search::ExploreFault;
+use lrc_orders::search::ExploreFault;
 use lrc_trace::act::{Act, Deed};
 use std::alloc::{AllocError, Global};
 
 impl Ways {
     ghost use Rattle.std.specs.Prelude.{◌≡◌, ◌≢◌, ◌<◌, ◌≤◌, ℕ, IfErr, IfOk, OnOk, length, option_map};
-    ghost use Rattle.lrc_explore.specs.Kept.{Grows};
+    ghost use Rattle.lrc_orders.specs.Kept.{Grows};
     ghost use Rattle.lrc_lazy_search.specs.Searching.{MeetsMore};
     ghost use Rattle.lrc_lazy_run.specs.Ways.{AreWays, CanMakeAt, CanMakeIfAny, HasAllStepsAt, IsEndFor, IsEndIfFound, IsSought};
 

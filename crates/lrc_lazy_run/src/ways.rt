@@ -2,8 +2,8 @@
 
 use crate::sought::Sought;
 use indexmap::IndexSet;
-use lrc_explore::search::ExploreFault;
 use lrc_lazy_search::state::LazyState;
+use lrc_orders::search::ExploreFault;
 use lrc_trace::act::{Act, Deed};
 use std::alloc::{AllocError, Global};
 
@@ -26,7 +26,7 @@ pub struct Ways {
 impl Ways {
     ghost use Rattle.std.specs.Prelude.{◌≡◌, ◌≢◌, ◌<◌, ◌↔◌, ℕ, IfOk, IfErr, OnOk, IsTrue, Some, length, slice_get};
     ghost use Rattle.lrc_trace.specs.declared.act.Deed.{Deed as DeedType};
-    ghost use Rattle.lrc_explore.specs.Kept.{Grows};
+    ghost use Rattle.lrc_orders.specs.Kept.{Grows};
     ghost use Rattle.lrc_lazy_search.specs.Searching.{HasKey, IsReached, MeetsMore};
     ghost use Rattle.lrc_lazy_run.specs.Ways.{AreKept, AreWays, CanMakeAt, ComesFrom, HasNotesAt, HasStepAt, IsEndWith, IsFound, IsPut, IsSought, IsStillAt, LeadTo};
 

@@ -13,27 +13,27 @@ use Rattle.lrc_trace.proofs.Positions.{Does-last, slice_get-seam}
 use Rattle.lrc_exec.specs.declared.spot.Flat.{Flat}
 use Rattle.lrc_exec.specs.Plain.{Plain}
 use Rattle.lrc_consistency_laws.proofs.UpToRace.{in_range}
-use Rattle.lrc_explore.specs.declared.outcomes.Outcome.{Outcome}
-use Rattle.lrc_explore.specs.Kept.{Grows}
+use Rattle.lrc_orders.specs.declared.outcomes.Outcome.{Outcome}
+use Rattle.lrc_orders.specs.Kept.{Grows}
 use Rattle.lrc_exec.specs.States.{IsFirst, plain_at, IsStateOf}
-use Rattle.lrc_explore.specs.Notes.{notes_of, notes_with}
-use Rattle.lrc_explore.specs.Outcome.{HasOutcome}
-use Rattle.lrc_explore.proofs.Counting.{step_counts}
-use Rattle.lrc_explore.proofs.Gathering.{put_all}
-use Rattle.lrc_explore.proofs.Keeping.{stands_on as stays, put_grows, item_at}
-use Rattle.lrc_explore.proofs.Noting.{notes_more}
-use Rattle.lrc_known.specs.Effect.{word_of, IsKnowledgeAfter}
+use Rattle.lrc_orders.specs.Notes.{notes_of, notes_with}
+use Rattle.lrc_orders.specs.Outcome.{HasOutcome}
+use Rattle.lrc_orders.proofs.Counting.{step_counts}
+use Rattle.lrc_orders.proofs.Gathering.{put_all}
+use Rattle.lrc_orders.proofs.Keeping.{stands_on as stays, put_grows, item_at}
+use Rattle.lrc_orders.proofs.Noting.{notes_more}
+use Rattle.lrc_lazy_known.specs.Effect.{word_of, IsKnowledgeAfter}
 use Rattle.lrc_lazy_search.specs.declared.state.LazyState.{LazyState}
 use Rattle.lrc_lazy_search.specs.declared.search.Task.{Task}
 use Rattle.lrc_lazy_search.specs.contracts.state.LazyStatePartialEq.TheImpl.{eq-value}
-use Rattle.lrc_lazy_machine.specs.Standing.{with_memory, IsRenewed, Stands, CanMake, effect_at}
+use Rattle.lrc_lazy.specs.Standing.{with_memory, IsRenewed, Stands, CanMake, effect_at}
 use Rattle.lrc_lazy_search.specs.Searching.{Steps, IsFresh, IsAhead, still, onward, renewed, IsNext, AreNext, CountsNoneGone, HasStep, HasAll, AreEnough, of_one, of_all, IsNeat, IsReached, HasKey, AreThere}
 use Rattle.lrc_lazy_search.specs.Searching.{HasNexts, HasEnough, by_one, by_all, IsSearched, AreSearched, IsBegun}
 use Rattle.lrc_lazy_search.specs.Task.{IsTask, IsInOrder}
-use Rattle.lrc_lazy_machine.proofs.Beginning.{stands_first, first_notes}
+use Rattle.lrc_lazy.proofs.Beginning.{stands_first, first_notes}
 use Rattle.lrc_lazy_search.proofs.Ahead.{arrivals_still, fresh_counts}
-use Rattle.lrc_lazy_machine.proofs.Renewing.{stands_renewed}
-use Rattle.lrc_lazy_machine.proofs.Stepping.{stands_on}
+use Rattle.lrc_lazy.proofs.Renewing.{stands_renewed}
+use Rattle.lrc_lazy.proofs.Stepping.{stands_on}
 
 -- ---- lists of next states
 

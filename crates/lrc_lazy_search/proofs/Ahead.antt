@@ -9,9 +9,9 @@ use Rattle.lrc_exec.specs.declared.spot.Flat.{Flat}
 use Rattle.lrc_exec.specs.Plain.{Plain}
 use Rattle.lrc_exec.specs.declared.state.State.{State}
 use Rattle.lrc_exec.specs.States.{plain_at, IsStateOf}
-use Rattle.lrc_explore.proofs.Effects.{arrivals_after}
-use Rattle.lrc_settled.proofs.Parts.{stepped}
-use Rattle.lrc_lazy_machine.specs.Standing.{with_memory}
+use Rattle.lrc_orders.proofs.Effects.{arrivals_after}
+use Rattle.lrc_orders_laws.proofs.Parts.{stepped}
+use Rattle.lrc_lazy.specs.Standing.{with_memory}
 use Rattle.lrc_lazy_search.specs.declared.state.LazyState.{LazyState}
 use Rattle.lrc_lazy_search.specs.Searching.{Makes, IsFresh, IsAhead, still, onward, renewed}
 

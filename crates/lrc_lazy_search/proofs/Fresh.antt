@@ -7,10 +7,10 @@ use Rattle.lrc_exec.specs.declared.spot.Spot.{Spot}
 use Rattle.lrc_exec.specs.Spots.{spot_stopped, spot_thread}
 use Rattle.lrc_exec.specs.Plain.{Plain}
 use Rattle.lrc_exec.specs.States.{plain_at, IsStateOf}
-use Rattle.lrc_known.specs.Effect.{word_of, IsKnowledgeWithout}
-use Rattle.lrc_known.proofs.Dropping.{without_none}
-use Rattle.lrc_lazy_machine.specs.Standing.{advanced, departures_of}
-use Rattle.lrc_lazy_machine.proofs.Advancing.{advanced_none}
+use Rattle.lrc_lazy_known.specs.Effect.{word_of, IsKnowledgeWithout}
+use Rattle.lrc_lazy_known.proofs.Dropping.{without_none}
+use Rattle.lrc_lazy.specs.Standing.{advanced, departures_of}
+use Rattle.lrc_lazy.proofs.Advancing.{advanced_none}
 use Rattle.lrc_lazy_search.specs.declared.state.LazyState.{LazyState}
 use Rattle.lrc_lazy_search.specs.Searching.{IsFresh}
 

@@ -4,14 +4,14 @@ use Rattle.std.specs.Prelude.{Some, max, slice_get, slice_set}
 use Rattle.std.proofs.lemmas.Bool.{cases_eq}
 use Rattle.std.proofs.lemmas.List.{length-set}
 use Rattle.std.proofs.lemmas.Option.{same_Some}
-use Rattle.lrc_explore.proofs.Keeping.{item_at}
-use Rattle.lrc_known.specs.declared.known.KnownWord.{KnownWord}
-use Rattle.lrc_known.specs.declared.known.Knowledge.{Knowledge}
-use Rattle.lrc_known.specs.declared.word.Effect.TheVariants.{Writes}
-use Rattle.lrc_known.specs.Word.{IsSame}
-use Rattle.lrc_known.specs.Effect.{knowers_in, word_of, IsAfter, IsKnowledgeAfter}
-use Rattle.lrc_known.specs.Tidy.{IsTidy, IsTidyWord, IsWordOfSome}
-use Rattle.lrc_known.proofs.Keeping.{tidy_word}
+use Rattle.lrc_orders.proofs.Keeping.{item_at}
+use Rattle.lrc_lazy_known.specs.declared.known.KnownWord.{KnownWord}
+use Rattle.lrc_lazy_known.specs.declared.known.Knowledge.{Knowledge}
+use Rattle.lrc_lazy_known.specs.declared.word.Effect.TheVariants.{Writes}
+use Rattle.lrc_lazy_known.specs.Word.{IsSame}
+use Rattle.lrc_lazy_known.specs.Effect.{knowers_in, word_of, IsAfter, IsKnowledgeAfter}
+use Rattle.lrc_lazy_known.specs.Tidy.{IsTidy, IsTidyWord, IsWordOfSome}
+use Rattle.lrc_lazy_known.proofs.Keeping.{tidy_word}
 use Rattle.lrc_lazy_search.proofs.Same.{same_itself}
 
 -- the item that was put, and another one

@@ -13,23 +13,23 @@ use Rattle.lrc_exec.specs.Spots.{spot_thread}
 use Rattle.lrc_exec.proofs.NextLaws.{next_of-fine}
 use Rattle.lrc_consistency_laws.specs.Follows.{Goes, quietly, printing, reading, writing, acquiring, releasing, arriving, departing, trapping, ending}
 use Rattle.lrc_consistency_laws.proofs.Runs.{CanDo}
-use Rattle.lrc_explore.proofs.Effects.{after_of}
+use Rattle.lrc_orders.proofs.Effects.{after_of}
 use Rattle.lrc_exec.specs.States.{plain_at, IsStateOf}
 use Rattle.lrc_exec.proofs.Spots.{words_known}
-use Rattle.lrc_settled.proofs.Parts.{stepped, can_step}
-use Rattle.lrc_known.specs.declared.known.Last.{Last}
-use Rattle.lrc_known.specs.declared.known.Last.TheVariants.{Nothing, Value, Unordered}
-use Rattle.lrc_known.specs.Word.{Gives, MayGive, last_of, values_of}
-use Rattle.lrc_known.specs.Effect.{word_of}
-use Rattle.lrc_known.specs.Tidy.{IsRising}
-use Rattle.lrc_known.proofs.Made.{get_at}
-use Rattle.lrc_known.proofs.Tidy.{rising_once}
+use Rattle.lrc_orders_laws.proofs.Parts.{stepped, can_step}
+use Rattle.lrc_lazy_known.specs.declared.known.Last.{Last}
+use Rattle.lrc_lazy_known.specs.declared.known.Last.TheVariants.{Nothing, Value, Unordered}
+use Rattle.lrc_lazy_known.specs.Word.{Gives, MayGive, last_of, values_of}
+use Rattle.lrc_lazy_known.specs.Effect.{word_of}
+use Rattle.lrc_lazy_known.specs.Tidy.{IsRising}
+use Rattle.lrc_lazy_known.proofs.Made.{get_at}
+use Rattle.lrc_lazy_known.proofs.Tidy.{rising_once}
 use Rattle.lrc_lazy_search.specs.declared.state.LazyState.{LazyState}
-use Rattle.lrc_lazy_machine.specs.Standing.{with_memory, CanMake}
+use Rattle.lrc_lazy.specs.Standing.{with_memory, CanMake}
 use Rattle.lrc_lazy_search.specs.Fit.{IsFit}
-use Rattle.lrc_swapped.specs.Swapped.{IsNoAcquire}
+use Rattle.lrc_lazy.specs.Swapped.{IsNoAcquire}
 use Rattle.lrc_lazy_search.specs.Searching.{poked, AreOnce, IsInFront}
-use Rattle.lrc_lazy_machine.proofs.Coming.{read_stays}
+use Rattle.lrc_lazy.proofs.Coming.{read_stays}
 
 -- the same deed, or reads of one word
 pub data Kind (d e : Deed) : Type 0 where

@@ -9,11 +9,11 @@ use Rattle.lrc_exec.specs.declared.state.State.{State}
 use Rattle.lrc_exec.specs.Plain.{Plain, plain_step, thread_in}
 use Rattle.lrc_exec.specs.Spots.{spot_thread}
 use Rattle.lrc_exec.specs.States.{plain_at, IsFirst, IsStateOf}
-use Rattle.lrc_explore.proofs.Effects.{memory_after}
-use Rattle.lrc_explore.proofs.Gathering.{put_all}
-use Rattle.lrc_settled.proofs.Parts.{stepped}
-use Rattle.lrc_known.specs.Tidy.{IsTidy}
-use Rattle.lrc_lazy_machine.specs.Standing.{departures_of, is_waiting}
+use Rattle.lrc_orders.proofs.Effects.{memory_after}
+use Rattle.lrc_orders.proofs.Gathering.{put_all}
+use Rattle.lrc_orders_laws.proofs.Parts.{stepped}
+use Rattle.lrc_lazy_known.specs.Tidy.{IsTidy}
+use Rattle.lrc_lazy.specs.Standing.{departures_of, is_waiting}
 use Rattle.lrc_lazy_search.specs.declared.state.LazyState.{LazyState}
 use Rattle.lrc_lazy_search.specs.Searching.{poked, blanked, AreNeat, CountNoneGone, CountsNoneGone, IsBlank, IsNeat}
 

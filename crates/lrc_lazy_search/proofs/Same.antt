@@ -14,23 +14,23 @@ use Rattle.lrc_consistency_laws.specs.Follows.{deeds_of}
 use Rattle.lrc_consistency_laws.specs.Matching.{Matches}
 use Rattle.lrc_exec.specs.contracts.state.StatePartialEq.TheImpl.{eq-value as state_eq}
 use Rattle.lrc_exec.specs.States.{plain_at}
-use Rattle.lrc_explore.proofs.Alike.{acts_same}
-use Rattle.lrc_explore.proofs.Same.{pointwise_same, state_same}
-use Rattle.lrc_known.specs.declared.known.Last.{Last}
-use Rattle.lrc_known.specs.declared.known.Last.TheVariants.{Nothing, Value, Unordered}
-use Rattle.lrc_known.specs.declared.known.Known.{Known}
-use Rattle.lrc_known.specs.declared.known.Knowledge.{Knowledge}
-use Rattle.lrc_known.specs.contracts.known.LastPartialEq.TheImpl.{eq-value as last_eq}
-use Rattle.lrc_known.specs.contracts.known.KnownPartialEq.TheImpl.{eq-value as known_eq}
-use Rattle.lrc_known.specs.contracts.known.KnownWordPartialEq.TheImpl.{eq-value as word_eq}
-use Rattle.lrc_known.specs.contracts.known.KnowledgePartialEq.TheImpl.{eq-value as knowledge_eq}
-use Rattle.lrc_known.specs.Knowing.{KnowsWrite}
-use Rattle.lrc_known.specs.Word.{last_in, values_in, row_in, last_of, values_of, is_above, IsSame}
-use Rattle.lrc_known.specs.Effect.{knowers_in, word_of, IsKnowledgeOf}
-use Rattle.lrc_known.proofs.Sets.{describes_moved}
+use Rattle.lrc_orders.proofs.Alike.{acts_same}
+use Rattle.lrc_orders.proofs.Same.{pointwise_same, state_same}
+use Rattle.lrc_lazy_known.specs.declared.known.Last.{Last}
+use Rattle.lrc_lazy_known.specs.declared.known.Last.TheVariants.{Nothing, Value, Unordered}
+use Rattle.lrc_lazy_known.specs.declared.known.Known.{Known}
+use Rattle.lrc_lazy_known.specs.declared.known.Knowledge.{Knowledge}
+use Rattle.lrc_lazy_known.specs.contracts.known.LastPartialEq.TheImpl.{eq-value as last_eq}
+use Rattle.lrc_lazy_known.specs.contracts.known.KnownPartialEq.TheImpl.{eq-value as known_eq}
+use Rattle.lrc_lazy_known.specs.contracts.known.KnownWordPartialEq.TheImpl.{eq-value as word_eq}
+use Rattle.lrc_lazy_known.specs.contracts.known.KnowledgePartialEq.TheImpl.{eq-value as knowledge_eq}
+use Rattle.lrc_lazy_known.specs.Knowing.{KnowsWrite}
+use Rattle.lrc_lazy_known.specs.Word.{last_in, values_in, row_in, last_of, values_of, is_above, IsSame}
+use Rattle.lrc_lazy_known.specs.Effect.{knowers_in, word_of, IsKnowledgeOf}
+use Rattle.lrc_lazy_known.proofs.Sets.{describes_moved}
 use Rattle.lrc_lazy_search.specs.declared.state.LazyState.{LazyState}
 use Rattle.lrc_lazy_search.specs.contracts.state.LazyStatePartialEq.TheImpl.{eq-value}
-use Rattle.lrc_lazy_machine.specs.Standing.{advanced, with_memory, Comes, Stands}
+use Rattle.lrc_lazy.specs.Standing.{advanced, with_memory, Comes, Stands}
 
 -- two lists that compare equal have at each place nothing, or items that compare equal
 pub data Both {A : Type 0} (E : A → A → Bool) (xs ys : List A) (k : ℕ) : Type 0 where

@@ -11,23 +11,23 @@ use Rattle.lrc_trace.proofs.Positions.{Does-last}
 use Rattle.lrc_trace.proofs.Prefixes.{MayGoOn-last}
 use Rattle.lrc_exec.specs.declared.spot.Flat.{Flat}
 use Rattle.lrc_consistency_laws.proofs.UpToRace.{in_range}
-use Rattle.lrc_explore.specs.declared.outcomes.Outcome.{Outcome}
-use Rattle.lrc_explore.specs.Notes.{notes_of, notes_with}
-use Rattle.lrc_explore.specs.Outcome.{HasOutcome}
+use Rattle.lrc_orders.specs.declared.outcomes.Outcome.{Outcome}
+use Rattle.lrc_orders.specs.Notes.{notes_of, notes_with}
+use Rattle.lrc_orders.specs.Outcome.{HasOutcome}
 use Rattle.lrc_exec.specs.States.{plain_at}
-use Rattle.lrc_explore.proofs.Noting.{notes_more}
+use Rattle.lrc_orders.proofs.Noting.{notes_more}
 use Rattle.lrc_lazy.specs.Lazy.{IsLazyRun, IsLazyOutcome, IsOver, MayComeNext}
-use Rattle.lrc_known.specs.Effect.{IsKnowledgeAfter}
-use Rattle.lrc_lazy_machine.proofs.Beginning.{first_notes}
+use Rattle.lrc_lazy_known.specs.Effect.{IsKnowledgeAfter}
+use Rattle.lrc_lazy.proofs.Beginning.{first_notes}
 use Rattle.lrc_lazy_search.specs.declared.state.LazyState.{LazyState}
-use Rattle.lrc_lazy_machine.specs.Standing.{IsRenewed, Stands, CanMake, effect_at}
+use Rattle.lrc_lazy.specs.Standing.{IsRenewed, Stands, CanMake, effect_at}
 use Rattle.lrc_lazy_search.specs.Fit.{IsFit}
 use Rattle.lrc_lazy_search.specs.Searching.{Steps, IsInFront, IsFresh, IsAhead, still, onward, renewed, HasKey, HasNexts, HasEnough, by_one, by_all}
 use Rattle.lrc_lazy_search.specs.Searching.{IsReached, IsSearched, AreSearched, AreSound, IsBegun}
-use Rattle.lrc_lazy_front.proofs.Deeds.{lazy_front}
-use Rattle.lrc_lazy_front.proofs.Front.{in_front}
-use Rattle.lrc_lazy_machine.proofs.Renewing.{stands_renewed}
-use Rattle.lrc_lazy_machine.proofs.Stepping.{stands_on, can_make, run_made, over_there, none_there}
+use Rattle.lrc_lazy.proofs.Deeds.{lazy_front}
+use Rattle.lrc_lazy.proofs.Front.{in_front}
+use Rattle.lrc_lazy.proofs.Renewing.{stands_renewed}
+use Rattle.lrc_lazy.proofs.Stepping.{stands_on, can_make, run_made, over_there, none_there}
 use Rattle.lrc_lazy_search.proofs.Same.{stands_same, notes_same}
 
 -- ---- all lazy runs that end

@@ -5,8 +5,8 @@ use Rattle.lrc_exec.specs.Meaning.{Thread}
 use Rattle.lrc_exec.specs.Plain.{thread_in}
 use Rattle.lrc_exec.specs.declared.spot.Flat.{Flat}
 use Rattle.lrc_exec.specs.States.{plain_at, IsStateOf}
-use Rattle.lrc_known.specs.declared.word.Effect.{Effect}
-use Rattle.lrc_known.specs.Effect.{effect_of}
+use Rattle.lrc_lazy_known.specs.declared.word.Effect.{Effect}
+use Rattle.lrc_lazy_known.specs.Effect.{effect_of}
 use Rattle.lrc_lazy_search.specs.declared.state.LazyState.{LazyState}
 
 -- what a node's deed changes of what is known, in flat code

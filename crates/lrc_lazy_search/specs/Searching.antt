@@ -9,18 +9,18 @@ use Rattle.lrc_trace.specs.Run.{act_of}
 use Rattle.lrc_exec.specs.Flat.{IsCodeOf}
 use Rattle.lrc_exec.specs.Plain.{plain_step}
 use Rattle.lrc_exec.specs.declared.spot.Flat.{Flat}
-use Rattle.lrc_explore.specs.declared.outcomes.Outcome.{Outcome}
+use Rattle.lrc_orders.specs.declared.outcomes.Outcome.{Outcome}
 use Rattle.lrc_exec.specs.declared.state.State.{State}
-use Rattle.lrc_explore.specs.Notes.{notes_of, notes_with}
-use Rattle.lrc_explore.specs.Outcome.{HasOutcome}
+use Rattle.lrc_orders.specs.Notes.{notes_of, notes_with}
+use Rattle.lrc_orders.specs.Outcome.{HasOutcome}
 use Rattle.lrc_exec.specs.States.{plain_at, IsStateOf}
 use Rattle.lrc_lazy.specs.Lazy.{IsLazyOutcome}
-use Rattle.lrc_known.specs.Effect.{IsKnowledgeAfter}
-use Rattle.lrc_known.specs.Tidy.{IsTidy}
-use Rattle.lrc_swapped.specs.Swapped.{IsNoAcquire}
+use Rattle.lrc_lazy_known.specs.Effect.{IsKnowledgeAfter}
+use Rattle.lrc_lazy_known.specs.Tidy.{IsTidy}
+use Rattle.lrc_lazy.specs.Swapped.{IsNoAcquire}
 use Rattle.lrc_lazy_search.specs.declared.state.LazyState.{LazyState}
 use Rattle.lrc_lazy_search.specs.contracts.state.LazyStatePartialEq.TheImpl.{eq-value}
-use Rattle.lrc_lazy_machine.specs.Standing.{with_memory, departures_of, IsRenewed, Stands, MayGive, CanMake, effect_at}
+use Rattle.lrc_lazy.specs.Standing.{with_memory, departures_of, IsRenewed, Stands, MayGive, CanMake, effect_at}
 
 -- ---- the one way in which a state is written
 

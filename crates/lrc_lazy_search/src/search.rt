@@ -3,7 +3,7 @@
 ghost use Rattle.std.specs.Prelude.{◌≡◌, ◌≢◌, ◌↔◌, List, IfOk, IfErr, MatchResult, Err};
 ghost use Rattle.lrc_trace.specs.declared.act.Act.{Act as ActType};
 ghost use Rattle.lrc_exec.specs.Nodes.{AreNodes};
-ghost use Rattle.lrc_explore.specs.Outcome.{HasOutcome};
+ghost use Rattle.lrc_orders.specs.Outcome.{HasOutcome};
 ghost use Rattle.lrc_lazy.specs.Lazy.{IsLazyOutcome};
 ghost use Rattle.lrc_lazy_search.specs.Searching.{FitsLazily, MeetsMore};
 ghost use Rattle.lrc_lazy_search.specs.Task.{IsTask};
@@ -12,10 +12,10 @@ use crate::state::LazyState;
 use indexmap::IndexSet;
 use lrc_exec::code::Code;
 use lrc_exec::spot::Flat;
-use lrc_explore::outcomes::Outcome;
-use lrc_explore::search::ExploreFault;
-use lrc_known::word::copied;
 use lrc_lang::program::Program;
+use lrc_lazy_known::word::copied;
+use lrc_orders::outcomes::Outcome;
+use lrc_orders::search::ExploreFault;
 use std::alloc::{AllocError, Global};
 
 /// Returns every outcome of the lazy runs of a program on this many nodes, after which no node can make an act. It
@@ -119,8 +119,8 @@ impl Searched {
     ghost use Rattle.std.specs.Prelude.{◌≡◌, ◌≢◌, ◌↔◌, ◌<◌, ◌≤◌, ◌^◌, ◌-◌, ℕ, List, IfOk, IfErr, OnOk, Some, [], length, slice_get};
     ghost use Rattle.std.specs.List.{IsDistinct};
     ghost use Rattle.lrc_trace.specs.declared.act.Act.{Act as ActType};
-    ghost use Rattle.lrc_explore.specs.Kept.{Grows};
-    ghost use Rattle.lrc_explore.specs.Outcome.{HasOutcome};
+    ghost use Rattle.lrc_orders.specs.Kept.{Grows};
+    ghost use Rattle.lrc_orders.specs.Outcome.{HasOutcome};
     ghost use Rattle.lrc_lazy.specs.Lazy.{IsLazyOutcome};
     ghost use Rattle.lrc_lazy_search.specs.declared.state.LazyState.{LazyState as StateType};
     ghost use Rattle.lrc_lazy_search.specs.Searching.{AreEnough, AreNext, AreReached, AreSearched, AreSound, AreThere, IsBegun, FitsLazily, IsReached, IsSearched, MeetsMore};

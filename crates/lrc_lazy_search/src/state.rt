@@ -2,16 +2,16 @@
 
 ghost use Rattle.std.specs.Prelude.{◌≡◌, ◌<◌, ◌^◌, ◌*◌, ◌+◌, ◌-◌, ℕ, IfOk, OnOk, length, map, max};
 ghost use Rattle.lrc_trace.specs.declared.act.Deed.TheVariants.{Read};
-ghost use Rattle.lrc_known.specs.declared.word.Effect.TheVariants.{Writes};
-ghost use Rattle.lrc_known.specs.Effect.{IsKnowledgeAfter, IsSmall, word_of};
-ghost use Rattle.lrc_known.specs.Tidy.{IsTidy};
+ghost use Rattle.lrc_lazy_known.specs.declared.word.Effect.TheVariants.{Writes};
+ghost use Rattle.lrc_lazy_known.specs.Effect.{IsKnowledgeAfter, IsSmall, word_of};
+ghost use Rattle.lrc_lazy_known.specs.Tidy.{IsTidy};
 ghost use Rattle.lrc_lazy_search.specs.Fit.{effect_of_flat};
 
 use lrc_exec::spot::Flat;
 use lrc_exec::state::State;
-use lrc_explore::notes::note;
-use lrc_known::known::{Knowledge, KnownWord};
-use lrc_known::word::{Effect, copied, word_after};
+use lrc_lazy_known::known::{Knowledge, KnownWord};
+use lrc_lazy_known::word::{Effect, copied, word_after};
+use lrc_orders::notes::note;
 use lrc_trace::act::{Act, Deed};
 use std::alloc::{AllocError, Global};
 
@@ -34,9 +34,9 @@ impl LazyState {
     ghost use Rattle.lrc_trace.specs.declared.act.Deed.{Deed as DeedType};
     ghost use Rattle.lrc_exec.specs.Spots.{IsFlat};
     ghost use Rattle.lrc_exec.specs.States.{IsFirst, plain_at, IsStateOf};
-    ghost use Rattle.lrc_known.specs.Effect.{word_of, IsKnowledgeAfter};
-    ghost use Rattle.lrc_known.specs.Tidy.{IsTidy};
-    ghost use Rattle.lrc_lazy_machine.specs.Standing.{with_memory, departures_of, CanMake};
+    ghost use Rattle.lrc_lazy_known.specs.Effect.{word_of, IsKnowledgeAfter};
+    ghost use Rattle.lrc_lazy_known.specs.Tidy.{IsTidy};
+    ghost use Rattle.lrc_lazy.specs.Standing.{with_memory, departures_of, CanMake};
     ghost use Rattle.lrc_lazy_search.specs.Fit.{IsFit};
     ghost use Rattle.lrc_lazy_search.specs.Searching.{blanked, HasAll, AreEnough, AreNeat, AreNext, AreOnce, CountNoneGone, CountsNoneGone, IsAhead, IsBlank, IsFirstInFront, IsForced, IsFresh, IsInFront, IsNeat, Makes, Steps, IsPoked};
 

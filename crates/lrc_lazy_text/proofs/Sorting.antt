@@ -13,7 +13,7 @@ use Rattle.std.proofs.lemmas.List.{append-nil, append_assoc, get_or-map, length-
 use Rattle.std.proofs.lemmas.List.Sorted.{IsPermutation-map}
 use Rattle.std.proofs.lemmas.Option.{get_or_from_slice_get, slice_get_within}
 use Rattle.lrc_text.specs.Parts.{whole_text}
-use Rattle.lrc_explore.specs.declared.outcomes.Outcome.{Outcome}
+use Rattle.lrc_orders.specs.declared.outcomes.Outcome.{Outcome}
 use Rattle.lrc_explore_text.specs.Outcomes.{outcome_line}
 use Rattle.lrc_lazy_text.specs.declared.listed.ToldOutcome.{ToldOutcome}
 use Rattle.lrc_lazy_text.specs.Listed.{AreAscending, AreToldOf, ListsLazyOutcomes, lazy_head, lines_with, marked_line, marked_lines, told_pair}

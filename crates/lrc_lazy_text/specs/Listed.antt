@@ -6,13 +6,13 @@ use Rattle.std.specs.List.Sorted.{IsPermutation, IsSorted}
 use Rattle.std.specs.Ordering.{nat_cmp}
 use Rattle.lrc_lang.specs.declared.program.Program.{Program}
 use Rattle.lrc_trace.specs.declared.act.Act.{Act}
-use Rattle.lrc_explore.specs.declared.outcomes.Outcome.{Outcome}
-use Rattle.lrc_explore.specs.contracts.outcomes.OutcomePartialEq.TheImpl.{eq-value}
-use Rattle.lrc_explore.specs.Outcome.{HasOutcome}
+use Rattle.lrc_orders.specs.declared.outcomes.Outcome.{Outcome}
+use Rattle.lrc_orders.specs.contracts.outcomes.OutcomePartialEq.TheImpl.{eq-value}
+use Rattle.lrc_orders.specs.Outcome.{HasOutcome}
 use Rattle.lrc_explore_text.specs.Outcomes.{none_ends, outcome_line}
 use Rattle.lrc_lazy.specs.Lazy.{IsLazyOutcome}
 use Rattle.lrc_lazy_search.specs.Searching.{FitsLazily, MeetsMore}
-use Rattle.lrc_seeds.specs.Seeds.{AreLeastSeeds}
+use Rattle.lrc_lazy_run.specs.Seeds.{AreLeastSeeds}
 use Rattle.lrc_lazy_text.specs.declared.listed.ToldOutcome.{ToldOutcome}
 
 -- these are exactly the outcomes of the lazy runs after which no node can act, each once

@@ -4,13 +4,13 @@ ghost use Rattle.std.specs.Prelude.{◌≡◌, ◌≢◌, ◌≤◌, ◌<◌, If
 ghost use Rattle.lrc_lazy_text.specs.Listed.{AreLazyOutcomes, FitLazyRuns, MetTooManyLazily};
 ghost use Rattle.lrc_lazy_text.specs.One.{IsLazyRunAt, TellsLazyRunOfNumber};
 
-use lrc_explore::outcomes::Outcome;
-use lrc_explore::search::ExploreFault;
 use lrc_explore_text::orders::acts_told;
 use lrc_explore_text::outcome_run::place_of;
 use lrc_lang::program::Program;
 use lrc_lazy_run::run::lazy_run_with;
 use lrc_lazy_search::search::lazy_outcomes;
+use lrc_orders::outcomes::Outcome;
+use lrc_orders::search::ExploreFault;
 use lrc_setting::setting::Nodes;
 use lrc_trace::act::Act;
 use std::alloc::Global;

@@ -1,12 +1,10 @@
-//! The part of `lint` that answers for a text that is not a program. It reports the first fault: its place, the tokens
-//! that may stand there, and a hint on how to mend it.
+//! The answer of `lint` to any text. For a text that is not a program it is the first fault, and for a program its
+//! warnings.
 #![tactic(auto)]
 
-mod bad_byte;
-mod fault;
-mod hint;
-mod hints;
+pub mod laws;
 mod linted;
-mod unexpected;
+mod seen;
+mod told;
 
-pub use linted::{Linted, lint_fault};
+pub use linted::lint;

@@ -9,9 +9,9 @@ use Rattle.lrc_trace.specs.Run.{Does, is_arrive, is_depart, arrives_before, depa
 use Rattle.lrc_trace.specs.Synchronization.{IsWellSynchronized, WaitsAtBarriers}
 use Rattle.lrc_trace.proofs.Positions.{Does-deed}
 use Rattle.lrc_trace.proofs.Intervals.{count_of-more, count_of-same, act_at}
-use Rattle.lrc_std.specs.declared.event.Event.{Event}
-use Rattle.lrc_std.specs.Cycles.{Cycles, cycles_before, no_cycles, arrived, departed, opened, after_operation}
-use Rattle.lrc_std.proofs.Cycles.{cycles_before-none, cycles_before-next}
+use Rattle.lrc_races_trace.specs.declared.event.Event.{Event}
+use Rattle.lrc_races_trace.specs.Cycles.{Cycles, cycles_before, no_cycles, arrived, departed, opened, after_operation}
+use Rattle.lrc_races_trace.proofs.Cycles.{cycles_before-none, cycles_before-next}
 use Rattle.lrc_races_laws.specs.Traces.{Numbers, operation_of, AreEvents}
 use Rattle.lrc_races_laws.proofs.Operations.{view, IsElse}
 

@@ -7,13 +7,13 @@ use Rattle.lrc_trace.specs.declared.act.Deed.TheVariants.{Arrive as Arriving, De
 use Rattle.lrc_trace.specs.Run.{Does, is_arrive, is_depart, arrives_before, departs_before}
 use Rattle.lrc_trace.proofs.Positions.{Does-deed, Does-within, Does-node}
 use Rattle.lrc_trace.proofs.Intervals.{count_of-more, count_of-same, act_at}
-use Rattle.lrc_std.specs.declared.event.Event.{Event}
-use Rattle.lrc_std.specs.declared.event.Operation.TheVariants.{Arrive, Depart}
-use Rattle.lrc_std.specs.declared.fault.Reason.TheVariants.{Joined, Waits, NotArrived, Held, NotHeld, Known}
-use Rattle.lrc_std.specs.Trace.{At}
-use Rattle.lrc_std.specs.Formed.{Holds, IsAtBarrier, WaitsAt, IsWellFormed}
-use Rattle.lrc_std.proofs.Positions.{At-within}
-use Rattle.lrc_std.proofs.Lasts.{last_kept, last_back, last_here, last_is}
+use Rattle.lrc_races_trace.specs.declared.event.Event.{Event}
+use Rattle.lrc_races_trace.specs.declared.event.Operation.TheVariants.{Arrive, Depart}
+use Rattle.lrc_races_trace.specs.declared.fault.Reason.TheVariants.{Joined, Waits, NotArrived, Held, NotHeld, Known}
+use Rattle.lrc_races_trace.specs.Trace.{At}
+use Rattle.lrc_races_trace.specs.Formed.{Holds, IsAtBarrier, WaitsAt, IsWellFormed}
+use Rattle.lrc_races_trace.proofs.Positions.{At-within}
+use Rattle.lrc_races_trace.proofs.Lasts.{last_kept, last_back, last_here, last_is}
 use Rattle.lrc_races_laws.specs.Traces.{Numbers, operation_of}
 use Rattle.lrc_races_laws.proofs.Operations.{of_arrive, of_depart, of_fork, of_join, view, IsElse}
 use Rattle.lrc_races_laws.proofs.Episodes.{IsRun, all_kept}

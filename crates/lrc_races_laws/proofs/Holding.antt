@@ -4,15 +4,15 @@ use Rattle.std.specs.Prelude.{Option, Some, None, cond, ◌==◌}
 use Rattle.std.proofs.lemmas.Bool.{cases_eq}
 use Rattle.lrc_trace.specs.declared.act.Deed.{Deed}
 use Rattle.lrc_trace.specs.declared.act.Deed.TheVariants.{Acquire as Acquiring, Release as Releasing}
-use Rattle.lrc_std.specs.declared.event.Event.{Event}
-use Rattle.lrc_std.specs.declared.event.Operation.{Operation}
-use Rattle.lrc_std.specs.declared.event.Operation.TheVariants.{Read, Write, Acquire, Release, Post, Wait, Fork, Join, Arrive, Depart, Idle}
-use Rattle.lrc_std.specs.declared.fault.Holder.{Holder}
-use Rattle.lrc_std.specs.declared.fault.Reason.TheVariants.{Held, NotHeld}
-use Rattle.lrc_std.specs.Trace.{At}
-use Rattle.lrc_std.specs.Formed.{Holds, IsHeldBy, holder_before, held_after_operation, after_acquire, after_release}
-use Rattle.lrc_std.proofs.Positions.{At-one}
-use Rattle.lrc_std.proofs.Holders.{holder_before-none, holder_before-next}
+use Rattle.lrc_races_trace.specs.declared.event.Event.{Event}
+use Rattle.lrc_races_trace.specs.declared.event.Operation.{Operation}
+use Rattle.lrc_races_trace.specs.declared.event.Operation.TheVariants.{Read, Write, Acquire, Release, Post, Wait, Fork, Join, Arrive, Depart, Idle}
+use Rattle.lrc_races_trace.specs.declared.fault.Holder.{Holder}
+use Rattle.lrc_races_trace.specs.declared.fault.Reason.TheVariants.{Held, NotHeld}
+use Rattle.lrc_races_trace.specs.Trace.{At}
+use Rattle.lrc_races_trace.specs.Formed.{Holds, IsHeldBy, holder_before, held_after_operation, after_acquire, after_release}
+use Rattle.lrc_races_trace.proofs.Positions.{At-one}
+use Rattle.lrc_races_trace.proofs.Holders.{holder_before-none, holder_before-next}
 use Rattle.lrc_races_laws.specs.Traces.{Numbers, Locks, operation_of}
 use Rattle.lrc_races_laws.proofs.Operations.{of_acquire, of_release}
 use Rattle.lrc_races_laws.proofs.Episodes.{not-eqb}

@@ -1,3 +1,10 @@
+pub mod Cuts
+pub mod Sayings
+pub mod Namings
+pub mod Pairs
+pub mod Groupings
+pub mod Faults
+pub mod TracesTold
 pub mod Operations
 pub mod Episodes
 pub mod Orders
@@ -7,3 +14,12 @@ pub mod StepDeeds
 pub mod Holding
 pub mod Formed
 pub mod StepsFormed
+pub mod Bytes
+pub mod Names
+pub mod Fronts
+pub mod Premises
+pub mod StepLines
+pub mod StepEvents
+pub mod ActLines
+pub mod ActEvents
+pub mod Tellings

@@ -5,9 +5,9 @@ use Rattle.lrc_trace.specs.declared.act.Deed.{Deed}
 use Rattle.lrc_trace.specs.declared.act.Deed.TheVariants.{Quiet, Print, Trap, End, Read as Reading}
 use Rattle.lrc_trace.specs.declared.act.Deed.TheVariants.{Write as Writing, Acquire as Acquiring, Release as Releasing, Arrive as Arriving, Depart as Departing}
 use Rattle.lrc_trace.specs.Run.{is_arrive, is_depart}
-use Rattle.lrc_std.specs.declared.event.Operation.TheVariants.{Read, Write, Acquire, Release, Arrive, Depart, Fork, Join}
-use Rattle.lrc_std.specs.Trace.{given, got}
-use Rattle.lrc_std.specs.Cycles.{Cycles, after_operation}
+use Rattle.lrc_races_trace.specs.declared.event.Operation.TheVariants.{Read, Write, Acquire, Release, Arrive, Depart, Fork, Join}
+use Rattle.lrc_races_trace.specs.Trace.{given, got}
+use Rattle.lrc_races_trace.specs.Cycles.{Cycles, after_operation}
 use Rattle.lrc_races_laws.specs.Traces.{Numbers, operation_of}
 
 pub of_read : (numbers : Numbers) (d : Deed) (x : ℕ) → operation_of numbers d ≡ Read x → (w : ℕ) × (v : ℕ) × (d ≡ Reading w v) × (numbers.variable w ≡ x)

@@ -9,11 +9,11 @@ use Rattle.lrc_trace.specs.Run.{Does, arrives_before, departs_before}
 use Rattle.lrc_trace.specs.Order.{Precedes as PrecedesIn, HappensBefore as HappensBeforeIn, program as program_in, lock as lock_in, barrier as barrier_in, base as base_in, further as further_in}
 use Rattle.lrc_trace.proofs.Positions.{Does-deed, Does-node, Does-within}
 use Rattle.lrc_trace.proofs.Intervals.{act_at}
-use Rattle.lrc_std.specs.declared.event.Event.{Event}
-use Rattle.lrc_std.specs.Trace.{At, given, got}
-use Rattle.lrc_std.specs.Order.{Precedes, HappensBefore, program, lock, fork, join, fork_join, barrier, base, further}
-use Rattle.lrc_std.specs.Cycles.{cycles_before}
-use Rattle.lrc_std.proofs.Positions.{At-one, At-within}
+use Rattle.lrc_races_trace.specs.declared.event.Event.{Event}
+use Rattle.lrc_races_trace.specs.Trace.{At, given, got}
+use Rattle.lrc_races_trace.specs.Order.{Precedes, HappensBefore, program, lock, fork, join, fork_join, barrier, base, further}
+use Rattle.lrc_races_trace.specs.Cycles.{cycles_before}
+use Rattle.lrc_races_trace.proofs.Positions.{At-one, At-within}
 use Rattle.lrc_races_laws.specs.Traces.{Numbers, operation_of, AreEvents}
 use Rattle.lrc_races_laws.proofs.Operations.{of_given, of_got, of_arrive, of_depart, of_fork, of_join}
 use Rattle.lrc_races_laws.proofs.Episodes.{IsRun, arrive-cycle, depart-cycle}

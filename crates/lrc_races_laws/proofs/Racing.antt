@@ -7,13 +7,13 @@ use Rattle.lrc_trace.specs.declared.act.Deed.TheVariants.{Read as Reading, Write
 use Rattle.lrc_trace.specs.Run.{Does}
 use Rattle.lrc_trace.specs.Conflict.{Accesses as AccessesIn, Writes as WritesIn, Races as RacesIn}
 use Rattle.lrc_trace.proofs.Positions.{Does-deed}
-use Rattle.lrc_std.specs.declared.event.Event.{Event}
-use Rattle.lrc_std.specs.declared.event.Pair.{Pair}
-use Rattle.lrc_std.specs.declared.event.Operation.TheVariants.{Write}
-use Rattle.lrc_std.specs.Trace.{At, Accesses, Writes}
-use Rattle.lrc_std.specs.Races.{Races, AreTold}
-use Rattle.lrc_std.proofs.Positions.{At-one}
-use Rattle.lrc_std.proofs.Told.{race_told}
+use Rattle.lrc_races_trace.specs.declared.event.Event.{Event}
+use Rattle.lrc_races_trace.specs.declared.event.Pair.{Pair}
+use Rattle.lrc_races_trace.specs.declared.event.Operation.TheVariants.{Write}
+use Rattle.lrc_races_trace.specs.Trace.{At, Accesses, Writes}
+use Rattle.lrc_races_trace.specs.Races.{Races, AreTold}
+use Rattle.lrc_races_trace.proofs.Positions.{At-one}
+use Rattle.lrc_races_trace.proofs.Told.{race_told}
 use Rattle.lrc_races_laws.specs.Traces.{Numbers, AreToldOf}
 use Rattle.lrc_races_laws.proofs.Operations.{of_read, of_write}
 use Rattle.lrc_races_laws.proofs.Episodes.{IsRun}

@@ -10,13 +10,13 @@ use Rattle.lrc_trace.specs.Run.{Does}
 use Rattle.lrc_trace.specs.Order.{HappensBefore as HappensBeforeIn}
 use Rattle.lrc_trace.specs.Conflict.{Accesses as AccessesIn, Writes as WritesIn, Races as RacesIn}
 use Rattle.lrc_trace.proofs.Positions.{Does-one_node}
-use Rattle.lrc_std.specs.declared.event.Event.{Event}
-use Rattle.lrc_std.specs.declared.event.Pair.{Pair}
-use Rattle.lrc_std.specs.Trace.{At, Accesses, Writes, given, got}
-use Rattle.lrc_std.specs.Order.{Precedes, HappensBefore, program, lock, fork, join, fork_join, barrier, base, further}
-use Rattle.lrc_std.specs.Races.{Races, AreTold}
-use Rattle.lrc_std.proofs.Positions.{At-one, At-within}
-use Rattle.lrc_std.proofs.Told.{race_told}
+use Rattle.lrc_races_trace.specs.declared.event.Event.{Event}
+use Rattle.lrc_races_trace.specs.declared.event.Pair.{Pair}
+use Rattle.lrc_races_trace.specs.Trace.{At, Accesses, Writes, given, got}
+use Rattle.lrc_races_trace.specs.Order.{Precedes, HappensBefore, program, lock, fork, join, fork_join, barrier, base, further}
+use Rattle.lrc_races_trace.specs.Races.{Races, AreTold}
+use Rattle.lrc_races_trace.proofs.Positions.{At-one, At-within}
+use Rattle.lrc_races_trace.proofs.Told.{race_told}
 use Rattle.lrc_acts_text.specs.Rapid.{RapidStep, rapid_step, meeting_at}
 use Rattle.lrc_acts_text.specs.RapidOrder.{StepPrecedes, StepBefore, Orders, program as program_of, lock as lock_of, base as base_of, further as further_of}
 use Rattle.lrc_acts_text_laws.specs.Traces.{DoesStep, KeepsAccesses}

@@ -3,10 +3,10 @@ use Rattle.std.proofs.Common.{◌≡◌, ℕ, List, [], sym, subst, ◌∙◌}
 use Rattle.std.specs.Prelude.{Some, slice_get}
 use Rattle.lrc_trace.specs.declared.act.Deed.{Deed}
 use Rattle.lrc_trace.specs.declared.act.Deed.TheVariants.{Arrive as Arriving, Depart as Departing}
-use Rattle.lrc_std.specs.declared.event.Event.{Event}
-use Rattle.lrc_std.specs.declared.fault.Reason.TheVariants.{Waits, NotArrived}
-use Rattle.lrc_std.specs.Trace.{At}
-use Rattle.lrc_std.specs.Formed.{Holds, IsWellFormed}
+use Rattle.lrc_races_trace.specs.declared.event.Event.{Event}
+use Rattle.lrc_races_trace.specs.declared.fault.Reason.TheVariants.{Waits, NotArrived}
+use Rattle.lrc_races_trace.specs.Trace.{At}
+use Rattle.lrc_races_trace.specs.Formed.{Holds, IsWellFormed}
 use Rattle.lrc_acts_text.specs.Rapid.{RapidStep, meeting_at}
 use Rattle.lrc_acts_text_laws.specs.Traces.{DoesStep, IsWellFormed as StepsAreWellFormed}
 use Rattle.lrc_races_laws.specs.Traces.{Numbers}

@@ -1,2 +1,5 @@
 pub mod Traces
 pub mod Steps
+pub mod Runs
+pub mod Said
+pub mod Telling

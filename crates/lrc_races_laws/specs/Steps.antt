@@ -5,9 +5,9 @@ use Rattle.lrc_trace.specs.declared.act.Deed.{Deed}
 use Rattle.lrc_trace.specs.declared.act.Deed.TheVariants.{Read as Reading, Write as Writing}
 use Rattle.lrc_trace.specs.Run.{Does}
 use Rattle.lrc_trace.specs.Conflict.{Races}
-use Rattle.lrc_std.specs.declared.event.Event.{Event}
-use Rattle.lrc_std.specs.declared.event.Pair.{Pair}
-use Rattle.lrc_std.specs.Trace.{At}
+use Rattle.lrc_races_trace.specs.declared.event.Event.{Event}
+use Rattle.lrc_races_trace.specs.declared.event.Pair.{Pair}
+use Rattle.lrc_races_trace.specs.Trace.{At}
 use Rattle.lrc_acts_text.specs.Rapid.{RapidStep}
 use Rattle.lrc_acts_text_laws.specs.Traces.{DoesStep}
 use Rattle.lrc_races_laws.specs.Traces.{Numbers, Locks, operation_of}

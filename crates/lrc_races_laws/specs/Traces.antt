@@ -5,11 +5,11 @@ use Rattle.lrc_trace.specs.declared.act.Deed.{Deed}
 use Rattle.lrc_trace.specs.declared.act.Deed.TheVariants.{Read as Reading, Write as Writing, Acquire as Acquiring, Release as Releasing, Arrive as Arriving, Depart as Departing}
 use Rattle.lrc_trace.specs.Run.{Does}
 use Rattle.lrc_trace.specs.Conflict.{Accesses, Races}
-use Rattle.lrc_std.specs.declared.event.Event.{Event}
-use Rattle.lrc_std.specs.declared.event.Pair.{Pair}
-use Rattle.lrc_std.specs.declared.event.Operation.{Operation}
-use Rattle.lrc_std.specs.declared.event.Operation.TheVariants.{Read, Write, Acquire, Release, Arrive, Depart, Idle}
-use Rattle.lrc_std.specs.Trace.{At}
+use Rattle.lrc_races_trace.specs.declared.event.Event.{Event}
+use Rattle.lrc_races_trace.specs.declared.event.Pair.{Pair}
+use Rattle.lrc_races_trace.specs.declared.event.Operation.{Operation}
+use Rattle.lrc_races_trace.specs.declared.event.Operation.TheVariants.{Read, Write, Acquire, Release, Arrive, Depart, Idle}
+use Rattle.lrc_races_trace.specs.Trace.{At}
 
 -- the numbers that a trace has for nodes, words and locks, and for the one barrier
 pub record Numbers : Type 0 where

@@ -18,9 +18,9 @@ use Rattle.lrc_exec.specs.Plain.{start_of}
 use Rattle.lrc_lines.specs.Seen.{walks_of}
 use Rattle.lrc_lines.specs.Walks.{line_at, line_behind, Walk, walk_behind, walks_behind}
 use Rattle.lrc_lines.proofs.Several.{line_found, more_other, more_own}
-use Rattle.lrc_private.specs.declared.way.Way.{Way}
-use Rattle.lrc_private.specs.Ways.{thread_led, thread_of}
-use Rattle.lrc_private.proofs.Led.{led-thread}
+use Rattle.lrc_private_names.specs.declared.way.Way.{Way}
+use Rattle.lrc_private_names.specs.Ways.{thread_led, thread_of}
+use Rattle.lrc_private_names.proofs.Led.{led-thread}
 use Rattle.lrc_replay.specs.declared.notes.Note.{Note}
 use Rattle.lrc_replay.specs.declared.course.Course.{Course}
 use Rattle.lrc_replay.specs.declared.notes.Notes.{Notes}

@@ -6,8 +6,8 @@ use Rattle.lrc_trace.specs.Interval.{closes}
 use Rattle.lrc_trace.specs.Run.{count_of}
 use Rattle.lrc_lines.specs.Seen.{walks_of}
 use Rattle.lrc_lines.specs.Walks.{end_line, walks_behind}
-use Rattle.lrc_private.specs.declared.way.Way.{Way}
-use Rattle.lrc_private.specs.Ways.{thread_of}
+use Rattle.lrc_private_names.specs.declared.way.Way.{Way}
+use Rattle.lrc_private_names.specs.Ways.{thread_of}
 use Rattle.lrc_replay.specs.declared.course.Course.{Course}
 use Rattle.lrc_replay.specs.declared.notes.Note.{Note}
 use Rattle.lrc_replay.specs.declared.notes.Notes.{Notes}

@@ -3,7 +3,7 @@
 ghost use Rattle.std.specs.Prelude.{◌≡◌, ◌↔◌, ◌≤◌, ◌+◌, ◌++◌, ◌∷◌, [], All, IfOk, IfSome, List, None, OnOk, length, map, slice_index, slice_set};
 ghost use Rattle.lrc_lines.specs.Walks.{walk_behind};
 ghost use Rattle.lrc_exec.specs.Plain.{start_of};
-ghost use Rattle.lrc_private.specs.Ways.{IsOnWay, thread_of};
+ghost use Rattle.lrc_private_names.specs.Ways.{IsOnWay, thread_of};
 ghost use Rattle.std.specs.List.{range_with_len};
 ghost use Rattle.lrc_trace.specs.declared.act.Act.{Act as AnyAct};
 ghost use Rattle.lrc_trace.specs.Interval.{closes, interval_at};
@@ -15,7 +15,7 @@ use crate::notes::{Note, Notes, Spot};
 use crate::plan::Plan;
 use lrc_exec::code::Code;
 use lrc_lines::walks::Walks;
-use lrc_private::Way;
+use lrc_private_names::Way;
 use lrc_trace::act::{Act, Deed};
 use std::alloc::{AllocError, Global};
 

@@ -4,22 +4,22 @@ use Rattle.std.specs.Io.KnownBytes.{Keeps}
 use Rattle.std.specs.declared.io.ErrorKind.{ErrorKind}
 use Rattle.std.specs.declared.io.ErrorKind.TheVariants.{OutOfMemory}
 use Rattle.clap.specs.Words.{Text}
-use Rattle.lrc_args.specs.CommandLine.{Chooses, words_meant}
-use Rattle.lrc_args.specs.Files.{events_of, file_of, reads_acts}
-use Rattle.lrc_args.specs.declared.choice.Choice.{Choice}
-use Rattle.lrc_args.specs.declared.choice.ChooseFault.{ChooseFault}
-use Rattle.lrc_args.specs.declared.choice.ChooseFault.TheVariants.{BadNumber, NoMemory, Usage}
-use Rattle.lrc_args.specs.declared.choice.Racing.{Racing}
-use Rattle.lrc_args.specs.declared.choice.Request.TheVariants.{About, Races, Answer}
-use Rattle.lrc_args.specs.declared.choice.Topic.{Topic}
-use Rattle.lrc_args.specs.declared.choice.TraceForm.{TraceForm}
-use Rattle.lrc_args.specs.declared.choice.TraceForm.TheVariants as args
+use Rattle.lrc_cli_args.specs.CommandLine.{Chooses, words_meant}
+use Rattle.lrc_cli_args.specs.Files.{events_of, file_of, reads_acts}
+use Rattle.lrc_cli_args.specs.declared.choice.Choice.{Choice}
+use Rattle.lrc_cli_args.specs.declared.choice.ChooseFault.{ChooseFault}
+use Rattle.lrc_cli_args.specs.declared.choice.ChooseFault.TheVariants.{BadNumber, NoMemory, Usage}
+use Rattle.lrc_cli_args.specs.declared.choice.Racing.{Racing}
+use Rattle.lrc_cli_args.specs.declared.choice.Request.TheVariants.{About, Races, Answer}
+use Rattle.lrc_cli_args.specs.declared.choice.Topic.{Topic}
+use Rattle.lrc_cli_args.specs.declared.choice.TraceForm.{TraceForm}
+use Rattle.lrc_cli_args.specs.declared.choice.TraceForm.TheVariants as args
 use Rattle.lrc_cli.specs.Performance.{IsWritten, Performs}
-use Rattle.lrc_races.specs.declared.form.Form.{Form}
-use Rattle.lrc_races.specs.declared.form.Form.TheVariants as races
-use Rattle.lrc_races_told.specs.Plays.{IsRacesPlayed}
-use Rattle.lrc_sources.specs.Known.{IsCause, IsFront, Known}
-use Rattle.lrc_sources.specs.Lines.{IsTold, memory_line, read_line}
+use Rattle.lrc_races_text.specs.declared.form.Form.{Form}
+use Rattle.lrc_races_text.specs.declared.form.Form.TheVariants as races
+use Rattle.lrc_races_stream.specs.Plays.{IsRacesPlayed}
+use Rattle.lrc_shell_sources.specs.Known.{IsCause, IsFront, Known}
+use Rattle.lrc_shell_sources.specs.Lines.{IsTold, memory_line, read_line}
 
 -- of a text one byte more than the longest has is read: of one of acts, or of a program,
 abbrev pub most_read : Bool → ℕ

@@ -11,7 +11,7 @@ mod starting;
 mod topic;
 mod watched;
 
-pub use lrc_sources::sources::{Sources, System, read_up_to};
+pub use lrc_shell_sources::sources::{Sources, System, read_up_to};
 pub use played::play;
 pub use progress::{Late, LateLine, Watch};
 pub use starting::start;

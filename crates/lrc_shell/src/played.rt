@@ -2,8 +2,8 @@
 
 ghost use Rattle.std.specs.Prelude.{◌≡◌, drop, is_some, map, option_map};
 ghost use Rattle.lrc_cli.specs.Performance.{Performs};
-ghost use Rattle.lrc_args.specs.CommandLine.{words_meant};
-ghost use Rattle.lrc_args.specs.Files.{names_events};
+ghost use Rattle.lrc_cli_args.specs.CommandLine.{words_meant};
+ghost use Rattle.lrc_cli_args.specs.Files.{names_events};
 ghost use Rattle.lrc_shell.specs.Plays.{IsPlayed, Plays};
 
 use crate::progress::Late;
@@ -12,11 +12,11 @@ use crate::reading::read;
 use crate::refusal::refuse;
 use crate::topic::tell_topic;
 use crate::watched::answer_watched;
-use lrc_args::choice::{Choice, Request};
-use lrc_args::choose;
 use lrc_cli::{answer_any, tell};
-use lrc_sources::refusal::refuse_file;
-use lrc_sources::sources::Sources;
+use lrc_cli_args::choice::{Choice, Request};
+use lrc_cli_args::choose;
+use lrc_shell_sources::refusal::refuse_file;
+use lrc_shell_sources::sources::Sources;
 use std::convert::AsStr;
 use std::io::Write;
 use std::sync::Wait;

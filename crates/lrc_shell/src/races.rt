@@ -1,13 +1,13 @@
 // The races of a trace, told as it is read.
 
 ghost use Rattle.std.specs.Prelude.{◌≡◌};
-ghost use Rattle.lrc_races_told.specs.Plays.{IsRacesPlayed};
+ghost use Rattle.lrc_races_stream.specs.Plays.{IsRacesPlayed};
 ghost use Rattle.lrc_shell.specs.Plays.{form_of};
 
-use lrc_args::choice::{Racing, TraceForm};
-use lrc_races::form::Form;
-use lrc_races_told::play_races;
-use lrc_sources::sources::Sources;
+use lrc_cli_args::choice::{Racing, TraceForm};
+use lrc_races_stream::play_races;
+use lrc_races_text::form::Form;
+use lrc_shell_sources::sources::Sources;
 use std::alloc::Global;
 use std::io::Write;
 

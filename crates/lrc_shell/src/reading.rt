@@ -2,11 +2,11 @@
 
 ghost use Rattle.std.specs.Prelude.{◌≡◌, ◌⊎◌, IfErr, IfOk, is_some, option_map};
 ghost use Rattle.std.specs.IoError.{error_kind};
-ghost use Rattle.lrc_args.specs.Files.{events_of, file_of, names_events, reads_acts};
+ghost use Rattle.lrc_cli_args.specs.Files.{events_of, file_of, names_events, reads_acts};
 ghost use Rattle.lrc_shell.specs.Plays.{AreEventsRead, IsEventsCause, IsTextCause, IsTextRead, most_read};
 
-use lrc_args::choice::Choice;
-use lrc_sources::sources::Sources;
+use lrc_cli_args::choice::Choice;
+use lrc_shell_sources::sources::Sources;
 use std::alloc::Global;
 use std::io;
 

@@ -3,10 +3,10 @@
 ghost use Rattle.std.specs.Prelude.{◌≡◌};
 ghost use Rattle.std.specs.IoError.{error_kind};
 ghost use Rattle.lrc_shell.specs.Plays.{IsRefusal, argument_line, argument_status};
-ghost use Rattle.lrc_sources.specs.Lines.{IsTold};
+ghost use Rattle.lrc_shell_sources.specs.Lines.{IsTold};
 
-use lrc_args::choice::ChooseFault;
-use lrc_sources::refusal::{FAULT, NO_MEMORY, refuse_memory, tell_line};
+use lrc_cli_args::choice::ChooseFault;
+use lrc_shell_sources::refusal::{FAULT, NO_MEMORY, refuse_memory, tell_line};
 use std::io;
 use std::io::{ErrorKind, Write};
 

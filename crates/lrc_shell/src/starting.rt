@@ -9,7 +9,7 @@ ghost use Rattle.lrc_shell.specs.Plays.{Starts};
 use crate::played::play;
 use crate::progress::Late;
 use crate::refusal::refuse_arguments;
-use lrc_sources::sources::Sources;
+use lrc_shell_sources::sources::Sources;
 use std::io;
 use std::io::Write;
 use std::sync::Wait;

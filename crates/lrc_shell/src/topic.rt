@@ -3,10 +3,10 @@
 ghost use Rattle.lrc_cli.specs.Performance.{IsWritten};
 ghost use Rattle.lrc_shell.specs.Plays.{IsTopicTold};
 
-use lrc_args::about;
-use lrc_args::choice::Topic;
+use lrc_cli_args::about;
+use lrc_cli_args::choice::Topic;
 use lrc_report::output::{Output, put};
-use lrc_sources::refusal::refuse_memory;
+use lrc_shell_sources::refusal::refuse_memory;
 use std::alloc::{AllocError, Global};
 use std::io::Write;
 

@@ -2,13 +2,13 @@
 
 ghost use Rattle.std.specs.Prelude.{◌≡◌, is_some, option_map};
 ghost use Rattle.lrc_cli.specs.Answer.{Answers};
-ghost use Rattle.lrc_args.specs.Files.{names_events};
+ghost use Rattle.lrc_cli_args.specs.Files.{names_events};
 
 use crate::progress::{Late, Watch};
-use lrc_answer::fault::Fault;
-use lrc_args::choice::Choice;
 use lrc_cli::answer::Answered;
 use lrc_cli::answer_any;
+use lrc_cli_answer::fault::Fault;
+use lrc_cli_args::choice::Choice;
 use std::sync::Wait;
 use std::thread;
 use std::thread::Threads;

@@ -1,3 +1,4 @@
+pub mod Listing
 pub mod Playing
 pub mod Naming
 pub mod Showing

@@ -15,7 +15,7 @@ use Rattle.lrc_replay.specs.Acts.{Plan}
 use Rattle.lrc_replay.specs.Replays.{brought_by, MakesTurn, message_of}
 use Rattle.lrc_replay.specs.Turns.{is_again, Turn, turn_by}
 use Rattle.lrc_state_text.specs.Intervals.{StoredInterval}
-use Rattle.lrc_turn_objects.specs.Objects.{taken_object, truth_text}
+use Rattle.lrc_states.specs.Objects.{taken_object, truth_text}
 use Rattle.lrc_states.specs.Players.{message_or_null, take_members, was_taken}
 use Rattle.lrc_states.specs.States.{acts_after, event_members, known_of, made_members, state_behind, turn_head, turn_line}
 

@@ -1,3 +1,4 @@
+pub mod Objects
 pub mod Names
 pub mod States
 pub mod Players

@@ -11,13 +11,13 @@ use Rattle.lrc_replay.specs.Turns.{Turn}
 use Rattle.lrc_states.specs.declared.player.Player.{Player}
 use Rattle.lrc_replay.specs.Acts.{Plan}
 use Rattle.lrc_replay.specs.Courses.{IsCourse, plan_of}
-use Rattle.lrc_turn_objects.specs.Objects.{message_object, truth_text}
+use Rattle.lrc_states.specs.Objects.{message_object, truth_text}
 use Rattle.lrc_lang.specs.declared.program.Program.{Program}
 use Rattle.lrc_lang.specs.Lines.{HasLines}
 use Rattle.lrc_lang.specs.Symbol.{Names}
 use Rattle.lrc_lang.specs.Tree.{program_of}
 use Rattle.lrc_labels.specs.Reading.{Label}
-use Rattle.lrc_private.specs.Spelling.{AreNamesOf}
+use Rattle.lrc_private_names.specs.Spelling.{AreNamesOf}
 use Rattle.lrc_states.specs.States.{labels_in, Told, turn_line, turn_lines}
 use Rattle.lrc_text.specs.Parts.{whole_text}
 

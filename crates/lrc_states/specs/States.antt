@@ -13,7 +13,7 @@ use Rattle.lrc_page.specs.declared.size.Size.{Size}
 use Rattle.lrc_page.specs.Page.{words_of}
 use Rattle.lrc_events.specs.Writing.{event_text}
 use Rattle.lrc_messages.specs.Lists.{before}
-use Rattle.lrc_private.specs.Spelling.{AreNamesOf}
+use Rattle.lrc_private_names.specs.Spelling.{AreNamesOf}
 use Rattle.lrc_protocol.specs.declared.event.Event.{Event}
 use Rattle.lrc_protocol.specs.Node.{Node, OptionsRecord}
 use Rattle.lrc_protocol.specs.Turn.{TurnRecord}
@@ -27,7 +27,7 @@ use Rattle.lrc_replay.specs.Acts.{last_notes, notes_behind, Plan, spot_behind}
 use Rattle.lrc_states.specs.Names.{names_behind}
 use Rattle.lrc_states.specs.declared.fault.StatesFault.{StatesFault}
 use Rattle.lrc_states.specs.declared.fault.StatesFault.TheVariants.{NoMemory, TooLong}
-use Rattle.lrc_turn_objects.specs.Objects.{act_or_null, labels_list, messages_list, notes_list, taken_object, truth_text}
+use Rattle.lrc_states.specs.Objects.{act_or_null, labels_list, messages_list, notes_list, taken_object, truth_text}
 use Rattle.lrc_replay.specs.Turns.{is_again, Turn, turns_from, turns_of}
 
 -- ---- states

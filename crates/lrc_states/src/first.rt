@@ -8,11 +8,11 @@ ghost use Rattle.lrc_states.specs.Players.{IsPlayer};
 ghost use Rattle.lrc_states.specs.States.{first_line, first_state, flight_list, setting_members, states_list, written_list};
 
 use crate::player::Player;
+use crate::{push_comma, push_labels, push_listed, push_notes};
 use lrc_labels::label::Label;
 use lrc_page::Size;
 use lrc_state_text::Known;
 use lrc_text::push_number;
-use lrc_turn_objects::{push_comma, push_labels, push_listed, push_notes};
 use std::alloc::AllocError;
 
 impl Player<'_> {

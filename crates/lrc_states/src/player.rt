@@ -1,7 +1,7 @@
 // A run that is played again, and the lines of its turns.
 
 ghost use Rattle.std.specs.Prelude.{◌≡◌, ◌+◌, ◌≤◌, ◌++◌, All, IfOk, List, OnOk, Some, ℕ, codes, length, slice_get};
-ghost use Rattle.lrc_private.specs.Ways.{IsOnWay};
+ghost use Rattle.lrc_private_names.specs.Ways.{IsOnWay};
 ghost use Rattle.lrc_protocol.specs.Run.{Logged, World, event_on, fresh_world};
 ghost use Rattle.lrc_protocol.specs.Turn.{is_repeat};
 ghost use Rattle.lrc_replay.specs.Replays.{IsReplay, message_of, turner_of};
@@ -13,6 +13,7 @@ ghost use Rattle.lrc_states.specs.States.{event_members, known_of, made_members,
 ghost use Rattle.lrc_trace.specs.declared.act.Act.{Act};
 
 use crate::names::names_set;
+use crate::{push_act, push_envelope, push_envelopes, truth};
 use lrc_envelope::Envelope;
 use lrc_events::push_event;
 use lrc_node::{NodeState, Options, Turn};
@@ -20,7 +21,6 @@ use lrc_protocol::Event;
 use lrc_replay::{Course, Plan, Replay};
 use lrc_state_text::{Known, Place, push_state};
 use lrc_text::push_number;
-use lrc_turn_objects::{push_act, push_envelope, push_envelopes, truth};
 use std::alloc::{AllocError, Global};
 
 /// A run that is replayed: its state, and how many turns were made.

@@ -4,7 +4,7 @@ ghost use Rattle.std.specs.Prelude.{◌≡◌, ◌<◌, ◌≤◌, ◌+◌, ◌+
 ghost use Rattle.lrc_labels.specs.Reading.{label_seen};
 ghost use Rattle.lrc_lang.specs.Faults.{IsText};
 ghost use Rattle.lrc_lang.specs.Tree.{program_of};
-ghost use Rattle.lrc_private.specs.Ways.{IsOnWay};
+ghost use Rattle.lrc_private_names.specs.Ways.{IsOnWay};
 ghost use Rattle.lrc_protocol.specs.Run.{World, event_on, played, run_of};
 ghost use Rattle.lrc_replay.specs.Turns.{turn_by, turns_from};
 ghost use Rattle.lrc_replay.specs.Acts.{Plan as AnyPlan};
@@ -22,7 +22,7 @@ use lrc_labels::label::Label;
 use lrc_labels::read_labels;
 use lrc_lang::lines::lines_of;
 use lrc_page::Size;
-use lrc_private::names_of;
+use lrc_private_names::names_of;
 use lrc_protocol::Event;
 use lrc_replay::Plan;
 use std::alloc::{AllocError, Global};

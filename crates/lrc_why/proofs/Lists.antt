@@ -14,7 +14,7 @@ use Rattle.lrc_trace.proofs.Positions.{slice_get-front, slice_get-seam}
 use Rattle.lrc_judge.specs.Adding.{Adds, IsOfSome}
 use Rattle.lrc_judge.proofs.Ascending.{is_eq-nat}
 use Rattle.lrc_judge.proofs.Distinct.{distinct-contains}
-use Rattle.lrc_reasons.specs.Writes.{AreExactly, IsWrite}
+use Rattle.lrc_why_chains.specs.Writes.{AreExactly, IsWrite}
 use Rattle.lrc_why.specs.Positions.{AreWordsOf}
 use Rattle.lrc_why.specs.Spread.{OfEach}
 

@@ -5,7 +5,7 @@ use Rattle.std.proofs.lemmas.Bool.{cases_eq}
 use Rattle.lrc_trace.specs.declared.act.Act.{Act}
 use Rattle.lrc_trace.specs.Order.{HappensBefore, base, program}
 use Rattle.lrc_trace.proofs.HappensBefore.{transitive}
-use Rattle.lrc_reasons.specs.Known.{IsActOf}
+use Rattle.lrc_why_chains.specs.Known.{IsActOf}
 use Rattle.lrc_why.specs.Known.{IsActBefore}
 use Rattle.lrc_why.specs.Positions.{IsNew, IsNewBehind, IsUnknownAt}
 

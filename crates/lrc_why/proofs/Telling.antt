@@ -10,7 +10,7 @@ use Rattle.lrc_trace.specs.declared.act.Deed.TheVariants.{Quiet, Print, Read, Wr
 use Rattle.lrc_trace.specs.Order.{HappensBefore}
 use Rattle.lrc_trace.proofs.Positions.{Does-read, Does-within}
 use Rattle.lrc_judge.specs.Firsts.{AreIntervals}
-use Rattle.lrc_reasons.specs.Known.{IsActOf}
+use Rattle.lrc_why_chains.specs.Known.{IsActOf}
 use Rattle.lrc_why.specs.declared.positions.Which.{Which}
 use Rattle.lrc_why.specs.declared.positions.Which.TheVariants.{RacingOf, ClosingOf, BesideIn, NewOf}
 use Rattle.lrc_why.specs.declared.reasons.About.TheVariants.{Nothing}

@@ -1,8 +1,8 @@
 -- What is known at an act of other nodes, and what it brings.
 use Rattle.std.specs.Prelude.{◌≡◌, ℕ, ◌<◌, ◌≤◌, ◌≢◌, Bool, true, false, List, Option, Some, None, MatchOption, length}
 use Rattle.lrc_trace.specs.declared.act.Act.{Act}
-use Rattle.lrc_reasons.specs.Known.{IsActOf, IsLastKnown}
-use Rattle.lrc_reasons.specs.Writes.{AreExactly}
+use Rattle.lrc_why_chains.specs.Known.{IsActOf, IsLastKnown}
+use Rattle.lrc_why_chains.specs.Writes.{AreExactly}
 use Rattle.lrc_why.specs.declared.reasons.Brought.{Brought}
 use Rattle.lrc_why.specs.declared.reasons.News.{News}
 use Rattle.lrc_why.specs.Since.{IsSince}

@@ -4,8 +4,8 @@ use Rattle.lrc_trace.specs.declared.act.Act.{Act}
 use Rattle.lrc_trace.specs.Order.{HappensBefore}
 use Rattle.lrc_trace.specs.Run.{departs_before}
 use Rattle.lrc_trace.specs.Synchronization.{Holds}
-use Rattle.lrc_reasons.specs.Known.{IsActOf, IsLastKnown}
-use Rattle.lrc_reasons.specs.Writes.{AreExactly}
+use Rattle.lrc_why_chains.specs.Known.{IsActOf, IsLastKnown}
+use Rattle.lrc_why_chains.specs.Writes.{AreExactly}
 use Rattle.lrc_why.specs.declared.reasons.Opponent.{Opponent}
 use Rattle.lrc_why.specs.declared.reasons.Parting.{Parting as PartingRecord}
 use Rattle.lrc_why.specs.declared.reasons.Standing.{Standing}

@@ -8,8 +8,8 @@ use Rattle.lrc_trace.specs.Run.{Does}
 use Rattle.lrc_trace.specs.Order.{HappensBefore, Reaches}
 use Rattle.lrc_trace.specs.Conflict.{Races}
 use Rattle.lrc_trace.specs.Interval.{closes, interval_at}
-use Rattle.lrc_reasons.specs.Known.{IsActOf}
-use Rattle.lrc_reasons.specs.Writes.{IsWrite}
+use Rattle.lrc_why_chains.specs.Known.{IsActOf}
+use Rattle.lrc_why_chains.specs.Writes.{IsWrite}
 use Rattle.lrc_why.specs.declared.positions.Which.{Which}
 use Rattle.lrc_why.specs.declared.positions.Which.TheVariants.{RacingOf, ClosingOf, BesideIn, NewOf}
 

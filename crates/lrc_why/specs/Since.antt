@@ -2,8 +2,8 @@
 use Rattle.std.specs.Prelude.{ℕ, List, Option, MatchOption}
 use Rattle.lrc_trace.specs.declared.act.Act.{Act}
 use Rattle.lrc_trace.specs.Order.{HappensBefore}
-use Rattle.lrc_reasons.specs.Chains.{IsTold}
-use Rattle.lrc_reasons.specs.Known.{IsActOf, IsFirstKnowing}
+use Rattle.lrc_why_chains.specs.Chains.{IsTold}
+use Rattle.lrc_why_chains.specs.Known.{IsActOf, IsFirstKnowing}
 use Rattle.lrc_why.specs.declared.reasons.Since.{Since}
 
 -- no act of the node knows the position

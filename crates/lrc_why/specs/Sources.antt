@@ -3,8 +3,8 @@ use Rattle.std.specs.Prelude.{◌↔◌, ℕ, IsTrue, List, Option, Some, None, 
 use Rattle.lrc_trace.specs.declared.act.Act.{Act}
 use Rattle.lrc_trace.specs.Reading.{MayRead}
 use Rattle.lrc_judge.specs.Allowed.{AreAllowed}
-use Rattle.lrc_reasons.specs.Known.{IsActOf}
-use Rattle.lrc_reasons.specs.Writes.{AreExactly, IsKnownWrite, IsLastKnownWrite, IsCrossing, IsFirstCrossing, IsUnfollowed, IsLastUnknownWrite}
+use Rattle.lrc_why_chains.specs.Known.{IsActOf}
+use Rattle.lrc_why_chains.specs.Writes.{AreExactly, IsKnownWrite, IsLastKnownWrite, IsCrossing, IsFirstCrossing, IsUnfollowed, IsLastUnknownWrite}
 use Rattle.lrc_why.specs.declared.reasons.Gift.{Gift}
 use Rattle.lrc_why.specs.declared.reasons.Several.{Several}
 use Rattle.lrc_why.specs.declared.reasons.Since.{Since as SinceRecord}

@@ -4,7 +4,7 @@ use Rattle.lrc_trace.specs.declared.act.Act.{Act}
 use Rattle.lrc_trace.specs.declared.act.Deed.{Deed}
 use Rattle.lrc_trace.specs.declared.act.Deed.TheVariants.{Write, Release, Arrive}
 use Rattle.lrc_trace.specs.Run.{Does}
-use Rattle.lrc_reasons.specs.Writes.{AreExactly}
+use Rattle.lrc_why_chains.specs.Writes.{AreExactly}
 use Rattle.lrc_why.specs.declared.reasons.Forward.{Forward}
 use Rattle.lrc_why.specs.declared.reasons.Forward.TheVariants.{Unsaid, Nobody, Others}
 use Rattle.lrc_why.specs.declared.reasons.Since.{Since as SinceRecord}

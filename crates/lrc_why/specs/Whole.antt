@@ -7,9 +7,9 @@ use Rattle.lrc_trace.specs.Run.{Does}
 use Rattle.lrc_trace.specs.Conflict.{Races}
 use Rattle.lrc_trace.specs.Interval.{closes}
 use Rattle.lrc_trace.specs.Order.{HappensBefore}
-use Rattle.lrc_reasons.specs.Chains.{IsTold}
-use Rattle.lrc_reasons.specs.Known.{IsActOf}
-use Rattle.lrc_reasons.specs.Writes.{AreExactly}
+use Rattle.lrc_why_chains.specs.Chains.{IsTold}
+use Rattle.lrc_why_chains.specs.Known.{IsActOf}
+use Rattle.lrc_why_chains.specs.Writes.{AreExactly}
 use Rattle.lrc_why.specs.declared.reasons.Parting.{Parting as PartingRecord}
 use Rattle.lrc_why.specs.declared.reasons.Reasons.{Reasons}
 use Rattle.lrc_why.specs.declared.reasons.Relation.{Relation}

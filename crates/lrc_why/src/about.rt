@@ -7,8 +7,8 @@ ghost use Rattle.lrc_trace.specs.Run.{Does, IsDone};
 ghost use Rattle.lrc_judge.specs.declared.TheConstants.{NODES};
 ghost use Rattle.lrc_judge.specs.Allowed.{AreAllowed};
 ghost use Rattle.lrc_judge.specs.Order.{IsOrderOf};
-ghost use Rattle.lrc_reasons.specs.Known.{IsActOf};
-ghost use Rattle.lrc_reasons.specs.Writes.{AreExactly, IsCrossing, IsFirstCrossing, IsKnownWrite};
+ghost use Rattle.lrc_why_chains.specs.Known.{IsActOf};
+ghost use Rattle.lrc_why_chains.specs.Writes.{AreExactly, IsCrossing, IsFirstCrossing, IsKnownWrite};
 ghost use Rattle.lrc_why.specs.About.{IsAbout, IsEarlierRelease, IsLastRelease};
 ghost use Rattle.lrc_why.specs.Sources.{IsGift, IsSource};
 
@@ -17,11 +17,11 @@ use crate::reasons::{About, Gift, Several, Source};
 use crate::since::since_of;
 use lrc_judge::order::Order;
 use lrc_judge::reading::values_allowed;
-use lrc_reasons::held::{arrives_at, departs_at};
-use lrc_reasons::writes::{
+use lrc_trace::act::{Act, Deed};
+use lrc_why_chains::held::{arrives_at, departs_at};
+use lrc_why_chains::writes::{
     Crossing, first_crossing, known_writes, last_write, last_written, unfollowed,
 };
-use lrc_trace::act::{Act, Deed};
 use std::alloc::{AllocError, Global};
 
 // Whether the act at the position releases the lock.

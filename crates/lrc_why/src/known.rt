@@ -4,8 +4,8 @@ ghost use Rattle.std.specs.Prelude.{◌≡◌, ℕ, ◌<◌, ◌≤◌, ◌⊎�
 ghost use Rattle.lrc_trace.specs.Interval.{closes};
 ghost use Rattle.lrc_judge.specs.Firsts.{AreIntervals};
 ghost use Rattle.lrc_judge.specs.Order.{IsOrderOf};
-ghost use Rattle.lrc_reasons.specs.Known.{IsActOf};
-ghost use Rattle.lrc_reasons.specs.Writes.{AreExactly};
+ghost use Rattle.lrc_why_chains.specs.Known.{IsActOf};
+ghost use Rattle.lrc_why_chains.specs.Writes.{AreExactly};
 ghost use Rattle.lrc_why.specs.Known.{AreClosedWords, CountsClosed, IsActBefore, IsBrought, IsNewsIfKnown, IsUnknownNode};
 ghost use Rattle.lrc_why.specs.Parting.{IsUnknown};
 ghost use Rattle.lrc_why.specs.Spread.{OfEach};
@@ -14,8 +14,8 @@ use crate::positions::{Which, closes, is_act_of, positions, words_written};
 use crate::reasons::{Brought, News};
 use crate::since::since_of;
 use lrc_judge::order::Order;
-use lrc_reasons::known::last_known;
 use lrc_trace::act::{Act, Deed};
+use lrc_why_chains::known::last_known;
 use std::alloc::{AllocError, Global};
 
 // The last act of the node before the position.

@@ -3,14 +3,14 @@
 ghost use Rattle.std.specs.Prelude.{◌≡◌, ◌<◌, ◌≤◌, IfOk, length};
 ghost use Rattle.lrc_trace.specs.Synchronization.{Holds};
 ghost use Rattle.lrc_judge.specs.Order.{IsOrderOf};
-ghost use Rattle.lrc_reasons.specs.Writes.{AreExactly};
+ghost use Rattle.lrc_why_chains.specs.Writes.{AreExactly};
 ghost use Rattle.lrc_why.specs.Parting.{IsParting, IsStanding};
 
 use crate::reasons::{Parting, Standing};
 use lrc_judge::order::Order;
-use lrc_reasons::held::{departs_at, held_at};
-use lrc_reasons::known::last_known;
 use lrc_trace::act::Act;
+use lrc_why_chains::held::{departs_at, held_at};
+use lrc_why_chains::known::last_known;
 use std::alloc::{AllocError, Global};
 
 // How many locks an act can name.

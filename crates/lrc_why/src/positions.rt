@@ -6,8 +6,8 @@ ghost use Rattle.lrc_trace.specs.Interval.{closes};
 ghost use Rattle.lrc_judge.specs.Adding.{Adds, IsOfSome};
 ghost use Rattle.lrc_judge.specs.Firsts.{AreIntervals};
 ghost use Rattle.lrc_judge.specs.Order.{IsOrderOf};
-ghost use Rattle.lrc_reasons.specs.Known.{IsActOf};
-ghost use Rattle.lrc_reasons.specs.Writes.{AreExactly, IsWrite};
+ghost use Rattle.lrc_why_chains.specs.Known.{IsActOf};
+ghost use Rattle.lrc_why_chains.specs.Writes.{AreExactly, IsWrite};
 ghost use Rattle.lrc_why.specs.Deeds.{conflicts, is_write, word_accessed};
 ghost use Rattle.lrc_why.specs.Positions.{AreWordsOf, IsAsked, IsBeside, IsClosed, IsNewBehind, IsRacing, IsWithin};
 

@@ -6,9 +6,9 @@ ghost use Rattle.lrc_why.specs.Since.{IsSinceIfKnown};
 
 use crate::reasons::Since;
 use lrc_judge::order::Order;
-use lrc_reasons::chains::chain_told;
-use lrc_reasons::known::first_knowing;
 use lrc_trace::act::Act;
+use lrc_why_chains::chains::chain_told;
+use lrc_why_chains::known::first_knowing;
 use std::alloc::{AllocError, Global};
 
 /// Returns since when the node knows the position, or none if it never does. It fails if memory runs out.

@@ -3,8 +3,8 @@
 ghost use Rattle.std.specs.Prelude.{◌≡◌, ℕ, ◌<◌, ◌≤◌, ◌⊎◌, IfOk, MatchBool, MatchOption, length};
 ghost use Rattle.lrc_trace.specs.Run.{Does};
 ghost use Rattle.lrc_judge.specs.Order.{IsOrderOf};
-ghost use Rattle.lrc_reasons.specs.Known.{IsActOf};
-ghost use Rattle.lrc_reasons.specs.Writes.{AreExactly};
+ghost use Rattle.lrc_why_chains.specs.Known.{IsActOf};
+ghost use Rattle.lrc_why_chains.specs.Writes.{AreExactly};
 ghost use Rattle.lrc_why.specs.Since.{IsNeverKnown};
 ghost use Rattle.lrc_why.specs.Spread.{IsFirstTelling, IsForward, IsLearner, IsNeverKnowing, IsTelling, OfEach, is_told_of, tells};
 
@@ -12,8 +12,8 @@ use crate::positions::is_act_of;
 use crate::reasons::{Forward, Since, Spread};
 use crate::since::since_of;
 use lrc_judge::order::Order;
-use lrc_reasons::known::first_knowing;
 use lrc_trace::act::{Act, Deed};
+use lrc_why_chains::known::first_knowing;
 use std::alloc::{AllocError, Global};
 
 fn tells(deed: Deed) -> bool

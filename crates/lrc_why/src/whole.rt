@@ -15,8 +15,8 @@ use crate::positions::{is_act_of, races};
 use crate::reasons::{Reasons, Relation};
 use crate::spread::forward;
 use lrc_judge::order::Order;
-use lrc_reasons::chains::chain_told;
 use lrc_trace::act::Act;
+use lrc_why_chains::chains::chain_told;
 use std::alloc::{AllocError, Global};
 
 /// Returns the reasons of the act at the position, among this number of nodes. It fails if memory runs out.

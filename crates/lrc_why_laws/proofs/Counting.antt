@@ -1,7 +1,7 @@
 -- How many numbers there are, by what they stand for.
 use Rattle.std.proofs.Common.{zero, suc, ◌≡◌, ℕ, ◌+◌, ◌<◌, ◌≤◌, List, [], ◌∷◌, length, inl, inr, refl, sym, ap, subst, ◌∙◌, arith}
 use Rattle.std.specs.Prelude.{AllPairs, Contains}
-use Rattle.lrc_reasons.proofs.Exactly.{front_cases, front_here, front_there}
+use Rattle.lrc_why_chains.proofs.Exactly.{front_cases, front_here, front_there}
 
 -- the numbers stand for those from a on, as many as n, and the greater ones for greater ones
 pub record StandFor (f : ℕ → ℕ) (xs : List ℕ) (a n : ℕ) : Type 0 where

@@ -8,8 +8,8 @@ use Rattle.lrc_trace.specs.Run.{Does}
 use Rattle.lrc_trace.specs.Order.{program, lock, barrier, HappensBefore, base}
 use Rattle.lrc_trace.proofs.HappensBefore.{transitive}
 use Rattle.lrc_trace.proofs.Positions.{Does-node, Does-one_node}
-use Rattle.lrc_reasons.specs.Chains.{IsChain, step, longer}
-use Rattle.lrc_reasons.proofs.Paths.{chain-before, before-chain}
+use Rattle.lrc_why_chains.specs.Chains.{IsChain, step, longer}
+use Rattle.lrc_why_chains.proofs.Paths.{chain-before, before-chain}
 use Rattle.lrc_why.specs.Spread.{IsFirstTelling, IsTelling}
 
 -- from the position on the node releases or arrives at k, which comes to j

@@ -10,9 +10,9 @@ use Rattle.lrc_trace.specs.Interval.{interval_at}
 use Rattle.lrc_trace.specs.Run.{Does, is_depart}
 use Rattle.lrc_trace.specs.Synchronization.{IsWellSynchronized, WaitsAtBarriers}
 use Rattle.lrc_trace.proofs.Positions.{Does-one_deed, Does-one_node}
-use Rattle.lrc_reasons.specs.Known.{IsLastKnown}
-use Rattle.lrc_reasons.proofs.Barriers.{behind_one}
-use Rattle.lrc_reasons.proofs.Unordered.{accessed, held_in_order, known_is_earlier}
+use Rattle.lrc_why_chains.specs.Known.{IsLastKnown}
+use Rattle.lrc_why_chains.proofs.Barriers.{behind_one}
+use Rattle.lrc_why_chains.proofs.Unordered.{accessed, held_in_order, known_is_earlier}
 use Rattle.lrc_why.specs.declared.reasons.Opponent.{Opponent}
 use Rattle.lrc_why.specs.declared.reasons.Parting.{Parting as PartingRecord}
 use Rattle.lrc_why.specs.declared.reasons.Relation.{Relation}

@@ -16,7 +16,7 @@ use Rattle.lrc_clock.specs.Keeping.{KeepsTime}
 use Rattle.lrc_clock.specs.Times.{time_at}
 use Rattle.lrc_clock.proofs.Covering.{complete, sound}
 use Rattle.lrc_clock.proofs.Rules.{long}
-use Rattle.lrc_reasons.specs.Writes.{AreExactly}
+use Rattle.lrc_why_chains.specs.Writes.{AreExactly}
 use Rattle.lrc_why.specs.declared.reasons.Reasons.{Reasons}
 use Rattle.lrc_why.specs.Known.{CountsClosed}
 use Rattle.lrc_why.specs.Positions.{IsClosed}

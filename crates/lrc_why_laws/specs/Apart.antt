@@ -2,7 +2,7 @@
 use Rattle.std.specs.Prelude.{◌≡◌, ℕ, ◌<◌, List, Some, Contains}
 use Rattle.lrc_trace.specs.declared.act.Act.{Act}
 use Rattle.lrc_trace.specs.Interval.{interval_at}
-use Rattle.lrc_reasons.specs.Known.{IsActOf}
+use Rattle.lrc_why_chains.specs.Known.{IsActOf}
 use Rattle.lrc_why.specs.declared.reasons.Parting.{Parting}
 use Rattle.lrc_why.specs.declared.reasons.Standing.{Standing}
 

@@ -11,10 +11,10 @@ use crate::places::{push_act, push_there};
 use crate::shown::Shown;
 use lrc_judge::races::word_of;
 use lrc_labels::label::Label;
-use lrc_reasons::held::departs_at;
 use lrc_text::push_number;
 use lrc_trace::act::Deed;
 use lrc_why::reasons::{Parting, Relation, Standing};
+use lrc_why_chains::held::departs_at;
 use std::alloc::AllocError;
 
 #[tactic(auto, unfolding(crate::specs::Ordered::two_text))]

@@ -19,8 +19,8 @@ use Rattle.lrc_why_text.specs.declared.asked.Asked.{Asked}
 use Rattle.lrc_why_text.specs.declared.fault.WhyFault.{WhyFault}
 use Rattle.lrc_why_text.specs.declared.fault.WhyFault.TheVariants.{NoAct, NoMemory}
 use Rattle.lrc_why_run.specs.Private.{private_text}
-use Rattle.lrc_private.specs.Spelling.{AreNamesOf}
-use Rattle.lrc_private.specs.Standing.{AreLastSets, thread_before}
+use Rattle.lrc_private_names.specs.Spelling.{AreNamesOf}
+use Rattle.lrc_private_names.specs.Standing.{AreLastSets, thread_before}
 
 -- the acts with their intervals, each with the line of the text that it is of, and the labels of the text
 pub record IsShownFrom (shown : Shown) (text : List ℕ) (program : Program) (nodes : ℕ) (lines : List ℕ) (acts : List Act) : Type 0 where

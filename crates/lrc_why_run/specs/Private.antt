@@ -10,8 +10,8 @@ use Rattle.lrc_exec.specs.Condition.{condition_holds}
 use Rattle.lrc_exec.specs.Meaning.{Thread, value_in}
 use Rattle.lrc_why_lines.specs.declared.shown.Shown.{Shown}
 use Rattle.lrc_why_lines.specs.Places.{there_text}
-use Rattle.lrc_private.specs.Spelling.{spelling}
-use Rattle.lrc_private.specs.Statement.{reads_name}
+use Rattle.lrc_private_names.specs.Spelling.{spelling}
+use Rattle.lrc_private_names.specs.Statement.{reads_name}
 
 -- a name with its value
 unfoldable pub is_text : (name : List ℕ) → ℕ → List ℕ

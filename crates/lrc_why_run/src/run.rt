@@ -21,7 +21,7 @@ use lrc_lang::lines::lines_of;
 use lrc_lang::program::Program;
 use lrc_lines::walks::lines_of_acts;
 use lrc_page::Size;
-use lrc_private::{Way, names_of};
+use lrc_private_names::{Way, names_of};
 use lrc_trace::act::Act;
 use lrc_why_lines::look::act_at;
 use lrc_why_lines::shown::Shown;

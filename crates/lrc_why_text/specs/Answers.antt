@@ -7,7 +7,7 @@ use Rattle.lrc_judge.specs.Firsts.{AreIntervals}
 use Rattle.lrc_acts.specs.ActsText.{ReadsActs}
 use Rattle.lrc_acts.specs.declared.reading.ActsFault.TheVariants as faults
 use Rattle.lrc_acts.specs.declared.reading.LinedActs.{LinedActs}
-use Rattle.lrc_verdict.specs.Judgement.{CountsNodes}
+use Rattle.lrc_judge_text.specs.Judgement.{CountsNodes}
 use Rattle.lrc_why.specs.declared.reasons.Reasons.{Reasons}
 use Rattle.lrc_why.specs.declared.reasons.Relation.{Relation}
 use Rattle.lrc_why.specs.Whole.{AreReasons, IsRelation}
@@ -17,7 +17,7 @@ use Rattle.lrc_why_text.specs.declared.asked.Asked.{Asked}
 use Rattle.lrc_why_lines.specs.declared.shown.Shown.{Shown}
 use Rattle.lrc_labels.specs.declared.cut.Divider.TheVariants.{LineFeed}
 use Rattle.lrc_labels.specs.Cut.{cut, divides}
-use Rattle.lrc_told_lines.specs.Named.{AreLinesTold}
+use Rattle.lrc_acts_lines.specs.Named.{AreLinesTold}
 use Rattle.lrc_why_text.specs.Knowing.{all_news_text, interval_text}
 use Rattle.lrc_why_text.specs.Learning.{forward_text}
 use Rattle.lrc_why_lines.specs.Ordered.{relation_text}

@@ -11,13 +11,13 @@ use crate::asked::Asked;
 use crate::fault::WhyFault;
 use crate::whole::why_part;
 use lrc_acts::reading::acts_of;
+use lrc_acts_lines::act_lines;
 use lrc_judge::intervals_of;
 use lrc_judge::order::happens_before;
+use lrc_judge_text::judge::nodes_of;
 use lrc_labels::label::Label;
 use lrc_page::Size;
-use lrc_told_lines::act_lines;
 use lrc_trace::act::Act;
-use lrc_verdict::judge::nodes_of;
 use lrc_why_lines::shown::Shown;
 use std::alloc::{AllocError, Global};
 

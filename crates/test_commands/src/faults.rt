@@ -1,8 +1,8 @@
 // The line of each fault of acts, events and a run. Those of a text are played by `test_examples`.
 
 use crate::checks::passes;
-use lrc_answer::fault::Fault;
 use lrc_cli::tell;
+use lrc_cli_answer::fault::Fault;
 use std::alloc::Global;
 
 const FAULTS: &[(Fault, &str)] = &[

@@ -2,7 +2,7 @@
 
 use crate::checks::passes;
 use crate::shell::{ON_ONE_NODE, Outcome, done, played};
-use lrc_args::choice::{Choice, Nodes, RunChoice, RunOptions, Shape, Way};
+use lrc_cli_args::choice::{Choice, Nodes, RunChoice, RunOptions, Shape, Way};
 use lrc_envelope::Picker;
 use std::alloc::{AllocError, Global};
 use std::sync::Wait;

@@ -1,10 +1,10 @@
 // A command with its texts, and what comes of it.
 
 ghost use Rattle.std.specs.Prelude.{◌≡◌, is_some};
-ghost use Rattle.lrc_args.specs.Files.{names_events};
+ghost use Rattle.lrc_cli_args.specs.Files.{names_events};
 
-use lrc_args::choice::{Choice, Collect, Nodes, RunChoice, RunOptions, Shape, Steps, Way};
 use lrc_cli::execute;
+use lrc_cli_args::choice::{Choice, Collect, Nodes, RunChoice, RunOptions, Shape, Steps, Way};
 use lrc_page::Size;
 use std::sync::Wait;
 use std::thread::Threads;

@@ -1,12 +1,12 @@
 // Documents of `step`, to the byte: the frame, and in it the lines of a run.
 
 ghost use Rattle.std.specs.Prelude.{◌≡◌, false};
-ghost use Rattle.lrc_args.specs.Files.{names_events};
+ghost use Rattle.lrc_cli_args.specs.Files.{names_events};
 
 use crate::shell::{ON_ONE_NODE, done};
-use lrc_args::choice::{Choice, Nodes, Part, RunChoice, RunOptions, Shape, Way};
+use lrc_cli_args::choice::{Choice, Nodes, Part, RunChoice, RunOptions, Shape, Way};
 use lrc_envelope::Picker;
-use lrc_step_page::{CLOSING, OPENING};
+use lrc_step::{CLOSING, OPENING};
 use std::alloc::{AllocError, Global};
 use std::sync::Wait;
 use std::thread::Threads;

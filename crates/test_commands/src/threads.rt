@@ -2,7 +2,7 @@
 
 use crate::checks::passes;
 use crate::shell::{ON_ONE_NODE, done, played};
-use lrc_args::choice::{Choice, Form, Nodes, RunChoice, RunOptions, Shape, Way};
+use lrc_cli_args::choice::{Choice, Form, Nodes, RunChoice, RunOptions, Shape, Way};
 use lrc_envelope::Picker;
 use std::sync::Wait;
 use std::thread::Threads;

@@ -1,11 +1,11 @@
 // Lines of words, and the choice that they make.
 
 use crate::checks::passes;
-use lrc_args::choice::{
+use lrc_cli_args::choice::{
     Asking, ChartedActs, Charting, Choice, ChooseFault, Exploring, ForeignActs, Form, Judging,
     Memory, Part, PlainRun, Racing, Request, RunOptions, Shape, Topic, TraceForm, Way,
 };
-use lrc_args::choose;
+use lrc_cli_args::choose;
 use lrc_envelope::Picker;
 use lrc_page::Size;
 use std::alloc::{AllocError, Global};

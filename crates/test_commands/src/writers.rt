@@ -1,8 +1,8 @@
 // A writer that refuses one of its writes.
 
 use crate::shell::ON_ONE_NODE;
-use lrc_args::choice::{Choice, Nodes, RunChoice, RunOptions, Shape, Way};
 use lrc_cli::{execute, perform};
+use lrc_cli_args::choice::{Choice, Nodes, RunChoice, RunOptions, Shape, Way};
 use lrc_envelope::Picker;
 use std::alloc::Global;
 use std::io;

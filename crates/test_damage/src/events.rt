@@ -4,6 +4,7 @@
 use crate::checks::holds;
 use crate::random::Random;
 use lrc_acts_text::acts_part;
+use lrc_judge_text::judge::judge;
 use lrc_lang::parse;
 use lrc_lang::program::Program;
 use lrc_node::Options;
@@ -12,7 +13,6 @@ use lrc_protocol::Event;
 use lrc_text::{first_race_part, races_part};
 use lrc_trace::act::Act;
 use lrc_trace::race::Race;
-use lrc_verdict::judge::judge;
 use lrc_world::report::Report;
 use lrc_world::simulate::simulate;
 use std::alloc::{AllocError, Global};

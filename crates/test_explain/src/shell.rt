@@ -3,12 +3,12 @@
 use lrc_acts::reading::acts_of;
 use lrc_exec::code::Code;
 use lrc_explain::explain;
+use lrc_explain_waits::stuck_part;
 use lrc_labels::label::Label;
 use lrc_labels::read_labels;
 use lrc_lang::lines::lines_of;
 use lrc_lang::parse;
 use lrc_lang::program::Program;
-use lrc_stuck::stuck_part;
 use lrc_trace::act::Act;
 use std::alloc::Global;
 

@@ -1,14 +1,14 @@
 // Every order of small programs, one after another on the plain machine, against what the search says of them.
 
 use crate::checks::passes;
-use lrc_breadth::answers::{explore, outcomes};
 use lrc_exec::plain::plain_run;
-use lrc_explore::outcomes::Outcome;
-use lrc_explore::search::Verdict;
+use lrc_explore::answers::{explore, outcomes};
 use lrc_judge::are_in_range;
 use lrc_judge::first::first_race;
 use lrc_lang::parse;
 use lrc_lang::program::Program;
+use lrc_orders::outcomes::Outcome;
+use lrc_orders::search::Verdict;
 use lrc_trace::act::{Act, Deed};
 use std::alloc::{AllocError, Global};
 

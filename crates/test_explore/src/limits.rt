@@ -1,10 +1,10 @@
 // How many states a search may meet, and that it gives up past so many and no earlier.
 
 use crate::checks::passes;
-use lrc_breadth::answers::{explore, outcomes};
-use lrc_explore::search::ExploreFault;
+use lrc_explore::answers::{explore, outcomes};
 use lrc_lang::parse;
 use lrc_lang::program::Program;
+use lrc_orders::search::ExploreFault;
 use std::alloc::Global;
 
 /// Three writes of a word of its own: a node stands before each of them, and past the last. So it has four states.

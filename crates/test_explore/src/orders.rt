@@ -1,9 +1,9 @@
 // Programs, and what is found of each: the orders are the least of the shortest.
 
 use crate::checks::passes;
-use lrc_breadth::answers::explore;
-use lrc_explore::search::{ExploreFault, Verdict};
+use lrc_explore::answers::explore;
 use lrc_lang::parse;
+use lrc_orders::search::{ExploreFault, Verdict};
 use std::alloc::Global;
 
 // What should be found.

@@ -1,9 +1,9 @@
 // Outcomes of lazy runs: those of stored programs, as they are listed.
 
 use crate::checks::passes;
-use lrc_explore::outcomes::Outcome;
 use lrc_lang::parse;
 use lrc_lazy_search::search::lazy_outcomes;
+use lrc_orders::outcomes::Outcome;
 use lrc_trace::act::{Act, Deed};
 use std::alloc::{AllocError, Global};
 

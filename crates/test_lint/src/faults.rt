@@ -1,7 +1,7 @@
 // What is told of texts that are no program.
 
 use crate::checks::passes;
-use lrc_lint::{Linted, lint_fault};
+use lrc_lint_fault::{Linted, lint_fault};
 use std::alloc::{AllocError, Global};
 
 /// A text, and what is told of it; nothing where it is a program.

@@ -1,7 +1,7 @@
 // What is told of texts: of programs, their warnings.
 
 use crate::checks::passes;
-use lrc_linted::lint;
+use lrc_lint::lint;
 use std::alloc::{AllocError, Global};
 
 /// A text, what is told of it, and the status.

@@ -4,7 +4,7 @@ use crate::checks::holds;
 use lrc_lang::fault::FaultKind;
 use lrc_lang::kind::Kind;
 use lrc_lang::token::{Keyword, Sign};
-use lrc_lint_text::{push_count, push_excerpt, push_expected, push_fault, push_place};
+use lrc_lint_lines::{push_count, push_excerpt, push_expected, push_fault, push_place};
 use std::alloc::{AllocError, Global};
 
 /// Whether this is shown of a line of a text, with a caret under a column.

@@ -1,6 +1,6 @@
 // Traces, beside the lines of the pairs that are told of them.
-use lrc_std::event::Operation;
-use lrc_std::event::Operation::{
+use lrc_races_trace::event::Operation;
+use lrc_races_trace::event::Operation::{
     Acquire, Arrive, Depart, Fork, Idle, Join, Post, Read, Release, Wait, Write,
 };
 

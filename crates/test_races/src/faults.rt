@@ -1,11 +1,11 @@
 // The first event of a trace that no program would give.
 
-use lrc_std::event::Operation::{
+use lrc_races_detector::fault_finder::FaultFinder;
+use lrc_races_trace::event::Operation::{
     Acquire, Arrive, Depart, Fork, Idle, Join, Post, Read, Release, Wait, Write,
 };
-use lrc_std::event::{Event, Operation};
-use lrc_std::fault::{Fault, Reason};
-use lrc_stream::fault_finder::FaultFinder;
+use lrc_races_trace::event::{Event, Operation};
+use lrc_races_trace::fault::{Fault, Reason};
 use std::alloc::{AllocError, Global};
 
 // A trace, its events with their threads, the first on line 1; and the line of the first fault, with its reason.

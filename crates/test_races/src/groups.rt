@@ -1,10 +1,10 @@
 // Groups of the pairs that are told.
 
-use lrc_std::event::Operation::{Read, Release, Write};
-use lrc_std::event::{Event, Operation};
-use lrc_std::group::Group;
-use lrc_stream::detector::Detector;
-use lrc_stream::groups::Groups;
+use lrc_races_detector::detector::Detector;
+use lrc_races_detector::groups::Groups;
+use lrc_races_trace::event::Operation::{Read, Release, Write};
+use lrc_races_trace::event::{Event, Operation};
+use lrc_races_trace::group::Group;
 use std::alloc::{AllocError, Global};
 
 // A trace, its events with their threads and locations, the first on line 1; and of each group the lines of the first pair, and

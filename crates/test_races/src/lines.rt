@@ -1,10 +1,10 @@
 // Lines of a trace, and what each says.
 
-use lrc_names::line::Kind::{
+use lrc_races_lines::line::Kind::{
     Acquire, Arrive, Depart, Fork, Idle, Join, Post, Read, Release, Wait, Write,
 };
-use lrc_names::line::{Kind, Line, Named};
-use lrc_names::reading::read_line;
+use lrc_races_lines::line::{Kind, Line, Named};
+use lrc_races_lines::reading::read_line;
 use std::alloc::{AllocError, Global};
 
 /// A line with an event, beside its thread, what it does, the target and the location.

@@ -1,6 +1,6 @@
 // Numbers of names.
 
-use lrc_names::table::Table;
+use lrc_races_lines::table::Table;
 use std::alloc::{AllocError, Global};
 
 // Whether the names, in turn, are given these numbers.

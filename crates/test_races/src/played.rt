@@ -1,8 +1,8 @@
 // The detector, over traces whose races were found by hand and by another program.
 
 use crate::cases::{BARRIERS, Case, FORKS, LOCKS, RACES};
-use lrc_std::event::{Event, Operation, Pair};
-use lrc_stream::trace::told_of;
+use lrc_races_detector::trace::told_of;
+use lrc_races_trace::event::{Event, Operation, Pair};
 use std::alloc::{AllocError, Global};
 
 fn event((line, thread, operation): (u64, u32, Operation)) -> Event {

@@ -1,8 +1,8 @@
 // What is printed of traces, in blocks of any size.
 
-use lrc_races::fault::Fault;
-use lrc_races::form::Form;
-use lrc_races::session::Session;
+use lrc_races_text::fault::Fault;
+use lrc_races_text::form::Form;
+use lrc_races_text::session::Session;
 use std::alloc::Global;
 
 // A trace, how it is read, and what is printed of it, with the status or the fault.

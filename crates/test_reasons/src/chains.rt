@@ -1,8 +1,8 @@
 // Runs, beside the chains that are told in them.
 
 use crate::checks::passes;
-use lrc_reasons::chains::chain_told;
 use lrc_trace::act::{Act, Deed};
+use lrc_why_chains::chains::chain_told;
 use std::alloc::Global;
 
 /// Two positions, and the chain that is told from the one to the other.

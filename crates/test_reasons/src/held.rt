@@ -2,8 +2,8 @@
 
 use crate::checks::passes;
 use crate::runs::{LATE_WRITE, NO_ARRIVE, OTHER_LOCKS, TWO_BARRIERS};
-use lrc_reasons::held::{departs_at, held_at};
 use lrc_trace::act::Act;
+use lrc_why_chains::held::{departs_at, held_at};
 use std::alloc::Global;
 
 /// A node and a position: the locks that it holds there, and how often it has departed before.

@@ -6,8 +6,8 @@ use crate::runs::{
 };
 use lrc_judge::are_in_range;
 use lrc_judge::order::happens_before;
-use lrc_reasons::known::{first_knowing, last_known};
 use lrc_trace::act::Act;
+use lrc_why_chains::known::{first_knowing, last_known};
 use std::alloc::Global;
 
 /// A node and a position: the last act of the node that is known there, and its first act that knows of the position.

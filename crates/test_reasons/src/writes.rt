@@ -9,10 +9,10 @@ use crate::runs::{
 };
 use lrc_judge::are_in_range;
 use lrc_judge::order::{Order, happens_before};
-use lrc_reasons::writes::{
+use lrc_trace::act::Act;
+use lrc_why_chains::writes::{
     Crossing, first_crossing, known_writes, last_write, last_written, unfollowed,
 };
-use lrc_trace::act::Act;
 use std::alloc::{AllocError, Global};
 
 /// What is wanted of the writes to a word at a position.

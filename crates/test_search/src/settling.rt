@@ -5,8 +5,8 @@ ghost use Rattle.std.specs.Prelude.{◌≡◌};
 use lrc_exec::code::Code;
 use lrc_exec::spot::{Flat, Spot};
 use lrc_lang::parse;
-use lrc_search::settling::{Settling, settle_thread};
-use lrc_search::table::SettledThreads;
+use lrc_orders_settling::settling::{Settling, settle_thread};
+use lrc_orders_settling::table::SettledThreads;
 use lrc_trace::act::{Cause, Deed};
 use std::alloc::{AllocError, Global};
 

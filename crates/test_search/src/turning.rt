@@ -3,7 +3,7 @@
 use lrc_exec::code::Code;
 use lrc_exec::spot::{Flat, Spot};
 use lrc_lang::parse;
-use lrc_search::turning::{Course, course_of};
+use lrc_orders_settling::turning::{Course, course_of};
 use std::alloc::{AllocError, Global};
 
 /// What comes of the beginning of a program, of which so many acts are looked at.

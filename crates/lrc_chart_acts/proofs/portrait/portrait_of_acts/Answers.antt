@@ -2,9 +2,9 @@ use Rattle.std.proofs.Common.{rules, ◌≡◌, ◌∙◌, ◌<◌, ◌≤◌, �
 use Rattle.lrc_trace.specs.declared.act.Act.{Act}
 use Rattle.lrc_labels.specs.declared.cut.Divider.TheVariants.{LineFeed}
 use Rattle.lrc_labels.specs.Cut.{cut, divides}
-use Rattle.lrc_verdict.specs.Judgement.{CountsNodes}
-use Rattle.lrc_verdict.proofs.Within.{acts_ranged}
-use Rattle.lrc_told_lines.specs.Named.{AreLinesTold}
+use Rattle.lrc_judge_text.specs.Judgement.{CountsNodes}
+use Rattle.lrc_judge_text.proofs.Within.{acts_ranged}
+use Rattle.lrc_acts_lines.specs.Named.{AreLinesTold}
 use Rattle.lrc_chart_build.specs.Portrait.{MOST_SHOWN}
 use Rattle.lrc_chart_build.specs.declared.part.Place.{Place}
 use Rattle.lrc_chart_acts.specs.Picture.{IsPortraitOfActs}

@@ -1,5 +1,5 @@
 use Rattle.std.proofs.Common.{◌∙◌, ◌++◌, ℕ, List, ap, sym}
-use Rattle.lrc_stuck.specs.Circles.{circle_of}
+use Rattle.lrc_explain_waits.specs.Circles.{circle_of}
 use Rattle.lrc_text.proofs.Each.{range_more}
 use Rattle.lrc_chart_build.specs.Circles.{nodes_if}
 use Rattle.lrc_chart_build.proofs.circles.circled_nodes.Goals as goal

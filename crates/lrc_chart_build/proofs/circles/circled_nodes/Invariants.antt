@@ -1,6 +1,6 @@
 use Rattle.std.proofs.Common.{◌≡◌}
 use Rattle.std.specs.List.{flat_map, range_with_len}
-use Rattle.lrc_stuck.specs.Circles.{circle_of}
+use Rattle.lrc_explain_waits.specs.Circles.{circle_of}
 use Rattle.lrc_chart_build.specs.Circles.{nodes_if}
 use Rattle.lrc_chart_build.proofs.circles.circled_nodes.Given as goal
 

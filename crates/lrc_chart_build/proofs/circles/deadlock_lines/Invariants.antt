@@ -1,6 +1,6 @@
 use Rattle.std.proofs.Common.{◌≡◌}
 use Rattle.std.specs.List.{flat_map, range_with_len}
-use Rattle.lrc_stuck.specs.Circles.{circle_of}
+use Rattle.lrc_explain_waits.specs.Circles.{circle_of}
 use Rattle.lrc_text.specs.Parts.{texts_of}
 use Rattle.lrc_chart_build.specs.Circles.{line_if}
 use Rattle.lrc_chart_build.proofs.circles.deadlock_lines.Given as goal

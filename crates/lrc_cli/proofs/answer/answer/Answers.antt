@@ -1,6 +1,6 @@
 use Rattle.std.proofs.Common.{ℕ, List, option_map, subst, sym}
 use Rattle.std.specs.Borrow.{Bor}
-use Rattle.lrc_args.specs.declared.choice.Choice.{Choice}
+use Rattle.lrc_cli_args.specs.declared.choice.Choice.{Choice}
 use Rattle.lrc_cli.specs.Answer.{Answers}
 use Rattle.lrc_cli.proofs.AnswerLemmas.{answers_for}
 use Rattle.lrc_cli.proofs.answer.answer.Goals as goal

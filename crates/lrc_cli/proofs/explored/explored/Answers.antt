@@ -1,6 +1,6 @@
 use Rattle.std.proofs.Common.{inl, inr}
 use Rattle.std.proofs.lemmas.Result.{IfErr-weaker, IfOk-weaker}
-use Rattle.lrc_answer.proofs.FaultLemmas.{fault_up, text_fault}
+use Rattle.lrc_cli_answer.proofs.FaultLemmas.{fault_up, text_fault}
 use Rattle.lrc_cli.proofs.explored.explored.Goals as goal
 
 pub returns-in_err-program-clause-err : goal.returns-in_err-program-clause-err

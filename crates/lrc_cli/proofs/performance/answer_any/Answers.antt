@@ -1,6 +1,6 @@
 use Rattle.std.proofs.Common.{option_map, sym, subst}
 use Rattle.lrc_cli.specs.Answer.{Answers}
-use Rattle.lrc_args.specs.declared.choice.Choice.{Choice}
+use Rattle.lrc_cli_args.specs.declared.choice.Choice.{Choice}
 use Rattle.lrc_cli.proofs.AnswerLemmas.{answers_of_run}
 use Rattle.lrc_cli.proofs.performance.answer_any.Goals as goal
 

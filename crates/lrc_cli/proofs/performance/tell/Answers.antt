@@ -1,11 +1,11 @@
 use Rattle.std.proofs.Common.{◌≡◌, ◌⊎◌, ℕ, true, List, Ok, Option, Some, None, refl, subst, inl, inr}
 use Rattle.std.specs.Io.KnownBytes.{Keeps}
 use Rattle.lrc_cli.specs.Answer.{Answers, IsFault, Prints, asks_pairs}
-use Rattle.lrc_answer.specs.FaultLine.{fault_line}
+use Rattle.lrc_cli_answer.specs.FaultLine.{fault_line}
 use Rattle.lrc_cli.specs.Performance.{IsPrintedOrCut, IsWritten, Performs, cuts, faults, prints}
-use Rattle.lrc_args.specs.declared.choice.Choice.{Choice}
-use Rattle.lrc_answer.specs.declared.fault.Fault.{Fault}
-use Rattle.lrc_answer.specs.declared.fault.Fault.TheVariants.{NoMemory}
+use Rattle.lrc_cli_args.specs.declared.choice.Choice.{Choice}
+use Rattle.lrc_cli_answer.specs.declared.fault.Fault.{Fault}
+use Rattle.lrc_cli_answer.specs.declared.fault.Fault.TheVariants.{NoMemory}
 use Rattle.lrc_cli.proofs.AnswerLemmas.{memory_ran_out}
 use Rattle.lrc_cli.proofs.performance.tell.Goals as goal
 

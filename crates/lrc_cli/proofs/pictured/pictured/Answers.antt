@@ -1,10 +1,10 @@
 use Rattle.std.proofs.Common.{◌∙◌, ℕ, List, Option, refl, subst, sym}
 use Rattle.lrc_chart_acts.specs.Picture.{IsActsPortrait, IsActsPortraitFault}
 use Rattle.lrc_chart_build.specs.declared.part.Part.{Part}
-use Rattle.lrc_title.specs.Title.{title_text_of_acts}
+use Rattle.lrc_chart_title.specs.Title.{title_text_of_acts}
 use Rattle.lrc_cli.specs.Answer.{charted_nodes}
-use Rattle.lrc_shown.specs.Charted.{IsDrawn}
-use Rattle.lrc_answer.proofs.FaultLemmas.{fault_up}
+use Rattle.lrc_cli_runs.specs.Charted.{IsDrawn}
+use Rattle.lrc_cli_answer.proofs.FaultLemmas.{fault_up}
 use Rattle.lrc_cli.proofs.AnswerLemmas.{acts_chart_fault}
 use Rattle.lrc_cli.proofs.pictured.pictured.Goals as goal
 

@@ -2,7 +2,7 @@ use Rattle.std.proofs.Common.{ℕ, Option, subst}
 use Rattle.lrc_why_text.specs.Answers.{RefusesActs}
 use Rattle.lrc_why_text.specs.declared.asked.Asked.{Asked}
 use Rattle.lrc_cli.specs.Answer.{foreign_nodes}
-use Rattle.lrc_answer.proofs.FaultLemmas.{fault_up}
+use Rattle.lrc_cli_answer.proofs.FaultLemmas.{fault_up}
 use Rattle.lrc_cli.proofs.AnswerLemmas.{why_fault}
 use Rattle.lrc_cli.proofs.reasoned.reasoned.Goals as goal
 

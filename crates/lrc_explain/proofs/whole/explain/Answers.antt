@@ -3,10 +3,10 @@ use Rattle.std.proofs.Common.{◌≡◌, ◌∙◌, ◌++◌, All, List, Some, a
 use Rattle.lrc_labels.specs.Reading.{Label, label_seen}
 use Rattle.lrc_judge.specs.declared.lanes.Pair.{Pair}
 use Rattle.lrc_lines.specs.Walks.{act_lines}
-use Rattle.lrc_stuck.specs.declared.stand.Stand.{Stand}
-use Rattle.lrc_stuck.specs.Circles.{deadlocks_text}
-use Rattle.lrc_stuck.specs.Followed.{AreFollowed}
-use Rattle.lrc_stuck.specs.Stand.{stands_of}
+use Rattle.lrc_explain_waits.specs.declared.stand.Stand.{Stand}
+use Rattle.lrc_explain_waits.specs.Circles.{deadlocks_text}
+use Rattle.lrc_explain_waits.specs.Followed.{AreFollowed}
+use Rattle.lrc_explain_waits.specs.Stand.{stands_of}
 use Rattle.lrc_text.specs.RaceText.{first_race_text}
 use Rattle.lrc_explain.specs.Explain.{fates_text}
 use Rattle.lrc_explain.specs.Groups.{groups_text, IsWithin}

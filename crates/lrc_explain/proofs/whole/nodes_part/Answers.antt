@@ -1,9 +1,9 @@
 use Rattle.std.proofs.Common.{◌∙◌, ◌++◌, ℕ, List, ap, map, sym, get_or, append_assoc}
 use Rattle.lrc_text.proofs.Each.{each_more}
 use Rattle.lrc_labels.specs.Reading.{Label, label_seen}
-use Rattle.lrc_stuck.specs.declared.stand.Stand.{Stand}
-use Rattle.lrc_stuck.specs.Stuck.{end_text}
-use Rattle.lrc_stuck.proofs.Standing.{no_stand}
+use Rattle.lrc_explain_waits.specs.declared.stand.Stand.{Stand}
+use Rattle.lrc_explain_waits.specs.Stuck.{end_text}
+use Rattle.lrc_explain_waits.proofs.Standing.{no_stand}
 use Rattle.lrc_explain.specs.Explain.{prints_text}
 use Rattle.lrc_explain.proofs.whole.nodes_part.Goals as goal
 

@@ -4,8 +4,8 @@ use Rattle.std.specs.declared.alloc.Global.{Global}
 use Rattle.std.proofs.lemmas.Result.{IfOk-weaker}
 use Rattle.lrc_lang.specs.declared.program.Program.{Program}
 use Rattle.lrc_labels.specs.Reading.{label_seen}
-use Rattle.lrc_stuck.specs.Stand.{stands_of}
-use Rattle.lrc_stuck.specs.Stuck.{stuck_text}
+use Rattle.lrc_explain_waits.specs.Stand.{stands_of}
+use Rattle.lrc_explain_waits.specs.Stuck.{stuck_text}
 use Rattle.lrc_explore_text.specs.Orders.{ends_text}
 use Rattle.lrc_explore_text.proofs.orders.ends_told.Goals as goal
 

@@ -2,8 +2,8 @@ use Rattle.std.proofs.Common.{◌≡◌, ◌∙◌, sym, rules}
 use Rattle.std.specs.Prelude.{nat_eq}
 use Rattle.std.specs.Cmp.Lexicographic.{pointwise}
 use Rattle.std.proofs.lemmas.Bool.{eqb-true}
-use Rattle.lrc_explore.proofs.KeptAlike.{equal_items, nat_itself}
-use Rattle.lrc_explore.proofs.Same.{pointwise_same}
+use Rattle.lrc_orders.proofs.KeptAlike.{equal_items, nat_itself}
+use Rattle.lrc_orders.proofs.Same.{pointwise_same}
 use Rattle.lrc_explore_text.proofs.outcome_run.is_same.Goals as goal
 
 pub returns : goal.returns

@@ -1,6 +1,6 @@
 use Rattle.std.specs.Prelude.{true}
-use Rattle.lrc_explore.proofs.Faults.{fault_says}
-use Rattle.lrc_breadth.proofs.Answering.{fault_of_task}
+use Rattle.lrc_orders.proofs.Faults.{fault_says}
+use Rattle.lrc_explore.proofs.Answering.{fault_of_task}
 use Rattle.lrc_explore_text.proofs.outcome_run.run_in.Goals as goal
 
 pub returns-clause-faults : goal.returns-clause-faults

@@ -1,9 +1,9 @@
 use Rattle.std.proofs.Common.{List, subst}
 use Rattle.std.proofs.lemmas.Option.{slice_get_within}
-use Rattle.lrc_explore.specs.declared.outcomes.Outcome.{Outcome}
-use Rattle.lrc_explore.specs.declared.search.ExploreFault.TheVariants.{NoMemory}
-use Rattle.lrc_explore.proofs.Faults.{fault_up}
-use Rattle.lrc_breadth.specs.Answers.{IsFault}
+use Rattle.lrc_orders.specs.declared.outcomes.Outcome.{Outcome}
+use Rattle.lrc_orders.specs.declared.search.ExploreFault.TheVariants.{NoMemory}
+use Rattle.lrc_orders.proofs.Faults.{fault_up}
+use Rattle.lrc_explore.specs.Answers.{IsFault}
 use Rattle.lrc_explore_text.specs.OutcomeRun.{IsPlaceOfNumber}
 use Rattle.lrc_explore_text.proofs.Numbered.{fewer, no_memory, numbered}
 use Rattle.lrc_explore_text.proofs.outcome_run.run_of.Goals as goal

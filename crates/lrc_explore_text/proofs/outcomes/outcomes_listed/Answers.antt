@@ -2,7 +2,7 @@ use Rattle.std.proofs.Common.{◌≡◌, ◌++◌, ◌∙◌, ℕ, List, ap, sub
 use Rattle.std.specs.Prelude.{codes, decimal}
 use Rattle.std.proofs.lemmas.Result.{IfOk-weaker}
 use Rattle.lrc_text.specs.Parts.{texts_of, whole_text}
-use Rattle.lrc_explore.specs.declared.outcomes.Outcome.{Outcome}
+use Rattle.lrc_orders.specs.declared.outcomes.Outcome.{Outcome}
 use Rattle.lrc_explore_text.specs.Outcomes.{AreLinesOf, ListsOutcomes, none_ends}
 use Rattle.lrc_explore_text.proofs.Listed.{listed}
 use Rattle.lrc_explore_text.proofs.outcomes.outcomes_listed.Goals as goal

@@ -1,10 +1,10 @@
 use Rattle.std.proofs.Common.{refl, subst}
 use Rattle.std.specs.Vec.{with_item}
-use Rattle.lrc_known.specs.declared.known.KnownWord.{KnownWord}
-use Rattle.lrc_known.specs.declared.known.Knowledge.{Knowledge}
-use Rattle.lrc_known.specs.declared.word.Effect.TheVariants.{Writes}
-use Rattle.lrc_known.specs.Effect.{IsAfter}
-use Rattle.lrc_known.specs.Tidy.{IsTidyWord}
+use Rattle.lrc_lazy_known.specs.declared.known.KnownWord.{KnownWord}
+use Rattle.lrc_lazy_known.specs.declared.known.Knowledge.{Knowledge}
+use Rattle.lrc_lazy_known.specs.declared.word.Effect.TheVariants.{Writes}
+use Rattle.lrc_lazy_known.specs.Effect.{IsAfter}
+use Rattle.lrc_lazy_known.specs.Tidy.{IsTidyWord}
 use Rattle.lrc_lazy_search.proofs.Learned.{put_known, put_tidy}
 use Rattle.lrc_lazy_search.proofs.state.learn_write.Goals as goal
 

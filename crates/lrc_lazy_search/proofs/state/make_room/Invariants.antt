@@ -1,7 +1,7 @@
 -- What is kept of each word is the same, and there is no more room than for the word.
 use Rattle.std.proofs.Common.{◌≡◌, ℕ, ◌+◌, ◌-◌, ◌≤◌, length}
 use Rattle.std.specs.Prelude.{max}
-use Rattle.lrc_known.specs.Effect.{word_of}
+use Rattle.lrc_lazy_known.specs.Effect.{word_of}
 use Rattle.lrc_lazy_search.proofs.state.make_room.Given as goal
 
 abbrev pub invariant-loop-alloc : goal.invariant-loop-alloc

@@ -4,7 +4,7 @@ use Rattle.std.specs.Option.{option_cmp}
 use Rattle.std.specs.Ordering.{nat_cmp}
 use Rattle.std.proofs.lemmas.List.{take_all}
 use Rattle.std.proofs.lemmas.Option.{slice_get-get_or}
-use Rattle.lrc_explore.specs.declared.outcomes.Outcome.{Outcome}
+use Rattle.lrc_orders.specs.declared.outcomes.Outcome.{Outcome}
 use Rattle.lrc_explore_text.specs.Outcomes.{outcome_line}
 use Rattle.lrc_lazy_text.specs.declared.listed.ToldOutcome.{ToldOutcome}
 use Rattle.lrc_lazy_text.specs.Listed.{lines_with, told_pair}

@@ -3,7 +3,7 @@ use Rattle.std.specs.Prelude.{Option, Some, Vec, option_map, slice_get}
 use Rattle.std.specs.declared.alloc.Global.{Global}
 use Rattle.std.proofs.lemmas.Option.{slice_get-get_or}
 use Rattle.lrc_trace.specs.declared.act.Act.{Act}
-use Rattle.lrc_explore.specs.declared.outcomes.Outcome.{Outcome}
+use Rattle.lrc_orders.specs.declared.outcomes.Outcome.{Outcome}
 use Rattle.lrc_lazy_run.specs.Ended.{IsLazyRunFor}
 use Rattle.lrc_lazy_text.proofs.Telling.{never_none, run_found}
 use Rattle.lrc_lazy_text.proofs.one.run_at.Goals as goal

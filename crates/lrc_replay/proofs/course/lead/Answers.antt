@@ -1,7 +1,7 @@
 use Rattle.std.proofs.Common.{◌≡◌, ◌∙◌, ◌++◌, ◌∷◌, [], ℕ, ap, arith, get_or, rules, subst, sym}
 use Rattle.std.specs.Prelude.{slice_set}
 use Rattle.std.proofs.lemmas.List.Elements.{All-set}
-use Rattle.lrc_private.specs.Ways.{IsOnWay}
+use Rattle.lrc_private_names.specs.Ways.{IsOnWay}
 use Rattle.lrc_replay.specs.Courses.{AreWays}
 use Rattle.lrc_replay.proofs.Coursing.{ways_led, ways_past}
 use Rattle.lrc_replay.proofs.course.lead.Goals as goal

@@ -1,8 +1,8 @@
 use Rattle.std.proofs.Common.{◌≡◌, ◌++◌, ◌∷◌, [], List, rules, subst, sym}
 use Rattle.std.specs.Prelude.{All}
 use Rattle.lrc_exec.specs.Plain.{start_of}
-use Rattle.lrc_private.specs.declared.way.Way.{Way}
-use Rattle.lrc_private.specs.Ways.{IsOnWay}
+use Rattle.lrc_private_names.specs.declared.way.Way.{Way}
+use Rattle.lrc_private_names.specs.Ways.{IsOnWay}
 use Rattle.lrc_replay.proofs.Coursing.{all_more, ways_more}
 use Rattle.lrc_replay.proofs.course.ways_at_start.Goals as goal
 

@@ -2,7 +2,7 @@ use Rattle.std.proofs.Common.{◌≡◌, map}
 use Rattle.std.specs.Prelude.{All}
 use Rattle.std.specs.List.{range_with_len}
 use Rattle.lrc_exec.specs.Plain.{start_of}
-use Rattle.lrc_private.specs.Ways.{IsOnWay, thread_of}
+use Rattle.lrc_private_names.specs.Ways.{IsOnWay, thread_of}
 use Rattle.lrc_replay.proofs.course.ways_at_start.Given as goal
 
 -- the nodes so far

@@ -1,6 +1,6 @@
 use Rattle.std.proofs.Common.{option_map, subst, sym}
 use Rattle.std.specs.Prelude.{Result}
-use Rattle.lrc_answer.specs.declared.fault.Fault.{Fault}
+use Rattle.lrc_cli_answer.specs.declared.fault.Fault.{Fault}
 use Rattle.lrc_cli.specs.Answer.{Answers}
 use Rattle.lrc_cli.specs.declared.answer.Answered.{Answered}
 use Rattle.lrc_cli.proofs.AnswerLemmas.{keeps_races}

@@ -1,8 +1,8 @@
 use Rattle.std.proofs.Common.{List, Ok, Err, map, ap, subst}
 use Rattle.clap.specs.Words.{Text}
-use Rattle.lrc_args.specs.CommandLine.{Chooses, words_meant}
-use Rattle.lrc_args.specs.declared.choice.Request.{Request}
-use Rattle.lrc_args.specs.declared.choice.Request.TheVariants.{About, Races, Answer}
+use Rattle.lrc_cli_args.specs.CommandLine.{Chooses, words_meant}
+use Rattle.lrc_cli_args.specs.declared.choice.Request.{Request}
+use Rattle.lrc_cli_args.specs.declared.choice.Request.TheVariants.{About, Races, Answer}
 use Rattle.lrc_shell.specs.Plays.{played, raced, refused, spoken}
 use Rattle.lrc_shell.proofs.PlayLemmas.{same}
 use Rattle.lrc_shell.proofs.played.play.Goals as goal

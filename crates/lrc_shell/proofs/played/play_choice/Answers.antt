@@ -1,6 +1,6 @@
 use Rattle.std.proofs.Common.{option_map, subst, sym}
 use Rattle.std.specs.IoError.{error_kind}
-use Rattle.lrc_args.specs.Files.{events_of, file_of, reads_acts}
+use Rattle.lrc_cli_args.specs.Files.{events_of, file_of, reads_acts}
 use Rattle.lrc_shell.specs.Plays.{AreEventsRead, IsTextRead, most_read, performed, unread}
 use Rattle.lrc_shell.proofs.PlayLemmas.{same}
 use Rattle.lrc_shell.proofs.played.play_choice.Goals as goal

@@ -1,6 +1,6 @@
 use Rattle.std.proofs.Common.{subst}
-use Rattle.lrc_races.specs.declared.form.Form.{Form}
-use Rattle.lrc_races_told.specs.Plays.{IsRacesPlayed}
+use Rattle.lrc_races_text.specs.declared.form.Form.{Form}
+use Rattle.lrc_races_stream.specs.Plays.{IsRacesPlayed}
 use Rattle.lrc_shell.proofs.races.tell_races.Goals as goal
 
 pub returns : goal.returns

@@ -1,5 +1,5 @@
 use Rattle.std.proofs.Common.{refl, subst, sym}
-use Rattle.lrc_args.specs.declared.choice.ChooseFault.{ChooseFault}
+use Rattle.lrc_cli_args.specs.declared.choice.ChooseFault.{ChooseFault}
 use Rattle.lrc_shell.specs.Plays.{IsRefusal}
 use Rattle.lrc_shell.proofs.refusal.refuse.Goals as goal
 

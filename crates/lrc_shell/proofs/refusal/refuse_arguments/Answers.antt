@@ -1,6 +1,6 @@
 use Rattle.std.proofs.Common.{◌∙◌, ap, subst}
 use Rattle.lrc_shell.specs.Plays.{argument_line}
-use Rattle.lrc_sources.specs.Lines.{IsTold}
+use Rattle.lrc_shell_sources.specs.Lines.{IsTold}
 use Rattle.lrc_shell.proofs.refusal.refuse_arguments.Goals as goal
 
 pub returns-clause-told : goal.returns-clause-told

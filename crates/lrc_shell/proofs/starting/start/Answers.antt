@@ -2,7 +2,7 @@ use Rattle.std.proofs.Common.{◌∙◌, ap, drop, map, string_bytes, subst, sym
 use Rattle.std.proofs.lemmas.List.{drop-map}
 use Rattle.std.specs.IoError.{error_kind}
 use Rattle.std.specs.Result.{result_map_both}
-use Rattle.lrc_args.specs.CommandLine.{words_meant}
+use Rattle.lrc_cli_args.specs.CommandLine.{words_meant}
 use Rattle.lrc_shell.specs.Plays.{Plays, Starts}
 use Rattle.lrc_shell.proofs.starting.start.Goals as goal
 

@@ -6,7 +6,7 @@ use Rattle.lrc_labels.specs.declared.cut.Divider.TheVariants.{LineFeed}
 use Rattle.lrc_labels.specs.declared.label.Label as code_label
 use Rattle.lrc_labels.specs.Cut.{cut, divides}
 use Rattle.lrc_labels.specs.Reading.{label_seen, labels_of}
-use Rattle.lrc_private.specs.Spelling.{AreNamesOf}
+use Rattle.lrc_private_names.specs.Spelling.{AreNamesOf}
 use Rattle.lrc_states.proofs.states.states_parts.Goals as goal
 
 pub names_of-requires : goal.names_of-requires

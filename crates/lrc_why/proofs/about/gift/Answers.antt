@@ -1,6 +1,6 @@
 use Rattle.std.proofs.Common.{sym, subst}
 use Rattle.std.specs.Prelude.{Contains}
-use Rattle.lrc_reasons.specs.Writes.{AreExactly, IsKnownWrite}
+use Rattle.lrc_why_chains.specs.Writes.{AreExactly, IsKnownWrite}
 use Rattle.lrc_why.proofs.about.gift.Goals as goal
 use Rattle.lrc_why.proofs.about.gift.Goals.{in-Some+in_ok-source-in-Some, in-None+in_ok-source-in-None}
 

@@ -1,6 +1,6 @@
 use Rattle.std.proofs.Common.{◌-◌, arith, inl, inr, subst}
 use Rattle.std.proofs.lemmas.Bool.{cases_eq, cases_lt}
-use Rattle.lrc_reasons.specs.Known.{IsActOf}
+use Rattle.lrc_why_chains.specs.Known.{IsActOf}
 use Rattle.lrc_why.proofs.known.act_before.Goals as goal
 
 pub returns-then-is_act_of : goal.returns-then-is_act_of

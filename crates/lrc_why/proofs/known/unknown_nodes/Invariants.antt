@@ -1,6 +1,6 @@
 -- Those of the nodes so far.
-use Rattle.lrc_reasons.specs.Writes.{AreExactly}
-use Rattle.lrc_reasons.proofs.Exactly.{IsBelow}
+use Rattle.lrc_why_chains.specs.Writes.{AreExactly}
+use Rattle.lrc_why_chains.proofs.Exactly.{IsBelow}
 use Rattle.lrc_why.specs.Known.{IsUnknownNode}
 use Rattle.lrc_why.proofs.known.unknown_nodes.Given as goal
 

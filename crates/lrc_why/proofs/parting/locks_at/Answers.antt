@@ -3,7 +3,7 @@ use Rattle.std.specs.Prelude.{false}
 use Rattle.std.proofs.lemmas.List.{get_or_read}
 use Rattle.std.proofs.lemmas.Bool.{false≢true}
 use Rattle.lrc_trace.specs.Synchronization.{Holds}
-use Rattle.lrc_reasons.proofs.Exactly.{below_same, below_push, below_all}
+use Rattle.lrc_why_chains.proofs.Exactly.{below_same, below_push, below_all}
 use Rattle.lrc_why.proofs.parting.locks_at.Goals as goal
 use Rattle.lrc_why.proofs.parting.locks_at.Goals.{then-is_held+in_ok-push, else-is_held}
 

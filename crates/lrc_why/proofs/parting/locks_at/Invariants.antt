@@ -1,8 +1,8 @@
 -- The locks so far.
 use Rattle.std.proofs.Common.{◌<◌}
 use Rattle.lrc_trace.specs.Synchronization.{Holds}
-use Rattle.lrc_reasons.specs.Writes.{AreExactly}
-use Rattle.lrc_reasons.proofs.Exactly.{IsBelow}
+use Rattle.lrc_why_chains.specs.Writes.{AreExactly}
+use Rattle.lrc_why_chains.proofs.Exactly.{IsBelow}
 use Rattle.lrc_why.proofs.parting.locks_at.Given as goal
 
 abbrev pub invariant-loop-lock : goal.invariant-loop-lock

@@ -1,5 +1,5 @@
 use Rattle.lrc_judge.proofs.Additions.{adds-same}
-use Rattle.lrc_reasons.specs.Writes.{IsWrite}
+use Rattle.lrc_why_chains.specs.Writes.{IsWrite}
 use Rattle.lrc_why.proofs.positions.add_word.Goals as goal
 
 pub returns-in-None : goal.returns-in-None

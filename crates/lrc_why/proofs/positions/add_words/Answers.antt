@@ -1,7 +1,7 @@
 use Rattle.std.proofs.Common.{get_or, arith}
 use Rattle.std.proofs.lemmas.List.{get_or_default}
 use Rattle.lrc_judge.proofs.Additions.{some-more, some-all}
-use Rattle.lrc_reasons.specs.Writes.{IsWrite}
+use Rattle.lrc_why_chains.specs.Writes.{IsWrite}
 use Rattle.lrc_why.proofs.positions.add_words.Goals as goal
 
 pub loop-k-preserved : goal.loop-k-preserved

@@ -1,7 +1,7 @@
 -- The words of the positions so far are added.
 use Rattle.std.proofs.Common.{take}
 use Rattle.lrc_judge.specs.Adding.{Adds, IsOfSome}
-use Rattle.lrc_reasons.specs.Writes.{IsWrite}
+use Rattle.lrc_why_chains.specs.Writes.{IsWrite}
 use Rattle.lrc_why.proofs.positions.add_words.Given as goal
 
 abbrev pub invariant-loop-k : goal.invariant-loop-k

@@ -1,5 +1,5 @@
 use Rattle.std.proofs.Common.{arith}
-use Rattle.lrc_reasons.proofs.Exactly.{below_same, below_push, below_all}
+use Rattle.lrc_why_chains.proofs.Exactly.{below_same, below_push, below_all}
 use Rattle.lrc_why.specs.Positions.{IsAsked}
 use Rattle.lrc_why.proofs.Telling.{asked_within}
 use Rattle.lrc_why.proofs.positions.positions.Goals as goal

@@ -1,6 +1,6 @@
 -- Those of the positions so far.
-use Rattle.lrc_reasons.specs.Writes.{AreExactly}
-use Rattle.lrc_reasons.proofs.Exactly.{IsBelow}
+use Rattle.lrc_why_chains.specs.Writes.{AreExactly}
+use Rattle.lrc_why_chains.proofs.Exactly.{IsBelow}
 use Rattle.lrc_why.specs.Positions.{IsAsked}
 use Rattle.lrc_why.proofs.positions.positions.Given as goal
 

@@ -1,7 +1,7 @@
 use Rattle.std.proofs.Common.{inl, inr, sym, subst, arith}
 use Rattle.lrc_trace.proofs.Positions.{Does-one_node}
-use Rattle.lrc_reasons.specs.Known.{IsActOf}
-use Rattle.lrc_reasons.proofs.Exactly.{below_same, below_push, below_all}
+use Rattle.lrc_why_chains.specs.Known.{IsActOf}
+use Rattle.lrc_why_chains.proofs.Exactly.{below_same, below_push, below_all}
 use Rattle.lrc_why.specs.Spread.{IsNeverKnowing}
 use Rattle.lrc_why.proofs.spread.never_knowing.Goals as goal
 use Rattle.lrc_why.proofs.spread.never_knowing.Goals.{then-is_never_knowing+in_ok-push, else-is_never_knowing}

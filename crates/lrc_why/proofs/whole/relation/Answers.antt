@@ -4,8 +4,8 @@ use Rattle.lrc_trace.specs.declared.act.Act.{Act}
 use Rattle.lrc_trace.specs.declared.act.Deed.TheVariants.{Quiet}
 use Rattle.lrc_trace.specs.Order.{HappensBefore}
 use Rattle.lrc_trace.proofs.Positions.{Does-one_node, Does-read}
-use Rattle.lrc_reasons.specs.Chains.{IsTold}
-use Rattle.lrc_reasons.specs.Known.{IsActOf}
+use Rattle.lrc_why_chains.specs.Chains.{IsTold}
+use Rattle.lrc_why_chains.specs.Known.{IsActOf}
 use Rattle.lrc_why.specs.Whole.{before, same_node}
 use Rattle.lrc_why.proofs.whole.relation.Goals as goal
 

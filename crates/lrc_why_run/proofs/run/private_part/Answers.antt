@@ -2,8 +2,8 @@ use Rattle.std.proofs.Common.{◌∙◌, ◌++◌, List, [], ℕ, ap, map, subst
 use Rattle.lrc_trace.specs.declared.act.Act.{Act}
 use Rattle.lrc_exec.specs.Meaning.{Thread}
 use Rattle.lrc_why_run.specs.Private.{private_text}
-use Rattle.lrc_private.specs.Standing.{AreLastSets, thread_before}
-use Rattle.lrc_private.specs.Ways.{thread_of}
+use Rattle.lrc_private_names.specs.Standing.{AreLastSets, thread_before}
+use Rattle.lrc_private_names.specs.Ways.{thread_of}
 use Rattle.lrc_why_run.proofs.run.private_part.Goals as goal
 
 pub push_private-requires : goal.push_private-requires

@@ -2,10 +2,10 @@ use Rattle.std.proofs.Common.{rules, ◌≡◌, ◌<◌, List, ℕ, All, length,
 use Rattle.lrc_trace.specs.declared.act.Act.{Act}
 use Rattle.lrc_labels.specs.declared.cut.Divider.TheVariants.{LineFeed}
 use Rattle.lrc_labels.specs.Cut.{cut, divides}
-use Rattle.lrc_verdict.specs.Judgement.{CountsNodes}
-use Rattle.lrc_verdict.proofs.Within.{acts_ranged}
+use Rattle.lrc_judge_text.specs.Judgement.{CountsNodes}
+use Rattle.lrc_judge_text.proofs.Within.{acts_ranged}
 use Rattle.lrc_why_text.specs.Answers.{IsMissing, IsShownPlainly, IsThere}
-use Rattle.lrc_told_lines.specs.Named.{AreLinesTold}
+use Rattle.lrc_acts_lines.specs.Named.{AreLinesTold}
 use Rattle.lrc_why_text.proofs.acts.why_acts.Goals as goal
 
 pub returns-in-Some-clause-err : goal.returns-in-Some-clause-err

@@ -1,6 +1,6 @@
 use Rattle.std.proofs.Common.{◌≡◌, ◌<◌, arith, length, refl, rules, subst}
 use Rattle.std.proofs.lemmas.Option.{slice_get_within}
-use Rattle.lrc_explore.proofs.Keeping.{item_at, item_in}
+use Rattle.lrc_orders.proofs.Keeping.{item_at, item_in}
 use Rattle.lrc_lazy_run.specs.Ways.{LeadsFrom}
 use Rattle.lrc_lazy_run.proofs.Keeping.{leads_back, leads_here, leads_whole}
 use Rattle.lrc_lazy_run.proofs.ways.Ways.acts_to.Goals as goal

@@ -1,6 +1,6 @@
 use Rattle.std.proofs.Common.{◌<◌, length, arith, inl, inr, subst, sym}
 use Rattle.std.proofs.lemmas.Bool.{cases_eq}
-use Rattle.lrc_explore.proofs.Keeping.{grows_again}
+use Rattle.lrc_orders.proofs.Keeping.{grows_again}
 use Rattle.lrc_lazy_search.proofs.Adding.{grows_long}
 use Rattle.lrc_lazy_run.specs.Ways.{HasAllStepsAt}
 use Rattle.lrc_lazy_run.proofs.Keeping.{can_at_below, step_on}

@@ -1,6 +1,6 @@
 -- What the nodes so far lead to is there.
 use Rattle.std.proofs.Common.{◌<◌, ℕ}
-use Rattle.lrc_explore.specs.Kept.{Grows}
+use Rattle.lrc_orders.specs.Kept.{Grows}
 use Rattle.lrc_lazy_run.specs.Ways.{AreWays, HasAllStepsAt}
 use Rattle.lrc_lazy_run.proofs.ways.Ways.add_all.Given as goal
 

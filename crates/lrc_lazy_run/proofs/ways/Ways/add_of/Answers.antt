@@ -3,7 +3,7 @@ use Rattle.std.specs.Prelude.{slice_get}
 use Rattle.std.proofs.lemmas.Bool.{cases_eq}
 use Rattle.std.proofs.lemmas.Option.{same_Some, slice_get_within}
 use Rattle.lrc_trace.specs.declared.act.Deed.{Deed}
-use Rattle.lrc_explore.proofs.Keeping.{grows_again, item_in, stands_on as stays}
+use Rattle.lrc_orders.proofs.Keeping.{grows_again, item_in, stands_on as stays}
 use Rattle.lrc_lazy_search.proofs.Adding.{grows_long}
 use Rattle.lrc_lazy_run.specs.Ways.{HasStepAt}
 use Rattle.lrc_lazy_run.proofs.Keeping.{can_on, has_on}

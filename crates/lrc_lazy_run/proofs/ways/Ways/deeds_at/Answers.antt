@@ -1,9 +1,9 @@
 use Rattle.std.proofs.Common.{◌∙◌, subst, sym}
 use Rattle.std.proofs.lemmas.Option.{same_Some}
 use Rattle.std.proofs.lemmas.Result.{IfOk-weaker}
-use Rattle.lrc_explore.proofs.Keeping.{item_in}
+use Rattle.lrc_orders.proofs.Keeping.{item_in}
 use Rattle.lrc_exec.specs.States.{plain_at}
-use Rattle.lrc_lazy_machine.specs.Standing.{CanMake}
+use Rattle.lrc_lazy.specs.Standing.{CanMake}
 use Rattle.lrc_lazy_search.specs.declared.state.LazyState.{LazyState}
 use Rattle.lrc_lazy_search.proofs.Searched.{reached_fit}
 use Rattle.lrc_lazy_run.proofs.ways.Ways.deeds_at.Goals as goal

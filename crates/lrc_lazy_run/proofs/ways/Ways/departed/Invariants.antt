@@ -1,7 +1,7 @@
 -- The place so far is that of a state that is there.
 use Rattle.std.proofs.Common.{◌<◌, length}
 use Rattle.std.specs.Prelude.{IfSome}
-use Rattle.lrc_explore.specs.Kept.{Grows}
+use Rattle.lrc_orders.specs.Kept.{Grows}
 use Rattle.lrc_lazy_run.specs.Ways.{AreWays}
 use Rattle.lrc_lazy_run.proofs.ways.Ways.departed.Given as goal
 

@@ -1,8 +1,8 @@
 use Rattle.std.proofs.Common.{◌≡◌, ◌<◌, length, arith, false, true, subst, sym, ◌∙◌, ap}
 use Rattle.std.proofs.lemmas.Option.{same_Some}
-use Rattle.lrc_explore.proofs.Keeping.{stands_on as stays}
+use Rattle.lrc_orders.proofs.Keeping.{stands_on as stays}
 use Rattle.lrc_exec.specs.States.{plain_at}
-use Rattle.lrc_lazy_machine.specs.Standing.{CanMake}
+use Rattle.lrc_lazy.specs.Standing.{CanMake}
 use Rattle.lrc_lazy_search.specs.declared.state.LazyState.{LazyState}
 use Rattle.lrc_lazy_run.proofs.Passing.{none_has, passed_more}
 use Rattle.lrc_lazy_run.proofs.ways.Ways.find_by_acts.Goals as goal

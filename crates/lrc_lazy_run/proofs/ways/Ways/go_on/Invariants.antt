@@ -1,5 +1,5 @@
 -- The states so far are there.
-use Rattle.lrc_explore.specs.Kept.{Grows}
+use Rattle.lrc_orders.specs.Kept.{Grows}
 use Rattle.lrc_lazy_run.specs.Ways.{AreWays}
 use Rattle.lrc_lazy_run.proofs.ways.Ways.go_on.Given as goal
 

@@ -2,11 +2,11 @@ use Rattle.std.proofs.Common.{◌≡◌, ◌∙◌, ap, rules, sym}
 use Rattle.std.specs.Cmp.Lexicographic.{pointwise}
 use Rattle.std.proofs.lemmas.Option.{same_Some}
 use Rattle.lrc_trace.specs.contracts.act.ActPartialEq.TheImpl.{eq-value as act_eq}
-use Rattle.lrc_explore.proofs.Alike.{acts_same}
-use Rattle.lrc_explore.proofs.Keeping.{item_in}
-use Rattle.lrc_explore.proofs.KeptAlike.{equal_items}
+use Rattle.lrc_orders.proofs.Alike.{acts_same}
+use Rattle.lrc_orders.proofs.Keeping.{item_in}
+use Rattle.lrc_orders.proofs.KeptAlike.{equal_items}
 use Rattle.lrc_lazy_search.specs.declared.state.LazyState.{LazyState}
-use Rattle.lrc_breadth.proofs.Ending.{act_itself}
+use Rattle.lrc_explore.proofs.Ending.{act_itself}
 use Rattle.lrc_lazy_run.proofs.ways.Ways.has_notes_at.Goals as goal
 
 pub returns : goal.returns

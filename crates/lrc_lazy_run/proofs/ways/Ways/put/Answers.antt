@@ -1,6 +1,6 @@
 use Rattle.std.proofs.Common.{◌∙◌, ◌∷◌, [], List, ap, length, rules, subst, sym}
 use Rattle.std.proofs.lemmas.List.{length_push}
-use Rattle.lrc_explore.proofs.Keeping.{grows_not}
+use Rattle.lrc_orders.proofs.Keeping.{grows_not}
 use Rattle.lrc_lazy_search.specs.declared.state.LazyState.{LazyState}
 use Rattle.lrc_lazy_run.specs.Ways.{AreKeptIn}
 use Rattle.lrc_lazy_run.proofs.Keeping.{kept_more, put_known, put_new}

@@ -1,6 +1,6 @@
 -- The walk stands at a state that is there.
 use Rattle.std.proofs.Common.{◌+◌, ◌-◌, ◌<◌, length}
-use Rattle.lrc_explore.specs.Kept.{Grows}
+use Rattle.lrc_orders.specs.Kept.{Grows}
 use Rattle.lrc_lazy_run.specs.Ways.{AreWays}
 use Rattle.lrc_lazy_run.proofs.ways.Ways.settle.Given as goal
 

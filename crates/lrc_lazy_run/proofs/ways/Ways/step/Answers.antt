@@ -1,6 +1,6 @@
 use Rattle.std.proofs.Common.{◌∙◌, arith, subst, sym}
 use Rattle.std.proofs.lemmas.Option.{same_Some}
-use Rattle.lrc_explore.proofs.Keeping.{item_in, stands_on as stays}
+use Rattle.lrc_orders.proofs.Keeping.{item_in, stands_on as stays}
 use Rattle.lrc_lazy_search.specs.declared.state.LazyState.{LazyState}
 use Rattle.lrc_lazy_search.specs.Searching.{renewed, still}
 use Rattle.lrc_lazy_search.proofs.Adding.{reached_more, reached_next}

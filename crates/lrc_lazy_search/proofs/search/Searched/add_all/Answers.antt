@@ -1,4 +1,4 @@
-use Rattle.lrc_explore.proofs.Keeping.{put_grows, grows_again}
+use Rattle.lrc_orders.proofs.Keeping.{put_grows, grows_again}
 use Rattle.lrc_lazy_search.proofs.Adding.{more_in_order, take_one, item_of, reached_more, grows_long}
 use Rattle.lrc_lazy_search.proofs.search.Searched.add_all.Goals as goal
 

@@ -1,6 +1,6 @@
 -- The states are in order, and those that were taken so far are there.
 use Rattle.std.proofs.Common.{◌≡◌, length}
-use Rattle.lrc_explore.specs.Kept.{Grows}
+use Rattle.lrc_orders.specs.Kept.{Grows}
 use Rattle.lrc_lazy_search.specs.Task.{IsInOrder}
 use Rattle.lrc_lazy_search.proofs.Adding.{Taken}
 use Rattle.lrc_lazy_search.proofs.search.Searched.add_all.Given as goal

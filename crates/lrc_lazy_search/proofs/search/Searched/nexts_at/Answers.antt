@@ -1,7 +1,7 @@
 use Rattle.std.proofs.Common.{◌∙◌, sym, subst, arith}
 use Rattle.std.proofs.lemmas.Option.{same_Some}
 use Rattle.std.proofs.lemmas.Result.{IfOk-weaker}
-use Rattle.lrc_explore.proofs.Keeping.{item_in}
+use Rattle.lrc_orders.proofs.Keeping.{item_in}
 use Rattle.lrc_lazy_search.specs.declared.state.LazyState.{LazyState}
 use Rattle.lrc_lazy_search.specs.Searching.{AreNext, AreEnough}
 use Rattle.lrc_lazy_search.proofs.Adding.{all_say, reached_next, reached_more}

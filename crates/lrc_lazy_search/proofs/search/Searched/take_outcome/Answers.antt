@@ -1,10 +1,10 @@
 use Rattle.std.proofs.Common.{◌≡◌, ◌∙◌, sym, ap, subst}
 use Rattle.std.specs.Prelude.{Some, slice_get}
 use Rattle.std.proofs.lemmas.Option.{same_Some}
-use Rattle.lrc_explore.specs.declared.outcomes.Outcome.{Outcome}
-use Rattle.lrc_explore.proofs.Alike.{acts_same}
-use Rattle.lrc_explore.proofs.Gathering.{put_all}
-use Rattle.lrc_explore.proofs.Keeping.{put_grows, item_in}
+use Rattle.lrc_orders.specs.declared.outcomes.Outcome.{Outcome}
+use Rattle.lrc_orders.proofs.Alike.{acts_same}
+use Rattle.lrc_orders.proofs.Gathering.{put_all}
+use Rattle.lrc_orders.proofs.Keeping.{put_grows, item_in}
 use Rattle.lrc_lazy.specs.Lazy.{IsLazyOutcome}
 use Rattle.lrc_lazy_search.specs.declared.state.LazyState.{LazyState}
 use Rattle.lrc_lazy_search.proofs.search.Searched.take_outcome.Goals as goal

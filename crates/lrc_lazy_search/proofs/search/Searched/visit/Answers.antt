@@ -1,5 +1,5 @@
 use Rattle.std.proofs.Common.{◌≡◌, [], arith}
-use Rattle.lrc_explore.proofs.Faults.{ok_says}
+use Rattle.lrc_orders.proofs.Faults.{ok_says}
 use Rattle.lrc_lazy_search.proofs.Adding.{none_next, some_next, searched_next, none_there, no_items, first_item}
 use Rattle.lrc_lazy_search.proofs.Searched.{outcome_there}
 use Rattle.lrc_lazy_search.proofs.search.Searched.visit.Goals as goal

@@ -2,8 +2,8 @@ use Rattle.std.proofs.Common.{◌≡◌, ◌<◌, ◌∙◌, ap, subst, arith, l
 use Rattle.std.specs.Prelude.{slice_index}
 use Rattle.std.proofs.lemmas.List.{get_or_read}
 use Rattle.lrc_trace.specs.Run.{act_of}
-use Rattle.lrc_explore.specs.Notes.{notes_with}
-use Rattle.lrc_known.specs.Effect.{IsKnowledgeAfter}
+use Rattle.lrc_orders.specs.Notes.{notes_with}
+use Rattle.lrc_lazy_known.specs.Effect.{IsKnowledgeAfter}
 use Rattle.lrc_lazy_search.specs.Fit.{effect_of_flat}
 use Rattle.lrc_lazy_search.proofs.state.LazyState.after.Goals as goal
 

@@ -1,7 +1,7 @@
 use Rattle.std.proofs.Common.{◌≡◌, ◌<◌, length, refl, subst, arith}
 use Rattle.std.proofs.lemmas.Option.{same_Some}
 use Rattle.lrc_trace.specs.declared.act.Deed.{Deed}
-use Rattle.lrc_explore.proofs.Keeping.{item_in}
+use Rattle.lrc_orders.proofs.Keeping.{item_in}
 use Rattle.lrc_lazy_search.specs.Searching.{IsForced}
 use Rattle.lrc_lazy_search.proofs.Making.{only_one}
 use Rattle.lrc_lazy_search.proofs.state.LazyState.forced.Goals as goal

@@ -1,4 +1,4 @@
-use Rattle.lrc_explore.proofs.Faults.{ok_says}
+use Rattle.lrc_orders.proofs.Faults.{ok_says}
 use Rattle.lrc_lazy_search.specs.Searching.{renewed}
 use Rattle.lrc_lazy_search.proofs.Ahead.{ahead_state}
 use Rattle.lrc_lazy_search.proofs.state.LazyState.go_ahead.Goals as goal

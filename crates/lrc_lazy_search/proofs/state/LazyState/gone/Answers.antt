@@ -1,7 +1,7 @@
 use Rattle.std.proofs.Common.{inl, inr, arith, ap}
 use Rattle.std.proofs.lemmas.Bool.{cases_eq, cases_lt}
 use Rattle.lrc_exec.specs.States.{plain_at}
-use Rattle.lrc_lazy_machine.specs.Standing.{departures_of}
+use Rattle.lrc_lazy.specs.Standing.{departures_of}
 use Rattle.lrc_lazy_search.proofs.state.LazyState.gone.Goals as goal
 
 pub loop-node-preserved : goal.loop-node-preserved

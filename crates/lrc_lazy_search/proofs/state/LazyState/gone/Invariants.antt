@@ -1,7 +1,7 @@
 -- The nodes so far have departed so often at least, and one of them no more often.
 use Rattle.std.proofs.Common.{◌≡◌, ℕ, ◌-◌, ◌<◌, ◌≤◌, ◌^◌}
 use Rattle.lrc_exec.specs.States.{plain_at}
-use Rattle.lrc_lazy_machine.specs.Standing.{departures_of}
+use Rattle.lrc_lazy.specs.Standing.{departures_of}
 use Rattle.lrc_lazy_search.proofs.state.LazyState.gone.Given as goal
 
 abbrev pub invariant-loop-node : goal.invariant-loop-node

@@ -3,11 +3,11 @@ use Rattle.std.specs.Prelude.{slice_index}
 use Rattle.std.proofs.lemmas.List.{get_or_read}
 use Rattle.lrc_trace.specs.Run.{act_of}
 use Rattle.lrc_exec.specs.declared.state.State.{State}
-use Rattle.lrc_explore.specs.Notes.{notes_with}
-use Rattle.lrc_explore.proofs.Faults.{ok_says}
-use Rattle.lrc_known.specs.declared.known.Knowledge.{Knowledge}
-use Rattle.lrc_known.specs.Effect.{IsKnowledgeAfter}
-use Rattle.lrc_known.specs.Tidy.{IsTidy}
+use Rattle.lrc_orders.specs.Notes.{notes_with}
+use Rattle.lrc_orders.proofs.Faults.{ok_says}
+use Rattle.lrc_lazy_known.specs.declared.known.Knowledge.{Knowledge}
+use Rattle.lrc_lazy_known.specs.Effect.{IsKnowledgeAfter}
+use Rattle.lrc_lazy_known.specs.Tidy.{IsTidy}
 use Rattle.lrc_lazy_search.specs.Fit.{effect_of_flat}
 use Rattle.lrc_lazy_search.specs.Searching.{IsBlank, Makes}
 use Rattle.lrc_lazy_search.proofs.state.LazyState.make.Goals as goal

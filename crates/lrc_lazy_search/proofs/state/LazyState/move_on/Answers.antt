@@ -1,7 +1,7 @@
 use Rattle.std.proofs.Common.{◌∙◌, ap, sym}
 use Rattle.std.specs.Prelude.{Some, option_map}
 use Rattle.lrc_exec.specs.Plain.{Plain, plain_step}
-use Rattle.lrc_lazy_machine.specs.Standing.{with_memory}
+use Rattle.lrc_lazy.specs.Standing.{with_memory}
 use Rattle.lrc_lazy_search.specs.Searching.{poked}
 use Rattle.lrc_lazy_search.proofs.Making.{poked_made, poked_long}
 use Rattle.lrc_lazy_search.proofs.Neat.{blank_after}

@@ -6,11 +6,11 @@ use Rattle.std.proofs.lemmas.Bool.{cases_eq}
 use Rattle.std.proofs.lemmas.Option.{same_Some}
 use Rattle.lrc_trace.proofs.Positions.{slice_get-seam}
 use Rattle.lrc_trace.specs.declared.act.Deed.{Deed}
-use Rattle.lrc_explore.specs.Kept.{Grows}
+use Rattle.lrc_orders.specs.Kept.{Grows}
 use Rattle.lrc_exec.specs.States.{plain_at}
-use Rattle.lrc_explore.proofs.Counting.{step_counts}
-use Rattle.lrc_explore.proofs.Keeping.{item_in, grows_again}
-use Rattle.lrc_lazy_machine.specs.Standing.{with_memory}
+use Rattle.lrc_orders.proofs.Counting.{step_counts}
+use Rattle.lrc_orders.proofs.Keeping.{item_in, grows_again}
+use Rattle.lrc_lazy.specs.Standing.{with_memory}
 use Rattle.lrc_lazy_search.specs.Searching.{HasStep}
 use Rattle.lrc_lazy_search.proofs.Making.{can_below}
 use Rattle.lrc_lazy_search.proofs.Adding.{step_on, next_push}

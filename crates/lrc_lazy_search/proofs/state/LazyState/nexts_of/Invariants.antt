@@ -2,7 +2,7 @@
 use Rattle.std.proofs.Common.{◌≡◌, ℕ, ◌<◌}
 use Rattle.std.specs.Prelude.{Some, slice_get}
 use Rattle.lrc_trace.specs.declared.act.Deed.{Deed}
-use Rattle.lrc_explore.specs.Kept.{Grows}
+use Rattle.lrc_orders.specs.Kept.{Grows}
 use Rattle.lrc_lazy_search.specs.Searching.{AreNeat, AreNext, CountNoneGone, HasStep, IsNeat}
 use Rattle.lrc_lazy_search.proofs.state.LazyState.nexts_of.Given as goal
 

@@ -1,7 +1,7 @@
 use Rattle.std.proofs.Common.{inl, inr, sym, subst, arith}
 use Rattle.std.proofs.lemmas.Bool.{cases_eq}
 use Rattle.lrc_exec.specs.States.{plain_at}
-use Rattle.lrc_lazy_machine.specs.Standing.{CanMake}
+use Rattle.lrc_lazy.specs.Standing.{CanMake}
 use Rattle.lrc_lazy_search.specs.Searching.{HasStep}
 use Rattle.lrc_lazy_search.proofs.Making.{can_below}
 use Rattle.lrc_lazy_search.proofs.state.LazyState.nexts_of_all.Goals as goal

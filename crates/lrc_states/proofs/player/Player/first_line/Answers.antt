@@ -1,6 +1,6 @@
 use Rattle.std.proofs.Common.{codes, map}
 use Rattle.lrc_labels.specs.Reading.{label_seen}
-use Rattle.lrc_turn_objects.specs.Objects.{labels_list}
+use Rattle.lrc_states.specs.Objects.{labels_list}
 use Rattle.lrc_states.specs.States.{flight_list, setting_members, states_list, written_list}
 use Rattle.lrc_states.proofs.Showing.{add_text}
 use Rattle.lrc_states.proofs.player.Player.first_line.Goals as goal

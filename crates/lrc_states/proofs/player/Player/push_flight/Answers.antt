@@ -2,8 +2,8 @@ use Rattle.std.proofs.Common.{◌≡◌, ◌∙◌, ◌<◌, ◌≤◌, ◌++◌
 use Rattle.std.specs.Prelude.{codes}
 use Rattle.std.proofs.lemmas.List.{take_all}
 use Rattle.lrc_messages.specs.Lists.{separated}
-use Rattle.lrc_turn_objects.specs.Objects.{message_object}
-use Rattle.lrc_turn_objects.proofs.Listing.{separated_at}
+use Rattle.lrc_states.specs.Objects.{message_object}
+use Rattle.lrc_states.proofs.Listing.{separated_at}
 use Rattle.lrc_states.proofs.player.Player.push_flight.Goals as goal
 
 pub loop-place-preserved : goal.loop-place-preserved

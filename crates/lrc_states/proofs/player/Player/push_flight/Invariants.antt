@@ -1,7 +1,7 @@
 use Rattle.std.proofs.Common.{◌≡◌, ◌++◌, take}
 use Rattle.std.specs.Prelude.{codes}
 use Rattle.lrc_messages.specs.Lists.{separated}
-use Rattle.lrc_turn_objects.specs.Objects.{message_object}
+use Rattle.lrc_states.specs.Objects.{message_object}
 use Rattle.lrc_states.proofs.player.Player.push_flight.Given as goal
 
 -- the messages so far

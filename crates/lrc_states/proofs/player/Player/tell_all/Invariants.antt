@@ -1,6 +1,6 @@
 use Rattle.std.proofs.Common.{◌≡◌, ◌≤◌, ◌+◌, ℕ, Some, length}
 use Rattle.std.specs.Prelude.{All}
-use Rattle.lrc_private.specs.Ways.{IsOnWay}
+use Rattle.lrc_private_names.specs.Ways.{IsOnWay}
 use Rattle.lrc_protocol.specs.Run.{World, played}
 use Rattle.lrc_replay.specs.Acts.{Plan}
 use Rattle.lrc_states.specs.Players.{IsPlayer}

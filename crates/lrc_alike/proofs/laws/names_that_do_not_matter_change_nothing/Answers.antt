@@ -1,5 +1,0 @@
-use Rattle.lrc_alike.proofs.Mattering.{go_on}
-use Rattle.lrc_alike.proofs.laws.names_that_do_not_matter_change_nothing.Goals as goal
-
-pub returns : goal.returns
-returns c = go_on

@@ -1,6 +1,0 @@
-use Rattle.lrc_alike.specs.Alike.{By}
-use Rattle.lrc_alike.proofs.Stepping.{runs}
-use Rattle.lrc_alike.proofs.laws.orders_are_alike.Goals as goal
-
-pub returns : goal.returns
-returns c = λ related machine other final order acts go alike e. runs (By related) go machine other final order acts alike e

@@ -1,4 +1,0 @@
-use Rattle.lrc_args.proofs.why.has_run_option.Goals as goal
-
-pub returns : goal.returns
-returns c = rw c.as_slice.ensures at c.is_any_given.ensures

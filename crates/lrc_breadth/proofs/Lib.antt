@@ -1,9 +1,0 @@
-pub mod Reaching
-pub mod MeansOf
-pub mod Keys
-pub mod Stepping
-pub mod Seeking
-pub mod Telling
-pub mod Answering
-pub mod Fitting
-pub mod Ending

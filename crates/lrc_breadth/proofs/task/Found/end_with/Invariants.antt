@@ -1,6 +1,0 @@
--- None of the states so far is such an end.
-use Rattle.lrc_breadth.specs.Ended.{HasNoEndBefore}
-use Rattle.lrc_breadth.proofs.task.Found.end_with.Given as goal
-
-abbrev pub invariant-loop-place : goal.invariant-loop-place
-invariant-loop-place l = HasNoEndBefore l.task l.self l.notes l.place

@@ -1,6 +1,0 @@
--- So many of the places were passed.
-use Rattle.lrc_breadth.proofs.Telling.{Following}
-use Rattle.lrc_breadth.proofs.task.Found.follow.Given as goal
-
-abbrev pub invariant-loop-at : goal.invariant-loop-at
-invariant-loop-at l = Following l.task l.self l.path l.place l.at-index l.acts.items

@@ -1,4 +1,0 @@
-pub mod Reached
-pub mod Answers
-pub mod Told
-pub mod Ended

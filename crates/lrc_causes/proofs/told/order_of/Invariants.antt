@@ -1,7 +1,0 @@
-use Rattle.std.proofs.Common.{◌≡◌, take}
-use Rattle.lrc_consistency_laws.specs.Follows.{nodes_of_acts}
-use Rattle.lrc_causes.proofs.told.order_of.Given as goal
-
--- the nodes so far
-abbrev pub invariant-loop-act : goal.invariant-loop-act
-invariant-loop-act l = l.order.items ≡ nodes_of_acts (take l.act-index l.acts)

@@ -1,0 +1,380 @@
+-- What the options of a command say, by the matches that clap made of its words.
+use Rattle.std.specs.Prelude.{◌≡◌, ◌≢◌, ◌⊎◌, ℕ, Bool, false, true, List, [], ◌∷◌, Option, None, Some, IfSome, IsSome, IsSomeAnd, codes, if◌then◌else◌, option_map, unwrap_or, ◌&&◌}
+use Rattle.std.specs.Int.{IsOutOfRange}
+use Rattle.std.specs.List.{list_any}
+use Rattle.std.specs.Option.{is_none, option_map_or}
+use Rattle.std.specs.Str.Parse.{digits_value, without_leading_plus}
+use Rattle.clap.specs.Values.{bool_text}
+use Rattle.clap.specs.Takes.{is_given}
+use Rattle.clap.specs.Words.{IsUnsignedIn, Row, Text, first_of, one_of}
+use Rattle.lrc_page.specs.declared.size.Size.{Size}
+use Rattle.lrc_page.specs.declared.size.Size.TheVariants.{Words64, Words256}
+use Rattle.lrc_envelope.specs.declared.picker.Picker.{Picker}
+use Rattle.lrc_envelope.specs.declared.picker.Picker.TheVariants.{Oldest, Newest, Twice}
+use Rattle.lrc_cli_args.specs.declared.choice.Asking.{Asking}
+use Rattle.lrc_cli_args.specs.declared.choice.ChartedActs.{ChartedActs}
+use Rattle.lrc_cli_args.specs.declared.choice.ForeignActs.{ForeignActs}
+use Rattle.lrc_cli_args.specs.declared.choice.Form.{Form}
+use Rattle.lrc_cli_args.specs.declared.choice.Form.TheVariants as forms
+use Rattle.lrc_cli_args.specs.declared.choice.Memory.{Memory}
+use Rattle.lrc_cli_args.specs.declared.choice.Memory.TheVariants.{Flat, Lazy}
+use Rattle.lrc_cli_args.specs.declared.choice.Part.{Part}
+use Rattle.lrc_cli_args.specs.declared.choice.RunOptions.{RunOptions}
+use Rattle.lrc_cli_args.specs.declared.choice.TraceForm.{TraceForm}
+use Rattle.lrc_cli_args.specs.declared.choice.TraceForm.TheVariants.{Std, Acts}
+use Rattle.lrc_cli_args.specs.declared.choice.Way.{Way}
+use Rattle.lrc_cli_args.specs.declared.choice.Way.TheVariants as ways
+use Rattle.lrc_cli_args.specs.declared.misfit.Misfit.{Misfit}
+use Rattle.lrc_cli_args.specs.declared.misfit.Misfit.TheVariants as unfit
+use Rattle.lrc_cli_args.specs.declared.runs.Order.{Order}
+use Rattle.lrc_cli_args.specs.declared.runs.Order.TheVariants.{Picked, Random}
+
+-- ---- values
+
+-- these matches have a value of the option or argument
+abbrev pub HasValue : Text → List Row → Type 0
+HasValue name rows = IsSome (first_of name rows)
+
+-- the number that an option has among these matches; clap makes sure that there is one
+abbrev pub option_number : Text → List Row → ℕ
+option_number name rows = option_map_or (λ text. digits_value 10 (without_leading_plus text)) (first_of name rows) 0
+
+-- the number that an option has that need not be there
+abbrev pub some_number_in : Text → List Row → Option ℕ
+some_number_in name rows = option_map (λ text. digits_value 10 (without_leading_plus text)) (first_of name rows)
+
+abbrev pub nodes_in : List Row → ℕ
+nodes_in = option_number (codes "nodes")
+
+abbrev pub steps_in : List Row → ℕ
+steps_in = option_number (codes "steps")
+
+abbrev pub collect_in : List Row → ℕ
+collect_in = option_number (codes "collect")
+
+abbrev pub most_in : List Row → ℕ
+most_in = option_number (codes "most")
+
+-- the number of the outcome that is asked for, if one is
+abbrev pub outcome_in : List Row → Option ℕ
+outcome_in = some_number_in (codes "outcome")
+
+-- how many runs are played at random, if any are
+abbrev pub tries_in : List Row → Option ℕ
+tries_in = some_number_in (codes "tries")
+
+-- the number that the words give an option: a default is none
+abbrev pub given_number : Text → List Row → Option ℕ
+given_number name rows = if is_given name rows then some_number_in name rows else None
+
+-- whether the words name this flag
+abbrev pub IsFlag : Text → Bool → List Row → Type 0
+IsFlag name named rows = first_of name rows ≡ Some (bool_text named)
+
+-- ---- what clap makes sure of
+
+-- the option has a number of 64 bits, which clap reads as it is written
+pub record IsNumberOption (name : Text) (rows : List Row) : Type 0 where
+  pub number : IsSomeAnd (first_of name rows) (IsUnsignedIn 0 18446744073709551615)
+  pub as_written : one_of name rows ≡ first_of name rows
+
+-- where the option is there, it has such a number
+pub record IsBareNumber (name : Text) (rows : List Row) : Type 0 where
+  pub number : IfSome (first_of name rows) (IsUnsignedIn 0 18446744073709551615)
+  pub as_written : one_of name rows ≡ first_of name rows
+
+-- the flag is `true` or `false`
+pub record IsFlagOption (name : Text) (rows : List Row) : Type 0 where
+  pub said : IsSomeAnd (first_of name rows) (λ text. (text ≡ codes "true") ⊎ (text ≡ codes "false"))
+  pub as_written : one_of name rows ≡ first_of name rows
+
+-- in the matches of `plain`
+pub record IsPlainTaken (rows : List Row) : Type 0 where
+  pub file : HasValue (codes "FILE") rows
+  pub nodes : IsNumberOption (codes "nodes") rows
+  pub steps : IsNumberOption (codes "steps") rows
+
+-- of `run`
+pub record IsRunTaken (rows : List Row) : Type 0 where
+  pub plain : IsPlainTaken rows
+  pub collect : IsNumberOption (codes "collect") rows
+  pub order : HasValue (codes "order") rows
+  pub page : HasValue (codes "page") rows
+
+-- of `sim`
+pub record IsSimTaken (rows : List Row) : Type 0 where
+  pub run : IsRunTaken rows
+  pub seed : IsBareNumber (codes "seed") rows
+
+-- of `explain` and `stats`
+pub record IsShowingTaken (rows : List Row) : Type 0 where
+  pub sim : IsSimTaken rows
+  pub threads : IsFlagOption (codes "threads") rows
+
+-- of a command that shows a part of a run
+pub record IsPartTaken (rows : List Row) : Type 0 where
+  pub from : IsBareNumber (codes "from") rows
+  pub to : IsBareNumber (codes "to") rows
+
+-- of `trace`
+pub record IsTraceTaken (rows : List Row) : Type 0 where
+  pub showing : IsShowingTaken rows
+  pub form : HasValue (codes "as") rows
+  pub messages : IsFlagOption (codes "messages") rows
+  pub part : IsPartTaken rows
+
+-- of `step`
+pub record IsStepTaken (rows : List Row) : Type 0 where
+  pub showing : IsShowingTaken rows
+  pub part : IsPartTaken rows
+
+-- of `chart`: a FILE need not be there
+pub record IsChartTaken (rows : List Row) : Type 0 where
+  pub nodes : IsNumberOption (codes "nodes") rows
+  pub run : HasValue (codes "FILE") rows → IsShowingTaken rows
+  pub text : IsFlagOption (codes "text") rows
+  pub from : IsBareNumber (codes "from") rows
+  pub to : IsBareNumber (codes "to") rows
+  pub source : IsFlagOption (codes "source") rows
+
+-- of `judge`
+pub record IsJudgeTaken (rows : List Row) : Type 0 where
+  pub file : HasValue (codes "FILE") rows
+  pub nodes : IsBareNumber (codes "nodes") rows
+  pub pairs : IsFlagOption (codes "pairs") rows
+
+-- of `explore`
+pub record IsExploreTaken (rows : List Row) : Type 0 where
+  pub file : HasValue (codes "FILE") rows
+  pub nodes : IsNumberOption (codes "nodes") rows
+  pub most : IsNumberOption (codes "most") rows
+  pub memory : HasValue (codes "memory") rows
+  pub outcomes : IsFlagOption (codes "outcomes") rows
+  pub outcome : IsBareNumber (codes "outcome") rows
+  pub tries : IsBareNumber (codes "tries") rows
+
+-- of `races`
+pub record IsRacesTaken (rows : List Row) : Type 0 where
+  pub file : HasValue (codes "FILE") rows
+  pub form : HasValue (codes "as") rows
+  pub group : IsFlagOption (codes "group") rows
+
+-- of `why`: a FILE need not be there
+pub record IsWhyTaken (rows : List Row) : Type 0 where
+  pub nodes : IsNumberOption (codes "nodes") rows
+  pub page : HasValue (codes "page") rows
+  pub act : IsNumberOption (codes "act") rows
+  pub other : IsBareNumber (codes "and") rows
+  pub run : HasValue (codes "FILE") rows → IsSimTaken rows
+
+-- ---- words and what they name
+
+-- the order of deliveries that a word names
+abbrev pub IsPicker : Option Text → Picker → Type 0
+IsPicker word Oldest = word ≡ Some (codes "oldest")
+IsPicker word Newest = word ≡ Some (codes "newest")
+IsPicker word Twice = word ≡ Some (codes "twice")
+
+-- the order of a run that a word names: by deliveries, or at random
+abbrev pub IsOrder : Option Text → Order → Type 0
+IsOrder word (Picked picker) = IsPicker word picker
+IsOrder word Random = word ≡ Some (codes "random")
+
+-- the size of a page that a word names
+abbrev pub IsPageSize : Option Text → Size → Type 0
+IsPageSize word Words64 = word ≡ Some (codes "64")
+IsPageSize word Words256 = word ≡ Some (codes "256")
+
+-- the part is the whole run: neither of its ends is given
+abbrev pub is_whole : Part → Bool
+is_whole part = is_none part.from && is_none part.to
+
+-- The form that a word names, where messages are asked for or not, and a part of the run. Messages are of acts alone, and a
+-- part is of states alone.
+abbrev pub IsForm : Option Text → Bool → Part → Form → Type 0
+IsForm word messages part forms.Acts = (word ≡ Some (codes "acts")) × (messages ≡ false) × (is_whole part ≡ true)
+IsForm word messages part forms.Messages = (word ≡ Some (codes "acts")) × (messages ≡ true) × (is_whole part ≡ true)
+IsForm word messages part forms.Events = (word ≡ Some (codes "events")) × (messages ≡ false) × (is_whole part ≡ true)
+IsForm word messages part forms.Json = (word ≡ Some (codes "json")) × (messages ≡ false) × (is_whole part ≡ true)
+IsForm word messages part forms.Rapid = (word ≡ Some (codes "rapid")) × (messages ≡ false) × (is_whole part ≡ true)
+IsForm word messages part (forms.States shown) = (word ≡ Some (codes "states")) × (messages ≡ false) × (shown ≡ part)
+
+-- the form of a trace that a word names
+abbrev pub IsTraceForm : Option Text → TraceForm → Type 0
+IsTraceForm word Std = word ≡ Some (codes "std")
+IsTraceForm word Acts = word ≡ Some (codes "acts")
+
+-- the memory that a word names
+abbrev pub IsMemory : Option Text → Memory → Type 0
+IsMemory word Flat = word ≡ Some (codes "flat")
+IsMemory word Lazy = word ≡ Some (codes "lazy")
+
+-- whether runs at random may be asked for: with the list of the lazy outcomes
+abbrev pub takes_tries : Memory → (outcomes : Bool) → (outcome : Option ℕ) → Bool
+takes_tries Flat outcomes outcome = false
+takes_tries Lazy outcomes outcome = outcomes && is_none outcome
+
+-- whether a word says that rows of quiet acts are left out; without one they are not
+abbrev pub IsHiding : Option Text → Bool → Type 0
+IsHiding None hides = hides ≡ false
+IsHiding (Some word) hides = (word ≡ codes "quiet") × (hides ≡ true)
+
+-- How a run goes on in this order, with such a seed and such a file of events, on threads or not. A seed is of a random
+-- order alone. Where a file of events is named, the order is not used. On threads there is neither a file of events nor a
+-- random order.
+abbrev pub IsWay : Order → Option ℕ → Option Text → Bool → Way → Type 0
+IsWay order seed events threads (ways.Events path) =
+    (events ≡ Some path.now) × (threads ≡ false) × (IsSome seed → order ≡ Random)
+IsWay order seed events threads (ways.Rounds picker) =
+    (order ≡ Picked picker) × (seed ≡ None) × (events ≡ None) × (threads ≡ false)
+IsWay order seed events threads (ways.Random number) =
+    (order ≡ Random) × (unwrap_or seed 0 ≡ number) × (events ≡ None) × (threads ≡ false)
+IsWay order seed events threads (ways.Threads picker) =
+    (order ≡ Picked picker) × (seed ≡ None) × (events ≡ None) × (threads ≡ true)
+
+-- what keeps a run from going on so
+abbrev pub HasWayMisfit : Order → Option ℕ → Option Text → Bool → Misfit → Type 0
+HasWayMisfit order seed events threads misfit =
+    ((misfit ≡ unfit.Seed) × IsSome seed × (order ≢ Random))
+    ⊎ ((misfit ≡ unfit.Threads) × (threads ≡ true) × (IsSome events ⊎ (order ≡ Random)))
+
+-- what keeps a word from naming a form of this part of the run
+abbrev pub HasNameMisfit : Option Text → Part → Misfit → Type 0
+HasNameMisfit word part misfit =
+    ((misfit ≡ unfit.Form) × ((messages : Bool) (part : Part) (form : Form) → ¬ IsForm word messages part form))
+    ⊎ ((misfit ≡ unfit.Part) × (is_whole part ≡ false) × (word ≢ Some (codes "states")))
+
+-- the same, where messages are asked for or not
+abbrev pub HasWordMisfit : Option Text → Bool → Part → Misfit → Type 0
+HasWordMisfit word messages part misfit =
+    HasNameMisfit word part misfit ⊎ ((misfit ≡ unfit.Messages) × (messages ≡ true) × (word ≢ Some (codes "acts")))
+
+-- ---- the choice of the matches
+
+-- the file and the numbers of a run stand in these matches
+pub record AreOptions (path : Text) (node_count step_count : ℕ) (rows : List Row) : Type 0 where
+  pub file : first_of (codes "FILE") rows ≡ Some path
+  pub nodes : nodes_in rows ≡ node_count
+  pub steps : steps_in rows ≡ step_count
+
+-- what all runs of the nodes have in common is chosen by these matches
+pub record AreRunOptions (run : RunOptions) (rows : List Row) : Type 0 where
+  pub plain : AreOptions run.file.now run.nodes.count run.steps.count rows
+  pub collect : collect_in rows ≡ run.collect.count
+  pub size : IsPageSize (first_of (codes "page") rows) run.size
+
+-- what these matches say of a run's order, its seed and its events
+pub record AreAsked (rows : List Row) (order : Order) (seed : Option ℕ) (events : Option Text) : Type 0 where
+  pub order_is : IsOrder (first_of (codes "order") rows) order
+  pub seed_is : seed ≡ some_number_in (codes "seed") rows
+  pub events_is : events ≡ first_of (codes "events") rows
+
+-- how a run goes on, on threads or not, is chosen by these matches
+pub record IsWayIn (threads : Bool) (rows : List Row) (way : Way) : Type 0 where
+  pub order : Order
+  pub seed : Option ℕ
+  pub events : Option Text
+  pub asked : AreAsked rows order seed events
+  pub way_is : IsWay order seed events threads way
+
+-- the same on threads, where the command has neither events nor a seed
+abbrev pub IsThreadsWayIn : List Row → Way → Type 0
+IsThreadsWayIn rows (ways.Events path) = ⊥
+IsThreadsWayIn rows (ways.Rounds picker) = ⊥
+IsThreadsWayIn rows (ways.Random number) = ⊥
+IsThreadsWayIn rows (ways.Threads picker) = IsPicker (first_of (codes "order") rows) picker
+
+-- which part of a run is shown is chosen by these matches
+pub record IsPart (rows : List Row) (part : Part) : Type 0 where
+  pub from : some_number_in (codes "from") rows ≡ part.from
+  pub to : some_number_in (codes "to") rows ≡ part.to
+
+-- the form of a trace is chosen by these matches
+pub record IsFormIn (rows : List Row) (form : Form) : Type 0 where
+  pub messages : Bool
+  pub part : Part
+  pub asked : IsFlag (codes "messages") messages rows
+  pub part_is : IsPart rows part
+  pub named : IsForm (first_of (codes "as") rows) messages part form
+
+-- Of which acts it is asked: the second is another than the first.
+pub record IsAsking (rows : List Row) (asking : Asking) : Type 0 where
+  pub act : option_number (codes "act") rows ≡ asking.act
+  pub other : some_number_in (codes "and") rows ≡ asking.other
+  pub differ : asking.other ≢ Some asking.act
+
+-- the words give an option that only a run of the nodes has
+abbrev pub has_run_option : List Row → Bool
+has_run_option rows = list_any (λ name. is_given name rows)
+    (codes "steps" ∷ codes "collect" ∷ codes "order" ∷ codes "events" ∷ codes "seed" ∷ [])
+
+-- acts from anywhere are chosen by these matches
+pub record AreForeignActs (rows : List Row) (acts : ForeignActs) : Type 0 where
+  pub file : first_of (codes "acts") rows ≡ Some acts.file.now
+  pub nodes : given_number (codes "nodes") rows ≡ option_map (λ nodes. nodes.count) acts.nodes
+  pub size : IsPageSize (first_of (codes "page") rows) acts.size
+  pub alone : has_run_option rows ≡ false
+
+-- the words give an option that only a chart of a run has
+abbrev pub names_run_option : List Row → Bool
+names_run_option rows = list_any (λ name. is_given name rows)
+    (codes "steps" ∷ codes "collect" ∷ codes "order" ∷ codes "page" ∷ codes "events" ∷ codes "seed" ∷ codes "threads" ∷ codes "source" ∷ [])
+
+-- the acts from anywhere that are charted are chosen by these matches
+pub record AreChartedActs (rows : List Row) (acts : ChartedActs) : Type 0 where
+  pub file : first_of (codes "acts") rows ≡ Some acts.file.now
+  pub nodes : given_number (codes "nodes") rows ≡ option_map (λ nodes. nodes.count) acts.nodes
+  pub alone : names_run_option rows ≡ false
+
+-- ---- what does not fit in the matches
+
+-- the number of nodes is not 1 to 16, or that of steps not 1 to 1,000,000
+abbrev pub HasBadCount : List Row → Type 0
+HasBadCount rows = IsOutOfRange 1 16 (nodes_in rows) ⊎ IsOutOfRange 1 1000000 (steps_in rows)
+
+-- a number of a run is not in its range
+abbrev pub HasBadNumber : List Row → Type 0
+HasBadNumber rows = HasBadCount rows ⊎ IsOutOfRange 0 1000000 (collect_in rows)
+
+-- no size has the word of the option
+abbrev pub HasBadPage : List Row → Type 0
+HasBadPage rows = (size : Size) → ¬ IsPageSize (first_of (codes "page") rows) size
+
+-- what does not fit in the options that all runs have: words are looked at before numbers
+abbrev pub HasOptionsMisfit : List Row → Misfit → Type 0
+HasOptionsMisfit rows misfit = ((misfit ≡ unfit.Page) × HasBadPage rows)
+    ⊎ ((misfit ≡ unfit.Number) × ((size : Size) × IsPageSize (first_of (codes "page") rows) size) × HasBadNumber rows)
+
+-- what does not fit in how a run goes on
+abbrev pub HasWayMisfitIn : Bool → List Row → Misfit → Type 0
+HasWayMisfitIn threads rows misfit =
+    ((misfit ≡ unfit.Order) × ((order : Order) → ¬ IsOrder (first_of (codes "order") rows) order))
+    ⊎ ((order : Order) × (seed : Option ℕ) × (events : Option Text) × AreAsked rows order seed events
+    × HasWayMisfit order seed events threads misfit)
+
+-- what does not fit in the form of a trace
+abbrev pub HasFormMisfitIn : List Row → Misfit → Type 0
+HasFormMisfitIn rows misfit =
+    (messages : Bool) × (part : Part) × IsFlag (codes "messages") messages rows × IsPart rows part
+    × HasWordMisfit (first_of (codes "as") rows) messages part misfit
+
+-- a number of `explore` is not in its range
+abbrev pub HasBadExploreNumber : List Row → Type 0
+HasBadExploreNumber rows = IsOutOfRange 1 16 (nodes_in rows) ⊎ IsOutOfRange 1 100000000 (most_in rows) ⊎ (outcome_in rows ≡ Some 0)
+    ⊎ IsSomeAnd (tries_in rows) (IsOutOfRange 1 1000000)
+
+-- of `races`: no form has the word of the option
+abbrev pub HasRacesMisfit : List Row → Misfit → Type 0
+HasRacesMisfit rows misfit = (misfit ≡ unfit.TraceForm) × ((form : TraceForm) → ¬ IsTraceForm (first_of (codes "as") rows) form)
+
+-- of acts from anywhere: words are looked at before numbers
+abbrev pub HasForeignMisfit : List Row → Misfit → Type 0
+HasForeignMisfit rows misfit = ((misfit ≡ unfit.RunOption) × (has_run_option rows ≡ true))
+    ⊎ ((misfit ≡ unfit.Page) × HasBadPage rows)
+    ⊎ ((misfit ≡ unfit.Number) × (has_run_option rows ≡ false) × ((size : Size) × IsPageSize (first_of (codes "page") rows) size)
+    × IsSomeAnd (given_number (codes "nodes") rows) (IsOutOfRange 1 16))
+
+-- of acts from anywhere that are charted
+abbrev pub HasChartedActsMisfit : List Row → Misfit → Type 0
+HasChartedActsMisfit rows misfit = ((misfit ≡ unfit.ChartRunOption) × (names_run_option rows ≡ true))
+    ⊎ ((misfit ≡ unfit.Number) × (names_run_option rows ≡ false) × IsSomeAnd (given_number (codes "nodes") rows) (IsOutOfRange 1 16))

@@ -1,0 +1,61 @@
+// What is explored, and how.
+
+ghost use Rattle.std.specs.Prelude.{◌≡◌, IfErr, IfOk, Some, codes};
+ghost use Rattle.clap.specs.Words.{found_of, rows_of};
+ghost use Rattle.lrc_cli_args.specs.CommandLine.{HasExploreMisfit, IsChoice};
+ghost use Rattle.lrc_cli_args.specs.Options.{IsExploreTaken, IsMemory, takes_tries};
+ghost use Rattle.lrc_cli_args.specs.declared.choice.Memory.{Memory as AnyMemory};
+ghost use Rattle.lrc_cli_args.specs.declared.misfit.Misfit.TheVariants as unfit;
+
+use crate::choice::{Choice, Exploring, Memory};
+use crate::misfit::Misfit;
+use crate::reading::{is_named, most_of, nodes_of, outcome_of, some_number_of, text_of, tries_of};
+use clap::ArgMatches;
+
+/// The choice of `explore`.
+pub(crate) fn explore_choice<'w>(options: &ArgMatches<'w>) -> Result<Choice<'w>, Misfit>
+    requires { IsExploreTaken (rows_of (found_of options.now)) }
+    ensures ok { IfOk result (IsChoice (codes "explore", rows_of (found_of options.now))) }
+    ensures err { IfErr result (HasExploreMisfit (rows_of (found_of options.now))) }
+{
+    let memory = memory_named(text_of(options, "memory"))?;
+    let outcomes = is_named(options, "outcomes");
+    let outcome = some_number_of(options, "outcome");
+    let tries = some_number_of(options, "tries");
+    if tries.is_some() && !takes_tries(memory, outcomes, outcome) {
+        return Err(Misfit::Tries);
+    }
+    Ok(Choice::Explore(Exploring {
+        file: text_of(options, "FILE"),
+        nodes: nodes_of(options)?,
+        most: most_of(options)?,
+        memory,
+        outcomes,
+        outcome: outcome_of(options)?,
+        tries: tries_of(options)?,
+    }))
+}
+
+fn memory_named(word: &str) -> Result<Memory, Misfit>
+    ensures ok { IfOk result (IsMemory (Some word.now)) }
+    ensures err { IfErr result (λ misfit. (misfit ≡ unfit.Memory)
+        × ((memory : AnyMemory) → ¬ IsMemory (Some word.now) memory)) }
+{
+    if word == "flat" {
+        Ok(Memory::Flat)
+    } else if word == "lazy" {
+        Ok(Memory::Lazy)
+    } else {
+        Err(Misfit::Memory)
+    }
+}
+
+// Whether runs at random may be asked for: with the list of the lazy outcomes.
+fn takes_tries(memory: Memory, outcomes: bool, outcome: Option<u64>) -> bool
+    ensures { result ≡ takes_tries memory outcomes outcome }
+{
+    match memory {
+        Memory::Flat => false,
+        Memory::Lazy => outcomes && outcome.is_none(),
+    }
+}

@@ -1,0 +1,175 @@
+// Why words in which clap finds no fault are no choice.
+
+ghost use Rattle.std.specs.Prelude.{◌≡◌, ◌≢◌, IfOk};
+ghost use Rattle.clap.specs.Words.{kind_of};
+ghost use Rattle.lrc_cli_args.specs.CommandLine.{IsMisfitFault, IsUsageKind};
+ghost use Rattle.lrc_cli_args.specs.declared.misfit.Misfit.TheVariants.{Number};
+
+use crate::choice::ChooseFault;
+use clap::error::ErrorKind;
+use lrc_cli_words::command_line;
+use std::alloc::{AllocError, Global};
+
+const BAD_ORDER: &str =
+    "invalid value for '--order <ORDER>': it is oldest, newest, twice or random";
+
+const BAD_RUN_ORDER: &str = "invalid value for '--order <ORDER>': it is oldest, newest or twice";
+
+const BAD_PAGE: &str = "invalid value for '--page <WORDS>': it is 64 or 256";
+
+const BAD_FORM: &str = "invalid value for '--as <FORM>': it is acts, events, json, rapid or states";
+
+const IDLE_SEED: &str = "the argument '--seed <X>' cannot be used without '--order random'";
+
+const BAD_THREADS: &str =
+    "the argument '--threads' cannot be used with '--events <PATH>' or '--order random'";
+
+const BAD_MESSAGES: &str =
+    "the argument '--messages' cannot be used with a form other than '--as acts'";
+
+const BAD_PART: &str =
+    "the arguments '--from <P>' and '--to <Q>' cannot be used with a form other than '--as states'";
+
+const BAD_MEMORY: &str = "invalid value for '--memory <MEMORY>': it is flat or lazy";
+
+const BAD_TRIES: &str =
+    "the argument '--tries <T>' is of '--memory lazy --outcomes' alone, and not of '--outcome <K>'";
+
+const BAD_TOPIC: &str = "invalid value for '[COMMAND]': it is none of the commands";
+
+const BAD_HIDE: &str = "invalid value for '--hide <WHAT>': it is quiet";
+
+const BAD_SOURCE: &str = "the argument '--source' cannot be used with '--text'";
+
+const BAD_TRACE_FORM: &str = "invalid value for '--as <FORM>': it is std or acts";
+
+const SAME_ACT: &str = "the argument '--and <Q>' cannot be the act of '--act <P>'";
+
+const BAD_SOURCES: &str = "the argument '[FILE]' cannot be used with '--acts <PATH>'";
+
+const NO_SOURCE: &str = "one of '[FILE]' and '--acts <PATH>' has to be given";
+
+const BAD_RUN_OPTION: &str =
+    "with '--acts <PATH>' there are no options but '--act <P>', '--and <Q>', '--nodes <N>' and '--page <WORDS>'";
+
+const BAD_CHART_OPTION: &str =
+    "with '--acts <PATH>' there are no options but '--nodes <N>', '--text', '--from <P>', '--to <Q>' and '--hide <WHAT>'";
+
+/// Why the options that clap read are not a choice.
+#[derive(Clone, Copy)]
+pub(crate) enum Misfit {
+    /// The value of `--order` is not one of its words.
+    Order,
+    /// The value of `--order` in the command `run` is not one of its words.
+    RunOrder,
+    /// The value of `--page` is not one of its words.
+    Page,
+    /// The value of `--as` is not one of its words.
+    Form,
+    /// A seed is given, but the order is not random.
+    Seed,
+    /// Threads are asked for together with given events or a random order.
+    Threads,
+    /// Messages are asked for together with a form other than that of acts.
+    Messages,
+    /// A part of the run is asked for together with a form other than that of states.
+    Part,
+    /// The value of `--memory` is not one of its words.
+    Memory,
+    /// Runs in random orders are asked for without the list of lazy outcomes.
+    Tries,
+    /// Help is asked for on a word that is not a command.
+    Topic,
+    /// The value of `--as` in the command `races` is not one of its words.
+    TraceForm,
+    /// The value of `--hide` is not one of its words.
+    Hide,
+    /// The program's text is asked for together with a chart for a terminal.
+    TextSource,
+    /// The question is how an act is ordered with itself.
+    SameAct,
+    /// Both a FILE and a file of acts are given.
+    Sources,
+    /// Neither a FILE nor a file of acts is given.
+    NoSource,
+    /// The acts come from a file of acts, but an option of runs is given.
+    RunOption,
+    /// A chart shows acts from a file of acts, but an option for charts of runs is given.
+    ChartRunOption,
+    /// A number is outside its option's range.
+    Number,
+}
+
+/// Returns the fault for a misfit.
+pub(crate) fn fault_of_misfit(alloc: Global, misfit: Misfit) -> ChooseFault
+    ensures { IsMisfitFault misfit result }
+{
+    match misfit {
+        Misfit::Number => ChooseFault::BadNumber,
+        _ => usage_fault(alloc, misfit),
+    }
+}
+
+fn usage_fault(alloc: Global, misfit: Misfit) -> ChooseFault
+    requires { misfit ≢ Number }
+    ensures { IsMisfitFault misfit result }
+{
+    match usage_error(alloc, misfit) {
+        Ok(error) => ChooseFault::Usage(error),
+        Err(_error) => ChooseFault::NoMemory,
+    }
+}
+
+fn usage_error(alloc: Global, misfit: Misfit) -> Result<clap::Error, AllocError>
+    requires { misfit ≢ Number }
+    ensures { IfOk result (λ error. IsUsageKind misfit (kind_of error)) }
+{
+    let mut command = command_line(alloc)?;
+    command.error(usage_kind(misfit), message_of(misfit))
+}
+
+fn usage_kind(misfit: Misfit) -> ErrorKind
+    requires { misfit ≢ Number }
+    ensures { IsUsageKind misfit result }
+{
+    match misfit {
+        Misfit::Seed
+        | Misfit::Threads
+        | Misfit::Messages
+        | Misfit::Part
+        | Misfit::Tries
+        | Misfit::TextSource
+        | Misfit::SameAct
+        | Misfit::Sources
+        | Misfit::RunOption
+        | Misfit::ChartRunOption => ErrorKind::ArgumentConflict,
+        Misfit::Topic => ErrorKind::InvalidSubcommand,
+        Misfit::NoSource => ErrorKind::MissingRequiredArgument,
+        _ => ErrorKind::InvalidValue,
+    }
+}
+
+fn message_of(misfit: Misfit) -> &'static str {
+    match misfit {
+        Misfit::Order => BAD_ORDER,
+        Misfit::RunOrder => BAD_RUN_ORDER,
+        Misfit::Page => BAD_PAGE,
+        Misfit::Form => BAD_FORM,
+        Misfit::Seed => IDLE_SEED,
+        Misfit::Threads => BAD_THREADS,
+        Misfit::Messages => BAD_MESSAGES,
+        Misfit::Part => BAD_PART,
+        Misfit::Memory => BAD_MEMORY,
+        Misfit::Tries => BAD_TRIES,
+        Misfit::Topic => BAD_TOPIC,
+        Misfit::TraceForm => BAD_TRACE_FORM,
+        Misfit::Hide => BAD_HIDE,
+        Misfit::TextSource => BAD_SOURCE,
+        Misfit::SameAct => SAME_ACT,
+        Misfit::Sources => BAD_SOURCES,
+        Misfit::NoSource => NO_SOURCE,
+        Misfit::RunOption => BAD_RUN_OPTION,
+        Misfit::ChartRunOption => BAD_CHART_OPTION,
+        Misfit::Number => "number out of range",
+    }
+}

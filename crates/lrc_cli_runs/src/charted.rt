@@ -1,0 +1,192 @@
+// A run as a picture.
+
+ghost use Rattle.std.specs.Prelude.{◌≡◌, IfErr, IfOk, Some, map, option_map};
+ghost use Rattle.lrc_cli_answer.specs.Texts.{IsTextOf};
+ghost use Rattle.lrc_cli_runs.specs.Charted.{AreWaitsIn, IsChart, IsCharted, IsChartFault, IsDrawn, part_of, source_of};
+ghost use Rattle.lrc_cli_runs.specs.Runs.{IsRunWith, turns_in};
+ghost use Rattle.lrc_cli_runs.specs.Shown.{IsShowFault};
+ghost use Rattle.lrc_lang.specs.declared.program.Program.{Program as AnyProgram};
+ghost use Rattle.lrc_explain_waits.specs.Circles.{waits_of};
+ghost use Rattle.lrc_explain_waits.specs.Stand.{stands_of};
+ghost use Rattle.lrc_text.specs.Parts.{whole_text};
+ghost use Rattle.lrc_world.specs.declared.keep.Keep.TheVariants.{All as Whole};
+ghost use Rattle.lrc_cli_args.specs.declared.choice.RunOptions.{RunOptions as AnyOptions};
+ghost use Rattle.lrc_cli_args.specs.declared.choice.Shape.TheVariants.{Chart};
+
+use crate::trace::lines_kept;
+use lrc_chart_build::{Course, Known, Part, portrait_of};
+use lrc_chart_model::Picture;
+use lrc_chart_rows::turns_of;
+use lrc_chart_svg::document_of;
+use lrc_chart_text::sketch;
+use lrc_chart_title::title_of;
+use lrc_cli_answer::fault::Fault;
+use lrc_cli_answer::printout::in_one;
+use lrc_cli_args::choice::{Charting, RunChoice, RunOptions};
+use lrc_exec::code::Code;
+use lrc_explain_waits::{stands_of, waits_of};
+use lrc_judge::first_pairs::first_pairs;
+use lrc_labels::read_labels;
+use lrc_lang::lines::lines_of;
+use lrc_lang::program::Program;
+use lrc_lines::walks::follow_acts;
+use lrc_svg::document_part;
+use lrc_trace::act::Act;
+use lrc_world::run::Run;
+use std::alloc::{AllocError, Global};
+
+/// Returns a chart of a run of the program in this text.
+pub(crate) fn charted(
+    alloc: Global,
+    charting: Charting,
+    choice: &RunChoice<'_>,
+    text: &[u8],
+    program: &Program,
+    run: &Run,
+) -> Result<Vec<Vec<u8>>, Fault>
+    requires text { IsTextOf text.now program.now }
+    requires ran { IsRunWith program.now choice.now.options Whole run.now }
+    ensures ok { IfOk result (λ parts. IsCharted charting choice.now text.now program.now run.now
+        (whole_text parts.items)) }
+    ensures err { IfErr result (IsShowFault (Chart charting) choice.now text.now program.now
+        run.now) }
+{
+    let nodes = choice.options.nodes.count as u8;
+    // The labels borrow the text that they are read from, and all that the course has is borrowed for one time: so they are read from a copy.
+    let bytes = Vec::from_slice(alloc, text)?;
+    let source = bytes.as_slice();
+    let labelling = read_labels(alloc, source, program.words, program.locks)?;
+    let labels = labelling.said.as_slice();
+    let acts = run.report.acts.as_slice();
+    let places = lines_kept(alloc, text, &run.origins.statements)?;
+    let lines = places.as_slice();
+    let times = &run.origins.times;
+    let found = first_pairs(alloc, acts)?;
+    let pairs = found.as_slice();
+    let order = order_of(alloc, run)?;
+    let made = turns_of(alloc, &run.report.logs, &order)?;
+    let turns = made.as_slice();
+    let standing = waits_in(alloc, text, program, &choice.options, acts)?;
+    let waits = standing.as_slice();
+    let known = Known {
+        acts,
+        lines,
+        times,
+        pairs,
+        labels,
+    };
+    let course = Course {
+        turns,
+        known,
+        waits,
+    };
+    let title = title_of(alloc, choice, &charting)?;
+    let part = chart_part(alloc, charting, &title, nodes, &course, text)?;
+    Ok(in_one(alloc, part)?)
+}
+
+// For whom each node waits when a run has made these acts.
+fn waits_in(
+    alloc: Global,
+    text: &[u8],
+    program: &Program,
+    options: &RunOptions<'_>,
+    acts: &[Act],
+) -> Result<Vec<Option<usize>>, AllocError>
+    requires { IsTextOf text.now program.now }
+    ensures { IfOk result (λ waits. AreWaitsIn text.now program.now options.now acts.now
+        waits.items) }
+{
+    let places = lines_of(alloc, text)?;
+    let code = Code::new(alloc, program)?;
+    waits_behind(
+        alloc,
+        &code,
+        &places,
+        options.nodes.count as u8,
+        options.steps.count,
+        acts,
+    )
+}
+
+// The same of a program whose statements, and the text's end behind them, have these lines.
+fn waits_behind(
+    alloc: Global,
+    code: &Code<'_>,
+    places: &[u32],
+    nodes: u8,
+    steps: u32,
+    acts: &[Act],
+) -> Result<Vec<Option<usize>>, AllocError>
+    ensures { IfOk result (λ waits. waits.items
+        ≡ waits_of (stands_of code.now nodes places.now (Some steps) acts.now)) }
+{
+    let followed = follow_acts(alloc, code, places, nodes, acts)?;
+    let stands = stands_of(alloc, &followed, nodes, Some(steps), acts)?;
+    waits_of(alloc, &stands)
+}
+
+// The nodes in the order in which they made the turns of a run.
+fn order_of(alloc: Global, run: &Run) -> Result<Vec<u8>, AllocError>
+    ensures { IfOk result (λ order. (program : AnyProgram) (options : AnyOptions)
+        → IsRunWith program options Whole run.now
+        → order.items ≡ map (λ turn. turn.node) (turns_in program options run.now.events.items)) }
+{
+    run.turned.iter().map(|turn| turn.node).collect(alloc)
+}
+
+// A chart of a run of the program that this text is of, under a title.
+fn chart_part(
+    alloc: Global,
+    charting: Charting,
+    title: &[u8],
+    nodes: u8,
+    course: &Course<'_>,
+    text: &[u8],
+) -> Result<Vec<u8>, Fault>
+    ensures ok { IfOk result (λ part. IsChart charting title.now nodes course.now text.now
+        part.items) }
+    ensures err { IfErr result (IsChartFault charting course.now) }
+{
+    let source = source_of(charting, text);
+    let picture = portrait_of(alloc, title, nodes, course, part_of(charting), source)?;
+    Ok(drawn(alloc, charting.text, &picture)?)
+}
+
+// The text that stands beside a chart.
+fn source_of(charting: Charting, text: &[u8]) -> Option<&[u8]>
+    ensures { option_map (λ text. text.now) result ≡ source_of charting text.now }
+{
+    if charting.source { Some(text) } else { None }
+}
+
+/// Returns the part of a run, or of a list of acts, that a chart shows.
+pub fn part_of(charting: Charting) -> Part
+    ensures { result ≡ part_of charting }
+{
+    Part {
+        from: position_of(charting.from),
+        to: position_of(charting.to),
+        hides_quiet: charting.hides_quiet,
+    }
+}
+
+fn position_of(number: Option<u64>) -> Option<usize>
+    ensures { result ≡ number }
+{
+    match number {
+        Some(number) => Some(number as usize),
+        None => None,
+    }
+}
+
+/// Draws a picture for a terminal or as an SVG document.
+pub fn drawn(alloc: Global, terminal: bool, picture: &Picture) -> Result<Vec<u8>, AllocError>
+    ensures { IfOk result (λ part. IsDrawn terminal picture.now part.items) }
+{
+    if terminal {
+        sketch(alloc, picture)
+    } else {
+        document_part(alloc, &document_of(alloc, picture)?)
+    }
+}

@@ -1,0 +1,169 @@
+// Traces of a run.
+
+ghost use Rattle.std.specs.Prelude.{◌≡◌, ◌≢◌, ℕ, IfErr, IfOk, List, length, map};
+ghost use Rattle.lrc_protocol.specs.Run.{turns_of_logs};
+ghost use Rattle.lrc_cli_answer.specs.Texts.{IsTextOf};
+ghost use Rattle.lrc_cli_answer.specs.Labels.{labels_in};
+ghost use Rattle.lrc_cli_runs.specs.Lines.{AreLinesIn};
+ghost use Rattle.lrc_cli_runs.specs.Runs.{IsRunWith};
+ghost use Rattle.lrc_world.specs.declared.keep.Keep.TheVariants.{All as Whole};
+ghost use Rattle.lrc_cli_runs.specs.Shown.{IsFormShown, IsRunFor, IsTraceFault, IsTraceShown, IsWrittenAs};
+ghost use Rattle.lrc_cli_args.specs.declared.choice.Form.TheVariants.{States};
+ghost use Rattle.lrc_cli_args.specs.declared.choice.Part.{Part as ShownPart};
+ghost use Rattle.lrc_cli_args.specs.declared.choice.Shape.TheVariants.{Trace};
+ghost use Rattle.lrc_lang.specs.declared.program.Program.{Program as AnyProgram};
+ghost use Rattle.lrc_lines.specs.Statements.{act_statements};
+ghost use Rattle.lrc_timeline.specs.Timeline.{times_in};
+ghost use Rattle.lrc_trace.specs.declared.act.Act.{Act as AnyAct};
+ghost use Rattle.lrc_events.specs.Writing.{events_text};
+ghost use Rattle.lrc_acts_text.specs.Json.{json_of_acts};
+ghost use Rattle.lrc_text.specs.Parts.{whole_text};
+ghost use Rattle.lrc_turns_text.specs.TurnsText.{messages_text};
+
+use crate::stated::stated;
+use lrc_acts_text::{acts_part, json_part, rapid_part};
+use lrc_cli_answer::fault::Fault;
+use lrc_cli_answer::printout::in_one;
+use lrc_cli_args::choice::{Form, RunOptions};
+use lrc_events::events_part;
+use lrc_labels::read_labels;
+use lrc_lang::lines::lines_of;
+use lrc_lang::program::Program;
+use lrc_lines::statements::lines_of_statements;
+use lrc_node::Entry;
+use lrc_protocol::Event;
+use lrc_turns_text::messages_part;
+use lrc_world::run::Run;
+use lrc_world::turned::Turned;
+use std::alloc::{AllocError, Global};
+
+/// Returns a trace of a run of the program in this text, in the chosen form.
+pub(crate) fn traced(
+    alloc: Global,
+    form: Form,
+    text: &[u8],
+    program: &Program,
+    options: &RunOptions<'_>,
+    run: &Run,
+) -> Result<Vec<Vec<u8>>, Fault>
+    requires text { IsTextOf text.now program.now }
+    requires ran { IsRunFor (Trace form) program.now options.now run.now }
+    ensures ok { IfOk result (λ parts. IsTraceShown form text.now program.now options.now run.now
+        (whole_text parts.items)) }
+    ensures err { IfErr result (IsTraceFault form text.now program.now options.now run.now) }
+{
+    match form {
+        Form::States(part) => stated(alloc, part, text, program, options, run),
+        Form::Acts | Form::Messages | Form::Events | Form::Json | Form::Rapid => {
+            Ok(trace_parts(alloc, form, text, program, options, run)?)
+        }
+    }
+}
+
+// A trace in a form that is not one of states.
+fn trace_parts(
+    alloc: Global,
+    form: Form,
+    text: &[u8],
+    program: &Program,
+    options: &RunOptions<'_>,
+    run: &Run,
+) -> Result<Vec<Vec<u8>>, AllocError>
+    requires text { IsTextOf text.now program.now }
+    requires ran { IsRunWith program.now options.now Whole run.now }
+    requires form { (part : ShownPart) → form ≢ States part }
+    ensures { IfOk result (λ parts. IsFormShown form text.now program.now options.now run.now
+        (whole_text parts.items)) }
+{
+    let lines = lines_kept(alloc, text, &run.origins.statements)?;
+    let part = form_part(alloc, form, text, program, options, run, &lines)?;
+    in_one(alloc, part)
+}
+
+// A run in one of the forms, with these lines of its acts.
+fn form_part(
+    alloc: Global,
+    form: Form,
+    text: &[u8],
+    program: &Program,
+    options: &RunOptions<'_>,
+    run: &Run,
+    lines: &[u32],
+) -> Result<Vec<u8>, AllocError>
+    requires ran { IsRunWith program.now options.now Whole run.now }
+    requires each { length lines.now ≡ length run.now.report.acts.items }
+    requires form { (part : ShownPart) → form ≢ States part }
+    ensures { IfOk result (λ part. IsWrittenAs form text.now program.now options.now run.now
+        lines.now part.items) }
+{
+    let acts = run.report.acts.as_slice();
+    let logs = run.report.logs.as_slice();
+    let turns = run.turned.as_slice();
+    let nodes = options.nodes.count as u8;
+    match form {
+        Form::Acts => acts_part(alloc, acts, lines),
+        Form::Messages => messages_of(alloc, logs, turns, lines),
+        Form::Events => events_of(alloc, turns),
+        Form::Json => json_of(alloc, text, program, run, lines),
+        Form::Rapid => rapid_part(alloc, acts, lines, program.locks, nodes),
+        Form::States(_) => unreachable!(),
+    }
+}
+
+// The acts of the logs with the messages among them, in the order of these turns.
+fn messages_of(
+    alloc: Global,
+    logs: &[Vec<Entry>],
+    turns: &[Turned],
+    lines: &[u32],
+) -> Result<Vec<u8>, AllocError>
+    ensures { IfOk result (λ part. part.items ≡ messages_text (turns_of_logs logs.now)
+        (map (λ turn. turn.node) turns.now) lines.now) }
+{
+    let order: Vec<u8> = turns.iter().map(|turn| turn.node).collect(alloc)?;
+    messages_part(alloc, logs, &order, lines)
+}
+
+// The events of these turns.
+fn events_of(alloc: Global, turns: &[Turned]) -> Result<Vec<u8>, AllocError>
+    ensures { IfOk result (λ part. part.items ≡ events_text (map (λ turn. turn.event) turns.now)) }
+{
+    let mut events: Vec<Event> = Vec::new(alloc);
+    for turn in turns {
+        events.push(turn.event)?;
+    }
+    events_part(alloc, &events)
+}
+
+// The acts of a run as JSON, each with the time that its node has just after it, and with the labels of the program's text.
+fn json_of(
+    alloc: Global,
+    text: &[u8],
+    program: &Program,
+    run: &Run,
+    lines: &[u32],
+) -> Result<Vec<u8>, AllocError>
+    requires lined { length lines.now ≡ length run.now.report.acts.items }
+    requires timed { length (times_in run.now.origins.times) ≡ length run.now.report.acts.items }
+    ensures { IfOk result (λ part. part.items ≡ json_of_acts (labels_in text.now program.now)
+        run.now.report.acts.items lines.now (times_in run.now.origins.times)) }
+{
+    let labels = read_labels(alloc, text, program.words, program.locks)?;
+    let acts = run.report.acts.as_slice();
+    json_part(alloc, &labels.said, acts, lines, &run.origins.times)
+}
+
+/// Returns, for each act of a run of which all is kept, the line of the text that holds the act's statement.
+pub(crate) fn lines_kept(
+    alloc: Global,
+    text: &[u8],
+    statements: &[u32],
+) -> Result<Vec<u32>, AllocError>
+    ensures lines { IfOk result (λ lines. (program : AnyProgram) (nodes : ℕ) (acts : List AnyAct)
+        → IsTextOf text.now program → statements.now ≡ act_statements program nodes acts
+        → AreLinesIn text.now program nodes acts lines.items) }
+    ensures each { IfOk result (λ lines. length lines.items ≡ length statements.now) }
+{
+    let places = lines_of(alloc, text)?;
+    lines_of_statements(alloc, &places, statements)
+}

@@ -1,0 +1,18 @@
+use Rattle.std.proofs.Common.{ap, ◌≡◌, ◌∙◌, codes}
+use Rattle.clap.specs.Words.{app_of, new_app}
+use Rattle.clap.specs.Simple.{app_of_fields}
+use Rattle.lrc_cli_words.proofs.commands.plain_command.Goals as goal
+
+pub returns-clause-app : goal.returns-clause-app
+returns-clause-app c =
+    let about_is : app_of c.about-command.result ≡ new_app (codes "plain") = ap app_of_fields c.about-command.ensures ∙ c.new.ensures.app in
+    let one = c.taking-command.ensures.app (new_app (codes "plain")) _ c.file.ensures.local c.file.ensures.rule about_is in
+    let two = c.taking-command-2.ensures.app _ _ c.nodes.ensures.local c.nodes.ensures.rule one in
+    c.taking.ensures.app _ _ c.steps.ensures.local c.steps.ensures.rule two
+
+pub returns-clause-local : goal.returns-clause-local
+returns-clause-local c =
+    let about_is = ap (λ f. f.has_globals) c.about-command.ensures ∙ c.new.ensures.local in
+    let one = c.taking-command.ensures.local c.file.ensures.local about_is in
+    let two = c.taking-command-2.ensures.local c.nodes.ensures.local one in
+    c.taking.ensures.local c.steps.ensures.local two

@@ -1,0 +1,14 @@
+use Rattle.std.proofs.Common.{ap, ◌≡◌, ◌∙◌, codes}
+use Rattle.std.proofs.lemmas.Result.{IfOk-weaker}
+use Rattle.clap.specs.Words.{app_of, new_app}
+use Rattle.clap.specs.Simple.{app_of_fields}
+use Rattle.lrc_cli_words.specs.Commands.{with_way_options}
+use Rattle.lrc_cli_words.proofs.commands.sim_command.Goals as goal
+
+pub taking_way_options-requires : goal.taking_way_options-requires
+taking_way_options-requires c = ap (λ f. f.has_globals) c.about-command.ensures ∙ c.new.ensures.local
+
+pub returns-clause-app : goal.returns-clause-app
+returns-clause-app c =
+    let about_is : app_of c.about-command.result ≡ new_app (codes "sim") = ap app_of_fields c.about-command.ensures ∙ c.new.ensures.app in
+    IfOk-weaker c.taking_way_options.result _ _ (λ r h. h ∙ ap with_way_options about_is) c.taking_way_options.ensures.app

@@ -1,0 +1,292 @@
+-- A search that goes through what was found.
+use Rattle.std.proofs.Common.{◌≡◌, ℕ, ◌+◌, ◌<◌, ◌≤◌, List, [], true, inl, inr, refl, sym, ap, ◌∙◌, subst, arith}
+use Rattle.std.specs.Prelude.{◌↔◌, All, Option, Some, None, slice_get}
+use Rattle.std.specs.Option.{option_or}
+use Rattle.std.proofs.lemmas.Bool.{cases_eq}
+use Rattle.lrc_trace.specs.declared.act.Act.{Act}
+use Rattle.lrc_orders.specs.declared.noted.Noted.{Noted}
+use Rattle.lrc_orders_table.specs.declared.rows.Rows.{Rows}
+use Rattle.lrc_orders.specs.declared.outcomes.Outcome.{Outcome}
+use Rattle.lrc_orders.specs.contracts.noted.NotedPartialEq.TheImpl.{eq-value as noted_eq}
+use Rattle.lrc_orders.specs.Kept.{Grows}
+use Rattle.lrc_orders.specs.Meeting.{IsCalm}
+use Rattle.lrc_orders_table.specs.Rows.{IsRowAt, WidensRows, row_count}
+use Rattle.lrc_orders.specs.Outcome.{HasOutcome, IsOutcome}
+use Rattle.lrc_exec.specs.States.{machine_begun, plain_at}
+use Rattle.lrc_orders.specs.Stuck.{IsAtRest, IsStuck}
+use Rattle.lrc_orders.proofs.Keeping.{stands_on}
+use Rattle.lrc_orders.proofs.Searching.{copy_same}
+use Rattle.lrc_orders.proofs.Stores.{before, listed, listed_apart}
+use Rattle.lrc_orders.proofs.Ways.{IsNotedCopy}
+use Rattle.lrc_orders_table.proofs.RowLaws.{row_copy, row_grown, row_store, row_within}
+use Rattle.lrc_orders_table.proofs.RowsApart.{row_apart}
+use Rattle.lrc_exec.specs.declared.spot.Spot.{Spot}
+use Rattle.lrc_exec.specs.declared.state.State.{State}
+use Rattle.lrc_orders.specs.declared.search.ExploreFault.{ExploreFault}
+use Rattle.lrc_orders.specs.declared.search.ExploreFault.TheVariants.{BadNodes, TooMany}
+use Rattle.lrc_exec.specs.Plain.{plain_start, thread_in}
+use Rattle.lrc_orders_settling.specs.Settling.{MakesFree}
+use Rattle.lrc_orders_laws.specs.Steps.{IsSettledOutcome}
+use Rattle.lrc_orders_laws.proofs.GoingOn.{state_fine}
+use Rattle.lrc_orders_laws.proofs.Settled.{outcomes}
+use Rattle.lrc_explore.specs.declared.task.Task.{Task}
+use Rattle.lrc_explore.specs.declared.task.Found.{Found}
+use Rattle.lrc_explore.specs.Reached.{AreCalm, AreExpanded, AreFound, AreNowhereStuck, AreReached, HasStart, IsExpanded, IsMore, IsReached, IsTask}
+use Rattle.lrc_explore.specs.Answers.{AddsOnly, AreGathered, AreSound, HasMoreSettled, IsFault, IsLongFault, starts_long, settles_long, has_more, IsGathered, IsGatheredAt, IsSeen, IsStuckFirst}
+use Rattle.lrc_orders_live.specs.Live.{forgot}
+use Rattle.lrc_orders_live.proofs.Like.{like_back, rest_like}
+use Rattle.lrc_orders_table.proofs.Forgotten.{threads_of_row}
+use Rattle.lrc_explore.proofs.Keys.{expanded_copy, expanded_grown, more_again, more_same}
+use Rattle.lrc_explore.proofs.MeansOf.{means_are, means_of}
+use Rattle.lrc_explore.proofs.Reaching.{all_reached, fine_key}
+
+-- what is at an old place was there
+was_there : (old new : Rows) (k : ℕ) (key : Noted) → WidensRows old new → ((n : ℕ) → n < row_count old → (x : Noted) × IsRowAt old n x)
+    → k < row_count old → IsRowAt new k key → IsRowAt old k key
+was_there old new k key w full lt at = before IsRowAt row_count WidensRows IsNotedCopy row_store old new k key w (full k lt) at
+
+same_plain : (task : Task) (all : Rows) (k : ℕ) (a b : Noted) → IsRowAt all k a → IsRowAt all k b
+    → plain_at task.flat a.state ≡ plain_at task.flat b.state
+same_plain task all k a b x y = copy_same task.flat a.state b.state (row_copy all k a b x y).state
+
+-- ---- for a meeting
+
+abbrev pub IsStuckSoFar : Task → Rows → (index : ℕ) → Option ℕ → Type 0
+IsStuckSoFar task all index None = AreNowhereStuck task all index
+IsStuckSoFar task all index (Some place) =
+    (key : Noted) × IsRowAt all place key × IsStuck (plain_at task.flat key.state) × AreNowhereStuck task all place
+
+pub record Seeking (task : Task) (first now : Found) (place : ℕ) (stuck : Option ℕ) : Type 0 where
+  pub found : AreFound task now
+  pub more : IsMore first now
+  pub calm : AreCalm task now.table.rows place
+  pub expanded : AreExpanded task now.table.rows place
+  pub halted : IsStuckSoFar task now.table.rows place stuck
+
+pub seeking_first : (task : Task) (found : Found) → AreFound task found → Seeking task found found 0 None
+seeking_first task found f = record {
+  found = f;
+  more = more_same found;
+  calm = λ k key lt at. absurd (omega (arith, lt));
+  expanded = λ k lt. absurd (omega (arith, lt));
+  halted = λ k key lt at. absurd (omega (arith, lt));
+}
+
+module _ (task : Task) (first old new : Found) (place : ℕ) (stuck : Option ℕ) (s : Seeking task first old place stuck) (f : AreFound task new)
+    (m : IsMore old new) (within : place < row_count old.table.rows) where
+  old_at : (k : ℕ) (key : Noted) → k < place → IsRowAt new.table.rows k key → IsRowAt old.table.rows k key
+  old_at k key lt at = was_there old.table.rows new.table.rows k key m.rows s.found.reached.full (omega (arith, lt, within)) at
+
+  pub expanded_on : AreExpanded task new.table.rows place
+  expanded_on k lt key at = expanded_grown task old.table.rows new.table.rows key m.rows (s.expanded k lt key (old_at k key lt at))
+
+  seen_expanded : IsSeen task new place → AreExpanded task new.table.rows (place + 1)
+  seen_expanded seen k lt key at = elim (cases_eq k place) [
+    | inl same ↦
+        expanded_copy task new.table.rows key seen.key
+        (row_copy new.table.rows place key seen.key (subst (λ n. IsRowAt new.table.rows n key) same at) seen.there) seen.expanded
+    | inr apart ↦ expanded_on k (omega (arith, lt, apart)) key at
+  ]
+
+  seen_calm : IsSeen task new place → AreCalm task new.table.rows (place + 1)
+  seen_calm seen k key lt at = elim (cases_eq k place) [
+    | inl same ↦
+        subst IsCalm (same_plain task new.table.rows place seen.key key seen.there (subst (λ n. IsRowAt new.table.rows n key) same at)) seen.calm
+    | inr apart ↦ s.calm k key (omega (arith, lt, apart)) (old_at k key (omega (arith, lt, apart)) at)
+  ]
+
+  nowhere_on : (seen : IsSeen task new place) → (IsStuck (plain_at task.flat seen.key.state) → ⊥) → AreNowhereStuck task old.table.rows place
+      → AreNowhereStuck task new.table.rows (place + 1)
+  nowhere_on seen never nowhere k key lt at = elim (cases_eq k place) [
+    | inl same ↦ λ halted.
+        never (subst IsStuck (same_plain task new.table.rows place key seen.key (subst (λ n. IsRowAt new.table.rows n key) same at) seen.there) halted)
+    | inr apart ↦ nowhere k key (omega (arith, lt, apart)) (old_at k key (omega (arith, lt, apart)) at)
+  ]
+
+  -- the first state that is stuck is it still
+  still_first : (at : ℕ) → IsStuckSoFar task old.table.rows place (Some at) → IsStuckSoFar task new.table.rows (place + 1) (Some at)
+  still_first at is = (
+    is.0,
+    row_grown old.table.rows new.table.rows at is.0 m.rows is.1,
+    is.2,
+    λ k key lt there.
+        let here = row_within old.table.rows at is.0 is.1 in
+        is.3 k key lt (was_there old.table.rows new.table.rows k key m.rows s.found.reached.full (omega (arith, lt, here)) there),
+  )
+
+  past_on : (seen : IsSeen task new place) → (IsStuck (plain_at task.flat seen.key.state) → ⊥) → (o : Option ℕ) → IsStuckSoFar task old.table.rows place o
+      → IsStuckSoFar task new.table.rows (place + 1) o
+  past_on seen never None nowhere = nowhere_on seen never nowhere
+  past_on seen never (Some at) is = still_first at is
+
+  stuck_on : (seen : IsSeen task new place) → IsStuck (plain_at task.flat seen.key.state) → (o : Option ℕ) → IsStuckSoFar task old.table.rows place o
+      → IsStuckSoFar task new.table.rows (place + 1) (option_or o (Some place))
+  stuck_on seen halted None nowhere = (seen.key, seen.there, halted, λ k key lt at. nowhere k key lt (old_at k key lt at))
+  stuck_on seen halted (Some at) is = still_first at is
+
+  pub seeking_past : (seen : IsSeen task new place) → (IsStuck (plain_at task.flat seen.key.state) → ⊥) → Seeking task first new (place + 1) stuck
+  seeking_past seen never = record {
+    found = f;
+    more = more_again s.more m;
+    calm = seen_calm seen;
+    expanded = seen_expanded seen;
+    halted = past_on seen never stuck s.halted;
+  }
+
+  pub seeking_stuck : (seen : IsSeen task new place) → IsStuck (plain_at task.flat seen.key.state)
+      → Seeking task first new (place + 1) (option_or stuck (Some place))
+  seeking_stuck seen halted = record {
+    found = f;
+    more = more_again s.more m;
+    calm = seen_calm seen;
+    expanded = seen_expanded seen;
+    halted = stuck_on seen halted stuck s.halted;
+  }
+
+pub stuck_end : (task : Task) (all : Rows) (index : ℕ) → row_count all ≤ index → (o : Option ℕ) → IsStuckSoFar task all index o → IsStuckFirst task all o
+stuck_end task all index le None nowhere = λ k key lt at. nowhere k key (omega (arith, lt, le)) at
+stuck_end task all index le (Some place) is = is
+
+-- ---- for outcomes
+
+pub record Gathering (task : Task) (first now : Found) (outcomes : List Outcome) (place : ℕ) : Type 0 where
+  pub found : AreFound task now
+  pub more : IsMore first now
+  pub sound : AreSound task outcomes
+  pub done : AreGathered task now.table.rows outcomes place
+
+abbrev nothing : List Outcome
+nothing = []
+
+none_in : (k : ℕ) (outcome : Outcome) → slice_get nothing k ≡ Some outcome → ⊥
+none_in k outcome e = cc
+
+pub gathering_first : (task : Task) (found : Found) (outcomes : List Outcome) → AreFound task found → outcomes ≡ [] → Gathering task found found outcomes 0
+gathering_first task found outcomes f none = record {
+  found = f;
+  more = more_same found;
+  sound = λ k outcome at. absurd (none_in k outcome (ap (λ l. slice_get l k) (sym none) ∙ at));
+  done = λ k lt. absurd (omega (arith, lt));
+}
+
+gathered_grown : (task : Task) (old new : Rows) (some more : List Outcome) (key : Noted) → WidensRows old new → Grows some more
+    → IsGathered task old some key → IsGathered task new more key
+gathered_grown task old new some more key w g d = record {
+  expanded = expanded_grown task old new key w d.expanded;
+  gathered = λ still.
+      let o = d.gathered still in
+      record { place = o.place; outcome = o.outcome; there = stands_on o.place o.outcome g o.there; same = o.same };
+}
+
+pub gathering_on : (task : Task) (first old new : Found) (some more : List Outcome) (place : ℕ) → Gathering task first old some place → AreFound task new
+    → IsMore old new → Grows some more → AreSound task more → IsGatheredAt task new.table.rows more place → place < row_count old.table.rows
+    → Gathering task first new more (place + 1)
+gathering_on task first old new some more place g f m grown sound here within = record {
+  found = f;
+  more = more_again g.more m;
+  sound = sound;
+  done = λ k lt key at. elim (cases_eq k place) [
+    | inl same ↦ here key (subst (λ n. IsRowAt new.table.rows n key) same at)
+    | inr apart ↦
+        let there = was_there old.table.rows new.table.rows k key m.rows g.found.reached.full (omega (arith, lt, apart, within)) at in
+        gathered_grown task old.table.rows new.table.rows some more key m.rows grown (g.done k (omega (arith, lt, apart)) key there)
+  ];
+}
+
+pub gathered_at : (task : Task) (old new : Rows) (outcomes : List Outcome) (place : ℕ) (key : Noted) → WidensRows old new → IsRowAt old place key
+    → IsExpanded task new key → (IsAtRest (plain_at task.flat key.state) → HasOutcome outcomes key.notes.items) → IsGatheredAt task new outcomes place
+gathered_at task old new outcomes place key w there expanded gathered other at =
+    let copy = row_copy new place other key at (row_grown old new place key w there) in
+    record {
+      expanded = expanded_copy task new other key copy expanded;
+      gathered = λ still.
+          let o = gathered (subst IsAtRest (copy_same task.flat other.state key.state copy.state) still) in
+          record { place = o.place; outcome = o.outcome; there = o.there; same = o.same ∙ sym copy.notes };
+    }
+
+pub sound_on : (task : Task) (old new : List Outcome) (key : Noted) → AreSound task old → AddsOnly old new key.notes.items → IsReached task key
+    → IsAtRest (plain_at task.flat key.state) → AreSound task new
+sound_on task old new key sound adds r still k outcome at noting = elim (adds k outcome at) [
+  | inl there ↦ sound k outcome there noting
+  | inr same ↦ record {
+    acts = r.acts;
+    machine = r.machine;
+    led = r.led;
+    still = rest_like (plain_at task.flat key.state) r.machine (fine_key task key r) (state_fine r.led) (like_back r.alike) still;
+    are = r.noted noting ∙ sym same;
+  }
+]
+
+pub exact : (task : Task) (all : Rows) (found : List Outcome) → AreReached task all → HasStart task all → AreSound task found
+    → AreGathered task all found (row_count all) → task.noting ≡ true → (notes : List Act)
+    → (HasOutcome found notes ↔ IsOutcome task.program.now task.flat.nodes notes)
+exact task all found reached start sound done noting notes =
+    let law = outcomes task.program.now task.flat.nodes notes in (
+      λ has. law.1 (subst (IsSettledOutcome task.program.now task.flat.nodes) has.same (sound has.place has.outcome has.there noting)),
+      λ is.
+          let o = law.0 is in
+          let has = all_reached task all reached start (λ k lt key at. (done k lt key at).expanded) o.led in
+          let key = has.key in
+          let still = rest_like o.machine (plain_at task.flat key.state) (state_fine o.led) (fine_key task key (reached.each has.place key has.there))
+          has.alike o.still in
+          let h = (done has.place (row_within all has.place key has.there) key has.there).gathered still in
+          record { place = h.place; outcome = h.outcome; there = h.there; same = h.same ∙ has.noted noting ∙ o.are },
+    )
+
+-- ---- too many states
+
+-- what a row stands for keeps no value that is dead
+bare_key : (task : Task) (found : Found) (place : ℕ) (key : Noted) → AreFound task found → IsRowAt found.table.rows place key
+    → All (λ (spot : Spot). forgot task.live.items spot ≡ spot) key.state.spots.items
+bare_key task found place key f at =
+    let keys = found.table.rows.threads.keys in
+    threads_of_row (λ (spot : Spot). forgot task.live.items spot ≡ spot) keys found.table.rows.nodes at.row.threads key.state.spots.items at.stands.threads
+    (f.table (means_of task) (means_are task)).bare
+
+pub has_more_settled : (task : Task) (found : Found) (most : ℕ) → AreFound task found → most < row_count found.table.rows → HasMoreSettled task most
+has_more_settled task found most f many =
+    let all = found.table.rows in
+    let reached = f.reached in
+    let items = listed IsRowAt row_count WidensRows IsNotedCopy row_store all reached.full in
+    record {
+      keys = items.list;
+      many = subst (λ n. most < n) (sym items.long) many;
+      distinct = listed_apart IsRowAt row_count WidensRows IsNotedCopy row_store noted_eq.it all (row_apart all reached.distinct) items;
+      each = λ k key there. reached.each k key (items.at k key there);
+      bare = λ k key there. bare_key task found k key f (items.at k key there);
+    }
+
+pub too_many_states : (task : Task) (found : Found) → AreFound task found → task.most < row_count found.table.rows → IsFault task TooMany
+too_many_states task found f many = record {
+  nodes = λ e. cc;
+  many = λ e. has_more (has_more_settled task found task.most f many);
+}
+
+-- a fault of a step
+pub fault_of : (task : Task) (key : Noted) (fault : ExploreFault) → IsReached task key → IsLongFault task key.state fault → IsFault task fault
+fault_of task key fault r f = record {
+  nodes = f.nodes;
+  many = λ e. settles_long (record {
+    acts = r.acts;
+    machine = r.machine;
+    led = r.led;
+    like = plain_at task.flat key.state;
+    alike = r.alike;
+    long = f.many e;
+  });
+}
+
+-- the fault of the start
+pub long_start : (task : Task) (state : State) → IsTask task → plain_at task.flat state ≡ machine_begun task.flat task.start
+    → (k : ℕ) × MakesFree task.looked (thread_in (plain_at task.flat state) k) → (fault : ExploreFault) → fault ≡ TooMany → IsFault task fault
+long_start task state is begun makes fault too_many = record {
+  nodes = λ e. let x : TooMany ≡ BadNodes = sym too_many ∙ e in cc;
+  many = λ e. starts_long (record {
+    order = [];
+    acts = [];
+    there = plain_start task.program.now task.flat.nodes;
+    led = refl;
+    node = makes.0;
+    makes = subst (λ m. MakesFree task.looked (thread_in m makes.0)) (begun ∙ is.begun) makes.1;
+  });
+}

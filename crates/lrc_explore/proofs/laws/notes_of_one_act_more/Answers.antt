@@ -1,5 +1,0 @@
-use Rattle.lrc_explore.proofs.Noting.{notes_more}
-use Rattle.lrc_explore.proofs.laws.notes_of_one_act_more.Goals as goal
-
-pub returns : goal.returns
-returns c = notes_more

@@ -1,0 +1,37 @@
+use Rattle.std.proofs.Common.{subst}
+use Rattle.lrc_explore.specs.Reached.{IsKeyOf, SettlesStart}
+use Rattle.lrc_explore.proofs.Keys.{start_first, start_reached, has_start}
+use Rattle.lrc_explore.proofs.task.Found.begin.Goals as goal
+
+pub add-requires-clause-reached : goal.add-requires-clause-reached
+add-requires-clause-reached c =
+    let task = c.args.task.now in
+    let state = c.in_ok-state.state in
+    let acts = c.settled_start.new.acts.items in
+    let key = c.in_ok-key.key in
+    let s = subst (λ l. SettlesStart task l acts state) c.new-acts.ensures.items c.in_ok-state.ensures.start in
+    let k = subst (λ l. IsKeyOf task state l key) c.deref.ensures.value c.in_ok-key.ensures in
+    start_reached task state acts key s k
+
+pub add-requires-clause-first : goal.add-requires-clause-first
+add-requires-clause-first c =
+    let task = c.args.task.now in
+    let state = c.in_ok-state.state in
+    let acts = c.settled_start.new.acts.items in
+    let key = c.in_ok-key.key in
+    let s = subst (λ l. SettlesStart task l acts state) c.new-acts.ensures.items c.in_ok-state.ensures.start in
+    let k = subst (λ l. IsKeyOf task state l key) c.deref.ensures.value c.in_ok-key.ensures in
+    start_first task state acts key s k
+
+pub add-requires-clause-bare : goal.add-requires-clause-bare
+add-requires-clause-bare c = c.in_ok-key.ensures.bare_spots
+
+pub returns-clause-start : goal.returns-clause-start
+returns-clause-start c =
+    let task = c.args.task.now in
+    let state = c.in_ok-state.state in
+    let acts = c.settled_start.new.acts.items in
+    let key = c.in_ok-key.key in
+    let s = subst (λ l. SettlesStart task l acts state) c.new-acts.ensures.items c.in_ok-state.ensures.start in
+    let k = subst (λ l. IsKeyOf task state l key) c.deref.ensures.value c.in_ok-key.ensures in
+    has_start task state acts key s k c.add.new.self.table.rows c.in_ok-add.ensures.has

@@ -1,0 +1,13 @@
+-- What the steps of the nodes so far lead to is there.
+use Rattle.std.proofs.Common.{ℕ, ◌<◌}
+use Rattle.lrc_orders_settling.specs.declared.step.Step.TheVariants.{Alone, Together}
+use Rattle.lrc_explore.specs.Reached.{AreFound, HasAfterAt, IsMore}
+use Rattle.lrc_explore.proofs.task.Found.expand.Given as goal
+
+abbrev pub invariant-loop-node : goal.invariant-loop-node
+invariant-loop-node l = record {
+  found : AreFound l.task l.self;
+  more : IsMore l.fn.self l.self;
+  all : HasAfterAt l.task l.self.table.rows l.place Together;
+  each : (k : ℕ) → k < l.node → HasAfterAt l.task l.self.table.rows l.place (Alone k);
+}

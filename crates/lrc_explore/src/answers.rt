@@ -1,0 +1,273 @@
+// What is answered of a program.
+
+ghost use Rattle.std.specs.Prelude.{◌≡◌, ◌≢◌, ◌≤◌, ◌++◌, ◌↔◌, List, IfOk, IfErr, MatchResult, Err, true, false};
+ghost use Rattle.lrc_trace.specs.declared.act.Act.{Act as ActType};
+ghost use Rattle.lrc_exec.specs.Nodes.{AreNodes};
+ghost use Rattle.lrc_exec.specs.Spots.{IsFlatOf};
+ghost use Rattle.lrc_consistency_laws.specs.Follows.{nodes_of_acts};
+ghost use Rattle.lrc_orders.specs.Outcome.{HasOutcome, IsOutcome};
+ghost use Rattle.lrc_explore.specs.Answers.{FitsSettled, FitsSettledNoted, IsAnswer, IsFaultOf, MetTooMany, looked_at};
+ghost use Rattle.lrc_orders.specs.Verdict.{FindsNoRace};
+ghost use Rattle.lrc_explore.specs.Reached.{IsTask};
+
+use crate::task::{End, Found, Task};
+use indexmap::IndexSet;
+use lrc_exec::code::Code;
+use lrc_exec::spot::Flat;
+use lrc_lang::program::Program;
+use lrc_orders::outcomes::Outcome;
+use lrc_orders::search::{ExploreFault, Verdict};
+use lrc_orders_live::live_names;
+use lrc_trace::act::Act;
+use std::alloc::{AllocError, Global};
+
+/// Searches the settled states of a program on this many nodes. It tells whether an order races, and if none does,
+/// whether one gets stuck. It fails with `BadNodes` exactly if the number of nodes is not 1 to 16. It gives up with
+/// `TooMany` only if there are more states to tell apart than `most`, or if a thread makes 1,000,000 + 20 * `most` free
+/// acts one after another. It fails if memory runs out.
+pub fn explore(
+    alloc: Global,
+    program: &Program,
+    nodes: u32,
+    most: usize,
+) -> Result<Verdict, ExploreFault>
+    ensures answer { IfOk result (IsAnswer program.now nodes) }
+    ensures fits { IfOk result (λ verdict. FindsNoRace verdict
+        → FitsSettled program.now nodes most) }
+    ensures bad_nodes { (result ≡ Err ExploreFault.BadNodes) ↔ (¬ AreNodes nodes) }
+    ensures too_many { IfErr result (λ fault. fault ≡ ExploreFault.TooMany
+        → MetTooMany program.now nodes most false) }
+{
+    let count = count_of(nodes)?;
+    let code = Code::new(alloc, program)?;
+    explore_code(alloc, &code, count, most)
+}
+
+// The same of a program's flat code.
+fn explore_code(
+    alloc: Global,
+    code: &Code<'_>,
+    nodes: u8,
+    most: usize,
+) -> Result<Verdict, ExploreFault>
+    ensures answer { IfOk result (IsAnswer code.now nodes) }
+    ensures fits { IfOk result (λ verdict. FindsNoRace verdict → FitsSettled code.now nodes most) }
+    ensures faults { IfErr result (IsFaultOf code.now nodes most false) }
+{
+    let task = task_of(alloc, code, nodes, most, false)?;
+    let mut found = Found::none(alloc, nodes as usize);
+    found.answer(alloc, &task)
+}
+
+/// Returns every outcome of the orders in which this many nodes can run a program, after which no node can make an act.
+/// It fails as `explore` does.
+pub fn outcomes(
+    alloc: Global,
+    program: &Program,
+    nodes: u32,
+    most: usize,
+) -> Result<IndexSet<Outcome>, ExploreFault>
+    ensures exact { IfOk result (λ found. (notes : List ActType)
+        → (HasOutcome found.keys notes ↔ IsOutcome program.now nodes notes)) }
+    ensures fits { IfOk result (λ _. FitsSettledNoted program.now nodes most) }
+    ensures bad_nodes { (result ≡ Err ExploreFault.BadNodes) ↔ (¬ AreNodes nodes) }
+    ensures too_many { IfErr result (λ fault. fault ≡ ExploreFault.TooMany
+        → MetTooMany program.now nodes most true) }
+{
+    let count = count_of(nodes)?;
+    let code = Code::new(alloc, program)?;
+    outcomes_of(alloc, &code, count, most)
+}
+
+// The same of a program's flat code.
+fn outcomes_of(
+    alloc: Global,
+    code: &Code<'_>,
+    nodes: u8,
+    most: usize,
+) -> Result<IndexSet<Outcome>, ExploreFault>
+    ensures exact { IfOk result (λ found. (notes : List ActType)
+        → (HasOutcome found.keys notes ↔ IsOutcome code.now nodes notes)) }
+    ensures fits { IfOk result (λ _. FitsSettledNoted code.now nodes most) }
+    ensures faults { IfErr result (IsFaultOf code.now nodes most true) }
+{
+    let task = task_of(alloc, code, nodes, most, true)?;
+    let mut found = Found::none(alloc, nodes as usize);
+    let mut outcomes = IndexSet::new(alloc);
+    let all = found.all_outcomes(alloc, &task, &mut outcomes);
+    match all {
+        Ok(()) => Ok(outcomes),
+        Err(fault) => Err(fault),
+    }
+}
+
+/// Returns the task of searching a program's code. It fails if memory runs out.
+pub fn task_of<'c>(
+    alloc: Global,
+    code: &'c Code<'c>,
+    nodes: u8,
+    most: usize,
+    noting: bool,
+) -> Result<Task<'c>, AllocError>
+    ensures task { IfOk result IsTask }
+    ensures program { IfOk result (λ task. task.program.now ≡ code.now) }
+    ensures flat { IfOk result (λ task. IsFlatOf code.now nodes task.flat task.start) }
+    ensures nodes { IfOk result (λ task. task.flat.nodes ≡ nodes) }
+    ensures most { IfOk result (λ task. task.most ≡ most) }
+    ensures looked { IfOk result (λ task. task.looked ≡ looked_at most) }
+    ensures noting { IfOk result (λ task. task.noting ≡ noting) }
+{
+    let (instructions, start) = code.parts();
+    Ok(Task {
+        program: code.program(),
+        flat: Flat {
+            code: instructions,
+            words: code.words(),
+            locks: code.locks(),
+            nodes,
+        },
+        start,
+        live: live_names(alloc, instructions)?,
+        most,
+        looked: looked_at(most),
+        noting,
+    })
+}
+
+// How many free acts of a thread are looked at.
+fn looked_at(most: usize) -> u64
+    ensures { result ≡ looked_at most }
+{
+    (most as u64).saturating_mul(20).saturating_add(1_000_000)
+}
+
+// How many nodes there are, where they are 1 to 16.
+fn count_of(nodes: u32) -> Result<u8, ExploreFault>
+    ensures { MatchResult result (λ count. (count ≡ nodes) × AreNodes nodes)
+        (λ fault. (fault ≡ ExploreFault.BadNodes) × ¬ AreNodes nodes) }
+{
+    if nodes < 1 || nodes > 16 {
+        return Err(ExploreFault::BadNodes);
+    }
+    Ok(nodes as u8)
+}
+
+// The nodes of acts, in their order, and then these.
+fn order_of(alloc: Global, acts: &[Act], more: &[usize]) -> Result<Vec<usize>, AllocError>
+    ensures { IfOk result (λ order. order.items ≡ nodes_of_acts acts.now ++ more.now) }
+{
+    let mut order = Vec::new(alloc);
+    for act in acts {
+        order.push(act.node as usize)?;
+    }
+    order.extend_from_slice(more)?;
+    Ok(order)
+}
+
+impl Found {
+    ghost use Rattle.std.specs.Prelude.{◌≡◌, IfOk, IfErr, OnOk, [], true, Some};
+    ghost use Rattle.lrc_orders_table.specs.Rows.{row_count};
+    ghost use Rattle.lrc_explore.specs.Reached.{AreFound, HasStart, IsTask};
+    ghost use Rattle.lrc_explore.specs.Ended.{AreAllFound};
+    ghost use Rattle.lrc_explore.specs.Answers.{FitsEnd, FitsSettled, FitsSettledNoted, IsAnswer, IsEnd, IsFault};
+    ghost use Rattle.lrc_orders.specs.Verdict.{FindsNoRace};
+    ghost use Rattle.lrc_explore.specs.declared.task.End.TheVariants.{Meeting, Through};
+
+    // From the settled start on, where there are no states yet: what is answered.
+    fn answer(&mut self, alloc: Global, task: &Task<'_>) -> Result<Verdict, ExploreFault>
+        requires task { IsTask task.now }
+        requires found { AreFound task.now self.old }
+        requires none { row_count self.old.table.rows ≡ 0 }
+        ensures answer { IfOk result (IsAnswer task.now.program.now task.now.flat.nodes) }
+        ensures fits { IfOk result (λ verdict. FindsNoRace verdict
+            → FitsSettled task.now.program.now task.now.flat.nodes task.now.most) }
+        ensures faults { IfErr result (IsFault task.now) }
+    {
+        self.begin(alloc, task)?;
+        let end = self.seek(alloc, task)?;
+        self.verdict(alloc, task, end)
+    }
+
+    // What a search that ended so says.
+    fn verdict(&self, alloc: Global, task: &Task<'_>, end: End) -> Result<Verdict, ExploreFault>
+        requires task { IsTask task.now }
+        requires found { AreFound task.now self.now }
+        requires start { HasStart task.now self.now.table.rows }
+        requires end { IsEnd task.now self.now end }
+        requires few { FitsEnd task.now self.now end }
+        ensures answer { IfOk result (IsAnswer task.now.program.now task.now.flat.nodes) }
+        ensures fits { IfOk result (λ verdict. FindsNoRace verdict
+            → FitsSettled task.now.program.now task.now.flat.nodes task.now.most) }
+        ensures faults { IfErr result (IsFault task.now) }
+    {
+        match end {
+            End::Meeting { place, p, q } => self.race_told(alloc, task, place, p, q),
+            End::Through { stuck: Some(place) } => self.stuck_told(alloc, task, place),
+            End::Through { stuck: None } => Ok(Verdict::RaceFree { stuck: None }),
+        }
+    }
+
+    // An order whose last two acts race.
+    fn race_told(
+        &self,
+        alloc: Global,
+        task: &Task<'_>,
+        place: usize,
+        p: usize,
+        q: usize,
+    ) -> Result<Verdict, ExploreFault>
+        requires task { IsTask task.now }
+        requires found { AreFound task.now self.now }
+        requires meeting { IsEnd task.now self.now (Meeting place p q) }
+        ensures answer { IfOk result (IsAnswer task.now.program.now task.now.flat.nodes) }
+        ensures racy { IfOk result (λ verdict. ¬ FindsNoRace verdict) }
+        ensures faults { IfErr result (IsFault task.now) }
+    {
+        let acts = self.acts_to(alloc, task, place)?;
+        let order = order_of(alloc, &acts, &[p, q])?;
+        Ok(Verdict::Racy { order })
+    }
+
+    // An order that gets stuck.
+    fn stuck_told(
+        &self,
+        alloc: Global,
+        task: &Task<'_>,
+        place: usize,
+    ) -> Result<Verdict, ExploreFault>
+        requires task { IsTask task.now }
+        requires found { AreFound task.now self.now }
+        requires start { HasStart task.now self.now.table.rows }
+        requires stuck { IsEnd task.now self.now (Through (Some place)) }
+        ensures answer { IfOk result (IsAnswer task.now.program.now task.now.flat.nodes) }
+        ensures faults { IfErr result (IsFault task.now) }
+    {
+        let acts = self.acts_to(alloc, task, place)?;
+        let order = order_of(alloc, &acts, &[])?;
+        Ok(Verdict::RaceFree { stuck: Some(order) })
+    }
+
+    // From the settled start on, where there are no states yet: every settled state, and every outcome.
+    pub(crate) fn all_outcomes(
+        &mut self,
+        alloc: Global,
+        task: &Task<'_>,
+        outcomes: &mut IndexSet<Outcome>,
+    ) -> Result<(), ExploreFault>
+        requires task { IsTask task.now }
+        requires noting { task.now.noting ≡ true }
+        requires found { AreFound task.now self.old }
+        requires none { row_count self.old.table.rows ≡ 0 }
+        requires empty { outcomes.old.keys ≡ [] }
+        ensures all { OnOk result (AreAllFound task.now self.new) }
+        ensures exact { OnOk result ((notes : List ActType)
+            → (HasOutcome outcomes.new.keys notes
+            ↔ IsOutcome task.now.program.now task.now.flat.nodes notes)) }
+        ensures fits { OnOk result (FitsSettledNoted task.now.program.now task.now.flat.nodes
+            task.now.most) }
+        ensures faults { IfErr result (IsFault task.now) }
+    {
+        self.begin(alloc, task)?;
+        self.gather(alloc, task, outcomes)
+    }
+}

@@ -1,0 +1,319 @@
+// States that were found, and how.
+
+ghost use Rattle.std.specs.Prelude.{◌≡◌, ◌++◌, [], IfOk, IfErr, OnOk, MatchOption, MatchResult, true, false};
+ghost use Rattle.lrc_orders.specs.declared.search.ExploreFault.TheVariants.{TooMany};
+ghost use Rattle.lrc_exec.specs.States.{plain_at, IsStateOf};
+ghost use Rattle.lrc_orders_laws.specs.Settling.{IsSettled};
+ghost use Rattle.lrc_orders_settling.specs.declared.step.Step.TheVariants.{Alone, Together};
+ghost use Rattle.lrc_orders_settling.specs.Taking.{IsCounted};
+ghost use Rattle.lrc_explore.specs.Reached.{CannotTake, HasTakenTo, IsKeyOf, IsTask, SettlesStart};
+ghost use Rattle.lrc_orders_table.specs.Nexts.{notes_on};
+ghost use Rattle.lrc_explore.specs.Answers.{IsFault, IsLongFault};
+
+use crate::task::{Found, Origin, Task};
+use lrc_exec::state::State;
+use lrc_orders::noted::Noted;
+use lrc_orders::notes::note;
+use lrc_orders::search::ExploreFault;
+use lrc_orders_live::forget_dead;
+use lrc_orders_settling::settle::settle;
+use lrc_orders_settling::step::{Step, all_wait, contended_deed, count, take_alone, take_together};
+use lrc_orders_table::rows::Row;
+use lrc_orders_table::table::Table;
+use lrc_trace::act::Act;
+use std::alloc::{AllocError, Global};
+
+// Says no where more was to be looked at than may be.
+fn or_too_many(done: bool) -> Result<(), ExploreFault>
+    ensures { MatchResult result (λ _. done ≡ true)
+        (λ fault. (fault ≡ ExploreFault.TooMany) × (done ≡ false)) }
+{
+    if done {
+        Ok(())
+    } else {
+        Err(ExploreFault::TooMany)
+    }
+}
+
+/// Returns the state that a step leads to, and appends the acts to `acts`. If the step cannot be taken, it returns none
+/// and appends nothing. It fails if memory runs out, or if a node makes so many free acts that the limit is reached.
+pub fn taken(
+    alloc: Global,
+    task: &Task<'_>,
+    state: &State,
+    step: Step,
+    acts: &mut Vec<Act>,
+) -> Result<Option<State>, ExploreFault>
+    requires task { IsTask task.now }
+    requires state { IsStateOf task.now.flat state.now }
+    requires counted { IsCounted state.now }
+    requires settled { IsSettled (plain_at task.now.flat state.now) }
+    ensures taken { IfOk result (λ after. MatchOption after
+        (CannotTake task.now state.now step × (acts.new.items ≡ acts.old.items))
+        (HasTakenTo task.now state.now step acts.old.items acts.new.items)) }
+    ensures faults { IfErr result (IsLongFault task.now state.now) }
+{
+    match step {
+        Step::Alone(node) => taken_alone(alloc, task, state, node as usize, acts),
+        Step::Together => taken_together(alloc, task, state, acts),
+    }
+}
+
+// The same of the step of one node.
+fn taken_alone(
+    alloc: Global,
+    task: &Task<'_>,
+    state: &State,
+    node: usize,
+    acts: &mut Vec<Act>,
+) -> Result<Option<State>, ExploreFault>
+    requires task { IsTask task.now }
+    requires state { IsStateOf task.now.flat state.now }
+    requires counted { IsCounted state.now }
+    requires settled { IsSettled (plain_at task.now.flat state.now) }
+    ensures taken { IfOk result (λ after. MatchOption after
+        (CannotTake task.now state.now (Alone node) × (acts.new.items ≡ acts.old.items))
+        (HasTakenTo task.now state.now (Alone node) acts.old.items acts.new.items)) }
+    ensures faults { IfErr result (IsLongFault task.now state.now) }
+{
+    let Some(deed) = contended_deed(&task.flat, state, node) else {
+        return Ok(None);
+    };
+    let mut after = state.copy(alloc)?;
+    let done = take_alone(alloc, &task.flat, &mut after, node, deed, task.looked, acts)?;
+    or_too_many(done)?;
+    Ok(Some(after))
+}
+
+// The same of the step of all nodes.
+fn taken_together(
+    alloc: Global,
+    task: &Task<'_>,
+    state: &State,
+    acts: &mut Vec<Act>,
+) -> Result<Option<State>, ExploreFault>
+    requires task { IsTask task.now }
+    requires state { IsStateOf task.now.flat state.now }
+    requires counted { IsCounted state.now }
+    ensures taken { IfOk result (λ after. MatchOption after
+        (CannotTake task.now state.now Together × (acts.new.items ≡ acts.old.items))
+        (HasTakenTo task.now state.now Together acts.old.items acts.new.items)) }
+    ensures faults { IfErr result (IsLongFault task.now state.now) }
+{
+    if !all_wait(&task.flat, state) {
+        return Ok(None);
+    }
+    let mut after = state.copy(alloc)?;
+    let done = take_together(alloc, &task.flat, &mut after, task.looked, acts)?;
+    or_too_many(done)?;
+    Ok(Some(after))
+}
+
+/// Returns the settled start, and appends its acts to `acts`. It fails if memory runs out, or if a node makes so many
+/// free acts that the limit is reached.
+pub fn settled_start(
+    alloc: Global,
+    task: &Task<'_>,
+    acts: &mut Vec<Act>,
+) -> Result<State, ExploreFault>
+    requires task { IsTask task.now }
+    ensures valid { IfOk result (IsStateOf task.now.flat) }
+    ensures start { IfOk result (SettlesStart task.now acts.old.items acts.new.items) }
+    ensures faults { IfErr result (IsFault task.now) }
+{
+    let mut state = State::start(alloc, &task.flat, task.start)?;
+    let nodes = state.spots.len();
+    let done = settle(alloc, &task.flat, &mut state, 0, nodes, task.looked, acts)?;
+    or_too_many(done)?;
+    Ok(state)
+}
+
+/// Returns what is kept of the start, which settled by these acts.
+#[tactic(auto, using(crate::proofs::Keys::bare_by))]
+fn key_of(alloc: Global, task: &Task<'_>, state: State, acts: &[Act]) -> Result<Noted, AllocError>
+    requires task { IsTask task.now }
+    requires state { IsStateOf task.now.flat state }
+    ensures { IfOk result (IsKeyOf task.now state acts.now) }
+{
+    let mut state = state;
+    count(&task.flat, &mut state)?;
+    forget_dead(&task.flat, &task.live, &mut state);
+    let notes = notes_of(alloc, task, acts)?;
+    Ok(Noted { state, notes })
+}
+
+// The notes of acts, if notes are kept, and else none.
+fn notes_of(alloc: Global, task: &Task<'_>, acts: &[Act]) -> Result<Vec<Act>, AllocError>
+    ensures noted { IfOk result (λ all. task.now.noting ≡ true
+        → all.items ≡ notes_on [] acts.now) }
+    ensures bare { IfOk result (λ all. task.now.noting ≡ false → all.items ≡ []) }
+{
+    let mut all = Vec::new(alloc);
+    if !task.noting {
+        return Ok(all);
+    }
+    note_all(&mut all, acts)?;
+    Ok(all)
+}
+
+// Notes several acts.
+#[tactic(auto, using(crate::proofs::Keys::noted_more))]
+fn note_all(notes: &mut Vec<Act>, acts: &[Act]) -> Result<(), AllocError>
+    ensures { OnOk result (notes.new.items ≡ notes_on notes.old.items acts.now) }
+{
+    for act in acts {
+        note(notes, *act)?;
+    }
+    Ok(())
+}
+
+impl Found {
+    ghost use Rattle.std.specs.Prelude.{◌≡◌, ◌<◌, All, IfOk, IfErr, MatchOption, OnOk};
+    ghost use Rattle.lrc_orders_live.specs.Live.{forgot};
+    ghost use Rattle.lrc_orders.specs.declared.noted.Noted.{Noted as Key};
+    ghost use Rattle.lrc_orders_table.specs.Rows.{IsRowAt, StandsFor, row_count};
+    ghost use Rattle.lrc_explore.specs.declared.task.Task.{Task as TheTask};
+    ghost use Rattle.lrc_explore.specs.Reached.{AreFound, CannotTakeAt, HasAfterAt, HasStart, IsExpandedAt, IsFirstKey, IsKept, IsMore, IsNext, IsReached, IsStepOf, IsTask, LeadsTo};
+    ghost use Rattle.lrc_explore.specs.Answers.{IsFault};
+
+    /// Makes a list without states, for this many nodes.
+    pub fn none(alloc: Global, nodes: usize) -> Found
+        ensures none { row_count result.table.rows ≡ 0 }
+        ensures found { (task : TheTask) → task.flat.nodes ≡ nodes → AreFound task result }
+    {
+        Found {
+            table: Table::new(alloc, nodes),
+            origins: Vec::new(alloc),
+        }
+    }
+
+    /// Adds the settled start. There must be no states yet.
+    pub fn begin(&mut self, alloc: Global, task: &Task<'_>) -> Result<(), ExploreFault>
+        requires task { IsTask task.now }
+        requires found { AreFound task.now self.old }
+        requires none { row_count self.old.table.rows ≡ 0 }
+        ensures found { OnOk result (AreFound task.now self.new) }
+        ensures start { OnOk result (HasStart task.now self.new.table.rows) }
+        ensures faults { IfErr result (IsFault task.now) }
+    {
+        let mut acts = Vec::new(alloc);
+        let state = settled_start(alloc, task, &mut acts)?;
+        let key = key_of(alloc, task, state, &acts)?;
+        Ok(self.add(task, key)?)
+    }
+
+    // Adds the first state.
+    fn add(&mut self, task: &Task<'_>, key: Noted) -> Result<(), AllocError>
+        requires task { IsTask task.now }
+        requires found { AreFound task.now self.old }
+        requires none { row_count self.old.table.rows ≡ 0 }
+        requires reached { IsReached task.now key }
+        requires bare { All (λ spot. forgot task.now.live.items spot ≡ spot)
+            key.state.spots.items }
+        requires first { IsFirstKey task.now key }
+        ensures found { OnOk result (AreFound task.now self.new) }
+        ensures has { OnOk result (IsKept self.new.table.rows key) }
+    {
+        let (_place, added) = self.table.add(&task.means(), key)?;
+        if added {
+            self.origins.push(Origin {
+                parent: 0,
+                step: Step::Together,
+            })?;
+        }
+        Ok(())
+    }
+
+    /// Adds the states that a step leads to from that at a place.
+    pub fn expand(
+        &mut self,
+        alloc: Global,
+        task: &Task<'_>,
+        place: usize,
+    ) -> Result<(), ExploreFault>
+        requires task { IsTask task.now }
+        requires found { AreFound task.now self.old }
+        requires within { place < row_count self.old.table.rows }
+        ensures found { OnOk result (AreFound task.now self.new) }
+        ensures more { OnOk result (IsMore self.old self.new) }
+        ensures expanded { OnOk result (IsExpandedAt task.now self.new.table.rows place) }
+        ensures faults { IfErr result (IsFault task.now) }
+    {
+        self.expand_step(alloc, task, place, Step::Together)?;
+        for node in 0..task.flat.nodes {
+            self.expand_step(alloc, task, place, Step::Alone(node))?;
+        }
+        Ok(())
+    }
+
+    // The state that a step leads to from that at a place, if it can be taken.
+    fn expand_step(
+        &mut self,
+        alloc: Global,
+        task: &Task<'_>,
+        place: usize,
+        step: Step,
+    ) -> Result<(), ExploreFault>
+        requires task { IsTask task.now }
+        requires found { AreFound task.now self.old }
+        requires within { place < row_count self.old.table.rows }
+        requires step { IsStepOf task.now step }
+        ensures found { OnOk result (AreFound task.now self.new) }
+        ensures more { OnOk result (IsMore self.old self.new) }
+        ensures after { OnOk result (HasAfterAt task.now self.new.table.rows place step) }
+        ensures faults { IfErr result (IsFault task.now) }
+    {
+        let Some(row) = self.row_after(alloc, task, place, step)? else {
+            return Ok(());
+        };
+        let origin = Origin {
+            parent: place,
+            step,
+        };
+        Ok(self.put(task, row, origin)?)
+    }
+
+    // The row that a step leads to from that at a place, if it can be taken.
+    fn row_after(
+        &mut self,
+        alloc: Global,
+        task: &Task<'_>,
+        place: usize,
+        step: Step,
+    ) -> Result<Option<Row>, ExploreFault>
+        requires task { IsTask task.now }
+        requires found { AreFound task.now self.old }
+        requires within { place < row_count self.old.table.rows }
+        requires step { IsStepOf task.now step }
+        ensures found { OnOk result (AreFound task.now self.new) }
+        ensures more { OnOk result (IsMore self.old self.new) }
+        ensures taken { IfOk result (λ after. MatchOption after
+            (CannotTakeAt task.now self.new.table.rows place step)
+            (LeadsTo task.now self.new.table.rows place step)) }
+        ensures faults { IfErr result (IsFault task.now) }
+    {
+        let row = self.table.rows.row(place);
+        let means = task.means();
+        match step {
+            Step::Alone(node) => self.table.alone(alloc, &means, &row, node as usize),
+            Step::Together => self.table.together(alloc, &means, &row),
+        }
+    }
+
+    // One row more, if it is new.
+    fn put(&mut self, task: &Task<'_>, row: Row, origin: Origin) -> Result<(), AllocError>
+        requires found { AreFound task.now self.old }
+        requires next { IsNext task.now self.old.table.rows origin row }
+        ensures found { OnOk result (AreFound task.now self.new) }
+        ensures more { OnOk result (IsMore self.old self.new) }
+        ensures has { OnOk result ((key : Key) → StandsFor self.old.table.rows row key
+            → IsKept self.new.table.rows key) }
+    {
+        let _most = task.most;
+        let (_place, added) = self.table.put(row)?;
+        if added {
+            self.origins.push(origin)?;
+        }
+        Ok(())
+    }
+}

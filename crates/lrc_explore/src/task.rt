@@ -1,0 +1,67 @@
+// What is searched, and what was found.
+
+ghost use Rattle.lrc_explore.specs.Reached.{IsMeansOf};
+
+use lrc_exec::spot::Flat;
+use lrc_lang::program::Program;
+use lrc_orders_settling::step::Step;
+use lrc_orders_table::known::Means;
+use lrc_orders_table::table::Table;
+
+/// The task of a search: a program, its code and the place where the code begins, the names that matter at each place,
+/// the limit on the number of states, the limit on a thread's free acts to look at, and whether notes are kept.
+#[derive(Drop)]
+pub struct Task<'c> {
+    pub program: &'c Program,
+    pub flat: Flat<'c>,
+    pub start: usize,
+    pub live: Vec<[bool; 32]>,
+    pub most: usize,
+    pub looked: u64,
+    pub noting: bool,
+}
+
+impl Task<'_> {
+    /// Returns what steps from rows are taken by.
+    pub(crate) fn means(&self) -> Means<'_>
+        ensures { IsMeansOf self.now result }
+    {
+        Means {
+            flat: self.flat,
+            live: &self.live,
+            looked: self.looked,
+            noting: self.noting,
+        }
+    }
+}
+
+/// How a state was found: from which state, and by which step.
+#[derive(Clone, Copy)]
+pub struct Origin {
+    pub parent: usize,
+    pub step: Step,
+}
+
+/// The states found, each once, in the order of finding, with what is known of the steps of their threads, and how each
+/// was found.
+#[derive(Drop)]
+pub struct Found {
+    pub table: Table,
+    pub origins: Vec<Origin>,
+}
+
+/// Where a search ended: at a state where two nodes meet, or past all states, with the first state at which the program
+/// is stuck, if any.
+#[derive(Clone, Copy)]
+pub enum End {
+    Meeting { place: usize, p: usize, q: usize },
+    Through { stuck: Option<usize> },
+}
+
+/// What a visit to a state saw: two nodes that meet, a stuck program, or neither.
+#[derive(Clone, Copy)]
+pub enum Visit {
+    Meeting(usize, usize),
+    Stuck,
+    Past,
+}

@@ -1,0 +1,104 @@
+// The acts that lead to a state.
+
+use crate::found::{settled_start, taken};
+use crate::task::{Found, Task};
+use lrc_orders::search::ExploreFault;
+use lrc_trace::act::Act;
+use std::alloc::{AllocError, Global};
+
+impl Found {
+    ghost use Rattle.std.specs.Prelude.{◌≡◌, ◌<◌, ◌++◌, IfOk, IfErr, OnOk, length};
+    ghost use Rattle.lrc_orders_table.specs.Rows.{row_count};
+    ghost use Rattle.lrc_explore.specs.Reached.{AreFound, IsTask};
+    ghost use Rattle.lrc_explore.specs.Answers.{IsFault};
+    ghost use Rattle.lrc_explore.specs.Told.{Comes, IsParentLed, LeadTo};
+
+    /// Returns acts that lead from the beginning to a settled state of the program that the state at this place stands
+    /// for. If notes are kept, they have its notes. It fails if memory runs out.
+    pub fn acts_to(
+        &self,
+        alloc: Global,
+        task: &Task<'_>,
+        place: usize,
+    ) -> Result<Vec<Act>, ExploreFault>
+        requires task { IsTask task.now }
+        requires found { AreFound task.now self.now }
+        requires within { place < row_count self.now.table.rows }
+        ensures led { IfOk result (λ acts. LeadTo task.now self.now place acts.items) }
+        ensures faults { IfErr result (IsFault task.now) }
+    {
+        let path = self.path_to(alloc, task, place)?;
+        let mut acts = Vec::new(alloc);
+        let _start = settled_start(alloc, task, &mut acts)?;
+        self.follow(alloc, task, &path, place, &mut acts)?;
+        Ok(acts)
+    }
+
+    // Takes the steps by which the states at these places were found.
+    fn follow(
+        &self,
+        alloc: Global,
+        task: &Task<'_>,
+        path: &[usize],
+        place: usize,
+        acts: &mut Vec<Act>,
+    ) -> Result<(), ExploreFault>
+        requires task { IsTask task.now }
+        requires found { AreFound task.now self.now }
+        requires comes { Comes self.now.origins.items 0 path.now place }
+        requires led { LeadTo task.now self.now 0 acts.old.items }
+        ensures led { OnOk result (LeadTo task.now self.now place acts.new.items) }
+        ensures faults { IfErr result (IsFault task.now) }
+    {
+        let _place = place;
+        for at in path {
+            self.take_again(alloc, task, *at, acts)?;
+        }
+        Ok(())
+    }
+
+    // The places on the way to a state, behind the first.
+    fn path_to(
+        &self,
+        alloc: Global,
+        task: &Task<'_>,
+        place: usize,
+    ) -> Result<Vec<usize>, AllocError>
+        requires found { AreFound task.now self.now }
+        requires within { place < row_count self.now.table.rows }
+        ensures { IfOk result (λ path. Comes self.now.origins.items 0 path.items place) }
+    {
+        let _most = task.most;
+        let mut path = Vec::new(alloc);
+        let mut at = place;
+        while at != 0 {
+            let origin = self.origins[at];
+            path.push(at)?;
+            at = origin.parent;
+        }
+        path.reverse();
+        Ok(path)
+    }
+
+    // Takes the step by which a state was found.
+    fn take_again(
+        &self,
+        alloc: Global,
+        task: &Task<'_>,
+        place: usize,
+        acts: &mut Vec<Act>,
+    ) -> Result<(), ExploreFault>
+        requires task { IsTask task.now }
+        requires found { AreFound task.now self.now }
+        requires within { place < row_count self.now.table.rows }
+        requires later { 0 < place }
+        requires led { IsParentLed task.now self.now place acts.old.items }
+        ensures led { OnOk result (LeadTo task.now self.now place acts.new.items) }
+        ensures faults { IfErr result (IsFault task.now) }
+    {
+        let origin = self.origins[place];
+        let key = self.table.rows.noted(alloc, origin.parent)?;
+        let _after = taken(alloc, task, &key.state, origin.step, acts)?;
+        Ok(())
+    }
+}

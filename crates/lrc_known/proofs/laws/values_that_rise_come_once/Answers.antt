@@ -1,5 +1,0 @@
-use Rattle.lrc_known.proofs.Tidy.{rising_once}
-use Rattle.lrc_known.proofs.laws.values_that_rise_come_once.Goals as goal
-
-pub returns : goal.returns
-returns c = rising_once

@@ -1,5 +1,0 @@
-use Rattle.lrc_lazy_front.proofs.Front.{goes_first}
-use Rattle.lrc_lazy_front.proofs.laws.a_node_that_acquires_nothing_may_go_first.Goals as goal
-
-pub returns : goal.returns
-returns c = goes_first

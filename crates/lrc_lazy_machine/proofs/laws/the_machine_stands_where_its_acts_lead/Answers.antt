@@ -1,5 +1,0 @@
-use Rattle.lrc_lazy_machine.proofs.Stepping.{stands_on}
-use Rattle.lrc_lazy_machine.proofs.laws.the_machine_stands_where_its_acts_lead.Goals as goal
-
-pub returns : goal.returns
-returns c = stands_on

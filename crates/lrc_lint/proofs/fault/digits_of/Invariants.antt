@@ -1,6 +1,0 @@
-use Rattle.std.proofs.Common.{◌≡◌, ◌++◌, take, drop}
-use Rattle.lrc_lint.specs.Told.{digits_of}
-use Rattle.lrc_lint.proofs.fault.digits_of.Given as goal
-
-abbrev pub invariant-loop-place : goal.invariant-loop-place
-invariant-loop-place l = digits_of l.text ≡ take l.place l.text ++ digits_of (drop l.place l.text)

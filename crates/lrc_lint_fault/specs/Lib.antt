@@ -1,0 +1,2 @@
+pub mod Hint
+pub mod Told

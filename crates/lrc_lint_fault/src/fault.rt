@@ -1,0 +1,269 @@
+// A fault, with what stands around it.
+
+ghost use Rattle.std.specs.Prelude.{◌≡◌, ◌↔◌, drop, IsTrue};
+ghost use Rattle.lrc_lang.specs.Lexemes.{keyword_text, sign_text};
+ghost use Rattle.lrc_lang.specs.Parser.View.{lexeme_of};
+ghost use Rattle.lrc_lang.specs.Token.{finish, token};
+ghost use Rattle.lrc_lint_fault.specs.Told.{digits_of, is_digit, spelled};
+
+use lrc_lang::fault::FaultKind;
+use lrc_lang::kind::Kind;
+use lrc_lang::positions::Located;
+use lrc_lang::token::{Keyword, Lexeme, Sign, Token};
+use lrc_lint_lines::kind::{has, has_all};
+use lrc_lint_lines::{operand_kinds, operator_kinds, statement_kinds};
+
+/// The first fault of a text.
+#[derive(Clone, Copy)]
+pub struct Fault<'t> {
+    pub text: &'t [u8],
+    /// The tokens before the fault.
+    pub before: &'t [Located<'t>],
+    /// The token or byte at fault.
+    pub found: Located<'t>,
+    pub kind: FaultKind,
+    /// The kinds of tokens that may stand in its place.
+    pub may_stand: &'t [Kind],
+}
+
+impl<'t> Fault<'t> {
+    /// Returns the token right before the fault.
+    pub fn previous(&self) -> Option<Located<'t>> {
+        self.before.last().copied()
+    }
+
+    /// Returns whether the fault is among the first six tokens of the text, where a program says how many words and
+    /// locks it has.
+    pub fn is_in_header(&self) -> bool {
+        self.before.len() < 6
+    }
+
+    pub fn may(&self, kind: Kind) -> bool {
+        has(self.may_stand, kind)
+    }
+
+    pub fn may_sign(&self, sign: Sign) -> bool {
+        self.may(Kind::Sign(sign))
+    }
+
+    pub fn may_begin_statement(&self) -> bool {
+        has_all(self.may_stand, statement_kinds())
+    }
+
+    pub fn may_begin_operand(&self) -> bool {
+        has_all(self.may_stand, operand_kinds())
+    }
+
+    pub fn may_go_on(&self) -> bool {
+        has_all(self.may_stand, operator_kinds())
+    }
+
+    /// Returns whether the token at fault is this sign.
+    pub fn is(&self, sign: Sign) -> bool {
+        is_sign(self.found, sign)
+    }
+
+    pub fn is_any_sign(&self) -> bool {
+        matches!(self.found.lexeme, Lexeme::Token(Token::Sign(_)))
+    }
+
+    pub fn is_end(&self) -> bool
+        ensures { IsTrue result ↔ (lexeme_of self.now.found.lexeme ≡ token finish) }
+    {
+        matches!(self.found.lexeme, Lexeme::Token(Token::End))
+    }
+
+    pub fn is_keyword(&self) -> bool {
+        matches!(self.found.lexeme, Lexeme::Token(Token::Keyword(_)))
+    }
+
+    pub fn is_else(&self) -> bool {
+        matches!(
+            self.found.lexeme,
+            Lexeme::Token(Token::Keyword(Keyword::Else))
+        )
+    }
+
+    pub fn is_name(&self) -> bool {
+        matches!(self.found.lexeme, Lexeme::Token(Token::Name(_)))
+    }
+
+    pub fn is_operator(&self) -> bool {
+        matches!(
+            self.found.lexeme,
+            Lexeme::Token(Token::Sign(
+                Sign::Plus | Sign::Minus | Sign::Star | Sign::Slash | Sign::Percent
+            ))
+        )
+    }
+
+    pub fn is_comparison(&self) -> bool {
+        matches!(
+            self.found.lexeme,
+            Lexeme::Token(Token::Sign(
+                Sign::Equal
+                    | Sign::NotEqual
+                    | Sign::Less
+                    | Sign::LessOrEqual
+                    | Sign::Greater
+                    | Sign::GreaterOrEqual
+            ))
+        )
+    }
+
+    pub fn is_statement_keyword(&self) -> bool {
+        matches!(
+            self.found.lexeme,
+            Lexeme::Token(Token::Keyword(
+                Keyword::Acquire
+                    | Keyword::Release
+                    | Keyword::Barrier
+                    | Keyword::Print
+                    | Keyword::If
+                    | Keyword::While
+            ))
+        )
+    }
+
+    /// Returns whether this sign is right before the fault.
+    pub fn is_behind(&self, sign: Sign) -> bool {
+        match self.previous() {
+            Some(previous) => is_sign(previous, sign),
+            None => false,
+        }
+    }
+
+    /// Returns the name right before the fault, if there is one.
+    pub fn name_before(&self) -> Option<&'t [u8]> {
+        match self.previous()?.lexeme {
+            Lexeme::Token(Token::Name(name)) => Some(name),
+            _ => None,
+        }
+    }
+
+    /// Returns the keyword right before the fault, if there is one.
+    pub fn keyword_before(&self) -> Option<Keyword> {
+        match self.previous()?.lexeme {
+            Lexeme::Token(Token::Keyword(keyword)) => Some(keyword),
+            _ => None,
+        }
+    }
+
+    /// Returns the name right before the fault, if it begins a statement.
+    pub fn opening_name(&self) -> Option<&'t [u8]> {
+        if self.may_sign(Sign::Assign) {
+            self.name_before()
+        } else {
+            None
+        }
+    }
+
+    /// Returns whether the token right before the fault is on the same line.
+    pub fn is_on_line_of_previous(&self) -> bool {
+        match self.previous() {
+            Some(previous) => previous.line == self.found.line,
+            None => false,
+        }
+    }
+
+    /// Returns the spelling of the token at fault.
+    pub fn spelling(&self) -> &'t [u8]
+        ensures { result.now ≡ spelled self.now.text.now self.now.found.offset
+            (lexeme_of self.now.found.lexeme) }
+    {
+        spelling(self.text, self.found)
+    }
+}
+
+/// Returns whether a token is this sign.
+pub fn is_sign(located: Located<'_>, wanted: Sign) -> bool {
+    matches!(located.lexeme, Lexeme::Token(Token::Sign(sign)) if sign == wanted)
+}
+
+/// Returns the spelling of a token in a text.
+pub fn spelling<'t>(text: &'t [u8], located: Located<'t>) -> &'t [u8]
+    ensures { result.now ≡ spelled text.entry.now located.entry.offset
+        (lexeme_of located.entry.lexeme) }
+{
+    match located.lexeme {
+        Lexeme::Token(Token::Name(name)) => name,
+        Lexeme::Token(Token::Keyword(keyword)) => keyword_text(keyword),
+        Lexeme::Token(Token::Sign(sign)) => sign_text(sign),
+        Lexeme::Token(Token::Number(_)) => digits_from(text, located.offset as usize),
+        Lexeme::Token(Token::End) | Lexeme::BadByte | Lexeme::BadNumber => b"",
+    }
+}
+
+// The digits of a text from this byte on.
+fn digits_from(text: &[u8], offset: usize) -> &[u8]
+    ensures { result.now ≡ digits_of (drop offset text.now) }
+{
+    if offset < text.len() {
+        digits_of(&text[offset..])
+    } else {
+        b""
+    }
+}
+
+// The digits at the front of a text.
+fn digits_of(text: &[u8]) -> &[u8]
+    ensures { result.now ≡ digits_of text.now }
+{
+    for (place, byte) in text.iter().enumerate() {
+        if !is_digit(*byte) {
+            return &text[..place];
+        }
+    }
+    text
+}
+
+fn is_digit(byte: u8) -> bool
+    ensures { result ≡ is_digit byte }
+{
+    byte >= b'0' && byte <= b'9'
+}
+
+/// Returns the spelling of a keyword.
+pub fn keyword_text(keyword: Keyword) -> &'static [u8]
+    ensures { result.now ≡ keyword_text keyword }
+{
+    match keyword {
+        Keyword::Words => b"words",
+        Keyword::Locks => b"locks",
+        Keyword::Acquire => b"acquire",
+        Keyword::Release => b"release",
+        Keyword::Barrier => b"barrier",
+        Keyword::Print => b"print",
+        Keyword::If => b"if",
+        Keyword::Else => b"else",
+        Keyword::While => b"while",
+        Keyword::Me => b"me",
+        Keyword::Nodes => b"nodes",
+    }
+}
+
+fn sign_text(sign: Sign) -> &'static [u8]
+    ensures { result.now ≡ sign_text sign }
+{
+    match sign {
+        Sign::Semicolon => b";",
+        Sign::Assign => b"=",
+        Sign::OpenBracket => b"[",
+        Sign::CloseBracket => b"]",
+        Sign::OpenBrace => b"{",
+        Sign::CloseBrace => b"}",
+        Sign::OpenParenthesis => b"(",
+        Sign::CloseParenthesis => b")",
+        Sign::Plus => b"+",
+        Sign::Minus => b"-",
+        Sign::Star => b"*",
+        Sign::Slash => b"/",
+        Sign::Percent => b"%",
+        Sign::Equal => b"==",
+        Sign::NotEqual => b"!=",
+        Sign::Less => b"<",
+        Sign::LessOrEqual => b"<=",
+        Sign::Greater => b">",
+        Sign::GreaterOrEqual => b">=",
+    }
+}

@@ -1,0 +1,200 @@
+// What is printed of a text.
+
+ghost use Rattle.std.specs.Prelude.{◌≡◌, ◌++◌, ◌<◌, ◌≤◌, ◌⊎◌, [], ℕ, List, length, map, slice_index_or, IfOk, MatchOption, OnOk, Option};
+ghost use Rattle.lrc_lang.specs.declared.fault.FaultKind.{FaultKind as FaultKindSeen};
+ghost use Rattle.lrc_lang.specs.Faults.{HasFirstFault};
+ghost use Rattle.lrc_lang.specs.FirstFault.{IsFirstFaultOf};
+ghost use Rattle.lrc_lang.specs.Parser.Located.{located_of};
+ghost use Rattle.lrc_lang.specs.Parser.View.{lexeme_of};
+ghost use Rattle.lrc_lang.specs.Positions.{HasLocated};
+ghost use Rattle.lrc_text.specs.Parts.{whole_text};
+ghost use Rattle.lrc_lint_fault.specs.declared.hint.Hint.{Hint as HintSeen};
+ghost use Rattle.lrc_lint_fault.specs.Hint.{hint_text};
+ghost use Rattle.lrc_lint_fault.specs.Told.{TellsFault, TellsNoProgram, expected_of, fault_lines, kind_of, too_long_lines, unexpected_of};
+
+use crate::fault::Fault;
+use crate::hint::{Hint, push_hint};
+use crate::hints::hint_for;
+use lrc_lang::MOST_BYTES;
+use lrc_lang::fault::FaultKind;
+use lrc_lang::first_fault::{FirstFault, first_fault};
+use lrc_lang::positions::{Located, positions_of};
+use lrc_lint_lines::{
+    push_excerpt, push_expected, push_fault, push_place, push_unexpected, push_unexpected_end,
+};
+use std::alloc::{AllocError, Global};
+
+/// The answer of `lint`: the text to print, and the exit status.
+#[derive(Drop)]
+pub struct Linted {
+    /// The parts of the printed text.
+    pub parts: Vec<Vec<u8>>,
+    pub status: u8,
+}
+
+/// Reports the first fault of a text, or returns none if the text is a program. The report names the file as it was
+/// given.
+pub fn lint_fault(alloc: Global, file: &[u8], text: &[u8]) -> Result<Option<Linted>, AllocError>
+    ensures { IfOk result (λ told. MatchOption told
+        ((line : ℕ) (kind : FaultKindSeen) → HasFirstFault text.now line kind → ⊥)
+        (λ linted. TellsNoProgram file.now text.now (whole_text linted.parts.items)
+        × (linted.status ≡ 1))) }
+{
+    if text.len() > MOST_BYTES {
+        return Ok(Some(too_long(alloc, file)?));
+    }
+    let all = positions_of(alloc, text)?;
+    match first_fault(alloc, &all)? {
+        Some(fault) => Ok(Some(faulty(alloc, file, text, &all, fault)?)),
+        None => Ok(None),
+    }
+}
+
+// What is told of a text that is no program.
+fn no_program(alloc: Global, part: Vec<u8>) -> Result<Linted, AllocError>
+    ensures parts { IfOk result (λ linted. whole_text linted.parts.items ≡ part.items) }
+    ensures status { IfOk result (λ linted. linted.status ≡ 1) }
+{
+    let mut parts = Vec::new(alloc);
+    parts.push(part)?;
+    Ok(Linted { parts, status: 1 })
+}
+
+fn too_long(alloc: Global, file: &[u8]) -> Result<Linted, AllocError>
+    ensures parts { IfOk result (λ linted. whole_text linted.parts.items
+        ≡ too_long_lines file.now) }
+    ensures status { IfOk result (λ linted. linted.status ≡ 1) }
+{
+    let mut out = Vec::new(alloc);
+    push_too_long(&mut out, file)?;
+    no_program(alloc, out)
+}
+
+fn push_too_long(out: &mut Vec<u8>, file: &[u8]) -> Result<(), AllocError>
+    ensures { OnOk result (out.new.items ≡ out.old.items ++ too_long_lines file.now) }
+{
+    push_place(out, file, 1, 1)?;
+    push_fault(out, FaultKind::TooLong)?;
+    push_hint(out, Hint::TooLong)
+}
+
+fn faulty(
+    alloc: Global,
+    file: &[u8],
+    text: &[u8],
+    all: &[Located<'_>],
+    first: FirstFault,
+) -> Result<Linted, AllocError>
+    requires all { HasLocated text.now (map located_of all.now) }
+    requires first { IsFirstFaultOf (map located_of all.now) first.index first.kind
+        first.may_stand.items }
+    requires within { first.index < length all.now }
+    ensures parts { IfOk result (λ linted. TellsFault file.now text.now
+        (whole_text linted.parts.items)) }
+    ensures status { IfOk result (λ linted. linted.status ≡ 1) }
+{
+    let mut out = Vec::new(alloc);
+    push_first(&mut out, alloc, file, text, all, &first)?;
+    no_program(alloc, out)
+}
+
+fn push_first(
+    out: &mut Vec<u8>,
+    alloc: Global,
+    file: &[u8],
+    text: &[u8],
+    all: &[Located<'_>],
+    first: &FirstFault,
+) -> Result<(), AllocError>
+    requires all { HasLocated text.now (map located_of all.now) }
+    requires first { IsFirstFaultOf (map located_of all.now) first.now.index first.now.kind
+        first.now.may_stand.items }
+    requires within { first.now.index < length all.now }
+    ensures { OnOk result ((lines : List ℕ) × (out.new.items ≡ out.old.items ++ lines)
+        × TellsFault file.now text.now lines) }
+{
+    let fault = fault_of(text, all, first);
+    push_told(out, alloc, file, &fault)
+}
+
+// The fault, with what stands around it.
+fn fault_of<'t>(text: &'t [u8], all: &'t [Located<'t>], first: &'t FirstFault) -> Fault<'t>
+    requires { first.now.index < length all.now }
+    ensures text { result.text.now ≡ text.entry.now }
+    ensures found { result.found ≡ slice_index_or all.entry.now first.entry.now.index result.found }
+    ensures kind { result.kind ≡ first.entry.now.kind }
+    ensures may_stand { result.may_stand.now ≡ first.entry.now.may_stand.items }
+{
+    Fault {
+        text,
+        before: &all[..first.index],
+        found: all[first.index],
+        kind: first.kind,
+        may_stand: &first.may_stand,
+    }
+}
+
+fn push_told(
+    out: &mut Vec<u8>,
+    alloc: Global,
+    file: &[u8],
+    fault: &Fault<'_>,
+) -> Result<(), AllocError>
+    ensures { OnOk result ((hint : Option HintSeen) × (out.new.items ≡ out.old.items
+        ++ fault_lines file.now fault.now.text.now
+        (located_of fault.now.found) fault.now.kind fault.now.may_stand.now hint)) }
+{
+    let found = fault.found;
+    push_place(out, file, u64::from(found.line), u64::from(found.column))?;
+    push_kind(out, fault)?;
+    push_excerpt(
+        out,
+        alloc,
+        fault.text,
+        found.line as usize,
+        found.column as usize,
+    )?;
+    push_hint_if_any(out, hint_for(fault))?;
+    push_may_stand(out, alloc, fault)
+}
+
+fn push_hint_if_any(out: &mut Vec<u8>, hint: Option<Hint<'_>>) -> Result<(), AllocError>
+    ensures { OnOk result (out.new.items ≡ out.old.items ++ hint_text hint.entry) }
+{
+    match hint {
+        Some(hint) => push_hint(out, hint),
+        None => Ok(()),
+    }
+}
+
+fn push_may_stand(out: &mut Vec<u8>, alloc: Global, fault: &Fault<'_>) -> Result<(), AllocError>
+    ensures { OnOk result (out.new.items
+        ≡ out.old.items ++ expected_of fault.now.kind fault.now.may_stand.now) }
+{
+    match fault.kind {
+        FaultKind::Unexpected => push_expected(out, alloc, fault.may_stand),
+        _ => Ok(()),
+    }
+}
+
+fn push_kind(out: &mut Vec<u8>, fault: &Fault<'_>) -> Result<(), AllocError>
+    ensures { OnOk result (out.new.items
+        ≡ out.old.items ++ kind_of fault.now.kind fault.now.text.now (located_of fault.now.found)) }
+{
+    match fault.kind {
+        FaultKind::Unexpected => push_unexpected_found(out, fault),
+        other => push_fault(out, other),
+    }
+}
+
+fn push_unexpected_found(out: &mut Vec<u8>, fault: &Fault<'_>) -> Result<(), AllocError>
+    ensures { OnOk result (out.new.items ≡ out.old.items
+        ++ unexpected_of fault.now.text.now fault.now.found.offset
+        (lexeme_of fault.now.found.lexeme)) }
+{
+    if fault.is_end() {
+        push_unexpected_end(out)
+    } else {
+        push_unexpected(out, fault.spelling())
+    }
+}

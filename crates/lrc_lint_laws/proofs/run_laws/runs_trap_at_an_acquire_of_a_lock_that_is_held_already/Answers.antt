@@ -1,0 +1,6 @@
+use Rattle.lrc_lint_laws.proofs.Traps.{held_already_traps}
+use Rattle.lrc_lint_laws.proofs.Runs.{traps_in_runs}
+use Rattle.lrc_lint_laws.proofs.run_laws.runs_trap_at_an_acquire_of_a_lock_that_is_held_already.Goals as goal
+
+pub returns : goal.returns
+returns c = λ program tokens at lock has. traps_in_runs program tokens at _ (λ nodes. (held_already_traps program tokens at lock has nodes).1)

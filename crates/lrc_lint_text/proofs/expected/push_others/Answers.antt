@@ -1,9 +1,0 @@
-use Rattle.std.proofs.Common.{ℕ, List, ◌++◌}
-use Rattle.std.specs.Prelude.{codes}
-use Rattle.lrc_lint_text.proofs.Grown.{seen_more}
-use Rattle.lrc_lint_text.proofs.expected.push_others.Goals as goal
-
-pub loop-phrase-preserved : goal.loop-phrase-preserved
-loop-phrase-preserved c =
-    seen_more (λ (phrase : List ℕ). codes ", " ++ phrase) (λ phrase. phrase.now) _ c.loop-phrase.phrase-index _ _ _ _ c.loop-phrase-test.true
-    c.loop-phrase.invariant c.in_ok-push_other.ensures

@@ -1,7 +1,0 @@
-use Rattle.std.proofs.Common.{refl}
-use Rattle.lrc_lint_text.specs.Kind.{statement_kinds}
-use Rattle.lrc_lint_text.proofs.expected.statement_kinds.Goals as goal
-
-pub returns : goal.returns
-unfolding statement_kinds
-returns c = refl

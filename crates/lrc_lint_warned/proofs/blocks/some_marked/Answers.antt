@@ -1,0 +1,15 @@
+use Rattle.std.proofs.Common.{rules, tests, ◌∙◌, Bor}
+use Rattle.std.proofs.lemmas.Iterator.{YieldsList-from_slice}
+use Rattle.std.proofs.lemmas.Iterator.Search.{any_from_yields_List}
+use Rattle.lrc_lang.specs.Statements.{Expression as Part, expression_of}
+use Rattle.lrc_lang.specs.declared.program.Expression.{Expression}
+use Rattle.lrc_lint_warned.specs.Blocks.{is_marked}
+use Rattle.lrc_lint_warned.specs.Names.{name_of}
+use Rattle.lrc_lint_warned.proofs.Lists.{any_seen}
+use Rattle.lrc_lint_warned.proofs.blocks.some_marked.Goals as goal
+
+pub returns : goal.returns
+returns c =
+    any_from_yields_List (λ (x : Bor Expression). is_marked c.args.marked.now (name_of (expression_of x.now))) _ _ c.any.result c.any.ensures.ran
+    (YieldsList-from_slice c.args.nodes.now cc) (λ x b q k. search (rules, tests))
+    ∙ any_seen (λ (n : Bor Expression). expression_of n.now) (λ (n : Part). is_marked c.args.marked.now (name_of n)) c.args.nodes.now

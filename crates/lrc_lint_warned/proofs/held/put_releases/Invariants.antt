@@ -1,0 +1,9 @@
+-- What is warned of in the statements so far was added.
+use Rattle.std.proofs.Common.{◌≡◌, ◌++◌, map, take}
+use Rattle.lrc_text.specs.Each.{each}
+use Rattle.lrc_lint_warned.specs.Found.{statement_seen}
+use Rattle.lrc_lint_warned.specs.Held.{release_by}
+use Rattle.lrc_lint_warned.proofs.held.put_releases.Given as goal
+
+abbrev pub invariant-loop-i : goal.invariant-loop-i
+invariant-loop-i l = l.out.items ≡ l.fn.out.items ++ each (release_by l.lock l.under) (take l.i (map statement_seen l.statements))

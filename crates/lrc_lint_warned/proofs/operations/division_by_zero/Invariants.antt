@@ -1,0 +1,10 @@
+-- What is warned of in the items so far was added.
+use Rattle.std.proofs.Common.{◌≡◌, ◌++◌, map, take}
+use Rattle.std.specs.List.{flat_map}
+use Rattle.lrc_lint_warned.specs.Found.{NodeAt, found_at, node_seen}
+use Rattle.lrc_lint_warned.specs.Operations.{division_kind}
+use Rattle.lrc_lint_warned.proofs.operations.division_by_zero.Given as goal
+
+abbrev pub invariant-loop-n : goal.invariant-loop-n
+invariant-loop-n l =
+    l.out.items ≡ l.fn.out.items ++ flat_map (λ (n : NodeAt). found_at n.at (division_kind n.node)) (map node_seen (take l.n-index l.nodes))

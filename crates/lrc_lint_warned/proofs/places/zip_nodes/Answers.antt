@@ -1,0 +1,18 @@
+use Rattle.std.proofs.Common.{◌∙◌, ◌++◌, ◌∷◌, [], ap, map, length, arith, get_or}
+use Rattle.std.proofs.lemmas.List.{map_push}
+use Rattle.lrc_lang.specs.Statements.{expression_of}
+use Rattle.lrc_lint_warned.specs.Found.{node_seen}
+use Rattle.lrc_lint_warned.specs.Places.{node_at}
+use Rattle.lrc_lint_warned.proofs.Standing.{past_either, zip_all, zip_more}
+use Rattle.lrc_lint_warned.proofs.places.zip_nodes.Goals as goal
+
+pub loop-i-preserved : goal.loop-i-preserved
+loop-i-preserved c =
+    zip_more node_at (λ x. expression_of x.now) c.args.places.now c.args.all.now c.loop-i.i 0 c.index-all-i.result _ _ _ (omega arith) (omega arith) c.loop-i.invariant
+    (ap (map node_seen) c.in_ok-push.ensures.items ∙ map_push node_seen c.loop-i.found.items _
+    ∙ ap (λ x. map node_seen c.loop-i.found.items ++ node_at (get_or c.args.places.now c.loop-i.i 0, expression_of x.now) ∷ []) c.index-all-i.is)
+
+pub returns : goal.returns
+returns c =
+    zip_all node_at (λ x. expression_of x.now) c.args.places.now c.args.all.now c.loop-i.i _ _
+    (past_either (length c.args.places.now) (length c.args.all.now) c.loop-i.i (omega arith)) c.loop-i.invariant

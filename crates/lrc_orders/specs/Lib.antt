@@ -1,0 +1,6 @@
+pub mod Meeting
+pub mod Stuck
+pub mod Kept
+pub mod Verdict
+pub mod Notes
+pub mod Outcome

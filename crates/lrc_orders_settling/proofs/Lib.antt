@@ -1,0 +1,9 @@
+pub mod Walking
+pub mod Freely
+pub mod SoFar
+pub mod Spots
+pub mod OneNode
+pub mod Parts
+pub mod StepsSoFar
+pub mod Departing
+pub mod Taken

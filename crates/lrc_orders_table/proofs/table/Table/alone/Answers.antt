@@ -1,0 +1,63 @@
+use Rattle.std.proofs.Common.{◌∙◌, sym}
+use Rattle.lrc_orders.specs.declared.noted.Noted.{Noted}
+use Rattle.lrc_orders.proofs.Faults.{fault_up}
+use Rattle.lrc_orders_table.specs.Tables.{IsLongFault, IsTakenFrom}
+use Rattle.lrc_orders_table.proofs.Alone.{cannot_alone, leads_alone, long_from, makes, makes_on}
+use Rattle.lrc_orders_table.proofs.RowNodes.{node_at}
+use Rattle.lrc_orders_table.proofs.Seeing.{given_there}
+use Rattle.lrc_orders_table.proofs.table.Table.alone.Goals as goal
+
+pub returns-in_default-clause-taken : goal.returns-in_default-clause-taken
+returns-in_default-clause-taken c = λ key from.
+    let means = c.args.means.now in
+    let table = c.args.self.now in
+    let row = c.args.row.now in
+    let s = from.of.stands.shared in
+    let at = node_at table row key c.args.node from.of.stands c.requires.node in
+    cannot_alone means key c.args.node at.spot at.here
+    (given_there means table row key c.requires.table from.of c.args.node at.spot at.here ∙ sym (c.given.ensures s.shared s.there) ∙ c.in_default.is)
+
+pub gone-requires-clause-row : goal.gone-requires-clause-row
+gone-requires-clause-row c =
+    let means = c.args.means.now in
+    let table = c.args.self.now in
+    let row = c.args.row.now in
+    let (key, from) = c.requires.from in
+    let s = from.of.stands.shared in
+    let at = node_at table row key c.args.node from.of.stands c.requires.node in
+    record {
+      key = key;
+      of = from.of;
+      spot = at.spot;
+      here = at.here;
+      goes = makes_on means key c.args.node at.spot at.here c.in-Some.value (makes means key c.args.node at.spot at.here c.in-Some.value
+          (given_there means table row key c.requires.table from.of c.args.node at.spot at.here ∙ sym (c.given.ensures s.shared s.there) ∙ c.in-Some.is));
+    }
+
+pub returns-in_err-new-clause-faults : goal.returns-in_err-new-clause-faults
+returns-in_err-new-clause-faults c =
+    let means = c.args.means.now in
+    let table = c.args.self.now in
+    let row = c.args.row.now in
+    let fault = c.in_err-new.field-0.0 in
+    fault_up c.from_residual.result fault (λ f. (key : Noted) → IsTakenFrom means table row key → IsLongFault means key f) c.from_residual.ensures.1
+    (λ key from.
+    let s = from.of.stands.shared in
+    let at = node_at table row key c.args.node from.of.stands c.requires.node in
+    let made = makes means key c.args.node at.spot at.here c.in-Some.value
+    (given_there means table row key c.requires.table from.of c.args.node at.spot at.here ∙ sym (c.given.ensures s.shared s.there) ∙ c.in-Some.is) in
+    let long = c.in_err-new.ensures.faults key from.of in
+    record {
+      nodes = long.nodes;
+      many = λ e. long_from means key c.args.node at.spot at.here c.in-Some.value made (long.many e at.spot at.here);
+    })
+
+pub returns-clause-taken : goal.returns-clause-taken
+returns-clause-taken c = λ key from.
+    let means = c.args.means.now in
+    let table = c.args.self.now in
+    let row = c.args.row.now in
+    let s = from.of.stands.shared in
+    let g = c.in_ok-new.ensures.gone key from.of in
+    leads_alone means c.requires.means c.gone.new.self c.in_ok-new.new key c.args.node c.in-Some.value g
+    (given_there means table row key c.requires.table from.of c.args.node g.spot g.here ∙ sym (c.given.ensures s.shared s.there) ∙ c.in-Some.is) from.settled

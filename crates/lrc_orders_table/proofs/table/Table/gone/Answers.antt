@@ -1,0 +1,152 @@
+use Rattle.std.proofs.Common.{◌≡◌, ◌∙◌, ◌<◌, length, sym, ap, subst, arith}
+use Rattle.std.specs.Prelude.{slice_get, slice_index}
+use Rattle.std.proofs.lemmas.Option.{same_Some, slice_get_within}
+use Rattle.lrc_orders.proofs.Keeping.{stands_on}
+use Rattle.lrc_orders_table.specs.Rows.{AreNotesAt}
+use Rattle.lrc_orders_table.specs.Nexts.{next_in}
+use Rattle.lrc_orders_table.specs.declared.table.After.{After}
+use Rattle.lrc_orders_table.specs.declared.table.Table.{Table}
+use Rattle.lrc_orders_table.specs.Shared.{Fits}
+use Rattle.lrc_orders_table.specs.Tables.{IsTable, KeepsRows}
+use Rattle.lrc_orders_table.proofs.Acting.{fits_here, has_gone, me_at}
+use Rattle.lrc_orders_table.proofs.Entries.{value_at}
+use Rattle.lrc_orders_table.proofs.Keeping.{keeps_notes, keeps_shared, table_notes, table_shared}
+use Rattle.lrc_orders_table.proofs.RowNodes.{next_here, next_there, node_at, node_there}
+use Rattle.lrc_orders_table.proofs.table.Table.gone.Goals as goal
+
+pub shared_after-requires-clause-next : goal.shared_after-requires-clause-next
+shared_after-requires-clause-next c =
+    let means = c.args.means.now in
+    let old = c.args.self.now in
+    let one = c.after.new.self in
+    let row = c.args.row.now in
+    let node = c.args.node in
+    let r = c.requires.row in
+    let e = c.in_ok-place.ensures in
+    let here = node_there old row r.key node r.spot r.of.stands r.here in
+    let there = stands_on (slice_index row.threads node) r.spot e.keeps.widens.threads here in
+    record {
+      asked = record { thread = slice_index row.threads node; value = c.args.value };
+      after = e.there.0;
+      comes = e.there.1;
+      spot = r.spot;
+      there = there;
+      next_is =
+          c.next-next.ensures.at ∙ next_there means old (slice_index row.threads node) r.spot c.requires.table here
+          ∙ sym (next_there means one (slice_index row.threads node) r.spot e.table there);
+      node_is = me_at means.flat r.key.state node r.spot r.of.valid r.here;
+    }
+
+pub shared_after-requires-clause-fits : goal.shared_after-requires-clause-fits
+shared_after-requires-clause-fits c =
+    let means = c.args.means.now in
+    let r = c.requires.row in
+    let s = r.of.stands.shared in
+    let next = c.next-next.ensures.at ∙ next_here means c.args.self.now c.args.row.now r.key c.args.node r.spot c.requires.table r.of r.here in (
+      s.shared,
+      stands_on c.args.row.now.shared s.shared c.in_ok-place.ensures.keeps.widens.shared s.there,
+      subst (λ n. Fits n s.shared.memory.items s.shared.holders.items) (sym next)
+          (subst (λ w. Fits (next_in means.flat r.spot) w s.shared.holders.items) (sym s.words_are)
+          (subst (λ h. Fits (next_in means.flat r.spot) r.key.state.memory.items h) (sym s.holders_are) (fits_here means.flat r.key.state r.of.valid r.spot))),
+    )
+
+pub notes-requires-clause-within : goal.notes-requires-clause-within
+notes-requires-clause-within c =
+    let one = c.after.new.self in
+    let row = c.args.row.now in
+    let n = c.requires.row.of.stands.notes in
+    let there = stands_on row.notes n.notes c.in_ok-place.ensures.keeps.widens.notes n.there in
+    let same = ap (λ (t : Table). length t.rows.notes.keys) c.in_ok-shared.ensures.others in
+    let within = slice_get_within one.rows.notes.keys row.notes n.notes there in
+    omega (arith, within, same)
+
+pub notes-requires-clause-node : goal.notes-requires-clause-node
+notes-requires-clause-node c =
+    let r = c.requires.row in
+    let within = slice_get_within r.key.state.spots.items c.args.node r.spot r.here in
+    let count = r.of.stands.threads.count in
+    let few = r.of.stands.few in
+    omega (arith, within, count, few)
+
+pub notes-requires-clause-place : goal.notes-requires-clause-place
+notes-requires-clause-place c =
+    let there = c.in_ok-place.ensures.there in
+    let same = ap (λ (t : Table). length t.afters.entries) c.in_ok-shared.ensures.others in
+    let within = slice_get_within c.after.new.self.afters.entries c.in_ok-place.place _ there.1 in
+    omega (arith, within, same)
+
+pub index-requires : goal.index-requires
+index-requires c =
+    let there = c.in_ok-place.ensures.there in
+    let same = ap (λ (t : Table). length t.afters.entries) c.in_ok-shared.ensures.others in
+    let again = ap (λ (t : Table). length t.afters.entries) c.in_ok-notes.ensures.others in
+    let within = slice_get_within c.after.new.self.afters.entries c.in_ok-place.place _ there.1 in
+    omega (arith, within, same, again)
+
+pub offset_bounds-threads-node : goal.offset_bounds-threads-node
+offset_bounds-threads-node c =
+    let r = c.requires.row in
+    let within = slice_get_within r.key.state.spots.items c.args.node r.spot r.here in
+    let count = r.of.stands.threads.count in
+    let few = r.of.stands.few in
+    let less : c.args.node < 16 = omega (arith, within, count, few) in
+    omega (arith, less)
+
+pub bounds-threads-node : goal.bounds-threads-node
+bounds-threads-node c =
+    let r = c.requires.row in
+    let within = slice_get_within r.key.state.spots.items c.args.node r.spot r.here in
+    let count = r.of.stands.threads.count in
+    let few = r.of.stands.few in
+    omega (arith, within, count, few)
+
+pub returns-clause-table : goal.returns-clause-table
+returns-clause-table c =
+    let means = c.args.means.now in
+    let one = c.after.new.self in
+    let two = c.shared_after.new.self in
+    let last = c.notes.new.self in
+    let s = c.in_ok-shared.ensures in
+    let n = c.in_ok-notes.ensures in
+    table_notes means two last (table_shared means one two c.in_ok-place.ensures.table s.others s.distinct s.grows s.changes) n.others n.distinct n.grows
+
+pub returns-clause-gone : goal.returns-clause-gone
+returns-clause-gone c = λ key of.
+    let means = c.args.means.now in
+    let old = c.args.self.now in
+    let one = c.after.new.self in
+    let two = c.shared_after.new.self in
+    let last = c.notes.new.self in
+    let row = c.args.row.now in
+    let node = c.args.node in
+    let place = c.in_ok-place.place in
+    let e = c.in_ok-place.ensures in
+    let s = c.in_ok-shared.ensures in
+    let n = c.in_ok-notes.ensures in
+    let known = e.table in
+    let after : After = e.there.0 in
+    let second : KeepsRows one two = keeps_shared means one two known s.others s.distinct s.grows in
+    let known_two : IsTable means two = table_shared means one two known s.others s.distinct s.grows s.changes in
+    let third : KeepsRows two last = keeps_notes means two last known_two n.others n.distinct n.grows in
+    let at = node_at old row key node of.stands (let r = c.requires.row in
+    let within = slice_get_within r.key.state.spots.items node r.spot r.here in
+    let count = r.of.stands.threads.count in
+    omega (arith, within, count)) in
+    let shared = of.stands.shared in
+    let notes = of.stands.notes in
+    let entries_two = ap (λ (t : Table). slice_get t.afters.entries place) s.others in
+    let entries_last = ap (λ (t : Table). slice_get t.afters.entries place) n.others in
+    let comes : c.index.result.now ≡ after =
+    same_Some c.index.result.now after
+    (sym c.index.ensures ∙ value_at last.afters.entries place _ after (entries_last ∙ entries_two ∙ e.there.1)) in
+    has_gone means old one two last row key node c.args.value place c.in_ok-shared.shared c.in_ok-notes.notes c.index.result.now.thread at.spot
+    c.next-next.result known e.keeps second third of at.here after e.there.1 (ap (λ (a : After). a.thread) comes)
+    (c.next-next.ensures.at ∙ next_here means old row key node at.spot c.requires.table of at.here)
+    (s.there shared.shared _ after (stands_on row.shared shared.shared e.keeps.widens.shared shared.there) e.there.1)
+    (λ on. n.noted on key.notes.items _ after
+    (subst (λ keys. AreNotesAt keys row.notes key.notes.items) (sym (ap (λ (t : Table). t.rows.notes.keys) s.others)) (record {
+      notes = notes.notes;
+      there = stands_on row.notes notes.notes e.keeps.widens.notes notes.there;
+      acts_are = notes.acts_are;
+    })) (entries_two ∙ e.there.1))
+    n.bare

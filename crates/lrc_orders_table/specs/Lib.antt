@@ -1,0 +1,7 @@
+pub mod RowHash
+pub mod Rows
+pub mod All
+pub mod Nexts
+pub mod Going
+pub mod Shared
+pub mod Tables

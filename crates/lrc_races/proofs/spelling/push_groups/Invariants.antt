@@ -1,8 +1,0 @@
--- The lines so far are added.
-use Rattle.std.proofs.Common.{◌≡◌, ◌++◌, take}
-use Rattle.lrc_races.specs.Tables.{naming_of}
-use Rattle.lrc_races.specs.Spelled.{group_lines}
-use Rattle.lrc_races.proofs.spelling.push_groups.Given as goal
-
-abbrev pub invariant-loop-group : goal.invariant-loop-group
-invariant-loop-group l = l.text.items ≡ l.initial.text.items ++ group_lines l.form (naming_of l.names) (take l.group-index l.groups)

@@ -1,8 +1,0 @@
--- The lines so far are added.
-use Rattle.std.proofs.Common.{◌≡◌, ◌++◌, take}
-use Rattle.lrc_races.specs.Tables.{naming_of}
-use Rattle.lrc_races.specs.Spelled.{race_lines}
-use Rattle.lrc_races.proofs.spelling.push_pairs.Given as goal
-
-abbrev pub invariant-loop-pair : goal.invariant-loop-pair
-invariant-loop-pair l = l.text.items ≡ l.initial.text.items ++ race_lines l.form (naming_of l.names) (take l.pair-index l.pairs)

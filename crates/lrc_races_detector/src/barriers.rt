@@ -1,0 +1,198 @@
+// The cycles of barriers, and what the arrives of the open ones know, and of those that threads still depart from.
+ghost use Rattle.std.specs.Prelude.{◌≡◌, ◌≢◌, ℕ, ◌+◌, ◌^◌, ◌<◌, ◌↔◌, [], IsTrue, OnOk, Option, length, slice_get, vec_len};
+ghost use Rattle.lrc_races_detector.specs.Barriers.{SameBarrier, IsArrived, IsClosed, IsDeparted, IsSet, IsKeptBelow, current_of, cycle_of, known_of, cycle_at};
+
+use crate::clocks::Clocks;
+use crate::vectors::join;
+use std::alloc::{AllocError, Global};
+
+/// One barrier. Its memory grows with its threads, and not with its cycles.
+#[derive(Drop)]
+pub struct Barrier {
+    /// The number of the open cycle.
+    pub current: usize,
+    /// What the arrives of the open cycle know.
+    pub arrived: Vec<u64>,
+    /// For each thread, the cycle of its last arrive.
+    pub of: Vec<Option<usize>>,
+    /// For each thread, what the arrives of that cycle know, if the cycle is closed.
+    pub closed: Clocks,
+}
+
+// Sets the cycle of a thread.
+fn set_cycle(of: &mut Vec<Option<usize>>, thread: usize, cycle: usize) -> Result<(), AllocError>
+    ensures { OnOk result (IsSet of.old.items of.new.items thread cycle) }
+{
+    while of.len() <= thread {
+        of.push(None)?;
+    }
+    of[thread] = Some(cycle);
+    Ok(())
+}
+
+fn is_of(cycle: Option<usize>, current: usize) -> bool
+    ensures { IsTrue result ↔ (cycle ≡ Option.Some current) }
+{
+    match cycle {
+        Some(number) => number == current,
+        None => false,
+    }
+}
+
+// Keeps for each thread of the open cycle what the arrives of that cycle know.
+fn keep(
+    closed: &mut Clocks,
+    of: &[Option<usize>],
+    current: usize,
+    known: &[u64],
+) -> Result<(), AllocError>
+    ensures { OnOk result (IsKeptBelow
+        (length of.now) closed.old closed.new of.now current known.now) }
+{
+    for (thread, cycle) in of.iter().enumerate() {
+        if is_of(*cycle, current) {
+            closed.set(thread, known)?;
+        }
+    }
+    Ok(())
+}
+
+impl Barrier {
+    /// Returns a barrier before any event.
+    pub fn new(alloc: Global) -> Barrier
+        ensures { SameBarrier (Option.Some result) Option.None }
+    {
+        Barrier {
+            current: 0,
+            arrived: Vec::new(alloc),
+            of: Vec::new(alloc),
+            closed: Clocks::new(alloc),
+        }
+    }
+
+    /// Returns what a depart of the thread learns.
+    pub fn known(&self, thread: usize) -> &[u64]
+        ensures { result.now ≡ known_of (Option.Some self.now) thread }
+    {
+        match self.of.get(thread) {
+            Some(Some(cycle)) => {
+                if *cycle == self.current {
+                    self.arrived.as_slice()
+                } else {
+                    self.closed.row(thread)
+                }
+            }
+            _ => &[],
+        }
+    }
+
+    /// Records that a thread with this knowledge arrives. It fails if memory runs out.
+    pub fn arrive(&mut self, thread: usize, known: &[u64]) -> Result<(), AllocError>
+        ensures { OnOk result (IsArrived (Option.Some self.old)
+            (Option.Some self.new) thread known.now) }
+    {
+        join(&mut self.arrived, known)?;
+        set_cycle(&mut self.of, thread, self.current)?;
+        Ok(())
+    }
+
+    // Closes the open cycle, and opens the next.
+    fn close(&mut self) -> Result<(), AllocError>
+        ensures { OnOk result (self.old.current + 1 < 2 ^ 64
+            → IsClosed (Option.Some self.old) (Option.Some self.new)) }
+    {
+        keep(
+            &mut self.closed,
+            self.of.as_slice(),
+            self.current,
+            self.arrived.as_slice(),
+        )?;
+        self.arrived.clear();
+        self.current = self.current.saturating_add(1);
+        Ok(())
+    }
+
+    /// Records that a thread departs. If its cycle is the open one, this closes the cycle and opens the next. It fails
+    /// if memory runs out.
+    pub fn depart(&mut self, thread: usize) -> Result<(), AllocError>
+        ensures { OnOk result (self.old.current + 1 < 2 ^ 64
+            → IsDeparted (Option.Some self.old) (Option.Some self.new) thread) }
+    {
+        let cycle = match self.of.get(thread) {
+            Some(cycle) => *cycle,
+            None => None,
+        };
+        if is_of(cycle, self.current) {
+            self.close()?;
+        }
+        Ok(())
+    }
+}
+
+/// All barriers.
+#[derive(Drop)]
+pub struct Barriers {
+    barriers: Vec<Barrier>,
+}
+
+impl Barriers {
+    /// Returns the barriers before any event.
+    pub fn new(alloc: Global) -> Barriers
+        ensures { result.barriers.items ≡ [] }
+    {
+        Barriers {
+            barriers: Vec::new(alloc),
+        }
+    }
+
+    /// Returns what a depart of the thread at the barrier learns.
+    pub fn known(&self, barrier: usize, thread: usize) -> &[u64]
+        ensures { result.now ≡ known_of (slice_get self.now.barriers.items barrier) thread }
+    {
+        match self.barriers.get(barrier) {
+            Some(barrier) => barrier.known(thread),
+            None => &[],
+        }
+    }
+
+    // Makes the barrier, where it is not yet kept.
+    fn reach(&mut self, barrier: usize) -> Result<(), AllocError>
+        ensures { OnOk result ((barrier < vec_len self.new.barriers)
+            × ((other : ℕ) → SameBarrier (slice_get self.new.barriers.items other)
+            (slice_get self.old.barriers.items other))) }
+    {
+        let alloc = *self.barriers.allocator();
+        while self.barriers.len() <= barrier {
+            self.barriers.push(Barrier::new(alloc))?;
+        }
+        Ok(())
+    }
+
+    /// Records that a thread with this knowledge arrives at the barrier. It fails if memory runs out.
+    pub fn arrive(&mut self, barrier: usize, thread: usize, known: &[u64]) -> Result<(), AllocError>
+        ensures here { OnOk result (IsArrived (slice_get self.old.barriers.items barrier)
+            (slice_get self.new.barriers.items barrier) thread known.now) }
+        ensures others { OnOk result ((other : ℕ) → other ≢ barrier
+            → SameBarrier (slice_get self.new.barriers.items other)
+            (slice_get self.old.barriers.items other)) }
+    {
+        self.reach(barrier)?;
+        self.barriers[barrier].arrive(thread, known)?;
+        Ok(())
+    }
+
+    /// Records that a thread departs from the barrier. It fails if memory runs out.
+    pub fn depart(&mut self, barrier: usize, thread: usize) -> Result<(), AllocError>
+        ensures here { OnOk result (current_of (slice_get self.old.barriers.items barrier) + 1
+            < 2 ^ 64
+            → IsDeparted (slice_get self.old.barriers.items barrier)
+            (slice_get self.new.barriers.items barrier) thread) }
+        ensures others { OnOk result ((other : ℕ) → other ≢ barrier
+            → slice_get self.new.barriers.items other ≡ slice_get self.old.barriers.items other) }
+    {
+        if barrier < self.barriers.len() {
+            self.barriers[barrier].depart(thread)?;
+        }
+        Ok(())
+    }
+}

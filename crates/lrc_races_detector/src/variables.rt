@@ -1,0 +1,153 @@
+// The last accesses of variables.
+ghost use Rattle.std.specs.Prelude.{◌≡◌, ◌≢◌, ℕ, ◌<◌, ◌≤◌, [], ◌++◌, OnOk, length};
+ghost use Rattle.lrc_races_detector.specs.Variables.{lasts_of, noted, told_one, told_below, IsAscending, IsNoted, IsRowNoted, IsPlace};
+
+use lrc_races_trace::event::{Pair, Placed};
+use std::alloc::{AllocError, Global};
+
+/// The last access of a variable by one thread, and that thread's last write.
+#[derive(Clone, Copy)]
+pub struct Last {
+    pub access: Placed,
+    pub write: Option<Placed>,
+}
+
+// The pair of an access with the last one of a thread, where that thread is another and the access does not know of it.
+fn told_one(last: &Last, known: &[u64], later: Placed, is_write: bool) -> Option<Pair>
+    ensures { result ≡ told_one last.now known.now later is_write }
+{
+    let thread = last.access.event.thread;
+    if thread == later.event.thread {
+        return None;
+    }
+    let found = if is_write {
+        Some(last.access)
+    } else {
+        last.write
+    };
+    let earlier = found?;
+    let known_there = match known.get(thread as usize) {
+        Some(value) => *value,
+        None => 0,
+    };
+    if earlier.position < known_there {
+        return None;
+    }
+    Some(Pair { earlier, later })
+}
+
+/// Adds to `told` the pairs of an access with the last accesses of the variable, if `known` is what the access's thread
+/// knows. It fails if memory runs out.
+pub fn tell(
+    lasts: &[Last],
+    known: &[u64],
+    later: Placed,
+    is_write: bool,
+    told: &mut Vec<Pair>,
+) -> Result<(), AllocError>
+    ensures { OnOk result (told.new.items
+        ≡ told.old.items ++ told_below lasts.now known.now later is_write (length lasts.now)) }
+{
+    for last in lasts {
+        if let Some(pair) = told_one(last, known, later, is_write) {
+            told.push(pair)?;
+        }
+    }
+    Ok(())
+}
+
+// Where the thread has its entry, or is to have it: behind all lower threads.
+fn place_of(lasts: &[Last], thread: u32) -> usize
+    ensures within { result ≤ length lasts.now }
+    ensures place { IsAscending lasts.now → IsPlace lasts.now thread result }
+{
+    lasts.partition_point(|last| last.access.event.thread < thread)
+}
+
+// The entry of a thread, with an access more.
+fn noted(old: Option<Last>, placed: Placed, is_write: bool) -> Last
+    ensures { result ≡ noted old placed is_write }
+{
+    let write = if is_write {
+        Some(placed)
+    } else {
+        match old {
+            Some(last) => last.write,
+            None => None,
+        }
+    };
+    Last {
+        access: placed,
+        write,
+    }
+}
+
+// Notes an access among the last ones of its variable.
+fn note_last(lasts: &mut Vec<Last>, placed: Placed, is_write: bool) -> Result<(), AllocError>
+    ensures { OnOk result (IsRowNoted lasts.old.items lasts.new.items placed is_write) }
+{
+    let thread = placed.event.thread;
+    let at = place_of(lasts.as_slice(), thread);
+    if at < lasts.len() {
+        let last = lasts[at];
+        if last.access.event.thread == thread {
+            lasts[at] = noted(Some(last), placed, is_write);
+            return Ok(());
+        }
+    }
+    lasts.insert(at, noted(None, placed, is_write))?;
+    Ok(())
+}
+
+/// All variables.
+#[derive(Drop)]
+pub struct Variables {
+    rows: Vec<Vec<Last>>,
+}
+
+impl Variables {
+    /// Returns the variables before any access.
+    pub fn new(alloc: Global) -> Variables
+        ensures { result.rows.items ≡ [] }
+    {
+        Variables {
+            rows: Vec::new(alloc),
+        }
+    }
+
+    /// Returns the last accesses of the variable, ascending by thread.
+    pub fn lasts(&self, variable: usize) -> &[Last]
+        ensures { result.now ≡ lasts_of self.now variable }
+    {
+        match self.rows.get(variable) {
+            Some(row) => row.as_slice(),
+            None => &[],
+        }
+    }
+
+    // Makes a row for the variable, where there is none.
+    fn reach(&mut self, variable: usize) -> Result<(), AllocError>
+        ensures { OnOk result ((variable < length self.new.rows.items)
+            × ((other : ℕ) → lasts_of self.new other ≡ lasts_of self.old other)) }
+    {
+        let alloc = *self.rows.allocator();
+        while self.rows.len() <= variable {
+            self.rows.push(Vec::new(alloc))?;
+        }
+        Ok(())
+    }
+
+    /// Records an access of the variable. It fails if memory runs out.
+    pub fn note(
+        &mut self,
+        variable: usize,
+        placed: Placed,
+        is_write: bool,
+    ) -> Result<(), AllocError>
+        ensures { OnOk result (IsNoted self.old self.new variable placed is_write) }
+    {
+        self.reach(variable)?;
+        note_last(&mut self.rows[variable], placed, is_write)?;
+        Ok(())
+    }
+}

@@ -1,0 +1,147 @@
+// Reads a trace block by block, and writes what is told of each before the next is waited for.
+
+ghost use Rattle.std.specs.Prelude.{◌<◌, ◌≤◌, ℕ, Bool, IfOk, List, MatchOption, OnErr, OnOk, Option, take, vec_len};
+ghost use Rattle.std.specs.Io.KnownBytes.{Appends};
+ghost use Rattle.lrc_races_text.specs.declared.form.Form.{Form as AnyForm};
+ghost use Rattle.lrc_report.specs.Output.{AppendsFront};
+ghost use Rattle.lrc_shell_sources.specs.Known.{Held, IsAtEnd, IsReadOff};
+ghost use Rattle.lrc_races_stream.specs.Comes.{Comes, IsUnderWay};
+
+use crate::outcome::Outcome;
+use lrc_races_text::fault::Fault;
+use lrc_races_text::form::Form;
+use lrc_races_text::session::Session;
+use lrc_report::output::{Output, put};
+use lrc_shell_sources::blocks::Blocks;
+use std::alloc::{AllocError, Global};
+use std::io;
+use std::io::Write;
+
+// How many bytes are read at once, at most.
+const BLOCK: usize = 65_536;
+
+// What is read and told, and the session between.
+#[derive(Drop)]
+struct Teller {
+    session: Session,
+    block: Vec<u8>,
+    told: Vec<u8>,
+    ghost room: { 0 < vec_len block },
+}
+
+/// Reports the races of a trace in this form, while it is read, by groups if asked.
+pub fn tell_races<B: Blocks, W: Write>(
+    alloc: Global,
+    form: Form,
+    group: bool,
+    trace: &mut B,
+    out: &mut W,
+) -> Outcome
+    ensures { Comes form group (B.left trace.old) (W.contents out.old) (W.contents out.new) result }
+{
+    let session = Session::new(alloc, form, group);
+    match block_of(alloc) {
+        Ok(block) => {
+            let told = Vec::new(alloc);
+            let mut teller = Teller {
+                session,
+                block,
+                told,
+            };
+            teller.tell(trace, out)
+        }
+        Err(_error) => Outcome::NoMemory,
+    }
+}
+
+fn block_of(alloc: Global) -> Result<Vec<u8>, AllocError>
+    ensures { IfOk result (λ block. 0 < vec_len block) }
+{
+    vec![in alloc; 0; BLOCK]
+}
+
+impl Teller {
+    // Tells what is left of a trace.
+    fn tell<B: Blocks, W: Write>(&mut self, trace: &mut B, out: &mut W) -> Outcome
+        ensures { (form : AnyForm) (group : Bool) (held : Held) (start : Option (List ℕ))
+            → IsUnderWay form group held (B.left trace.old) start
+            (W.contents out.old) self.old.session
+            → Comes form group held start (W.contents out.new) result }
+    {
+        for _turn in 0..u64::MAX {
+            if let Some(outcome) = self.turn(trace, out) {
+                return outcome;
+            }
+        }
+        Outcome::NoMemory
+    }
+
+    // Reads a block, and tells of the lines that it completes.
+    fn turn<B: Blocks, W: Write>(&mut self, trace: &mut B, out: &mut W) -> Option<Outcome>
+        ensures { (form : AnyForm) (group : Bool) (held : Held) (start : Option (List ℕ))
+            → IsUnderWay form group held (B.left trace.old) start
+            (W.contents out.old) self.old.session
+            → MatchOption result (IsUnderWay form group held (B.left trace.new) start
+            (W.contents out.new) self.new.session)
+            (Comes form group held start (W.contents out.new)) }
+    {
+        match trace.read(&mut self.block) {
+            Ok(0) => Some(self.finish(out)),
+            Ok(count) => self.take(count, out),
+            Err(error) => Some(Outcome::Unread(error.kind())),
+        }
+    }
+
+    // Tells of so many bytes of the block.
+    fn take<W: Write>(&mut self, count: usize, out: &mut W) -> Option<Outcome>
+        requires { count ≤ vec_len self.old.block }
+        ensures { (form : AnyForm) (group : Bool) (held left after : Held) (start : Option (List ℕ))
+            → IsUnderWay form group held left start (W.contents out.old) self.old.session
+            → IsReadOff left (take count self.old.block.items) after
+            → MatchOption result (IsUnderWay form group held after start
+            (W.contents out.new) self.new.session)
+            (Comes form group held start (W.contents out.new)) }
+    {
+        self.told.clear();
+        match self.session.take(&self.block[..count], &mut self.told) {
+            Ok(()) => match write(&self.told, out) {
+                Ok(()) => None,
+                Err(_error) => Some(Outcome::Unwritten),
+            },
+            Err(Fault::BadEvent(line)) => match write(&self.told, out) {
+                Ok(()) => Some(Outcome::BadEvent(line)),
+                Err(_error) => Some(Outcome::Unwritten),
+            },
+            Err(Fault::NoMemory) => Some(Outcome::NoMemory),
+        }
+    }
+
+    // Tells what is to be told where the trace has ended.
+    fn finish<W: Write>(&mut self, out: &mut W) -> Outcome
+        ensures { (form : AnyForm) (group : Bool) (held left : Held) (start : Option (List ℕ))
+            → IsUnderWay form group held left start (W.contents out.old) self.old.session
+            → IsAtEnd left
+            → Comes form group held start (W.contents out.new) result }
+    {
+        self.told.clear();
+        match self.session.finish(&mut self.told) {
+            Ok(status) => match write(&self.told, out) {
+                Ok(()) => Outcome::Ended(status),
+                Err(_error) => Outcome::Unwritten,
+            },
+            Err(Fault::BadEvent(line)) => match write(&self.told, out) {
+                Ok(()) => Outcome::BadEvent(line),
+                Err(_error) => Outcome::Unwritten,
+            },
+            Err(Fault::NoMemory) => Outcome::NoMemory,
+        }
+    }
+}
+
+fn write<W: Write>(text: &[u8], out: &mut W) -> io::Result<()>
+    ensures ok { OnOk result (Appends (W.contents out.old) (W.contents out.new) text.now) }
+    ensures err { OnErr result (AppendsFront (W.contents out.old) (W.contents out.new) text.now) }
+{
+    let mut output = Output::new(out);
+    put(&mut output, text)
+}

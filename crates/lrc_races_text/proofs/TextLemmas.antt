@@ -1,0 +1,43 @@
+-- What parts that are added one after another come to.
+use Rattle.std.proofs.Common.{◌≡◌, ◌∙◌, ◌++◌, ℕ, List, [], ◌∷◌, ap, append_assoc, append-nil, refl, sym}
+use Rattle.std.specs.Prelude.{Option}
+use Rattle.lrc_races_trace.specs.declared.fault.Fault.{Fault}
+use Rattle.lrc_races_trace.specs.declared.fault.Reason.{Reason}
+use Rattle.lrc_races_text.specs.Naming.{Naming}
+use Rattle.lrc_races_text.specs.Spelled.{together, reason_parts, fault_line}
+
+together-append : (parts more : List (List ℕ)) → together (parts ++ more) ≡ together parts ++ together more
+together-append [] more = refl
+together-append (part ∷ parts) more = ap (λ t. part ++ t) (together-append parts more) ∙ sym (append_assoc part (together parts) (together more))
+
+-- these parts are added
+pub record Pushed (old : List ℕ) (parts : List (List ℕ)) (now : List ℕ) : Type 0 where
+  pub is : now ≡ old ++ together parts
+
+pub start : (text : List ℕ) → Pushed text [] text
+start text = record { is = sym (append-nil text) }
+
+-- and these more
+pub more : {old now next : List ℕ} {parts : List (List ℕ)} → Pushed old parts now → (others : List (List ℕ)) → next ≡ now ++ together others
+    → Pushed old (parts ++ others) next
+more {old} {now} {next} {parts} p others e = record {
+  is = e ∙ ap (λ t. t ++ together others) p.is ∙ append_assoc old (together parts) (together others)
+      ∙ ap (λ t. old ++ t) (sym (together-append parts others));
+}
+
+-- one part, or two
+pub one : {old now next : List ℕ} {parts : List (List ℕ)} → Pushed old parts now → (a : List ℕ) → next ≡ now ++ a → Pushed old (parts ++ a ∷ []) next
+one {now = now} p a e = more p (a ∷ []) (e ∙ ap (λ t. now ++ t) (sym (append-nil a)))
+
+pub two : {old now next : List ℕ} {parts : List (List ℕ)} → Pushed old parts now → (a b : List ℕ) → next ≡ now ++ a ++ b
+    → Pushed old (parts ++ a ∷ b ∷ []) next
+two {now = now} p a b e = more p (a ∷ b ∷ []) (e ∙ append_assoc now a b ∙ ap (λ t. now ++ (a ++ t)) (sym (append-nil b)))
+
+-- the words of a reason
+pub reasoned : (naming : Naming) (thread : ℕ) (old next : List ℕ) {reason same : Reason} → reason ≡ same
+    → Pushed old (reason_parts naming thread same) next → next ≡ old ++ together (reason_parts naming thread reason)
+reasoned naming thread old next e p = p.is ∙ ap (λ r. old ++ together (reason_parts naming thread r)) (sym e)
+
+pub faulted : (naming : Naming) (old next : List ℕ) {fault same : Option Fault} → fault ≡ same → next ≡ old ++ fault_line naming same
+    → next ≡ old ++ fault_line naming fault
+faulted naming old next e is = is ∙ ap (λ f. old ++ fault_line naming f) (sym e)

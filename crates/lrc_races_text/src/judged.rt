@@ -1,0 +1,141 @@
+// A trace as it is judged, one event after another.
+ghost use Rattle.std.specs.Prelude.{◌≡◌, ◌+◌, [], Bool, IfErr, IfOk, OnErr, OnOk};
+ghost use Rattle.lrc_races_lines.specs.Line.{saying_of};
+ghost use Rattle.lrc_races_text.specs.declared.fault.Fault.TheVariants.{NoMemory};
+ghost use Rattle.lrc_races_text.specs.declared.form.Form.{Form as AnyForm};
+ghost use Rattle.lrc_races_text.specs.Tables.{naming_of};
+ghost use Rattle.lrc_races_text.specs.Judged.{HasJudged, HasJudgedOne, HasToldAll, IsTelling};
+
+use crate::fault::Fault;
+use crate::form::Form;
+use crate::naming::Names;
+use crate::spelling::{push_end, push_pairs};
+use lrc_races_detector::detector::Detector;
+use lrc_races_detector::fault_finder::FaultFinder;
+use lrc_races_detector::groups::Groups;
+use lrc_races_lines::line::Named;
+use lrc_races_trace::event::{Event, Pair};
+use std::alloc::{AllocError, Global};
+
+/// The state of the analysis after the events so far.
+#[derive(Drop)]
+pub struct Judged {
+    pub names: Names,
+    pub detector: Detector,
+    pub finder: FaultFinder,
+    pub groups: Groups,
+    /// How many pairs were reported.
+    pub races: u64,
+    /// The pairs reported for the last event.
+    pub told: Vec<Pair>,
+    /// The text to print next.
+    pub text: Vec<u8>,
+}
+
+// Adds the lines of pairs, or puts the pairs into their groups.
+fn tell(
+    groups: &mut Groups,
+    text: &mut Vec<u8>,
+    out: &mut Vec<u8>,
+    form: Form,
+    group: bool,
+    names: &Names,
+    told: &[Pair],
+) -> Result<(), AllocError>
+    ensures ok { OnOk result (IsTelling form group
+        (naming_of names.now) told.now groups.old groups.new out.old.items out.new.items) }
+    ensures err { OnErr result (out.new.items ≡ out.old.items) }
+{
+    if group {
+        groups.take(told)?;
+        return Ok(());
+    }
+    text.clear();
+    push_pairs(text, form, names, told)?;
+    out.extend_from_slice(text.as_slice())?;
+    Ok(())
+}
+
+// The sum of two numbers.
+fn sum(one: u64, other: u64) -> Result<u64, Fault>
+    ensures ok { IfOk result (λ both. both ≡ one + other) }
+    ensures err { IfErr result (λ fault. fault ≡ NoMemory) }
+{
+    match one.checked_add(other) {
+        Some(both) => Ok(both),
+        None => Err(Fault::NoMemory),
+    }
+}
+
+impl Judged {
+    /// Creates the state before any event.
+    pub fn new(alloc: Global) -> Judged
+        ensures { (form : AnyForm) (group : Bool) → HasJudged form group [] [] result }
+    {
+        Judged {
+            names: Names::new(alloc),
+            detector: Detector::new(alloc),
+            finder: FaultFinder::new(alloc),
+            groups: Groups::new(alloc),
+            races: 0,
+            told: Vec::new(alloc),
+            text: Vec::new(alloc),
+        }
+    }
+
+    /// Takes the event that a line names. It adds the lines of the races reported for the event to `out`, or puts the
+    /// races into their groups. On error `out` does not change.
+    pub fn take(
+        &mut self,
+        form: Form,
+        group: bool,
+        named: Named<'_>,
+        line: u64,
+        out: &mut Vec<u8>,
+    ) -> Result<(), Fault>
+        ensures ok { OnOk result (HasJudgedOne form group
+            (record { line = line; saying = saying_of named.entry }) self.old out.old.items self.new
+            out.new.items) }
+        ensures err { OnErr result (out.new.items ≡ out.old.items) }
+        ensures memory { IfErr result (λ fault. fault ≡ NoMemory) }
+    {
+        if self.detector.position >= u64::MAX - 1 {
+            return Err(Fault::NoMemory);
+        }
+        let event = self.names.event(named, line)?;
+        self.detector.take(event, &mut self.told)?;
+        self.finder.take(event)?;
+        self.races = sum(self.races, self.told.len() as u64)?;
+        tell(
+            &mut self.groups,
+            &mut self.text,
+            out,
+            form,
+            group,
+            &self.names,
+            self.told.as_slice(),
+        )?;
+        Ok(())
+    }
+
+    /// Adds what is reported at the end: the groups, what is not well formed, and the last line. Returns the program's
+    /// exit status: 3 if a race was reported, else 0. On error `out` does not change.
+    pub fn end(&mut self, form: Form, out: &mut Vec<u8>) -> Result<u8, AllocError>
+        ensures ok { IfOk result (HasToldAll form self.old out.old.items out.new.items) }
+        ensures err { OnErr result (out.new.items ≡ out.old.items) }
+    {
+        let races = self.races;
+        self.text.clear();
+        push_end(
+            &mut self.text,
+            form,
+            &self.names,
+            self.groups.list(),
+            self.finder.fault(),
+            races,
+            self.detector.position,
+        )?;
+        out.extend_from_slice(self.text.as_slice())?;
+        Ok(if races == 0 { 0 } else { 3 })
+    }
+}

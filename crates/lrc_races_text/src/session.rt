@@ -1,0 +1,176 @@
+// A trace as it comes, block by block.
+ghost use Rattle.std.specs.Prelude.{◌≡◌, [], IfErr, IfOk, OnErr, OnOk};
+ghost use Rattle.lrc_races_text.specs.declared.fault.Fault.TheVariants.{NoMemory};
+ghost use Rattle.lrc_races_text.specs.Session.{ReadsIn, HasTakenLine, HasCompleted, IsBadLine, HasKept, IsTooLong};
+ghost use Rattle.lrc_races_text.specs.Session.{HasRead, HasGoneOn, IsStoppedAt, HasEnded, HasFailed, IsNext, FailsLine};
+
+use crate::acts::read_act;
+use crate::fault::Fault;
+use crate::form::Form;
+use crate::judged::Judged;
+use lrc_races_lines::line::Line;
+use lrc_races_lines::reading::{read_line, split};
+use std::alloc::Global;
+
+/// The longest line, in bytes.
+const LONGEST_LINE: usize = 4096;
+
+/// The analysis of a trace of which some bytes have come.
+#[derive(Drop)]
+pub struct Session {
+    form: Form,
+    group: bool,
+    judged: Judged,
+    /// How many complete lines have come.
+    lines: u64,
+    /// The bytes of the next line that have come.
+    rest: Vec<u8>,
+}
+
+// What a line says, its line feed left out.
+fn read(form: Form, line: &[u8]) -> Line<'_>
+    ensures { ReadsIn form line.now result }
+{
+    match form {
+        Form::Std => read_line(line),
+        Form::Acts => read_act(line),
+    }
+}
+
+// Takes a line with its number, and adds what is told of it.
+fn take_line(
+    judged: &mut Judged,
+    form: Form,
+    group: bool,
+    line: &[u8],
+    number: u64,
+    out: &mut Vec<u8>,
+) -> Result<(), Fault>
+    ensures ok { OnOk result (HasTakenLine form group line.now number judged.old out.old.items
+        judged.new out.new.items) }
+    ensures kept { OnErr result (out.new.items ≡ out.old.items) }
+    ensures bad { IfErr result (FailsLine form line.now number) }
+{
+    match read(form, line) {
+        Line::Nothing => Ok(()),
+        Line::Event(named) => judged.take(form, group, named, number, out),
+        Line::Bad => Err(Fault::BadEvent(number)),
+    }
+}
+
+impl Session {
+    /// Creates a session before any byte. It allocates nothing.
+    pub fn new(alloc: Global, form: Form, group: bool) -> Session
+        ensures { HasRead form group [] [] result }
+    {
+        Session {
+            form,
+            group,
+            judged: Judged::new(alloc),
+            lines: 0,
+            rest: Vec::new(alloc),
+        }
+    }
+
+    // The number of the line that comes next.
+    fn next(&self) -> Result<u64, Fault>
+        ensures ok { IfOk result (IsNext self.now) }
+        ensures memory { IfErr result (λ fault. fault ≡ NoMemory) }
+    {
+        match self.lines.checked_add(1) {
+            Some(number) => Ok(number),
+            None => Err(Fault::NoMemory),
+        }
+    }
+
+    // Keeps what has come of a line that is cut.
+    fn keep(&mut self, part: &[u8]) -> Result<(), Fault>
+        ensures ok { OnOk result (HasKept self.old part.now self.new) }
+        ensures bad { IfErr result (IsTooLong self.old part.now) }
+    {
+        let number = self.next()?;
+        if self.rest.len() > LONGEST_LINE || part.len() > LONGEST_LINE - self.rest.len() {
+            return Err(Fault::BadEvent(number));
+        }
+        self.rest.extend_from_slice(part)?;
+        Ok(())
+    }
+
+    // Takes the next line, of which all has come.
+    fn take_rest(&mut self, out: &mut Vec<u8>) -> Result<(), Fault>
+        ensures ok { OnOk result (HasCompleted self.old [] out.old.items out.new.items self.new) }
+        ensures kept { OnErr result (out.new.items ≡ out.old.items) }
+        ensures bad { IfErr result (IsBadLine self.old []) }
+    {
+        let number = self.next()?;
+        let line = self.rest.as_slice();
+        take_line(&mut self.judged, self.form, self.group, line, number, out)?;
+        self.rest.clear();
+        self.lines = number;
+        Ok(())
+    }
+
+    // Takes the next line, which is this one.
+    fn take_whole(&mut self, line: &[u8], out: &mut Vec<u8>) -> Result<(), Fault>
+        requires { self.old.rest.items ≡ [] }
+        ensures ok { OnOk result (HasCompleted self.old line.now out.old.items out.new.items
+            self.new) }
+        ensures kept { OnErr result (out.new.items ≡ out.old.items) }
+        ensures bad { IfErr result (IsBadLine self.old line.now) }
+    {
+        let number = self.next()?;
+        take_line(&mut self.judged, self.form, self.group, line, number, out)?;
+        self.lines = number;
+        Ok(())
+    }
+
+    // Takes what the next line has up to its line feed.
+    fn complete(&mut self, part: &[u8], out: &mut Vec<u8>) -> Result<(), Fault>
+        ensures ok { OnOk result (HasCompleted self.old part.now out.old.items out.new.items
+            self.new) }
+        ensures kept { OnErr result (out.new.items ≡ out.old.items) }
+        ensures bad { IfErr result (IsBadLine self.old part.now) }
+    {
+        if self.rest.is_empty() {
+            return self.take_whole(part, out);
+        }
+        match self.keep(part) {
+            Ok(()) => self.take_rest(out),
+            Err(fault) => Err(fault),
+        }
+    }
+
+    /// Takes the next block of the trace, of any size, and adds to `out` what is reported of the lines that it
+    /// completes. After a fault the session is of no more use; `out` then holds the report of the lines before the bad
+    /// one.
+    pub fn take(&mut self, block: &[u8], out: &mut Vec<u8>) -> Result<(), Fault>
+        ensures ok { OnOk result (HasGoneOn self.old block.now out.old.items out.new.items
+            self.new) }
+        ensures bad { IfErr result (IsStoppedAt self.old block.now out.old.items out.new.items) }
+    {
+        let mut left = block;
+        while let Some((part, behind)) = split(left, b'\n') {
+            match self.complete(part, out) {
+                Ok(()) => left = behind,
+                Err(fault) => return Err(fault),
+            }
+        }
+        self.keep(left)
+    }
+
+    /// Ends the trace. It adds the report of a last line without a line feed, the groups, what is not well formed, and
+    /// the last line. Returns the exit status: 3 if a race was reported, else 0. It must be called only once.
+    pub fn finish(&mut self, out: &mut Vec<u8>) -> Result<u8, Fault>
+        ensures ok { IfOk result (HasEnded self.old out.old.items out.new.items) }
+        ensures bad { IfErr result (HasFailed self.old out.old.items out.new.items) }
+    {
+        match self.take_rest(out) {
+            Ok(()) => {}
+            Err(fault) => return Err(fault),
+        }
+        match self.judged.end(self.form, out) {
+            Ok(status) => Ok(status),
+            Err(_) => Err(Fault::NoMemory),
+        }
+    }
+}

@@ -1,9 +1,0 @@
-pub mod Bytes
-pub mod Names
-pub mod Fronts
-pub mod Premises
-pub mod StepLines
-pub mod StepEvents
-pub mod ActLines
-pub mod ActEvents
-pub mod Tellings

@@ -1,3 +1,0 @@
-pub mod Runs
-pub mod Said
-pub mod Telling

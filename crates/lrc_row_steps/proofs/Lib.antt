@@ -1,3 +1,0 @@
-pub mod Stepping
-pub mod Seen
-pub mod Contended

@@ -1,5 +1,0 @@
-use Rattle.lrc_row_steps.proofs.Stepping.{all_settle}
-use Rattle.lrc_row_steps.proofs.laws.each_thread_settles_after_the_step_of_all.Goals as goal
-
-pub returns : goal.returns
-returns c = all_settle

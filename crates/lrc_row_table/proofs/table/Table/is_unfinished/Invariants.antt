@@ -1,8 +1,0 @@
--- The nodes so far have stopped.
-use Rattle.std.proofs.Common.{◌≡◌, ℕ, ◌<◌, true}
-use Rattle.lrc_row_table.specs.Shared.{is_stopped}
-use Rattle.lrc_row_table.specs.Tables.{next_at}
-use Rattle.lrc_row_table.proofs.table.Table.is_unfinished.Given as goal
-
-abbrev pub invariant-loop-node : goal.invariant-loop-node
-invariant-loop-node l = (k : ℕ) → k < l.node → is_stopped (next_at l.self l.row k) ≡ true

@@ -1,3 +1,0 @@
-pub mod Going
-pub mod Shared
-pub mod Tables

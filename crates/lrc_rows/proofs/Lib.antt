@@ -1,3 +1,0 @@
-pub mod Numbering
-pub mod RowLaws
-pub mod RowsApart

@@ -1,4 +1,0 @@
-pub mod Walking
-pub mod Freely
-pub mod SoFar
-pub mod Spots

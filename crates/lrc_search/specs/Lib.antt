@@ -1,3 +1,0 @@
-pub mod Turning
-pub mod Settling
-pub mod Table

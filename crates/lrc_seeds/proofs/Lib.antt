@@ -1,2 +1,0 @@
-pub mod Marking
-pub mod Seeded

@@ -1,6 +1,0 @@
--- The seeds are the least of those that were tried.
-use Rattle.lrc_seeds.specs.Seeds.{AreLeastSeeds}
-use Rattle.lrc_seeds.proofs.seeds.least_seeds.Given as goal
-
-abbrev pub invariant-loop-seed : goal.invariant-loop-seed
-invariant-loop-seed l = AreLeastSeeds l.program l.nodes.count l.seed l.outcomes l.seeds.items

@@ -1,5 +1,0 @@
-use Rattle.lrc_settled.proofs.ByThreads.{others_stay}
-use Rattle.lrc_settled.proofs.laws.after_a_step_of_one_node_the_others_are_settled.Goals as goal
-
-pub returns : goal.returns
-returns c = others_stay

@@ -1,5 +1,0 @@
-use Rattle.lrc_settled.proofs.ByThreads.{by_threads}
-use Rattle.lrc_settled.proofs.laws.each_thread_settles_by_itself.Goals as goal
-
-pub returns : goal.returns
-returns c = λ machine final acts settles. by_threads settles

@@ -1,5 +1,0 @@
-use Rattle.lrc_settled.proofs.Rounds.{one_settling}
-use Rattle.lrc_settled.proofs.laws.settling_is_determined.Goals as goal
-
-pub returns : goal.returns
-returns c = λ machine there other acts others one two. one_settling one two

@@ -1,5 +1,0 @@
-use Rattle.lrc_settled.proofs.Settled.{stuck}
-use Rattle.lrc_settled.proofs.laws.some_order_gets_stuck_where_a_settled_state_is.Goals as goal
-
-pub returns : goal.returns
-returns c = stuck

@@ -1,5 +1,0 @@
-use Rattle.lrc_settled.proofs.Settled.{state_run, state_settled}
-use Rattle.lrc_settled.proofs.laws.to_a_settled_state_an_order_leads.Goals as goal
-
-pub returns : goal.returns
-returns c = λ program nodes acts machine state. (state_run state, state_settled state)

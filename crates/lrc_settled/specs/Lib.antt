@@ -1,5 +1,0 @@
-pub mod Free
-pub mod Settling
-pub mod Steps
-pub mod Threads
-pub mod Rows

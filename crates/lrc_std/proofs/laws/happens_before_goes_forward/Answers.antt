@@ -1,5 +1,0 @@
-use Rattle.lrc_std.proofs.HappensBefore.{forward}
-use Rattle.lrc_std.proofs.laws.happens_before_goes_forward.Goals as goal
-
-pub returns : goal.returns
-returns c = λ events i j h. forward h

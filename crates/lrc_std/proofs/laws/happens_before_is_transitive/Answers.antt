@@ -1,5 +1,0 @@
-use Rattle.lrc_std.proofs.HappensBefore.{transitive}
-use Rattle.lrc_std.proofs.laws.happens_before_is_transitive.Goals as goal
-
-pub returns : goal.returns
-returns c = λ events i j k h l. transitive h l

@@ -1,0 +1,8 @@
+-- Those of the pairs so far.
+use Rattle.std.proofs.Common.{◌≡◌, take}
+use Rattle.std.specs.Prelude.{filter}
+use Rattle.lrc_step.specs.RaceLines.{is_beside}
+use Rattle.lrc_step.proofs.groups.of_group.Given as goal
+
+abbrev pub invariant-loop-pair : goal.invariant-loop-pair
+invariant-loop-pair l = l.found.items ≡ filter (is_beside l.acts l.lines l.leader) (take l.pair-index l.pairs)

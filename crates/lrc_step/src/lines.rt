@@ -1,0 +1,144 @@
+// The lines of a run's data that are not its states.
+
+ghost use Rattle.std.specs.Prelude.{◌≡◌, ◌++◌, IfOk, OnOk, map};
+ghost use Rattle.lrc_step.specs.Lines.{comma_text, explain_line, group_text, lines_in, lines_part, pair_text, pairs_text, program_line, quoted_at, quoted_each, race_line, text_part, why_line};
+
+use crate::spelling::push_quoted;
+use lrc_judge::pairs::Pair;
+use lrc_labels::cut::{Divider, cut};
+use lrc_text::push_number;
+use std::alloc::{AllocError, Global};
+
+// The lines of what a command prints.
+fn lines_in(alloc: Global, printed: &[u8]) -> Result<Vec<&[u8]>, AllocError>
+    ensures { IfOk result (λ lines. map (λ line. line.now) lines.items ≡ lines_in printed.now) }
+{
+    let mut lines = cut(alloc, Divider::LineFeed, printed)?;
+    lines.truncate(lines.len().saturating_sub(1));
+    Ok(lines)
+}
+
+#[tactic(auto, unfolding(crate::specs::Lines::text_part))]
+fn push_text_part(text: &mut Vec<u8>, program: &[u8]) -> Result<(), AllocError>
+    ensures { OnOk result (text.new.items ≡ text.old.items ++ text_part program.now) }
+{
+    text.extend_from_slice(b",\"text\":")?;
+    push_quoted(text, program)?;
+    text.extend_from_slice(b"}\n")
+}
+
+/// Adds the line about the program: the name of its file, and its text.
+pub fn push_program_line(text: &mut Vec<u8>, name: &[u8], program: &[u8]) -> Result<(), AllocError>
+    ensures { OnOk result (text.new.items ≡ text.old.items ++ program_line name.now program.now) }
+{
+    text.extend_from_slice(b"{\"program\":")?;
+    push_quoted(text, name)?;
+    push_text_part(text, program)
+}
+
+#[tactic(auto, unfolding(crate::specs::Lines::lines_part))]
+fn push_lines_part(alloc: Global, text: &mut Vec<u8>, printed: &[u8]) -> Result<(), AllocError>
+    ensures { OnOk result (text.new.items ≡ text.old.items ++ lines_part (lines_in printed.now)) }
+{
+    let lines = lines_in(alloc, printed)?;
+    push_quoted_each(text, &lines)?;
+    text.extend_from_slice(b"]}\n")
+}
+
+/// Adds the line about the run with reasons, from the output of `explain`.
+pub fn push_explain_line(
+    alloc: Global,
+    text: &mut Vec<u8>,
+    printed: &[u8],
+) -> Result<(), AllocError>
+    ensures { OnOk result (text.new.items ≡ text.old.items ++ explain_line (lines_in printed.now)) }
+{
+    text.extend_from_slice(b"{\"explain\":[")?;
+    push_lines_part(alloc, text, printed)
+}
+
+/// Adds the line that says why the act at a position is as it is, from the output of `why`.
+pub fn push_why_line(
+    alloc: Global,
+    text: &mut Vec<u8>,
+    position: usize,
+    printed: &[u8],
+) -> Result<(), AllocError>
+    ensures { OnOk result (text.new.items
+        ≡ text.old.items ++ why_line position (lines_in printed.now)) }
+{
+    push_number(text, b"{\"why\":", position as u64)?;
+    text.extend_from_slice(b",\"lines\":[")?;
+    push_lines_part(alloc, text, printed)
+}
+
+/// Adds the line about a group of races, with its pairs of acts, or about the races that are in no group.
+pub fn push_race_line(
+    text: &mut Vec<u8>,
+    group: Option<usize>,
+    pairs: &[Pair],
+) -> Result<(), AllocError>
+    ensures { OnOk result (text.new.items ≡ text.old.items ++ race_line group pairs.now) }
+{
+    text.extend_from_slice(b"{\"race\":")?;
+    push_group(text, group)?;
+    text.extend_from_slice(b",\"pairs\":[")?;
+    push_pairs(text, pairs)?;
+    text.extend_from_slice(b"]}\n")
+}
+
+fn push_group(text: &mut Vec<u8>, group: Option<usize>) -> Result<(), AllocError>
+    ensures { OnOk result (text.new.items ≡ text.old.items ++ group_text group) }
+{
+    match group {
+        Some(group) => push_number(text, b"", group as u64),
+        None => text.extend_from_slice(b"null"),
+    }
+}
+
+fn push_pairs(text: &mut Vec<u8>, pairs: &[Pair]) -> Result<(), AllocError>
+    ensures { OnOk result (text.new.items ≡ text.old.items ++ pairs_text pairs.now) }
+{
+    for (place, pair) in pairs.iter().enumerate() {
+        push_pair(text, place, *pair)?;
+    }
+    Ok(())
+}
+
+fn push_pair(text: &mut Vec<u8>, place: usize, pair: Pair) -> Result<(), AllocError>
+    ensures { OnOk result (text.new.items ≡ text.old.items ++ pair_text place pair) }
+{
+    push_comma(text, place)?;
+    push_number(text, b"[", pair.earlier as u64)?;
+    push_number(text, b",", pair.later as u64)?;
+    text.extend_from_slice(b"]")
+}
+
+// Adds texts between their quotation marks, with commas between them.
+fn push_quoted_each(text: &mut Vec<u8>, lines: &[&[u8]]) -> Result<(), AllocError>
+    ensures { OnOk result (text.new.items
+        ≡ text.old.items ++ quoted_each (map (λ line. line.now) lines.now)) }
+{
+    for (place, line) in lines.iter().enumerate() {
+        push_quoted_at(text, place, line)?;
+    }
+    Ok(())
+}
+
+fn push_quoted_at(text: &mut Vec<u8>, place: usize, line: &[u8]) -> Result<(), AllocError>
+    ensures { OnOk result (text.new.items ≡ text.old.items ++ quoted_at place line.now) }
+{
+    push_comma(text, place)?;
+    push_quoted(text, line)
+}
+
+// Adds a comma before each but the first of a list.
+fn push_comma(text: &mut Vec<u8>, place: usize) -> Result<(), AllocError>
+    ensures { OnOk result (text.new.items ≡ text.old.items ++ comma_text place) }
+{
+    if place == 0 {
+        Ok(())
+    } else {
+        text.extend_from_slice(b",")
+    }
+}

@@ -1,8 +1,0 @@
--- None of the first pairs so far.
-use Rattle.std.proofs.Common.{◌≡◌, false, take}
-use Rattle.std.specs.List.{list_any}
-use Rattle.lrc_step_races.specs.Lines.{is_beside}
-use Rattle.lrc_step_races.proofs.groups.is_alone.Given as goal
-
-abbrev pub invariant-loop-leader : goal.invariant-loop-leader
-invariant-loop-leader l = list_any (λ leader. is_beside l.acts l.lines leader l.pair) (take l.leader-index l.leaders) ≡ false

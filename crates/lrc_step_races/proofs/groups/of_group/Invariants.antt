@@ -1,8 +1,0 @@
--- Those of the pairs so far.
-use Rattle.std.proofs.Common.{◌≡◌, take}
-use Rattle.std.specs.Prelude.{filter}
-use Rattle.lrc_step_races.specs.Lines.{is_beside}
-use Rattle.lrc_step_races.proofs.groups.of_group.Given as goal
-
-abbrev pub invariant-loop-pair : goal.invariant-loop-pair
-invariant-loop-pair l = l.found.items ≡ filter (is_beside l.acts l.lines l.leader) (take l.pair-index l.pairs)

@@ -1,7 +1,0 @@
--- What is asked of those so far.
-use Rattle.std.proofs.Common.{◌≡◌, map, take}
-use Rattle.lrc_step_reasons.specs.Lines.{asked_alone}
-use Rattle.lrc_step_reasons.proofs.lines.asked_of.Given as goal
-
-abbrev pub invariant-loop-position : goal.invariant-loop-position
-invariant-loop-position l = l.asked.items ≡ map asked_alone (take l.position-index l.positions)

@@ -1,8 +1,0 @@
--- Those of the positions so far.
-use Rattle.lrc_reasons.specs.Writes.{AreExactly}
-use Rattle.lrc_reasons.proofs.Exactly.{IsBelow}
-use Rattle.lrc_step_reasons.specs.Told.{IsTold}
-use Rattle.lrc_step_reasons.proofs.told.positions_told.Given as goal
-
-abbrev pub invariant-loop-position : goal.invariant-loop-position
-invariant-loop-position l = AreExactly (IsBelow (IsTold l.acts l.part) l.position) l.found.items

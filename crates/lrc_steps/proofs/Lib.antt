@@ -1,5 +1,0 @@
-pub mod OneNode
-pub mod Parts
-pub mod SoFar
-pub mod Departing
-pub mod Taken

@@ -1,7 +1,0 @@
--- The acts so far stand behind the others.
-use Rattle.std.proofs.Common.{◌≡◌, ◌++◌, take}
-use Rattle.lrc_steps.specs.Gone.{acts_by}
-use Rattle.lrc_steps.proofs.settle.put_acts.Given as goal
-
-abbrev pub invariant-loop-deed : goal.invariant-loop-deed
-invariant-loop-deed l = l.acts.items ≡ l.initial.acts.items ++ acts_by l.node (take l.deed-index l.deeds)

@@ -1,6 +1,0 @@
--- The nodes so far have departed.
-use Rattle.lrc_steps.proofs.Departing.{Departing}
-use Rattle.lrc_steps.proofs.step.depart.Given as goal
-
-abbrev pub invariant-loop-node : goal.invariant-loop-node
-invariant-loop-node l = Departing l.flat l.initial.state l.state l.node l.initial.acts.items l.acts.items

@@ -1,2 +1,0 @@
-pub mod Gone
-pub mod Taking

@@ -1,5 +1,0 @@
--- Before any event.
-use Rattle.lrc_stream.proofs.trace.told_of.Goals as goal
-
-pub take_all-requires-clause-fresh : goal.take_all-requires-clause-fresh
-take_all-requires-clause-fresh c = c.new-detector.ensures c.args.events.now

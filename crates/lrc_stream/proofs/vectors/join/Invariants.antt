@@ -1,6 +1,0 @@
--- The entries that the loop has come to are joined.
-use Rattle.lrc_stream.specs.Vectors.{IsJoinedBelow}
-use Rattle.lrc_stream.proofs.vectors.join.Given as goal
-
-abbrev pub invariant-loop-thread : goal.invariant-loop-thread
-invariant-loop-thread l = IsJoinedBelow l.thread l.initial.known.items l.more l.known.items

@@ -1,9 +1,0 @@
-use Rattle.std.proofs.Common.{◌∙◌, append_assoc}
-use Rattle.std.specs.Prelude.{codes, decimal}
-use Rattle.lrc_lines.proofs.Following.{on_ok}
-use Rattle.lrc_stuck.specs.Circles.{waits_text}
-use Rattle.lrc_stuck.proofs.circles.push_wait.Goals as goal
-
-pub returns-clause-ok : goal.returns-clause-ok
-unfolding waits_text
-returns-clause-ok c = on_ok c.push_number.result (λ e. e ∙ append_assoc c.args.text.now.items (codes " waits for node ") (decimal c.args.node)) c.push_number.ensures.ok

@@ -1,5 +1,0 @@
-use Rattle.lrc_swapped.proofs.Both.{order_both}
-use Rattle.lrc_swapped.proofs.laws.what_happens_before_what_stays.Goals as goal
-
-pub returns : goal.returns
-returns c = λ nodes front first second rest ws m i j x y a b. order_both nodes front first second rest ws m a b

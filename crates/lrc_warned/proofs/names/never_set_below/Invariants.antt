@@ -1,9 +1,0 @@
--- What is warned of, by the numbers so far, was added.
-use Rattle.std.proofs.Common.{◌≡◌, ◌++◌, map}
-use Rattle.std.specs.List.{flat_map, range_with_len}
-use Rattle.lrc_warned.specs.Found.{node_seen, statement_seen}
-use Rattle.lrc_warned.specs.Names.{never_set_of}
-use Rattle.lrc_warned.proofs.names.never_set_below.Given as goal
-
-abbrev pub invariant-loop-name : goal.invariant-loop-name
-invariant-loop-name l = l.out.items ≡ l.fn.out.items ++ flat_map (never_set_of (map node_seen l.nodes) (map statement_seen l.statements)) (range_with_len 0 l.name)

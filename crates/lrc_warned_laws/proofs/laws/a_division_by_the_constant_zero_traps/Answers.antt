@@ -1,5 +1,0 @@
-use Rattle.lrc_warned_laws.proofs.Traps.{divides_by_zero}
-use Rattle.lrc_warned_laws.proofs.laws.a_division_by_the_constant_zero_traps.Goals as goal
-
-pub returns : goal.returns
-returns c = λ program tokens at is_text has. divides_by_zero program tokens is_text at has

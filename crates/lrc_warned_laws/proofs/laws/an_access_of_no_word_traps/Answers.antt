@@ -1,5 +1,0 @@
-use Rattle.lrc_warned_laws.proofs.Traps.{no_word_traps}
-use Rattle.lrc_warned_laws.proofs.laws.an_access_of_no_word_traps.Goals as goal
-
-pub returns : goal.returns
-returns c = λ program tokens at word has. no_word_traps program tokens at word has

@@ -1,3 +1,0 @@
-pub mod Comes
-pub mod Loops
-pub mod Traps

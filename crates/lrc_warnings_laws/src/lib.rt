@@ -1,4 +1,0 @@
-//! Laws that no warning of a program is found twice.
-#![tactic(auto)]
-
-pub mod laws;
