@@ -17,34 +17,34 @@ use Rattle.lrc_lang.proofs.LexemesUnique.{unique, keyword_from, keyword_from-tex
 
 -- ---- tests
 
-dec_both : {A B : Type 0} → Dec A → Dec B → Dec (A × B)
+pub dec_both : {A B : Type 0} → Dec A → Dec B → Dec (A × B)
 dec_both (yes a) (yes b) = yes (a, b)
 dec_both (yes a) (no h) = no (λ p. h p.1)
 dec_both (no h) b = no (λ p. h p.0)
 
-dec_either : {A B : Type 0} → Dec A → Dec B → Dec (A ⊎ B)
+pub dec_either : {A B : Type 0} → Dec A → Dec B → Dec (A ⊎ B)
 dec_either (yes a) b = yes (inl a)
 dec_either (no h) (yes b) = yes (inr b)
 dec_either (no h) (no g) = no (λ s. elim s [ inl a ↦ h a | inr b ↦ g b ])
 
-dec_not : {A : Type 0} → Dec A → Dec (¬ A)
+pub dec_not : {A : Type 0} → Dec A → Dec (¬ A)
 dec_not (yes a) = no (λ h. h a)
 dec_not (no h) = yes h
 
-dec_digit : (byte : ℕ) → Dec (IsDigit byte)
+pub dec_digit : (byte : ℕ) → Dec (IsDigit byte)
 dec_digit byte = dec_both (dec_le 48 byte) (dec_le byte 57)
 
-dec_letter : (byte : ℕ) → Dec (IsLetter byte)
+pub dec_letter : (byte : ℕ) → Dec (IsLetter byte)
 dec_letter byte = dec_either (dec_both (dec_le 65 byte) (dec_le byte 90)) (dec_either (dec_both (dec_le 97 byte) (dec_le byte 122)) (ℕ_discrete byte 95))
 
-dec_blank : (byte : ℕ) → Dec (IsBlank byte)
+pub dec_blank : (byte : ℕ) → Dec (IsBlank byte)
 dec_blank byte = dec_either (ℕ_discrete byte 9) (dec_either (ℕ_discrete byte 13) (ℕ_discrete byte 32))
 
-dec_begins : (P : ℕ → Type 0) → ((byte : ℕ) → Dec (P byte)) → (text : List ℕ) → Dec (BeginsWith P text)
+pub dec_begins : (P : ℕ → Type 0) → ((byte : ℕ) → Dec (P byte)) → (text : List ℕ) → Dec (BeginsWith P text)
 dec_begins P test [] = no (λ h. h)
 dec_begins P test (byte ∷ rest) = test byte
 
-dec_same : (xs ys : List ℕ) → Dec (xs ≡ ys)
+pub dec_same : (xs ys : List ℕ) → Dec (xs ≡ ys)
 dec_same xs ys = go (bytes_eq xs ys) (bytes_eq-Decides xs ys)
   where
     go : (r : Bool) → Decides r (xs ≡ ys) → Dec (xs ≡ ys)
@@ -66,7 +66,7 @@ dec_sign text = elim (dec_same (sign_text (sign_from text)) text) [
 
 -- ---- fronts
 
-split_of : (P : ℕ → Type 0) → ((byte : ℕ) → Dec (P byte)) → (text : List ℕ) → (front : List ℕ) × (rest : List ℕ) × IsSpan P text front rest
+pub split_of : (P : ℕ → Type 0) → ((byte : ℕ) → Dec (P byte)) → (text : List ℕ) → (front : List ℕ) × (rest : List ℕ) × IsSpan P text front rest
 split_of P test [] = ([], [], record { whole = refl; each = All-nil P; no_more = λ h. h })
 split_of P test (byte ∷ text) =
     let r = split_of P test text in

@@ -106,45 +106,45 @@ sign_unique {text} {rest} {last} {mark} {other} one two =
 
 -- ---- which rule holds
 
-data Kind : Type 0 where
+pub data Kind : Type 0 where
   ends blanks feeds comments digits words others : Kind
 
-kind_of_byte : ℕ → Kind
+unfoldable pub kind_of_byte : ℕ → Kind
 kind_of_byte byte =
     cond (eqb byte 9 || eqb byte 13 || eqb byte 32) blanks (cond (eqb byte 10) feeds (cond (eqb byte 35) comments
     (cond (leb 48 byte && leb byte 57) digits
     (cond ((leb 65 byte && leb byte 90) || (leb 97 byte && leb byte 122) || eqb byte 95) words others))))
 
-kind_of : List ℕ → Kind
+unfoldable pub kind_of : List ℕ → Kind
 kind_of [] = ends
 kind_of (byte ∷ rest) = kind_of_byte byte
 
-byte-blank : (byte : ℕ) → IsBlank byte → kind_of_byte byte ≡ blanks
+pub byte-blank : (byte : ℕ) → IsBlank byte → kind_of_byte byte ≡ blanks
 unfolding kind_of_byte
 byte-blank byte h = grind (arith, nat_tests)
 
-byte-feed : (byte : ℕ) → IsLineFeed byte → kind_of_byte byte ≡ feeds
+pub byte-feed : (byte : ℕ) → IsLineFeed byte → kind_of_byte byte ≡ feeds
 unfolding kind_of_byte
 byte-feed byte h = grind (arith, nat_tests)
 
-byte-hash : (byte : ℕ) → IsHash byte → kind_of_byte byte ≡ comments
+pub byte-hash : (byte : ℕ) → IsHash byte → kind_of_byte byte ≡ comments
 unfolding kind_of_byte
 byte-hash byte h = grind (arith, nat_tests)
 
-byte-digit : (byte : ℕ) → IsDigit byte → kind_of_byte byte ≡ digits
+pub byte-digit : (byte : ℕ) → IsDigit byte → kind_of_byte byte ≡ digits
 unfolding kind_of_byte
 byte-digit byte h = grind (arith, nat_tests)
 
-byte-letter : (byte : ℕ) → IsLetter byte → kind_of_byte byte ≡ words
+pub byte-letter : (byte : ℕ) → IsLetter byte → kind_of_byte byte ≡ words
 unfolding kind_of_byte
 byte-letter byte h = grind (arith, nat_tests)
 
-kind-begins_digit : (text : List ℕ) → BeginsWith IsDigit text → kind_of text ≡ digits
+pub kind-begins_digit : (text : List ℕ) → BeginsWith IsDigit text → kind_of text ≡ digits
 unfolding kind_of
 kind-begins_digit [] h = absurd h
 kind-begins_digit (byte ∷ rest) h = byte-digit byte h
 
-kind-begins_letter : (text : List ℕ) → BeginsWith IsLetter text → kind_of text ≡ words
+pub kind-begins_letter : (text : List ℕ) → BeginsWith IsLetter text → kind_of text ≡ words
 unfolding kind_of
 kind-begins_letter [] h = absurd h
 kind-begins_letter (byte ∷ rest) h = byte-letter byte h
@@ -219,7 +219,7 @@ view stops_at_end = refl
 view_at : {line : ℕ} {text : List ℕ} {all : List Placed} {kind : Kind} → kind_of text ≡ kind → Lexes line text all → View kind line text all
 view_at {line} {text} {all} is inside = subst (λ k. View k line text all) is (view inside)
 
-number_or_not : {front rest : List ℕ} → IsNumber front rest → IsNoNumber front rest → ⊥
+pub number_or_not : {front rest : List ℕ} → IsNumber front rest → IsNoNumber front rest → ⊥
 number_or_not is (inl over) = omega (arith, is.in_range)
 number_or_not is (inr letter) = is.no_letter letter
 

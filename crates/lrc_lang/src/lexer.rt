@@ -45,7 +45,8 @@ pub struct Met<'t> {
 
 /// A class of bytes that are read together.
 #[derive(Clone, Copy)]
-enum Class {
+pub enum Class {
+    /// `0` to `9`.
     Digit,
     /// Letters, digits and `_`.
     Word,
@@ -266,8 +267,8 @@ fn spelling_of(keyword: Keyword) -> &'static [u8]
     }
 }
 
-// The number that decimal digits write, unless it is over 2^64 - 1.
-fn number_of(digits: &[u8]) -> Option<u64>
+/// Returns the number that decimal digits write, unless it is over 2^64 - 1.
+pub fn number_of(digits: &[u8]) -> Option<u64>
     requires { All IsDigit digits.now }
     ensures { SomeIff result (value_of digits.now < 2 ^ 64) (value_of digits.now) }
 {
@@ -280,8 +281,8 @@ fn number_of(digits: &[u8]) -> Option<u64>
     Some(value)
 }
 
-// The bytes of a class at the front of a text, as many as stand there, and the rest behind them.
-fn split_front(class: Class, text: &[u8]) -> (&[u8], &[u8])
+/// Splits a text into the bytes of a class at its front, as many as stand there, and the rest behind them.
+pub fn split_front(class: Class, text: &[u8]) -> (&[u8], &[u8])
     ensures { IsSpan (Has class) text.now result.0.now result.1.now }
 {
     for (place, byte) in text.iter().enumerate() {
@@ -292,7 +293,8 @@ fn split_front(class: Class, text: &[u8]) -> (&[u8], &[u8])
     text.split_at(text.len())
 }
 
-fn is_in(class: Class, byte: u8) -> bool
+/// Returns whether a byte is of this class.
+pub fn is_in(class: Class, byte: u8) -> bool
     ensures { IsTrue result ↔ Has class byte }
 {
     match class {
@@ -302,13 +304,15 @@ fn is_in(class: Class, byte: u8) -> bool
     }
 }
 
-fn is_letter(byte: u8) -> bool
+/// Returns whether a byte is a letter or `_`.
+pub fn is_letter(byte: u8) -> bool
     ensures { IsTrue result ↔ IsLetter byte }
 {
     byte.is_ascii_alphabetic() || byte == b'_'
 }
 
-fn begins_with_letter(text: &[u8]) -> bool
+/// Returns whether a text begins with a letter or `_`.
+pub fn begins_with_letter(text: &[u8]) -> bool
     ensures { IsTrue result ↔ BeginsWith IsLetter text.now }
 {
     match text {

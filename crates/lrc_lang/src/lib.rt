@@ -8,7 +8,7 @@ pub mod fault;
 pub mod first_fault;
 pub mod kind;
 pub mod lexemes;
-mod lexer;
+pub mod lexer;
 mod limits;
 pub mod lines;
 mod parser;
