@@ -13,7 +13,7 @@ use Rattle.lrc_svg.specs.declared.element.Content.{Content, Row_of-Content, end_
 use Rattle.lrc_svg.specs.declared.element.Content.{items-the_row-Content, items_hidden-the_row-Content-0}
 use Rattle.lrc_svg.specs.declared.element.Content.TheBlock.{hidden-the_row-Content-0}
 use Rattle.lrc_svg.specs.declared.element.Content.TheVariants.{Element}
-use Rattle.lrc_chart_svg.specs.Marks.{Mark, all_marks, all_words, begins, behind, ends, held, hint, marks, named_once, own, plain_words, row_marks, row_words, shown_marks, unreadable}
+use Rattle.lrc_chart_svg.specs.Marks.{Mark, all_marks, all_words, begins, behind, ends, has_its_own, held, hint, marks, own, plain_words, row_marks, row_words, shown_marks, unreadable}
 
 row_marks_are : (n : _) (row : Row_of-Content n) → row_marks row ≡ all_marks (items-the_row-Content n row)
 row_marks_are _ end_of-Content = refl
@@ -23,7 +23,7 @@ row_words_are : (n : _) (row : Row_of-Content n) → row_words row ≡ all_words
 row_words_are _ end_of-Content = refl
 row_words_are _ (more_of-Content first more) = ap (λ l. plain_words first ++ l) (row_words_are _ more)
 
-pub element_marks : (tag : _) (a : Vec Attribute Global) (v : Vec Content Global) → named_once a.items ≡ true
+pub element_marks : (tag : _) (a : Vec Attribute Global) (v : Vec Content Global) → has_its_own tag a.items ≡ true
     → marks (Element tag a v) ≡ own tag a.items (all_words v.items) ++ held tag (all_marks v.items) ++ behind tag
 element_marks tag a v once =
     ap₂ (λ (w : List ℕ) (l : List Mark). shown_marks tag a.items w l)
@@ -35,7 +35,7 @@ regrouped_three : (start a b c : List Mark) → start ++ ((a ++ b) ++ c) ≡ ((s
 regrouped_three start a b c = simp append_assoc
 
 -- an element more
-pub one_more : (old : List Content) (tag : _) (a : Vec Attribute Global) (v : Vec Content Global) → named_once a.items ≡ true
+pub one_more : (old : List Content) (tag : _) (a : Vec Attribute Global) (v : Vec Content Global) → has_its_own tag a.items ≡ true
     → all_marks (old ++ Element tag a v ∷ []) ≡ all_marks old ++ own tag a.items (all_words v.items) ++ held tag (all_marks v.items) ++ behind tag
 one_more old tag a v once =
     flat_map-append marks old (Element tag a v ∷ [])

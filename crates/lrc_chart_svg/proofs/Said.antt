@@ -1,15 +1,17 @@
 -- Names and values of attributes, read off what the attributes say.
 use Rattle.std.proofs.Common.{◌≡◌, ◌∙◌, ◌++◌, ◌∷◌, [], ◌==◌, ◌&&◌, ◌||◌, ◌<◌, ◌^◌, ℕ, Bool, List, false, true, ap, ap₂, append-nil, decimal, refl}
-use Rattle.std.specs.Prelude.{cond, not}
+use Rattle.std.specs.Prelude.{cond, map, nat_eq, not}
+use lib.Pointwise.{pointwise}
 use Rattle.std.proofs.lemmas.List.{map-append}
 use Rattle.lrc_svg.specs.declared.element.Attribute.{Attribute}
 use Rattle.lrc_svg.specs.declared.name.Key.{Key}
 use Rattle.lrc_svg.specs.declared.name.Key.TheVariants as keys
+use Rattle.lrc_svg.specs.declared.name.Tag.{Tag}
 use Rattle.lrc_svg.specs.declared.name.Tag.TheVariants as tags
 use Rattle.lrc_chart_svg.specs.Attributes.{said}
-use Rattle.lrc_chart_svg.specs.Marks.{Mark, attribute_value, begins_with_digit, behind_digits, box, digits_first, from_height}
+use Rattle.lrc_chart_svg.specs.Marks.{Mark, attribute_value, begins_with_digit, behind_digits, box, digits_first, from_height, has_its_own}
 use Rattle.lrc_chart_svg.specs.Marks.{is_anchor, is_border, is_dashes, is_down, is_from, is_from_left, is_high, is_left, is_to, is_to_left}
-use Rattle.lrc_chart_svg.specs.Marks.{is_wide, key_number, named_once, names_key, own, path, path_of, stroke, undrawn, word}
+use Rattle.lrc_chart_svg.specs.Marks.{is_wide, key_number, named_once, names_key, names_of, own, path, path_of, stroke, undrawn, word}
 use Rattle.lrc_chart_svg.proofs.Points.{left_is, start_is, strokes_are, written}
 
 abbrev Saying : Type 0
@@ -54,6 +56,16 @@ said_in_one none all a empty first = first ∙ ap (λ n. said n ++ a) empty
 
 pub once_by : (a : List Attribute) (s : List Saying) → said a ≡ s → said_once s ≡ true → named_once a ≡ true
 once_by a s is once = once_is a ∙ ap said_once is ∙ once
+
+-- an element has the attributes of its kind if it says so
+numbers_are : (a : List Attribute) → map (λ attribute. key_number attribute.key) a ≡ map (λ (one : Saying). key_number one.0) (said a)
+numbers_are [] = refl
+numbers_are (first ∷ more) = ap (λ l. key_number first.key ∷ l) (numbers_are more)
+
+pub own_by : (tag : Tag) (a : List Attribute) (s : List Saying) → said a ≡ s
+    → pointwise nat_eq (map (λ (one : Saying). key_number one.0) s) (names_of tag) ≡ true → has_its_own tag a ≡ true
+own_by tag a s is own =
+    ap (λ l. pointwise nat_eq l (names_of tag)) (numbers_are a ∙ ap (map (λ (one : Saying). key_number one.0)) is) ∙ own
 
 -- what labels, lines, boxes and paths show by what their attributes say
 pub label_shows : (a : List Attribute) (words told x y anchor : List ℕ) (more : List Saying)

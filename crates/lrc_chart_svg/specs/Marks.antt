@@ -1,7 +1,8 @@
 -- What a reader sees in a tree of elements, read off it in order: words with their places, straight lines with those of their ends, boxes
 -- with their places, sizes and borders, paths with their places and strokes, hints, and which of these are one element.
-use Rattle.std.specs.Prelude.{ℕ, ◌==◌, ◌&&◌, ◌||◌, Bool, true, false, not, List, [], ◌∷◌, ◌++◌, cond, nat_le}
+use Rattle.std.specs.Prelude.{ℕ, ◌==◌, ◌&&◌, ◌||◌, Bool, true, false, not, List, [], ◌∷◌, ◌++◌, cond, map, nat_eq, nat_le}
 use Rattle.std.specs.List.{flat_map}
+use lib.Pointwise.{pointwise}
 use Rattle.lrc_svg.specs.declared.element.Attribute.{Attribute}
 use Rattle.lrc_svg.specs.declared.element.Content.{Content, Row_of-Content, end_of-Content, more_of-Content}
 use Rattle.lrc_svg.specs.declared.element.Content.TheVariants.{Text, Element'}
@@ -11,7 +12,8 @@ use Rattle.lrc_svg.specs.declared.name.Tag.{Tag}
 use Rattle.lrc_svg.specs.declared.name.Tag.TheVariants as tags
 
 pub data Mark : Type 0 where
-  -- words: how far they are from the left, how far down their foot is, whether they begin or end there, and what they are
+  -- words: how far they are from the left, how far down their foot is, whether they begin or end there, and what they are; the letters
+  -- are those that the whole names, for no element in it names others
   word : (left foot anchor words : List ℕ) → Mark
   -- a straight line: how far from the left and how far down it begins, the same of where it ends, and the lengths of its dashes
   stroke : (from_left from to_left to dashes : List ℕ) → Mark
@@ -24,8 +26,8 @@ pub data Mark : Type 0 where
   -- what stands between these two is one element
   begins : Mark
   ends : Mark
-  -- an element that names an attribute twice, which no reader takes; a picture within another, of a size of its own; or what stands in an
-  -- element in which no reader draws anything
+  -- an element that lacks an attribute of its kind, or names one twice or one of another kind, as letters of its own; a picture within
+  -- another, of a size of its own; or what stands in an element in which no reader draws anything
   unreadable : Mark
 
 -- the number of a name
@@ -59,6 +61,26 @@ names_key number (first ∷ more) = (key_number first.key == number) || names_ke
 abbrev pub named_once : List Attribute → Bool
 named_once [] = true
 named_once (first ∷ more) = not (names_key (key_number first.key) more) && named_once more
+
+-- the names of an element's attributes, in order, each by its number; no element names letters
+abbrev pub names_of : Tag → List ℕ
+names_of tags.Label =
+    key_number keys.X ∷ key_number keys.Y ∷ key_number keys.Anchor ∷ key_number keys.Fill ∷ key_number keys.Weight ∷ []
+names_of tags.Line =
+    key_number keys.FromX ∷ key_number keys.FromY ∷ key_number keys.ToX ∷ key_number keys.ToY ∷ key_number keys.Stroke
+    ∷ key_number keys.StrokeWidth ∷ key_number keys.Dashes ∷ []
+names_of tags.Box =
+    key_number keys.X ∷ key_number keys.Y ∷ key_number keys.Width ∷ key_number keys.Height ∷ key_number keys.Fill ∷ key_number keys.Stroke
+    ∷ key_number keys.StrokeWidth ∷ key_number keys.Dashes ∷ []
+names_of tags.Path =
+    key_number keys.Points ∷ key_number keys.Fill ∷ key_number keys.Stroke ∷ key_number keys.StrokeWidth ∷ key_number keys.Dashes ∷ []
+names_of tags.Hint = []
+names_of tags.Group = []
+names_of tags.Picture = []
+
+-- whether an element's attributes are these and no other
+abbrev pub has_its_own : Tag → List Attribute → Bool
+has_its_own tag attributes = pointwise nat_eq (map (λ attribute. key_number attribute.key) attributes) (names_of tag)
 
 -- how far from the left a box or words are, and how far down
 abbrev pub is_left : Key → Bool
@@ -181,7 +203,7 @@ held other inside = undrawn inside
 -- what it shows, with these words and marks in it
 abbrev pub shown_marks : Tag → List Attribute → (words : List ℕ) → (inside : List Mark) → List Mark
 shown_marks tag attributes words inside =
-    cond (named_once attributes) (own tag attributes words ++ held tag inside ++ behind tag) (unreadable ∷ [])
+    cond (has_its_own tag attributes) (own tag attributes words ++ held tag inside ++ behind tag) (unreadable ∷ [])
 
 -- words that stand alone
 abbrev pub plain_words : Content → List ℕ

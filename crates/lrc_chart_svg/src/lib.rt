@@ -1,6 +1,6 @@
 //! Draws the picture of a run as an SVG document: a tree of elements. `specs/Shown.antt` defines the elements, their
-//! places and their sizes; `specs/Root.antt` defines the size of the whole. Colours, line widths and letter sizes are
-//! in the code only.
+//! places and their sizes; `specs/Marks.antt` which attributes each kind of element has; `specs/Root.antt` the size of the
+//! whole and the letters of its words. Colours, weights and the widths of lines are in the code only.
 #![tactic(auto)]
 
 mod arrows;

@@ -2,7 +2,7 @@
 
 ghost use Rattle.std.specs.Prelude.{◌≡◌, ◌+◌, ◌-◌, ◌++◌, ◌∷◌, [], IfOk, OnOk, codes, decimal, false, true};
 ghost use Rattle.lrc_chart_svg.specs.Attributes.{anchor_word, said};
-ghost use Rattle.lrc_chart_svg.specs.Marks.{all_marks, all_words, begins, begins_with_digit, behind, box, ends, held, hint, named_once, own, path, stroke, word};
+ghost use Rattle.lrc_chart_svg.specs.Marks.{all_marks, all_words, begins, begins_with_digit, behind, box, ends, has_its_own, held, hint, own, path, stroke, word};
 ghost use Rattle.lrc_chart_svg.specs.Shown.{plate_left, plated};
 ghost use Rattle.lrc_chart_svg.specs.Flow.{wide};
 
@@ -210,7 +210,7 @@ fn push_element(
     attributes: Vec<Attribute>,
     inside: Vec<Content>,
 ) -> Result<(), AllocError>
-    requires { named_once attributes.items ≡ true }
+    requires { has_its_own tag attributes.items ≡ true }
     ensures { OnOk result (all_marks contents.new.items
         ≡ all_marks contents.old.items ++ own tag attributes.items (all_words inside.items)
         ++ held tag (all_marks inside.items) ++ behind tag) }

@@ -1,12 +1,13 @@
 use Rattle.std.proofs.Common.{◌∙◌, ap, refl}
 use Rattle.lrc_svg.proofs.Rows.{on_ok}
+use Rattle.lrc_svg.specs.declared.name.Tag.TheVariants as tags
 use Rattle.lrc_chart_svg.specs.Marks.{all_marks}
-use Rattle.lrc_chart_svg.proofs.Said.{box_shows, once_by, said_in_two, shows_alone}
+use Rattle.lrc_chart_svg.proofs.Said.{box_shows, own_by, said_in_two, shows_alone}
 use Rattle.lrc_chart_svg.proofs.paint.push_box.Goals as goal
 
 pub push_element-requires : goal.push_element-requires
 push_element-requires c =
-    once_by c.push_style.new.attributes.items _
+    own_by tags.Box c.push_style.new.attributes.items _
     (said_in_two c.new-attributes.result.items c.push_area.new.attributes.items _ _ _ c.new-attributes.ensures.items
     c.in_ok-push_area.ensures c.in_ok-push_style.ensures)
     refl

@@ -1,12 +1,13 @@
 use Rattle.std.proofs.Common.{◌∙◌, refl}
 use Rattle.lrc_svg.proofs.Rows.{on_ok}
+use Rattle.lrc_svg.specs.declared.name.Tag.TheVariants as tags
 use Rattle.lrc_chart_svg.specs.Marks.{all_marks}
-use Rattle.lrc_chart_svg.proofs.Said.{label_shows, once_by, said_in_one, shows_alone}
+use Rattle.lrc_chart_svg.proofs.Said.{label_shows, own_by, said_in_one, shows_alone}
 use Rattle.lrc_chart_svg.proofs.paint.push_label.Goals as goal
 
 pub push_element-requires : goal.push_element-requires
 push_element-requires c =
-    once_by c.push_hand.new.attributes.items _
+    own_by tags.Label c.push_hand.new.attributes.items _
     (said_in_one c.new-attributes.result.items _ _ c.new-attributes.ensures.items c.in_ok-push_hand.ensures) refl
 
 pub returns : goal.returns
