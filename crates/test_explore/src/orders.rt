@@ -1,4 +1,5 @@
-// Programs, and what is found of each: the orders are the least of the shortest.
+// Programs, and what is found of each. An order has the fewest acts. A node makes its free acts (no read, write, acquire
+// or depart) as soon as it can, and at the start the lower node first.
 
 use crate::checks::passes;
 use lrc_explore::answers::explore;
@@ -78,21 +79,21 @@ const ROWS: &[Row] = &[
         LATE,
         2,
         1000,
-        Wanted::Racy(&[0, 0, 0, 0, 1, 1, 1, 0, 1]),
+        Wanted::Racy(&[0, 1, 0, 0, 0, 1, 1, 0, 1]),
     ),
     (
         "crossed locks",
         CROSSED,
         2,
         1000,
-        Wanted::Stuck(&[0, 0, 1, 1]),
+        Wanted::Stuck(&[0, 1, 0, 1]),
     ),
     (
         "a barrier sometimes",
         SOMETIMES,
         2,
         1000,
-        Wanted::Stuck(&[1, 1, 1, 1, 0, 0, 0, 0, 0, 0, 1, 1]),
+        Wanted::Stuck(&[1, 1, 1, 1, 1, 1, 0, 0, 0, 0, 0, 0]),
     ),
     ("no node", COUNTER, 0, 1000, NO_NODES),
     ("seventeen nodes", COUNTER, 17, 1000, NO_NODES),
@@ -106,6 +107,6 @@ const ROWS: &[Row] = &[
 ];
 
 #[test]
-fn the_least_of_the_shortest_orders_are_found(rt: HostRuntime) {
+fn orders_of_the_fewest_acts_are_found(rt: HostRuntime) {
     passes(&rt, first_wrong(rt.alloc(), ROWS));
 }
